@@ -1,0 +1,4 @@
+//! Words of 64 bits, and what is done on many of them.
+#![tactic(auto)]
+
+pub mod word;

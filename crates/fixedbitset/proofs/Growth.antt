@@ -1,0 +1,76 @@
+-- Words are added, cut or written anew: what that does to the value.
+use Rattle.std.proofs.Common.{◌≡◌, ℕ, ◌+◌, ◌-◌, ◌/◌, ◌%◌, ◌^◌, ◌<◌, ◌≤◌, max, false, ◌==◌, List, ◌++◌, take, replicate, length, get_or, refl, sym, ap, ◌∙◌, arith, ⊎_elim}
+use Rattle.std.specs.Int.{bit_at}
+use Rattle.std.proofs.lemmas.Bool.{cases_lt}
+use Rattle.std.proofs.lemmas.List.{get_or-append_right, get_or_append_left, get_or_past, get_or-replicate, length-replicate, length-append, take_all}
+use Rattle.std.proofs.lemmas.Nat.Bits.{bit_at-zero}
+use Rattle.fixedbitset.specs.Bits.{Bits, of, has_bit, empty, grow, IsClean, words_needed}
+use Rattle.fixedbitset.specs.BitsFacts.{same_bits, length-of, contains-grow, length-grow, contains-empty, length-empty}
+use Rattle.fixedbitset.proofs.Words.{contains-of_clean, viewed_length}
+
+abbrev zeros : ℕ → List ℕ
+zeros j = replicate j 0
+
+get_or-none : (j i : ℕ) → get_or (zeros j) i 0 ≡ 0
+get_or-none j i =
+    ⊎_elim
+    (λ (lt : i < j). get_or-replicate j i 0 0 lt)
+    (λ (ge : j ≤ i). get_or_past (zeros j) i 0 (let l : length (zeros j) ≡ j = length-replicate j 0 in omega arith))
+    (cases_lt i j)
+
+-- zeros behind the words
+get_or-zeros : (ws : List ℕ) (j i : ℕ) → get_or (ws ++ zeros j) i 0 ≡ get_or ws i 0
+get_or-zeros ws j i =
+    ⊎_elim
+    (λ (lt : i < length ws). get_or_append_left ws _ 0 i lt)
+    (λ (ge : length ws ≤ i). get_or-append_right ws _ (length ws) i 0 refl ge ∙ get_or-none j (i - length ws) ∙ sym (get_or_past ws i 0 ge))
+    (cases_lt i (length ws))
+
+-- the words mean the same
+module _ (n m : ℕ) (ws new : List ℕ) (clean : IsClean n ws) (fits : m < 2 ^ 64) (longer : n ≤ m) (long : length new ≡ words_needed m) (same : (p : ℕ) → has_bit new p ≡ has_bit ws p) where
+  pub IsClean-longer : IsClean m new
+  IsClean-longer = record { fits = fits; count = long; tail = λ p past. same p ∙ clean.tail p (omega arith) }
+
+  pub of-longer : of m new ≡ grow (of n ws) m
+  of-longer = same_bits _ _
+      (length-of m new ∙ (let e : m ≡ max n m = omega arith in e) ∙ ap (λ k. max k m) (sym (length-of n ws)) ∙ sym (length-grow (of n ws) m))
+      (λ p. contains-of_clean m new IsClean-longer p ∙ same p ∙ sym (contains-of_clean n ws clean p) ∙ sym (contains-grow (of n ws) m p))
+
+has_bit-zeros : (ws : List ℕ) (k j p : ℕ) → length ws ≤ k → has_bit (take k ws ++ zeros j) p ≡ has_bit ws p
+unfolding has_bit
+has_bit-zeros ws k j p h = ap (λ x. bit_at x (p % 64) == 1) (get_or-zeros (take k ws) j (p / 64) ∙ ap (λ xs. get_or xs (p / 64) 0) (take_all k ws h))
+
+length-resized : (ws : List ℕ) (k : ℕ) → length ws ≤ k → length (take k ws ++ zeros (k - length ws)) ≡ k
+length-resized ws k h = length-append (take k ws) _ ∙ ap (λ xs. length xs + length (zeros (k - length ws))) (take_all k ws h) ∙ ap (λ x. length ws + x) (length-replicate (k - length ws) 0) ∙ omega arith
+
+-- what `resize` leaves
+module _ (n m : ℕ) (ws : List ℕ) (v : Bits) (new : List ℕ) (len needed : ℕ) where
+  pub IsClean_resize : IsClean n ws → m < 2 ^ 64 → n < m → len ≡ length ws → needed ≡ words_needed m → new ≡ take needed ws ++ replicate (needed - len) 0 → IsClean m new
+  IsClean_resize clean below longer same_len same_needed items =
+      let fits : length ws ≤ words_needed m = omega (arith, clean.count) in
+      rw (items, same_len, same_needed) (IsClean-longer n m ws _ clean below (omega arith) (length-resized ws _ fits) (λ p. has_bit-zeros ws _ _ p fits))
+
+  pub of_resize : of n ws ≡ v → IsClean n ws → m < 2 ^ 64 → n < m → len ≡ length ws → needed ≡ words_needed m → new ≡ take needed ws ++ replicate (needed - len) 0 → of m new ≡ grow v m
+  of_resize view clean below longer same_len same_needed items =
+      let fits : length ws ≤ words_needed m = omega (arith, clean.count) in
+      rw (items, same_len, same_needed) (of-longer n m ws _ clean below (omega arith) (length-resized ws _ fits) (λ p. has_bit-zeros ws _ _ p fits) ∙ ap (λ w. grow w m) view)
+
+  -- room for as many words as there are is there already
+  pub room : of n ws ≡ v → IsClean n ws → len ≡ length ws → (cap : ℕ) → len ≤ cap → needed ≡ words_needed m → words_needed m ≤ words_needed v.length → needed ≤ cap
+  room view clean same_len cap within same_needed needs = let e : n ≡ v.length = viewed_length n ws v view in let f : words_needed v.length ≡ length ws = ap words_needed (sym e) ∙ sym clean.count in omega arith
+
+pub grow_same : (n m : ℕ) (ws : List ℕ) (v : Bits) → of n ws ≡ v → m ≤ n → v ≡ grow v m
+grow_same n m ws v view h =
+    let long : n ≡ v.length = viewed_length n ws v view in
+    same_bits _ _ ((let e : v.length ≡ max v.length m = omega arith in e) ∙ sym (length-grow v m)) (λ p. sym (contains-grow v m p))
+
+-- words that are all 0
+has_bit-none : (j p : ℕ) → has_bit (zeros j) p ≡ false
+unfolding has_bit
+has_bit-none j p = ap (λ x. bit_at x (p % 64) == 1) (get_or-none j (p / 64)) ∙ (let e : bit_at 0 (p % 64) ≡ 0 = bit_at-zero (p % 64) in ap (λ x. x == 1) e)
+
+pub IsClean_replicate : (n : ℕ) → n < 2 ^ 64 → IsClean n (replicate (words_needed n) 0)
+IsClean_replicate n fits = record { fits = fits; count = length-replicate _ 0; tail = λ p _. has_bit-none _ p }
+
+pub of_replicate : (n : ℕ) → n < 2 ^ 64 → of n (replicate (words_needed n) 0) ≡ empty n
+of_replicate n fits = same_bits _ _ (length-of n _ ∙ sym (length-empty n)) (λ p. contains-of_clean n _ (IsClean_replicate n fits) p ∙ has_bit-none _ p ∙ sym (contains-empty n p))

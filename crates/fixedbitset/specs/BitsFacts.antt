@@ -1,0 +1,141 @@
+-- The length and the members of each value of `Bits`, for those who call a set.
+use Rattle.std.specs.Prelude.{◌≡◌, ℕ, ◌<◌, ◌≤◌, max, Bool, true, false, cond, not, ◌&&◌, ◌||◌, ◌==◌, nat_lt, List}
+use Rattle.std.specs.Ordering.{nat_cmp}
+use Rattle.std.specs.FinSet as set
+use Rattle.std.specs.FinSet.{FinSet}
+use Rattle.std.specs.Cmp.{nat_cmp_total, unsigned_tied}
+use Rattle.std.specs.Coded.{Coded-set, coded_bool}
+use Rattle.std.proofs.Common.{refl, sym, ap, ◌∙◌, arith, IsTrue}
+use Rattle.std.proofs.lemmas.Bool.{ltb-true, lt-ltb, eqb-true, false_from_ne_true}
+use mathlib.Core.HLevel.{Σ_prop_path}
+use Rattle.fixedbitset.specs.Numbers.{numbers_below, contains-numbers_below}
+use Rattle.fixedbitset.specs.Bits.{Bits, pair, having, contains, empty, insert, remove, set_bit, toggle, grow, has_bit, of}
+
+-- a last test that the one before it implies
+pub last_holds : (a b c : Bool) → (b ≡ true → c ≡ true) → ((a && b) && c) ≡ (a && b)
+last_holds true true c h = h refl
+last_holds true false c h = refl
+last_holds false b c h = refl
+
+both_last : (a b : Bool) → ((b && a) && b) ≡ (a && b)
+both_last true true = refl
+both_last true false = refl
+both_last false true = refl
+both_last false false = refl
+
+pub length-pair : (n : ℕ) (s : FinSet nat_cmp) → (pair n s).length ≡ n
+unfolding pair
+length-pair n s = refl
+
+pub contains-pair : (n : ℕ) (s : FinSet nat_cmp) (p : ℕ) → contains (pair n s) p ≡ (set.contains s p && nat_lt p n)
+unfolding pair contains
+contains-pair n s p = set.contains-intersection nat_cmp_total s (numbers_below n) p ∙ ap (λ b. set.contains s p && b) (contains-numbers_below n p)
+
+-- each position of the set is below the length
+pub contains_below : (v : Bits) (p : ℕ) → contains v p ≡ true → p < v.length
+unfolding contains
+contains_below v p one = ltb-true p v.length (sym (contains-numbers_below v.length p) ∙ set.is_subset-contains nat_cmp_total v.positions _ v.below p one)
+
+pub contains-past : (v : Bits) (p : ℕ) → v.length ≤ p → contains v p ≡ false
+contains-past v p past = false_from_ne_true _ (λ one. let h : p < v.length = contains_below v p one in omega arith)
+
+-- two values are equal if their lengths and their positions are
+pub same_bits : (v w : Bits) → v.length ≡ w.length → ((p : ℕ) → contains v p ≡ contains w p) → v ≡ w
+unfolding contains
+same_bits v w same_length same =
+    let places : v.positions ≡ w.positions = set.same_set nat_cmp_total set.nat_cmp-IsAntisymmetric v.positions w.positions same in
+    let pairs : ◌≡◌ {A = ℕ × FinSet nat_cmp} (v.length, v.positions) (w.length, w.positions) = λ i. (same_length i, places i) in
+    let both : ◌≡◌ {A = (d : ℕ × FinSet nat_cmp) × IsTrue (set.is_subset d.1 (numbers_below d.0))} ((v.length, v.positions), v.below) ((w.length, w.positions), w.below) =
+    Σ_prop_path (λ d. hlevel (Coded-set coded_bool)) pairs
+    in
+    λ i. record { length = (both i).0.0; positions = (both i).0.1; below = (both i).1 }
+
+pub length-having : (n : ℕ) (test : ℕ → Bool) → (having n test).length ≡ n
+unfolding having
+length-having n test = length-pair n _
+
+pub contains-having : (n : ℕ) (test : ℕ → Bool) (p : ℕ) → contains (having n test) p ≡ (test p && nat_lt p n)
+unfolding having
+contains-having n test p =
+    contains-pair n _ p
+    ∙ ap (λ b. b && nat_lt p n) (set.contains-retain (numbers_below n) test p (λ x e. ap test (sym (set.nat_cmp-IsAntisymmetric p x e))) ∙ ap (λ b. b && test p) (contains-numbers_below n p))
+    ∙ both_last (test p) (nat_lt p n)
+
+pub length-of : (n : ℕ) (ws : List ℕ) → (of n ws).length ≡ n
+unfolding of
+length-of n ws = length-having n _
+
+pub contains-of : (n : ℕ) (ws : List ℕ) (p : ℕ) → contains (of n ws) p ≡ (has_bit ws p && nat_lt p n)
+unfolding of
+contains-of n ws p = contains-having n (has_bit ws) p
+
+pub length-empty : (n : ℕ) → (empty n).length ≡ n
+unfolding empty
+length-empty n = length-pair n _
+
+pub contains-empty : (n p : ℕ) → contains (empty n) p ≡ false
+unfolding empty
+contains-empty n p = contains-pair n _ p ∙ ap (λ b. b && nat_lt p n) (set.contains-empty nat_cmp p)
+
+pub length-insert : (v : Bits) (bit : ℕ) → (insert v bit).length ≡ v.length
+unfolding insert
+length-insert v bit = length-pair _ _
+
+pub contains-insert : (v : Bits) (bit p : ℕ) → contains (insert v bit) p ≡ ((p == bit || contains v p) && nat_lt p v.length)
+unfolding insert contains
+contains-insert v bit p =
+    contains-pair v.length _ p
+    ∙ ap (λ b. b && nat_lt p v.length) (set.contains-insert nat_cmp_total v.positions bit p ∙ ap (λ b. b || set.contains v.positions p) (unsigned_tied p bit))
+
+pub length-remove : (v : Bits) (bit : ℕ) → (remove v bit).length ≡ v.length
+unfolding remove
+length-remove v bit = length-pair _ _
+
+pub contains-remove : (v : Bits) (bit p : ℕ) → contains (remove v bit) p ≡ (not (p == bit) && contains v p)
+unfolding remove contains
+contains-remove v bit p =
+    contains-pair v.length _ p
+    ∙ ap (λ b. b && nat_lt p v.length) (set.contains-remove nat_cmp_total v.positions bit p ∙ ap (λ b. not b && set.contains v.positions p) (unsigned_tied p bit))
+    ∙ last_holds (not (p == bit)) (contains v p) (nat_lt p v.length) (λ one. lt-ltb _ _ (contains_below v p one))
+
+pub length-set_bit : (v : Bits) (bit : ℕ) (b : Bool) → (set_bit v bit b).length ≡ v.length
+unfolding set_bit
+length-set_bit v bit true = length-insert v bit
+length-set_bit v bit false = length-remove v bit
+
+inserted : (e c l : Bool) → (c ≡ true → l ≡ true) → (e ≡ true → l ≡ true) → ((e || c) && l) ≡ cond e true c
+inserted true c l h k = k refl
+inserted false true l h k = h refl
+inserted false false l h k = refl
+
+removed : (e c : Bool) → (not e && c) ≡ cond e false c
+removed true c = refl
+removed false c = refl
+
+pub contains-set_bit : (v : Bits) (bit : ℕ) (b : Bool) (p : ℕ) → bit < v.length → contains (set_bit v bit b) p ≡ cond (p == bit) b (contains v p)
+unfolding set_bit
+contains-set_bit v bit true p h =
+    contains-insert v bit p
+    ∙ inserted (p == bit) (contains v p) _ (λ one. lt-ltb _ _ (contains_below v p one)) (λ e. let same : p ≡ bit = eqb-true p bit e in lt-ltb _ _ (omega arith))
+contains-set_bit v bit false p h = contains-remove v bit p ∙ removed (p == bit) (contains v p)
+
+pub length-toggle : (v : Bits) (bit : ℕ) → (toggle v bit).length ≡ v.length
+unfolding toggle
+length-toggle v bit = length-set_bit v bit _
+
+pub contains-toggle : (v : Bits) (bit p : ℕ) → bit < v.length → contains (toggle v bit) p ≡ cond (p == bit) (not (contains v bit)) (contains v p)
+unfolding toggle
+contains-toggle v bit p h = contains-set_bit v bit _ p h
+
+pub length-grow : (v : Bits) (bits : ℕ) → (grow v bits).length ≡ max v.length bits
+unfolding grow
+length-grow v bits = length-pair _ _
+
+pub contains-grow : (v : Bits) (bits p : ℕ) → contains (grow v bits) p ≡ contains v p
+unfolding grow contains
+contains-grow v bits p =
+    contains-pair (max v.length bits) _ p
+    ∙ last_holds true (contains v p) _ (λ one. let h : p < v.length = contains_below v p one in lt-ltb _ _ (omega arith))
+
+-- what a caller needs of each change
+pub ruleset facts = (length-empty, length-insert, length-remove, length-set_bit, length-toggle, length-grow, length-of, contains-empty, contains-insert, contains-remove, contains-set_bit, contains-toggle, contains-grow, contains-of)

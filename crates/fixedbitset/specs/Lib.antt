@@ -1,0 +1,4 @@
+pub mod Numbers
+pub mod Bits
+pub mod BitsFacts
+pub mod BitsCode
