@@ -1,0 +1,22 @@
+-- Runs that go on by one step.
+use Rattle.std.proofs.Common.{ℕ, ◌+◌, ◌<◌, List, [], ◌∷◌, ◌++◌, length, get_or, take, map, refl, subst}
+use Rattle.std.proofs.lemmas.List.{take_more, map-append}
+use Rattle.bitcommands.specs.declared.commands.Command.{Command}
+use Rattle.bitcommands.specs.declared.commands.replies.Reply.{Reply}
+use Rattle.bitcommands.specs.Actions.{Action, meant}
+use Rattle.bitcommands.specs.Answers.{Answer, seen}
+use Rattle.bitcommands.specs.Tests.{Sets}
+use Rattle.bitcommands.specs.Steps.{Step, Run}
+
+pub Run-snoc : (limit : ℕ) (old mid new : Sets) (cs : List Action) (rs : List Answer) (c : Action) (r : Answer)
+    → Run limit old cs rs mid → Step limit mid c r new → Run limit old (cs ++ c ∷ []) (rs ++ r ∷ []) new
+Run-snoc limit old mid new [] [] c r run step = (new, subst (λ s. Step limit s c r new) run step, refl)
+Run-snoc limit old mid new (d ∷ cs) (q ∷ rs) c r run step = (run.0, run.1, Run-snoc limit run.0 mid new cs rs c r run.2 step)
+Run-snoc limit old mid new [] (q ∷ rs) c r run step = absurd run
+Run-snoc limit old mid new (d ∷ cs) [] c r run step = absurd run
+
+pub Run_more : (limit : ℕ) (old mid new : Sets) (cs : List Command) (rs : List Reply) (i : ℕ) (d : Command) (r : Reply)
+    → i < length cs → Run limit old (map meant (take i cs)) (map seen rs) mid → Step limit mid (meant (get_or cs i d)) (seen r) new
+    → Run limit old (map meant (take (i + 1) cs)) (map seen (rs ++ r ∷ [])) new
+Run_more limit old mid new cs rs i d r lt run step =
+    rw (take_more cs i d lt, map-append meant (take i cs), map-append seen rs) (Run-snoc limit old mid new (map meant (take i cs)) (map seen rs) (meant (get_or cs i d)) (seen r) run step)

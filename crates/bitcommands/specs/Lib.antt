@@ -1,0 +1,11 @@
+pub mod Actions
+pub mod Answers
+pub mod Tests
+pub mod Table
+pub mod Steps
+pub mod Words
+pub mod Left
+pub mod Lines
+pub mod Texts
+pub mod Output
+pub mod Program

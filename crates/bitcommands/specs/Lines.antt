@@ -1,0 +1,84 @@
+-- Which command a line stands for.
+use Rattle.std.specs.Prelude.{ℕ, Bool, true, false, List, [], ◌∷◌, Option, Some, None, if◌then◌else◌, codes}
+use Rattle.std.specs.Str.{bytes_eq}
+use Rattle.bitcommands.specs.Words.{◌>>=◌, words, number_at, at_end}
+use Rattle.bitcommands.specs.Actions.{Action, with_capacity, len, contains, grow, insert, remove, toggle, put, set}
+
+-- ---- arguments
+
+-- the word is this text
+abbrev pub is : List ℕ → List ℕ → Bool
+is word text = bytes_eq word text
+
+-- `true` or `false`
+unfoldable pub flag_of : List ℕ → Option Bool
+flag_of w = if is w (codes "true") then Some true else (if is w (codes "false") then Some false else None)
+
+-- the first word as a flag, and the words after it
+unfoldable pub flag_at : List (List ℕ) → Option (Bool × List (List ℕ))
+flag_at [] = None
+flag_at (w ∷ ws) = flag_of w >>= λ e. Some (e, ws)
+
+-- one number
+unfoldable pub one : List (List ℕ) → Option ℕ
+one ws = do
+  a ← number_at ws
+  end ← at_end a.1
+  Some a.0
+
+-- two numbers
+unfoldable pub two : List (List ℕ) → Option (ℕ × ℕ)
+two ws = do
+  a ← number_at ws
+  b ← number_at a.1
+  end ← at_end b.1
+  Some (a.0, b.0)
+
+-- two numbers and a flag
+unfoldable pub two_and_flag : List (List ℕ) → Option (ℕ × ℕ × Bool)
+two_and_flag ws = do
+  a ← number_at ws
+  b ← number_at a.1
+  e ← flag_at b.1
+  end ← at_end e.1
+  Some (a.0, b.0, e.0)
+
+-- ---- the commands of each group, by their word and their arguments
+
+unfoldable pub make_of : List ℕ → List (List ℕ) → Option Action
+make_of name args =
+    if is name (codes "with_capacity") then (two args >>= λ x. Some (with_capacity x.0 x.1)) else
+    None
+
+unfoldable pub look_of : List ℕ → List (List ℕ) → Option Action
+look_of name args =
+    if is name (codes "len") then (one args >>= λ k. Some (len k)) else
+    if is name (codes "contains") then (two args >>= λ x. Some (contains x.0 x.1)) else
+    None
+
+unfoldable pub change_of : List ℕ → List (List ℕ) → Option Action
+change_of name args =
+    if is name (codes "grow") then (two args >>= λ x. Some (grow x.0 x.1)) else
+    if is name (codes "insert") then (two args >>= λ x. Some (insert x.0 x.1)) else
+    if is name (codes "remove") then (two args >>= λ x. Some (remove x.0 x.1)) else
+    if is name (codes "toggle") then (two args >>= λ x. Some (toggle x.0 x.1)) else
+    if is name (codes "put") then (two args >>= λ x. Some (put x.0 x.1)) else
+    if is name (codes "set") then (two_and_flag args >>= λ x. Some (set x.0 x.1 x.2)) else
+    None
+
+-- the first of two that is there
+abbrev pub or_else : {A : Type 0} → Option A → Option A → Option A
+or_else (Some x) other = Some x
+or_else None other = other
+
+unfoldable pub command_by : List ℕ → List (List ℕ) → Option Action
+command_by name args = or_else (make_of name args) (or_else (look_of name args) (change_of name args))
+
+-- the first word is the command's, and the others are its arguments
+unfoldable pub command_of_words : List (List ℕ) → Option Action
+command_of_words [] = None
+command_of_words (name ∷ args) = command_by name args
+
+-- The command that a line stands for, if there is one.
+abbrev pub command_of : List ℕ → Option Action
+command_of line = command_of_words (words line)

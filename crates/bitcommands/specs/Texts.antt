@@ -1,0 +1,26 @@
+-- The texts of replies.
+use Rattle.std.specs.Prelude.{ℕ, Bool, true, false, List, codes}
+use Rattle.std.specs.Fmt.{decimal}
+use Rattle.bitcommands.specs.declared.commands.refusals.Refusal.{Refusal}
+use Rattle.bitcommands.specs.declared.commands.refusals.Refusal.TheVariants.{NoSet, Position, Memory, Limit}
+use Rattle.bitcommands.specs.Answers.{Answer, done, bool, number, refused}
+
+abbrev pub refusal_text : Refusal → List ℕ
+refusal_text NoSet = codes "F1 no such set"
+refusal_text Position = codes "F2 position not below the length"
+refusal_text Memory = codes "F6 no memory"
+refusal_text Limit = codes "F7 length above the limit"
+
+abbrev pub flag_text : Bool → List ℕ
+flag_text true = codes "true"
+flag_text false = codes "false"
+
+abbrev pub answer_text : Answer → List ℕ
+answer_text done = codes "ok"
+answer_text (bool e) = flag_text e
+answer_text (number n) = decimal n
+answer_text (refused f) = refusal_text f
+
+-- the text of a line that is no command
+abbrev pub fault_text : List ℕ
+fault_text = codes "F8 not a command"

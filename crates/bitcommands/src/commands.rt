@@ -1,0 +1,75 @@
+//! Commands over numbered sets.
+ghost use Rattle.std.specs.Prelude.{◌≡◌, IfOk, OnErr, map};
+ghost use Rattle.bitcommands.specs.Actions.{meant};
+ghost use Rattle.bitcommands.specs.Answers.{seen};
+ghost use Rattle.bitcommands.specs.Steps.{Step, Run, replied};
+
+mod changing;
+mod looking;
+mod making;
+mod refusals;
+mod replies;
+
+pub use changing::Change;
+use changing::apply_change;
+use fixedbitset::FixedBitSet;
+pub use looking::Look;
+use looking::apply_look;
+pub use making::Make;
+use making::apply_make;
+pub use refusals::Refusal;
+pub use replies::Reply;
+use std::alloc::{AllocError, Global};
+
+/// A command over sets that are named by their numbers, from 0 on.
+#[derive(Debug, Drop)]
+pub enum Command {
+    Make(Make),
+    Look(Look),
+    Change(Change),
+}
+
+/// Carries out one command, and answers its reply.
+///
+/// The tests of the command are made first, in the order of the table (`specs/Table.antt`): the first that refuses is
+/// the reply, and then no set changes. `limit` is the greatest length that a command may ask for. The reply is
+/// `Refusal::Memory` only where the table says that memory may be refused, and then no set changes.
+pub fn apply(alloc: Global, sets: &mut [FixedBitSet], command: &Command, limit: usize) -> Reply
+    ensures { Step limit sets.old (meant command.now) (seen result) sets.new }
+{
+    match command {
+        Command::Make(command) => reply_of(apply_make(alloc, sets, command, limit)),
+        Command::Look(command) => reply_of(apply_look(sets, command, limit)),
+        Command::Change(command) => reply_of(apply_change(sets, command, limit)),
+    }
+}
+
+/// Carries out the commands in order, and answers one reply for each.
+///
+/// The places of all replies are reserved before the first command: where that is refused, the call answers `Err`, no
+/// command was carried out and no set has changed. A refused command is a reply, and the commands after it go on.
+pub fn run(
+    alloc: Global,
+    sets: &mut [FixedBitSet],
+    commands: &[Command],
+    limit: usize,
+) -> Result<Vec<Reply>, AllocError>
+    ensures run { IfOk result (λ replies. Run limit sets.old (map meant commands.now) (map seen replies.items) sets.new) }
+    ensures err { OnErr result (sets.new ≡ sets.old) }
+{
+    let mut replies = Vec::with_capacity(alloc, commands.len())?;
+    for command in commands {
+        let reply = apply(alloc, sets, command, limit);
+        replies.push(reply)?;
+    }
+    Ok(replies)
+}
+
+fn reply_of(outcome: Result<Reply, Refusal>) -> Reply
+    ensures { seen result ≡ replied outcome }
+{
+    match outcome {
+        Ok(reply) => reply,
+        Err(refusal) => Reply::Refused(refusal),
+    }
+}

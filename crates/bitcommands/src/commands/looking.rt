@@ -1,0 +1,35 @@
+//! Commands that look at one set and change nothing.
+ghost use Rattle.bitcommands.specs.Actions.{look_meant};
+ghost use Rattle.bitcommands.specs.Steps.{Answers};
+
+use crate::commands::refusals::{Refusal, known};
+use crate::commands::replies::Reply;
+use fixedbitset::FixedBitSet;
+
+/// A command that looks at the set `set`.
+#[derive(Debug, Drop)]
+pub enum Look {
+    /// Its length in bits.
+    Len { set: usize },
+    /// Whether the position is set; `false` at or past the length.
+    Contains { set: usize, bit: usize },
+}
+
+pub(super) fn apply_look(
+    sets: &[FixedBitSet],
+    command: &Look,
+    _limit: usize,
+) -> Result<Reply, Refusal>
+    ensures { Answers _limit sets.now (look_meant command.now) result sets.now }
+{
+    match command {
+        Look::Len { set } => {
+            known(sets, *set)?;
+            Ok(Reply::Number(sets[*set].len()))
+        }
+        Look::Contains { set, bit } => {
+            known(sets, *set)?;
+            Ok(Reply::Bool(sets[*set].contains(*bit)))
+        }
+    }
+}

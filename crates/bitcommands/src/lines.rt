@@ -1,0 +1,132 @@
+//! Lines as commands.
+ghost use Rattle.std.specs.Prelude.{false};
+ghost use Rattle.bitcommands.specs.Words.{Reads};
+ghost use Rattle.bitcommands.specs.Actions.{meant, make_meant, look_meant, change_meant};
+ghost use Rattle.bitcommands.specs.Lines.{one, two, two_and_flag, make_of, look_of, change_of, command_by, command_of};
+
+use crate::commands::{Change, Command, Look, Make};
+use crate::words::{Words, is};
+use std::alloc::Global;
+
+/// Why a line gives no command.
+#[derive(Debug, Drop)]
+pub enum LineFault {
+    /// F8: the line stands for no command.
+    NotACommand,
+    /// Memory for the command was refused.
+    Memory,
+}
+
+/// The command that a line stands for: a command word and its arguments, with exactly one space between two of them
+/// and none at the ends (`docs/COMMANDS.md`). The line is given without its line end.
+///
+/// `NotACommand` comes only where the line stands for none, and `Memory` never for the commands that there are.
+#[tactic(auto, unfolding(crate::specs::Lines::command_of_words))]
+pub fn parse_line(_alloc: Global, line: &[u8]) -> Result<Command, LineFault>
+    ensures { Reads false meant result (command_of line.now) }
+{
+    let mut words = Words::new(line);
+    let name = words.next().ok_or(LineFault::NotACommand)?;
+    command_from(name, words)
+}
+
+#[tactic(auto, unfolding(crate::specs::Lines::command_by))]
+fn command_from(name: &[u8], args: Words<'_>) -> Result<Command, LineFault>
+    ensures { Reads false meant result (command_by name.now args.entry) }
+{
+    if let Ok(make) = make_from(name, args.again()) {
+        return Ok(Command::Make(make));
+    }
+    if let Ok(look) = look_from(name, args.again()) {
+        return Ok(Command::Look(look));
+    }
+    let change = change_from(name, args)?;
+    Ok(Command::Change(change))
+}
+
+#[tactic(auto, unfolding(crate::specs::Lines::make_of))]
+fn make_from(name: &[u8], args: Words<'_>) -> Result<Make, LineFault>
+    ensures { Reads false make_meant result (make_of name.now args.entry) }
+{
+    if is(name, "with_capacity") {
+        let (target, bits) = two(args)?;
+        return Ok(Make::WithCapacity { target, bits });
+    }
+    Err(LineFault::NotACommand)
+}
+
+#[tactic(auto, unfolding(crate::specs::Lines::look_of))]
+fn look_from(name: &[u8], args: Words<'_>) -> Result<Look, LineFault>
+    ensures { Reads false look_meant result (look_of name.now args.entry) }
+{
+    if is(name, "len") {
+        let set = one(args)?;
+        return Ok(Look::Len { set });
+    }
+    if is(name, "contains") {
+        let (set, bit) = two(args)?;
+        return Ok(Look::Contains { set, bit });
+    }
+    Err(LineFault::NotACommand)
+}
+
+#[tactic(auto, unfolding(crate::specs::Lines::change_of))]
+fn change_from(name: &[u8], args: Words<'_>) -> Result<Change, LineFault>
+    ensures { Reads false change_meant result (change_of name.now args.entry) }
+{
+    if is(name, "grow") {
+        let (set, bits) = two(args)?;
+        return Ok(Change::Grow { set, bits });
+    }
+    if is(name, "insert") {
+        let (set, bit) = two(args)?;
+        return Ok(Change::Insert { set, bit });
+    }
+    if is(name, "remove") {
+        let (set, bit) = two(args)?;
+        return Ok(Change::Remove { set, bit });
+    }
+    if is(name, "toggle") {
+        let (set, bit) = two(args)?;
+        return Ok(Change::Toggle { set, bit });
+    }
+    if is(name, "put") {
+        let (set, bit) = two(args)?;
+        return Ok(Change::Put { set, bit });
+    }
+    if is(name, "set") {
+        let (set, bit, enabled) = two_and_flag(args)?;
+        return Ok(Change::Set { set, bit, enabled });
+    }
+    Err(LineFault::NotACommand)
+}
+
+#[tactic(auto, unfolding(crate::specs::Lines::one))]
+fn one(mut args: Words<'_>) -> Result<usize, LineFault>
+    ensures { Reads false (λ n. n) result (one args.entry) }
+{
+    let number = args.number()?;
+    args.end()?;
+    Ok(number)
+}
+
+#[tactic(auto, unfolding(crate::specs::Lines::two))]
+fn two(mut args: Words<'_>) -> Result<(usize, usize), LineFault>
+    ensures { Reads false (λ x. x) result (two args.entry) }
+{
+    let first = args.number()?;
+    let second = args.number()?;
+    args.end()?;
+    Ok((first, second))
+}
+
+#[tactic(auto, unfolding(crate::specs::Lines::two_and_flag))]
+fn two_and_flag(mut args: Words<'_>) -> Result<(usize, usize, bool), LineFault>
+    ensures { Reads false (λ x. x) result (two_and_flag args.entry) }
+{
+    let first = args.number()?;
+    let second = args.number()?;
+    let enabled = args.flag()?;
+    args.end()?;
+    Ok((first, second, enabled))
+}
