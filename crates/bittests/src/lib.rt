@@ -1,0 +1,11 @@
+//! Tests over the public calls of the crates below.
+#![tactic(auto)]
+
+#[cfg(test)]
+mod program;
+#[cfg(test)]
+mod slow;
+#[cfg(test)]
+mod streams;
+#[cfg(test)]
+mod values;

@@ -1,0 +1,230 @@
+//! The program over readers and writers of the tests' own.
+use crate::streams::{Sink, Source};
+use bitcommands::program::{RunFault, run_text, status};
+use std::alloc::Global;
+use std::process::Abort;
+use std::test::Fail;
+
+// What the program writes for an input.
+fn output_of(alloc: Global, input: &[u8]) -> Result<Vec<u8>, Fail> {
+    let mut reader = input;
+    let mut output = Vec::new(alloc);
+    run_text(alloc, &mut reader, &mut output)?;
+    Ok(output)
+}
+
+// The program writes this output for that input, also byte by byte.
+fn assert_output(rt: &impl Abort, alloc: Global, input: &str, output: &str) -> Result<(), Fail> {
+    let written = output_of(alloc, input.as_bytes())?;
+    assert_eq!(rt; written.as_slice(), output.as_bytes());
+    let mut source = Source::new(input.as_bytes(), 0);
+    let mut sink = Sink::new(Vec::new(alloc), 0, false);
+    run_text(alloc, &mut source, &mut sink)?;
+    assert_eq!(rt; sink.taken.as_slice(), output.as_bytes());
+    assert_eq!(rt; sink.flushed, 1);
+    Ok(())
+}
+
+const GROWTH: &str = "with_capacity 0 64
+insert 0 63
+grow 0 65
+put 0 64
+contains 0 64
+contains 0 65
+toggle 0 63
+contains 0 63
+grow 0 5
+len 0
+grow 0 1000001
+remove 16 0
+set 0 65 true
+Len 0
+";
+
+const GROWTH_REPLIES: &str = "ok
+ok
+ok
+false
+true
+false
+ok
+false
+ok
+65
+F7 length above the limit
+F1 no such set
+F2 position not below the length
+F8 not a command
+";
+
+#[test]
+fn runs_of_commands(rt: HostRuntime) -> Result<(), Fail> {
+    assert_output(&rt, rt.alloc(), GROWTH, GROWTH_REPLIES)?;
+    assert_output(
+        &rt,
+        rt.alloc(),
+        "with_capacity 15 3\nset 15 2 true\nset 15 1 false\nremove 15 0\ncontains 15 2\nwith_capacity 15 3\ncontains 15 2\n",
+        "ok\nok\nok\nok\ntrue\nok\nfalse\n",
+    )
+}
+
+// The tests of a command come in the order of the table, and a refused command changes nothing.
+#[test]
+fn the_first_test_that_refuses_is_the_reply(rt: HostRuntime) -> Result<(), Fail> {
+    assert_output(
+        &rt,
+        rt.alloc(),
+        "with_capacity 16 1000001\ngrow 16 1000001\nput 16 0\nput 0 0\nlen 16\ncontains 99 0\n",
+        "F1 no such set\nF1 no such set\nF1 no such set\nF2 position not below the length\nF1 no such set\nF1 no such set\n",
+    )?;
+    assert_output(
+        &rt,
+        rt.alloc(),
+        "grow 3 1000000\nwith_capacity 3 1000001\ngrow 3 18446744073709551615\nlen 3\n",
+        "ok\nF7 length above the limit\nF7 length above the limit\n1000000\n",
+    )
+}
+
+#[test]
+fn line_ends(rt: HostRuntime) -> Result<(), Fail> {
+    assert_output(&rt, rt.alloc(), "len 0\n", "0\n")?;
+    assert_output(&rt, rt.alloc(), "len 0", "0\n")?;
+    assert_output(&rt, rt.alloc(), "\n", "F8 not a command\n")?;
+    assert_output(&rt, rt.alloc(), "", "")?;
+    assert_output(
+        &rt,
+        rt.alloc(),
+        "len 0\n\nlen 1",
+        "0\nF8 not a command\n0\n",
+    )
+}
+
+// Each line is no command, and the line after them is answered.
+#[test]
+fn lines_that_are_no_commands(rt: HostRuntime) -> Result<(), Fail> {
+    let lines = [
+        " len 0",
+        "len 0 ",
+        "len  0",
+        "len\t0",
+        "len 0\r",
+        "len",
+        "len 0 0",
+        "LEN 0",
+        "insert 0",
+        "insert 0 +3",
+        "insert 0 -3",
+        "insert 0 3x",
+        "insert 0 18446744073709551616",
+        "insert 0 99999999999999999999999999",
+        "set 0 0",
+        "set 0 0 True",
+        "set 0 0 1",
+        "grow 0 1 2",
+        "new",
+        "é 0",
+    ];
+    for line in lines {
+        let mut input = String::from_str(rt.alloc(), line)?;
+        input.push_str("\nlen 0\n")?;
+        assert_output(&rt, rt.alloc(), input.as_str(), "F8 not a command\n0\n")?;
+    }
+    assert_output(
+        &rt,
+        rt.alloc(),
+        "grow 00 0007\nlen 0\ngrow 0 018446744073709551615\n",
+        "ok\n7\nF7 length above the limit\n",
+    )
+}
+
+#[test]
+fn bytes_that_are_no_text(rt: HostRuntime) -> Result<(), Fail> {
+    let input = [
+        0xff, 0xfe, b'\n', b'l', b'e', b'n', b' ', 0xb2, b'\n', 0, b'\n', b'l', b'e', b'n', b' ',
+        b'0',
+    ];
+    let written = output_of(rt.alloc(), input.as_slice())?;
+    assert_eq!(rt;
+        written.as_slice(),
+        "F8 not a command\nF8 not a command\nF8 not a command\n0\n".as_bytes()
+    );
+    Ok(())
+}
+
+#[test]
+fn a_million_lines(rt: HostRuntime) -> Result<(), Fail> {
+    let mut input = Vec::new(rt.alloc());
+    let mut output = Vec::new(rt.alloc());
+    for _ in 0..1_000_000 {
+        input.extend_from_slice("len 7\n".as_bytes())?;
+        output.extend_from_slice("0\n".as_bytes())?;
+    }
+    let written = output_of(rt.alloc(), input.as_slice())?;
+    assert!(rt; written.as_slice() == output.as_slice());
+    Ok(())
+}
+
+#[test]
+fn a_line_of_a_million_bytes(rt: HostRuntime) -> Result<(), Fail> {
+    let mut input = vec![in rt.alloc(); b'7'; 1_000_000]?;
+    input.extend_from_slice("\nlen 0".as_bytes())?;
+    let written = output_of(rt.alloc(), input.as_slice())?;
+    assert_eq!(rt; written.as_slice(), "F8 not a command\n0\n".as_bytes());
+    Ok(())
+}
+
+#[test]
+fn statuses(rt: HostRuntime) {
+    assert_eq!(rt; status(&Ok(())), 0);
+    assert_eq!(rt; status(&Err(RunFault::Read)), 1);
+    assert_eq!(rt; status(&Err(RunFault::Write)), 2);
+    assert_eq!(rt; status(&Err(RunFault::Memory)), 3);
+}
+
+#[test]
+fn texts_of_faults(rt: HostRuntime) -> Result<(), Fail> {
+    let read = RunFault::Read.to_string(rt.alloc())?;
+    let write = RunFault::Write.to_string(rt.alloc())?;
+    let memory = RunFault::Memory.to_string(rt.alloc())?;
+    assert_eq!(rt; read.as_str(), "read failed");
+    assert_eq!(rt; write.as_str(), "write failed");
+    assert_eq!(rt; memory.as_str(), "no memory");
+    Ok(())
+}
+
+const SHORT: &str = "grow 0 9\nlen 0\n";
+
+const SHORT_REPLIES: &str = "ok\n9\n";
+
+// Each read fails in turn: the program ends there, and nothing was written.
+#[test]
+fn each_read_fails_in_turn(rt: HostRuntime) -> Result<(), Fail> {
+    for call in 1..17 {
+        let mut source = Source::new(SHORT.as_bytes(), call);
+        let mut sink = Sink::new(Vec::new(rt.alloc()), 0, false);
+        let outcome = run_text(rt.alloc(), &mut source, &mut sink);
+        assert_eq!(rt; status(&outcome), 1, "at {call}");
+        assert_eq!(rt; source.failures, 1, "at {call}");
+        assert_eq!(rt; source.calls, call);
+        assert_eq!(rt; sink.calls, 0);
+    }
+    Ok(())
+}
+
+// Each write, and then the flush, fails in turn: what went out is a beginning of the output.
+#[test]
+fn each_write_fails_in_turn(rt: HostRuntime) -> Result<(), Fail> {
+    for is_full in [false, true] {
+        for call in 1..7 {
+            let mut source = Source::new(SHORT.as_bytes(), 0);
+            let mut sink = Sink::new(Vec::new(rt.alloc()), call, is_full);
+            let outcome = run_text(rt.alloc(), &mut source, &mut sink);
+            assert_eq!(rt; status(&outcome), 2, "at {call}");
+            assert_eq!(rt; sink.failures, 1, "at {call}");
+            assert_eq!(rt; sink.calls, call);
+            assert_eq!(rt; sink.flushed, 0);
+            assert!(rt; SHORT_REPLIES.as_bytes().starts_with(sink.taken.as_slice()));
+        }
+    }
+    Ok(())
+}
