@@ -1,5 +1,5 @@
 -- Runs that go on by one step.
-use Rattle.std.proofs.Common.{ℕ, ◌+◌, ◌<◌, List, [], ◌∷◌, ◌++◌, length, get_or, take, map, refl, subst}
+use Rattle.std.proofs.Common.{◌≡◌, ℕ, ◌+◌, ◌<◌, List, [], ◌∷◌, ◌++◌, length, get_or, take, map, refl, subst}
 use Rattle.std.proofs.lemmas.List.{take_more, map-append}
 use Rattle.bitcommands.specs.declared.commands.Command.{Command}
 use Rattle.bitcommands.specs.declared.commands.replies.Reply.{Reply}
@@ -15,8 +15,8 @@ Run-snoc limit old mid new (d ∷ cs) (q ∷ rs) c r run step = (run.0, run.1, R
 Run-snoc limit old mid new [] (q ∷ rs) c r run step = absurd run
 Run-snoc limit old mid new (d ∷ cs) [] c r run step = absurd run
 
-pub Run_more : (limit : ℕ) (old mid new : Sets) (cs : List Command) (rs : List Reply) (i : ℕ) (d : Command) (r : Reply)
-    → i < length cs → Run limit old (map meant (take i cs)) (map seen rs) mid → Step limit mid (meant (get_or cs i d)) (seen r) new
+pub Run_more : (limit : ℕ) (old mid new : Sets) (cs : List Command) (rs : List Reply) (i : ℕ) (c : Command) (r : Reply)
+    → i < length cs → c ≡ get_or cs i c → Run limit old (map meant (take i cs)) (map seen rs) mid → Step limit mid (meant c) (seen r) new
     → Run limit old (map meant (take (i + 1) cs)) (map seen (rs ++ r ∷ [])) new
-Run_more limit old mid new cs rs i d r lt run step =
-    rw (take_more cs i d lt, map-append meant (take i cs), map-append seen rs) (Run-snoc limit old mid new (map meant (take i cs)) (map seen rs) (meant (get_or cs i d)) (seen r) run step)
+Run_more limit old mid new cs rs i c r lt is run step =
+    rw (take_more cs i c lt, ← is, map-append meant (take i cs), map-append seen rs) (Run-snoc limit old mid new (map meant (take i cs)) (map seen rs) (meant c) (seen r) run step)

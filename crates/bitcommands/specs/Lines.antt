@@ -1,8 +1,10 @@
 -- Which command a line stands for.
-use Rattle.std.specs.Prelude.{ℕ, Bool, true, false, List, [], ◌∷◌, Option, Some, None, if◌then◌else◌, codes}
+use Rattle.std.specs.Prelude.{ℕ, Bool, true, false, ◌==◌, List, [], ◌∷◌, Option, Some, None, if◌then◌else◌, codes}
 use Rattle.std.specs.Str.{bytes_eq}
 use Rattle.bitcommands.specs.Words.{◌>>=◌, words, number_at, at_end}
-use Rattle.bitcommands.specs.Actions.{Action, with_capacity, len, contains, grow, insert, remove, toggle, put, set}
+use Rattle.bitcommands.specs.declared.commands.walking.End.{End}
+use Rattle.bitcommands.specs.declared.commands.walking.End.TheVariants.{Front}
+use Rattle.bitcommands.specs.Actions.{Action, with_capacity, len, contains, grow, insert, remove, toggle, put, set, ones}
 
 -- ---- arguments
 
@@ -18,6 +20,25 @@ flag_of w = if is w (codes "true") then Some true else (if is w (codes "false") 
 unfoldable pub flag_at : List (List ℕ) → Option (Bool × List (List ℕ))
 flag_at [] = None
 flag_at (w ∷ ws) = flag_of w >>= λ e. Some (e, ws)
+
+-- the letter of an end
+unfoldable pub end_of : ℕ → Option End
+end_of letter = if letter == 102 then Some Front else None
+
+-- an end for each letter
+unfoldable pub ends_from : List ℕ → Option (List End)
+ends_from [] = Some []
+ends_from (c ∷ cs) = end_of c >>= λ e. ends_from cs >>= λ es. Some (e ∷ es)
+
+-- one or more letters
+unfoldable pub ends_of : List ℕ → Option (List End)
+ends_of [] = None
+ends_of (c ∷ cs) = ends_from (c ∷ cs)
+
+-- the first word as ends, and the words after it
+unfoldable pub ends_at : List (List ℕ) → Option (List End × List (List ℕ))
+ends_at [] = None
+ends_at (w ∷ ws) = ends_of w >>= λ es. Some (es, ws)
 
 -- one number
 unfoldable pub one : List (List ℕ) → Option ℕ
@@ -43,6 +64,14 @@ two_and_flag ws = do
   end ← at_end e.1
   Some (a.0, b.0, e.0)
 
+-- a number and ends
+unfoldable pub one_and_ends : List (List ℕ) → Option (ℕ × List End)
+one_and_ends ws = do
+  a ← number_at ws
+  es ← ends_at a.1
+  end ← at_end es.1
+  Some (a.0, es.0)
+
 -- ---- the commands of each group, by their word and their arguments
 
 unfoldable pub make_of : List ℕ → List (List ℕ) → Option Action
@@ -66,13 +95,18 @@ change_of name args =
     if is name (codes "set") then (two_and_flag args >>= λ x. Some (set x.0 x.1 x.2)) else
     None
 
+unfoldable pub walk_of : List ℕ → List (List ℕ) → Option Action
+walk_of name args =
+    if is name (codes "ones") then (one_and_ends args >>= λ x. Some (ones x.0 x.1)) else
+    None
+
 -- the first of two that is there
 abbrev pub or_else : {A : Type 0} → Option A → Option A → Option A
 or_else (Some x) other = Some x
 or_else None other = other
 
 unfoldable pub command_by : List ℕ → List (List ℕ) → Option Action
-command_by name args = or_else (make_of name args) (or_else (look_of name args) (change_of name args))
+command_by name args = or_else (make_of name args) (or_else (look_of name args) (or_else (change_of name args) (walk_of name args)))
 
 -- the first word is the command's, and the others are its arguments
 unfoldable pub command_of_words : List (List ℕ) → Option Action
@@ -82,3 +116,17 @@ command_of_words (name ∷ args) = command_by name args
 -- The command that a line stands for, if there is one.
 abbrev pub command_of : List ℕ → Option Action
 command_of line = command_of_words (words line)
+
+-- ---- which lines want memory
+
+-- whether a command of this word has a list
+abbrev pub has_list : List ℕ → Bool
+has_list name = is name (codes "ones")
+
+abbrev pub words_have_list : List (List ℕ) → Bool
+words_have_list [] = false
+words_have_list (name ∷ args) = has_list name
+
+-- whether memory may lack as the line is read: where its first word is that of a command with a list
+abbrev pub may_lack : List ℕ → Bool
+may_lack line = words_have_list (words line)

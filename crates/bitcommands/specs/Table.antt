@@ -2,10 +2,10 @@
 use Rattle.std.specs.Prelude.{ℕ, Bool, true, false, Option}
 use Rattle.fixedbitset.specs.Bits as model
 use Rattle.bitcommands.specs.declared.commands.refusals.Refusal.{Refusal}
-use Rattle.bitcommands.specs.Actions.{Action, with_capacity, len, contains, grow, insert, remove, toggle, put, set}
+use Rattle.bitcommands.specs.Actions.{Action, with_capacity, len, contains, grow, insert, remove, toggle, put, set, ones}
 use Rattle.bitcommands.specs.Answers as answer
 use Rattle.bitcommands.specs.Answers.{Answer, done}
-use Rattle.bitcommands.specs.Tests.{Sets, at, place, ◌//◌, no_set, past_length, past_limit, more}
+use Rattle.bitcommands.specs.Tests.{Sets, at, place, ◌//◌, no_set, past_length, past_limit, more, calls}
 
 -- What a command does: the first of its tests that refuses; where none does, its answer and the sets left;
 -- and whether memory may be refused in their place.
@@ -27,3 +27,4 @@ row_of m s (remove k p) = row (no_set s k // past_length (at s k) p) done (place
 row_of m s (toggle k p) = row (no_set s k // past_length (at s k) p) done (place s k (model.toggle (at s k) p)) false
 row_of m s (put k p) = row (no_set s k // past_length (at s k) p) (answer.bool (model.contains (at s k) p)) (place s k (model.insert (at s k) p)) false
 row_of m s (set k p e) = row (no_set s k // past_length (at s k) p) done (place s k (model.set_bit (at s k) p e)) false
+row_of m s (ones k ends) = row (no_set s k) (answer.items (calls ends (model.asc (at s k)))) s true

@@ -1,9 +1,11 @@
 -- Sets by number, and the tests that commands make before they do anything.
-use Rattle.std.specs.Prelude.{◌≡◌, ℕ, Bool, true, false, not, List, length, Option, Some, None, Result, Err, MatchOption, IsOk, nat_lt, slice_index_or, slice_set}
+use Rattle.std.specs.Prelude.{◌≡◌, ℕ, Bool, true, false, not, List, [], ◌∷◌, length, Option, Some, None, Result, Err, MatchOption, IsOk, nat_lt, slice_index_or, slice_set}
 use Rattle.fixedbitset.specs.Bits as model
 use Rattle.fixedbitset.specs.Bits.{Bits}
 use Rattle.bitcommands.specs.declared.commands.refusals.Refusal.{Refusal}
 use Rattle.bitcommands.specs.declared.commands.refusals.Refusal.TheVariants as refusal
+use Rattle.bitcommands.specs.declared.commands.walking.End.{End}
+use Rattle.bitcommands.specs.declared.commands.walking.End.TheVariants.{Front}
 
 -- the sets, by number
 abbrev pub Sets : Type 0
@@ -53,3 +55,19 @@ more v n = nat_lt (model.words_needed v.length) (model.words_needed n)
 -- a function that makes tests answers the first refusal
 abbrev pub Passes : {A : Type 0} → Result A Refusal → Option Refusal → Type 0
 Passes result test = MatchOption test (IsOk result) (λ f. result ≡ Err f)
+
+-- ---- the calls of a walk
+
+-- the first item that is left, and those behind it
+abbrev pub first_of : List ℕ → Option ℕ
+first_of [] = None
+first_of (x ∷ xs) = Some x
+
+abbrev pub behind_first : List ℕ → List ℕ
+behind_first [] = []
+behind_first (x ∷ xs) = xs
+
+-- what the calls of a walk answer, one an end, in order
+abbrev pub calls : List End → List ℕ → List (Option ℕ)
+calls [] xs = []
+calls (Front ∷ ends) xs = first_of xs ∷ calls ends (behind_first xs)

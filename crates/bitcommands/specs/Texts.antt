@@ -1,9 +1,10 @@
 -- The texts of replies.
-use Rattle.std.specs.Prelude.{ℕ, Bool, true, false, List, codes}
+use Rattle.std.specs.Prelude.{ℕ, Bool, true, false, List, map, Option, Some, None, codes}
+use Rattle.std.specs.List.{join_with_byte}
 use Rattle.std.specs.Fmt.{decimal}
 use Rattle.bitcommands.specs.declared.commands.refusals.Refusal.{Refusal}
 use Rattle.bitcommands.specs.declared.commands.refusals.Refusal.TheVariants.{NoSet, Position, Memory, Limit}
-use Rattle.bitcommands.specs.Answers.{Answer, done, bool, number, refused}
+use Rattle.bitcommands.specs.Answers.{Answer, done, bool, number, items, refused}
 
 abbrev pub refusal_text : Refusal → List ℕ
 refusal_text NoSet = codes "F1 no such set"
@@ -15,10 +16,19 @@ abbrev pub flag_text : Bool → List ℕ
 flag_text true = codes "true"
 flag_text false = codes "false"
 
+abbrev pub item_text : Option ℕ → List ℕ
+item_text None = codes "none"
+item_text (Some n) = decimal n
+
+-- one text an item, one space between two of them
+abbrev pub items_text : List (Option ℕ) → List ℕ
+items_text list = join_with_byte 32 (map item_text list)
+
 abbrev pub answer_text : Answer → List ℕ
 answer_text done = codes "ok"
 answer_text (bool e) = flag_text e
 answer_text (number n) = decimal n
+answer_text (items list) = items_text list
 answer_text (refused f) = refusal_text f
 
 -- the text of a line that is no command

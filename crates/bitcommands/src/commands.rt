@@ -9,6 +9,7 @@ mod looking;
 mod making;
 mod refusals;
 mod replies;
+mod walking;
 
 pub use changing::Change;
 use changing::apply_change;
@@ -20,6 +21,8 @@ use making::apply_make;
 pub use refusals::Refusal;
 pub use replies::Reply;
 use std::alloc::{AllocError, Global};
+use walking::apply_walk;
+pub use walking::{End, Walk};
 
 /// A command over sets that are named by their numbers, from 0 on.
 #[derive(Debug, Drop)]
@@ -27,6 +30,7 @@ pub enum Command {
     Make(Make),
     Look(Look),
     Change(Change),
+    Walk(Walk),
 }
 
 /// Carries out one command, and answers its reply.
@@ -41,6 +45,7 @@ pub fn apply(alloc: Global, sets: &mut [FixedBitSet], command: &Command, limit: 
         Command::Make(command) => reply_of(apply_make(alloc, sets, command, limit)),
         Command::Look(command) => reply_of(apply_look(sets, command, limit)),
         Command::Change(command) => reply_of(apply_change(sets, command, limit)),
+        Command::Walk(command) => reply_of(apply_walk(alloc, sets, command, limit)),
     }
 }
 

@@ -1,10 +1,10 @@
 //! Lines as commands.
-ghost use Rattle.std.specs.Prelude.{false};
+ghost use Rattle.std.specs.Prelude.{◌≡◌, true, false};
 ghost use Rattle.bitcommands.specs.Words.{Reads};
-ghost use Rattle.bitcommands.specs.Actions.{meant, make_meant, look_meant, change_meant};
-ghost use Rattle.bitcommands.specs.Lines.{one, two, two_and_flag, make_of, look_of, change_of, command_by, command_of};
+ghost use Rattle.bitcommands.specs.Actions.{meant, make_meant, look_meant, change_meant, walk_meant};
+ghost use Rattle.bitcommands.specs.Lines.{end_of, ends_of, ends_at, one, two, two_and_flag, one_and_ends, make_of, look_of, change_of, walk_of, command_by, command_of, has_list, may_lack};
 
-use crate::commands::{Change, Command, Look, Make};
+use crate::commands::{Change, Command, End, Look, Make, Walk};
 use crate::words::{Words, is};
 use std::alloc::Global;
 
@@ -20,19 +20,20 @@ pub enum LineFault {
 /// The command that a line stands for: a command word and its arguments, with exactly one space between two of them
 /// and none at the ends (`docs/COMMANDS.md`). The line is given without its line end.
 ///
-/// `NotACommand` comes only where the line stands for none, and `Memory` never for the commands that there are.
+/// `NotACommand` comes only where the line stands for none, and `Memory` only where the first word is that of a command
+/// with a list (`ones`). Any other line takes no memory.
 #[tactic(auto, unfolding(crate::specs::Lines::command_of_words))]
-pub fn parse_line(_alloc: Global, line: &[u8]) -> Result<Command, LineFault>
-    ensures { Reads false meant result (command_of line.now) }
+pub fn parse_line(alloc: Global, line: &[u8]) -> Result<Command, LineFault>
+    ensures { Reads (may_lack line.now) meant result (command_of line.now) }
 {
     let mut words = Words::new(line);
     let name = words.next().ok_or(LineFault::NotACommand)?;
-    command_from(name, words)
+    command_from(alloc, name, words)
 }
 
 #[tactic(auto, unfolding(crate::specs::Lines::command_by))]
-fn command_from(name: &[u8], args: Words<'_>) -> Result<Command, LineFault>
-    ensures { Reads false meant result (command_by name.now args.entry) }
+fn command_from(alloc: Global, name: &[u8], args: Words<'_>) -> Result<Command, LineFault>
+    ensures { Reads (has_list name.now) meant result (command_by name.now args.entry) }
 {
     if let Ok(make) = make_from(name, args.again()) {
         return Ok(Command::Make(make));
@@ -40,8 +41,11 @@ fn command_from(name: &[u8], args: Words<'_>) -> Result<Command, LineFault>
     if let Ok(look) = look_from(name, args.again()) {
         return Ok(Command::Look(look));
     }
-    let change = change_from(name, args)?;
-    Ok(Command::Change(change))
+    if let Ok(change) = change_from(name, args.again()) {
+        return Ok(Command::Change(change));
+    }
+    let walk = walk_from(alloc, name, args)?;
+    Ok(Command::Walk(walk))
 }
 
 #[tactic(auto, unfolding(crate::specs::Lines::make_of))]
@@ -101,6 +105,17 @@ fn change_from(name: &[u8], args: Words<'_>) -> Result<Change, LineFault>
     Err(LineFault::NotACommand)
 }
 
+#[tactic(auto, unfolding(crate::specs::Lines::walk_of))]
+fn walk_from(alloc: Global, name: &[u8], args: Words<'_>) -> Result<Walk, LineFault>
+    ensures { Reads (has_list name.now) walk_meant result (walk_of name.now args.entry) }
+{
+    if is(name, "ones") {
+        let (set, ends) = one_and_ends(alloc, args)?;
+        return Ok(Walk::Ones { set, ends });
+    }
+    Err(LineFault::NotACommand)
+}
+
 #[tactic(auto, unfolding(crate::specs::Lines::one))]
 fn one(mut args: Words<'_>) -> Result<usize, LineFault>
     ensures { Reads false (λ n. n) result (one args.entry) }
@@ -129,4 +144,52 @@ fn two_and_flag(mut args: Words<'_>) -> Result<(usize, usize, bool), LineFault>
     let enabled = args.flag()?;
     args.end()?;
     Ok((first, second, enabled))
+}
+
+#[tactic(auto, unfolding(crate::specs::Lines::one_and_ends))]
+fn one_and_ends(alloc: Global, mut args: Words<'_>) -> Result<(usize, Vec<End>), LineFault>
+    ensures { Reads true (λ x. (x.0, x.1.items)) result (one_and_ends args.entry) }
+{
+    let set = args.number()?;
+    let ends = ends_in(alloc, &mut args)?;
+    args.end()?;
+    Ok((set, ends))
+}
+
+#[tactic(auto, unfolding(crate::specs::Lines::ends_at))]
+fn ends_in(alloc: Global, args: &mut Words<'_>) -> Result<Vec<End>, LineFault>
+    ensures { Reads true (λ ends. (ends.items, args.new)) result (ends_at args.old) }
+{
+    let word = args.next().ok_or(LineFault::NotACommand)?;
+    ends(alloc, word)
+}
+
+// One or more letters, an end for each.
+#[tactic(auto, using(crate::proofs::Ends::ends_empty, crate::proofs::Ends::ends_start, crate::proofs::Ends::ends_more, crate::proofs::Ends::ends_none, crate::proofs::Ends::ends_end))]
+fn ends(alloc: Global, word: &[u8]) -> Result<Vec<End>, LineFault>
+    ensures { Reads true (λ ends. ends.items) result (ends_of word.now) }
+{
+    if word.is_empty() {
+        return Err(LineFault::NotACommand);
+    }
+    let mut ends = Vec::new(alloc);
+    for letter in word {
+        let Some(end) = end_of(*letter) else {
+            return Err(LineFault::NotACommand);
+        };
+        if ends.push(end).is_err() {
+            return Err(LineFault::Memory);
+        }
+    }
+    Ok(ends)
+}
+
+#[tactic(auto, unfolding(crate::specs::Lines::end_of))]
+fn end_of(letter: u8) -> Option<End>
+    ensures { result ≡ end_of letter }
+{
+    match letter {
+        b'f' => Some(End::Front),
+        _ => None,
+    }
 }

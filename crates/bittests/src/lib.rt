@@ -2,6 +2,8 @@
 #![tactic(auto)]
 
 #[cfg(test)]
+mod callers;
+#[cfg(test)]
 mod program;
 #[cfg(test)]
 mod slow;
@@ -9,3 +11,5 @@ mod slow;
 mod streams;
 #[cfg(test)]
 mod values;
+#[cfg(test)]
+mod walks;

@@ -68,14 +68,24 @@ fn runs_of_commands(rt: HostRuntime) -> Result<(), Fail> {
     )
 }
 
+#[test]
+fn walks_from_the_front(rt: HostRuntime) -> Result<(), Fail> {
+    assert_output(
+        &rt,
+        rt.alloc(),
+        "with_capacity 2 131\ninsert 2 130\ninsert 2 0\ninsert 2 64\nones 2 fffff\nones 9 f\nones 2\nones 2 ff\n",
+        "ok\nok\nok\nok\n0 64 130 none none\nnone\nF8 not a command\n0 64\n",
+    )
+}
+
 // The tests of a command come in the order of the table, and a refused command changes nothing.
 #[test]
 fn the_first_test_that_refuses_is_the_reply(rt: HostRuntime) -> Result<(), Fail> {
     assert_output(
         &rt,
         rt.alloc(),
-        "with_capacity 16 1000001\ngrow 16 1000001\nput 16 0\nput 0 0\nlen 16\ncontains 99 0\n",
-        "F1 no such set\nF1 no such set\nF1 no such set\nF2 position not below the length\nF1 no such set\nF1 no such set\n",
+        "with_capacity 16 1000001\ngrow 16 1000001\nput 16 0\nput 0 0\nlen 16\ncontains 99 0\nones 16 f\n",
+        "F1 no such set\nF1 no such set\nF1 no such set\nF2 position not below the length\nF1 no such set\nF1 no such set\nF1 no such set\n",
     )?;
     assert_output(
         &rt,
@@ -121,6 +131,10 @@ fn lines_that_are_no_commands(rt: HostRuntime) -> Result<(), Fail> {
         "set 0 0 True",
         "set 0 0 1",
         "grow 0 1 2",
+        "ones 0 b",
+        "ones 0 fF",
+        "ones 0 ",
+        "ones 0 f f",
         "new",
         "é 0",
     ];

@@ -19,7 +19,7 @@ get_or-none j i =
     (cases_lt i j)
 
 -- zeros behind the words
-get_or-zeros : (ws : List ℕ) (j i : ℕ) → get_or (ws ++ zeros j) i 0 ≡ get_or ws i 0
+pub get_or-zeros : (ws : List ℕ) (j i : ℕ) → get_or (ws ++ zeros j) i 0 ≡ get_or ws i 0
 get_or-zeros ws j i =
     ⊎_elim
     (λ (lt : i < length ws). get_or_append_left ws _ 0 i lt)

@@ -6,6 +6,7 @@ use Rattle.std.specs.Int.{bit_at, div_ceil}
 use Rattle.std.specs.FinSet as set
 use Rattle.std.specs.FinSet.{FinSet}
 use Rattle.fixedbitset.specs.Numbers.{numbers_below, kept_below}
+use Rattle.fixedbitset.specs.Ascending.{ascending}
 
 -- a length, and a set of positions below it
 pub record Bits : Type 0 where
@@ -55,7 +56,7 @@ grow v bits = pair (max v.length bits) v.positions
 
 -- the positions in ascending order
 unfoldable pub asc : Bits → List ℕ
-asc v = filter (contains v) (range_with_len 0 v.length)
+asc v = ascending (contains v) 0 v.length
 
 -- the sum of 2 ^ (p - start) over the positions p with start ≤ p < start + width
 unfoldable pub number_at : Bits → ℕ → ℕ → ℕ

@@ -6,6 +6,9 @@
 
 pub mod bits;
 pub mod set;
+pub mod walks;
 
+pub use bitlanes::counter::Steps;
 pub use bitlanes::word::Block;
 pub use set::FixedBitSet;
+pub use walks::Ones;

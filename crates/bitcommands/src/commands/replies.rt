@@ -1,4 +1,7 @@
 //! What a command answers.
+ghost use Rattle.std.specs.Fmt.{WritesOnOk};
+ghost use Rattle.bitcommands.specs.Texts.{items_text};
+
 use crate::commands::refusals::Refusal;
 use std::fmt;
 
@@ -9,6 +12,8 @@ pub enum Reply {
     Done,
     Bool(bool),
     Number(usize),
+    /// What the calls of a walk answered, in order.
+    Items(Vec<Option<usize>>),
     /// It was not carried out.
     Refused(Refusal),
 }
@@ -26,7 +31,42 @@ impl fmt::Display for Reply {
             Reply::Bool(true) => f.write_str("true"),
             Reply::Bool(false) => f.write_str("false"),
             Reply::Number(number) => write!(f, "{number}"),
+            Reply::Items(items) => write_items(items.as_slice(), f),
             Reply::Refused(refusal) => write!(f, "{refusal}"),
+        }
+    }
+}
+
+// The items, one space between two of them.
+fn write_items<W: fmt::Write>(items: &[Option<usize>], f: &mut fmt::Formatter<W>) -> fmt::Result
+    ensures { WritesOnOk W.write_str_gives f.old result (items_text items.now) f.new }
+{
+    let Some((first, rest)) = items.split_first() else {
+        return Ok(());
+    };
+    write!(f, "{}", Item { answer: *first })?;
+    for item in rest {
+        write!(f, " {}", Item { answer: *item })?;
+    }
+    Ok(())
+}
+
+// What one call of a walk answered.
+#[derive(Drop)]
+struct Item {
+    answer: Option<usize>,
+}
+
+impl fmt::Display for Item {
+    ghost use Rattle.std.specs.Prelude.{Some};
+    ghost use Rattle.bitcommands.specs.Texts.{item_text};
+
+    ghost output = { λ item. Some (item_text item.answer) };
+
+    fn fmt<W: fmt::Write>(&self, f: &mut fmt::Formatter<W>) -> fmt::Result {
+        match self.answer {
+            Some(position) => write!(f, "{position}"),
+            None => f.write_str("none"),
         }
     }
 }

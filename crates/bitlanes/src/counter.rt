@@ -1,0 +1,52 @@
+//! A counter that takes no bytes when the program runs.
+ghost use Rattle.std.specs.Prelude.{◌≡◌, ◌+◌};
+
+use std::marker::Model;
+use std::mem;
+use std::snapshot::Snapshot;
+
+// A number, which only proofs read: a `Snapshot` has no bytes.
+#[derive(Drop)]
+enum Tally {
+    Zero,
+    Next(Snapshot<Tally>),
+}
+
+/// How many steps were taken: a whole number with no greatest. It takes no bytes.
+///
+/// A step is one lane of four words, or one word, in one turn of a kernel of `lanes`.
+#[derive(Drop)]
+pub struct Steps {
+    tally: Snapshot<Tally>,
+}
+
+impl Model for Steps {
+    ghost use Rattle.std.specs.Prelude.{ℕ};
+
+    ghost Value = { ℕ };
+
+    ghost use Rattle.bitlanes.specs.Depth.{depth};
+
+    ghost view = { λ steps. depth steps.tally.value };
+}
+
+impl Steps {
+    /// No step yet.
+    #[inline(always)]
+    pub fn new() -> Steps
+        ensures { result ≡ 0 }
+    {
+        Steps {
+            tally: Snapshot::of(&Tally::Zero),
+        }
+    }
+
+    /// Counts one step more. It does nothing when the program runs.
+    #[inline(always)]
+    pub fn tick(&mut self)
+        ensures { self.new ≡ self.old + 1 }
+    {
+        let before = mem::replace(&mut self.tally, Snapshot::of(&Tally::Zero));
+        self.tally = Snapshot::of(&Tally::Next(before));
+    }
+}

@@ -1,0 +1,97 @@
+-- There is one strictly ascending list with given members.
+use Rattle.std.proofs.Common.{inl, inr, ◌≡◌, ℕ, zero, suc, ◌+◌, ◌<◌, ◌≤◌, ◌⊎◌, Bool, true, false, cond, IsTrue, List, [], ◌∷◌, length, get_or, refl, ap, ◌∙◌, arith, ⊎_elim}
+use Rattle.std.specs.List.{range_with_len, slice_index_or, Contains, AllPairs}
+use Rattle.std.specs.List.Sorted.{IsStrictlyIncreasing}
+use Rattle.std.proofs.lemmas.Bool.{cases_eq}
+use Rattle.std.proofs.lemmas.List.Elements.{Contains-append_right, All-contains, filter_passes}
+use Rattle.std.proofs.lemmas.List.Kept.{AllPairs-from_increasing, IsStrictlyIncreasing-filter}
+use Rattle.std.proofs.lemmas.List.FromFn.{length-range_with_len, get_or-range_with_len}
+use Rattle.fixedbitset.specs.Ascending.{ascending}
+use Rattle.fixedbitset.specs.Bits.{Bits, contains, asc}
+use Rattle.fixedbitset.specs.BitsFacts.{contains_below}
+use Rattle.fixedbitset.specs.Laws.{IsAscendingListOf, OneAscendingList}
+
+abbrev Ascends : List ℕ → Type 0
+Ascends xs = AllPairs (λ x y. x < y) xs
+
+-- a member is the head, or a member of the others
+Contains-cases : (x : ℕ) (xs : List ℕ) (p : ℕ) → Contains (x ∷ xs) p → (x ≡ p) ⊎ Contains xs p
+Contains-cases x xs p member = by_index member.0 member.1 member.2
+  where
+    by_index : (k : ℕ) → k < length (x ∷ xs) → slice_index_or (x ∷ xs) k p ≡ p → (x ≡ p) ⊎ Contains xs p
+    by_index zero within is = inl is
+    by_index (suc k) within is = inr (k, omega arith, is)
+
+Contains-head : (x : ℕ) (xs : List ℕ) → Contains (x ∷ xs) x
+Contains-head x xs = (0, omega arith, refl)
+
+Contains-later : (x : ℕ) (xs : List ℕ) (p : ℕ) → Contains xs p → Contains (x ∷ xs) p
+Contains-later x xs p member = Contains-append_right (x ∷ []) xs p member
+
+-- the head of an ascending list is below the others
+head_below : (x : ℕ) (xs : List ℕ) (p : ℕ) → Ascends (x ∷ xs) → Contains xs p → x < p
+head_below x xs p ascends member =
+    let below : x < get_or xs member.0 p = ascends 0 (suc member.0) p (omega arith) (omega (arith, member.1)) in
+    omega (arith, below, member.2)
+
+Ascends-tail : (x : ℕ) (xs : List ℕ) → Ascends (x ∷ xs) → Ascends xs
+Ascends-tail x xs ascends = λ i j d before within. ascends (suc i) (suc j) d (omega arith) (omega arith)
+
+-- two ascending lists with the same members are one list
+same_lists : (xs ys : List ℕ) → Ascends xs → Ascends ys → ((p : ℕ) → Contains xs p → Contains ys p) → ((p : ℕ) → Contains ys p → Contains xs p) → xs ≡ ys
+same_lists [] [] a b to from = refl
+same_lists [] (y ∷ ys) a b to from = absurd (omega (arith, (from y (Contains-head y ys)).1))
+same_lists (x ∷ xs) [] a b to from = absurd (omega (arith, (to x (Contains-head x xs)).1))
+same_lists (x ∷ xs) (y ∷ ys) a b to from =
+    let low : y ≤ x = ⊎_elim (λ (e : y ≡ x). omega arith) (λ h. let l : y < x = head_below y ys x b h in omega arith) (Contains-cases y ys x (to x (Contains-head x xs))) in
+    let high : x ≤ y = ⊎_elim (λ (e : x ≡ y). omega arith) (λ h. let l : x < y = head_below x xs y a h in omega arith) (Contains-cases x xs y (from y (Contains-head y ys))) in
+    let heads : x ≡ y = omega arith in
+    let to_tail : (p : ℕ) → Contains xs p → Contains ys p = λ p h.
+    let l : x < p = head_below x xs p a h in
+    ⊎_elim (λ (e : y ≡ p). absurd (omega arith)) (λ there. there) (Contains-cases y ys p (to p (Contains-later x xs p h))) in
+    let from_tail : (p : ℕ) → Contains ys p → Contains xs p = λ p h.
+    let l : y < p = head_below y ys p b h in
+    ⊎_elim (λ (e : x ≡ p). absurd (omega arith)) (λ there. there) (Contains-cases x xs p (from p (Contains-later y ys p h))) in
+    let tails = same_lists xs ys (Ascends-tail x xs a) (Ascends-tail y ys b) to_tail from_tail in
+    λ i. heads i ∷ tails i
+
+-- each number that passes is listed
+listed : (test : ℕ → Bool) (low n p : ℕ) → low ≤ p → p < low + n → test p ≡ true → Contains (ascending test low n) p
+listed test low zero p from to passes = absurd (omega arith)
+listed test low (suc n) p from to passes =
+    let others = ascending test (low + 1) n in
+    elim (cases_eq low p) [
+      | inl here ↦ let at_low : test low ≡ true = ap test here ∙ passes in rw at_low (0, omega arith, here)
+      | inr later ↦ behind (test low) low others p (listed test (low + 1) n p (omega arith) (omega arith) passes)
+    ]
+  where
+    behind : (b : Bool) (x : ℕ) (xs : List ℕ) (p : ℕ) → Contains xs p → Contains (cond b (x ∷ xs) xs) p
+    behind true x xs p member = Contains-later x xs p member
+    behind false x xs p member = member
+
+IsStrictlyIncreasing-asc : (v : Bits) → IsStrictlyIncreasing (asc v)
+unfolding asc
+IsStrictlyIncreasing-asc v = IsStrictlyIncreasing-filter (contains v) (range_with_len 0 v.length) (λ k h.
+    let long : length (range_with_len 0 v.length) ≡ v.length = length-range_with_len 0 v.length in
+    let here : get_or (range_with_len 0 v.length) k 0 ≡ 0 + k = get_or-range_with_len 0 v.length k 0 (omega arith) in
+    let next : get_or (range_with_len 0 v.length) (k + 1) 0 ≡ 0 + (k + 1) = get_or-range_with_len 0 v.length (k + 1) 0 (omega arith) in
+    omega arith)
+
+asc_is_one : (v : Bits) → IsAscendingListOf v (asc v)
+unfolding asc
+asc_is_one v = record {
+  ascends = IsStrictlyIncreasing-asc v;
+  members = λ p. (
+    λ member. All-contains (λ x. IsTrue (contains v x)) (asc v) p (filter_passes (contains v) (range_with_len 0 v.length)) member,
+    λ holds. let below : p < v.length = contains_below v p holds in listed (contains v) 0 v.length p (omega arith) (omega arith) holds,
+  );
+}
+
+pub one_ascending_list : OneAscendingList
+one_ascending_list = λ v.
+    let one = asc_is_one v in (
+      one,
+      λ xs other. same_lists xs (asc v) (AllPairs-from_increasing xs other.ascends) (AllPairs-from_increasing (asc v) one.ascends)
+          (λ p member. (one.members p).1 ((other.members p).0 member))
+          (λ p member. (other.members p).1 ((one.members p).0 member)),
+    )

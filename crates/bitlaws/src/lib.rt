@@ -1,0 +1,4 @@
+//! Laws of the definitions that the contracts of `fixedbitset` are written in.
+#![tactic(auto)]
+
+pub mod laws;
