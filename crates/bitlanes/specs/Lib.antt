@@ -1,2 +1,5 @@
+pub mod Bits
+pub mod BitLaws
 pub mod Depth
 pub mod Word
+pub mod Words

@@ -1,6 +1,7 @@
 //! The bits of one word.
 
-ghost use Rattle.std.specs.Prelude.{◌≢◌, ◌<◌};
+ghost use Rattle.std.specs.Prelude.{◌≡◌, ◌≢◌, ℕ, ◌<◌, ◌≤◌, ◌&&◌, nat_lt, nat_le};
+ghost use Rattle.bitlanes.specs.Bits.{bit};
 ghost use Rattle.bitlanes.specs.Word.{IsLowestBit, IsHighestBit, ClearsBit};
 
 /// One word of a set: 64 bits, bit 0 the lowest.
@@ -34,4 +35,31 @@ pub fn clear_bit(word: Block, bit: usize) -> Block
     ensures { ClearsBit word result bit }
 {
     word & !(1 << bit)
+}
+
+/// The word whose lowest `count` bits are set, and no other. It asks at most 64.
+#[inline(always)]
+#[tactic(auto, using(crate::proofs::Stretches::some_ones, crate::proofs::Stretches::all_ones))]
+pub fn ones_below(count: usize) -> Block
+    requires { count ≤ 64 }
+    ensures { (i : ℕ) → bit result i ≡ nat_lt i count }
+{
+    if count < BITS {
+        (1 << count) - 1
+    } else {
+        Block::MAX
+    }
+}
+
+/// The word whose bits from `low` up to and without `high` are set, and no other. It asks that neither is past 64.
+///
+/// Where `high` is `low` or less, no bit is set.
+#[inline(always)]
+#[tactic(auto, using(crate::proofs::Stretches::ones_between))]
+pub fn stretch(low: usize, high: usize) -> Block
+    requires from { low ≤ 64 }
+    requires to { high ≤ 64 }
+    ensures { (i : ℕ) → bit result i ≡ (nat_le low i && nat_lt i high) }
+{
+    ones_below(high) & !ones_below(low)
 }

@@ -1,0 +1,54 @@
+-- sums and tests of a list, one lane of four further
+use Rattle.std.proofs.Common.{◌≡◌, ℕ, zero, suc, ◌+◌, ◌*◌, ◌≤◌, Bool, false, ◌==◌, ◌&&◌, List, [], ◌∷◌, ◌++◌, length, take, drop, replicate, sum_by, bit_or, refl, ap, sym, ◌∙◌, arith}
+use Rattle.std.specs.List.{list_all}
+use Rattle.std.specs.Simd.Lanes.{fold_l, chunk, put_chunk}
+use Rattle.std.proofs.Math.Bool.{and-true, and-false, and_assoc}
+use Rattle.std.proofs.Math.Seq.{take-add}
+use Rattle.std.proofs.lemmas.Bool.Decides.{nat_tests}
+use Rattle.std.proofs.lemmas.List.{take-append-drop, replicate-append-replicate}
+use Rattle.std.proofs.lemmas.List.Folds.{list_all-append}
+use Rattle.std.proofs.lemmas.List.Sums.{sum_by-append, sum_by-take-le}
+use Rattle.std.proofs.lemmas.Nat.{le_or_l}
+use Rattle.std.proofs.lemmas.Simd.{chunk-drop, take_more_put_chunk}
+
+bit_or-is_zero : (a b : ℕ) → (bit_or a b == 0) ≡ ((a == 0) && (b == 0))
+bit_or-is_zero zero b = refl
+bit_or-is_zero (suc a) b = grind (arith, nat_tests, le_or_l (suc a) b)
+
+fold_or : (a : ℕ) (xs : List ℕ) → (fold_l bit_or a xs == 0) ≡ ((a == 0) && list_all (λ w. w == 0) xs)
+fold_or a [] = sym (and-true (a == 0))
+fold_or a (x ∷ xs) = fold_or (bit_or a x) xs ∙ (ap (λ b. b && list_all (λ w. w == 0) xs) (bit_or-is_zero a x) ∙ and_assoc (a == 0) (x == 0) (list_all (λ w. w == 0) xs))
+
+-- the words of a lane, joined by `or`, are 0 where each is
+pub or_of_lane : (xs : List ℕ) → (fold_l bit_or 0 xs == 0) ≡ list_all (λ w. w == 0) xs
+or_of_lane = fold_or 0
+
+-- one lane more
+take_lane : (k : ℕ) (xs : List ℕ) → take (4 * (k + 1)) xs ≡ take (4 * k) xs ++ chunk (4 * k) 4 xs
+take_lane k xs = let e : 4 * (k + 1) ≡ 4 * k + 4 = omega arith in rw (e, take-add) refl
+
+pub sum_lane : (f : ℕ → ℕ) (k : ℕ) (xs : List ℕ) → sum_by f (take (4 * (k + 1)) xs) ≡ sum_by f (take (4 * k) xs) + sum_by f (chunk (4 * k) 4 xs)
+sum_lane f k xs = ap (sum_by f) (take_lane k xs) ∙ sum_by-append f (take (4 * k) xs) (chunk (4 * k) 4 xs)
+
+-- the sum so far and that of the next lane are within the whole sum
+pub sum_lane_le : (f : ℕ → ℕ) (k : ℕ) (xs : List ℕ) → sum_by f (take (4 * k) xs) + sum_by f (chunk (4 * k) 4 xs) ≤ sum_by f xs
+sum_lane_le f k xs = omega (arith, sum_lane f k xs, sum_by-take-le f xs (4 * (k + 1)))
+
+pub all_lane : (p : ℕ → Bool) (k : ℕ) (xs : List ℕ) → list_all p (take (4 * (k + 1)) xs) ≡ (list_all p (take (4 * k) xs) && list_all p (chunk (4 * k) 4 xs))
+all_lane p k xs = ap (list_all p) (take_lane k xs) ∙ list_all-append p (take (4 * k) xs) (chunk (4 * k) 4 xs)
+
+fails_within : (p : ℕ → Bool) (i n : ℕ) (xs : List ℕ) → list_all p (chunk i n xs) ≡ false → list_all p xs ≡ false
+fails_within p i n xs h =
+    ap (list_all p) (sym (take-append-drop i xs) ∙ ap (λ t. take i xs ++ t) (chunk-drop i n xs))
+    ∙ (list_all-append p (take i xs) (chunk i n xs ++ drop (i + n) xs)
+    ∙ (ap (λ b. list_all p (take i xs) && b) (list_all-append p (chunk i n xs) (drop (i + n) xs) ∙ ap (λ b. b && list_all p (drop (i + n) xs)) h)
+    ∙ and-false (list_all p (take i xs))))
+
+-- where the answer r for a lane is no, it is no for all
+pub fails_lane : (p : ℕ → Bool) (i : ℕ) (xs lane : List ℕ) (r : Bool) → lane ≡ chunk i 4 xs → r ≡ list_all p lane → r ≡ false → false ≡ list_all p xs
+fails_lane p i xs lane r of_xs answer failed = sym (fails_within p i 4 xs (ap (list_all p) (sym of_xs) ∙ (sym answer ∙ failed)))
+
+pub zeros_lane : (k : ℕ) (xs : List ℕ) → 4 * k + 4 ≤ length xs → take (4 * k) xs ≡ replicate (4 * k) 0 → take (4 * (k + 1)) (put_chunk (4 * k) xs (replicate 4 0)) ≡ replicate (4 * (k + 1)) 0
+zeros_lane k xs le h =
+    take_more_put_chunk (4 * k) xs (replicate 4 0) (4 * (k + 1)) (omega arith) (omega arith)
+    ∙ (ap (λ t. t ++ replicate 4 0) h ∙ (replicate-append-replicate (4 * k) 4 0 ∙ ap (λ n. replicate n 0) (omega arith)))

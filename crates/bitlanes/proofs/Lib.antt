@@ -1,0 +1,4 @@
+pub mod Folding
+pub mod Merging
+pub mod Stretches
+pub mod Zipping

@@ -1,0 +1,229 @@
+//! The kernels: loops over the words of one slice or of two, by lanes of four words and then by single words.
+//!
+//! A step is one lane of four words, or one word, in one turn of a kernel, and is counted by one tick. So `m` words
+//! take `m / 4 + m % 4` steps. The kernels are the only loops of calls on whole sets.
+//!
+//! Of two slices a kernel reads as many words as the shorter one has.
+ghost use Rattle.std.specs.Prelude.{◌≡◌, ◌+◌, ◌^◌, ◌<◌, ◌≤◌, ◌==◌, length, min, slice_index, sum_by, replicate};
+ghost use Rattle.std.specs.List.{list_all};
+ghost use Rattle.std.specs.Int.RustNames.{count_ones};
+ghost use Rattle.std.specs.Simd.Lanes.{zip2, chunk, put_chunk};
+ghost use Rattle.bitlanes.specs.Words.{merge, turns};
+
+use crate::ops::WordOp;
+use crate::{Block, Steps};
+use std::simd::prelude::*;
+
+// How many words a lane has.
+const LANE: usize = 4;
+
+/// Joins each word of `dst` with the word of `src` at its place, by `O`. Words of `dst` past the end of `src` stay.
+///
+/// It takes exactly `m / 4 + m % 4` steps, `m` being the number of words of the shorter slice.
+#[inline(always)]
+#[tactic(auto, using(crate::proofs::Merging::merge_none, crate::proofs::Merging::merge_lane, crate::proofs::Merging::merge_word, crate::proofs::Merging::merge_take))]
+pub fn apply<O: WordOp>(dst: &mut [Block], src: &[Block], steps: &mut Steps)
+    ensures words { dst.new ≡ merge O.joined dst.old src.now }
+    ensures cost { steps.new ≡ steps.old + turns (min (length dst.old) (length src.now)) }
+{
+    let words = dst.len().min(src.len());
+    let lanes = words / LANE;
+    for lane in 0..lanes {
+        steps.tick();
+        join_lane::<O>(dst, src, LANE * lane);
+    }
+    for word in 0..words % LANE {
+        steps.tick();
+        let at = LANE * lanes + word;
+        dst[at] = O::word(dst[at], src[at]);
+    }
+}
+
+/// How many bits are set in the words of `a` joined with those of `b` by `O`, as far as both go.
+///
+/// It asks that this number fits `usize`, and takes exactly `m / 4 + m % 4` steps, `m` being the number of words of
+/// the shorter slice.
+#[inline(always)]
+#[tactic(auto, using(crate::proofs::Folding::sum_lane, crate::proofs::Folding::sum_lane_le, crate::proofs::Zipping::sum_joined))]
+pub fn count<O: WordOp>(a: &[Block], b: &[Block], steps: &mut Steps) -> usize
+    requires fits { sum_by count_ones (zip2 O.joined a.now b.now) < 2 ^ 64 }
+    ensures ones { result ≡ sum_by count_ones (zip2 O.joined a.now b.now) }
+    ensures cost { steps.new ≡ steps.old + turns (min (length a.now) (length b.now)) }
+{
+    let words = a.len().min(b.len());
+    let lanes = words / LANE;
+    let mut total = 0;
+    for lane in 0..lanes {
+        steps.tick();
+        total += ones_at::<O>(a, b, LANE * lane);
+    }
+    for word in 0..words % LANE {
+        steps.tick();
+        total += word_at::<O>(a, b, LANE * lanes + word).count_ones() as usize;
+    }
+    total
+}
+
+/// Whether no bit is set in the words of `a` joined with those of `b` by `O`, as far as both go.
+///
+/// It stops at the first lane or word with a bit, so it takes at most `m / 4 + m % 4` steps, `m` being the number of
+/// words of the shorter slice.
+#[inline(always)]
+#[tactic(auto, using(crate::proofs::Folding::all_lane, crate::proofs::Zipping::all_joined))]
+pub fn none<O: WordOp>(a: &[Block], b: &[Block], steps: &mut Steps) -> bool
+    ensures zero { result ≡ list_all (λ word. word == 0) (zip2 O.joined a.now b.now) }
+    ensures cost { steps.new ≤ steps.old + turns (min (length a.now) (length b.now)) }
+{
+    let words = a.len().min(b.len());
+    let lanes = words / LANE;
+    for lane in 0..lanes {
+        steps.tick();
+        if !is_zero(lane_at::<O>(a, b, LANE * lane)) {
+            return false;
+        }
+    }
+    for word in 0..words % LANE {
+        steps.tick();
+        if word_at::<O>(a, b, LANE * lanes + word) != 0 {
+            return false;
+        }
+    }
+    true
+}
+
+/// Makes each word 0.
+///
+/// It takes exactly `m / 4 + m % 4` steps, `m` being the number of words.
+#[inline(always)]
+#[tactic(auto, using(crate::proofs::Folding::zeros_lane))]
+pub fn zero(dst: &mut [Block], steps: &mut Steps)
+    ensures words { dst.new ≡ replicate (length dst.old) 0 }
+    ensures cost { steps.new ≡ steps.old + turns (length dst.old) }
+{
+    let words = dst.len();
+    let lanes = words / LANE;
+    for lane in 0..lanes {
+        steps.tick();
+        u64x4::splat(0).copy_to_slice(&mut dst[LANE * lane..]);
+    }
+    for word in 0..words % LANE {
+        steps.tick();
+        dst[LANE * lanes + word] = 0;
+    }
+}
+
+/// How many bits are set in the words.
+///
+/// It asks that this number fits `usize`, and takes exactly `m / 4 + m % 4` steps, `m` being the number of words.
+#[inline(always)]
+#[tactic(auto, using(crate::proofs::Folding::sum_lane, crate::proofs::Folding::sum_lane_le))]
+pub fn count_one(a: &[Block], steps: &mut Steps) -> usize
+    requires fits { sum_by count_ones a.now < 2 ^ 64 }
+    ensures ones { result ≡ sum_by count_ones a.now }
+    ensures cost { steps.new ≡ steps.old + turns (length a.now) }
+{
+    let words = a.len();
+    let lanes = words / LANE;
+    let mut total = 0;
+    for lane in 0..lanes {
+        steps.tick();
+        total += ones_in(u64x4::from_slice(&a[LANE * lane..]).to_array());
+    }
+    for word in 0..words % LANE {
+        steps.tick();
+        total += a[LANE * lanes + word].count_ones() as usize;
+    }
+    total
+}
+
+/// Whether no bit is set in the words.
+///
+/// It stops at the first lane or word with a bit, so it takes at most `m / 4 + m % 4` steps, `m` being the number of
+/// words.
+#[inline(always)]
+#[tactic(auto, using(crate::proofs::Folding::all_lane))]
+pub fn none_one(a: &[Block], steps: &mut Steps) -> bool
+    ensures zero { result ≡ list_all (λ word. word == 0) a.now }
+    ensures cost { steps.new ≤ steps.old + turns (length a.now) }
+{
+    let words = a.len();
+    let lanes = words / LANE;
+    for lane in 0..lanes {
+        steps.tick();
+        if !is_zero(u64x4::from_slice(&a[LANE * lane..])) {
+            return false;
+        }
+    }
+    for word in 0..words % LANE {
+        steps.tick();
+        if a[LANE * lanes + word] != 0 {
+            return false;
+        }
+    }
+    true
+}
+
+// Joins the four words of `dst` from `at` on with those of `src`.
+#[inline(always)]
+fn join_lane<O: WordOp>(dst: &mut [Block], src: &[Block], at: usize)
+    requires in_dst { at + 4 ≤ length dst.old }
+    requires in_src { at + 4 ≤ length src.now }
+    ensures { dst.new ≡ put_chunk at dst.old (zip2 O.joined (chunk at 4 dst.old) (chunk at 4 src.now)) }
+{
+    let lane = O::lane(u64x4::from_slice(&dst[at..]), u64x4::from_slice(&src[at..]));
+    lane.copy_to_slice(&mut dst[at..]);
+}
+
+// The four joined words from `at` on.
+#[inline(always)]
+fn lane_at<O: WordOp>(a: &[Block], b: &[Block], at: usize) -> u64x4
+    requires in_a { at + 4 ≤ length a.now }
+    requires in_b { at + 4 ≤ length b.now }
+    ensures { result ≡ chunk at 4 (zip2 O.joined a.now b.now) }
+{
+    O::lane(u64x4::from_slice(&a[at..]), u64x4::from_slice(&b[at..]))
+}
+
+// The joined word at `at`.
+#[inline(always)]
+fn word_at<O: WordOp>(a: &[Block], b: &[Block], at: usize) -> Block
+    requires in_a { at < length a.now }
+    requires in_b { at < length b.now }
+    ensures { result ≡ slice_index (zip2 O.joined a.now b.now) at }
+{
+    O::word(a[at], b[at])
+}
+
+// How many bits are set in the four joined words from `at` on. The words are joined one by one, since their bits are
+// counted one by one.
+#[inline(always)]
+fn ones_at<O: WordOp>(a: &[Block], b: &[Block], at: usize) -> usize
+    requires in_a { at + 4 ≤ length a.now }
+    requires in_b { at + 4 ≤ length b.now }
+    ensures { result ≡ sum_by count_ones (chunk at 4 (zip2 O.joined a.now b.now)) }
+{
+    ones_in([
+        word_at::<O>(a, b, at),
+        word_at::<O>(a, b, at + 1),
+        word_at::<O>(a, b, at + 2),
+        word_at::<O>(a, b, at + 3),
+    ])
+}
+
+// How many bits are set in four words.
+#[inline(always)]
+fn ones_in(words: [Block; LANE]) -> usize
+    ensures { result ≡ sum_by count_ones words }
+{
+    let [first, second, third, fourth] = words;
+    (first.count_ones() + second.count_ones() + third.count_ones() + fourth.count_ones()) as usize
+}
+
+// Whether no bit is set in a lane.
+#[inline(always)]
+#[tactic(auto, using(crate::proofs::Folding::or_of_lane))]
+fn is_zero(lane: u64x4) -> bool
+    ensures { result ≡ list_all (λ word. word == 0) lane }
+{
+    lane.reduce_or() == 0
+}
