@@ -4,3 +4,15 @@ pub mod Growth
 pub mod Ascending
 pub mod LowestBit
 pub mod OnesFrom
+pub mod Joins
+pub mod Merges
+pub mod Pairs
+pub mod Sizes
+pub mod Counts
+pub mod Masks
+pub mod RangeCounts
+pub mod RangeValues
+pub mod RangeNones
+pub mod WordCounts
+pub mod BothWords
+pub mod JoinedCounts

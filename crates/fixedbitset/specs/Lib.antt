@@ -4,4 +4,13 @@ pub mod Bits
 pub mod BitsFacts
 pub mod BitsCode
 pub mod Walk
-pub mod Laws
+pub mod Joined
+pub mod JoinedFacts
+pub mod Ranges
+pub mod RangesFacts
+pub mod Passing
+pub mod TwoSets
+pub mod TwoSetsFacts
+pub mod Both
+pub mod Questions
+pub mod QuestionsFacts

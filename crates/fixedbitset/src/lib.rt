@@ -5,10 +5,13 @@
 #![tactic(auto)]
 
 pub mod bits;
+pub mod counted;
+pub mod operators;
+pub mod ranges;
 pub mod set;
 pub mod walks;
+pub mod whole;
 
-pub use bitlanes::counter::Steps;
-pub use bitlanes::word::Block;
+pub use bitlanes::{Block, IndexRange, Steps};
 pub use set::FixedBitSet;
 pub use walks::Ones;

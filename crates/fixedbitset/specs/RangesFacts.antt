@@ -1,0 +1,95 @@
+-- The length and the members of each value that a call with a range makes, for those who call a set.
+use Rattle.std.specs.Prelude.{◌≡◌, ℕ, ◌<◌, ◌≤◌, Bool, true, false, cond, not, ◌&&◌, ◌||◌, nat_lt, nat_le}
+use Rattle.std.specs.Cmp.{nat_cmp_total}
+use Rattle.std.specs.FinSet as set
+use Rattle.std.proofs.Common.{refl, sym, ap, ◌∙◌, arith}
+use Rattle.std.proofs.lemmas.Bool.{lt-ltb, le-leb, ltb-true, and_parts, and_from}
+use Rattle.std.proofs.lemmas.Bool.Decides.{nat_tests}
+use Rattle.bitlanes.specs.Bits.{either}
+use Rattle.fixedbitset.specs.Numbers.{numbers_below, contains-numbers_below}
+use Rattle.fixedbitset.specs.Bits.{Bits, contains, empty}
+use Rattle.fixedbitset.specs.BitsFacts.{length-pair, contains-pair, contains_below, length-empty, contains-empty, same_bits}
+use Rattle.fixedbitset.specs.JoinedFacts.{contains-exchange}
+use Rattle.fixedbitset.specs.Ranges.{in_range, numbers, insert_range, remove_range, toggle_range, set_range}
+
+pub contains-numbers : (start end p : ℕ) → set.contains (numbers start end) p ≡ in_range start end p
+unfolding numbers
+contains-numbers start end p =
+    set.contains-difference nat_cmp_total (numbers_below end) (numbers_below start) p
+    ∙ (let a = contains-numbers_below end p in let b = contains-numbers_below start p in λ i. a i && not (b i))
+    ∙ grind (arith, nat_tests)
+
+-- a last test that the first one implies
+first_holds : (a b c : Bool) → (a ≡ true → c ≡ true) → ((a && b) && c) ≡ (a && b)
+first_holds true true c h = h refl
+first_holds true false c h = refl
+first_holds false b c h = refl
+
+pub length-insert_range : (v : Bits) (start end : ℕ) → (insert_range v start end).length ≡ v.length
+unfolding insert_range
+length-insert_range v start end = length-pair _ _
+
+pub contains-insert_range : (v : Bits) (start end p : ℕ) → contains (insert_range v start end) p ≡ ((contains v p || in_range start end p) && nat_lt p v.length)
+unfolding insert_range contains
+contains-insert_range v start end p =
+    contains-pair v.length _ p
+    ∙ ap (λ b. b && nat_lt p v.length) (set.contains-union nat_cmp_total v.positions _ p ∙ ap (λ b. contains v p || b) (contains-numbers start end p))
+
+pub length-remove_range : (v : Bits) (start end : ℕ) → (remove_range v start end).length ≡ v.length
+unfolding remove_range
+length-remove_range v start end = length-pair _ _
+
+pub contains-remove_range : (v : Bits) (start end p : ℕ) → contains (remove_range v start end) p ≡ (contains v p && not (in_range start end p))
+unfolding remove_range contains
+contains-remove_range v start end p =
+    contains-pair v.length _ p
+    ∙ ap (λ b. b && nat_lt p v.length) (set.contains-difference nat_cmp_total v.positions _ p ∙ ap (λ b. contains v p && not b) (contains-numbers start end p))
+    ∙ first_holds (contains v p) (not (in_range start end p)) _ (λ one. lt-ltb _ _ (contains_below v p one))
+
+pub length-toggle_range : (v : Bits) (start end : ℕ) → (toggle_range v start end).length ≡ v.length
+unfolding toggle_range
+length-toggle_range v start end = length-pair _ _
+
+pub contains-toggle_range : (v : Bits) (start end p : ℕ) → contains (toggle_range v start end) p ≡ (either (contains v p) (in_range start end p) && nat_lt p v.length)
+unfolding toggle_range contains
+contains-toggle_range v start end p =
+    contains-pair v.length _ p
+    ∙ ap (λ b. b && nat_lt p v.length) (contains-exchange v.positions _ p ∙ ap (either (contains v p)) (contains-numbers start end p))
+
+pub length-set_range : (v : Bits) (start end : ℕ) (b : Bool) → (set_range v start end b).length ≡ v.length
+unfolding set_range
+length-set_range v start end true = length-insert_range v start end
+length-set_range v start end false = length-remove_range v start end
+
+inserted : (c r l : Bool) → (c ≡ true → l ≡ true) → (r ≡ true → l ≡ true) → ((c || r) && l) ≡ cond r true c
+inserted true true l h k = h refl
+inserted true false l h k = h refl
+inserted false true l h k = k refl
+inserted false false l h k = refl
+
+removed : (c r : Bool) → (c && not r) ≡ cond r false c
+removed true true = refl
+removed true false = refl
+removed false true = refl
+removed false false = refl
+
+pub contains-set_range : (v : Bits) (start end : ℕ) (b : Bool) (p : ℕ) → end ≤ v.length → contains (set_range v start end b) p ≡ cond (in_range start end p) b (contains v p)
+unfolding set_range
+contains-set_range v start end true p within =
+    contains-insert_range v start end p
+    ∙ inserted (contains v p) (in_range start end p) _ (λ one. lt-ltb _ _ (contains_below v p one)) (λ one. let h : p < end = ltb-true p end (and_parts (nat_le start p) _ one).1 in lt-ltb p v.length (omega arith))
+contains-set_range v start end false p within = contains-remove_range v start end p ∙ removed (contains v p) (in_range start end p)
+
+gone : (a r : Bool) → (a ≡ true → r ≡ true) → (a && not r) ≡ false
+gone true r h = ap not (h refl)
+gone false r h = refl
+
+-- without the positions of the whole range nothing is set
+pub remove_range-all : (v : Bits) → remove_range v 0 v.length ≡ empty v.length
+remove_range-all v = same_bits _ _ (length-remove_range v 0 v.length ∙ sym (length-empty v.length)) (λ p.
+    contains-remove_range v 0 v.length p
+    ∙ gone (contains v p) _ (λ one. and_from _ _ (le-leb 0 p (omega arith)) (lt-ltb p v.length (contains_below v p one)))
+    ∙ sym (contains-empty v.length p))
+
+-- what a caller needs of each change by a range
+pub ruleset facts = (length-insert_range, length-remove_range, length-toggle_range, length-set_range, contains-insert_range, contains-remove_range, contains-toggle_range, contains-set_range)

@@ -1,0 +1,124 @@
+-- The length and the members of each join of two sets, for those who call it, and the joins of a set with itself.
+use Rattle.std.specs.Prelude.{◌≡◌, ℕ, ◌<◌, ◌≤◌, max, min, Bool, true, false, not, ◌&&◌, ◌||◌, nat_lt}
+use Rattle.std.specs.Cmp.{nat_cmp_total}
+use Rattle.std.specs.FinSet as set
+use Rattle.std.proofs.Common.{refl, sym, ap, ◌∙◌, arith, ⊎_elim}
+use Rattle.std.proofs.lemmas.Bool.{lt-ltb, or_cases, and_parts}
+use Rattle.bitlanes.specs.Bits.{either}
+use Rattle.fixedbitset.specs.Bits.{Bits, contains, empty, words_needed}
+use Rattle.fixedbitset.specs.BitsFacts.{length-pair, contains-pair, contains_below, last_holds, same_bits, length-empty, contains-empty}
+use Rattle.fixedbitset.specs.JoinedFacts.{contains-exchange}
+use Rattle.fixedbitset.specs.TwoSets.{union, symmetric_difference, intersection, difference, bitand}
+
+-- what only members of two sets have is below the greater of their lengths
+below_greater : (v w : Bits) (b : Bool) (p : ℕ) → (b ≡ true → (contains v p || contains w p) ≡ true) → (b && nat_lt p (max v.length w.length)) ≡ b
+below_greater v w b p of_either =
+    last_holds true b _ (λ one.
+    ⊎_elim
+    (λ a. let h : p < v.length = contains_below v p a in lt-ltb _ _ (omega arith))
+    (λ a. let h : p < w.length = contains_below w p a in lt-ltb _ _ (omega arith))
+    (or_cases _ _ (of_either one)))
+
+pub length-union : (v w : Bits) → (union v w).length ≡ max v.length w.length
+unfolding union
+length-union v w = length-pair _ _
+
+pub contains-union : (v w : Bits) (p : ℕ) → contains (union v w) p ≡ (contains v p || contains w p)
+unfolding union contains
+contains-union v w p =
+    contains-pair _ _ p
+    ∙ ap (λ b. b && nat_lt p (max v.length w.length)) (set.contains-union nat_cmp_total v.positions w.positions p)
+    ∙ below_greater v w _ p (λ one. one)
+
+in_some : (a b : Bool) → either a b ≡ true → (a || b) ≡ true
+in_some true b one = refl
+in_some false b one = one
+
+pub length-symmetric_difference : (v w : Bits) → (symmetric_difference v w).length ≡ max v.length w.length
+unfolding symmetric_difference
+length-symmetric_difference v w = length-pair _ _
+
+pub contains-symmetric_difference : (v w : Bits) (p : ℕ) → contains (symmetric_difference v w) p ≡ either (contains v p) (contains w p)
+unfolding symmetric_difference contains
+contains-symmetric_difference v w p =
+    contains-pair _ _ p
+    ∙ ap (λ b. b && nat_lt p (max v.length w.length)) (contains-exchange v.positions w.positions p)
+    ∙ below_greater v w _ p (in_some (contains v p) (contains w p))
+
+-- what a test leaves of the members of the first set is below its length
+left_below : (v : Bits) (c : Bool) (p : ℕ) → ((contains v p && c) && nat_lt p v.length) ≡ (contains v p && c)
+left_below v c p = last_holds true (contains v p && c) _ (λ one. lt-ltb _ _ (contains_below v p (and_parts _ _ one).0))
+
+pub length-intersection : (v w : Bits) → (intersection v w).length ≡ v.length
+unfolding intersection
+length-intersection v w = length-pair _ _
+
+pub contains-intersection : (v w : Bits) (p : ℕ) → contains (intersection v w) p ≡ (contains v p && contains w p)
+unfolding intersection contains
+contains-intersection v w p =
+    contains-pair _ _ p ∙ ap (λ b. b && nat_lt p v.length) (set.contains-intersection nat_cmp_total v.positions w.positions p) ∙ left_below v (contains w p) p
+
+pub length-difference : (v w : Bits) → (difference v w).length ≡ v.length
+unfolding difference
+length-difference v w = length-pair _ _
+
+pub contains-difference : (v w : Bits) (p : ℕ) → contains (difference v w) p ≡ (contains v p && not (contains w p))
+unfolding difference contains
+contains-difference v w p =
+    contains-pair _ _ p ∙ ap (λ b. b && nat_lt p v.length) (set.contains-difference nat_cmp_total v.positions w.positions p) ∙ left_below v (not (contains w p)) p
+
+pub length-bitand : (v w : Bits) → (bitand v w).length ≡ min v.length w.length
+unfolding bitand
+length-bitand v w = length-pair _ _
+
+pub contains-bitand : (v w : Bits) (p : ℕ) → contains (bitand v w) p ≡ (contains v p && contains w p)
+unfolding bitand contains
+contains-bitand v w p =
+    contains-pair _ _ p
+    ∙ ap (λ b. b && nat_lt p (min v.length w.length)) (set.contains-intersection nat_cmp_total v.positions w.positions p)
+    ∙ last_holds true (contains v p && contains w p) _ (λ one.
+    let parts = and_parts _ _ one in
+    let h : p < v.length = contains_below v p parts.0 in
+    let k : p < w.length = contains_below w p parts.1 in
+    lt-ltb _ _ (omega arith))
+
+-- what a caller needs of each join
+pub ruleset facts = (length-union, length-symmetric_difference, length-intersection, length-difference, length-bitand, contains-union, contains-symmetric_difference, contains-intersection, contains-difference, contains-bitand)
+
+-- ---- a set joined with itself
+
+or_same : (b : Bool) → (b || b) ≡ b
+or_same true = refl
+or_same false = refl
+
+and_same : (b : Bool) → (b && b) ≡ b
+and_same true = refl
+and_same false = refl
+
+and_not : (b : Bool) → (b && not b) ≡ false
+and_not true = refl
+and_not false = refl
+
+either_same : (b : Bool) → either b b ≡ false
+either_same true = refl
+either_same false = refl
+
+pub union-same : (v : Bits) → union v v ≡ v
+union-same v = same_bits _ _ (length-union v v ∙ omega arith) (λ p. contains-union v v p ∙ or_same _)
+
+pub intersection-same : (v : Bits) → intersection v v ≡ v
+intersection-same v = same_bits _ _ (length-intersection v v) (λ p. contains-intersection v v p ∙ and_same _)
+
+pub difference-same : (v : Bits) → difference v v ≡ empty v.length
+difference-same v = same_bits _ _ (length-difference v v ∙ sym (length-empty v.length)) (λ p.
+    contains-difference v v p ∙ and_not _ ∙ sym (contains-empty v.length p))
+
+pub symmetric_difference-same : (v : Bits) → symmetric_difference v v ≡ empty v.length
+symmetric_difference-same v =
+    same_bits _ _
+    (length-symmetric_difference v v ∙ (let e : max v.length v.length ≡ v.length = omega arith in e) ∙ sym (length-empty v.length))
+    (λ p. contains-symmetric_difference v v p ∙ either_same (contains v p) ∙ sym (contains-empty v.length p))
+
+-- two equal lengths need no more words
+pub words_needed-same : (n m : ℕ) → n ≡ m → words_needed m ≤ words_needed n
+words_needed-same n m same = omega arith
