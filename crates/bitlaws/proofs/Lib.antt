@@ -1,1 +1,4 @@
 mod OneList
+mod OfRanges
+mod Splits
+mod OfTwoSets

@@ -9,7 +9,7 @@ use Rattle.std.proofs.lemmas.List.FromFn.{length-range_with_len, get_or-range_wi
 use Rattle.fixedbitset.specs.Ascending.{ascending}
 use Rattle.fixedbitset.specs.Bits.{Bits, contains, asc}
 use Rattle.fixedbitset.specs.BitsFacts.{contains_below}
-use Rattle.fixedbitset.specs.Laws.{IsAscendingListOf, OneAscendingList}
+use Rattle.bitlaws.specs.AscendingLaws.{IsAscendingListOf, OneAscendingList}
 
 abbrev Ascends : List ℕ → Type 0
 Ascends xs = AllPairs (λ x y. x < y) xs

@@ -1,0 +1,3 @@
+pub mod AscendingLaws
+pub mod RangeLaws
+pub mod TwoSetLaws
