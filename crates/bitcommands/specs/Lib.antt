@@ -2,6 +2,7 @@ pub mod Actions
 pub mod Answers
 pub mod Tests
 pub mod Table
+pub mod Joints
 pub mod Steps
 pub mod Words
 pub mod Left

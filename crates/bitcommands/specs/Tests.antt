@@ -2,6 +2,9 @@
 use Rattle.std.specs.Prelude.{◌≡◌, ℕ, Bool, true, false, not, List, [], ◌∷◌, length, Option, Some, None, Result, Err, MatchOption, IsOk, nat_lt, slice_index_or, slice_set}
 use Rattle.fixedbitset.specs.Bits as model
 use Rattle.fixedbitset.specs.Bits.{Bits}
+use Rattle.fixedbitset.specs.Ranges.{start_of, end_of}
+use Rattle.fixedbitset.specs.Questions.{range_is_valid}
+use Rattle.bitcommands.specs.Actions.{Range}
 use Rattle.bitcommands.specs.declared.commands.refusals.Refusal.{Refusal}
 use Rattle.bitcommands.specs.declared.commands.refusals.Refusal.TheVariants as refusal
 use Rattle.bitcommands.specs.declared.commands.walking.End.{End}
@@ -40,6 +43,17 @@ no_set s k = refuse refusal.NoSet (not (nat_lt k (length s)))
 abbrev pub past_length : Bits → ℕ → Option Refusal
 past_length v p = refuse refusal.Position (not (nat_lt p v.length))
 
+-- where a range of the set starts, and where it ends
+abbrev pub from : Range → ℕ
+from r = start_of r.0
+
+abbrev pub to : Bits → Range → ℕ
+to v r = end_of r.1 v.length
+
+-- the range isn't valid for the set
+abbrev pub not_valid : Bits → Range → Option Refusal
+not_valid v r = refuse refusal.Range (not (range_is_valid v.length r.0 r.1))
+
 -- a length above the limit is asked for
 abbrev pub past_limit : ℕ → ℕ → Option Refusal
 past_limit limit n = refuse refusal.Limit (nat_lt limit n)
@@ -47,6 +61,14 @@ past_limit limit n = refuse refusal.Limit (nat_lt limit n)
 -- there is no such set, or the position isn't below its length
 abbrev pub not_below : Sets → ℕ → ℕ → Option Refusal
 not_below s k p = no_set s k // past_length (at s k) p
+
+-- there is no such set, or the range isn't valid for it
+abbrev pub not_valid_at : Sets → ℕ → Range → Option Refusal
+not_valid_at s k r = no_set s k // not_valid (at s k) r
+
+-- one of two sets isn't there
+abbrev pub no_sets : Sets → ℕ → ℕ → Option Refusal
+no_sets s a b = no_set s a // no_set s b
 
 -- whether the set needs more words for this length than it has
 abbrev pub more : Bits → ℕ → Bool

@@ -3,12 +3,13 @@ use Rattle.std.specs.Prelude.{ℕ, Bool, true, false, List, map, Option, Some, N
 use Rattle.std.specs.List.{join_with_byte}
 use Rattle.std.specs.Fmt.{decimal}
 use Rattle.bitcommands.specs.declared.commands.refusals.Refusal.{Refusal}
-use Rattle.bitcommands.specs.declared.commands.refusals.Refusal.TheVariants.{NoSet, Position, Memory, Limit}
+use Rattle.bitcommands.specs.declared.commands.refusals.Refusal.TheVariants.{NoSet, Position, Range, Memory, Limit}
 use Rattle.bitcommands.specs.Answers.{Answer, done, bool, number, items, refused}
 
 abbrev pub refusal_text : Refusal → List ℕ
 refusal_text NoSet = codes "F1 no such set"
 refusal_text Position = codes "F2 position not below the length"
+refusal_text Range = codes "F3 range not valid"
 refusal_text Memory = codes "F6 no memory"
 refusal_text Limit = codes "F7 length above the limit"
 

@@ -5,19 +5,28 @@ ghost use Rattle.bitcommands.specs.Answers.{seen};
 ghost use Rattle.bitcommands.specs.Steps.{Step, Run, replied};
 
 mod changing;
+mod comparing;
+mod joining;
 mod looking;
 mod making;
+mod ranging;
 mod refusals;
 mod replies;
 mod walking;
 
 pub use changing::Change;
 use changing::apply_change;
+pub use comparing::Compare;
+use comparing::apply_compare;
 use fixedbitset::FixedBitSet;
+pub use joining::Whole;
+use joining::apply_whole;
 pub use looking::Look;
 use looking::apply_look;
 pub use making::Make;
 use making::apply_make;
+use ranging::apply_ranged;
+pub use ranging::{Ranged, Span};
 pub use refusals::Refusal;
 pub use replies::Reply;
 use std::alloc::{AllocError, Global};
@@ -30,6 +39,9 @@ pub enum Command {
     Make(Make),
     Look(Look),
     Change(Change),
+    Ranged(Ranged),
+    Whole(Whole),
+    Compare(Compare),
     Walk(Walk),
 }
 
@@ -45,6 +57,9 @@ pub fn apply(alloc: Global, sets: &mut [FixedBitSet], command: &Command, limit: 
         Command::Make(command) => reply_of(apply_make(alloc, sets, command, limit)),
         Command::Look(command) => reply_of(apply_look(sets, command, limit)),
         Command::Change(command) => reply_of(apply_change(sets, command, limit)),
+        Command::Ranged(command) => reply_of(apply_ranged(sets, command, limit)),
+        Command::Whole(command) => reply_of(apply_whole(alloc, sets, command, limit)),
+        Command::Compare(command) => reply_of(apply_compare(sets, command, limit)),
         Command::Walk(command) => reply_of(apply_walk(alloc, sets, command, limit)),
     }
 }

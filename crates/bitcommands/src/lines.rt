@@ -1,11 +1,11 @@
 //! Lines as commands.
 ghost use Rattle.std.specs.Prelude.{◌≡◌, true, false};
 ghost use Rattle.bitcommands.specs.Words.{Reads};
-ghost use Rattle.bitcommands.specs.Actions.{meant, make_meant, look_meant, change_meant, walk_meant};
-ghost use Rattle.bitcommands.specs.Lines.{end_of, ends_of, ends_at, one, two, two_and_flag, one_and_ends, make_of, look_of, change_of, walk_of, command_by, command_of, has_list, may_lack};
+ghost use Rattle.bitcommands.specs.Actions.{meant, make_meant, look_meant, change_meant, ranged_meant, whole_meant, compare_meant, walk_meant};
+ghost use Rattle.bitcommands.specs.Lines.{bound_of, bounds_of, range_of, range_at, end_of, ends_of, ends_at, one, two, three, two_and_flag, one_and_range, range_and_flag, one_and_ends, make_of, look_of, change_of, ranged_of, whole_of, compare_of, walk_of, command_by, command_of, has_list, may_lack};
 
-use crate::commands::{Change, Command, End, Look, Make, Walk};
-use crate::words::{Words, is};
+use crate::commands::{Change, Command, Compare, End, Look, Make, Ranged, Span, Walk, Whole};
+use crate::words::{Words, find, is, number};
 use std::alloc::Global;
 
 /// Why a line gives no command.
@@ -44,6 +44,15 @@ fn command_from(alloc: Global, name: &[u8], args: Words<'_>) -> Result<Command, 
     if let Ok(change) = change_from(name, args.again()) {
         return Ok(Command::Change(change));
     }
+    if let Ok(ranged) = ranged_from(name, args.again()) {
+        return Ok(Command::Ranged(ranged));
+    }
+    if let Ok(whole) = whole_from(name, args.again()) {
+        return Ok(Command::Whole(whole));
+    }
+    if let Ok(compare) = compare_from(name, args.again()) {
+        return Ok(Command::Compare(compare));
+    }
     let walk = walk_from(alloc, name, args)?;
     Ok(Command::Walk(walk))
 }
@@ -55,6 +64,18 @@ fn make_from(name: &[u8], args: Words<'_>) -> Result<Make, LineFault>
     if is(name, "with_capacity") {
         let (target, bits) = two(args)?;
         return Ok(Make::WithCapacity { target, bits });
+    }
+    if is(name, "bitand") {
+        let (target, a, b) = three(args)?;
+        return Ok(Make::Bitand { target, a, b });
+    }
+    if is(name, "bitor") {
+        let (target, a, b) = three(args)?;
+        return Ok(Make::Bitor { target, a, b });
+    }
+    if is(name, "bitxor") {
+        let (target, a, b) = three(args)?;
+        return Ok(Make::Bitxor { target, a, b });
     }
     Err(LineFault::NotACommand)
 }
@@ -99,8 +120,121 @@ fn change_from(name: &[u8], args: Words<'_>) -> Result<Change, LineFault>
         return Ok(Change::Put { set, bit });
     }
     if is(name, "set") {
-        let (set, bit, enabled) = two_and_flag(args)?;
-        return Ok(Change::Set { set, bit, enabled });
+        let (set, bit, value) = two_and_flag(args)?;
+        return Ok(Change::Set { set, bit, value });
+    }
+    Err(LineFault::NotACommand)
+}
+
+#[tactic(auto, unfolding(crate::specs::Lines::ranged_of))]
+fn ranged_from(name: &[u8], args: Words<'_>) -> Result<Ranged, LineFault>
+    ensures { Reads false ranged_meant result (ranged_of name.now args.entry) }
+{
+    if is(name, "count_ones") {
+        let (set, range) = one_and_range(args)?;
+        return Ok(Ranged::CountOnes { set, range });
+    }
+    if is(name, "count_zeroes") {
+        let (set, range) = one_and_range(args)?;
+        return Ok(Ranged::CountZeroes { set, range });
+    }
+    if is(name, "set_range") {
+        let (set, range, value) = range_and_flag(args)?;
+        return Ok(Ranged::SetRange { set, range, value });
+    }
+    if is(name, "insert_range") {
+        let (set, range) = one_and_range(args)?;
+        return Ok(Ranged::InsertRange { set, range });
+    }
+    if is(name, "remove_range") {
+        let (set, range) = one_and_range(args)?;
+        return Ok(Ranged::RemoveRange { set, range });
+    }
+    if is(name, "toggle_range") {
+        let (set, range) = one_and_range(args)?;
+        return Ok(Ranged::ToggleRange { set, range });
+    }
+    if is(name, "contains_all_in_range") {
+        let (set, range) = one_and_range(args)?;
+        return Ok(Ranged::ContainsAllInRange { set, range });
+    }
+    if is(name, "contains_any_in_range") {
+        let (set, range) = one_and_range(args)?;
+        return Ok(Ranged::ContainsAnyInRange { set, range });
+    }
+    if is(name, "range_is_valid") {
+        let (set, range) = one_and_range(args)?;
+        return Ok(Ranged::RangeIsValid { set, range });
+    }
+    Err(LineFault::NotACommand)
+}
+
+#[tactic(auto, unfolding(crate::specs::Lines::whole_of))]
+fn whole_from(name: &[u8], args: Words<'_>) -> Result<Whole, LineFault>
+    ensures { Reads false whole_meant result (whole_of name.now args.entry) }
+{
+    if is(name, "union_with") {
+        let (a, b) = two(args)?;
+        return Ok(Whole::UnionWith { a, b });
+    }
+    if is(name, "symmetric_difference_with") {
+        let (a, b) = two(args)?;
+        return Ok(Whole::SymmetricDifferenceWith { a, b });
+    }
+    if is(name, "bitor_assign") {
+        let (a, b) = two(args)?;
+        return Ok(Whole::BitorAssign { a, b });
+    }
+    if is(name, "bitxor_assign") {
+        let (a, b) = two(args)?;
+        return Ok(Whole::BitxorAssign { a, b });
+    }
+    if is(name, "intersect_with") {
+        let (a, b) = two(args)?;
+        return Ok(Whole::IntersectWith { a, b });
+    }
+    if is(name, "difference_with") {
+        let (a, b) = two(args)?;
+        return Ok(Whole::DifferenceWith { a, b });
+    }
+    if is(name, "bitand_assign") {
+        let (a, b) = two(args)?;
+        return Ok(Whole::BitandAssign { a, b });
+    }
+    Err(LineFault::NotACommand)
+}
+
+#[tactic(auto, unfolding(crate::specs::Lines::compare_of))]
+fn compare_from(name: &[u8], args: Words<'_>) -> Result<Compare, LineFault>
+    ensures { Reads false compare_meant result (compare_of name.now args.entry) }
+{
+    if is(name, "union_count") {
+        let (a, b) = two(args)?;
+        return Ok(Compare::UnionCount { a, b });
+    }
+    if is(name, "intersection_count") {
+        let (a, b) = two(args)?;
+        return Ok(Compare::IntersectionCount { a, b });
+    }
+    if is(name, "difference_count") {
+        let (a, b) = two(args)?;
+        return Ok(Compare::DifferenceCount { a, b });
+    }
+    if is(name, "symmetric_difference_count") {
+        let (a, b) = two(args)?;
+        return Ok(Compare::SymmetricDifferenceCount { a, b });
+    }
+    if is(name, "is_disjoint") {
+        let (a, b) = two(args)?;
+        return Ok(Compare::IsDisjoint { a, b });
+    }
+    if is(name, "is_subset") {
+        let (a, b) = two(args)?;
+        return Ok(Compare::IsSubset { a, b });
+    }
+    if is(name, "is_superset") {
+        let (a, b) = two(args)?;
+        return Ok(Compare::IsSuperset { a, b });
     }
     Err(LineFault::NotACommand)
 }
@@ -135,15 +269,88 @@ fn two(mut args: Words<'_>) -> Result<(usize, usize), LineFault>
     Ok((first, second))
 }
 
+#[tactic(auto, unfolding(crate::specs::Lines::three))]
+fn three(mut args: Words<'_>) -> Result<(usize, usize, usize), LineFault>
+    ensures { Reads false (λ x. x) result (three args.entry) }
+{
+    let first = args.number()?;
+    let second = args.number()?;
+    let third = args.number()?;
+    args.end()?;
+    Ok((first, second, third))
+}
+
 #[tactic(auto, unfolding(crate::specs::Lines::two_and_flag))]
 fn two_and_flag(mut args: Words<'_>) -> Result<(usize, usize, bool), LineFault>
     ensures { Reads false (λ x. x) result (two_and_flag args.entry) }
 {
     let first = args.number()?;
     let second = args.number()?;
-    let enabled = args.flag()?;
+    let value = args.flag()?;
     args.end()?;
-    Ok((first, second, enabled))
+    Ok((first, second, value))
+}
+
+#[tactic(auto, unfolding(crate::specs::Lines::one_and_range))]
+fn one_and_range(mut args: Words<'_>) -> Result<(usize, Span), LineFault>
+    ensures { Reads false (λ x. (x.0, (x.1.start, x.1.end))) result (one_and_range args.entry) }
+{
+    let set = args.number()?;
+    let range = range_in(&mut args)?;
+    args.end()?;
+    Ok((set, range))
+}
+
+#[tactic(auto, unfolding(crate::specs::Lines::range_and_flag))]
+fn range_and_flag(mut args: Words<'_>) -> Result<(usize, Span, bool), LineFault>
+    ensures { Reads false (λ x. (x.0, (x.1.start, x.1.end), x.2)) result (range_and_flag args.entry) }
+{
+    let set = args.number()?;
+    let range = range_in(&mut args)?;
+    let value = args.flag()?;
+    args.end()?;
+    Ok((set, range, value))
+}
+
+#[tactic(auto, unfolding(crate::specs::Lines::range_at))]
+fn range_in(args: &mut Words<'_>) -> Result<Span, LineFault>
+    ensures { Reads false (λ r. ((r.start, r.end), args.new)) result (range_at args.old) }
+{
+    let word = args.next().ok_or(LineFault::NotACommand)?;
+    range(word)
+}
+
+// Two bounds with two dots between them.
+#[tactic(auto, unfolding(crate::specs::Lines::range_of), using(crate::proofs::Cuts::rest_from, crate::proofs::Dots::dot_outside))]
+fn range(word: &[u8]) -> Result<Span, LineFault>
+    ensures { Reads false (λ r. (r.start, r.end)) result (range_of word.now) }
+{
+    let dot = find(word, b'.').ok_or(LineFault::NotACommand)?;
+    if dot + 1 >= word.len() || word[dot + 1] != b'.' {
+        return Err(LineFault::NotACommand);
+    }
+    bounds(&word[..dot], &word[dot + 2..])
+}
+
+#[tactic(auto, unfolding(crate::specs::Lines::bounds_of))]
+fn bounds(from: &[u8], to: &[u8]) -> Result<Span, LineFault>
+    ensures { Reads false (λ r. (r.start, r.end)) result (bounds_of from.now to.now) }
+{
+    let start = bound(from)?;
+    let end = bound(to)?;
+    Ok(Span { start, end })
+}
+
+// Nothing, or a number.
+#[tactic(auto, unfolding(crate::specs::Lines::bound_of))]
+fn bound(word: &[u8]) -> Result<Option<usize>, LineFault>
+    ensures { Reads false (λ b. b) result (bound_of word.now) }
+{
+    if word.is_empty() {
+        return Ok(None);
+    }
+    let number = number(word).ok_or(LineFault::NotACommand)?;
+    Ok(Some(number))
 }
 
 #[tactic(auto, unfolding(crate::specs::Lines::one_and_ends))]

@@ -110,8 +110,8 @@ fn flag(word: &[u8]) -> Option<bool>
     }
 }
 
-// One or more decimal digits. `parse` alone would take a plus before them.
-fn number(word: &[u8]) -> Option<usize>
+/// One or more decimal digits as a number. `parse` alone would take a plus before them.
+pub(crate) fn number(word: &[u8]) -> Option<usize>
     ensures { result ≡ number_of word.now }
 {
     if word.starts_with(b"+") {

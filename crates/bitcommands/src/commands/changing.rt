@@ -10,36 +10,17 @@ use fixedbitset::FixedBitSet;
 #[derive(Debug, Drop)]
 pub enum Change {
     /// Its length becomes the greater of itself and `bits`.
-    Grow {
-        set: usize,
-        bits: usize,
-    },
+    Grow { set: usize, bits: usize },
     /// The position is set.
-    Insert {
-        set: usize,
-        bit: usize,
-    },
+    Insert { set: usize, bit: usize },
     /// The position is cleared.
-    Remove {
-        set: usize,
-        bit: usize,
-    },
+    Remove { set: usize, bit: usize },
     /// The position is set exactly if it was not.
-    Toggle {
-        set: usize,
-        bit: usize,
-    },
+    Toggle { set: usize, bit: usize },
     /// The position is set, and the reply is whether it was before.
-    Put {
-        set: usize,
-        bit: usize,
-    },
-    /// The position is set, or cleared where `enabled` is false.
-    Set {
-        set: usize,
-        bit: usize,
-        enabled: bool,
-    },
+    Put { set: usize, bit: usize },
+    /// The position is set, or cleared where `value` is false.
+    Set { set: usize, bit: usize, value: bool },
 }
 
 pub(super) fn apply_change(
@@ -75,9 +56,9 @@ pub(super) fn apply_change(
             below(sets, *set, *bit)?;
             Ok(Reply::Bool(sets[*set].put(*bit)))
         }
-        Change::Set { set, bit, enabled } => {
+        Change::Set { set, bit, value } => {
             below(sets, *set, *bit)?;
-            sets[*set].set(*bit, *enabled);
+            sets[*set].set(*bit, *value);
             Ok(Reply::Done)
         }
     }

@@ -2,7 +2,7 @@
 ghost use Rattle.bitcommands.specs.Actions.{make_meant};
 ghost use Rattle.bitcommands.specs.Steps.{Answers};
 
-use crate::commands::refusals::{Refusal, known, within};
+use crate::commands::refusals::{Refusal, both, known, within};
 use crate::commands::replies::Reply;
 use fixedbitset::FixedBitSet;
 use std::alloc::Global;
@@ -12,6 +12,12 @@ use std::alloc::Global;
 pub enum Make {
     /// A set of `bits` positions, none of them set.
     WithCapacity { target: usize, bits: usize },
+    /// The smaller length, and the positions of both `a` and `b`.
+    Bitand { target: usize, a: usize, b: usize },
+    /// The greater length, and the positions of `a` or `b`.
+    Bitor { target: usize, a: usize, b: usize },
+    /// The greater length, and the positions of exactly one of `a` and `b`.
+    Bitxor { target: usize, a: usize, b: usize },
 }
 
 pub(super) fn apply_make(
@@ -27,6 +33,24 @@ pub(super) fn apply_make(
             known(sets, *target)?;
             within(limit, *bits)?;
             sets[*target] = FixedBitSet::with_capacity(alloc, *bits)?;
+            Ok(Reply::Done)
+        }
+        Make::Bitand { target, a, b } => {
+            known(sets, *target)?;
+            both(sets, *a, *b)?;
+            sets[*target] = sets[*a].bitand(&sets[*b])?;
+            Ok(Reply::Done)
+        }
+        Make::Bitor { target, a, b } => {
+            known(sets, *target)?;
+            both(sets, *a, *b)?;
+            sets[*target] = sets[*a].bitor(&sets[*b])?;
+            Ok(Reply::Done)
+        }
+        Make::Bitxor { target, a, b } => {
+            known(sets, *target)?;
+            both(sets, *a, *b)?;
+            sets[*target] = sets[*a].bitxor(&sets[*b])?;
             Ok(Reply::Done)
         }
     }

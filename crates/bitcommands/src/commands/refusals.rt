@@ -1,7 +1,9 @@
 //! Why a command is refused, and the tests that find it out.
-ghost use Rattle.std.specs.Prelude.{Some};
-ghost use Rattle.bitcommands.specs.Tests.{no_set, not_below, past_limit, Passes};
+ghost use Rattle.std.specs.Prelude.{OnOk};
+ghost use Rattle.fixedbitset.specs.Ranges.{IsValid};
+ghost use Rattle.bitcommands.specs.Tests.{at, no_set, no_sets, not_below, not_valid_at, past_limit, Passes};
 
+use crate::commands::ranging::{Span, is_valid};
 use fixedbitset::FixedBitSet;
 use std::alloc::AllocError;
 use std::fmt;
@@ -13,6 +15,8 @@ pub enum Refusal {
     NoSet,
     /// F2: a position that has to be below the length isn't.
     Position,
+    /// F3: the range isn't valid: its start is past its end, or its end past the length.
+    Range,
     /// F6: memory was refused.
     Memory,
     /// F7: a length that the command asks for is above the limit.
@@ -29,6 +33,7 @@ impl fmt::Display for Refusal {
         f.write_str(match self {
             Refusal::NoSet => "F1 no such set",
             Refusal::Position => "F2 position not below the length",
+            Refusal::Range => "F3 range not valid",
             Refusal::Memory => "F6 no memory",
             Refusal::Limit => "F7 length above the limit",
         })
@@ -77,5 +82,26 @@ pub(super) fn within(limit: usize, bits: usize) -> Result<(), Refusal>
         Ok(())
     } else {
         Err(Refusal::Limit)
+    }
+}
+
+// There are both sets.
+pub(super) fn both(sets: &[FixedBitSet], first: usize, second: usize) -> Result<(), Refusal>
+    ensures { Passes result (no_sets sets.now first second) }
+{
+    known(sets, first)?;
+    known(sets, second)
+}
+
+// There is such a set, and the range is valid for it.
+pub(super) fn valid(sets: &[FixedBitSet], set: usize, range: Span) -> Result<(), Refusal>
+    ensures passes { Passes result (not_valid_at sets.now set (range.start, range.end)) }
+    ensures valid { OnOk result (IsValid (at sets.now set).length range.start range.end) }
+{
+    known(sets, set)?;
+    if is_valid(&sets[set], range) {
+        Ok(())
+    } else {
+        Err(Refusal::Range)
     }
 }

@@ -1,0 +1,85 @@
+//! Commands that compare the positions of two sets and change nothing.
+ghost use Rattle.std.specs.Prelude.{◌≡◌};
+ghost use Rattle.fixedbitset.specs.Questions as questions;
+ghost use Rattle.bitcommands.specs.Actions.{compare_meant};
+ghost use Rattle.bitcommands.specs.Steps.{Answers};
+
+use crate::commands::refusals::{Refusal, both};
+use crate::commands::replies::Reply;
+use fixedbitset::FixedBitSet;
+
+/// A command that compares the set `a` with the set `b`.
+#[derive(Debug, Drop)]
+pub enum Compare {
+    /// How many positions are in either.
+    UnionCount { a: usize, b: usize },
+    /// How many positions are in both.
+    IntersectionCount { a: usize, b: usize },
+    /// How many positions of `a` the set `b` lacks.
+    DifferenceCount { a: usize, b: usize },
+    /// How many positions are in exactly one.
+    SymmetricDifferenceCount { a: usize, b: usize },
+    /// Whether no position is in both.
+    IsDisjoint { a: usize, b: usize },
+    /// Whether `b` has each position of `a`.
+    IsSubset { a: usize, b: usize },
+    /// Whether `a` has each position of `b`.
+    IsSuperset { a: usize, b: usize },
+}
+
+pub(super) fn apply_compare(
+    sets: &[FixedBitSet],
+    command: &Compare,
+    _limit: usize,
+) -> Result<Reply, Refusal>
+    ensures { Answers _limit sets.now (compare_meant command.now) result sets.now }
+{
+    match command {
+        Compare::UnionCount { a, b } => {
+            both(sets, *a, *b)?;
+            Ok(Reply::Number(sets[*a].union_count(&sets[*b])))
+        }
+        Compare::IntersectionCount { a, b } => {
+            both(sets, *a, *b)?;
+            Ok(Reply::Number(sets[*a].intersection_count(&sets[*b])))
+        }
+        Compare::DifferenceCount { a, b } => {
+            both(sets, *a, *b)?;
+            Ok(Reply::Number(sets[*a].difference_count(&sets[*b])))
+        }
+        Compare::SymmetricDifferenceCount { a, b } => {
+            both(sets, *a, *b)?;
+            Ok(Reply::Number(sets[*a].symmetric_difference_count(&sets[*b])))
+        }
+        Compare::IsDisjoint { a, b } => {
+            both(sets, *a, *b)?;
+            Ok(Reply::Bool(is_disjoint(&sets[*a], &sets[*b])))
+        }
+        Compare::IsSubset { a, b } => {
+            both(sets, *a, *b)?;
+            Ok(Reply::Bool(is_subset(&sets[*a], &sets[*b])))
+        }
+        Compare::IsSuperset { a, b } => {
+            both(sets, *a, *b)?;
+            Ok(Reply::Bool(is_superset(&sets[*a], &sets[*b])))
+        }
+    }
+}
+
+fn is_disjoint(set: &FixedBitSet, other: &FixedBitSet) -> bool
+    ensures { result ≡ questions.is_disjoint set.now other.now }
+{
+    set.is_disjoint(other)
+}
+
+fn is_subset(set: &FixedBitSet, other: &FixedBitSet) -> bool
+    ensures { result ≡ questions.is_subset set.now other.now }
+{
+    set.is_subset(other)
+}
+
+fn is_superset(set: &FixedBitSet, other: &FixedBitSet) -> bool
+    ensures { result ≡ questions.is_subset other.now set.now }
+{
+    set.is_superset(other)
+}

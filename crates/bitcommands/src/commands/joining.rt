@@ -1,0 +1,141 @@
+//! Commands that change one set by another one, or by itself.
+ghost use Rattle.std.specs.Prelude.{◌≡◌, ◌<◌, length, IsTrue, OnOk, OnErr};
+ghost use Rattle.bitcommands.specs.Actions.{whole_meant};
+ghost use Rattle.bitcommands.specs.Joints.{joined, joint_lacks};
+ghost use Rattle.bitcommands.specs.Tests.{at, place};
+ghost use Rattle.bitcommands.specs.Steps.{Answers};
+
+use crate::commands::refusals::{Refusal, both};
+use crate::commands::replies::Reply;
+use fixedbitset::FixedBitSet;
+use std::alloc::{AllocError, Global};
+use std::mem;
+
+/// A command that changes the set `a` by the set `b`, which may be the same.
+#[derive(Debug, Drop)]
+pub enum Whole {
+    /// `a` takes in the positions of `b`; its length becomes the greater of both.
+    UnionWith { a: usize, b: usize },
+    /// `a` becomes the positions of exactly one; its length becomes the greater of both.
+    SymmetricDifferenceWith { a: usize, b: usize },
+    /// The same as `UnionWith`.
+    BitorAssign { a: usize, b: usize },
+    /// The same as `SymmetricDifferenceWith`.
+    BitxorAssign { a: usize, b: usize },
+    /// `a` keeps the positions that `b` has too; its length stays.
+    IntersectWith { a: usize, b: usize },
+    /// `a` keeps the positions that `b` lacks; its length stays.
+    DifferenceWith { a: usize, b: usize },
+    /// The same as `IntersectWith`, by `&=`.
+    BitandAssign { a: usize, b: usize },
+}
+
+pub(super) fn apply_whole(
+    alloc: Global,
+    sets: &mut [FixedBitSet],
+    command: &Whole,
+    limit: usize,
+) -> Result<Reply, Refusal>
+    ensures { Answers limit sets.old (whole_meant command.now) result sets.new }
+{
+    match command {
+        Whole::UnionWith { a, b } => {
+            both(sets, *a, *b)?;
+            join(alloc, sets, *a, *b, Joint::Union)?;
+            Ok(Reply::Done)
+        }
+        Whole::SymmetricDifferenceWith { a, b } => {
+            both(sets, *a, *b)?;
+            join(alloc, sets, *a, *b, Joint::SymmetricDifference)?;
+            Ok(Reply::Done)
+        }
+        Whole::BitorAssign { a, b } => {
+            both(sets, *a, *b)?;
+            join(alloc, sets, *a, *b, Joint::Union)?;
+            Ok(Reply::Done)
+        }
+        Whole::BitxorAssign { a, b } => {
+            both(sets, *a, *b)?;
+            join(alloc, sets, *a, *b, Joint::SymmetricDifference)?;
+            Ok(Reply::Done)
+        }
+        Whole::IntersectWith { a, b } => {
+            both(sets, *a, *b)?;
+            join(alloc, sets, *a, *b, Joint::Intersection)?;
+            Ok(Reply::Done)
+        }
+        Whole::DifferenceWith { a, b } => {
+            both(sets, *a, *b)?;
+            join(alloc, sets, *a, *b, Joint::Difference)?;
+            Ok(Reply::Done)
+        }
+        Whole::BitandAssign { a, b } => {
+            both(sets, *a, *b)?;
+            join(alloc, sets, *a, *b, Joint::Intersection)?;
+            Ok(Reply::Done)
+        }
+    }
+}
+
+// What is made of a set and another one.
+#[derive(Drop)]
+enum Joint {
+    Union,
+    SymmetricDifference,
+    Intersection,
+    Difference,
+}
+
+// Changes the set `target` by the set `other`, which may be the same. No copy of a set is made.
+fn join(
+    alloc: Global,
+    sets: &mut [FixedBitSet],
+    target: usize,
+    other: usize,
+    joint: Joint,
+) -> Result<(), AllocError>
+    requires first { target < length sets.old }
+    requires second { other < length sets.old }
+    ensures ok { OnOk result (sets.new ≡ place sets.old target (joined joint (at sets.old target) (at sets.old other))) }
+    ensures err { OnErr result (sets.new ≡ sets.old) }
+    ensures lacks { OnErr result (IsTrue (joint_lacks joint (at sets.old target) (at sets.old other))) }
+{
+    if target == other {
+        with_itself(&mut sets[target], &joint);
+        return Ok(());
+    }
+    let mut taken = mem::replace(&mut sets[target], FixedBitSet::new(alloc));
+    let result = combine(&mut taken, &sets[other], &joint);
+    sets[target] = taken;
+    result
+}
+
+fn combine(target: &mut FixedBitSet, other: &FixedBitSet, joint: &Joint) -> Result<(), AllocError>
+    ensures ok { OnOk result (target.new ≡ joined joint.now target.old other.now) }
+    ensures err { OnErr result (target.new ≡ target.old) }
+    ensures lacks { OnErr result (IsTrue (joint_lacks joint.now target.old other.now)) }
+{
+    match joint {
+        Joint::Union => target.union_with(other),
+        Joint::SymmetricDifference => target.symmetric_difference_with(other),
+        Joint::Intersection => {
+            target.intersect_with(other);
+            Ok(())
+        }
+        Joint::Difference => {
+            target.difference_with(other);
+            Ok(())
+        }
+    }
+}
+
+// A set joined with itself stays as it is, or becomes clear.
+#[tactic(auto, using(crate::proofs::Taken::same_union, crate::proofs::Taken::same_intersection, crate::proofs::Taken::same_symmetric_difference, crate::proofs::Taken::same_difference))]
+fn with_itself(target: &mut FixedBitSet, joint: &Joint)
+    ensures { target.new ≡ joined joint.now target.old target.old }
+{
+    match joint {
+        Joint::Union | Joint::Intersection => {}
+        Joint::SymmetricDifference | Joint::Difference => target.remove_range(..),
+    }
+}

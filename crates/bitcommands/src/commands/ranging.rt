@@ -1,0 +1,154 @@
+//! Commands over a range of one set.
+ghost use Rattle.std.specs.Prelude.{◌≡◌, IsTrue};
+ghost use Rattle.fixedbitset.specs.Ranges.{start_of, end_of, IsValid};
+ghost use Rattle.fixedbitset.specs.Questions as questions;
+ghost use Rattle.bitcommands.specs.Actions.{ranged_meant};
+ghost use Rattle.bitcommands.specs.Steps.{Answers};
+
+use crate::commands::refusals::{Refusal, known, valid};
+use crate::commands::replies::Reply;
+use fixedbitset::{FixedBitSet, IndexRange};
+
+/// A range of positions: from `start`, or 0, up to and without `end`, or the length.
+#[derive(Clone, Copy, Debug)]
+pub struct Span {
+    pub start: Option<usize>,
+    pub end: Option<usize>,
+}
+
+impl IndexRange<usize> for Span {
+    ghost start_of = { λ span. span.start };
+
+    ghost end_of = { λ span. span.end };
+
+    fn start(&self) -> Option<usize> {
+        self.start
+    }
+
+    fn end(&self) -> Option<usize> {
+        self.end
+    }
+}
+
+/// A command over a range of the set `set`.
+#[derive(Debug, Drop)]
+pub enum Ranged {
+    /// How many positions of the range are set.
+    CountOnes {
+        set: usize,
+        range: Span,
+    },
+    /// How many positions of the range are not set.
+    CountZeroes {
+        set: usize,
+        range: Span,
+    },
+    /// The positions of the range are set, or cleared where `value` is false.
+    SetRange {
+        set: usize,
+        range: Span,
+        value: bool,
+    },
+    /// The positions of the range are set.
+    InsertRange {
+        set: usize,
+        range: Span,
+    },
+    /// The positions of the range are cleared.
+    RemoveRange {
+        set: usize,
+        range: Span,
+    },
+    /// Each position of the range is set exactly if it was not.
+    ToggleRange {
+        set: usize,
+        range: Span,
+    },
+    /// Whether each position of the range is set.
+    ContainsAllInRange {
+        set: usize,
+        range: Span,
+    },
+    /// Whether some position of the range is set.
+    ContainsAnyInRange {
+        set: usize,
+        range: Span,
+    },
+    /// Whether the range is valid.
+    RangeIsValid {
+        set: usize,
+        range: Span,
+    },
+}
+
+pub(super) fn apply_ranged(
+    sets: &mut [FixedBitSet],
+    command: &Ranged,
+    limit: usize,
+) -> Result<Reply, Refusal>
+    ensures { Answers limit sets.old (ranged_meant command.now) result sets.new }
+{
+    match command {
+        Ranged::CountOnes { set, range } => {
+            valid(sets, *set, *range)?;
+            Ok(Reply::Number(sets[*set].count_ones(*range)))
+        }
+        Ranged::CountZeroes { set, range } => {
+            valid(sets, *set, *range)?;
+            Ok(Reply::Number(sets[*set].count_zeroes(*range)))
+        }
+        Ranged::SetRange { set, range, value } => {
+            valid(sets, *set, *range)?;
+            sets[*set].set_range(*range, *value);
+            Ok(Reply::Done)
+        }
+        Ranged::InsertRange { set, range } => {
+            valid(sets, *set, *range)?;
+            sets[*set].insert_range(*range);
+            Ok(Reply::Done)
+        }
+        Ranged::RemoveRange { set, range } => {
+            valid(sets, *set, *range)?;
+            sets[*set].remove_range(*range);
+            Ok(Reply::Done)
+        }
+        Ranged::ToggleRange { set, range } => {
+            valid(sets, *set, *range)?;
+            sets[*set].toggle_range(*range);
+            Ok(Reply::Done)
+        }
+        Ranged::ContainsAllInRange { set, range } => {
+            valid(sets, *set, *range)?;
+            Ok(Reply::Bool(contains_all(&sets[*set], *range)))
+        }
+        Ranged::ContainsAnyInRange { set, range } => {
+            valid(sets, *set, *range)?;
+            Ok(Reply::Bool(contains_any(&sets[*set], *range)))
+        }
+        Ranged::RangeIsValid { set, range } => {
+            known(sets, *set)?;
+            Ok(Reply::Bool(is_valid(&sets[*set], *range)))
+        }
+    }
+}
+
+pub(super) fn is_valid(set: &FixedBitSet, range: Span) -> bool
+    ensures answer { result ≡ questions.range_is_valid set.now.length range.start range.end }
+    ensures valid { IsTrue result → IsValid set.now.length range.start range.end }
+{
+    set.range_is_valid(&range)
+}
+
+fn contains_all(set: &FixedBitSet, range: Span) -> bool
+    requires { IsValid set.now.length range.start range.end }
+    ensures { result ≡ questions.contains_all set.now (start_of range.start) (end_of range.end set.now.length) }
+{
+    set.contains_all_in_range(range)
+}
+
+fn contains_any(set: &FixedBitSet, range: Span) -> bool
+    requires { IsValid set.now.length range.start range.end }
+    ensures { result ≡ questions.contains_any set.now (start_of range.start) (end_of range.end set.now.length) }
+{
+    set.contains_any_in_range(range)
+}
