@@ -78,6 +78,94 @@ fn walks_from_the_front(rt: HostRuntime) -> Result<(), Fail> {
     )
 }
 
+#[test]
+fn commands_over_ranges(rt: HostRuntime) -> Result<(), Fail> {
+    assert_output(
+        &rt,
+        rt.alloc(),
+        "count_ones 0 ..\ncontains_all_in_range 0 ..\ncontains_any_in_range 0 ..\nrange_is_valid 0 0..0\nrange_is_valid 0 ..1\n",
+        "0\ntrue\nfalse\ntrue\nfalse\n",
+    )?;
+    assert_output(
+        &rt,
+        rt.alloc(),
+        "with_capacity 1 48\ninsert_range 1 ..\nremove_range 1 ..32\nremove_range 1 37..\ncontains_all_in_range 1 32..37\ncontains_all_in_range 1 32..\ncontains_any_in_range 1 37..\nset_range 1 5..9 true\nset_range 1 40..40 true\nones 1 ffffffffff\nset_range 1 6..34 false\nones 1 fffff\n",
+        "ok\nok\nok\nok\ntrue\nfalse\nfalse\nok\nok\n5 6 7 8 32 33 34 35 36 none\nok\n5 34 35 36 none\n",
+    )?;
+    assert_output(
+        &rt,
+        rt.alloc(),
+        "with_capacity 2 192\ninsert_range 2 63..129\ncount_ones 2 ..64\ncount_ones 2 64..128\ncount_ones 2 128..\ncount_zeroes 2 ..\ntoggle_range 2 ..\ncount_zeroes 2 ..\nremove_range 2 ..\ncount_ones 2 ..\n",
+        "ok\nok\n1\n64\n1\n126\nok\n66\nok\n0\n",
+    )
+}
+
+// No set comes before a range that isn't valid, and a refused command changes nothing.
+#[test]
+fn ranges_that_are_not_valid(rt: HostRuntime) -> Result<(), Fail> {
+    assert_output(
+        &rt,
+        rt.alloc(),
+        "with_capacity 3 10\ncount_ones 16 4..2\ncount_ones 3 4..2\ncount_zeroes 3 ..11\ninsert_range 3 3..11\nremove_range 3 11..\ntoggle_range 3 ..18446744073709551615\nset_range 3 9..8 true\ncontains_all_in_range 3 0..11\ncontains_any_in_range 3 5..4\nrange_is_valid 3 5..4\nrange_is_valid 3 10..10\nrange_is_valid 16 ..\ncount_ones 3 ..\n",
+        "ok\nF1 no such set\nF3 range not valid\nF3 range not valid\nF3 range not valid\nF3 range not valid\nF3 range not valid\nF3 range not valid\nF3 range not valid\nF3 range not valid\nfalse\ntrue\nF1 no such set\n0\n",
+    )
+}
+
+#[test]
+fn commands_over_two_sets(rt: HostRuntime) -> Result<(), Fail> {
+    assert_output(
+        &rt,
+        rt.alloc(),
+        "with_capacity 0 83\ninsert_range 0 47..79\nwith_capacity 1 151\ninsert_range 1 53..151\nunion_count 0 1\nintersection_count 0 1\ndifference_count 0 1\nsymmetric_difference_count 0 1\nis_disjoint 0 1\nis_subset 0 1\nis_superset 0 1\nbitand 2 0 1\nlen 2\ncount_ones 2 ..\nis_subset 2 0\nis_superset 0 2\n",
+        "ok\nok\nok\nok\n104\n26\n6\n78\nfalse\nfalse\nfalse\nok\n83\n26\ntrue\ntrue\n",
+    )?;
+    assert_output(
+        &rt,
+        rt.alloc(),
+        "grow 0 10\ninsert 0 1\ngrow 1 300\ninsert 1 299\nunion_with 0 1\nlen 0\nones 0 fff\nbitor 2 16 0\nbitxor 16 0 0\nunion_with 0 16\nis_subset 16 0\n",
+        "ok\nok\nok\nok\nok\n300\n1 299 none\nF1 no such set\nF1 no such set\nF1 no such set\nF1 no such set\n",
+    )
+}
+
+#[test]
+fn one_set_named_twice(rt: HostRuntime) -> Result<(), Fail> {
+    for command in [
+        "union_with",
+        "bitor_assign",
+        "intersect_with",
+        "bitand_assign",
+    ] {
+        assert_output(
+            &rt,
+            rt.alloc(),
+            format!(in rt.alloc();
+                "grow 3 9\ninsert 3 1\ninsert 3 5\n{command} 3 3\nlen 3\nones 3 fff\n"
+            )?.as_str(),
+            "ok\nok\nok\nok\n9\n1 5 none\n",
+        )?;
+    }
+    for command in [
+        "symmetric_difference_with",
+        "bitxor_assign",
+        "difference_with",
+    ] {
+        assert_output(
+            &rt,
+            rt.alloc(),
+            format!(in rt.alloc();
+                "grow 3 9\ninsert 3 1\ninsert 3 5\n{command} 3 3\nlen 3\nones 3 f\n"
+            )?.as_str(),
+            "ok\nok\nok\nok\n9\nnone\n",
+        )?;
+    }
+    assert_output(
+        &rt,
+        rt.alloc(),
+        "grow 3 9\ninsert 3 1\ninsert 3 5\nbitand 3 3 3\nones 3 fff\nbitor 3 3 3\nones 3 fff\nunion_count 3 3\nis_subset 3 3\nis_disjoint 3 3\nbitxor 3 3 3\nlen 3\nones 3 f\n",
+        "ok\nok\nok\nok\n1 5 none\nok\n1 5 none\n2\ntrue\nfalse\nok\n9\nnone\n",
+    )
+}
+
 // The tests of a command come in the order of the table, and a refused command changes nothing.
 #[test]
 fn the_first_test_that_refuses_is_the_reply(rt: HostRuntime) -> Result<(), Fail> {
@@ -109,36 +197,48 @@ fn line_ends(rt: HostRuntime) -> Result<(), Fail> {
     )
 }
 
+const NO_COMMANDS: [&str; 35] = [
+    " len 0",
+    "len 0 ",
+    "len  0",
+    "len\t0",
+    "len 0\r",
+    "len",
+    "len 0 0",
+    "LEN 0",
+    "insert 0",
+    "insert 0 +3",
+    "insert 0 -3",
+    "insert 0 3x",
+    "insert 0 18446744073709551616",
+    "insert 0 99999999999999999999999999",
+    "set 0 0",
+    "set 0 0 True",
+    "set 0 0 1",
+    "grow 0 1 2",
+    "ones 0 b",
+    "count_ones 0",
+    "count_ones 0 .",
+    "count_ones 0 0",
+    "count_ones 0 0...1",
+    "count_ones 0 0.. 1",
+    "count_ones 0 +0..1",
+    "count_ones 0 0..=1",
+    "count_ones 0 ..18446744073709551616",
+    "set_range 0 ..",
+    "union_with 0",
+    "bitand 0 1",
+    "ones 0 fF",
+    "ones 0 ",
+    "ones 0 f f",
+    "new",
+    "é 0",
+];
+
 // Each line is no command, and the line after them is answered.
 #[test]
 fn lines_that_are_no_commands(rt: HostRuntime) -> Result<(), Fail> {
-    let lines = [
-        " len 0",
-        "len 0 ",
-        "len  0",
-        "len\t0",
-        "len 0\r",
-        "len",
-        "len 0 0",
-        "LEN 0",
-        "insert 0",
-        "insert 0 +3",
-        "insert 0 -3",
-        "insert 0 3x",
-        "insert 0 18446744073709551616",
-        "insert 0 99999999999999999999999999",
-        "set 0 0",
-        "set 0 0 True",
-        "set 0 0 1",
-        "grow 0 1 2",
-        "ones 0 b",
-        "ones 0 fF",
-        "ones 0 ",
-        "ones 0 f f",
-        "new",
-        "é 0",
-    ];
-    for line in lines {
+    for line in NO_COMMANDS {
         let mut input = String::from_str(rt.alloc(), line)?;
         input.push_str("\nlen 0\n")?;
         assert_output(&rt, rt.alloc(), input.as_str(), "F8 not a command\n0\n")?;

@@ -1,0 +1,228 @@
+//! The commands over two sets, by every pair of fifteen lengths beside slow values.
+use crate::whole::{assert_agree, every_pair, filled, joined, size};
+use bitcommands::commands::{Command, Compare, Make, Reply, Whole, apply};
+use fixedbitset::FixedBitSet;
+use std::alloc::{AllocError, Global};
+use std::process::Abort;
+use std::test::Fail;
+
+// Two sets and an empty one.
+fn three_sets(alloc: Global, a: &[bool], b: &[bool]) -> Result<[FixedBitSet; 3], AllocError> {
+    let first = filled(alloc, a)?;
+    let second = filled(alloc, b)?;
+    Ok([first, second, FixedBitSet::new(alloc)])
+}
+
+// The command is done, and leaves this value in the place of the first set.
+fn assert_changed(
+    rt: &impl Abort,
+    alloc: Global,
+    (a, b): (&[bool], &[bool]),
+    command: Whole,
+    expected: &[bool],
+) -> Result<(), AllocError> {
+    let mut sets = three_sets(alloc, a, b)?;
+    let reply = apply(alloc, &mut sets, &Command::Whole(command), 1_000_000);
+    assert!(rt; matches!(reply, Reply::Done));
+    assert_agree(rt, &sets[0], expected);
+    assert_agree(rt, &sets[1], b);
+    Ok(())
+}
+
+// The command is done, and leaves this value in the place of the third set.
+fn assert_made(
+    rt: &impl Abort,
+    alloc: Global,
+    (a, b): (&[bool], &[bool]),
+    command: Make,
+    expected: &[bool],
+) -> Result<(), AllocError> {
+    let mut sets = three_sets(alloc, a, b)?;
+    let reply = apply(alloc, &mut sets, &Command::Make(command), 1_000_000);
+    assert!(rt; matches!(reply, Reply::Done));
+    assert_agree(rt, &sets[0], a);
+    assert_agree(rt, &sets[1], b);
+    assert_agree(rt, &sets[2], expected);
+    Ok(())
+}
+
+fn unions(rt: &impl Abort, alloc: Global, a: &[bool], b: &[bool]) -> Result<(), AllocError> {
+    let either = joined(alloc, a.len().max(b.len()), a, b, |x, y| x || y)?;
+    for command in [
+        Whole::UnionWith { a: 0, b: 1 },
+        Whole::BitorAssign { a: 0, b: 1 },
+    ] {
+        assert_changed(rt, alloc, (a, b), command, &either)?;
+    }
+    let made = Make::Bitor {
+        target: 2,
+        a: 0,
+        b: 1,
+    };
+    assert_made(rt, alloc, (a, b), made, &either)
+}
+
+fn symmetric_differences(
+    rt: &impl Abort,
+    alloc: Global,
+    a: &[bool],
+    b: &[bool],
+) -> Result<(), AllocError> {
+    let one = joined(alloc, a.len().max(b.len()), a, b, |x, y| x != y)?;
+    for command in [
+        Whole::SymmetricDifferenceWith { a: 0, b: 1 },
+        Whole::BitxorAssign { a: 0, b: 1 },
+    ] {
+        assert_changed(rt, alloc, (a, b), command, &one)?;
+    }
+    let made = Make::Bitxor {
+        target: 2,
+        a: 0,
+        b: 1,
+    };
+    assert_made(rt, alloc, (a, b), made, &one)
+}
+
+fn intersections(rt: &impl Abort, alloc: Global, a: &[bool], b: &[bool]) -> Result<(), AllocError> {
+    let both = joined(alloc, a.len(), a, b, |x, y| x && y)?;
+    for command in [
+        Whole::IntersectWith { a: 0, b: 1 },
+        Whole::BitandAssign { a: 0, b: 1 },
+    ] {
+        assert_changed(rt, alloc, (a, b), command, &both)?;
+    }
+    let shorter = joined(alloc, a.len().min(b.len()), a, b, |x, y| x && y)?;
+    let made = Make::Bitand {
+        target: 2,
+        a: 0,
+        b: 1,
+    };
+    assert_made(rt, alloc, (a, b), made, &shorter)
+}
+
+fn differences(rt: &impl Abort, alloc: Global, a: &[bool], b: &[bool]) -> Result<(), AllocError> {
+    let lacked = joined(alloc, a.len(), a, b, |x, y| x && !y)?;
+    assert_changed(
+        rt,
+        alloc,
+        (a, b),
+        Whole::DifferenceWith { a: 0, b: 1 },
+        &lacked,
+    )
+}
+
+// What a comparison of the first two sets answers.
+fn compared(alloc: Global, a: &[bool], b: &[bool], command: Compare) -> Result<Reply, AllocError> {
+    let mut sets = three_sets(alloc, a, b)?;
+    Ok(apply(alloc, &mut sets, &Command::Compare(command), 1_000_000))
+}
+
+fn assert_number(
+    rt: &impl Abort,
+    alloc: Global,
+    (a, b): (&[bool], &[bool]),
+    command: Compare,
+    expected: usize,
+) -> Result<(), AllocError> {
+    let reply = compared(alloc, a, b, command)?;
+    assert!(rt; matches!(reply, Reply::Number(number) if number == expected));
+    Ok(())
+}
+
+fn assert_bool(
+    rt: &impl Abort,
+    alloc: Global,
+    (a, b): (&[bool], &[bool]),
+    command: Compare,
+    expected: bool,
+) -> Result<(), AllocError> {
+    let reply = compared(alloc, a, b, command)?;
+    assert!(rt; matches!(reply, Reply::Bool(answer) if answer == expected));
+    Ok(())
+}
+
+fn counts(rt: &impl Abort, alloc: Global, a: &[bool], b: &[bool]) -> Result<(), AllocError> {
+    let longer = a.len().max(b.len());
+    let either = size(&joined(alloc, longer, a, b, |x, y| x || y)?);
+    let both = size(&joined(alloc, longer, a, b, |x, y| x && y)?);
+    let lacked = size(&joined(alloc, longer, a, b, |x, y| x && !y)?);
+    let one = size(&joined(alloc, longer, a, b, |x, y| x != y)?);
+    assert_number(
+        rt,
+        alloc,
+        (a, b),
+        Compare::UnionCount { a: 0, b: 1 },
+        either,
+    )?;
+    assert_number(
+        rt,
+        alloc,
+        (a, b),
+        Compare::IntersectionCount { a: 0, b: 1 },
+        both,
+    )?;
+    assert_number(
+        rt,
+        alloc,
+        (a, b),
+        Compare::DifferenceCount { a: 0, b: 1 },
+        lacked,
+    )?;
+    assert_number(
+        rt,
+        alloc,
+        (a, b),
+        Compare::SymmetricDifferenceCount { a: 0, b: 1 },
+        one,
+    )
+}
+
+fn comparisons(rt: &impl Abort, alloc: Global, a: &[bool], b: &[bool]) -> Result<(), AllocError> {
+    let longer = a.len().max(b.len());
+    let both = size(&joined(alloc, longer, a, b, |x, y| x && y)?);
+    let lacked = size(&joined(alloc, longer, a, b, |x, y| x && !y)?);
+    let lacking = size(&joined(alloc, longer, a, b, |x, y| !x && y)?);
+    assert_bool(
+        rt,
+        alloc,
+        (a, b),
+        Compare::IsDisjoint { a: 0, b: 1 },
+        both == 0,
+    )?;
+    assert_bool(
+        rt,
+        alloc,
+        (a, b),
+        Compare::IsSubset { a: 0, b: 1 },
+        lacked == 0,
+    )?;
+    assert_bool(
+        rt,
+        alloc,
+        (a, b),
+        Compare::IsSuperset { a: 0, b: 1 },
+        lacking == 0,
+    )
+}
+
+#[test]
+fn every_pair_changed_by_a_command(rt: HostRuntime) -> Result<(), Fail> {
+    let alloc = rt.alloc();
+    every_pair(alloc, |a, b| {
+        unions(&rt, alloc, a, b)?;
+        symmetric_differences(&rt, alloc, a, b)?;
+        intersections(&rt, alloc, a, b)?;
+        differences(&rt, alloc, a, b)
+    })?;
+    Ok(())
+}
+
+#[test]
+fn every_pair_compared_by_a_command(rt: HostRuntime) -> Result<(), Fail> {
+    let alloc = rt.alloc();
+    every_pair(alloc, |a, b| {
+        counts(&rt, alloc, a, b)?;
+        comparisons(&rt, alloc, a, b)
+    })?;
+    Ok(())
+}
