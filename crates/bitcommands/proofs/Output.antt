@@ -1,17 +1,15 @@
 -- Lines and texts from the front.
-use Rattle.std.proofs.Common.{◌≡◌, ℕ, ◌+◌, ◌<◌, ◌≤◌, List, [], ◌∷◌, ◌++◌, length, get_or, take, drop, Some, None, Bool, true, false, cond, eqb, refl, ap, subst, map, replicate, ◌∙◌, arith}
+use Rattle.std.proofs.Common.{◌≡◌, ℕ, ◌+◌, ◌<◌, List, [], ◌∷◌, ◌++◌, length, take, drop, Some, None, true, false, cond, eqb, refl, ap, ◌∙◌, arith}
 use Rattle.std.specs.List.{slice_split, onto_first, position}
-use Rattle.std.proofs.lemmas.List.{at_drop_more, at_drop_all}
 use Rattle.std.proofs.lemmas.Bool.Decides.{nat_tests}
 use Rattle.std.proofs.lemmas.Grind.{common_steps}
-use Rattle.bitcommands.specs.declared.commands.replies.Reply.{Reply}
 use Rattle.bitcommands.specs.Actions.{Action}
-use Rattle.bitcommands.specs.Answers.{Answer, seen}
+use Rattle.bitcommands.specs.Answers.{Answer}
 use Rattle.bitcommands.specs.Texts.{answer_text, fault_text}
-use Rattle.fixedbitset.specs.Bits.{empty}
 use Rattle.bitcommands.specs.Tests.{Sets}
-use Rattle.bitcommands.specs.Steps.{Run}
-use Rattle.bitcommands.specs.Output.{IsOutput, commands_of, is_command, lines_of, without_empty_last, texts}
+use Rattle.bitcommands.specs.Steps.{Step}
+use Rattle.bitcommands.specs.Lines.{command_of}
+use Rattle.bitcommands.specs.Output.{IsOutputFrom, AnswersLine, lines_of, without_empty_last, texts}
 use Rattle.bitcommands.proofs.Cuts.{cut_found, cut_none}
 
 -- a split text has a first part
@@ -41,37 +39,29 @@ pub lines_of_nil : lines_of [] ≡ []
 unfolding lines_of
 lines_of_nil = refl
 
-pub texts_false : (flags : List Bool) (replies : List Answer) (i : ℕ) → i < length flags → get_or flags i false ≡ false → texts (drop i flags) replies ≡ fault_text ++ 10 ∷ texts (drop (i + 1) flags) replies
-unfolding texts
-texts_false flags replies i lt e = at_drop_more (λ f. texts f replies) flags i false lt ∙ ap (λ b. texts (b ∷ drop (i + 1) flags) replies) e
-
-pub texts_true : (flags : List Bool) (replies rest : List Reply) (i : ℕ) (r : Reply) → i < length flags → get_or flags i false ≡ true → replies ≡ r ∷ rest → texts (drop i flags) (map seen replies) ≡ answer_text (seen r) ++ 10 ∷ texts (drop (i + 1) flags) (map seen rest)
-unfolding texts
-texts_true flags replies rest i r lt e next =
-    at_drop_more (λ f. texts f (map seen replies)) flags i false lt ∙ ap (λ b. texts (b ∷ drop (i + 1) flags) (map seen replies)) e
-    ∙ ap (λ rs. texts (true ∷ drop (i + 1) flags) (map seen rs)) next
-
-pub texts_none : (flags : List Bool) (replies : List Reply) (i : ℕ) → i < length flags → get_or flags i false ≡ true → length replies ≡ 0 → texts (drop i flags) (map seen replies) ≡ []
-unfolding texts
-texts_none flags [] i lt e none = at_drop_more (λ f. texts f []) flags i false lt ∙ ap (λ b. texts (b ∷ drop (i + 1) flags) []) e
-texts_none flags (r ∷ replies) i lt e none = absurd (omega arith)
-
-pub texts_end : (flags : List Bool) (replies : List Answer) (i : ℕ) → length flags ≤ i → texts (drop i flags) replies ≡ []
-unfolding texts
-texts_end flags replies i le = at_drop_all (λ f. texts f replies) flags i le
-
 pub lines_of_empty : (xs : List ℕ) → length xs ≡ 0 → lines_of xs ≡ []
 unfolding lines_of
 lines_of_empty [] e = refl
 lines_of_empty (x ∷ xs) e = absurd (omega arith)
 
--- a text and one more line of it
-pub joined : (out new line rest all next : List ℕ) → new ≡ out ++ (line ++ 10 ∷ []) → next ≡ line ++ 10 ∷ rest → out ++ next ≡ all → new ++ rest ≡ all
-joined out new line rest all next f g h = grind (arith, common_steps)
+-- ---- one line, before the lines left
 
--- a run of the commands of an input from sixteen empty sets gives an output of it
-pub output_from : (input output : List ℕ) (sets final : Sets) (cs : List Action) (rs : List Answer) (flags : List Bool)
-    → sets ≡ replicate 16 (empty 0) → cs ≡ commands_of (lines_of input) → flags ≡ map is_command (lines_of input)
-    → Run 1000000 sets cs rs final → output ≡ texts flags rs → IsOutput input output
-output_from input output sets final cs rs flags e f g run h =
-    (rs, final, subst (λ s. Run 1000000 s (commands_of (lines_of input)) rs final) e (subst (λ x. Run 1000000 sets x rs final) f run), h ∙ ap (λ x. texts x rs) g)
+line_then : (out line output rest : List ℕ) → out ≡ line ++ 10 ∷ [] → output ≡ rest → out ++ output ≡ line ++ 10 ∷ rest
+line_then out line output rest e f = grind (arith, common_steps)
+
+-- a line that is a command is carried out
+pub line_answered : (line : List ℕ) (old new : Sets) (c : Action) (r : Answer) → command_of line ≡ Some c → Step 1000000 old c r new → AnswersLine line old new (answer_text r ++ 10 ∷ [])
+unfolding texts
+line_answered line old new c r is step lines output rest =
+    (r ∷ rest.0, rest.1, rw is (new, step, rest.2), rw is (line_then _ (answer_text r) output _ refl rest.3))
+
+-- a line that is none leaves the sets
+pub line_refused : (line : List ℕ) (sets : Sets) → command_of line ≡ None → AnswersLine line sets sets (fault_text ++ 10 ∷ [])
+unfolding texts
+line_refused line sets none lines output rest =
+    (rest.0, rest.1, rw none rest.2, rw none (line_then _ fault_text output _ refl rest.3))
+
+-- no lines put out nothing
+pub no_lines : (sets : Sets) (lines : List (List ℕ)) → lines ≡ [] → IsOutputFrom sets lines []
+unfolding texts
+no_lines sets lines none = rw none ([], sets, refl, refl)

@@ -38,9 +38,18 @@ texts (false ∷ flags) answers = fault_text ++ 10 ∷ texts flags answers
 texts (true ∷ flags) (r ∷ answers) = answer_text r ++ 10 ∷ texts flags answers
 texts (true ∷ flags) [] = []
 
--- The output belongs to the input: the answers are those of a run of its commands, from sixteen sets of length 0 and
--- at the limit 1,000,000.
+-- The output belongs to these lines, from these sets: the answers are those of a run of their commands, at the limit
+-- 1,000,000.
+abbrev pub IsOutputFrom : Sets → List (List ℕ) → List ℕ → Type 0
+IsOutputFrom sets lines output = (answers : List Answer) × (final : Sets)
+    × Run 1000000 sets (commands_of lines) answers final
+    × (output ≡ texts (map is_command lines) answers)
+
+-- The output belongs to the input: to its lines, from sixteen sets of length 0.
 abbrev pub IsOutput : List ℕ → List ℕ → Type 0
-IsOutput input output = (answers : List Answer) × (final : Sets)
-    × Run 1000000 (replicate 16 (empty 0)) (commands_of (lines_of input)) answers final
-    × (output ≡ texts (map is_command (lines_of input)) answers)
+IsOutput input output = IsOutputFrom (replicate 16 (empty 0)) (lines_of input) output
+
+-- what one line puts out, before what any lines put out from the sets that it left, is what they all put out
+abbrev pub AnswersLine : List ℕ → Sets → Sets → List ℕ → Type 0
+AnswersLine line old new out = (lines : List (List ℕ)) (output : List ℕ)
+    → IsOutputFrom new lines output → IsOutputFrom old (line ∷ lines) (out ++ output)

@@ -1,14 +1,12 @@
 //! The program over any reader and writer.
-ghost use Rattle.std.specs.Prelude.{◌≡◌, ◌≢◌, ◌∷◌, ℕ, ◌<◌, List, length, map, replicate, string_bytes, IfOk, OnOk, IfErr, Err};
+ghost use Rattle.std.specs.Prelude.{◌≡◌, ◌≢◌, ◌∷◌, ◌++◌, ℕ, ◌<◌, List, length, replicate, string_bytes, IfOk, OnOk, IfErr, Err};
 ghost use Rattle.std.specs.Io.{StartsWith};
 ghost use Rattle.std.specs.Io.KnownBytes.{Keeps, Appends};
 ghost use Rattle.fixedbitset.specs.Bits.{empty};
-ghost use Rattle.bitcommands.specs.Actions.{meant};
-ghost use Rattle.bitcommands.specs.Answers.{seen};
-ghost use Rattle.bitcommands.specs.Output.{IsOutput, is_command, commands_of, lines_of, texts};
+ghost use Rattle.bitcommands.specs.Output.{IsOutput, AnswersLine, lines_of};
 ghost use Rattle.bitcommands.specs.Program.{IsRead, status_of};
 
-use crate::commands::{Command, Reply, run};
+use crate::commands::apply;
 use crate::lines::{LineFault, parse_line};
 use crate::words::find;
 use fixedbitset::FixedBitSet;
@@ -44,7 +42,7 @@ pub enum RunFault {
 /// for each. The reader has to end.
 ///
 /// It builds the whole output before it writes the first byte, and flushes behind the last one. No failed read or write
-/// is tried again. It is linear in input and output, and keeps one command and one reply a line.
+/// is tried again. It is linear in input and output, which it keeps whole.
 pub fn run_text<R: Read, W: Write>(
     alloc: Global,
     reader: &mut R,
@@ -81,15 +79,36 @@ fn output_of(alloc: Global, input: &[u8]) -> Result<String, AllocError>
     ensures { IfOk result (λ text. IsOutput input.now (string_bytes text)) }
 {
     let mut sets = new_sets(alloc)?;
-    let script = parse(alloc, input)?;
-    let replies = run(
-        alloc,
-        sets.as_mut_slice(),
-        script.commands.as_slice(),
-        LIMIT,
-    )?;
-    let text = text_of(alloc, script.flags.as_slice(), replies.as_slice())?;
+    let sets = sets.as_mut_slice();
+    let mut text = String::new(alloc);
+    let mut rest = input;
+    while !rest.is_empty() {
+        let (line, more) = first_line(rest);
+        answer_line(alloc, sets, line, &mut text)?;
+        rest = more;
+    }
     Ok(text)
+}
+
+// Carries out a line, and puts its reply, or a fault, and a line end behind the text.
+fn answer_line(
+    alloc: Global,
+    sets: &mut [FixedBitSet],
+    line: &[u8],
+    text: &mut String,
+) -> Result<(), AllocError>
+    ensures { OnOk result ((out : List ℕ) × (string_bytes text.new ≡ string_bytes text.old ++ out)
+        × AnswersLine line.now sets.old sets.new out) }
+{
+    match parse_line(alloc, line) {
+        Ok(command) => {
+            let reply = apply(alloc, sets, &command, LIMIT);
+            writeln!(text, "{reply}")?;
+        }
+        Err(LineFault::NotACommand) => text.push_str("F8 not a command\n")?,
+        Err(LineFault::Memory) => return Err(AllocError),
+    }
+    Ok(())
 }
 
 fn new_sets(alloc: Global) -> Result<Vec<FixedBitSet>, AllocError>
@@ -100,36 +119,6 @@ fn new_sets(alloc: Global) -> Result<Vec<FixedBitSet>, AllocError>
         sets.push(FixedBitSet::new(alloc))?;
     }
     Ok(sets)
-}
-
-// The commands of a text, and for each line whether it is one.
-#[derive(Drop)]
-struct Script {
-    commands: Vec<Command>,
-    flags: Vec<bool>,
-}
-
-#[tactic(auto, using(crate::proofs::Output::lines_of_nil))]
-fn parse(alloc: Global, input: &[u8]) -> Result<Script, AllocError>
-    ensures commands { IfOk result (λ script. map meant script.commands.items ≡ commands_of (lines_of input.now)) }
-    ensures flags { IfOk result (λ script. script.flags.items ≡ map is_command (lines_of input.now)) }
-{
-    let mut commands = Vec::new(alloc);
-    let mut flags = Vec::new(alloc);
-    let mut rest = input;
-    while !rest.is_empty() {
-        let (line, more) = first_line(rest);
-        match parse_line(alloc, line) {
-            Ok(command) => {
-                commands.push(command)?;
-                flags.push(true)?;
-            }
-            Err(LineFault::NotACommand) => flags.push(false)?,
-            Err(LineFault::Memory) => return Err(AllocError),
-        }
-        rest = more;
-    }
-    Ok(Script { commands, flags })
 }
 
 // The first line, and what stands behind its line end.
@@ -143,25 +132,6 @@ fn first_line(text: &[u8]) -> (&[u8], &[u8])
         Some(end) => (&text[..end], &text[end + 1..]),
         None => (text, &text[text.len()..]),
     }
-}
-
-// The next reply for each line that is a command, and a fault for each other one.
-fn text_of(alloc: Global, flags: &[bool], replies: &[Reply]) -> Result<String, AllocError>
-    ensures { IfOk result (λ text. string_bytes text ≡ texts flags.now (map seen replies.now)) }
-{
-    let mut text = String::new(alloc);
-    let mut rest = replies.iter();
-    for is_command in flags {
-        if *is_command {
-            let Some(reply) = rest.next() else {
-                return Ok(text);
-            };
-            writeln!(text, "{reply}")?;
-        } else {
-            text.push_str("F8 not a command\n")?;
-        }
-    }
-    Ok(text)
 }
 
 // Reads to the end.

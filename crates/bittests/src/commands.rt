@@ -1,6 +1,8 @@
 //! The commands over two sets, by every pair of fifteen lengths beside slow values.
 use crate::whole::{assert_agree, every_pair, filled, joined, size};
-use bitcommands::commands::{Command, Compare, Make, Reply, Whole, apply};
+use bitcommands::commands::{
+    Change, Command, Compare, Look, Make, Refusal, Reply, Whole, apply, run,
+};
 use fixedbitset::FixedBitSet;
 use std::alloc::{AllocError, Global};
 use std::process::Abort;
@@ -224,5 +226,29 @@ fn every_pair_compared_by_a_command(rt: HostRuntime) -> Result<(), Fail> {
         counts(&rt, alloc, a, b)?;
         comparisons(&rt, alloc, a, b)
     })?;
+    Ok(())
+}
+
+// A refused command is a reply, and the commands after it go on.
+#[test]
+fn a_run_past_a_refusal(rt: HostRuntime) -> Result<(), Fail> {
+    let alloc = rt.alloc();
+    let mut sets = [FixedBitSet::new(alloc), FixedBitSet::new(alloc)];
+    let commands = [
+        Command::Make(Make::WithCapacity {
+            target: 1,
+            bits: 10,
+        }),
+        Command::Change(Change::Insert { set: 1, bit: 10 }),
+        Command::Change(Change::Put { set: 1, bit: 9 }),
+        Command::Look(Look::Len { set: 1 }),
+    ];
+    let replies = run(alloc, &mut sets, &commands, 10)?;
+    assert_eq!(rt; replies.len(), 4);
+    assert!(rt; matches!(&replies[0], Reply::Done));
+    assert!(rt; matches!(&replies[1], Reply::Refused(Refusal::Position)));
+    assert!(rt; matches!(&replies[2], Reply::Bool(false)));
+    assert!(rt; matches!(&replies[3], Reply::Number(10)));
+    assert!(rt; sets[1].contains(9));
     Ok(())
 }

@@ -1,11 +1,14 @@
-use Rattle.std.proofs.Common.{◌∙◌, ap, map}
-use Rattle.bitcommands.specs.Actions.{meant}
-use Rattle.bitcommands.specs.Answers.{seen}
-use Rattle.bitcommands.proofs.Output.{output_from}
-use Rattle.bitcommands.specs.Output.{texts}
+use Rattle.std.proofs.Common.{◌≡◌, [], ◌++◌, length, append_assoc, append-nil, arith}
+use Rattle.std.proofs.lemmas.Bool.Decides.{nat_tests}
+use Rattle.bitcommands.proofs.Output.{lines_of_empty, no_lines}
 use Rattle.bitcommands.proofs.program.output_of.Goals as goal
 
+pub loop-sets-preserved : goal.loop-sets-preserved
+loop-sets-preserved c output rest =
+    let line = c.in_ok-answer_line.ensures in
+    rw (line.1, append_assoc) (c.loop-sets.invariant (line.0 ++ output) (rw c.first_line.ensures.lines (line.2 _ output rest)))
+
 pub returns : goal.returns
-returns c = output_from _ _ c.as_mut_slice.result.now c.run.new.sets (map meant c.as_slice.result.now) (map seen c.in_ok-replies.replies.items) c.as_slice-2.result.now
-    (c.as_mut_slice.ensures.value ∙ c.in_ok-sets.ensures) (ap (map meant) c.as_slice.ensures.value ∙ c.in_ok-script.ensures.commands) (c.as_slice-2.ensures.value ∙ c.in_ok-script.ensures.flags)
-    c.in_ok-replies.ensures.run (c.in_ok-text.ensures ∙ ap (λ rs. texts c.as_slice-2.result.now (map seen rs)) c.as_slice-3.ensures.value)
+returns c =
+    let empty : length c.loop-sets.rest.now ≡ 0 = grind (arith, nat_tests) in
+    rw append-nil at (c.loop-sets.invariant [] (no_lines _ _ (lines_of_empty c.loop-sets.rest.now empty)))
