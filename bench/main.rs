@@ -1,8 +1,27 @@
-//! Times the kernels beside the same loops in Rust, and prints the least times as tables.
+//! Times the kernels and the calls of a set beside the same loops in Rust, and prints the least times as tables.
 //! `run` builds and starts it.
 
+mod sets;
+
+use std::arch::global_asm;
 use std::hint::black_box;
 use std::time::Instant;
+
+// How fast a loop of few instructions is depends also on where it lies. With `shifted` all that is timed lies 16 bytes
+// further on.
+global_asm!(
+    ".pushsection .text.shift, \"ax\"",
+    ".p2align 5",
+    ".skip {}",
+    ".globl shift_end",
+    "shift_end: ret",
+    ".popsection",
+    const if cfg!(shifted) { 16 } else { 0 },
+);
+
+unsafe extern "C" {
+    static shift_end: u8;
+}
 
 /// How many words lie at each pointer that crosses to the kernels.
 const MOST: usize = 15_625;
@@ -143,10 +162,42 @@ fn print_table(rows: &[Row], rust: fn(&Row) -> f64) {
     }
 }
 
+fn print_tables(subject: &str, rows: &[Row]) {
+    println!("{subject} beside Rust for x86-64-v2:\n");
+    print_table(rows, |row| row.rust_v2);
+    println!("\n{subject} beside Rust for its default processor:\n");
+    print_table(rows, |row| row.rust_default);
+}
+
+/// Takes over what is less in the times of a line that `print_times` printed.
+fn take_less(row: &mut Row, line: &str) {
+    let mut earlier = line.split(' ').map(|time| time.parse().expect("a time"));
+    for time in [&mut row.ours, &mut row.rust_v2, &mut row.rust_default] {
+        *time = time.min(earlier.next().expect("three times"));
+    }
+}
+
+fn print_times(rows: &[Row]) {
+    for row in rows {
+        println!("{} {} {}", row.ours, row.rust_v2, row.rust_default);
+    }
+}
+
+/// Prints the times alone, or with a file of such times the tables of the least of both.
 fn main() {
-    let rows = rows();
-    println!("Beside Rust for x86-64-v2:\n");
-    print_table(&rows, |row| row.rust_v2);
-    println!("\nBeside Rust for its default processor:\n");
-    print_table(&rows, |row| row.rust_default);
+    black_box(&raw const shift_end);
+    let mut kernels = rows();
+    let mut sets = sets::rows();
+    let Some(file) = std::env::args().nth(1) else {
+        print_times(&kernels);
+        print_times(&sets);
+        return;
+    };
+    let times = std::fs::read_to_string(file).expect("the times of the other program");
+    for (row, line) in kernels.iter_mut().chain(&mut sets).zip(times.lines()) {
+        take_less(row, line);
+    }
+    print_tables("Kernels", &kernels);
+    println!();
+    print_tables("Calls of a set", &sets);
 }

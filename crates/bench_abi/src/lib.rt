@@ -1,6 +1,7 @@
-//! The kernels under C names, for the program in bench/ that times them. Nothing else uses it.
+//! The kernels under C names, and in `sets` the calls of a set, for the program in bench/ that times them. Nothing else
+//! uses it.
 //!
-//! Each slice is the first words of an array of `MOST`, with its length beside it. A slice itself would be tested for
+//! Each slice of a kernel is the first words of an array of `MOST`, with its length beside it. A slice itself would be tested for
 //! null as it comes from C, which the kernels as Rattle calls them do not pay.
 #![tactic(auto)]
 
@@ -9,6 +10,8 @@ ghost use Rattle.std.specs.List.{list_all};
 ghost use Rattle.std.specs.Int.RustNames.{count_ones};
 ghost use Rattle.std.specs.Simd.Lanes.{zip2};
 ghost use Rattle.bitlanes.specs.Words.{merge};
+
+pub mod sets;
 
 use bitlanes::ops::{And, Or};
 use bitlanes::{Block, Steps, lanes};
