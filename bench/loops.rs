@@ -1,4 +1,5 @@
-//! The loops of the kernels and of the calls of a set, as they are written in Rust. `run` compiles this file once for each processor.
+//! The loops of the kernels and of the calls of a set, as they are written in Rust.
+//! `run` compiles this file once for each processor.
 
 #[inline(never)]
 pub fn apply_or(dst: &mut [u64], src: &[u64]) {

@@ -91,22 +91,40 @@ fn full(bits: usize, rounds: usize, ask: impl Fn(&[u64], &[u64]) -> usize) -> us
 
 /// The call of a set, and the loop in Rust for both processors.
 macro_rules! change {
-    ($ours:ident, $call:ident, |$bits:pat_param, $set:pat_param, $other:pat_param| ($($given:expr),*) $(,)?) => {
+    (
+        $ours:ident, $call:ident,
+        |$bits:pat_param, $set:pat_param, $other:pat_param| ($($given:expr),*) $(,)?
+    ) => {
         [
             |bits, rounds| ours::$ours(bits, rounds),
-            |bits, rounds| { let $bits = bits; changed(bits, rounds, |$set, $other| loops_v2::$call($($given),*)) },
-            |bits, rounds| { let $bits = bits; changed(bits, rounds, |$set, $other| loops_default::$call($($given),*)) },
+            |bits, rounds| {
+                let $bits = bits;
+                changed(bits, rounds, |$set, $other| loops_v2::$call($($given),*))
+            },
+            |bits, rounds| {
+                let $bits = bits;
+                changed(bits, rounds, |$set, $other| loops_default::$call($($given),*))
+            },
         ]
     };
 }
 
 /// The same of a question, asked of `halves` or `full`.
 macro_rules! question {
-    ($ours:ident, $of:ident, $call:ident, |$bits:pat_param, $set:pat_param, $other:pat_param| ($($given:expr),*) $(,)?) => {
+    (
+        $ours:ident, $of:ident, $call:ident,
+        |$bits:pat_param, $set:pat_param, $other:pat_param| ($($given:expr),*) $(,)?
+    ) => {
         [
             |bits, rounds| ours::$ours(bits, rounds),
-            |bits, rounds| { let $bits = bits; $of(bits, rounds, |$set, $other| usize::from(loops_v2::$call($($given),*))) },
-            |bits, rounds| { let $bits = bits; $of(bits, rounds, |$set, $other| usize::from(loops_default::$call($($given),*))) },
+            |bits, rounds| {
+                let $bits = bits;
+                $of(bits, rounds, |$set, $other| usize::from(loops_v2::$call($($given),*)))
+            },
+            |bits, rounds| {
+                let $bits = bits;
+                $of(bits, rounds, |$set, $other| usize::from(loops_default::$call($($given),*)))
+            },
         ]
     };
 }
