@@ -1,4 +1,4 @@
 pub mod Folding
-pub mod Merging
+pub mod Kept
 pub mod Stretches
 pub mod Zipping

@@ -8,6 +8,7 @@ use Rattle.std.proofs.lemmas.Nat.{or_lt, xor_lt, and_le_l}
 use Rattle.std.proofs.lemmas.Bool.Decides.{leb_tells}
 use lib.Dec.{leb}
 use Rattle.bitlanes.specs.Bits.{bit, either, bit_without}
+use Rattle.bitlanes.specs.Ops.{IsWordOp}
 
 -- where f of two binary digits is the truth function t at each of the four pairs, it is t
 digits : (f : ℕ → ℕ → ℕ) (t : Bool → Bool → Bool)
@@ -29,15 +30,6 @@ bit-and a b i = ap (λ n. n == 1) (bit_at_and a b i) ∙ digits min (λ x y. x &
 pub bit-xor : (a b i : ℕ) → bit (bit_xor a b) i ≡ either (bit a i) (bit b i)
 bit-xor a b i = ap (λ n. n == 1) (bit_at_xor a b i) ∙ digits (λ x y. (x + y) % 2) either refl refl refl refl (bit_at a i) (bit_at b i) (bit_at-lt a i) (bit_at-lt b i)
 
-pub or_fits : (a b : ℕ) → a < 2 ^ 64 → b < 2 ^ 64 → bit_or a b < 2 ^ 64
-or_fits = or_lt 64
-
-pub and_fits : (a b : ℕ) → a < 2 ^ 64 → b < 2 ^ 64 → bit_and a b < 2 ^ 64
-and_fits = and_lt 64
-
-pub xor_fits : (a b : ℕ) → a < 2 ^ 64 → b < 2 ^ 64 → bit_xor a b < 2 ^ 64
-xor_fits = xor_lt 64
-
 pub without_fits : (a b : ℕ) → a < 2 ^ 64 → bit_without a b < 2 ^ 64
 without_fits a b p = let le : bit_without a b ≤ a = and_le_l a (bit_not w64 b) in omega arith
 
@@ -52,3 +44,41 @@ without_at a b i p q (inl (_, above)) =
 
 pub bit-without : (a b i : ℕ) → a < 2 ^ 64 → b < 2 ^ 64 → bit (bit_without a b) i ≡ (bit a i && not (bit b i))
 bit-without a b i p q = without_at a b i p q (leb_tells 64 i)
+
+-- ---- the laws of the four operations
+
+pub laws_of_or : IsWordOp bit_or (λ x y. x || y) true true
+laws_of_or = record {
+  by_bits = λ a b i p q. bit-or a b i;
+  fits = or_lt 64;
+  of_neither = refl;
+  of_first = elim [ true ↦ refl | false ↦ refl ];
+  of_second = elim [ true ↦ refl | false ↦ refl ];
+}
+
+pub laws_of_and : IsWordOp bit_and (λ x y. x && y) false false
+laws_of_and = record {
+  by_bits = λ a b i p q. bit-and a b i;
+  fits = and_lt 64;
+  of_neither = refl;
+  of_first = elim [ true ↦ refl | false ↦ refl ];
+  of_second = elim [ true ↦ refl | false ↦ refl ];
+}
+
+pub laws_of_without : IsWordOp bit_without (λ x y. x && not y) true false
+laws_of_without = record {
+  by_bits = bit-without;
+  fits = λ a b p q. without_fits a b p;
+  of_neither = refl;
+  of_first = elim [ true ↦ refl | false ↦ refl ];
+  of_second = elim [ true ↦ refl | false ↦ refl ];
+}
+
+pub laws_of_xor : IsWordOp bit_xor either true true
+laws_of_xor = record {
+  by_bits = λ a b i p q. bit-xor a b i;
+  fits = xor_lt 64;
+  of_neither = refl;
+  of_first = elim [ true ↦ refl | false ↦ refl ];
+  of_second = elim [ true ↦ refl | false ↦ refl ];
+}

@@ -1,5 +1,6 @@
 pub mod Bits
 pub mod BitLaws
 pub mod Depth
+pub mod Ops
 pub mod Word
 pub mod Words

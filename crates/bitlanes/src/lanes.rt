@@ -4,11 +4,11 @@
 //! take `m / 4 + m % 4` steps. The kernels are the only loops of calls on whole sets.
 //!
 //! Of two slices a kernel reads as many words as the shorter one has.
-ghost use Rattle.std.specs.Prelude.{◌≡◌, ◌+◌, ◌^◌, ◌<◌, ◌≤◌, ◌==◌, length, min, slice_index, sum_by, replicate};
+ghost use Rattle.std.specs.Prelude.{◌≡◌, ◌+◌, ◌^◌, ◌<◌, ◌≤◌, ◌==◌, length, min, slice_index, sum_by, replicate, true, false};
 ghost use Rattle.std.specs.List.{list_all};
 ghost use Rattle.std.specs.Int.RustNames.{count_ones};
 ghost use Rattle.std.specs.Simd.Lanes.{zip2, chunk, put_chunk};
-ghost use Rattle.bitlanes.specs.Words.{merge, turns};
+ghost use Rattle.bitlanes.specs.Words.{zip_longest, lane_steps};
 
 use crate::ops::WordOp;
 use crate::{Block, Steps};
@@ -21,10 +21,10 @@ const LANE: usize = 4;
 ///
 /// It takes exactly `m / 4 + m % 4` steps, `m` being the number of words of the shorter slice.
 #[inline(always)]
-#[tactic(auto, using(crate::proofs::Merging::merge_none, crate::proofs::Merging::merge_lane, crate::proofs::Merging::merge_word, crate::proofs::Merging::merge_take))]
+#[tactic(auto, using(crate::proofs::Kept::kept_none, crate::proofs::Kept::kept_lane, crate::proofs::Kept::kept_word, crate::proofs::Kept::kept_take))]
 pub fn apply<O: WordOp>(dst: &mut [Block], src: &[Block], steps: &mut Steps)
-    ensures words { dst.new ≡ merge O.joined dst.old src.now }
-    ensures cost { steps.new ≡ steps.old + turns (min (length dst.old) (length src.now)) }
+    ensures words { dst.new ≡ zip_longest O.joined true false dst.old src.now }
+    ensures cost { steps.new ≡ steps.old + lane_steps (min (length dst.old) (length src.now)) }
 {
     let words = dst.len().min(src.len());
     let lanes = words / LANE;
@@ -48,7 +48,7 @@ pub fn apply<O: WordOp>(dst: &mut [Block], src: &[Block], steps: &mut Steps)
 pub fn count<O: WordOp>(a: &[Block], b: &[Block], steps: &mut Steps) -> usize
     requires fits { sum_by count_ones (zip2 O.joined a.now b.now) < 2 ^ 64 }
     ensures ones { result ≡ sum_by count_ones (zip2 O.joined a.now b.now) }
-    ensures cost { steps.new ≡ steps.old + turns (min (length a.now) (length b.now)) }
+    ensures cost { steps.new ≡ steps.old + lane_steps (min (length a.now) (length b.now)) }
 {
     let words = a.len().min(b.len());
     let lanes = words / LANE;
@@ -72,7 +72,7 @@ pub fn count<O: WordOp>(a: &[Block], b: &[Block], steps: &mut Steps) -> usize
 #[tactic(auto, using(crate::proofs::Folding::all_lane, crate::proofs::Zipping::all_joined))]
 pub fn none<O: WordOp>(a: &[Block], b: &[Block], steps: &mut Steps) -> bool
     ensures zero { result ≡ list_all (λ word. word == 0) (zip2 O.joined a.now b.now) }
-    ensures cost { steps.new ≤ steps.old + turns (min (length a.now) (length b.now)) }
+    ensures cost { steps.new ≤ steps.old + lane_steps (min (length a.now) (length b.now)) }
 {
     let words = a.len().min(b.len());
     let lanes = words / LANE;
@@ -98,7 +98,7 @@ pub fn none<O: WordOp>(a: &[Block], b: &[Block], steps: &mut Steps) -> bool
 #[tactic(auto, using(crate::proofs::Folding::zeros_lane))]
 pub fn zero(dst: &mut [Block], steps: &mut Steps)
     ensures words { dst.new ≡ replicate (length dst.old) 0 }
-    ensures cost { steps.new ≡ steps.old + turns (length dst.old) }
+    ensures cost { steps.new ≡ steps.old + lane_steps (length dst.old) }
 {
     let words = dst.len();
     let lanes = words / LANE;
@@ -120,7 +120,7 @@ pub fn zero(dst: &mut [Block], steps: &mut Steps)
 pub fn count_one(a: &[Block], steps: &mut Steps) -> usize
     requires fits { sum_by count_ones a.now < 2 ^ 64 }
     ensures ones { result ≡ sum_by count_ones a.now }
-    ensures cost { steps.new ≡ steps.old + turns (length a.now) }
+    ensures cost { steps.new ≡ steps.old + lane_steps (length a.now) }
 {
     let words = a.len();
     let lanes = words / LANE;
@@ -144,7 +144,7 @@ pub fn count_one(a: &[Block], steps: &mut Steps) -> usize
 #[tactic(auto, using(crate::proofs::Folding::all_lane))]
 pub fn none_one(a: &[Block], steps: &mut Steps) -> bool
     ensures zero { result ≡ list_all (λ word. word == 0) a.now }
-    ensures cost { steps.new ≤ steps.old + turns (length a.now) }
+    ensures cost { steps.new ≤ steps.old + lane_steps (length a.now) }
 {
     let words = a.len();
     let lanes = words / LANE;

@@ -1,8 +1,9 @@
 //! The operations that join two sets, on one word of each and on lanes of four.
-ghost use Rattle.std.specs.Prelude.{◌≡◌, ℕ, ◌<◌, ◌^◌, Bool, true, false, ◌&&◌, ◌||◌, not, bit_and, bit_or, bit_xor, refl};
+ghost use Rattle.std.specs.Prelude.{◌≡◌, ℕ, Bool, true, false, ◌&&◌, ◌||◌, not, bit_and, bit_or, bit_xor};
 ghost use Rattle.std.specs.Simd.Lanes.{zip2};
-ghost use Rattle.bitlanes.specs.Bits.{bit, either, bit_without};
-ghost use Rattle.bitlanes.specs.BitLaws.{bit-or, bit-and, bit-xor, bit-without, or_fits, and_fits, xor_fits, without_fits};
+ghost use Rattle.bitlanes.specs.Bits.{either, bit_without};
+ghost use Rattle.bitlanes.specs.BitLaws.{laws_of_or, laws_of_and, laws_of_without, laws_of_xor};
+ghost use Rattle.bitlanes.specs.Ops.{IsWordOp};
 
 use crate::Block;
 use std::simd::prelude::*;
@@ -35,20 +36,8 @@ pub trait WordOp {
     fn lane(left: u64x4, right: u64x4) -> u64x4
         ensures { result ≡ zip2 joined left right };
 
-    /// Each bit of the joined word is the truth function of the two bits at its place.
-    ghost by_bits: { (a b i : ℕ) → a < 2 ^ 64 → b < 2 ^ 64 → bit (joined a b) i ≡ truth (bit a i) (bit b i) };
-
-    /// The joined word is a word.
-    ghost fits: { (a b : ℕ) → a < 2 ^ 64 → b < 2 ^ 64 → joined a b < 2 ^ 64 };
-
-    /// A bit that neither word has is not in the joined word.
-    ghost of_neither: { truth false false ≡ false };
-
-    /// A bit that the second word lacks is as in the first if `KEEP`, and else is not there.
-    ghost of_first: { (x : Bool) → truth x false ≡ (KEEP && x) };
-
-    /// A bit that the first word lacks is as in the second if `TAKE`, and else is not there.
-    ghost of_second: { (y : Bool) → truth false y ≡ (TAKE && y) };
+    /// Its laws: by bits, and what becomes of a bit that only one word has.
+    ghost laws: { IsWordOp joined truth KEEP TAKE };
 }
 
 /// The bits of either word.
@@ -77,15 +66,7 @@ impl WordOp for Or {
         left | right
     }
 
-    ghost by_bits = { λ a b i p q. bit-or a b i };
-
-    ghost fits = { or_fits };
-
-    ghost of_neither = { refl };
-
-    ghost of_first = { elim [ true ↦ refl | false ↦ refl ] };
-
-    ghost of_second = { elim [ true ↦ refl | false ↦ refl ] };
+    ghost laws = { laws_of_or };
 }
 
 /// The bits of both words.
@@ -114,15 +95,7 @@ impl WordOp for And {
         left & right
     }
 
-    ghost by_bits = { λ a b i p q. bit-and a b i };
-
-    ghost fits = { and_fits };
-
-    ghost of_neither = { refl };
-
-    ghost of_first = { elim [ true ↦ refl | false ↦ refl ] };
-
-    ghost of_second = { elim [ true ↦ refl | false ↦ refl ] };
+    ghost laws = { laws_of_and };
 }
 
 /// The bits of the first word that the second lacks.
@@ -152,15 +125,7 @@ impl WordOp for AndNot {
         left & !right
     }
 
-    ghost by_bits = { bit-without };
-
-    ghost fits = { λ a b p q. without_fits a b p };
-
-    ghost of_neither = { refl };
-
-    ghost of_first = { elim [ true ↦ refl | false ↦ refl ] };
-
-    ghost of_second = { elim [ true ↦ refl | false ↦ refl ] };
+    ghost laws = { laws_of_without };
 }
 
 /// The bits of exactly one of the words.
@@ -189,13 +154,5 @@ impl WordOp for Xor {
         left ^ right
     }
 
-    ghost by_bits = { λ a b i p q. bit-xor a b i };
-
-    ghost fits = { xor_fits };
-
-    ghost of_neither = { refl };
-
-    ghost of_first = { elim [ true ↦ refl | false ↦ refl ] };
-
-    ghost of_second = { elim [ true ↦ refl | false ↦ refl ] };
+    ghost laws = { laws_of_xor };
 }

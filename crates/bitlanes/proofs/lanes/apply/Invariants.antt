@@ -1,15 +1,15 @@
-use Rattle.std.proofs.Common.{◌≡◌, ◌+◌, ◌*◌, take}
-use Rattle.bitlanes.specs.Words.{merge}
+use Rattle.std.proofs.Common.{◌≡◌, ◌+◌, ◌*◌, take, true, false}
+use Rattle.bitlanes.specs.Words.{zip_longest}
 use Rattle.bitlanes.proofs.lanes.apply.Given as goal
 
 abbrev pub invariant-loop-lane : goal.invariant-loop-lane
 invariant-loop-lane g l = record {
-  words : l.dst ≡ merge g.O.WordOp.joined l.fn.dst (take (4 * l.lane) l.src);
+  words : l.dst ≡ zip_longest g.O.WordOp.joined true false l.fn.dst (take (4 * l.lane) l.src);
   cost : l.steps ≡ l.fn.steps + l.lane;
 }
 
 abbrev pub invariant-loop-word : goal.invariant-loop-word
 invariant-loop-word g l = record {
-  words : l.dst ≡ merge g.O.WordOp.joined l.fn.dst (take (4 * l.lanes + l.word) l.src);
+  words : l.dst ≡ zip_longest g.O.WordOp.joined true false l.fn.dst (take (4 * l.lanes + l.word) l.src);
   cost : l.steps ≡ l.fn.steps + l.lanes + l.word;
 }

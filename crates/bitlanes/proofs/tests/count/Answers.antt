@@ -18,7 +18,7 @@ ones_joined f fits (x ∷ xs) (y ∷ ys) p q =
 
 pub count-requires : goal.count-requires
 count-requires g c =
-    let most = ones_joined g.O.WordOp.joined g.met.O.WordOp.fits c.args.a.now c.args.b.now
+    let most = ones_joined g.O.WordOp.joined g.met.O.WordOp.laws.fits c.args.a.now c.args.b.now
     (λ k. let word = c.type_inv.a k in omega arith)
     (λ k. let word = c.type_inv.b k in omega arith) in
     record { fits = omega arith }
