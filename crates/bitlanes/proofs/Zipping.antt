@@ -1,8 +1,9 @@
 -- two lists joined, element by element
-use Rattle.std.proofs.Common.{◌≡◌, ℕ, zero, suc, ◌≤◌, Bool, List, [], ◌∷◌, length, take, drop, map, min, sum_by, refl, ap, ◌∙◌, arith}
+use Rattle.std.proofs.Common.{◌≡◌, ℕ, zero, suc, ◌≤◌, Bool, List, [], ◌∷◌, length, take, drop, map, min, replicate, sum_by, refl, sym, ap, ◌∙◌, arith, ◌+◌}
 use Rattle.std.specs.List.{list_all}
 use Rattle.std.specs.Simd.Lanes.{zip2, chunk}
-use Rattle.std.proofs.lemmas.List.{take_all}
+use Rattle.std.proofs.lemmas.List.{take_all, drop-map, take-map, length-take-le, length-drop}
+use Rattle.std.proofs.lemmas.Simd.{zip2_splat_left}
 
 pub zip2_map_right : {X Y Z V : Type 0} (f : X → Z → V) (g : Y → Z) → (xs : List X) (ys : List Y) → zip2 f xs (map g ys) ≡ zip2 (λ x y. f x (g y)) xs ys
 zip2_map_right f g [] ys = refl
@@ -42,3 +43,9 @@ sum_joined f h k xs ys e = ap (sum_by h) (take_joined f k xs ys e)
 
 pub all_joined : (f : ℕ → ℕ → ℕ) (p : ℕ → Bool) (k : ℕ) (xs ys : List ℕ) → min (length xs) (length ys) ≤ k → list_all p (take k (zip2 f xs ys)) ≡ list_all p (zip2 f xs ys)
 all_joined f p k xs ys e = ap (list_all p) (take_joined f k xs ys e)
+
+-- one word joined with each word of a chunk
+pub chunk_masked : (f : ℕ → ℕ → ℕ) (mask i : ℕ) (xs : List ℕ) → i + 4 ≤ length xs → zip2 f (replicate 4 mask) (chunk i 4 xs) ≡ chunk i 4 (map (f mask) xs)
+chunk_masked f mask i xs within =
+    zip2_splat_left f mask 4 (chunk i 4 xs) (length-take-le 4 (drop i xs) (omega (arith, length-drop i xs)))
+    ∙ sym (ap (take 4) (drop-map (f mask) i xs) ∙ take-map (f mask) 4 (drop i xs))

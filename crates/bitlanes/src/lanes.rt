@@ -4,7 +4,7 @@
 //! take `m / 4 + m % 4` steps. The kernels are the only loops of calls on whole sets.
 //!
 //! Of two slices a kernel reads as many words as the shorter one has.
-ghost use Rattle.std.specs.Prelude.{◌≡◌, ◌+◌, ◌^◌, ◌<◌, ◌≤◌, ◌==◌, length, min, slice_index, sum_by, replicate, true, false};
+ghost use Rattle.std.specs.Prelude.{◌≡◌, ◌+◌, ◌^◌, ◌<◌, ◌≤◌, ◌==◌, length, min, slice_index, sum_by, replicate, map, true, false, IsTrue};
 ghost use Rattle.std.specs.List.{list_all};
 ghost use Rattle.std.specs.Int.RustNames.{count_ones};
 ghost use Rattle.std.specs.Simd.Lanes.{zip2, chunk, put_chunk};
@@ -163,6 +163,34 @@ pub fn none_one(a: &[Block], steps: &mut Steps) -> bool
     true
 }
 
+/// Whether no bit is set in the word `mask` joined with each word of `words` by `O`.
+///
+/// It stops at the first lane or word with a bit, so it takes at most `m / 4 + m % 4` steps, `m` being the number of
+/// words; where it answers `true` it takes exactly as many.
+#[inline(always)]
+#[tactic(auto, using(crate::proofs::Folding::all_lane))]
+pub fn none_masked<O: WordOp>(mask: Block, words: &[Block], steps: &mut Steps) -> bool
+    ensures zero { result ≡ list_all (λ word. word == 0) (map (O.joined mask) words.now) }
+    ensures cost { steps.new ≤ steps.old + lane_steps (length words.now) }
+    ensures whole { IsTrue result → steps.new ≡ steps.old + lane_steps (length words.now) }
+{
+    let count = words.len();
+    let lanes = count / LANE;
+    for lane in 0..lanes {
+        steps.tick();
+        if !is_zero(masked_lane_at::<O>(mask, words, LANE * lane)) {
+            return false;
+        }
+    }
+    for word in 0..count % LANE {
+        steps.tick();
+        if masked_word_at::<O>(mask, words, LANE * lanes + word) != 0 {
+            return false;
+        }
+    }
+    true
+}
+
 // Joins the four words of `dst` from `at` on with those of `src`.
 #[inline(always)]
 fn join_lane<O: WordOp>(dst: &mut [Block], src: &[Block], at: usize)
@@ -182,6 +210,24 @@ fn lane_at<O: WordOp>(a: &[Block], b: &[Block], at: usize) -> u64x4
     ensures { result ≡ chunk at 4 (zip2 O.joined a.now b.now) }
 {
     O::lane(u64x4::from_slice(&a[at..]), u64x4::from_slice(&b[at..]))
+}
+
+// The mask joined with each of the four words from `at` on.
+#[inline(always)]
+fn masked_lane_at<O: WordOp>(mask: Block, words: &[Block], at: usize) -> u64x4
+    requires { at + 4 ≤ length words.now }
+    ensures { result ≡ chunk at 4 (map (O.joined mask) words.now) }
+{
+    O::lane(u64x4::splat(mask), u64x4::from_slice(&words[at..]))
+}
+
+// The mask joined with the word at `at`.
+#[inline(always)]
+fn masked_word_at<O: WordOp>(mask: Block, words: &[Block], at: usize) -> Block
+    requires { at < length words.now }
+    ensures { result ≡ slice_index (map (O.joined mask) words.now) at }
+{
+    O::word(mask, words[at])
 }
 
 // The joined word at `at`.
