@@ -67,12 +67,13 @@ pub fn count<O: WordOp>(a: &[Block], b: &[Block], steps: &mut Steps) -> usize
 /// Whether no bit is set in the words of `a` joined with those of `b` by `O`, as far as both go.
 ///
 /// It stops at the first lane or word with a bit, so it takes at most `m / 4 + m % 4` steps, `m` being the number of
-/// words of the shorter slice.
+/// words of the shorter slice; where it answers `true` it takes exactly as many.
 #[inline(always)]
 #[tactic(auto, using(crate::proofs::Folding::all_lane, crate::proofs::Zipping::all_joined))]
 pub fn none<O: WordOp>(a: &[Block], b: &[Block], steps: &mut Steps) -> bool
     ensures zero { result ≡ list_all (λ word. word == 0) (zip2 O.joined a.now b.now) }
     ensures cost { steps.new ≤ steps.old + lane_steps (min (length a.now) (length b.now)) }
+    ensures whole { IsTrue result → steps.new ≡ steps.old + lane_steps (min (length a.now) (length b.now)) }
 {
     let words = a.len().min(b.len());
     let lanes = words / LANE;
@@ -139,12 +140,13 @@ pub fn count_one(a: &[Block], steps: &mut Steps) -> usize
 /// Whether no bit is set in the words.
 ///
 /// It stops at the first lane or word with a bit, so it takes at most `m / 4 + m % 4` steps, `m` being the number of
-/// words.
+/// words; where it answers `true` it takes exactly as many.
 #[inline(always)]
 #[tactic(auto, using(crate::proofs::Folding::all_lane))]
 pub fn none_one(a: &[Block], steps: &mut Steps) -> bool
     ensures zero { result ≡ list_all (λ word. word == 0) a.now }
     ensures cost { steps.new ≤ steps.old + lane_steps (length a.now) }
+    ensures whole { IsTrue result → steps.new ≡ steps.old + lane_steps (length a.now) }
 {
     let words = a.len();
     let lanes = words / LANE;

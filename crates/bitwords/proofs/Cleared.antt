@@ -1,0 +1,80 @@
+-- The words of a row joined with those of another one: the rest is kept, or cleared.
+use Rattle.std.proofs.Common.{◌≡◌, ℕ, zero, suc, ◌-◌, ◌*◌, ◌/◌, ◌%◌, ◌<◌, ◌≤◌, Bool, true, false, ◌&&◌, ◌==◌, List, [], ◌∷◌, ◌++◌, take, drop, length, get_or, replicate, refl, sym, ap, ◌∙◌, arith, ⊎_elim, ◌⊎◌}
+use Rattle.std.proofs.lemmas.Bool.{cases_lt}
+use Rattle.std.proofs.lemmas.List.{get_or_append_left, get_or-append_right, get_or-take, length-append, length-take-le, length-drop, length-replicate, get_or-replicate}
+use Rattle.std.proofs.lemmas.Nat.Bits.{bit_at-zero}
+use borrow.Rule.Slice.PartMut.{put_mid, post_of}
+use Rattle.bitlanes.specs.Bits.{bit}
+use Rattle.bitlanes.specs.Words.{zip_longest}
+use Rattle.bitwords.specs.Rows.{has_bit, IsJoined}
+use Rattle.bitlanes.specs.Ops.{IsWordOp}
+use Rattle.bitwords.specs.RowFacts.{AreWords, bit-zero, has_bit-past}
+
+pub length-kept : (f : ℕ → ℕ → ℕ) (xs ys : List ℕ) → length (zip_longest f true false xs ys) ≡ length xs
+length-kept f [] ys = refl
+length-kept f (x ∷ xs) [] = refl
+length-kept f (x ∷ xs) (y ∷ ys) = ap suc (length-kept f xs ys)
+
+get_or-kept_both : (f : ℕ → ℕ → ℕ) (xs ys : List ℕ) (k : ℕ) → k < length xs → k < length ys → get_or (zip_longest f true false xs ys) k 0 ≡ f (get_or xs k 0) (get_or ys k 0)
+get_or-kept_both f [] ys k p q = absurd (omega arith)
+get_or-kept_both f (x ∷ xs) [] k p q = absurd (omega arith)
+get_or-kept_both f (x ∷ xs) (y ∷ ys) zero p q = refl
+get_or-kept_both f (x ∷ xs) (y ∷ ys) (suc k) p q = get_or-kept_both f xs ys k (omega arith) (omega arith)
+
+get_or-kept_past : (f : ℕ → ℕ → ℕ) (xs ys : List ℕ) (k : ℕ) → length ys ≤ k → get_or (zip_longest f true false xs ys) k 0 ≡ get_or xs k 0
+get_or-kept_past f [] ys k p = refl
+get_or-kept_past f (x ∷ xs) [] k p = refl
+get_or-kept_past f (x ∷ xs) (y ∷ ys) zero p = absurd (omega arith)
+get_or-kept_past f (x ∷ xs) (y ∷ ys) (suc k) p = get_or-kept_past f xs ys k (omega arith)
+
+module _ {f : ℕ → ℕ → ℕ} {t : Bool → Bool → Bool} {keep take_right : Bool} (law : IsWordOp f t keep take_right) (xs ys : List ℕ) (words_xs : AreWords xs) (words_ys : AreWords ys) where
+  has_bit-both : (new : List ℕ) (p : ℕ) → get_or new (p / 64) 0 ≡ get_or (zip_longest f true false xs ys) (p / 64) 0 → p < 64 * length xs → p / 64 < length ys → has_bit new p ≡ t (has_bit xs p) (has_bit ys p)
+  unfolding has_bit
+  has_bit-both new p same inside both =
+      ap (λ w. bit w (p % 64)) (same ∙ get_or-kept_both f xs ys (p / 64) (omega arith) both)
+      ∙ law.by_bits _ _ (p % 64) (words_xs (p / 64)) (words_ys (p / 64))
+
+  has_bit-only : (p : ℕ) → length ys ≤ p / 64 → t (has_bit xs p) (has_bit ys p) ≡ (keep && has_bit xs p)
+  has_bit-only p past = ap (t (has_bit xs p)) (has_bit-past ys p (omega arith)) ∙ law.of_first _
+
+  has_bit-kept_past : (p : ℕ) → length ys ≤ p / 64 → has_bit (zip_longest f true false xs ys) p ≡ has_bit xs p
+  unfolding has_bit
+  has_bit-kept_past p past = ap (λ w. bit w (p % 64)) (get_or-kept_past f xs ys (p / 64) past)
+
+  -- where the rest stays, or there is none
+  pub IsJoined-kept : ((keep ≡ false) × (length (zip_longest f true false xs ys) ≤ length ys)) ⊎ (keep ≡ true) → IsJoined t xs (has_bit ys) (zip_longest f true false xs ys)
+  IsJoined-kept whole = record {
+    long = length-kept f xs ys;
+    bits = λ p h. ⊎_elim
+        (λ (lt : p / 64 < length ys). has_bit-both _ p refl h lt)
+        (λ (ge : length ys ≤ p / 64).
+        has_bit-kept_past p ge
+        ∙ sym (has_bit-only p ge ∙ ⊎_elim (λ e. absurd (omega (arith, e.1, length-kept f xs ys))) (λ e. ap (λ b. b && has_bit xs p) e) whole))
+        (cases_lt (p / 64) (length ys));
+  }
+
+  zero_at : (new : List ℕ) (p : ℕ) → get_or new (p / 64) 0 ≡ 0 → has_bit new p ≡ false
+  unfolding has_bit
+  zero_at new p e = ap (λ w. bit w (p % 64)) e ∙ ap (λ x. x == 1) (bit_at-zero (p % 64))
+
+  -- where the rest is made 0
+  pub IsJoined-zeroed : (zeros : List ℕ) → keep ≡ false → length ys < length (zip_longest f true false xs ys) → zeros ≡ replicate (length (zip_longest f true false xs ys) - length ys) 0
+      → IsJoined t xs (has_bit ys) (put_mid (length ys) (length (zip_longest f true false xs ys) - length ys) (zip_longest f true false xs ys) zeros)
+  IsJoined-zeroed zeros gone shorter are =
+      let m : List ℕ = zip_longest f true false xs ys in
+      let long : length m ≡ length xs = length-kept f xs ys in
+      let k : ℕ = length ys in
+      let rest : List ℕ = post_of k (length m - k) m in
+      let front : length (take k m) ≡ k = length-take-le k m (omega arith) in
+      let middle : length zeros ≡ length m - k = ap length are ∙ length-replicate (length m - k) 0 in
+      let none : length rest ≡ 0 = length-drop (length m - k) (drop k m) ∙ (let e = length-drop k m in omega arith) in
+      let low : (i : ℕ) → i < k → get_or (put_mid k (length m - k) m zeros) i 0 ≡ get_or m i 0 = λ j l. get_or_append_left (take k m) _ 0 j (omega arith) ∙ get_or-take k m j 0 l in
+      let high : (i : ℕ) → k ≤ i → i < length m → get_or (put_mid k (length m - k) m zeros) i 0 ≡ 0 = λ j l h.
+      get_or-append_right (take k m) _ k j 0 front l ∙ get_or_append_left zeros rest 0 (j - k) (omega arith) ∙ ap (λ z. get_or z (j - k) 0) are ∙ get_or-replicate (length m - k) (j - k) 0 0 (omega arith) in
+      record {
+        long = length-append (take k m) (zeros ++ rest) ∙ (let e = length-append zeros rest in omega arith);
+        bits = λ p h. ⊎_elim
+            (λ (lt : p / 64 < length ys). has_bit-both _ p (low _ lt) h lt)
+            (λ (ge : length ys ≤ p / 64). zero_at _ p (high (p / 64) ge (omega arith)) ∙ sym (has_bit-only p ge ∙ ap (λ b. b && has_bit xs p) gone))
+            (cases_lt (p / 64) (length ys));
+      }

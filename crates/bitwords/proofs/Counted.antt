@@ -1,0 +1,89 @@
+-- The positions of a range that pass, counted part by part.
+use Rattle.std.proofs.Common.{◌≡◌, ℕ, zero, suc, ◌+◌, ◌-◌, ◌*◌, ◌/◌, ◌^◌, ◌<◌, ◌≤◌, Bool, true, false, ◌&&◌, ◌==◌, nat_lt, List, [], ◌∷◌, length, get_or, take, drop, map, sum_by, refl, sym, ap, ◌∙◌, arith, ⊎_elim}
+use Rattle.std.specs.Int.Count.{ones}
+use Rattle.std.proofs.Math.Seq.{drop-cons}
+use Rattle.std.proofs.lemmas.Bool.{lt-ltb, eq-eqb, eqb-true}
+use Rattle.std.proofs.lemmas.Bool.Decides.{nat_tests}
+use Rattle.std.proofs.lemmas.List.Sums.{sum_by-cons}
+use Rattle.bitlanes.specs.Bits.{bit}
+use Rattle.bitlanes.specs.Ops.{IsWordOp}
+use Rattle.bitwords.specs.Cuts.{IsCut}
+use Rattle.bitwords.specs.Rows.{has_bit, in_range, count_below, bit_test}
+use Rattle.bitwords.specs.CountFacts.{count-zero, count-same, count-append, count-none, count-shorter, count-mono, count-in_range}
+use Rattle.bitwords.specs.RowFacts.{AreWords, has_bit-at}
+use Rattle.bitwords.proofs.Joined.{before_range, past_range}
+use Rattle.bitwords.proofs.Ones.{ones-bits}
+use Rattle.bitwords.proofs.Parts.{masked_whole}
+
+module _ {f : ℕ → ℕ → ℕ} {t : Bool → Bool → Bool} {keep take_right : Bool} (law : IsWordOp f t keep take_right) (drops : take_right ≡ false) (ws : List ℕ) (words : AreWords ws) where
+  -- a bit passes only where the range has its position
+  tested : (r y : Bool) → t r y ≡ (r && t true y)
+  tested true y = refl
+  tested false y = law.of_second y ∙ ap (λ b. b && y) drops
+
+  -- of a range within word k, which is joined with the mask of the range
+  pub count-word : (k mask start end : ℕ) → mask < 2 ^ 64 → 64 * k ≤ start → start ≤ end → end ≤ 64 * (k + 1) → ((i : ℕ) → bit mask i ≡ (nat_lt i 64 && in_range start end (64 * k + i)))
+      → ones (f mask (get_or ws k 0)) + count_below (bit_test (t true) ws) start ≡ count_below (bit_test (t true) ws) end
+  unfolding bit_test
+  count-word k mask start end fits from order to masked =
+      let c : ℕ → Bool = bit_test (t true) ws in
+      let d : ℕ → Bool = λ p. in_range start end p && c p in
+      let x : ℕ = f mask (get_or ws k 0) in
+      let bits : (i : ℕ) → i < 64 → bit x i ≡ d (64 * k + i) = λ i h.
+      law.by_bits mask (get_or ws k 0) i fits (words k)
+      ∙ (let a : bit mask i ≡ in_range start end (64 * k + i) = masked i ∙ ap (λ b. b && in_range start end (64 * k + i)) (lt-ltb i 64 h) in let b = sym (has_bit-at ws k i h) in λ j. t (a j) (b j))
+      ∙ tested _ _ in
+      let whole : 64 * (k + 1) ≡ 64 * k + 64 = omega arith in
+      omega (arith,
+      ones-bits 64 x (law.fits mask (get_or ws k 0) fits (words k)),
+      count-same (bit x) (λ i. d (64 * k + i)) 64 bits,
+      ap (count_below d) whole, count-append d (64 * k) 64,
+      count-none d (64 * k) (λ p h. ap (λ b. b && c p) (before_range start end p (omega arith))),
+      count-shorter d end (64 * (k + 1)) to (λ p h _. ap (λ b. b && c p) (past_range start end p h)),
+      count-in_range c start end order)
+
+  -- of word k, whole
+  pub count-whole : (k : ℕ) → ones (f (2 ^ 64 - 1) (get_or ws k 0)) + count_below (bit_test (t true) ws) (64 * k) ≡ count_below (bit_test (t true) ws) (64 * (k + 1))
+  count-whole k = count-word k (2 ^ 64 - 1) (64 * k) (64 * (k + 1)) (omega arith) (omega arith) (omega arith) (omega arith) (masked_whole k)
+
+  -- of n words from word k on
+  pub count-wholes : (n k : ℕ) → k + n ≤ length ws → sum_by ones (map (f (2 ^ 64 - 1)) (take n (drop k ws))) + count_below (bit_test (t true) ws) (64 * k) ≡ count_below (bit_test (t true) ws) (64 * (k + n))
+  count-wholes zero k h = let e : k + 0 ≡ k = omega arith in omega (arith, ap (λ j. count_below (bit_test (t true) ws) (64 * j)) e)
+  count-wholes (suc n) k h =
+      let e : k + suc n ≡ k + 1 + n = omega arith in
+      let s : suc k ≡ k + 1 = omega arith in
+      let first : drop k ws ≡ get_or ws k 0 ∷ drop (k + 1) ws = drop-cons ws k 0 (omega arith) ∙ ap (λ j. get_or ws k 0 ∷ drop j ws) s in
+      omega (arith,
+      ap (λ xs. sum_by ones (map (f (2 ^ 64 - 1)) (take (suc n) xs))) first,
+      sum_by-cons ones (f (2 ^ 64 - 1) (get_or ws k 0)) (map (f (2 ^ 64 - 1)) (take n (drop (k + 1) ws))),
+      count-whole k, count-wholes n (k + 1) (omega arith), ap (λ j. count_below (bit_test (t true) ws) (64 * j)) e)
+
+-- a count over the whole words of a range that is cut
+pub count-between : (start end low high : ℕ) → IsCut start end low high → (c : ℕ → Bool) (n : ℕ) → n + count_below c (64 * (low / 64)) ≡ count_below c (64 * (high / 64)) → n + count_below c low ≡ count_below c high
+count-between start end low high is c n e =
+    ⊎_elim
+    (λ past. let same : high ≡ low = omega (arith, past, is.middle, is.last) in omega (arith, e, ap (count_below c) same, ap (λ k. count_below c (64 * (k / 64))) same))
+    (λ edges. let a : 64 * (low / 64) ≡ low = omega (arith, edges.0) in let b : 64 * (high / 64) ≡ high = omega (arith, edges.1) in omega (arith, e, ap (count_below c) a, ap (count_below c) b))
+    is.whole
+
+-- ---- a count that stays over each of three parts
+
+-- over the whole words it stays exactly if it does between the cuts
+pub same-between : (start end low high : ℕ) → IsCut start end low high → (c : ℕ → Bool) → (count_below c (64 * (high / 64)) == count_below c (64 * (low / 64))) ≡ (count_below c high == count_below c low)
+same-between start end low high is c =
+    ⊎_elim
+    (λ past. let same : high ≡ low = omega (arith, past, is.middle, is.last) in eq-eqb _ _ (ap (λ k. count_below c (64 * (k / 64))) same) ∙ sym (eq-eqb _ _ (ap (count_below c) same)))
+    (λ edges. let a : 64 * (low / 64) ≡ low = omega (arith, edges.0) in let b : 64 * (high / 64) ≡ high = omega (arith, edges.1) in λ i. count_below c (b i) == count_below c (a i))
+    is.whole
+
+-- where it grows between two places, it grows over all
+pub grows_within : (c : ℕ → Bool) (start low high end : ℕ) → start ≤ low → low ≤ high → high ≤ end → (count_below c high == count_below c low) ≡ false → false ≡ (count_below c end == count_below c start)
+grows_within c start low high end p q r e =
+    grows (count_below c start) (count_below c low) (count_below c high) (count_below c end) (count-mono c start low p) (count-mono c low high q) (count-mono c high end r) e
+  where
+    grows : (a b x d : ℕ) → a ≤ b → b ≤ x → x ≤ d → (x == b) ≡ false → false ≡ (d == a)
+    grows a b x d p q r e = grind (arith, nat_tests)
+
+-- where it stays over the first two parts, the third one decides
+pub stays_upto : (a b x d : ℕ) → true ≡ (b == a) → true ≡ (x == b) → (d == x) ≡ (d == a)
+stays_upto a b x d p q = let e : b ≡ a = eqb-true b a (sym p) in let f : x ≡ b = eqb-true x b (sym q) in ap (λ n. d == n) (f ∙ e)

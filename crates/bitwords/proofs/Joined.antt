@@ -1,0 +1,70 @@
+-- Words joined with the positions of a range, part by part.
+use Rattle.std.proofs.Common.{◌≡◌, ◌≢◌, ℕ, ◌+◌, ◌*◌, ◌/◌, ◌%◌, ◌^◌, ◌<◌, ◌≤◌, Bool, true, false, ◌&&◌, nat_lt, nat_le, List, length, get_or, set, refl, sym, ap, ◌∙◌, arith, ⊎_elim}
+use Rattle.std.proofs.lemmas.Bool.{cases_lt, cases_eq, lt-ltb}
+use Rattle.std.proofs.lemmas.Bool.Decides.{nat_tests}
+use Rattle.std.proofs.lemmas.List.{get_or-set_same, get_or-set_other, length-set}
+use Rattle.bitlanes.specs.Bits.{bit}
+use Rattle.bitlanes.specs.Ops.{IsWordOp}
+use Rattle.bitwords.specs.Rows.{has_bit, in_range, IsJoined}
+use Rattle.bitwords.specs.RowFacts.{AreWords}
+
+pub before_range : (start end p : ℕ) → p < start → in_range start end p ≡ false
+before_range start end p h = grind (arith, nat_tests)
+
+pub past_range : (start end p : ℕ) → end ≤ p → in_range start end p ≡ false
+past_range start end p h = grind (arith, nat_tests)
+
+same_end : (start middle end p : ℕ) → p < middle → middle ≤ end → in_range start middle p ≡ in_range start end p
+same_end start middle end p h le = grind (arith, nat_tests)
+
+same_start : (start middle end p : ℕ) → middle ≤ p → start ≤ middle → in_range middle end p ≡ in_range start end p
+same_start start middle end p h le = grind (arith, nat_tests)
+
+outside_word : (start end k p : ℕ) → 64 * k ≤ start → end ≤ 64 * (k + 1) → p / 64 ≢ k → in_range start end p ≡ false
+outside_word start end k p from to other =
+    ⊎_elim (λ (lt : p < 64 * k). before_range start end p (omega arith)) (λ (ge : 64 * k ≤ p). past_range start end p (omega arith)) (cases_lt p (64 * k))
+
+-- an operation under which what lies outside the range stays
+module _ {f : ℕ → ℕ → ℕ} {t : Bool → Bool → Bool} {keep take : Bool} (law : IsWordOp f t keep take) (keeps : keep ≡ true) (old : List ℕ) where
+  stays : (x r : Bool) → r ≡ false → t x r ≡ x
+  stays x r out = ap (t x) out ∙ law.of_first x ∙ ap (λ b. b && x) keeps
+
+  -- where the range is empty nothing changes
+  pub IsJoined-none : (start end : ℕ) → end ≤ start → IsJoined t old (in_range start end) old
+  IsJoined-none start end none = record { long = refl; bits = λ p _. sym (stays (has_bit old p) _ (let out : in_range start end p ≡ false = grind (arith, nat_tests) in out)) }
+
+  -- two ranges, one behind the other
+  pub IsJoined-append : (mid new : List ℕ) (start middle end : ℕ) → start ≤ middle → middle ≤ end → IsJoined t old (in_range start middle) mid → IsJoined t mid (in_range middle end) new → IsJoined t old (in_range start end) new
+  IsJoined-append mid new start middle end p q first second = record {
+    long = second.long ∙ first.long;
+    bits = λ n h.
+        second.bits n (let e = first.long in omega arith)
+        ∙ ap (λ x. t x (in_range middle end n)) (first.bits n h)
+        ∙ ⊎_elim
+        (λ (lt : n < middle). stays _ _ (before_range middle end n lt) ∙ ap (t (has_bit old n)) (same_end start middle end n lt q))
+        (λ (ge : middle ≤ n). ap (λ x. t x (in_range middle end n)) (stays _ _ (past_range start middle n ge)) ∙ ap (t (has_bit old n)) (same_start start middle end n ge p))
+        (cases_lt n middle);
+  }
+
+  -- a range within word k, which is joined with the mask of the range
+  pub IsJoined-word : AreWords old → (k mask start end : ℕ) → k < length old → mask < 2 ^ 64 → 64 * k ≤ start → end ≤ 64 * (k + 1) → ((i : ℕ) → bit mask i ≡ (nat_lt i 64 && in_range start end (64 * k + i))) → IsJoined t old (in_range start end) (set old k (f (get_or old k 0) mask))
+  unfolding has_bit
+  IsJoined-word words k mask start end inside fits from to masked = record {
+    long = length-set old k _;
+    bits = λ p _. ⊎_elim
+        (λ (at : p / 64 ≡ k).
+        let place : 64 * k + p % 64 ≡ p = omega arith in
+        ap (λ j. bit (get_or (set old k (f (get_or old k 0) mask)) j 0) (p % 64)) at
+        ∙ ap (λ w. bit w (p % 64)) (get_or-set_same old k (f (get_or old k 0) mask) 0 inside)
+        ∙ law.by_bits (get_or old k 0) mask (p % 64) (words k) fits
+        ∙ (let a : bit (get_or old k 0) (p % 64) ≡ has_bit old p = ap (λ j. bit (get_or old j 0) (p % 64)) (sym at) in let b = masked (p % 64) in λ i. t (a i) (b i))
+        ∙ ap (t (has_bit old p)) (ap (λ b. b && in_range start end (64 * k + p % 64)) (lt-ltb (p % 64) 64 (omega arith)) ∙ ap (in_range start end) place))
+        (λ (other : p / 64 ≢ k).
+        ap (λ w. bit w (p % 64)) (get_or-set_other old k (p / 64) (f (get_or old k 0) mask) 0 other)
+        ∙ sym (stays (has_bit old p) _ (outside_word start end k p from to other)))
+        (cases_eq (p / 64) k);
+  }
+
+-- tests that agree join alike
+pub IsJoined-same : {t : Bool → Bool → Bool} (old new : List ℕ) (c d : ℕ → Bool) → ((p : ℕ) → c p ≡ d p) → IsJoined t old c new → IsJoined t old d new
+IsJoined-same {t} old new c d same done = record { long = done.long; bits = λ p h. done.bits p h ∙ ap (t (has_bit old p)) (same p) }

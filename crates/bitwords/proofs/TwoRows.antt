@@ -1,0 +1,100 @@
+-- Two rows of words, joined to the end of the longer: their bits, their ones, and whether all words are 0.
+use Rattle.std.proofs.Common.{◌≡◌, ℕ, zero, suc, ◌+◌, ◌*◌, ◌/◌, ◌%◌, ◌^◌, ◌<◌, ◌≤◌, lit<, max, Bool, true, false, ◌&&◌, ◌==◌, List, [], ◌∷◌, ◌++◌, drop, length, get_or, sum_by, refl, sym, ap, ◌∙◌, arith}
+use Rattle.std.specs.Bool.{if◌then◌else◌}
+use Rattle.std.specs.Int.Count.{ones}
+use Rattle.std.specs.List.{list_all}
+use Rattle.std.specs.Simd.Lanes.{zip2}
+use Rattle.std.proofs.lemmas.List.{append-nil}
+use Rattle.std.proofs.lemmas.List.Folds.{list_all-append}
+use Rattle.std.proofs.lemmas.List.Sums.{sum_by-append}
+use Rattle.bitlanes.specs.Bits.{bit}
+use Rattle.bitlanes.specs.Ops.{IsWordOp}
+use Rattle.bitlanes.specs.Words.{zip_longest}
+use Rattle.bitwords.specs.Rows.{has_bit, count_below, bits_test}
+use Rattle.bitwords.specs.CountFacts.{count-same, count-shorter}
+use Rattle.bitwords.specs.RowFacts.{AreWords, bit-zero, has_bit-past}
+use Rattle.bitwords.proofs.Ones.{row-ones}
+
+drop-nil : (n : ℕ) → drop {A = ℕ} n [] ≡ []
+drop-nil zero = refl
+drop-nil (suc n) = refl
+
+-- the joined words, and then the rest of the longer row
+zip_longest-parts : (f : ℕ → ℕ → ℕ) (keep take : Bool) (xs ys : List ℕ) → zip_longest f keep take xs ys ≡ zip2 f xs ys ++ ((if keep then drop (length ys) xs else []) ++ (if take then drop (length xs) ys else []))
+zip_longest-parts f true take [] ys = sym (ap (λ t. t ++ (if take then ys else [])) (drop-nil (length ys)))
+zip_longest-parts f false take [] ys = refl
+zip_longest-parts f true true (x ∷ xs) [] = sym (append-nil (x ∷ xs))
+zip_longest-parts f true false (x ∷ xs) [] = sym (append-nil (x ∷ xs))
+zip_longest-parts f false true (x ∷ xs) [] = refl
+zip_longest-parts f false false (x ∷ xs) [] = refl
+zip_longest-parts f keep take (x ∷ xs) (y ∷ ys) = ap (λ t. f x y ∷ t) (zip_longest-parts f keep take xs ys)
+
+-- where the longer's rest is kept, its sum is added
+pub sum_longest : (h : ℕ → ℕ) (f : ℕ → ℕ → ℕ) (keep take : Bool) (xs ys : List ℕ) → sum_by h (zip_longest f keep take xs ys) ≡ sum_by h (zip2 f xs ys) + ((if keep then sum_by h (drop (length ys) xs) else 0) + (if take then sum_by h (drop (length xs) ys) else 0))
+sum_longest h f keep take xs ys =
+    ap (sum_by h) (zip_longest-parts f keep take xs ys)
+    ∙ sum_by-append h (zip2 f xs ys) _
+    ∙ ap (λ n. sum_by h (zip2 f xs ys) + n) (
+    sum_by-append h (if keep then drop (length ys) xs else []) _
+    ∙ (let a = sum_if keep (drop (length ys) xs) in let b = sum_if take (drop (length xs) ys) in λ i. a i + b i))
+  where
+    sum_if : (b : Bool) (zs : List ℕ) → sum_by h (if b then zs else []) ≡ (if b then sum_by h zs else 0)
+    sum_if true zs = refl
+    sum_if false zs = refl
+
+all_if : (p : ℕ → Bool) (b : Bool) (zs : List ℕ) → list_all p (if b then zs else []) ≡ (if b then list_all p zs else true)
+all_if p true zs = refl
+all_if p false zs = refl
+
+pub all_longest : (p : ℕ → Bool) (f : ℕ → ℕ → ℕ) (keep take : Bool) (xs ys : List ℕ) → list_all p (zip_longest f keep take xs ys) ≡ (list_all p (zip2 f xs ys) && ((if keep then list_all p (drop (length ys) xs) else true) && (if take then list_all p (drop (length xs) ys) else true)))
+all_longest p f keep take xs ys =
+    ap (list_all p) (zip_longest-parts f keep take xs ys)
+    ∙ list_all-append p (zip2 f xs ys) _
+    ∙ ap (λ b. list_all p (zip2 f xs ys) && b) (
+    list_all-append p (if keep then drop (length ys) xs else []) _
+    ∙ (let a = all_if p keep (drop (length ys) xs) in let b = all_if p take (drop (length xs) ys) in λ i. a i && b i))
+
+-- no longer than the longer row
+longest-le : (f : ℕ → ℕ → ℕ) (keep take : Bool) (xs ys : List ℕ) → length (zip_longest f keep take xs ys) ≤ max (length xs) (length ys)
+longest-le f keep true [] ys = omega arith
+longest-le f keep false [] ys = omega arith
+longest-le f true take (x ∷ xs) [] = omega arith
+longest-le f false take (x ∷ xs) [] = omega arith
+longest-le f keep take (x ∷ xs) (y ∷ ys) = let e = longest-le f keep take xs ys in omega arith
+
+words_if : (b : Bool) (zs : List ℕ) → AreWords zs → (k : ℕ) → get_or (if b then zs else []) k 0 < 2 ^ 64
+words_if true zs words k = words k
+words_if false zs words k = lit< tt
+
+module _ {f : ℕ → ℕ → ℕ} {t : Bool → Bool → Bool} {keep take : Bool} (law : IsWordOp f t keep take) where
+  bit-longest : (xs ys : List ℕ) → AreWords xs → AreWords ys → (k i : ℕ) → bit (get_or (zip_longest f keep take xs ys) k 0) i ≡ t (bit (get_or xs k 0) i) (bit (get_or ys k 0) i)
+  bit-longest [] ys p q k i = second take refl ∙ sym (ap (λ b. t b (bit (get_or ys k 0) i)) (bit-zero i) ∙ law.of_second _)
+    where
+      second : (b : Bool) → b ≡ take → bit (get_or (if b then ys else []) k 0) i ≡ (b && bit (get_or ys k 0) i)
+      second true e = refl
+      second false e = bit-zero i
+  bit-longest (x ∷ xs) [] p q k i = first keep ∙ sym (ap (t (bit (get_or (x ∷ xs) k 0) i)) (bit-zero i) ∙ law.of_first _)
+    where
+      first : (b : Bool) → bit (get_or (if b then x ∷ xs else []) k 0) i ≡ (b && bit (get_or (x ∷ xs) k 0) i)
+      first true = refl
+      first false = bit-zero i
+  bit-longest (x ∷ xs) (y ∷ ys) p q zero i = law.by_bits x y i (p 0) (q 0)
+  bit-longest (x ∷ xs) (y ∷ ys) p q (suc k) i = bit-longest xs ys (λ j. p (suc j)) (λ j. q (suc j)) k i
+
+  AreWords-longest : (xs ys : List ℕ) → AreWords xs → AreWords ys → AreWords (zip_longest f keep take xs ys)
+  AreWords-longest [] ys p q k = words_if take ys q k
+  AreWords-longest (x ∷ xs) [] p q k = words_if keep (x ∷ xs) p k
+  AreWords-longest (x ∷ xs) (y ∷ ys) p q zero = law.fits x y (p 0) (q 0)
+  AreWords-longest (x ∷ xs) (y ∷ ys) p q (suc k) = AreWords-longest xs ys (λ j. p (suc j)) (λ j. q (suc j)) k
+
+  has_bit-longest : (xs ys : List ℕ) → AreWords xs → AreWords ys → (p : ℕ) → has_bit (zip_longest f keep take xs ys) p ≡ bits_test t xs ys p
+  unfolding has_bit bits_test
+  has_bit-longest xs ys words_xs words_ys p = bit-longest xs ys words_xs words_ys (p / 64) (p % 64)
+
+  -- the ones of the joined words are the positions that pass
+  pub longest-ones : (xs ys : List ℕ) → AreWords xs → AreWords ys → sum_by ones (zip_longest f keep take xs ys) ≡ count_below (bits_test t xs ys) (64 * max (length xs) (length ys))
+  longest-ones xs ys words_xs words_ys =
+      let row : List ℕ = zip_longest f keep take xs ys in
+      row-ones row (AreWords-longest xs ys words_xs words_ys)
+      ∙ sym (count-shorter (has_bit row) (64 * length row) (64 * max (length xs) (length ys)) (omega (arith, longest-le f keep take xs ys)) (λ p past _. has_bit-past row p past))
+      ∙ count-same (has_bit row) (bits_test t xs ys) (64 * max (length xs) (length ys)) (λ p _. has_bit-longest xs ys words_xs words_ys p)

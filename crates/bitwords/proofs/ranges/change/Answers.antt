@@ -1,0 +1,14 @@
+use Rattle.std.proofs.Common.{◌≡◌, ◌+◌, ◌∙◌, ℕ, ap, arith}
+use Rattle.bitwords.proofs.Joined.{IsJoined-append, IsJoined-same}
+use Rattle.bitwords.proofs.Parts.{parts_words, between}
+use Rattle.bitwords.proofs.ranges.change.Goals as goal
+
+pub returns-clause-bits : goal.returns-clause-bits
+returns-clause-bits g c =
+    let cut = c.cut-low.ensures in
+    let middle = IsJoined-same _ _ _ _ (between _ _ _ _ cut) c.change_whole.ensures.bits in
+    let upto = IsJoined-append g.met.O.WordOp.laws c.requires.keeps _ _ _ _ _ _ cut.first cut.middle c.change_part.ensures.bits middle in
+    IsJoined-append g.met.O.WordOp.laws c.requires.keeps _ _ _ _ _ _ (omega (arith, cut.first, cut.middle)) cut.last upto c.change_part-2.ensures.bits
+
+pub returns-clause-cost : goal.returns-clause-cost
+returns-clause-cost g c = omega (arith, c.change_part.ensures.cost, c.change_whole.ensures.cost, c.change_part-2.ensures.cost, parts_words _ _ _ _ c.cut-low.ensures)

@@ -1,0 +1,17 @@
+use Rattle.std.proofs.Common.{◌<◌, ◌*◌, ◌^◌, ◌+◌, ◌-◌, ℕ, get_or, rules, arith}
+use Rattle.bitwords.proofs.Joined.{IsJoined-none, IsJoined-append, IsJoined-word}
+use Rattle.bitwords.proofs.Parts.{masked_whole}
+use Rattle.bitwords.proofs.ranges.change_whole.Goals as goal
+
+pub loop-k-init : goal.loop-k-init
+loop-k-init g c = record { bits = IsJoined-none g.met.O.WordOp.laws c.requires.keeps _ _ _ (omega arith); cost = omega arith }
+
+pub loop-k-preserved : goal.loop-k-preserved
+loop-k-preserved g c =
+    let k : ℕ = c.loop-k.k in
+    let fit : (j : ℕ) → get_or c.loop-k.words j 0 < 2 ^ 64 = λ j. search rules in
+    let word = IsJoined-word g.met.O.WordOp.laws c.requires.keeps c.loop-k.words fit k (2 ^ 64 - 1) (64 * k) (64 * (k + 1)) (omega arith) (omega arith) (omega arith) (omega arith) (masked_whole k) in
+    record {
+      bits = IsJoined-append g.met.O.WordOp.laws c.requires.keeps _ _ _ (64 * c.args.first) (64 * k) (64 * (k + 1)) (omega arith) (omega arith) c.loop-k.invariant.bits (rw c.word.ensures word);
+      cost = omega arith;
+    }

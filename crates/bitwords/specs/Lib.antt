@@ -1,0 +1,5 @@
+pub mod Rows
+pub mod Steps
+pub mod CountFacts
+pub mod RowFacts
+pub mod Cuts

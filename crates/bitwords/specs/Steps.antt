@@ -1,0 +1,24 @@
+-- The steps of a call. A step is one lane of four words, or one word.
+use Rattle.std.specs.Prelude.{ℕ, ◌+◌, ◌-◌, ◌/◌, min, Bool, nat_lt, if◌then◌else◌}
+use Rattle.std.specs.Int.{div_ceil}
+use Rattle.bitlanes.specs.Words.{lane_steps}
+
+-- how many words hold a position of the range
+abbrev pub range_words : ℕ → ℕ → ℕ
+range_words start end = if nat_lt start end then div_ceil end 64 - start / 64 else 0
+
+-- how many words hold positions of the range alone
+abbrev pub whole_words : ℕ → ℕ → ℕ
+whole_words start end = end / 64 - div_ceil start 64
+
+-- to search the words of a range: by lanes over those that are wholly in it, and one by one over the others
+abbrev pub search_steps : ℕ → ℕ → ℕ
+search_steps start end = lane_steps (whole_words start end) + (range_words start end - whole_words start end)
+
+-- to join n words with m others: over those that both have, and over the rest of the first where it is cleared
+abbrev pub join_steps : Bool → ℕ → ℕ → ℕ
+join_steps keep n m = lane_steps (min n m) + (if keep then 0 else lane_steps (n - m))
+
+-- to go through n and m words: over those that both have, and over the rest of each where it counts
+abbrev pub both_steps : Bool → Bool → ℕ → ℕ → ℕ
+both_steps keep take n m = lane_steps (min n m) + (if keep then lane_steps (n - m) else 0) + (if take then lane_steps (m - n) else 0)

@@ -1,0 +1,110 @@
+//! Two rows of words, of any two lengths: joins, counts and tests. Past its words a row has no position.
+//!
+//! The words that both rows have are joined by a kernel of `bitlanes`, by lanes of four; the rest of the longer row is
+//! cleared, counted or left, as the operation says.
+ghost use Rattle.std.specs.Prelude.{◌≡◌, ◌<◌, ◌≤◌, ◌+◌, ◌-◌, ◌*◌, ◌^◌, ◌==◌, IsTrue, IfOk, true, length, max, drop, sum_by, if◌then◌else◌};
+ghost use Rattle.std.specs.Int.RustNames.{count_ones};
+ghost use Rattle.std.specs.List.{list_all};
+ghost use Rattle.bitlanes.specs.Words.{zip_longest, lane_steps};
+ghost use Rattle.bitwords.specs.Rows.{has_bit, IsJoined, count_below, bits_test};
+ghost use Rattle.bitwords.specs.Steps.{join_steps, both_steps};
+
+use bitlanes::ops::WordOp;
+use bitlanes::{Block, Steps, lanes};
+
+/// Joins each position of `words` with that of `other` by `O`.
+///
+/// With `m` words that both have and `t` that only `words` has it takes exactly `m / 4 + m % 4` steps, and
+/// `t / 4 + t % 4` more where the rest is cleared.
+#[inline(always)]
+pub fn join<O: WordOp>(words: &mut [Block], other: &[Block], steps: &mut Steps)
+    ensures bits { IsJoined O.truth words.old (has_bit other.now) words.new }
+    ensures cost { steps.new ≡ steps.old + join_steps O.KEEP (length words.old) (length other.now) }
+{
+    lanes::apply::<O>(words, other, steps);
+    let common = other.len();
+    if !O::KEEP && common < words.len() {
+        lanes::zero(&mut words[common..], steps);
+    }
+}
+
+/// How many positions are set in `a` joined with `b` by `O`. It asks that this number fits `usize`.
+///
+/// With `m` words that both have and `t` that only the longer has it takes exactly `m / 4 + m % 4` steps, and
+/// `t / 4 + t % 4` more where these count.
+#[inline(always)]
+pub fn count<O: WordOp>(a: &[Block], b: &[Block], steps: &mut Steps) -> usize
+    requires fits { count_below (bits_test O.truth a.now b.now) (64 * max (length a.now) (length b.now)) < 2 ^ 64 }
+    ensures count { result ≡ count_below (bits_test O.truth a.now b.now) (64 * max (length a.now) (length b.now)) }
+    ensures cost { steps.new ≡ steps.old + both_steps O.KEEP O.TAKE (length a.now) (length b.now) }
+{
+    count_words::<O>(a, b, steps)
+}
+
+/// Whether `count` is 0, whether or not it fits `usize`.
+///
+/// It stops at the first lane or word that decides, so it takes at most the steps of `count`; where it answers `true` it
+/// takes exactly as many.
+#[inline(always)]
+pub fn none<O: WordOp>(a: &[Block], b: &[Block], steps: &mut Steps) -> bool
+    ensures none { result ≡ (count_below (bits_test O.truth a.now b.now) (64 * max (length a.now) (length b.now)) == 0) }
+    ensures cost { steps.new ≤ steps.old + both_steps O.KEEP O.TAKE (length a.now) (length b.now) }
+    ensures whole { IsTrue result → steps.new ≡ steps.old + both_steps O.KEEP O.TAKE (length a.now) (length b.now) }
+{
+    none_words::<O>(a, b, steps)
+}
+
+// How many bits are set from word `from` on, where these words count.
+#[inline(always)]
+fn count_rest(words: &[Block], from: usize, counts: bool, steps: &mut Steps) -> usize
+    requires { (if counts then sum_by count_ones (drop from words.now) else 0) < 2 ^ 64 }
+    ensures ones { result ≡ (if counts then sum_by count_ones (drop from words.now) else 0) }
+    ensures cost { steps.new ≡ steps.old + (if counts then lane_steps (length words.now - from) else 0) }
+{
+    if counts && from < words.len() {
+        lanes::count_one(&words[from..], steps)
+    } else {
+        0
+    }
+}
+
+// How many bits are set in the joined words, to the end of the longer row.
+#[inline(always)]
+#[tactic(auto, using(crate::proofs::TwoRows::sum_longest))]
+fn count_words<O: WordOp>(a: &[Block], b: &[Block], steps: &mut Steps) -> usize
+    requires { sum_by count_ones (zip_longest O.joined O.KEEP O.TAKE a.now b.now) < 2 ^ 64 }
+    ensures ones { result ≡ sum_by count_ones (zip_longest O.joined O.KEEP O.TAKE a.now b.now) }
+    ensures cost { steps.new ≡ steps.old + both_steps O.KEEP O.TAKE (length a.now) (length b.now) }
+{
+    let common = lanes::count::<O>(a, b, steps);
+    let kept = count_rest(a, b.len(), O::KEEP, steps);
+    let taken = count_rest(b, a.len(), O::TAKE, steps);
+    common + kept + taken
+}
+
+// Whether no bit is set from word `from` on, where these words count.
+#[inline(always)]
+fn none_rest(words: &[Block], from: usize, counts: bool, steps: &mut Steps) -> bool
+    ensures zero { result ≡ (if counts then list_all (λ word. word == 0) (drop from words.now) else true) }
+    ensures cost { steps.new ≤ steps.old + (if counts then lane_steps (length words.now - from) else 0) }
+    ensures whole { IsTrue result → steps.new ≡ steps.old + (if counts then lane_steps (length words.now - from) else 0) }
+{
+    if counts && from < words.len() {
+        lanes::none_one(&words[from..], steps)
+    } else {
+        true
+    }
+}
+
+// Whether no bit is set in the joined words, to the end of the longer row.
+#[inline(always)]
+#[tactic(auto, using(crate::proofs::TwoRows::all_longest))]
+fn none_words<O: WordOp>(a: &[Block], b: &[Block], steps: &mut Steps) -> bool
+    ensures zero { result ≡ list_all (λ word. word == 0) (zip_longest O.joined O.KEEP O.TAKE a.now b.now) }
+    ensures cost { steps.new ≤ steps.old + both_steps O.KEEP O.TAKE (length a.now) (length b.now) }
+    ensures whole { IsTrue result → steps.new ≡ steps.old + both_steps O.KEEP O.TAKE (length a.now) (length b.now) }
+{
+    lanes::none::<O>(a, b, steps)
+        && none_rest(a, b.len(), O::KEEP, steps)
+        && none_rest(b, a.len(), O::TAKE, steps)
+}

@@ -1,0 +1,202 @@
+//! A range of positions of one row: changes, counts and tests.
+//!
+//! A range is cut at the edges of words into three parts: positions of its first word, whole words, and positions of its
+//! last word. Each part may be empty. So no word but the first and the last is masked.
+ghost use Rattle.std.specs.Prelude.{◌≡◌, ℕ, ◌<◌, ◌≤◌, ◌+◌, ◌-◌, ◌*◌, ◌/◌, ◌^◌, length, ◌==◌, IsTrue, true, false, ◌&&◌, nat_lt};
+ghost use Rattle.bitlanes.specs.Bits.{bit};
+ghost use Rattle.bitlanes.specs.Words.{lane_steps};
+ghost use Rattle.bitwords.specs.Cuts.{IsCut};
+ghost use Rattle.bitwords.specs.Rows.{in_range, IsJoined, count_below, bit_test};
+ghost use Rattle.bitwords.specs.Steps.{range_words, search_steps};
+
+use bitlanes::ops::WordOp;
+use bitlanes::word::{BITS, Block, stretch};
+use bitlanes::{Steps, lanes};
+
+/// Joins each position of the range, as one that is set, to the words by `O`; the others stay.
+///
+/// It takes exactly one step for each word that holds a position of the range.
+#[inline(always)]
+pub fn change<O: WordOp>(words: &mut [Block], start: usize, end: usize, steps: &mut Steps)
+    requires keeps { O.KEEP ≡ true }
+    requires order { start ≤ end }
+    requires within { end ≤ 64 * length words.old }
+    ensures bits { IsJoined O.truth words.old (in_range start end) words.new }
+    ensures cost { steps.new ≡ steps.old + range_words start end }
+{
+    let (low, high) = cut(start, end);
+    change_part::<O>(words, start, low, steps);
+    change_whole::<O>(words, low / BITS, high / BITS, steps);
+    change_part::<O>(words, high, end, steps);
+}
+
+/// How many positions of the range, each as one that is set joined by `O` with its bit in the words, are set then.
+///
+/// It takes exactly one step for each word that holds a position of the range.
+#[inline(always)]
+pub fn count<O: WordOp>(words: &[Block], start: usize, end: usize, steps: &mut Steps) -> usize
+    requires drops { O.TAKE ≡ false }
+    requires order { start ≤ end }
+    requires within { end ≤ 64 * length words.now }
+    ensures count { result + count_below (bit_test (O.truth true) words.now) start
+        ≡ count_below (bit_test (O.truth true) words.now) end }
+    ensures cost { steps.new ≡ steps.old + range_words start end }
+{
+    let (low, high) = cut(start, end);
+    let first = count_part::<O>(words, start, low, steps);
+    let middle = count_whole::<O>(words, low / BITS, high / BITS, steps);
+    let last = count_part::<O>(words, high, end, steps);
+    first + middle + last
+}
+
+/// Whether `count` is 0.
+///
+/// It stops at the first lane or word that decides, so it takes at most `search_steps`: one step for each lane of four of
+/// the words that are wholly in the range, and one for each other word that holds a position of it. Where it answers
+/// `true` it takes exactly as many.
+#[inline(always)]
+pub fn none<O: WordOp>(words: &[Block], start: usize, end: usize, steps: &mut Steps) -> bool
+    requires drops { O.TAKE ≡ false }
+    requires order { start ≤ end }
+    requires within { end ≤ 64 * length words.now }
+    ensures none { result ≡ (count_below (bit_test (O.truth true) words.now) end
+        == count_below (bit_test (O.truth true) words.now) start) }
+    ensures cost { steps.new ≤ steps.old + search_steps start end }
+    ensures whole { IsTrue result → steps.new ≡ steps.old + search_steps start end }
+{
+    let (low, high) = cut(start, end);
+    none_part::<O>(words, start, low, steps)
+        && none_whole::<O>(words, low / BITS, high / BITS, steps)
+        && none_part::<O>(words, high, end, steps)
+}
+
+// Where the whole words of the range begin and where they end. If it has none, both are the same place.
+#[inline(always)]
+fn cut(start: usize, end: usize) -> (usize, usize)
+    requires { start ≤ end }
+    ensures { IsCut start end result.0 result.1 }
+{
+    let low = start + (end - start).min((BITS - start % BITS) % BITS);
+    let high = end - (end - low).min(end % BITS);
+    (low, high)
+}
+
+// The bits of a word that stand for the positions of a range within it.
+#[inline(always)]
+#[tactic(auto, using(crate::proofs::Parts::masked))]
+fn mask(start: usize, end: usize) -> Block
+    requires some { start < end }
+    requires one_word { end ≤ 64 * (start / 64) + 64 }
+    ensures { (i : ℕ) → bit result i ≡ (nat_lt i 64 && in_range start end (64 * (start / 64) + i)) }
+{
+    let low = start % BITS;
+    stretch(low, low + (end - start))
+}
+
+// `change`, for a range within one word.
+#[inline(always)]
+fn change_part<O: WordOp>(words: &mut [Block], start: usize, end: usize, steps: &mut Steps)
+    requires keeps { O.KEEP ≡ true }
+    requires order { start ≤ end }
+    requires one_word { end ≤ 64 * (start / 64) + 64 }
+    requires within { end ≤ 64 * length words.old }
+    ensures bits { IsJoined O.truth words.old (in_range start end) words.new }
+    ensures cost { steps.new ≡ steps.old + range_words start end }
+{
+    if start < end {
+        steps.tick();
+        let at = start / BITS;
+        words[at] = O::word(words[at], mask(start, end));
+    }
+}
+
+// `change`, for the words from `first` up to and without `last`.
+#[inline(always)]
+fn change_whole<O: WordOp>(words: &mut [Block], first: usize, last: usize, steps: &mut Steps)
+    requires keeps { O.KEEP ≡ true }
+    requires order { first ≤ last }
+    requires within { last ≤ length words.old }
+    ensures bits { IsJoined O.truth words.old (in_range (64 * first) (64 * last)) words.new }
+    ensures cost { steps.new ≡ steps.old + (last - first) }
+{
+    for k in first..last {
+        steps.tick();
+        words[k] = O::word(words[k], Block::MAX);
+    }
+}
+
+// `count`, for a range within one word.
+#[inline(always)]
+fn count_part<O: WordOp>(words: &[Block], start: usize, end: usize, steps: &mut Steps) -> usize
+    requires drops { O.TAKE ≡ false }
+    requires order { start ≤ end }
+    requires one_word { end ≤ 64 * (start / 64) + 64 }
+    requires within { end ≤ 64 * length words.now }
+    ensures count { result + count_below (bit_test (O.truth true) words.now) start
+        ≡ count_below (bit_test (O.truth true) words.now) end }
+    ensures cost { steps.new ≡ steps.old + range_words start end }
+{
+    if start < end {
+        steps.tick();
+        O::word(mask(start, end), words[start / BITS]).count_ones() as usize
+    } else {
+        0
+    }
+}
+
+// `count`, for the words from `first` up to and without `last`.
+#[inline(always)]
+fn count_whole<O: WordOp>(
+    words: &[Block],
+    first: usize,
+    last: usize,
+    steps: &mut Steps,
+) -> usize
+    requires drops { O.TAKE ≡ false }
+    requires order { first ≤ last }
+    requires within { last ≤ length words.now }
+    requires fits { 64 * last < 2 ^ 64 }
+    ensures count { result + count_below (bit_test (O.truth true) words.now) (64 * first)
+        ≡ count_below (bit_test (O.truth true) words.now) (64 * last) }
+    ensures cost { steps.new ≡ steps.old + (last - first) }
+{
+    let mut total = 0;
+    for k in first..last {
+        steps.tick();
+        total += O::word(Block::MAX, words[k]).count_ones() as usize;
+    }
+    total
+}
+
+// `none`, for a range within one word.
+#[inline(always)]
+fn none_part<O: WordOp>(words: &[Block], start: usize, end: usize, steps: &mut Steps) -> bool
+    requires drops { O.TAKE ≡ false }
+    requires order { start ≤ end }
+    requires one_word { end ≤ 64 * (start / 64) + 64 }
+    requires within { end ≤ 64 * length words.now }
+    ensures none { result ≡ (count_below (bit_test (O.truth true) words.now) end
+        == count_below (bit_test (O.truth true) words.now) start) }
+    ensures cost { steps.new ≡ steps.old + range_words start end }
+{
+    if start < end {
+        steps.tick();
+        O::word(mask(start, end), words[start / BITS]) == 0
+    } else {
+        true
+    }
+}
+
+// `none`, for the words from `first` up to and without `last`.
+#[inline(always)]
+fn none_whole<O: WordOp>(words: &[Block], first: usize, last: usize, steps: &mut Steps) -> bool
+    requires drops { O.TAKE ≡ false }
+    requires order { first ≤ last }
+    requires within { last ≤ length words.now }
+    ensures none { result ≡ (count_below (bit_test (O.truth true) words.now) (64 * last)
+        == count_below (bit_test (O.truth true) words.now) (64 * first)) }
+    ensures cost { steps.new ≤ steps.old + lane_steps (last - first) }
+    ensures whole { IsTrue result → steps.new ≡ steps.old + lane_steps (last - first) }
+{
+    lanes::none_masked::<O>(Block::MAX, &words[first..last], steps)
+}
