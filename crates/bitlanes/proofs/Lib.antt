@@ -1,4 +1,5 @@
 pub mod Folding
 pub mod Kept
+pub mod LowestBit
 pub mod Stretches
 pub mod Zipping

@@ -37,6 +37,15 @@ pub fn clear_bit(word: Block, bit: usize) -> Block
     word & !(1 << bit)
 }
 
+/// The word with its lowest bit that is set clear, and each other bit as it was. The word may not be 0.
+#[inline(always)]
+pub fn clear_lowest_bit(word: Block) -> Block
+    requires { word ≢ 0 }
+    ensures { (bit : ℕ) → IsLowestBit word bit → ClearsBit word result bit }
+{
+    word & (word - 1)
+}
+
 /// The word whose lowest `count` bits are set, and no other. It asks at most 64.
 #[inline(always)]
 #[tactic(auto, using(crate::proofs::Stretches::some_ones, crate::proofs::Stretches::all_ones))]

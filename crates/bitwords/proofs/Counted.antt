@@ -10,8 +10,7 @@ use Rattle.bitlanes.specs.Ops.{IsWordOp}
 use Rattle.bitwords.specs.Cuts.{IsCut}
 use Rattle.bitwords.specs.Rows.{has_bit, in_range, count_below, bit_test}
 use Rattle.bitwords.specs.CountFacts.{count-zero, count-same, count-append, count-none, count-shorter, count-mono, count-in_range}
-use Rattle.bitwords.specs.RowFacts.{AreWords, has_bit-at}
-use Rattle.bitwords.proofs.Joined.{before_range, past_range}
+use Rattle.bitwords.specs.RowFacts.{AreWords, has_bit-at, before_range, past_range}
 use Rattle.bitwords.proofs.Ones.{ones-bits}
 use Rattle.bitwords.proofs.Parts.{masked_whole}
 

@@ -6,13 +6,7 @@ use Rattle.std.proofs.lemmas.List.{get_or-set_same, get_or-set_other, length-set
 use Rattle.bitlanes.specs.Bits.{bit}
 use Rattle.bitlanes.specs.Ops.{IsWordOp}
 use Rattle.bitwords.specs.Rows.{has_bit, in_range, IsJoined}
-use Rattle.bitwords.specs.RowFacts.{AreWords}
-
-pub before_range : (start end p : ℕ) → p < start → in_range start end p ≡ false
-before_range start end p h = grind (arith, nat_tests)
-
-pub past_range : (start end p : ℕ) → end ≤ p → in_range start end p ≡ false
-past_range start end p h = grind (arith, nat_tests)
+use Rattle.bitwords.specs.RowFacts.{AreWords, before_range, past_range}
 
 same_end : (start middle end p : ℕ) → p < middle → middle ≤ end → in_range start middle p ≡ in_range start end p
 same_end start middle end p h le = grind (arith, nat_tests)

@@ -1,9 +1,10 @@
--- The bits of a row of words, for those who see words as positions.
+-- The bits of a row of words and the positions of a range, for those who see words as positions.
 use Rattle.std.proofs.Common.{◌≡◌, ℕ, ◌+◌, ◌*◌, ◌/◌, ◌%◌, ◌^◌, ◌<◌, ◌≤◌, Bool, false, ◌==◌, List, length, get_or, ap, ◌∙◌, arith}
+use Rattle.std.proofs.lemmas.Bool.Decides.{nat_tests}
 use Rattle.std.proofs.lemmas.List.{get_or_past}
 use Rattle.std.proofs.lemmas.Nat.Bits.{bit_at-zero}
 use Rattle.bitlanes.specs.Bits.{bit}
-use Rattle.bitwords.specs.Rows.{has_bit}
+use Rattle.bitwords.specs.Rows.{has_bit, in_range}
 
 -- each number is a word
 abbrev pub AreWords : List ℕ → Type 0
@@ -29,3 +30,11 @@ has_bit-at ws k i h =
 pub has_bit-same : (xs ys : List ℕ) → ((k : ℕ) → get_or xs k 0 ≡ get_or ys k 0) → (p : ℕ) → has_bit xs p ≡ has_bit ys p
 unfolding has_bit
 has_bit-same xs ys same p = ap (λ w. bit w (p % 64)) (same (p / 64))
+
+-- ---- ranges
+
+pub before_range : (start end p : ℕ) → p < start → in_range start end p ≡ false
+before_range start end p h = grind (arith, nat_tests)
+
+pub past_range : (start end p : ℕ) → end ≤ p → in_range start end p ≡ false
+past_range start end p h = grind (arith, nat_tests)

@@ -5,13 +5,17 @@ use Rattle.std.proofs.lemmas.Bool.{cases_eq, eq-eqb, ne_eqb}
 use Rattle.std.proofs.lemmas.List.{get_or-set_same, get_or-set_other, length-set, get_or_default}
 use Rattle.std.proofs.lemmas.Nat.{one_shl, pow_pos}
 use Rattle.std.proofs.lemmas.Nat.Bits.{bit_at_set_same, bit_at_set_other, bit_at_clear_same, bit_at_clear_other, bit_at_xor, bit_at-pow_same, bit_at-pow_other, bit_at-lt, bit_at-zero, and_pow}
-use Rattle.fixedbitset.specs.Bits.{Bits, contains, of, has_bit, insert, remove, set_bit, toggle, IsClean, empty}
-use Rattle.fixedbitset.specs.BitsFacts.{same_bits, length-of, length-set_bit, contains-set_bit, length-empty, contains-empty, contains-past}
-use Rattle.fixedbitset.proofs.Words.{digit, contains-of_clean, viewed_length}
+use Rattle.bitwords.specs.CountFacts.{indicator}
+use Rattle.bitwords.specs.Rows.{has_bit}
+use Rattle.fixedbitset.specs.Bits.{Bits, contains, insert, remove, set_bit, toggle, empty}
+use Rattle.fixedbitset.specs.BitsFacts.{same_bits, length-set_bit, contains-set_bit, length-empty, contains-empty, contains-past}
+use Rattle.fixedbitset.specs.Stored.{of_words, IsClean}
+use Rattle.fixedbitset.proofs.Values.{length-of_words}
+use Rattle.fixedbitset.proofs.Words.{contains-of_clean, viewed_length}
 
 -- the word has b at bit j, and else the bits of the old one
 pub record ChangesBit (old new j : ℕ) (b : Bool) : Type 0 where
-  pub same : bit_at new j ≡ digit b
+  pub same : bit_at new j ≡ indicator b
   pub others : (i : ℕ) → i < 64 → i ≢ j → bit_at new i ≡ bit_at old i
 
 pub ChangesBit-set : (x j : ℕ) → j < 64 → ChangesBit x (bit_or x (1 * 2 ^ j % 2 ^ 64)) j true
@@ -20,7 +24,7 @@ ChangesBit-set x j h = record { same = bit_at_set_same w64 x j h; others = λ i 
 pub ChangesBit-clear : (x j : ℕ) → j < 64 → ChangesBit x (bit_and x (bit_not w64 (1 * 2 ^ j % 2 ^ 64))) j false
 ChangesBit-clear x j h = record { same = bit_at_clear_same w64 x j h; others = λ i l ne. bit_at_clear_other w64 x j h i l ne }
 
-flipped : (n : ℕ) → n < 2 → (n + 1) % 2 ≡ digit (not (n == 1))
+flipped : (n : ℕ) → n < 2 → (n + 1) % 2 ≡ indicator (not (n == 1))
 flipped zero h = refl
 flipped (suc zero) h = refl
 flipped (suc (suc n)) h = absurd (omega arith)
@@ -31,9 +35,9 @@ ChangesBit-flip x j h = record {
   others = λ i _ ne. let l : bit_at x i < 2 = bit_at-lt x i in rw (one_shl j 64 h, bit_at_xor, bit_at-pow_other j i ne) (omega arith);
 }
 
-digit_is_one : (b : Bool) → (digit b == 1) ≡ b
-digit_is_one true = refl
-digit_is_one false = refl
+indicator_is_one : (b : Bool) → (indicator b == 1) ≡ b
+indicator_is_one true = refl
+indicator_is_one false = refl
 
 -- the words with word bit / 64 replaced by one that has b at bit mod 64
 pub has_bit-set : (ws : List ℕ) (bit new : ℕ) (b : Bool) → bit / 64 < length ws → ChangesBit (get_or ws (bit / 64) 0) new (bit % 64) b → (p : ℕ) → has_bit (set ws (bit / 64) new) p ≡ cond (p == bit) b (has_bit ws p)
@@ -44,7 +48,7 @@ has_bit-set ws bit new b h changes p =
     ap (has_bit (set ws (bit / 64) new)) e
     ∙ ap (λ w. bit_at w (bit % 64) == 1) (get_or-set_same ws (bit / 64) new 0 h)
     ∙ ap (λ x. x == 1) changes.same
-    ∙ digit_is_one b
+    ∙ indicator_is_one b
     ∙ ap (λ t. cond t b (has_bit ws p)) (sym (eq-eqb p bit e)))
     (λ (ne : p ≢ bit).
     ⊎_elim
@@ -78,12 +82,12 @@ module _ (n bit : ℕ) (ws : List ℕ) (new : ℕ) (b : Bool) (inside : bit < n)
     tail = λ p past. has_bit-set ws bit new b (place_within n bit ws clean inside) changes p ∙ ap (λ t. cond t b (has_bit ws p)) (ne_eqb p bit (λ e. omega arith)) ∙ clean.tail p past;
   }
 
-  pub of-set : of n (set ws (bit / 64) new) ≡ set_bit (of n ws) bit b
-  of-set = same_bits _ _ (length-of n _ ∙ sym (length-set_bit (of n ws) bit b ∙ length-of n ws)) (λ p.
+  pub of-set : of_words n (set ws (bit / 64) new) ≡ set_bit (of_words n ws) bit b
+  of-set = same_bits _ _ (length-of_words n _ ∙ sym (length-set_bit (of_words n ws) bit b ∙ length-of_words n ws)) (λ p.
       contains-of_clean n _ IsClean-set p
       ∙ has_bit-set ws bit new b (place_within n bit ws clean inside) changes p
       ∙ ap (cond (p == bit) b) (sym (contains-of_clean n ws clean p))
-      ∙ sym (contains-set_bit (of n ws) bit b p (rw (length-of n ws) inside)))
+      ∙ sym (contains-set_bit (of_words n ws) bit b p (rw (length-of_words n ws) inside)))
 
 no_bits : (p : ℕ) → has_bit [] p ≡ false
 unfolding has_bit
@@ -92,54 +96,54 @@ no_bits p = let e : bit_at 0 (p % 64) ≡ 0 = bit_at-zero (p % 64) in rw e
 pub IsClean-nil : IsClean 0 []
 IsClean-nil = record { fits = lit< tt; count = refl; tail = λ p _. no_bits p }
 
-pub of-nil : of 0 [] ≡ empty 0
-of-nil = same_bits _ _ (length-of 0 [] ∙ sym (length-empty 0)) (λ p. contains-of_clean 0 [] IsClean-nil p ∙ no_bits p ∙ sym (contains-empty 0 p))
+pub of-nil : of_words 0 [] ≡ empty 0
+of-nil = same_bits _ _ (length-of_words 0 [] ∙ sym (length-empty 0)) (λ p. contains-of_clean 0 [] IsClean-nil p ∙ no_bits p ∙ sym (contains-empty 0 p))
 
 -- ---- one bit of a value that is seen by its fields: x is the word that is read
 module _ (n : ℕ) (ws : List ℕ) (v : Bits) (bit x : ℕ) where
-  pub viewed_place : of n ws ≡ v → IsClean n ws → bit < v.length → bit / 64 < length ws
+  pub viewed_place : of_words n ws ≡ v → IsClean n ws → bit < v.length → bit / 64 < length ws
   viewed_place view clean inside = place_within n bit ws clean (rw (viewed_length n ws v view) inside)
 
-  pub of-set_bit : (new : ℕ) (b : Bool) → of n ws ≡ v → IsClean n ws → bit < v.length → x ≡ get_or ws (bit / 64) x → ChangesBit x new (bit % 64) b → (of n (set ws (bit / 64) new) ≡ set_bit v bit b) × IsClean n (set ws (bit / 64) new)
+  pub of-set_bit : (new : ℕ) (b : Bool) → of_words n ws ≡ v → IsClean n ws → bit < v.length → x ≡ get_or ws (bit / 64) x → ChangesBit x new (bit % 64) b → (of_words n (set ws (bit / 64) new) ≡ set_bit v bit b) × IsClean n (set ws (bit / 64) new)
   of-set_bit new b view clean inside read changes =
       let below : bit < n = rw (viewed_length n ws v view) inside in
       let word : x ≡ get_or ws (bit / 64) 0 = read ∙ get_or_default ws (bit / 64) x 0 (place_within n bit ws clean below) in
       let at : ChangesBit (get_or ws (bit / 64) 0) new (bit % 64) b = rw (← word) changes in
       (of-set n bit ws new b below clean at ∙ ap (λ w. set_bit w bit b) view, IsClean-set n bit ws new b below clean at)
 
-  pub of_insert : of n ws ≡ v → IsClean n ws → bit < v.length → x ≡ get_or ws (bit / 64) x → of n (set ws (bit / 64) (bit_or x (1 * 2 ^ (bit % 64) % 2 ^ 64))) ≡ insert v bit
+  pub of_insert : of_words n ws ≡ v → IsClean n ws → bit < v.length → x ≡ get_or ws (bit / 64) x → of_words n (set ws (bit / 64) (bit_or x (1 * 2 ^ (bit % 64) % 2 ^ 64))) ≡ insert v bit
   unfolding set_bit
   of_insert view clean inside read = (of-set_bit _ true view clean inside read (ChangesBit-set x (bit % 64) (omega arith))).0
 
-  pub IsClean_insert : of n ws ≡ v → IsClean n ws → bit < v.length → x ≡ get_or ws (bit / 64) x → IsClean n (set ws (bit / 64) (bit_or x (1 * 2 ^ (bit % 64) % 2 ^ 64)))
+  pub IsClean_insert : of_words n ws ≡ v → IsClean n ws → bit < v.length → x ≡ get_or ws (bit / 64) x → IsClean n (set ws (bit / 64) (bit_or x (1 * 2 ^ (bit % 64) % 2 ^ 64)))
   IsClean_insert view clean inside read = (of-set_bit _ true view clean inside read (ChangesBit-set x (bit % 64) (omega arith))).1
 
-  pub of_remove : of n ws ≡ v → IsClean n ws → bit < v.length → x ≡ get_or ws (bit / 64) x → of n (set ws (bit / 64) (bit_and x (bit_not w64 (1 * 2 ^ (bit % 64) % 2 ^ 64)))) ≡ remove v bit
+  pub of_remove : of_words n ws ≡ v → IsClean n ws → bit < v.length → x ≡ get_or ws (bit / 64) x → of_words n (set ws (bit / 64) (bit_and x (bit_not w64 (1 * 2 ^ (bit % 64) % 2 ^ 64)))) ≡ remove v bit
   unfolding set_bit
   of_remove view clean inside read = (of-set_bit _ false view clean inside read (ChangesBit-clear x (bit % 64) (omega arith))).0
 
-  pub IsClean_remove : of n ws ≡ v → IsClean n ws → bit < v.length → x ≡ get_or ws (bit / 64) x → IsClean n (set ws (bit / 64) (bit_and x (bit_not w64 (1 * 2 ^ (bit % 64) % 2 ^ 64))))
+  pub IsClean_remove : of_words n ws ≡ v → IsClean n ws → bit < v.length → x ≡ get_or ws (bit / 64) x → IsClean n (set ws (bit / 64) (bit_and x (bit_not w64 (1 * 2 ^ (bit % 64) % 2 ^ 64))))
   IsClean_remove view clean inside read = (of-set_bit _ false view clean inside read (ChangesBit-clear x (bit % 64) (omega arith))).1
 
   -- whether the word that is read has the bit
-  pub viewed_bit : of n ws ≡ v → IsClean n ws → bit < v.length → x ≡ get_or ws (bit / 64) x → (bit_at x (bit % 64) == 1) ≡ contains v bit
+  pub viewed_bit : of_words n ws ≡ v → IsClean n ws → bit < v.length → x ≡ get_or ws (bit / 64) x → (bit_at x (bit % 64) == 1) ≡ contains v bit
   unfolding has_bit
   viewed_bit view clean inside read =
       let below : bit < n = rw (viewed_length n ws v view) inside in
       let word : x ≡ get_or ws (bit / 64) 0 = read ∙ get_or_default ws (bit / 64) x 0 (place_within n bit ws clean below) in
       ap (λ w. bit_at w (bit % 64) == 1) word ∙ sym (contains-of_clean n ws clean bit) ∙ ap (λ w. contains w bit) view
 
-  pub of_toggle : of n ws ≡ v → IsClean n ws → bit < v.length → x ≡ get_or ws (bit / 64) x → of n (set ws (bit / 64) (bit_xor x (1 * 2 ^ (bit % 64) % 2 ^ 64))) ≡ toggle v bit
+  pub of_toggle : of_words n ws ≡ v → IsClean n ws → bit < v.length → x ≡ get_or ws (bit / 64) x → of_words n (set ws (bit / 64) (bit_xor x (1 * 2 ^ (bit % 64) % 2 ^ 64))) ≡ toggle v bit
   unfolding toggle
   of_toggle view clean inside read =
       (of-set_bit _ _ view clean inside read (ChangesBit-flip x (bit % 64) (omega arith))).0 ∙ ap (λ b. set_bit v bit (not b)) (viewed_bit view clean inside read)
 
-  pub IsClean_toggle : of n ws ≡ v → IsClean n ws → bit < v.length → x ≡ get_or ws (bit / 64) x → IsClean n (set ws (bit / 64) (bit_xor x (1 * 2 ^ (bit % 64) % 2 ^ 64)))
+  pub IsClean_toggle : of_words n ws ≡ v → IsClean n ws → bit < v.length → x ≡ get_or ws (bit / 64) x → IsClean n (set ws (bit / 64) (bit_xor x (1 * 2 ^ (bit % 64) % 2 ^ 64)))
   IsClean_toggle view clean inside read = (of-set_bit _ _ view clean inside read (ChangesBit-flip x (bit % 64) (omega arith))).1
 
   -- the test `word & (1 << k) != 0`
-  pub viewed_test : of n ws ≡ v → IsClean n ws → bit < n → x ≡ get_or ws (bit / 64) x → not (bit_and x (1 * 2 ^ (bit % 64) % 2 ^ 64) == 0) ≡ contains v bit
+  pub viewed_test : of_words n ws ≡ v → IsClean n ws → bit < n → x ≡ get_or ws (bit / 64) x → not (bit_and x (1 * 2 ^ (bit % 64) % 2 ^ 64) == 0) ≡ contains v bit
   viewed_test view clean inside read = test_of_and x (bit % 64) (omega arith) ∙ viewed_bit view clean (rw (← viewed_length n ws v view) inside) read
 
-pub viewed_past : (n : ℕ) (ws : List ℕ) (v : Bits) (bit : ℕ) → of n ws ≡ v → n ≤ bit → false ≡ contains v bit
+pub viewed_past : (n : ℕ) (ws : List ℕ) (v : Bits) (bit : ℕ) → of_words n ws ≡ v → n ≤ bit → false ≡ contains v bit
 viewed_past n ws v bit view past = sym (contains-past v bit (rw (← viewed_length n ws v view) past))

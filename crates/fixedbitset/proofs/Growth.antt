@@ -4,8 +4,11 @@ use Rattle.std.specs.Int.{bit_at}
 use Rattle.std.proofs.lemmas.Bool.{cases_lt}
 use Rattle.std.proofs.lemmas.List.{get_or-append_right, get_or_append_left, get_or_past, get_or-replicate, length-replicate, length-append, take_all}
 use Rattle.std.proofs.lemmas.Nat.Bits.{bit_at-zero}
-use Rattle.fixedbitset.specs.Bits.{Bits, of, has_bit, empty, grow, IsClean, words_needed}
-use Rattle.fixedbitset.specs.BitsFacts.{same_bits, length-of, contains-grow, length-grow, contains-empty, length-empty}
+use Rattle.bitwords.specs.Rows.{has_bit}
+use Rattle.fixedbitset.specs.Bits.{Bits, empty, grow, words_needed}
+use Rattle.fixedbitset.specs.BitsFacts.{same_bits, contains-grow, length-grow, contains-empty, length-empty}
+use Rattle.fixedbitset.specs.Stored.{of_words, IsClean}
+use Rattle.fixedbitset.proofs.Values.{length-of_words}
 use Rattle.fixedbitset.proofs.Words.{contains-of_clean, viewed_length}
 
 abbrev zeros : ℕ → List ℕ
@@ -31,10 +34,10 @@ module _ (n m : ℕ) (ws new : List ℕ) (clean : IsClean n ws) (fits : m < 2 ^ 
   pub IsClean-longer : IsClean m new
   IsClean-longer = record { fits = fits; count = long; tail = λ p past. same p ∙ clean.tail p (omega arith) }
 
-  pub of-longer : of m new ≡ grow (of n ws) m
+  pub of-longer : of_words m new ≡ grow (of_words n ws) m
   of-longer = same_bits _ _
-      (length-of m new ∙ (let e : m ≡ max n m = omega arith in e) ∙ ap (λ k. max k m) (sym (length-of n ws)) ∙ sym (length-grow (of n ws) m))
-      (λ p. contains-of_clean m new IsClean-longer p ∙ same p ∙ sym (contains-of_clean n ws clean p) ∙ sym (contains-grow (of n ws) m p))
+      (length-of_words m new ∙ (let e : m ≡ max n m = omega arith in e) ∙ ap (λ k. max k m) (sym (length-of_words n ws)) ∙ sym (length-grow (of_words n ws) m))
+      (λ p. contains-of_clean m new IsClean-longer p ∙ same p ∙ sym (contains-of_clean n ws clean p) ∙ sym (contains-grow (of_words n ws) m p))
 
 has_bit-zeros : (ws : List ℕ) (k j p : ℕ) → length ws ≤ k → has_bit (take k ws ++ zeros j) p ≡ has_bit ws p
 unfolding has_bit
@@ -50,16 +53,16 @@ module _ (n m : ℕ) (ws : List ℕ) (v : Bits) (new : List ℕ) (len needed : �
       let fits : length ws ≤ words_needed m = omega (arith, clean.count) in
       rw (items, same_len, same_needed) (IsClean-longer n m ws _ clean below (omega arith) (length-resized ws _ fits) (λ p. has_bit-zeros ws _ _ p fits))
 
-  pub of_resize : of n ws ≡ v → IsClean n ws → m < 2 ^ 64 → n < m → len ≡ length ws → needed ≡ words_needed m → new ≡ take needed ws ++ replicate (needed - len) 0 → of m new ≡ grow v m
+  pub of_resize : of_words n ws ≡ v → IsClean n ws → m < 2 ^ 64 → n < m → len ≡ length ws → needed ≡ words_needed m → new ≡ take needed ws ++ replicate (needed - len) 0 → of_words m new ≡ grow v m
   of_resize view clean below longer same_len same_needed items =
       let fits : length ws ≤ words_needed m = omega (arith, clean.count) in
       rw (items, same_len, same_needed) (of-longer n m ws _ clean below (omega arith) (length-resized ws _ fits) (λ p. has_bit-zeros ws _ _ p fits) ∙ ap (λ w. grow w m) view)
 
   -- room for as many words as there are is there already
-  pub room : of n ws ≡ v → IsClean n ws → len ≡ length ws → (cap : ℕ) → len ≤ cap → needed ≡ words_needed m → words_needed m ≤ words_needed v.length → needed ≤ cap
+  pub room : of_words n ws ≡ v → IsClean n ws → len ≡ length ws → (cap : ℕ) → len ≤ cap → needed ≡ words_needed m → words_needed m ≤ words_needed v.length → needed ≤ cap
   room view clean same_len cap within same_needed needs = let e : n ≡ v.length = viewed_length n ws v view in let f : words_needed v.length ≡ length ws = ap words_needed (sym e) ∙ sym clean.count in omega arith
 
-pub grow_same : (n m : ℕ) (ws : List ℕ) (v : Bits) → of n ws ≡ v → m ≤ n → v ≡ grow v m
+pub grow_same : (n m : ℕ) (ws : List ℕ) (v : Bits) → of_words n ws ≡ v → m ≤ n → v ≡ grow v m
 grow_same n m ws v view h =
     let long : n ≡ v.length = viewed_length n ws v view in
     same_bits _ _ ((let e : v.length ≡ max v.length m = omega arith in e) ∙ sym (length-grow v m)) (λ p. sym (contains-grow v m p))
@@ -72,5 +75,5 @@ has_bit-none j p = ap (λ x. bit_at x (p % 64) == 1) (get_or-none j (p / 64)) �
 pub IsClean_replicate : (n : ℕ) → n < 2 ^ 64 → IsClean n (replicate (words_needed n) 0)
 IsClean_replicate n fits = record { fits = fits; count = length-replicate _ 0; tail = λ p _. has_bit-none _ p }
 
-pub of_replicate : (n : ℕ) → n < 2 ^ 64 → of n (replicate (words_needed n) 0) ≡ empty n
-of_replicate n fits = same_bits _ _ (length-of n _ ∙ sym (length-empty n)) (λ p. contains-of_clean n _ (IsClean_replicate n fits) p ∙ has_bit-none _ p ∙ sym (contains-empty n p))
+pub of_replicate : (n : ℕ) → n < 2 ^ 64 → of_words n (replicate (words_needed n) 0) ≡ empty n
+of_replicate n fits = same_bits _ _ (length-of_words n _ ∙ sym (length-empty n)) (λ p. contains-of_clean n _ (IsClean_replicate n fits) p ∙ has_bit-none _ p ∙ sym (contains-empty n p))

@@ -1,5 +1,6 @@
 -- The positions set in a row of words, and what a call of a walk does to them.
-use Rattle.std.proofs.Common.{◌≡◌, ◌≢◌, ℕ, suc, ◌+◌, ◌-◌, ◌*◌, ◌/◌, ◌%◌, ◌^◌, ◌<◌, ◌≤◌, ◌==◌, false, List, [], ◌∷◌, ◌++◌, length, Option, Some, None, sym, ap, ◌∙◌, arith, ⊎_elim}
+use Rattle.std.proofs.Math.Seq.{take-append_seam}
+use Rattle.std.proofs.Common.{inl, inr, ◌⊎◌, take, drop, ◌≡◌, ◌≢◌, ℕ, suc, ◌+◌, ◌-◌, ◌*◌, ◌/◌, ◌%◌, ◌^◌, ◌<◌, ◌≤◌, ◌==◌, false, List, [], ◌∷◌, ◌++◌, length, Option, Some, None, sym, ap, ◌∙◌, arith, ⊎_elim}
 use Rattle.std.specs.Int.{bit_at}
 use Rattle.std.specs.Iterator.{YieldsFirst, item_count, MakesProgress, UpTo, at_most}
 use Rattle.std.specs.Option.{SomeIff, IfSome}
@@ -7,10 +8,14 @@ use Rattle.std.proofs.lemmas.Bool.{cases_lt}
 use Rattle.std.proofs.lemmas.List.{length-append, get_or_past, nil_from_length}
 use Rattle.std.proofs.lemmas.Nat.Bits.{bit_at-zero}
 use Rattle.bitlanes.specs.Word.{IsLowestBit, ClearsBit}
-use Rattle.fixedbitset.specs.Bits.{Bits, contains, of, asc, has_bit, IsClean}
-use Rattle.fixedbitset.specs.BitsFacts.{length-of}
-use Rattle.fixedbitset.specs.Walk.{ones_from}
+use Rattle.bitwords.specs.Rows.{has_bit}
+use Rattle.bitwords.specs.RowFacts.{has_bit-past}
+use Rattle.fixedbitset.specs.Bits.{Bits, contains, asc}
+use Rattle.fixedbitset.specs.Stored.{of_words, IsClean}
+use Rattle.fixedbitset.specs.Walk.{between_ends}
+use Rattle.fixedbitset.specs.WalkedWords.{ones_from}
 use Rattle.fixedbitset.specs.Ascending.{ascending}
+use Rattle.fixedbitset.proofs.Values.{length-of_words}
 use Rattle.fixedbitset.proofs.Words.{contains-of_clean}
 use Rattle.fixedbitset.proofs.Growth.{get_or-zeros}
 use Rattle.fixedbitset.proofs.Ascending.{ascending-skip, ascending-cut, ascending-first, length-ascending}
@@ -32,11 +37,6 @@ has_bit-other old new k words i clears other =
     (λ (lt : i < 64). has_bit-first new words i lt ∙ ap (λ b. b == 1) (clears.others i lt other) ∙ sym (has_bit-first old words i lt))
     (λ (ge : 64 ≤ i). has_bit-later new words i (i - 64) (omega arith) ∙ sym (has_bit-later old words i (i - 64) (omega arith)))
     (cases_lt i 64)
-
--- no position stands past the words
-has_bit-past : (words : List ℕ) (i : ℕ) → 64 * length words ≤ i → has_bit words i ≡ false
-unfolding has_bit
-has_bit-past words i past = ap (λ x. bit_at x (i % 64) == 1) (get_or_past words (i / 64) 0 (omega arith)) ∙ ap (λ b. b == 1) (bit_at-zero (i % 64))
 
 -- an empty word in front adds nothing
 ones_from-skip : (start : ℕ) (words : List ℕ) → ones_from start (0 ∷ words) ≡ ones_from (start + 64) words
@@ -75,16 +75,16 @@ ones_from-drop_last start words =
     (λ i above below. same (i - start) ∙ has_bit-past words (i - start) (omega arith))
 
 -- the words of a set have its positions
-pub ones_from-asc : (n : ℕ) (ws : List ℕ) (v : Bits) → of n ws ≡ v → IsClean n ws → ones_from 0 ws ≡ asc v
+pub ones_from-asc : (n : ℕ) (ws : List ℕ) (v : Bits) → of_words n ws ≡ v → IsClean n ws → ones_from 0 ws ≡ asc v
 unfolding ones_from asc
 ones_from-asc n ws v view clean =
     let whole : 64 * length ws ≡ n + (64 * length ws - n) = omega (arith, clean.count) in
     let same : (i : ℕ) → has_bit ws (i - 0) ≡ has_bit ws i = λ i. let e : i - 0 ≡ i = omega arith in ap (has_bit ws) e in
     ap (ascending (λ p. has_bit ws (p - 0)) 0) whole
-    ∙ ascending-cut _ (contains (of n ws)) 0 n (64 * length ws - n)
+    ∙ ascending-cut _ (contains (of_words n ws)) 0 n (64 * length ws - n)
     (λ i above below. same i ∙ sym (contains-of_clean n ws clean i))
     (λ i above below. same i ∙ clean.tail i (omega arith))
-    ∙ ap (ascending (contains (of n ws)) 0) (sym (length-of n ws))
+    ∙ ap (ascending (contains (of_words n ws)) 0) (sym (length-of_words n ws))
     ∙ ap asc view
 
 -- ---- the steps of a walk with the words f and b at its ends, f at `start`, and the words ms between
@@ -127,3 +127,17 @@ progress_first rest s (Some x) t gives = record { on = λ _. (tt, tt, omega (ari
 pub hint : (r : Option ℕ) (n most : ℕ) → SomeIff r (n < 2 ^ 64) n → most ≤ n → IfSome r (UpTo (at_most most))
 hint None n most is below = tt
 hint (Some x) n most is below = (tt, omega (arith, is.1, below))
+
+-- ---- the words between the first and the last
+
+between-both : (first last : ℕ) (middle : List ℕ) → between_ends (first ∷ (middle ++ last ∷ [])) ≡ middle
+between-both first last middle =
+    let count : suc (length (middle ++ last ∷ [])) - 1 ≡ suc (length middle) = omega (arith, length-append middle (last ∷ [])) in
+    ap (λ n. drop 1 (take n (first ∷ (middle ++ last ∷ [])))) count ∙ take-append_seam middle (last ∷ [])
+
+-- what the two splits leave is the words between
+pub between-splits : (ws rest middle : List ℕ) → ((first : ℕ) × (ws ≡ first ∷ rest)) ⊎ ((ws ≡ []) × (rest ≡ [])) → ((last : ℕ) × (rest ≡ middle ++ last ∷ [])) ⊎ ((rest ≡ []) × (middle ≡ [])) → middle ≡ between_ends ws
+between-splits ws rest middle (inl one) (inl two) = sym (ap between_ends (one.1 ∙ ap (λ t. one.0 ∷ t) two.1) ∙ between-both one.0 two.0 middle)
+between-splits ws rest middle (inl one) (inr none) = none.1 ∙ sym (ap between_ends (one.1 ∙ ap (λ t. one.0 ∷ t) none.0))
+between-splits ws rest middle (inr none) (inl two) = absurd (omega (arith, ap length (sym two.1 ∙ none.1), length-append middle (two.0 ∷ [])))
+between-splits ws rest middle (inr none) (inr also) = also.1 ∙ sym (ap between_ends none.0)

@@ -1,8 +1,8 @@
 -- The value of a set of bits: a length and a set of positions below it, its words, and what each call makes of it.
-use Rattle.std.specs.Prelude.{◌≡◌, ℕ, ◌+◌, ◌-◌, ◌*◌, ◌/◌, ◌%◌, ◌^◌, ◌<◌, ◌≤◌, max, Bool, false, not, ◌&&◌, ◌==◌, nat_lt, nat_le, IsTrue, if◌then◌else◌, List, length, map, filter, sum_by, slice_index}
+use Rattle.std.specs.Prelude.{ℕ, ◌+◌, ◌-◌, ◌*◌, ◌^◌, max, Bool, not, ◌&&◌, nat_lt, nat_le, IsTrue, if◌then◌else◌, List, map, filter, sum_by}
 use Rattle.std.specs.Ordering.{nat_cmp}
 use Rattle.std.specs.List.{range_with_len}
-use Rattle.std.specs.Int.{bit_at, div_ceil}
+use Rattle.std.specs.Int.{div_ceil}
 use Rattle.std.specs.FinSet as set
 use Rattle.std.specs.FinSet.{FinSet}
 use Rattle.fixedbitset.specs.Numbers.{numbers_below, kept_below}
@@ -17,10 +17,6 @@ pub record Bits : Type 0 where
 -- length n, and those of s that are below it
 unfoldable pub pair : ℕ → FinSet nat_cmp → Bits
 pair n s = record { length = n; positions = set.intersection s (numbers_below n); below = kept_below n s }
-
--- length n, and the numbers below it that pass the test
-unfoldable pub having : ℕ → (ℕ → Bool) → Bits
-having n test = pair n (set.retain (numbers_below n) test)
 
 -- whether the position is in the set
 unfoldable pub contains : Bits → ℕ → Bool
@@ -73,19 +69,3 @@ words_needed n = div_ceil n 64
 -- the words, the first 64 positions first
 unfoldable pub words : Bits → List ℕ
 words v = map (word v) (range_with_len 0 (words_needed v.length))
-
--- ---- from words
-
--- whether word p / 64 is there and has bit p mod 64 (past the last word `slice_index` is 0)
-unfoldable pub has_bit : List ℕ → ℕ → Bool
-has_bit ws p = bit_at (slice_index ws (p / 64)) (p % 64) == 1
-
--- length n, and the positions below it that the words have
-unfoldable pub of : ℕ → List ℕ → Bits
-of n ws = having n (has_bit ws)
-
--- a length that a usize holds, as many words as it needs, and no bit past it
-pub record IsClean (n : ℕ) (ws : List ℕ) : Type 0 where
-  pub fits : n < 2 ^ 64
-  pub count : length ws ≡ words_needed n
-  pub tail : (p : ℕ) → n ≤ p → has_bit ws p ≡ false

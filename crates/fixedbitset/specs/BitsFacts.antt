@@ -1,5 +1,5 @@
 -- The length and the members of each value of `Bits`, for those who call a set.
-use Rattle.std.specs.Prelude.{◌≡◌, ℕ, ◌<◌, ◌≤◌, max, Bool, true, false, cond, not, ◌&&◌, ◌||◌, ◌==◌, nat_lt, List}
+use Rattle.std.specs.Prelude.{◌≡◌, ℕ, ◌<◌, ◌≤◌, max, Bool, true, false, cond, not, ◌&&◌, ◌||◌, ◌==◌, nat_lt}
 use Rattle.std.specs.Ordering.{nat_cmp}
 use Rattle.std.specs.FinSet as set
 use Rattle.std.specs.FinSet.{FinSet}
@@ -9,19 +9,13 @@ use Rattle.std.proofs.Common.{refl, sym, ap, ◌∙◌, arith, IsTrue}
 use Rattle.std.proofs.lemmas.Bool.{ltb-true, lt-ltb, eqb-true, false_from_ne_true}
 use mathlib.Core.HLevel.{Σ_prop_path}
 use Rattle.fixedbitset.specs.Numbers.{numbers_below, contains-numbers_below}
-use Rattle.fixedbitset.specs.Bits.{Bits, pair, having, contains, empty, insert, remove, set_bit, toggle, grow, has_bit, of}
+use Rattle.fixedbitset.specs.Bits.{Bits, pair, contains, empty, insert, remove, set_bit, toggle, grow}
 
 -- a last test that the one before it implies
 pub last_holds : (a b c : Bool) → (b ≡ true → c ≡ true) → ((a && b) && c) ≡ (a && b)
 last_holds true true c h = h refl
 last_holds true false c h = refl
 last_holds false b c h = refl
-
-both_last : (a b : Bool) → ((b && a) && b) ≡ (a && b)
-both_last true true = refl
-both_last true false = refl
-both_last false true = refl
-both_last false false = refl
 
 pub length-pair : (n : ℕ) (s : FinSet nat_cmp) → (pair n s).length ≡ n
 unfolding pair
@@ -49,25 +43,6 @@ same_bits v w same_length same =
     Σ_prop_path (λ d. hlevel (Coded-set coded_bool)) pairs
     in
     λ i. record { length = (both i).0.0; positions = (both i).0.1; below = (both i).1 }
-
-pub length-having : (n : ℕ) (test : ℕ → Bool) → (having n test).length ≡ n
-unfolding having
-length-having n test = length-pair n _
-
-pub contains-having : (n : ℕ) (test : ℕ → Bool) (p : ℕ) → contains (having n test) p ≡ (test p && nat_lt p n)
-unfolding having
-contains-having n test p =
-    contains-pair n _ p
-    ∙ ap (λ b. b && nat_lt p n) (set.contains-retain (numbers_below n) test p (λ x e. ap test (sym (set.nat_cmp-IsAntisymmetric p x e))) ∙ ap (λ b. b && test p) (contains-numbers_below n p))
-    ∙ both_last (test p) (nat_lt p n)
-
-pub length-of : (n : ℕ) (ws : List ℕ) → (of n ws).length ≡ n
-unfolding of
-length-of n ws = length-having n _
-
-pub contains-of : (n : ℕ) (ws : List ℕ) (p : ℕ) → contains (of n ws) p ≡ (has_bit ws p && nat_lt p n)
-unfolding of
-contains-of n ws p = contains-having n (has_bit ws) p
 
 pub length-empty : (n : ℕ) → (empty n).length ≡ n
 unfolding empty
@@ -138,4 +113,4 @@ contains-grow v bits p =
     ∙ last_holds true (contains v p) _ (λ one. let h : p < v.length = contains_below v p one in lt-ltb _ _ (omega arith))
 
 -- what a caller needs of each change
-pub ruleset facts = (length-empty, length-insert, length-remove, length-set_bit, length-toggle, length-grow, length-of, contains-empty, contains-insert, contains-remove, contains-set_bit, contains-toggle, contains-grow, contains-of)
+pub ruleset facts = (length-empty, length-insert, length-remove, length-set_bit, length-toggle, length-grow, contains-empty, contains-insert, contains-remove, contains-set_bit, contains-toggle, contains-grow)

@@ -1,4 +1,4 @@
--- The set of the numbers below a number.
+-- Finite sets of numbers.
 use Rattle.std.specs.Prelude.{◌≡◌, ℕ, zero, suc, nat_lt, IsTrue}
 use Rattle.std.specs.Ordering.{nat_cmp}
 use Rattle.std.specs.FinSet as set
@@ -12,6 +12,16 @@ use Rattle.std.proofs.lemmas.Bool.Decides.{nat_tests}
 unfoldable pub numbers_below : ℕ → FinSet nat_cmp
 numbers_below zero = set.empty
 numbers_below (suc n) = set.insert (numbers_below n) n
+
+-- the numbers from start up to and without end
+unfoldable pub numbers_between : ℕ → ℕ → FinSet nat_cmp
+numbers_between start end = set.difference (numbers_below end) (numbers_below start)
+
+-- what is in exactly one of two sets
+unfoldable pub symmetric_difference : FinSet nat_cmp → FinSet nat_cmp → FinSet nat_cmp
+symmetric_difference s t = set.union (set.difference s t) (set.difference t s)
+
+-- ---- what the definition of a value stands on
 
 pub contains-numbers_below : (n q : ℕ) → set.contains (numbers_below n) q ≡ nat_lt q n
 unfolding numbers_below

@@ -1,23 +1,17 @@
 -- The length and the members of each value that a call with a range makes, for those who call a set.
-use Rattle.std.specs.Prelude.{◌≡◌, ℕ, ◌<◌, ◌≤◌, Bool, true, false, cond, not, ◌&&◌, ◌||◌, nat_lt, nat_le}
+use Rattle.std.specs.Prelude.{IsTrue, ◌↔◌, ◌==◌, ◌≡◌, ℕ, ◌<◌, ◌≤◌, Bool, true, false, cond, not, ◌&&◌, ◌||◌, nat_lt, nat_le}
 use Rattle.std.specs.Cmp.{nat_cmp_total}
 use Rattle.std.specs.FinSet as set
 use Rattle.std.proofs.Common.{refl, sym, ap, ◌∙◌, arith}
-use Rattle.std.proofs.lemmas.Bool.{lt-ltb, le-leb, ltb-true, and_parts, and_from}
+use Rattle.std.proofs.lemmas.Bool.{lt-ltb, le-leb, ltb-true, leb-true, and_parts, and_from, true≢false, false_from_ne_true}
 use Rattle.std.proofs.lemmas.Bool.Decides.{nat_tests}
 use Rattle.bitlanes.specs.Bits.{either}
-use Rattle.fixedbitset.specs.Numbers.{numbers_below, contains-numbers_below}
+use Rattle.fixedbitset.specs.Numbers.{numbers_between}
+use Rattle.bitwords.specs.Rows.{in_range}
 use Rattle.fixedbitset.specs.Bits.{Bits, contains, empty}
 use Rattle.fixedbitset.specs.BitsFacts.{length-pair, contains-pair, contains_below, length-empty, contains-empty, same_bits}
-use Rattle.fixedbitset.specs.JoinedFacts.{contains-exchange}
-use Rattle.fixedbitset.specs.Ranges.{in_range, numbers, insert_range, remove_range, toggle_range, set_range}
-
-pub contains-numbers : (start end p : ℕ) → set.contains (numbers start end) p ≡ in_range start end p
-unfolding numbers
-contains-numbers start end p =
-    set.contains-difference nat_cmp_total (numbers_below end) (numbers_below start) p
-    ∙ (let a = contains-numbers_below end p in let b = contains-numbers_below start p in λ i. a i && not (b i))
-    ∙ grind (arith, nat_tests)
+use Rattle.fixedbitset.specs.NumbersFacts.{contains-numbers_between, contains-symmetric_difference, member_of, none_len}
+use Rattle.fixedbitset.specs.Ranges.{insert_range, remove_range, toggle_range, set_range, count_ones, contains_all, contains_any}
 
 -- a last test that the first one implies
 first_holds : (a b c : Bool) → (a ≡ true → c ≡ true) → ((a && b) && c) ≡ (a && b)
@@ -33,7 +27,7 @@ pub contains-insert_range : (v : Bits) (start end p : ℕ) → contains (insert_
 unfolding insert_range contains
 contains-insert_range v start end p =
     contains-pair v.length _ p
-    ∙ ap (λ b. b && nat_lt p v.length) (set.contains-union nat_cmp_total v.positions _ p ∙ ap (λ b. contains v p || b) (contains-numbers start end p))
+    ∙ ap (λ b. b && nat_lt p v.length) (set.contains-union nat_cmp_total v.positions _ p ∙ ap (λ b. contains v p || b) (contains-numbers_between start end p))
 
 pub length-remove_range : (v : Bits) (start end : ℕ) → (remove_range v start end).length ≡ v.length
 unfolding remove_range
@@ -43,7 +37,7 @@ pub contains-remove_range : (v : Bits) (start end p : ℕ) → contains (remove_
 unfolding remove_range contains
 contains-remove_range v start end p =
     contains-pair v.length _ p
-    ∙ ap (λ b. b && nat_lt p v.length) (set.contains-difference nat_cmp_total v.positions _ p ∙ ap (λ b. contains v p && not b) (contains-numbers start end p))
+    ∙ ap (λ b. b && nat_lt p v.length) (set.contains-difference nat_cmp_total v.positions _ p ∙ ap (λ b. contains v p && not b) (contains-numbers_between start end p))
     ∙ first_holds (contains v p) (not (in_range start end p)) _ (λ one. lt-ltb _ _ (contains_below v p one))
 
 pub length-toggle_range : (v : Bits) (start end : ℕ) → (toggle_range v start end).length ≡ v.length
@@ -54,7 +48,7 @@ pub contains-toggle_range : (v : Bits) (start end p : ℕ) → contains (toggle_
 unfolding toggle_range contains
 contains-toggle_range v start end p =
     contains-pair v.length _ p
-    ∙ ap (λ b. b && nat_lt p v.length) (contains-exchange v.positions _ p ∙ ap (either (contains v p)) (contains-numbers start end p))
+    ∙ ap (λ b. b && nat_lt p v.length) (contains-symmetric_difference v.positions _ p ∙ ap (either (contains v p)) (contains-numbers_between start end p))
 
 pub length-set_range : (v : Bits) (start end : ℕ) (b : Bool) → (set_range v start end b).length ≡ v.length
 unfolding set_range
@@ -91,5 +85,31 @@ remove_range-all v = same_bits _ _ (length-remove_range v 0 v.length ∙ sym (le
     ∙ gone (contains v p) _ (λ one. and_from _ _ (le-leb 0 p (omega arith)) (lt-ltb p v.length (contains_below v p one)))
     ∙ sym (contains-empty v.length p))
 
--- what a caller needs of each change by a range
-pub ruleset facts = (length-insert_range, length-remove_range, length-toggle_range, length-set_range, contains-insert_range, contains-remove_range, contains-toggle_range, contains-set_range)
+-- ---- questions
+
+-- each number of the range is a position of the set
+pub contains_all-tells : (v : Bits) (start end : ℕ) → IsTrue (contains_all v start end) ↔ ((p : ℕ) → start ≤ p → p < end → IsTrue (contains v p))
+unfolding contains_all contains
+contains_all-tells v start end = (
+  λ all p from to. set.is_subset-contains nat_cmp_total (numbers_between start end) v.positions all p (contains-numbers_between start end p ∙ and_from _ _ (le-leb start p from) (lt-ltb p end to)),
+  λ all. set.contains-is_subset nat_cmp_total _ _ (λ p one. let ends = and_parts (nat_le start p) _ (sym (contains-numbers_between start end p) ∙ one) in all p (leb-true start p ends.0) (ltb-true p end ends.1)),
+)
+
+-- some number of the range is a position of the set
+pub contains_any-tells : (v : Bits) (start end : ℕ) → IsTrue (contains_any v start end) ↔ ((p : ℕ) × (start ≤ p) × (p < end) × IsTrue (contains v p))
+unfolding contains_any count_ones contains
+contains_any-tells v start end =
+    let common = set.intersection (numbers_between start end) v.positions in
+    let member : (p : ℕ) → set.contains common p ≡ (in_range start end p && contains v p) = λ p.
+    set.contains-intersection nat_cmp_total (numbers_between start end) v.positions p ∙ ap (λ b. b && contains v p) (contains-numbers_between start end p) in (
+      λ some.
+          let found = member_of end common (λ p one. let ends = and_parts (nat_le start p) _ (and_parts (in_range start end p) _ (sym (member p) ∙ one)).0 in ltb-true p end ends.1) (λ none. true≢false (sym some ∙ ap not none)) in
+          let parts = and_parts (in_range start end found.0) _ (sym (member found.0) ∙ found.1) in
+          let ends = and_parts (nat_le start found.0) _ parts.0 in
+          (found.0, leb-true start found.0 ends.0, ltb-true found.0 end ends.1, parts.1),
+      λ found. ap not (false_from_ne_true _ (λ none.
+          true≢false (sym (member found.0 ∙ and_from _ _ (and_from _ _ (le-leb start found.0 found.1) (lt-ltb found.0 end found.2)) found.3) ∙ (none_len common).0 none found.0))),
+    )
+
+-- what a caller needs of each change by a range, and of each question
+pub ruleset facts = (length-insert_range, length-remove_range, length-toggle_range, length-set_range, contains-insert_range, contains-remove_range, contains-toggle_range, contains-set_range, contains_all-tells, contains_any-tells)

@@ -1,8 +1,8 @@
 -- Two sets of any two lengths: their joins, the sizes of these, and what their positions have in common.
-use Rattle.std.specs.Prelude.{ℕ, ◌+◌, ◌-◌, ◌/◌, max, min, Bool, IsTrue}
+use Rattle.std.specs.Prelude.{ℕ, max, min, Bool, ◌==◌}
 use Rattle.std.specs.FinSet as set
-use Rattle.fixedbitset.specs.Bits.{Bits, pair, contains, words_needed}
-use Rattle.fixedbitset.specs.Joined.{exchange}
+use Rattle.fixedbitset.specs.Numbers as numbers
+use Rattle.fixedbitset.specs.Bits.{Bits, pair}
 
 -- the greater length, and the positions of either
 unfoldable pub union : Bits → Bits → Bits
@@ -10,7 +10,7 @@ union v w = pair (max v.length w.length) (set.union v.positions w.positions)
 
 -- the greater length, and the positions of exactly one
 unfoldable pub symmetric_difference : Bits → Bits → Bits
-symmetric_difference v w = pair (max v.length w.length) (exchange v.positions w.positions)
+symmetric_difference v w = pair (max v.length w.length) (numbers.symmetric_difference v.positions w.positions)
 
 -- the length of the first, and the positions of both
 unfoldable pub intersection : Bits → Bits → Bits
@@ -40,25 +40,14 @@ difference_count v w = set.len (set.difference v.positions w.positions)
 
 -- how many positions are in exactly one
 unfoldable pub symmetric_difference_count : Bits → Bits → ℕ
-symmetric_difference_count v w = set.len (exchange v.positions w.positions)
+symmetric_difference_count v w = set.len (numbers.symmetric_difference v.positions w.positions)
 
--- how many positions of either pass the truth function of the two memberships
-unfoldable pub count_joined : (Bool → Bool → Bool) → Bits → Bits → ℕ
-count_joined f v w = set.len (set.retain (set.union v.positions w.positions) (λ p. f (contains v p) (contains w p)))
+-- ---- questions
 
--- ---- positions in common
-
--- the second has each position of the first
-abbrev pub IsSubset : Bits → Bits → Type 0
-IsSubset v w = (p : ℕ) → IsTrue (contains v p) → IsTrue (contains w p)
+-- each position of the first is one of the second, whatever the lengths
+unfoldable pub is_subset : Bits → Bits → Bool
+is_subset v w = set.is_subset v.positions w.positions
 
 -- no position is in both
-abbrev pub IsDisjoint : Bits → Bits → Type 0
-IsDisjoint v w = (p : ℕ) → IsTrue (contains v p) → ¬ (IsTrue (contains w p))
-
--- ---- cost
-
--- steps that suffice for two sets of n and of m positions: by fours over the words that both have, and over the rest of the longer
-abbrev pub whole_steps : ℕ → ℕ → ℕ
-whole_steps n m =
-    min (words_needed n) (words_needed m) / 4 + 3 + ((max (words_needed n) (words_needed m) - min (words_needed n) (words_needed m)) / 4 + 3)
+unfoldable pub is_disjoint : Bits → Bits → Bool
+is_disjoint v w = intersection_count v w == 0

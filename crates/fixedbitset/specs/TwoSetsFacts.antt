@@ -1,14 +1,16 @@
 -- The length and the members of each join of two sets, for those who call it, and the joins of a set with itself.
-use Rattle.std.specs.Prelude.{◌≡◌, ℕ, ◌<◌, ◌≤◌, max, min, Bool, true, false, not, ◌&&◌, ◌||◌, nat_lt}
+use Rattle.std.specs.Prelude.{IsTrue, ◌↔◌, ◌≡◌, ℕ, ◌<◌, ◌≤◌, max, min, Bool, true, false, not, ◌&&◌, ◌||◌, nat_lt}
 use Rattle.std.specs.Cmp.{nat_cmp_total}
 use Rattle.std.specs.FinSet as set
 use Rattle.std.proofs.Common.{refl, sym, ap, ◌∙◌, arith, ⊎_elim}
-use Rattle.std.proofs.lemmas.Bool.{lt-ltb, or_cases, and_parts}
+use Rattle.std.proofs.Math.Bool.{or_self, and_self, and-not_self}
+use Rattle.std.proofs.lemmas.Bool.{lt-ltb, or_cases, and_parts, and_from, true≢false, false_from_ne_true}
 use Rattle.bitlanes.specs.Bits.{either}
 use Rattle.fixedbitset.specs.Bits.{Bits, contains, empty, words_needed}
 use Rattle.fixedbitset.specs.BitsFacts.{length-pair, contains-pair, contains_below, last_holds, same_bits, length-empty, contains-empty}
-use Rattle.fixedbitset.specs.JoinedFacts.{contains-exchange}
-use Rattle.fixedbitset.specs.TwoSets.{union, symmetric_difference, intersection, difference, bitand}
+use Rattle.fixedbitset.specs.NumbersFacts as numbers
+use Rattle.fixedbitset.specs.NumbersFacts.{none_len}
+use Rattle.fixedbitset.specs.TwoSets.{union, symmetric_difference, intersection, difference, bitand, is_subset, is_disjoint, intersection_count}
 
 -- what only members of two sets have is below the greater of their lengths
 below_greater : (v w : Bits) (b : Bool) (p : ℕ) → (b ≡ true → (contains v p || contains w p) ≡ true) → (b && nat_lt p (max v.length w.length)) ≡ b
@@ -42,7 +44,7 @@ pub contains-symmetric_difference : (v w : Bits) (p : ℕ) → contains (symmetr
 unfolding symmetric_difference contains
 contains-symmetric_difference v w p =
     contains-pair _ _ p
-    ∙ ap (λ b. b && nat_lt p (max v.length w.length)) (contains-exchange v.positions w.positions p)
+    ∙ ap (λ b. b && nat_lt p (max v.length w.length)) (numbers.contains-symmetric_difference v.positions w.positions p)
     ∙ below_greater v w _ p (in_some (contains v p) (contains w p))
 
 -- what a test leaves of the members of the first set is below its length
@@ -82,36 +84,38 @@ contains-bitand v w p =
     let k : p < w.length = contains_below w p parts.1 in
     lt-ltb _ _ (omega arith))
 
--- what a caller needs of each join
-pub ruleset facts = (length-union, length-symmetric_difference, length-intersection, length-difference, length-bitand, contains-union, contains-symmetric_difference, contains-intersection, contains-difference, contains-bitand)
+-- ---- questions
+
+pub is_subset-tells : (v w : Bits) → IsTrue (is_subset v w) ↔ ((p : ℕ) → IsTrue (contains v p) → IsTrue (contains w p))
+unfolding is_subset contains
+is_subset-tells v w = (λ all p one. set.is_subset-contains nat_cmp_total v.positions w.positions all p one, λ all. set.contains-is_subset nat_cmp_total _ _ all)
+
+pub is_disjoint-tells : (v w : Bits) → IsTrue (is_disjoint v w) ↔ ((p : ℕ) → IsTrue (contains v p) → ¬ (IsTrue (contains w p)))
+unfolding is_disjoint intersection_count contains
+is_disjoint-tells v w =
+    let common = set.intersection v.positions w.positions in (
+      λ none p one other. true≢false (sym (set.contains-intersection nat_cmp_total v.positions w.positions p ∙ and_from _ _ one other) ∙ (none_len common).0 none p),
+      λ apart. (none_len common).1 (λ p. false_from_ne_true _ (λ one. let both = and_parts _ _ (sym (set.contains-intersection nat_cmp_total v.positions w.positions p) ∙ one) in apart p both.0 both.1)),
+    )
+
+-- what a caller needs of each join, and of each question
+pub ruleset facts = (length-union, length-symmetric_difference, length-intersection, length-difference, length-bitand, contains-union, contains-symmetric_difference, contains-intersection, contains-difference, contains-bitand, is_subset-tells, is_disjoint-tells)
 
 -- ---- a set joined with itself
-
-or_same : (b : Bool) → (b || b) ≡ b
-or_same true = refl
-or_same false = refl
-
-and_same : (b : Bool) → (b && b) ≡ b
-and_same true = refl
-and_same false = refl
-
-and_not : (b : Bool) → (b && not b) ≡ false
-and_not true = refl
-and_not false = refl
 
 either_same : (b : Bool) → either b b ≡ false
 either_same true = refl
 either_same false = refl
 
 pub union-same : (v : Bits) → union v v ≡ v
-union-same v = same_bits _ _ (length-union v v ∙ omega arith) (λ p. contains-union v v p ∙ or_same _)
+union-same v = same_bits _ _ (length-union v v ∙ omega arith) (λ p. contains-union v v p ∙ or_self _)
 
 pub intersection-same : (v : Bits) → intersection v v ≡ v
-intersection-same v = same_bits _ _ (length-intersection v v) (λ p. contains-intersection v v p ∙ and_same _)
+intersection-same v = same_bits _ _ (length-intersection v v) (λ p. contains-intersection v v p ∙ and_self _)
 
 pub difference-same : (v : Bits) → difference v v ≡ empty v.length
 difference-same v = same_bits _ _ (length-difference v v ∙ sym (length-empty v.length)) (λ p.
-    contains-difference v v p ∙ and_not _ ∙ sym (contains-empty v.length p))
+    contains-difference v v p ∙ and-not_self _ ∙ sym (contains-empty v.length p))
 
 pub symmetric_difference-same : (v : Bits) → symmetric_difference v v ≡ empty v.length
 symmetric_difference-same v =

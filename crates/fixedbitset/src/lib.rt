@@ -6,6 +6,7 @@
 
 pub mod bits;
 pub mod counted;
+mod joined;
 pub mod operators;
 pub mod ranges;
 pub mod set;

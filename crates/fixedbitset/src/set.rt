@@ -18,14 +18,15 @@ pub struct FixedBitSet {
 }
 
 impl Model for FixedBitSet {
-    ghost use Rattle.fixedbitset.specs.Bits.{Bits, of, IsClean};
+    ghost use Rattle.fixedbitset.specs.Bits.{Bits};
     ghost use Rattle.fixedbitset.specs.BitsCode.{code};
+    ghost use Rattle.fixedbitset.specs.Stored.{of_words, IsClean};
 
     ghost Value = { Bits };
 
     ghost coded = { code };
 
-    ghost view = { λ s. of s.length s.words.items };
+    ghost view = { λ s. of_words s.length s.words.items };
 
     ghost invariant = { λ s. IsClean s.length s.words.items };
 }

@@ -5,11 +5,11 @@ ghost use Rattle.std.specs.Iterator.{YieldsFirst, MakesProgress, item_count, UpT
 ghost use Rattle.std.specs.Iterator.SizeHint.{IsWithinCount};
 ghost use Rattle.bitlanes.specs.Word.{IsLowestBit, ClearsBit};
 ghost use Rattle.fixedbitset.specs.Bits as model;
-ghost use Rattle.fixedbitset.specs.Walk.{TakesFromFront};
+ghost use Rattle.fixedbitset.specs.Walk.{TakesFromFront, between_ends};
 
 use crate::set::FixedBitSet;
 use bitlanes::counter::Steps;
-use bitlanes::word::{BITS, Block, lowest_bit};
+use bitlanes::word::{BITS, Block, clear_lowest_bit, lowest_bit};
 use std::iter::FusedIterator;
 use std::marker::Model;
 
@@ -34,7 +34,8 @@ pub struct Ones<'a> {
 
 impl<'a> Model for Ones<'a> {
     ghost use Rattle.std.specs.Prelude.{◌∷◌, ◌++◌, [], length};
-    ghost use Rattle.fixedbitset.specs.Walk.{Walk, IsSpaced, ones_from};
+    ghost use Rattle.fixedbitset.specs.Walk.{Walk};
+    ghost use Rattle.fixedbitset.specs.WalkedWords.{IsSpaced, ones_from};
 
     ghost Value = { Walk };
 
@@ -49,11 +50,12 @@ impl<'a> Model for Ones<'a> {
 }
 
 impl FixedBitSet {
-    /// The set positions, in ascending order. It takes no memory, and reads two words at most.
+    /// The set positions, in ascending order. It takes no memory, and reads the first and the last word; those between
+    /// are not yet taken.
     #[inline]
     pub fn ones(&self) -> Ones<'_>
         ensures items { result.items ≡ model.asc self.now }
-        ensures words { length result.words ≤ model.words_needed self.now.length }
+        ensures words { result.words ≡ between_ends (model.words self.now) }
         ensures turns { result.turns ≡ 0 }
         ensures taken { result.taken ≡ 0 }
     {
@@ -88,7 +90,7 @@ impl<'a> Ones<'a> {
         ensures clears { ClearsBit n.old n.new result }
     {
         let index = lowest_bit(*n);
-        *n &= *n - 1;
+        *n = clear_lowest_bit(*n);
         index
     }
 }

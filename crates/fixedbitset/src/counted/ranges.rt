@@ -1,10 +1,14 @@
 //! Ranges of positions, with a counter of steps.
 //!
-//! A step is one word. A change or a count takes exactly one for each word that holds a position of the range, a test
-//! at most these: so none for an empty range, and never more than `(end - start) / 64 + 2`.
+//! A change or a count takes exactly one step for each word that holds a position of the range: so none for an empty
+//! range, and never more than `(end - start) / 64 + 2`. A test takes no more: one step for each lane of four of the words
+//! that are wholly in the range, and one for each other word that holds a position of it. It stops at the first that
+//! decides, and takes exactly as many where none does.
 
-ghost use Rattle.std.specs.Prelude.{◌≡◌, ◌≤◌, ◌+◌, ◌-◌, ◌/◌, ◌↔◌, IsTrue};
-ghost use Rattle.fixedbitset.specs.Ranges as sets;
+ghost use Rattle.std.specs.Prelude.{◌≡◌, ◌≤◌, ◌+◌, IsTrue, not};
+ghost use Rattle.bitwords.specs.Steps.{range_words, search_steps};
+ghost use Rattle.fixedbitset.specs.Ranges as ranges;
+ghost use Rattle.fixedbitset.specs.Ranges.{over};
 
 use crate::set::FixedBitSet;
 use bitlanes::ops::{And, AndNot, Or, Xor};
@@ -12,15 +16,11 @@ use bitlanes::{IndexRange, Steps};
 
 /// [`FixedBitSet::insert_range`], with the steps that it takes.
 #[inline]
-#[tactic(auto, using(crate::proofs::RangeValues::insert_joined))]
+#[tactic(auto, using(crate::proofs::JoinedValues::insert_joined))]
 pub fn insert_range<R: IndexRange<usize> + Drop>(set: &mut FixedBitSet, range: R, steps: &mut Steps)
-    requires { sets.IsValid set.old.length (R.start_of range) (R.end_of range) }
-    ensures value { set.new ≡ sets.insert_range set.old
-        (sets.start_of (R.start_of range)) (sets.end_of (R.end_of range) set.old.length) }
-    ensures cost { steps.new ≡ steps.old + sets.range_words
-        (sets.start_of (R.start_of range)) (sets.end_of (R.end_of range) set.old.length) }
-    ensures bound { steps.new ≤ steps.old
-        + ((sets.end_of (R.end_of range) set.old.length - sets.start_of (R.start_of range)) / 64 + 2) }
+    requires { IsTrue (over ranges.is_valid set.old (R.start_of range) (R.end_of range)) }
+    ensures value { set.new ≡ over ranges.insert_range set.old (R.start_of range) (R.end_of range) }
+    ensures cost { steps.new ≡ steps.old + over (λ _. range_words) set.old (R.start_of range) (R.end_of range) }
 {
     let start = range.start().unwrap_or(0);
     let end = range.end().unwrap_or(set.len());
@@ -29,15 +29,11 @@ pub fn insert_range<R: IndexRange<usize> + Drop>(set: &mut FixedBitSet, range: R
 
 /// [`FixedBitSet::remove_range`], with the steps that it takes.
 #[inline]
-#[tactic(auto, using(crate::proofs::RangeValues::remove_joined))]
+#[tactic(auto, using(crate::proofs::JoinedValues::remove_joined))]
 pub fn remove_range<R: IndexRange<usize> + Drop>(set: &mut FixedBitSet, range: R, steps: &mut Steps)
-    requires { sets.IsValid set.old.length (R.start_of range) (R.end_of range) }
-    ensures value { set.new ≡ sets.remove_range set.old
-        (sets.start_of (R.start_of range)) (sets.end_of (R.end_of range) set.old.length) }
-    ensures cost { steps.new ≡ steps.old + sets.range_words
-        (sets.start_of (R.start_of range)) (sets.end_of (R.end_of range) set.old.length) }
-    ensures bound { steps.new ≤ steps.old
-        + ((sets.end_of (R.end_of range) set.old.length - sets.start_of (R.start_of range)) / 64 + 2) }
+    requires { IsTrue (over ranges.is_valid set.old (R.start_of range) (R.end_of range)) }
+    ensures value { set.new ≡ over ranges.remove_range set.old (R.start_of range) (R.end_of range) }
+    ensures cost { steps.new ≡ steps.old + over (λ _. range_words) set.old (R.start_of range) (R.end_of range) }
 {
     let start = range.start().unwrap_or(0);
     let end = range.end().unwrap_or(set.len());
@@ -46,15 +42,11 @@ pub fn remove_range<R: IndexRange<usize> + Drop>(set: &mut FixedBitSet, range: R
 
 /// [`FixedBitSet::toggle_range`], with the steps that it takes.
 #[inline]
-#[tactic(auto, using(crate::proofs::RangeValues::toggle_joined))]
+#[tactic(auto, using(crate::proofs::JoinedValues::toggle_joined))]
 pub fn toggle_range<R: IndexRange<usize> + Drop>(set: &mut FixedBitSet, range: R, steps: &mut Steps)
-    requires { sets.IsValid set.old.length (R.start_of range) (R.end_of range) }
-    ensures value { set.new ≡ sets.toggle_range set.old
-        (sets.start_of (R.start_of range)) (sets.end_of (R.end_of range) set.old.length) }
-    ensures cost { steps.new ≡ steps.old + sets.range_words
-        (sets.start_of (R.start_of range)) (sets.end_of (R.end_of range) set.old.length) }
-    ensures bound { steps.new ≤ steps.old
-        + ((sets.end_of (R.end_of range) set.old.length - sets.start_of (R.start_of range)) / 64 + 2) }
+    requires { IsTrue (over ranges.is_valid set.old (R.start_of range) (R.end_of range)) }
+    ensures value { set.new ≡ over ranges.toggle_range set.old (R.start_of range) (R.end_of range) }
+    ensures cost { steps.new ≡ steps.old + over (λ _. range_words) set.old (R.start_of range) (R.end_of range) }
 {
     let start = range.start().unwrap_or(0);
     let end = range.end().unwrap_or(set.len());
@@ -63,19 +55,15 @@ pub fn toggle_range<R: IndexRange<usize> + Drop>(set: &mut FixedBitSet, range: R
 
 /// [`FixedBitSet::count_ones`], with the steps that it takes.
 #[inline]
-#[tactic(auto, using(crate::proofs::RangeValues::counted_ones))]
+#[tactic(auto, using(crate::proofs::JoinedCounts::count_ones_of))]
 pub fn count_ones<R: IndexRange<usize> + Drop>(
     set: &FixedBitSet,
     range: R,
     steps: &mut Steps,
 ) -> usize
-    requires { sets.IsValid set.now.length (R.start_of range) (R.end_of range) }
-    ensures count { result ≡ sets.count_ones set.now
-        (sets.start_of (R.start_of range)) (sets.end_of (R.end_of range) set.now.length) }
-    ensures cost { steps.new ≡ steps.old + sets.range_words
-        (sets.start_of (R.start_of range)) (sets.end_of (R.end_of range) set.now.length) }
-    ensures bound { steps.new ≤ steps.old
-        + ((sets.end_of (R.end_of range) set.now.length - sets.start_of (R.start_of range)) / 64 + 2) }
+    requires { IsTrue (over ranges.is_valid set.now (R.start_of range) (R.end_of range)) }
+    ensures count { result ≡ over ranges.count_ones set.now (R.start_of range) (R.end_of range) }
+    ensures cost { steps.new ≡ steps.old + over (λ _. range_words) set.now (R.start_of range) (R.end_of range) }
 {
     let start = range.start().unwrap_or(0);
     let end = range.end().unwrap_or(set.len());
@@ -84,19 +72,15 @@ pub fn count_ones<R: IndexRange<usize> + Drop>(
 
 /// [`FixedBitSet::count_zeroes`], with the steps that it takes.
 #[inline]
-#[tactic(auto, using(crate::proofs::RangeValues::count_zeroes_of))]
+#[tactic(auto, using(crate::proofs::JoinedCounts::count_zeroes_of))]
 pub fn count_zeroes<R: IndexRange<usize> + Drop>(
     set: &FixedBitSet,
     range: R,
     steps: &mut Steps,
 ) -> usize
-    requires { sets.IsValid set.now.length (R.start_of range) (R.end_of range) }
-    ensures count { result ≡ sets.count_zeroes set.now
-        (sets.start_of (R.start_of range)) (sets.end_of (R.end_of range) set.now.length) }
-    ensures cost { steps.new ≡ steps.old + sets.range_words
-        (sets.start_of (R.start_of range)) (sets.end_of (R.end_of range) set.now.length) }
-    ensures bound { steps.new ≤ steps.old
-        + ((sets.end_of (R.end_of range) set.now.length - sets.start_of (R.start_of range)) / 64 + 2) }
+    requires { IsTrue (over ranges.is_valid set.now (R.start_of range) (R.end_of range)) }
+    ensures count { result ≡ over ranges.count_zeroes set.now (R.start_of range) (R.end_of range) }
+    ensures cost { steps.new ≡ steps.old + over (λ _. range_words) set.now (R.start_of range) (R.end_of range) }
 {
     let start = range.start().unwrap_or(0);
     let end = range.end().unwrap_or(set.len());
@@ -105,18 +89,16 @@ pub fn count_zeroes<R: IndexRange<usize> + Drop>(
 
 /// [`FixedBitSet::contains_all_in_range`], with the steps that it takes.
 #[inline]
+#[tactic(auto, using(crate::proofs::JoinedCounts::contains_all_of))]
 pub fn contains_all_in_range<R: IndexRange<usize> + Drop>(
     set: &FixedBitSet,
     range: R,
     steps: &mut Steps,
 ) -> bool
-    requires { sets.IsValid set.now.length (R.start_of range) (R.end_of range) }
-    ensures told { IsTrue result ↔ sets.ContainsAll set.now
-        (sets.start_of (R.start_of range)) (sets.end_of (R.end_of range) set.now.length) }
-    ensures cost { steps.new ≤ steps.old + sets.range_words
-        (sets.start_of (R.start_of range)) (sets.end_of (R.end_of range) set.now.length) }
-    ensures bound { steps.new ≤ steps.old
-        + ((sets.end_of (R.end_of range) set.now.length - sets.start_of (R.start_of range)) / 64 + 2) }
+    requires { IsTrue (over ranges.is_valid set.now (R.start_of range) (R.end_of range)) }
+    ensures told { result ≡ over ranges.contains_all set.now (R.start_of range) (R.end_of range) }
+    ensures cost { steps.new ≤ steps.old + over (λ _. search_steps) set.now (R.start_of range) (R.end_of range) }
+    ensures whole { IsTrue result → steps.new ≡ steps.old + over (λ _. search_steps) set.now (R.start_of range) (R.end_of range) }
 {
     let start = range.start().unwrap_or(0);
     let end = range.end().unwrap_or(set.len());
@@ -125,18 +107,16 @@ pub fn contains_all_in_range<R: IndexRange<usize> + Drop>(
 
 /// [`FixedBitSet::contains_any_in_range`], with the steps that it takes.
 #[inline]
+#[tactic(auto, using(crate::proofs::JoinedCounts::contains_any_of))]
 pub fn contains_any_in_range<R: IndexRange<usize> + Drop>(
     set: &FixedBitSet,
     range: R,
     steps: &mut Steps,
 ) -> bool
-    requires { sets.IsValid set.now.length (R.start_of range) (R.end_of range) }
-    ensures told { IsTrue result ↔ sets.ContainsAny set.now
-        (sets.start_of (R.start_of range)) (sets.end_of (R.end_of range) set.now.length) }
-    ensures cost { steps.new ≤ steps.old + sets.range_words
-        (sets.start_of (R.start_of range)) (sets.end_of (R.end_of range) set.now.length) }
-    ensures bound { steps.new ≤ steps.old
-        + ((sets.end_of (R.end_of range) set.now.length - sets.start_of (R.start_of range)) / 64 + 2) }
+    requires { IsTrue (over ranges.is_valid set.now (R.start_of range) (R.end_of range)) }
+    ensures told { result ≡ over ranges.contains_any set.now (R.start_of range) (R.end_of range) }
+    ensures cost { steps.new ≤ steps.old + over (λ _. search_steps) set.now (R.start_of range) (R.end_of range) }
+    ensures whole { IsTrue (not result) → steps.new ≡ steps.old + over (λ _. search_steps) set.now (R.start_of range) (R.end_of range) }
 {
     let start = range.start().unwrap_or(0);
     let end = range.end().unwrap_or(set.len());

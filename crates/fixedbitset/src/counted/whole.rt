@@ -1,11 +1,13 @@
 //! Two whole sets, with a counter of steps.
 //!
-//! A step is one lane of four words, or one word, in one turn of a kernel. Over sets of as many words, `m` each, a call
-//! takes exactly `m / 4 + m % 4` steps; a comparison at most these. Over any two it takes at most `m / 4 + 3` for the
-//! `m` words that both have and `t / 4 + 3` for the `t` words that only the longer has. What `grow` writes is not counted.
+//! A step is one lane of four words, or one word, in one turn of a kernel. A change or a count takes exactly
+//! `m / 4 + m % 4` steps over the `m` words that both sets have, and `t / 4 + t % 4` over the `t` words that only one of
+//! them has, where these are cleared or counted. A comparison takes at most as many, since it stops at the first lane or
+//! word that decides; where it answers `true`, exactly. What `grow` writes is not counted.
 
-ghost use Rattle.std.specs.Prelude.{◌≡◌, ◌≤◌, ◌+◌, ◌↔◌, IsTrue, IsOk, OnOk, OnErr};
-ghost use Rattle.bitlanes.specs.Words.{turns};
+ghost use Rattle.std.specs.Prelude.{◌≡◌, ◌≤◌, ◌+◌, IsTrue, IsOk, OnOk, OnErr, true, false};
+ghost use Rattle.bitlanes.specs.Words.{lane_steps};
+ghost use Rattle.bitwords.specs.Steps.{join_steps, both_steps};
 ghost use Rattle.fixedbitset.specs.Bits as model;
 ghost use Rattle.fixedbitset.specs.TwoSets as sets;
 
@@ -18,7 +20,7 @@ use std::alloc::AllocError;
 ///
 /// Where memory was refused the set is as it was.
 #[inline]
-#[tactic(auto, using(crate::proofs::Pairs::union_grown, crate::proofs::Pairs::grown_over, crate::proofs::Pairs::length_grown))]
+#[tactic(auto, using(crate::proofs::JoinedValues::union_grown, crate::proofs::JoinedValues::grown_over, crate::proofs::JoinedValues::grown_length))]
 pub fn union_with(
     set: &mut FixedBitSet,
     other: &FixedBitSet,
@@ -27,9 +29,8 @@ pub fn union_with(
     ensures ok { OnOk result (set.new ≡ sets.union set.old other.now) }
     ensures err { OnErr result (set.new ≡ set.old) }
     ensures succeeds { model.words_needed other.now.length ≤ model.words_needed set.old.length → IsOk result }
-    ensures cost { steps.new ≤ steps.old + sets.whole_steps set.old.length other.now.length }
-    ensures exact { model.words_needed set.old.length ≡ model.words_needed other.now.length
-        → steps.new ≡ steps.old + turns (model.words_needed other.now.length) }
+    ensures cost { OnOk result (steps.new ≡ steps.old + lane_steps (model.words_needed other.now.length)) }
+    ensures refused { OnErr result (steps.new ≡ steps.old) }
 {
     set.grow(other.len())?;
     set.join::<Or>(other, steps);
@@ -40,7 +41,7 @@ pub fn union_with(
 ///
 /// Where memory was refused the set is as it was.
 #[inline]
-#[tactic(auto, using(crate::proofs::Pairs::exchange_grown, crate::proofs::Pairs::grown_over, crate::proofs::Pairs::length_grown))]
+#[tactic(auto, using(crate::proofs::JoinedValues::symmetric_difference_grown, crate::proofs::JoinedValues::grown_over, crate::proofs::JoinedValues::grown_length))]
 pub fn symmetric_difference_with(
     set: &mut FixedBitSet,
     other: &FixedBitSet,
@@ -49,9 +50,8 @@ pub fn symmetric_difference_with(
     ensures ok { OnOk result (set.new ≡ sets.symmetric_difference set.old other.now) }
     ensures err { OnErr result (set.new ≡ set.old) }
     ensures succeeds { model.words_needed other.now.length ≤ model.words_needed set.old.length → IsOk result }
-    ensures cost { steps.new ≤ steps.old + sets.whole_steps set.old.length other.now.length }
-    ensures exact { model.words_needed set.old.length ≡ model.words_needed other.now.length
-        → steps.new ≡ steps.old + turns (model.words_needed other.now.length) }
+    ensures cost { OnOk result (steps.new ≡ steps.old + lane_steps (model.words_needed other.now.length)) }
+    ensures refused { OnErr result (steps.new ≡ steps.old) }
 {
     set.grow(other.len())?;
     set.join::<Xor>(other, steps);
@@ -60,24 +60,22 @@ pub fn symmetric_difference_with(
 
 /// [`FixedBitSet::intersect_with`], with the steps that it takes.
 #[inline]
-#[tactic(auto, using(crate::proofs::Pairs::intersection_joined))]
+#[tactic(auto, using(crate::proofs::JoinedValues::intersection_joined))]
 pub fn intersect_with(set: &mut FixedBitSet, other: &FixedBitSet, steps: &mut Steps)
     ensures value { set.new ≡ sets.intersection set.old other.now }
-    ensures cost { steps.new ≤ steps.old + sets.whole_steps set.old.length other.now.length }
-    ensures exact { model.words_needed set.old.length ≡ model.words_needed other.now.length
-        → steps.new ≡ steps.old + turns (model.words_needed other.now.length) }
+    ensures cost { steps.new ≡ steps.old
+        + join_steps false (model.words_needed set.old.length) (model.words_needed other.now.length) }
 {
     set.join::<And>(other, steps);
 }
 
 /// [`FixedBitSet::difference_with`], with the steps that it takes.
 #[inline]
-#[tactic(auto, using(crate::proofs::Pairs::difference_joined))]
+#[tactic(auto, using(crate::proofs::JoinedValues::difference_joined))]
 pub fn difference_with(set: &mut FixedBitSet, other: &FixedBitSet, steps: &mut Steps)
     ensures value { set.new ≡ sets.difference set.old other.now }
-    ensures cost { steps.new ≤ steps.old + sets.whole_steps set.old.length other.now.length }
-    ensures exact { model.words_needed set.old.length ≡ model.words_needed other.now.length
-        → steps.new ≡ steps.old + turns (model.words_needed other.now.length) }
+    ensures cost { steps.new ≡ steps.old
+        + join_steps true (model.words_needed set.old.length) (model.words_needed other.now.length) }
 {
     set.join::<AndNot>(other, steps);
 }
@@ -87,9 +85,8 @@ pub fn difference_with(set: &mut FixedBitSet, other: &FixedBitSet, steps: &mut S
 #[tactic(auto, using(crate::proofs::JoinedCounts::union_count_of))]
 pub fn union_count(set: &FixedBitSet, other: &FixedBitSet, steps: &mut Steps) -> usize
     ensures count { result ≡ sets.union_count set.now other.now }
-    ensures cost { steps.new ≤ steps.old + sets.whole_steps set.now.length other.now.length }
-    ensures exact { model.words_needed set.now.length ≡ model.words_needed other.now.length
-        → steps.new ≡ steps.old + turns (model.words_needed other.now.length) }
+    ensures cost { steps.new ≡ steps.old
+        + both_steps true true (model.words_needed set.now.length) (model.words_needed other.now.length) }
 {
     set.count_joined::<Or>(other, steps)
 }
@@ -99,9 +96,8 @@ pub fn union_count(set: &FixedBitSet, other: &FixedBitSet, steps: &mut Steps) ->
 #[tactic(auto, using(crate::proofs::JoinedCounts::intersection_count_of))]
 pub fn intersection_count(set: &FixedBitSet, other: &FixedBitSet, steps: &mut Steps) -> usize
     ensures count { result ≡ sets.intersection_count set.now other.now }
-    ensures cost { steps.new ≤ steps.old + sets.whole_steps set.now.length other.now.length }
-    ensures exact { model.words_needed set.now.length ≡ model.words_needed other.now.length
-        → steps.new ≡ steps.old + turns (model.words_needed other.now.length) }
+    ensures cost { steps.new ≡ steps.old
+        + both_steps false false (model.words_needed set.now.length) (model.words_needed other.now.length) }
 {
     set.count_joined::<And>(other, steps)
 }
@@ -111,47 +107,49 @@ pub fn intersection_count(set: &FixedBitSet, other: &FixedBitSet, steps: &mut St
 #[tactic(auto, using(crate::proofs::JoinedCounts::difference_count_of))]
 pub fn difference_count(set: &FixedBitSet, other: &FixedBitSet, steps: &mut Steps) -> usize
     ensures count { result ≡ sets.difference_count set.now other.now }
-    ensures cost { steps.new ≤ steps.old + sets.whole_steps set.now.length other.now.length }
-    ensures exact { model.words_needed set.now.length ≡ model.words_needed other.now.length
-        → steps.new ≡ steps.old + turns (model.words_needed other.now.length) }
+    ensures cost { steps.new ≡ steps.old
+        + both_steps true false (model.words_needed set.now.length) (model.words_needed other.now.length) }
 {
     set.count_joined::<AndNot>(other, steps)
 }
 
 /// [`FixedBitSet::symmetric_difference_count`], with the steps that it takes.
 #[inline]
-#[tactic(auto, using(crate::proofs::JoinedCounts::exchange_count_of))]
+#[tactic(auto, using(crate::proofs::JoinedCounts::symmetric_difference_count_of))]
 pub fn symmetric_difference_count(
     set: &FixedBitSet,
     other: &FixedBitSet,
     steps: &mut Steps,
 ) -> usize
     ensures count { result ≡ sets.symmetric_difference_count set.now other.now }
-    ensures cost { steps.new ≤ steps.old + sets.whole_steps set.now.length other.now.length }
-    ensures exact { model.words_needed set.now.length ≡ model.words_needed other.now.length
-        → steps.new ≡ steps.old + turns (model.words_needed other.now.length) }
+    ensures cost { steps.new ≡ steps.old
+        + both_steps true true (model.words_needed set.now.length) (model.words_needed other.now.length) }
 {
     set.count_joined::<Xor>(other, steps)
 }
 
 /// [`FixedBitSet::is_disjoint`], with the steps that it takes.
 #[inline]
+#[tactic(auto, using(crate::proofs::JoinedCounts::disjoint_of))]
 pub fn is_disjoint(set: &FixedBitSet, other: &FixedBitSet, steps: &mut Steps) -> bool
-    ensures told { IsTrue result ↔ sets.IsDisjoint set.now other.now }
-    ensures cost { steps.new ≤ steps.old + sets.whole_steps set.now.length other.now.length }
-    ensures at_most { model.words_needed set.now.length ≡ model.words_needed other.now.length
-        → steps.new ≤ steps.old + turns (model.words_needed other.now.length) }
+    ensures told { result ≡ sets.is_disjoint set.now other.now }
+    ensures cost { steps.new ≤ steps.old
+        + both_steps false false (model.words_needed set.now.length) (model.words_needed other.now.length) }
+    ensures whole { IsTrue result → steps.new ≡ steps.old
+        + both_steps false false (model.words_needed set.now.length) (model.words_needed other.now.length) }
 {
     set.none_joined::<And>(other, steps)
 }
 
 /// [`FixedBitSet::is_subset`], with the steps that it takes.
 #[inline]
+#[tactic(auto, using(crate::proofs::JoinedCounts::subset_of))]
 pub fn is_subset(set: &FixedBitSet, other: &FixedBitSet, steps: &mut Steps) -> bool
-    ensures told { IsTrue result ↔ sets.IsSubset set.now other.now }
-    ensures cost { steps.new ≤ steps.old + sets.whole_steps set.now.length other.now.length }
-    ensures at_most { model.words_needed set.now.length ≡ model.words_needed other.now.length
-        → steps.new ≤ steps.old + turns (model.words_needed other.now.length) }
+    ensures told { result ≡ sets.is_subset set.now other.now }
+    ensures cost { steps.new ≤ steps.old
+        + both_steps true false (model.words_needed set.now.length) (model.words_needed other.now.length) }
+    ensures whole { IsTrue result → steps.new ≡ steps.old
+        + both_steps true false (model.words_needed set.now.length) (model.words_needed other.now.length) }
 {
     set.none_joined::<AndNot>(other, steps)
 }

@@ -1,19 +1,21 @@
-use Rattle.std.proofs.Common.{◌∙◌, ◌<◌, ◌==◌, ◌^◌, ℕ, sym, ap, arith, get_or}
-use Rattle.fixedbitset.proofs.Joins.{IsWordOp, viewed_words, has_bit-of}
-use Rattle.fixedbitset.proofs.JoinedCounts.{count_words}
-use Rattle.fixedbitset.specs.Both.{both}
-use Rattle.fixedbitset.proofs.BothWords.{all-ones}
+use Rattle.std.proofs.Common.{◌∙◌, ◌==◌, sym, ap}
+use Rattle.fixedbitset.proofs.JoinedCounts.{count_rows}
+use Rattle.fixedbitset.proofs.JoinedWords.{viewed_words, has_bit-of, holds_all}
 use Rattle.fixedbitset.proofs.set.FixedBitSet.none_joined.Goals as goal
 
 pub returns-clause-none : goal.returns-clause-none
 returns-clause-none g c =
-    let law : IsWordOp g.O.WordOp.joined g.O.WordOp.truth g.O.WordOp.KEEP g.O.WordOp.TAKE = record { by_bits = g.met.O.WordOp.by_bits; fits = g.met.O.WordOp.fits; of_first = g.met.O.WordOp.of_first; of_second = g.met.O.WordOp.of_second } in
-    let fit_a : (k : ℕ) → get_or c.self.inside.words.items k 0 < 2 ^ 64 = λ k. rw (← c.as_slice-a.ensures.value) (let h = c.as_slice-a.items_fit k in omega arith) in
-    let fit_b : (k : ℕ) → get_or c.other.inside.words.items k 0 < 2 ^ 64 = λ k. rw (← c.as_slice-b.ensures.value) (let h = c.as_slice-b.items_fit k in omega arith) in
-    let size = count_words law c.args.self.now c.args.other.now _ _ fit_a fit_b g.met.O.WordOp.of_neither (has_bit-of _ _ _ c.self.view_is c.self.invariant) (has_bit-of _ _ _ c.other.view_is c.other.invariant) in
-    (rw (c.as_slice-a.ensures.value, c.as_slice-b.ensures.value) at c.none_both.ensures.zero) ∙ all-ones (both g.O.WordOp.joined g.O.WordOp.KEEP g.O.WordOp.TAKE c.self.inside.words.items c.other.inside.words.items) ∙ ap (λ m. m == 0) (sym size)
+    let a = c.self in
+    let b = c.other in
+    (rw (c.as_slice-a.ensures.value, c.as_slice-b.ensures.value) at c.none.ensures.none)
+    ∙ ap (λ n. n == 0) (sym (count_rows g.O.WordOp.truth g.met.O.WordOp.laws.of_neither c.args.self.now c.args.other.now _ _ (holds_all _ _ _ a.view_is a.invariant) (holds_all _ _ _ b.view_is b.invariant) (has_bit-of _ _ _ a.view_is a.invariant) (has_bit-of _ _ _ b.view_is b.invariant)))
 
 pub returns-clause-cost : goal.returns-clause-cost
 returns-clause-cost g c =
     rw (viewed_words _ _ _ c.self.view_is c.self.invariant, viewed_words _ _ _ c.other.view_is c.other.invariant)
-    (rw (c.as_slice-a.ensures.value, c.as_slice-b.ensures.value) at c.none_both.ensures.cost)
+    (rw (c.as_slice-a.ensures.value, c.as_slice-b.ensures.value) at c.none.ensures.cost)
+
+pub returns-clause-whole : goal.returns-clause-whole
+returns-clause-whole g c =
+    rw (viewed_words _ _ _ c.self.view_is c.self.invariant, viewed_words _ _ _ c.other.view_is c.other.invariant)
+    (rw (c.as_slice-a.ensures.value, c.as_slice-b.ensures.value) at c.none.ensures.whole)

@@ -1,8 +1,10 @@
-use Rattle.std.proofs.Common.{◌≡◌, ◌≤◌, [], ◌∷◌, ◌++◌, length, sym, ap, ◌∙◌, arith}
+use Rattle.std.proofs.Common.{inl, inr, ◌<◌, ◌^◌, ℕ, get_or, rules, ◌≡◌, ◌≤◌, [], ◌∷◌, ◌++◌, length, sym, ap, ◌∙◌, arith}
 use Rattle.std.proofs.lemmas.List.{nil_from_length}
-use Rattle.fixedbitset.specs.Walk.{ones_from}
-use Rattle.fixedbitset.proofs.Words.{viewed_length}
-use Rattle.fixedbitset.proofs.OnesFrom.{ones_from-drop_last, ones_from-asc}
+use Rattle.fixedbitset.specs.Bits.{words}
+use Rattle.fixedbitset.specs.Walk.{between_ends}
+use Rattle.fixedbitset.specs.WalkedWords.{ones_from}
+use Rattle.fixedbitset.proofs.Words.{words-of}
+use Rattle.fixedbitset.proofs.OnesFrom.{between-splits, ones_from-drop_last, ones_from-asc}
 use Rattle.fixedbitset.proofs.set.FixedBitSet.ones.Goals as goal
 use Rattle.fixedbitset.proofs.set.FixedBitSet.ones.Goals.{in-Some, in-None, in-Some-split_last, in-None-split_last}
 
@@ -23,14 +25,18 @@ returns-clause-items c =
 
 pub returns-clause-words : goal.returns-clause-words
 returns-clause-words c =
+    let value = c.as_slice-words.ensures.value in
+    let fit : (k : ℕ) → get_or c.as_slice-words.result.now k 0 < 2 ^ 64 = λ k. search rules in
+    let fits : (k : ℕ) → get_or c.self.inside.words.items k 0 < 2 ^ 64 = λ k. rw (← value) (fit k) in
     let first = c.match-split_first.front in
     let last = c.match-split_last.back in
-    let fewer : length last.1.now ≤ length first.1.now = elim c.match-split_last.branch [
-      | in-Some-split_last w ↦ omega (arith, w.in-Some-split_last.ensures.cases.1, ap (λ t. length t.1.now) w.back-is)
-      | in-None-split_last w ↦ omega (arith, ap (λ t. length t.1.now) w.back-is)
-    ] in
-    let within : length first.1.now ≤ length c.as_slice-words.result.now = elim c.match-split_first.branch [
-      | in-Some w ↦ omega (arith, w.in-Some.ensures.cases.1, ap (λ t. length t.1.now) w.front-is)
-      | in-None w ↦ omega (arith, ap (λ t. length t.1.now) w.front-is)
-    ] in
-    omega (arith, fewer, within, c.self.invariant.count, ap length c.as_slice-words.ensures.value, viewed_length _ _ _ c.self.view_is)
+    between-splits c.as_slice-words.result.now first.1.now last.1.now
+    (elim c.match-split_first.branch [
+      | in-Some w ↦ inl (first.0, rw w.front-is w.in-Some.ensures.cases.0)
+      | in-None w ↦ let none = nil_from_length _ w.in-None.ensures.cases in inr (none, rw w.front-is none)
+    ])
+    (elim c.match-split_last.branch [
+      | in-Some-split_last w ↦ inl (last.0, rw w.back-is w.in-Some-split_last.ensures.cases.0)
+      | in-None-split_last w ↦ let none = nil_from_length _ w.in-None-split_last.ensures.cases in inr (none, rw w.back-is none)
+    ])
+    ∙ ap between_ends (value ∙ sym (words-of _ _ c.self.invariant fits) ∙ ap words c.self.view_is)

@@ -1,5 +1,5 @@
 use Rattle.std.proofs.Common.{◌≡◌, ◌+◌, List, ℕ, length, [], ◌∷◌, ◌++◌}
-use Rattle.fixedbitset.specs.Walk.{IsSpaced, ones_from}
+use Rattle.fixedbitset.specs.WalkedWords.{IsSpaced, ones_from}
 use Rattle.fixedbitset.proofs.walks.OnesIterator.next.Given as goal
 
 -- the end words and the middle have the items that were left, and each word taken made a turn

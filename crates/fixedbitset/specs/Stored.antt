@@ -1,0 +1,34 @@
+-- A value and the words in which a set keeps it. No public clause cites this module.
+use Rattle.std.specs.Prelude.{◌≡◌, ℕ, ◌^◌, ◌<◌, ◌≤◌, Bool, false, List, length}
+use Rattle.std.specs.FinSet as set
+use Rattle.bitwords.specs.Rows.{has_bit}
+use Rattle.fixedbitset.specs.Numbers.{numbers_below, numbers_between}
+use Rattle.fixedbitset.specs.Bits.{Bits, pair, contains, words_needed}
+
+-- length n, and the numbers below it that pass the test
+unfoldable pub having : ℕ → (ℕ → Bool) → Bits
+having n test = pair n (set.retain (numbers_below n) test)
+
+-- length n, and the positions below it that the words have
+unfoldable pub of_words : ℕ → List ℕ → Bits
+of_words n ws = having n (has_bit ws)
+
+-- a length that a usize holds, as many words as it needs, and no bit past it
+pub record IsClean (n : ℕ) (ws : List ℕ) : Type 0 where
+  pub fits : n < 2 ^ 64
+  pub count : length ws ≡ words_needed n
+  pub tail : (p : ℕ) → n ≤ p → has_bit ws p ≡ false
+
+-- ---- what all changes share, and all questions: a second value, which may be that of a range
+
+-- the value of length `end` at which exactly the positions of the range are set
+unfoldable pub range_set : ℕ → ℕ → Bits
+range_set start end = pair end (numbers_between start end)
+
+-- the length of v, and the positions below it at which f of the two memberships holds
+unfoldable pub joined : (Bool → Bool → Bool) → Bits → Bits → Bits
+joined f v w = having v.length (λ p. f (contains v p) (contains w p))
+
+-- how many positions of either pass f of the two memberships
+unfoldable pub count_joined : (Bool → Bool → Bool) → Bits → Bits → ℕ
+count_joined f v w = set.len (set.retain (set.union v.positions w.positions) (λ p. f (contains v p) (contains w p)))
