@@ -1,23 +1,24 @@
 -- The counts of two sets against one another, and sets that are within one another.
-use Rattle.std.proofs.Common.{◌≡◌, ◌+◌, Bool, true, false, not, ◌&&◌, ◌||◌, nat_le, nat_lt, refl, sym, ap, ◌∙◌, arith}
+use Rattle.std.proofs.Common.{◌≡◌, ℕ, ◌+◌, ◌<◌, max, ⊎_elim, Bool, true, false, not, ◌&&◌, ◌||◌, nat_le, nat_lt, refl, sym, ap, ◌∙◌, arith}
 use Rattle.std.specs.Prelude.{◌↔◌}
 use Rattle.std.specs.Ordering.{nat_cmp}
 use Rattle.std.specs.Cmp.{nat_cmp_total}
 use Rattle.std.specs.FinSet as set
 use Rattle.std.specs.FinSet.{FinSet}
-use Rattle.std.proofs.lemmas.Bool.{and_from, le-leb, lt-ltb}
+use Rattle.std.proofs.lemmas.Bool.{and_from, le-leb, lt-ltb, or_cases}
 use Rattle.bitlanes.specs.Bits.{either}
 use Rattle.fixedbitset.specs.Bits.{Bits, contains}
 use Rattle.fixedbitset.specs.BitsFacts.{contains_below}
-use Rattle.fixedbitset.specs.Joined.{exchange}
-use Rattle.fixedbitset.specs.JoinedFacts.{contains-exchange}
-use Rattle.fixedbitset.specs.Ranges.{numbers, count_ones}
-use Rattle.fixedbitset.specs.RangesFacts.{contains-numbers}
-use Rattle.fixedbitset.specs.TwoSets.{union_count, intersection_count, difference_count, symmetric_difference_count, IsSubset}
-use Rattle.bitlaws.proofs.Splits.{same_set, len-split}
+use Rattle.fixedbitset.specs.Numbers.{numbers_between, symmetric_difference}
+use Rattle.fixedbitset.specs.NumbersFacts.{contains-numbers_between, contains-symmetric_difference, same_set, same_truth}
+use Rattle.fixedbitset.specs.Ranges.{count_ones}
+use Rattle.fixedbitset.specs.TwoSets.{union_count, intersection_count, difference_count, symmetric_difference_count, is_subset}
+use Rattle.fixedbitset.specs.TwoSetsFacts.{is_subset-tells}
+use Rattle.bitlaws.specs.TwoSetLaws.{SubsetBothWays, StepsBound, StepsOfEqual}
+use Rattle.bitlaws.proofs.Splits.{len-split}
 
--- the parts of a union and of an exchange
-module _ (s t : FinSet nat_cmp) where
+-- the parts of a union and of a symmetric difference
+module _ (n : ℕ) (s t : FinSet nat_cmp) (below_s : (p : ℕ) → set.contains s p ≡ true → p < n) (below_t : (p : ℕ) → set.contains t p ≡ true → p < n) where
   in_second : (a b : Bool) → ((a || b) && b) ≡ b
   in_second true b = refl
   in_second false true = refl
@@ -42,8 +43,8 @@ module _ (s t : FinSet nat_cmp) where
   pub union-sizes : set.len (set.union s t) + set.len (set.intersection s t) ≡ set.len s + set.len t
   union-sizes =
       let whole : set.len (set.union s t) ≡ set.len t + set.len (set.difference s t) =
-      len-split (set.union s t) t ∙ (λ i. set.len (union-inside i) + set.len (union-outside i)) in
-      omega (arith, whole, len-split s t)
+      len-split n (set.union s t) t (λ p one. ⊎_elim (below_s p) (below_t p) (or_cases _ _ (sym (set.contains-union nat_cmp_total s t p) ∙ one))) ∙ (λ i. set.len (union-inside i) + set.len (union-outside i)) in
+      omega (arith, whole, len-split n s t below_s)
 
   one_inside : (a b : Bool) → (either a b && a) ≡ (a && not b)
   one_inside true true = refl
@@ -57,29 +58,42 @@ module _ (s t : FinSet nat_cmp) where
   one_outside false true = refl
   one_outside false false = refl
 
-  exchange-inside : set.intersection (exchange s t) s ≡ set.difference s t
-  exchange-inside = same_set _ _ (λ p.
+  symmetric_difference-inside : set.intersection (symmetric_difference s t) s ≡ set.difference s t
+  symmetric_difference-inside = same_set _ _ (λ p.
       set.contains-intersection nat_cmp_total _ s p
-      ∙ ap (λ b. b && set.contains s p) (contains-exchange s t p)
+      ∙ ap (λ b. b && set.contains s p) (contains-symmetric_difference s t p)
       ∙ one_inside (set.contains s p) (set.contains t p)
       ∙ sym (set.contains-difference nat_cmp_total s t p))
 
-  exchange-outside : set.difference (exchange s t) s ≡ set.difference t s
-  exchange-outside = same_set _ _ (λ p.
+  symmetric_difference-outside : set.difference (symmetric_difference s t) s ≡ set.difference t s
+  symmetric_difference-outside = same_set _ _ (λ p.
       set.contains-difference nat_cmp_total _ s p
-      ∙ ap (λ b. b && not (set.contains s p)) (contains-exchange s t p)
+      ∙ ap (λ b. b && not (set.contains s p)) (contains-symmetric_difference s t p)
       ∙ one_outside (set.contains s p) (set.contains t p)
       ∙ sym (set.contains-difference nat_cmp_total t s p))
 
-  pub exchange-sizes : set.len (exchange s t) ≡ set.len (set.difference s t) + set.len (set.difference t s)
-  exchange-sizes = len-split (exchange s t) s ∙ (λ i. set.len (exchange-inside i) + set.len (exchange-outside i))
+  in_some : (a b : Bool) → either a b ≡ true → (a || b) ≡ true
+  in_some true b one = refl
+  in_some false b one = one
+
+  pub symmetric_difference-sizes : set.len (symmetric_difference s t) ≡ set.len (set.difference s t) + set.len (set.difference t s)
+  symmetric_difference-sizes = len-split n (symmetric_difference s t) s (λ p one. ⊎_elim (below_s p) (below_t p) (or_cases _ _ (in_some (set.contains s p) _ (sym (contains-symmetric_difference s t p) ∙ one)))) ∙ (λ i. set.len (symmetric_difference-inside i) + set.len (symmetric_difference-outside i))
+
+-- the positions of two values are below the greater of their lengths
+below_first : (v w : Bits) (p : ℕ) → set.contains v.positions p ≡ true → p < max v.length w.length
+unfolding contains
+below_first v w p one = let h : p < v.length = contains_below v p one in omega arith
+
+below_second : (v w : Bits) (p : ℕ) → set.contains w.positions p ≡ true → p < max v.length w.length
+unfolding contains
+below_second v w p one = let h : p < w.length = contains_below w p one in omega arith
 
 -- all positions of a value are below its length
 count_ones-all : (v : Bits) → count_ones v 0 v.length ≡ set.len v.positions
 unfolding count_ones contains
 count_ones-all v = ap set.len (same_set _ _ (λ p.
-    set.contains-intersection nat_cmp_total (numbers 0 v.length) v.positions p
-    ∙ ap (λ b. b && set.contains v.positions p) (contains-numbers 0 v.length p)
+    set.contains-intersection nat_cmp_total (numbers_between 0 v.length) v.positions p
+    ∙ ap (λ b. b && set.contains v.positions p) (contains-numbers_between 0 v.length p)
     ∙ implied (nat_le 0 p && nat_lt p v.length) (set.contains v.positions p) (λ one. and_from _ _ (le-leb 0 p (omega arith)) (lt-ltb _ _ (contains_below v p one)))))
   where
     implied : (a b : Bool) → (b ≡ true → a ≡ true) → (a && b) ≡ b
@@ -89,21 +103,29 @@ count_ones-all v = ap set.len (same_set _ _ (λ p.
 
 pub counts-sum : (v w : Bits) → union_count v w + intersection_count v w ≡ count_ones v 0 v.length + count_ones w 0 w.length
 unfolding union_count intersection_count
-counts-sum v w = omega (arith, union-sizes v.positions w.positions, count_ones-all v, count_ones-all w)
+counts-sum v w = omega (arith, union-sizes (max v.length w.length) v.positions w.positions (below_first v w) (below_second v w), count_ones-all v, count_ones-all w)
 
 pub symmetric_difference_count-sum : (v w : Bits) → symmetric_difference_count v w ≡ difference_count v w + difference_count w v
 unfolding symmetric_difference_count difference_count
-symmetric_difference_count-sum v w = exchange-sizes v.positions w.positions
+symmetric_difference_count-sum v w = symmetric_difference-sizes (max v.length w.length) v.positions w.positions (below_first v w) (below_second v w)
 
--- two truths that imply one another
-same_truth : (a b : Bool) → (a ≡ true → b ≡ true) → (b ≡ true → a ≡ true) → a ≡ b
-same_truth true b to from = sym (to refl)
-same_truth false true to from = from refl
-same_truth false false to from = refl
-
-pub subsets : (v w : Bits) → (IsSubset v w × IsSubset w v) ↔ (v.positions ≡ w.positions)
+pub subsets : SubsetBothWays
 unfolding contains
 subsets v w = (
-  λ within. same_set v.positions w.positions (λ p. same_truth _ _ (within.0 p) (within.1 p)),
-  λ same. (λ p one. sym (ap (λ s. set.contains s p) same) ∙ one, λ p one. ap (λ s. set.contains s p) same ∙ one),
+  λ within. same_set v.positions w.positions (λ p. same_truth _ _ ((is_subset-tells v w).0 within.0 p) ((is_subset-tells w v).0 within.1 p)),
+  λ same. ((is_subset-tells v w).1 (λ p one. sym (ap (λ s. set.contains s p) same) ∙ one), (is_subset-tells w v).1 (λ p one. ap (λ s. set.contains s p) same ∙ one)),
 )
+
+-- ---- the steps
+
+pub steps_bound : StepsBound
+steps_bound true true n m = (omega arith, omega arith)
+steps_bound true false n m = (omega arith, omega arith)
+steps_bound false true n m = (omega arith, omega arith)
+steps_bound false false n m = (omega arith, omega arith)
+
+pub steps_of_equal : StepsOfEqual
+steps_of_equal true true n = (omega arith, omega arith)
+steps_of_equal true false n = (omega arith, omega arith)
+steps_of_equal false true n = (omega arith, omega arith)
+steps_of_equal false false n = (omega arith, omega arith)

@@ -1,8 +1,10 @@
 -- What holds of two sets of any two lengths, for all values.
-use Rattle.std.specs.Prelude.{◌≡◌, ◌+◌, ◌↔◌}
-use Rattle.fixedbitset.specs.Bits.{Bits}
+use Rattle.std.specs.Prelude.{◌≡◌, ℕ, ◌+◌, ◌-◌, ◌/◌, ◌≤◌, max, min, Bool, IsTrue, ◌↔◌}
+use Rattle.bitlanes.specs.Words.{lane_steps}
+use Rattle.bitwords.specs.Steps.{join_steps, both_steps}
+use Rattle.fixedbitset.specs.Bits.{Bits, contains}
 use Rattle.fixedbitset.specs.Ranges.{count_ones}
-use Rattle.fixedbitset.specs.TwoSets.{union_count, intersection_count, difference_count, symmetric_difference_count, IsSubset}
+use Rattle.fixedbitset.specs.TwoSets.{union_count, intersection_count, difference_count, symmetric_difference_count, is_subset, is_disjoint}
 
 -- the positions of either and those of both are as many as those of the two sets
 abbrev pub CountsAddUp : Type 0
@@ -12,6 +14,26 @@ CountsAddUp = (v w : Bits) → union_count v w + intersection_count v w ≡ coun
 abbrev pub SymmetricDifferenceIsSum : Type 0
 SymmetricDifferenceIsSum = (v w : Bits) → symmetric_difference_count v w ≡ difference_count v w + difference_count w v
 
--- each has the positions of the other exactly if they have the same positions, whatever their lengths
+-- each is a subset of the other exactly if they have the same positions, whatever their lengths
 abbrev pub SubsetBothWays : Type 0
-SubsetBothWays = (v w : Bits) → (IsSubset v w × IsSubset w v) ↔ (v.positions ≡ w.positions)
+SubsetBothWays = (v w : Bits) → (IsTrue (is_subset v w) × IsTrue (is_subset w v)) ↔ (v.positions ≡ w.positions)
+
+-- `is_subset` is true exactly if the second has each position of the first
+abbrev pub IsSubsetTells : Type 0
+IsSubsetTells = (v w : Bits) → IsTrue (is_subset v w) ↔ ((p : ℕ) → IsTrue (contains v p) → IsTrue (contains w p))
+
+-- `is_disjoint` is true exactly if no position is in both
+abbrev pub IsDisjointTells : Type 0
+IsDisjointTells = (v w : Bits) → IsTrue (is_disjoint v w) ↔ ((p : ℕ) → IsTrue (contains v p) → ¬ (IsTrue (contains w p)))
+
+-- steps that suffice over n and m words: by fours over those that both have, and over the rest of the longer
+abbrev pub most_steps : ℕ → ℕ → ℕ
+most_steps n m = min n m / 4 + 3 + ((max n m - min n m) / 4 + 3)
+
+-- no call over two sets takes more steps
+abbrev pub StepsBound : Type 0
+StepsBound = (keep take : Bool) (n m : ℕ) → (join_steps keep n m ≤ most_steps n m) × (both_steps keep take n m ≤ most_steps n m)
+
+-- over as many words each takes those of one kernel
+abbrev pub StepsOfEqual : Type 0
+StepsOfEqual = (keep take : Bool) (n : ℕ) → (join_steps keep n n ≡ lane_steps n) × (both_steps keep take n n ≡ lane_steps n)
