@@ -141,7 +141,11 @@ module _ (n : ℕ) (ws : List ℕ) (v : Bits) (bit x : ℕ) where
   pub IsClean_toggle : of_words n ws ≡ v → IsClean n ws → bit < v.length → x ≡ get_or ws (bit / 64) x → IsClean n (set ws (bit / 64) (bit_xor x (1 * 2 ^ (bit % 64) % 2 ^ 64)))
   IsClean_toggle view clean inside read = (of-set_bit _ _ view clean inside read (ChangesBit-flip x (bit % 64) (omega arith))).1
 
-  -- the test `word & (1 << k) != 0`
+  -- the test `word & (1 << k) != 0`, of a position below the length of the value
+  pub viewed_mask : of_words n ws ≡ v → IsClean n ws → bit < v.length → x ≡ get_or ws (bit / 64) x → not (bit_and x (1 * 2 ^ (bit % 64) % 2 ^ 64) == 0) ≡ contains v bit
+  viewed_mask view clean inside read = test_of_and x (bit % 64) (omega arith) ∙ viewed_bit view clean inside read
+
+  -- the same, of a position below the length that is kept
   pub viewed_test : of_words n ws ≡ v → IsClean n ws → bit < n → x ≡ get_or ws (bit / 64) x → not (bit_and x (1 * 2 ^ (bit % 64) % 2 ^ 64) == 0) ≡ contains v bit
   viewed_test view clean inside read = test_of_and x (bit % 64) (omega arith) ∙ viewed_bit view clean (rw (← viewed_length n ws v view) inside) read
 

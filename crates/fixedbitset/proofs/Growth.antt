@@ -5,6 +5,7 @@ use Rattle.std.proofs.lemmas.Bool.{cases_lt}
 use Rattle.std.proofs.lemmas.List.{get_or-append_right, get_or_append_left, get_or_past, get_or-replicate, length-replicate, length-append, take_all}
 use Rattle.std.proofs.lemmas.Nat.Bits.{bit_at-zero}
 use Rattle.bitwords.specs.Rows.{has_bit}
+use Rattle.bitwords.specs.RowFacts.{has_bit-same}
 use Rattle.fixedbitset.specs.Bits.{Bits, empty, grow, words_needed}
 use Rattle.fixedbitset.specs.BitsFacts.{same_bits, contains-grow, length-grow, contains-empty, length-empty}
 use Rattle.fixedbitset.specs.Stored.{of_words, IsClean}
@@ -39,24 +40,27 @@ module _ (n m : ℕ) (ws new : List ℕ) (clean : IsClean n ws) (fits : m < 2 ^ 
       (length-of_words m new ∙ (let e : m ≡ max n m = omega arith in e) ∙ ap (λ k. max k m) (sym (length-of_words n ws)) ∙ sym (length-grow (of_words n ws) m))
       (λ p. contains-of_clean m new IsClean-longer p ∙ same p ∙ sym (contains-of_clean n ws clean p) ∙ sym (contains-grow (of_words n ws) m p))
 
-has_bit-zeros : (ws : List ℕ) (k j p : ℕ) → length ws ≤ k → has_bit (take k ws ++ zeros j) p ≡ has_bit ws p
-unfolding has_bit
-has_bit-zeros ws k j p h = ap (λ x. bit_at x (p % 64) == 1) (get_or-zeros (take k ws) j (p / 64) ∙ ap (λ xs. get_or xs (p / 64) 0) (take_all k ws h))
+has_bit-zeros : (ws : List ℕ) (j p : ℕ) → has_bit (ws ++ zeros j) p ≡ has_bit ws p
+has_bit-zeros ws j p = has_bit-same (ws ++ zeros j) ws (get_or-zeros ws j) p
 
-length-resized : (ws : List ℕ) (k : ℕ) → length ws ≤ k → length (take k ws ++ zeros (k - length ws)) ≡ k
-length-resized ws k h = length-append (take k ws) _ ∙ ap (λ xs. length xs + length (zeros (k - length ws))) (take_all k ws h) ∙ ap (λ x. length ws + x) (length-replicate (k - length ws) 0) ∙ omega arith
-
--- what `resize` leaves
+-- what `lengthen` leaves
 module _ (n m : ℕ) (ws : List ℕ) (v : Bits) (new : List ℕ) (len needed : ℕ) where
-  pub IsClean_resize : IsClean n ws → m < 2 ^ 64 → n < m → len ≡ length ws → needed ≡ words_needed m → new ≡ take needed ws ++ replicate (needed - len) 0 → IsClean m new
-  IsClean_resize clean below longer same_len same_needed items =
-      let fits : length ws ≤ words_needed m = omega (arith, clean.count) in
-      rw (items, same_len, same_needed) (IsClean-longer n m ws _ clean below (omega arith) (length-resized ws _ fits) (λ p. has_bit-zeros ws _ _ p fits))
+  enough : IsClean n ws → n < m → len ≡ length ws → needed ≡ words_needed m → len ≤ needed
+  enough clean longer same_len same_needed = omega (arith, clean.count)
 
-  pub of_resize : of_words n ws ≡ v → IsClean n ws → m < 2 ^ 64 → n < m → len ≡ length ws → needed ≡ words_needed m → new ≡ take needed ws ++ replicate (needed - len) 0 → of_words m new ≡ grow v m
-  of_resize view clean below longer same_len same_needed items =
-      let fits : length ws ≤ words_needed m = omega (arith, clean.count) in
-      rw (items, same_len, same_needed) (of-longer n m ws _ clean below (omega arith) (length-resized ws _ fits) (λ p. has_bit-zeros ws _ _ p fits) ∙ ap (λ w. grow w m) view)
+  length-new : IsClean n ws → n < m → len ≡ length ws → needed ≡ words_needed m → new ≡ ws ++ replicate (needed - len) 0 → length new ≡ words_needed m
+  length-new clean longer same_len same_needed items =
+      let fits : len ≤ needed = enough clean longer same_len same_needed in
+      ap length items ∙ length-append ws _ ∙ ap (λ x. length ws + x) (length-replicate (needed - len) 0) ∙ omega arith
+
+  pub IsClean_longer : IsClean n ws → m < 2 ^ 64 → n < m → len ≡ length ws → needed ≡ words_needed m → new ≡ ws ++ replicate (needed - len) 0 → IsClean m new
+  IsClean_longer clean below longer same_len same_needed items =
+      IsClean-longer n m ws new clean below (omega arith) (length-new clean longer same_len same_needed items) (λ p. ap (λ xs. has_bit xs p) items ∙ has_bit-zeros ws (needed - len) p)
+
+  pub of_longer : of_words n ws ≡ v → IsClean n ws → m < 2 ^ 64 → n < m → len ≡ length ws → needed ≡ words_needed m → new ≡ ws ++ replicate (needed - len) 0 → of_words m new ≡ grow v m
+  of_longer view clean below longer same_len same_needed items =
+      of-longer n m ws new clean below (omega arith) (length-new clean longer same_len same_needed items) (λ p. ap (λ xs. has_bit xs p) items ∙ has_bit-zeros ws (needed - len) p)
+      ∙ ap (λ w. grow w m) view
 
   -- room for as many words as there are is there already
   pub room : of_words n ws ≡ v → IsClean n ws → len ≡ length ws → (cap : ℕ) → len ≤ cap → needed ≡ words_needed m → words_needed m ≤ words_needed v.length → needed ≤ cap

@@ -91,10 +91,12 @@ module _ {f : ℕ → ℕ → ℕ} {t : Bool → Bool → Bool} {keep take : Boo
       ∙ sym (in_both (in_range start end p) (contains v p))
       ∙ ap (λ b. t b (contains v p)) (sym (contains-range_set start end p)) in
       let past : (p : ℕ) → end ≤ p → p < v.length → d p ≡ false = λ p h _. ap (λ b. b && c p) (past_range start end p h) in
-      omega (arith,
-      count_joined-below t law.of_neither (range_set start end) v v.length d (omega (arith, length-range_set start end)) (omega arith) is,
-      count-shorter d end v.length within past,
-      count-in_range c start end order)
+      omega (
+        arith,
+        count_joined-below t law.of_neither (range_set start end) v v.length d (omega (arith, length-range_set start end)) (omega arith) is,
+        count-shorter d end v.length within past,
+        count-in_range c start end order,
+      )
 
 -- a count stays over a range exactly if its part of the range is 0
 pub part_is_none : (part start end : ℕ) → part + start ≡ end → (end == start) ≡ (part == 0)

@@ -43,14 +43,16 @@ impl FixedBitSet {
     /// Sets the position, which has to be below the length, and answers whether it was set before. Upstream panics
     /// past the length.
     #[inline]
+    #[tactic(auto, using(crate::proofs::Changes::viewed_place, crate::proofs::Changes::of_insert, crate::proofs::Changes::viewed_mask))]
     pub fn put(&mut self, bit: usize) -> bool
         requires { bit < self.old.length }
         ensures before { result ≡ model.contains self.old bit }
         ensures after { self.new ≡ model.insert self.old bit }
     {
-        let was_set = self.contains(bit);
-        self.insert(bit);
-        was_set
+        let word = self.words[bit / BITS];
+        let mask = 1 << (bit % BITS);
+        self.words[bit / BITS] = word | mask;
+        word & mask != 0
     }
 
     /// Sets the position if it is clear and clears it if it is set. It has to be below the length; upstream panics

@@ -1,6 +1,7 @@
 //! The set itself: making one, growing it, its length and its words.
 
-ghost use Rattle.std.specs.Prelude.{◌≡◌, ◌≤◌, IsOk, IfOk, OnOk, OnErr};
+ghost use Rattle.std.specs.Prelude.{◌≡◌, ◌≤◌, ◌-◌, ◌++◌, replicate, vec_len, IsOk, IfOk, OnOk, OnErr};
+ghost use Rattle.std.specs.Vec.{vec_capacity};
 ghost use Rattle.fixedbitset.specs.Bits as model;
 
 use bitlanes::word::{BITS, Block};
@@ -68,7 +69,7 @@ impl FixedBitSet {
         ensures succeeds { model.words_needed bits ≤ model.words_needed self.old.length → IsOk result }
     {
         if bits > self.length {
-            self.words.resize(bits.div_ceil(BITS), 0)?;
+            lengthen(&mut self.words, bits.div_ceil(BITS))?;
             self.length = bits;
         }
         Ok(())
@@ -93,4 +94,21 @@ impl FixedBitSet {
         let words = self.words.as_slice();
         words
     }
+}
+
+// Adds words that are 0 until there are `count`. It is never inlined, so that `grow` is short where nothing has to grow.
+// One word more is pushed, which is quicker than a resize.
+#[inline(never)]
+fn lengthen(words: &mut Vec<Block>, count: usize) -> Result<(), AllocError>
+    requires { vec_len words.old ≤ count }
+    ensures ok { OnOk result (words.new.items ≡ words.old.items ++ replicate (count - vec_len words.old) 0) }
+    ensures err { OnErr result (words.new.items ≡ words.old.items) }
+    ensures succeeds { count ≤ vec_capacity words.old → IsOk result }
+{
+    if count == words.len() + 1 {
+        words.push(0)?;
+    } else {
+        words.resize(count, 0)?;
+    }
+    Ok(())
 }

@@ -12,5 +12,8 @@ count-requires-clause-within g c = rw c.as_slice-words.ensures.value (reaches _ 
 pub returns-clause-count : goal.returns-clause-count
 returns-clause-count g c =
     let v = c.args.self.now in
-    omega (arith, rw c.as_slice-words.ensures.value at c.count.ensures.count,
-    count_range-is g.met.O.WordOp.laws c.requires.drops v c.self.inside.words.items c.args.start c.args.end (has_bit-of _ _ _ c.self.view_is c.self.invariant) (valid_order c.args.self.now _ _ c.requires.valid) (valid_within c.args.self.now _ _ c.requires.valid))
+    omega (
+      arith,
+      rw c.as_slice-words.ensures.value at c.count.ensures.count,
+      count_range-is g.met.O.WordOp.laws c.requires.drops v c.self.inside.words.items c.args.start c.args.end (has_bit-of _ _ _ c.self.view_is c.self.invariant) (valid_order c.args.self.now _ _ c.requires.valid) (valid_within c.args.self.now _ _ c.requires.valid),
+    )
