@@ -1,10 +1,12 @@
 -- words whose bits in one stretch are set, and no other
-use Rattle.std.proofs.Common.{◌≡◌, ℕ, ◌-◌, ◌*◌, ◌%◌, ◌^◌, ◌<◌, ◌≤◌, not, ◌&&◌, ◌==◌, nat_lt, nat_le, bit_and, sym, ap, ◌∙◌, arith, ⊎_elim}
+use Rattle.std.proofs.Common.{◌≡◌, ℕ, zero, suc, ◌+◌, ◌-◌, ◌/◌, ◌*◌, ◌%◌, ◌^◌, ◌<◌, ◌≤◌, not, ◌&&◌, ◌==◌, nat_lt, nat_le, bit_and, sym, ap, ◌∙◌, arith, ⊎_elim}
 use Rattle.std.specs.Int.{bit_not, w64}
 use Rattle.std.proofs.lemmas.Bool.{cases_lt, lt-ltb, le-ltb}
 use Rattle.std.proofs.lemmas.Bool.Decides.{nat_tests}
-use Rattle.std.proofs.lemmas.Nat.{one_shl}
-use Rattle.std.proofs.lemmas.Nat.Bits.{bit_at_ones, bit_at_ones_above}
+use Rattle.std.proofs.Math.Nat.{suc-mul}
+use Rattle.std.proofs.Math.Pow.{pow_mono}
+use Rattle.std.proofs.lemmas.Nat.{one_shl, pow_pos, pow-add}
+use Rattle.std.proofs.lemmas.Nat.Bits.{bit_at_ones, bit_at_ones_above, bit_at-zero, bit_at_cat_low, bit_at_cat_high, ones_shr}
 use Rattle.bitlanes.specs.Bits.{bit}
 use Rattle.bitlanes.specs.BitLaws.{bit-without}
 
@@ -26,6 +28,28 @@ all_ones k i within past = let e : k ≡ 64 = omega arith in rw e (bit-ones 64 i
 between : (low high i : ℕ) → (nat_lt i high && not (nat_lt i low)) ≡ (nat_le low i && nat_lt i high)
 between low high i = grind (arith, nat_tests)
 
--- the ones below `high` without those below `low`
-pub ones_between : (low high a b i : ℕ) → a < 2 ^ 64 → b < 2 ^ 64 → ((j : ℕ) → bit a j ≡ nat_lt j high) → ((j : ℕ) → bit b j ≡ nat_lt j low) → bit (bit_and a (bit_not w64 b)) i ≡ (nat_le low i && nat_lt i high)
-ones_between low high a b i a_fits b_fits is_a is_b = bit-without a b i a_fits b_fits ∙ (let e = is_a i in let f = is_b i in λ j. e j && not (f j)) ∙ between low high i
+less_one : (a b : ℕ) → 0 < a → (a - 1) * b + b ≡ a * b
+less_one zero b h = absurd (omega arith)
+less_one (suc a) b h = let e : suc a - 1 ≡ a = omega arith in let f : suc a * b ≡ a * b + b = suc-mul a b in ap (λ x. x * b + b) e ∙ sym f
+
+-- as many ones as lie between, from `low` on
+pub ones_from : (low high i : ℕ) → low < high → high ≤ 64 → bit ((2 ^ 64 - 1) / 2 ^ (64 - (high - low)) * 2 ^ low % 2 ^ 64) i ≡ (nat_le low i && nat_lt i high)
+ones_from low high i some within =
+    let n : ℕ = high - low in
+    let few : 2 ^ (64 - (64 - n)) ≡ 2 ^ n = ap (λ k. 2 ^ k) (omega arith) in
+    let kept : (2 ^ 64 - 1) / 2 ^ (64 - n) ≡ 2 ^ n - 1 = ones_shr 64 (64 - n) (omega arith) ∙ ap (λ x. x - 1) few in
+    let whole : 2 ^ n * 2 ^ low ≡ 2 ^ high = sym (pow-add 2 n low) ∙ ap (λ k. 2 ^ k) (omega arith) in
+    let some_left : 0 < 2 ^ low = pow_pos low in
+    let some_kept : 0 < 2 ^ n = pow_pos n in
+    let parts : (2 ^ n - 1) * 2 ^ low + 2 ^ low ≡ 2 ^ n * 2 ^ low = less_one (2 ^ n) (2 ^ low) some_kept in
+    let most : 2 ^ high ≤ 2 ^ 64 = pow_mono within in
+    let fits : (2 ^ n - 1) * 2 ^ low % 2 ^ 64 ≡ (2 ^ n - 1) * 2 ^ low + 0 = omega (arith, parts, whole, most, some_left) in
+    ap (λ x. bit (x * 2 ^ low % 2 ^ 64) i) kept
+    ∙ ap (λ x. bit x i) fits
+    ∙ ⊎_elim
+    (λ (below : i < low). ap (λ x. x == 1) (bit_at_cat_low (2 ^ n - 1) low 0 i below ∙ bit_at-zero i) ∙ grind (arith, nat_tests))
+    (λ (from : low ≤ i). ap (λ x. x == 1) (bit_at_cat_high (2 ^ n - 1) low 0 i some_left from) ∙ bit-ones n (i - low) ∙ grind (arith, nat_tests))
+    (cases_lt i low)
+
+pub no_ones : (low high i : ℕ) → high ≤ low → bit 0 i ≡ (nat_le low i && nat_lt i high)
+no_ones low high i none = ap (λ n. n == 1) (bit_at-zero i) ∙ grind (arith, nat_tests)

@@ -64,11 +64,15 @@ pub fn ones_below(count: usize) -> Block
 ///
 /// Where `high` is `low` or less, no bit is set.
 #[inline(always)]
-#[tactic(auto, using(crate::proofs::Stretches::ones_between))]
+#[tactic(auto, using(crate::proofs::Stretches::ones_from, crate::proofs::Stretches::no_ones))]
 pub fn stretch(low: usize, high: usize) -> Block
     requires from { low ≤ 64 }
     requires to { high ≤ 64 }
     ensures { (i : ℕ) → bit result i ≡ (nat_le low i && nat_lt i high) }
 {
-    ones_below(high) & !ones_below(low)
+    if low < high {
+        (Block::MAX >> (BITS - (high - low))) << low
+    } else {
+        0
+    }
 }

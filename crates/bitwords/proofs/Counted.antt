@@ -33,13 +33,16 @@ module _ {f : ℕ → ℕ → ℕ} {t : Bool → Bool → Bool} {keep take_right
       ∙ (let a : bit mask i ≡ in_range start end (64 * k + i) = masked i ∙ ap (λ b. b && in_range start end (64 * k + i)) (lt-ltb i 64 h) in let b = sym (has_bit-at ws k i h) in λ j. t (a j) (b j))
       ∙ tested _ _ in
       let whole : 64 * (k + 1) ≡ 64 * k + 64 = omega arith in
-      omega (arith,
-      ones-bits 64 x (law.fits mask (get_or ws k 0) fits (words k)),
-      count-same (bit x) (λ i. d (64 * k + i)) 64 bits,
-      ap (count_below d) whole, count-append d (64 * k) 64,
-      count-none d (64 * k) (λ p h. ap (λ b. b && c p) (before_range start end p (omega arith))),
-      count-shorter d end (64 * (k + 1)) to (λ p h _. ap (λ b. b && c p) (past_range start end p h)),
-      count-in_range c start end order)
+      omega (
+        arith,
+        ones-bits 64 x (law.fits mask (get_or ws k 0) fits (words k)),
+        count-same (bit x) (λ i. d (64 * k + i)) 64 bits,
+        ap (count_below d) whole,
+        count-append d (64 * k) 64,
+        count-none d (64 * k) (λ p h. ap (λ b. b && c p) (before_range start end p (omega arith))),
+        count-shorter d end (64 * (k + 1)) to (λ p h _. ap (λ b. b && c p) (past_range start end p h)),
+        count-in_range c start end order,
+      )
 
   -- of word k, whole
   pub count-whole : (k : ℕ) → ones (f (2 ^ 64 - 1) (get_or ws k 0)) + count_below (bit_test (t true) ws) (64 * k) ≡ count_below (bit_test (t true) ws) (64 * (k + 1))
@@ -52,10 +55,14 @@ module _ {f : ℕ → ℕ → ℕ} {t : Bool → Bool → Bool} {keep take_right
       let e : k + suc n ≡ k + 1 + n = omega arith in
       let s : suc k ≡ k + 1 = omega arith in
       let first : drop k ws ≡ get_or ws k 0 ∷ drop (k + 1) ws = drop-cons ws k 0 (omega arith) ∙ ap (λ j. get_or ws k 0 ∷ drop j ws) s in
-      omega (arith,
-      ap (λ xs. sum_by ones (map (f (2 ^ 64 - 1)) (take (suc n) xs))) first,
-      sum_by-cons ones (f (2 ^ 64 - 1) (get_or ws k 0)) (map (f (2 ^ 64 - 1)) (take n (drop (k + 1) ws))),
-      count-whole k, count-wholes n (k + 1) (omega arith), ap (λ j. count_below (bit_test (t true) ws) (64 * j)) e)
+      omega (
+        arith,
+        ap (λ xs. sum_by ones (map (f (2 ^ 64 - 1)) (take (suc n) xs))) first,
+        sum_by-cons ones (f (2 ^ 64 - 1) (get_or ws k 0)) (map (f (2 ^ 64 - 1)) (take n (drop (k + 1) ws))),
+        count-whole k,
+        count-wholes n (k + 1) (omega arith),
+        ap (λ j. count_below (bit_test (t true) ws) (64 * j)) e,
+      )
 
 -- a count over the whole words of a range that is cut
 pub count-between : (start end low high : ℕ) → IsCut start end low high → (c : ℕ → Bool) (n : ℕ) → n + count_below c (64 * (low / 64)) ≡ count_below c (64 * (high / 64)) → n + count_below c low ≡ count_below c high

@@ -29,6 +29,13 @@ zip_longest-parts f false true (x ∷ xs) [] = refl
 zip_longest-parts f false false (x ∷ xs) [] = refl
 zip_longest-parts f keep take (x ∷ xs) (y ∷ ys) = ap (λ t. f x y ∷ t) (zip_longest-parts f keep take xs ys)
 
+zip_longest-like : (f : ℕ → ℕ → ℕ) (keep take : Bool) (xs ys : List ℕ) → length xs ≡ length ys → zip_longest f keep take xs ys ≡ zip2 f xs ys
+zip_longest-like f keep true [] [] e = refl
+zip_longest-like f keep false [] [] e = refl
+zip_longest-like f keep take [] (y ∷ ys) e = absurd (omega arith)
+zip_longest-like f keep take (x ∷ xs) [] e = absurd (omega arith)
+zip_longest-like f keep take (x ∷ xs) (y ∷ ys) e = ap (λ t. f x y ∷ t) (zip_longest-like f keep take xs ys (omega arith))
+
 -- where the longer's rest is kept, its sum is added
 pub sum_longest : (h : ℕ → ℕ) (f : ℕ → ℕ → ℕ) (keep take : Bool) (xs ys : List ℕ) → sum_by h (zip_longest f keep take xs ys) ≡ sum_by h (zip2 f xs ys) + ((if keep then sum_by h (drop (length ys) xs) else 0) + (if take then sum_by h (drop (length xs) ys) else 0))
 sum_longest h f keep take xs ys =
@@ -53,6 +60,13 @@ all_longest p f keep take xs ys =
     ∙ ap (λ b. list_all p (zip2 f xs ys) && b) (
     list_all-append p (if keep then drop (length ys) xs else []) _
     ∙ (let a = all_if p keep (drop (length ys) xs) in let b = all_if p take (drop (length xs) ys) in λ i. a i && b i))
+
+-- rows of one length have no rest
+pub sum_like : (h : ℕ → ℕ) (f : ℕ → ℕ → ℕ) (keep take : Bool) (xs ys : List ℕ) → length xs ≡ length ys → sum_by h (zip_longest f keep take xs ys) ≡ sum_by h (zip2 f xs ys)
+sum_like h f keep take xs ys same = ap (sum_by h) (zip_longest-like f keep take xs ys same)
+
+pub all_like : (p : ℕ → Bool) (f : ℕ → ℕ → ℕ) (keep take : Bool) (xs ys : List ℕ) → length xs ≡ length ys → list_all p (zip_longest f keep take xs ys) ≡ list_all p (zip2 f xs ys)
+all_like p f keep take xs ys same = ap (list_all p) (zip_longest-like f keep take xs ys same)
 
 -- no longer than the longer row
 longest-le : (f : ℕ → ℕ → ℕ) (keep take : Bool) (xs ys : List ℕ) → length (zip_longest f keep take xs ys) ≤ max (length xs) (length ys)

@@ -67,8 +67,12 @@ count-in_range c start end le =
     let outside : (p : ℕ) → p < start → (in_range start end p && c p) ≡ false =
     λ p h. ap (λ b. (b && nat_lt p end) && c p) (false_from_ne_true _ (λ one. let l : start ≤ p = leb-true start p one in absurd (omega arith))) in
     let e : end ≡ start + (end - start) = omega arith in
-    omega (arith,
-    ap (count_below (λ p. in_range start end p && c p)) e, count-append (λ p. in_range start end p && c p) start (end - start),
-    count-none (λ p. in_range start end p && c p) start outside,
-    count-same (λ i. in_range start end (start + i) && c (start + i)) (λ i. c (start + i)) (end - start) inside,
-    ap (count_below c) e, count-append c start (end - start))
+    omega (
+      arith,
+      ap (count_below (λ p. in_range start end p && c p)) e,
+      count-append (λ p. in_range start end p && c p) start (end - start),
+      count-none (λ p. in_range start end p && c p) start outside,
+      count-same (λ i. in_range start end (start + i) && c (start + i)) (λ i. c (start + i)) (end - start) inside,
+      ap (count_below c) e,
+      count-append c start (end - start),
+    )

@@ -70,8 +70,24 @@ fn count_rest(words: &[Block], from: usize, counts: bool, steps: &mut Steps) -> 
 
 // How many bits are set in the joined words, to the end of the longer row.
 #[inline(always)]
-#[tactic(auto, using(crate::proofs::TwoRows::sum_longest))]
+#[tactic(auto, using(crate::proofs::TwoRows::sum_like))]
 fn count_words<O: WordOp>(a: &[Block], b: &[Block], steps: &mut Steps) -> usize
+    requires { sum_by count_ones (zip_longest O.joined O.KEEP O.TAKE a.now b.now) < 2 ^ 64 }
+    ensures ones { result ≡ sum_by count_ones (zip_longest O.joined O.KEEP O.TAKE a.now b.now) }
+    ensures cost { steps.new ≡ steps.old + both_steps O.KEEP O.TAKE (length a.now) (length b.now) }
+{
+    if a.len() == b.len() {
+        lanes::count::<O>(a, b, steps)
+    } else {
+        count_unlike::<O>(a, b, steps)
+    }
+}
+
+// `count_words`, for rows of unlike lengths. It is a call of its own, so that rows of one length have no tests of it.
+#[cold]
+#[inline(never)]
+#[tactic(auto, using(crate::proofs::TwoRows::sum_longest))]
+fn count_unlike<O: WordOp>(a: &[Block], b: &[Block], steps: &mut Steps) -> usize
     requires { sum_by count_ones (zip_longest O.joined O.KEEP O.TAKE a.now b.now) < 2 ^ 64 }
     ensures ones { result ≡ sum_by count_ones (zip_longest O.joined O.KEEP O.TAKE a.now b.now) }
     ensures cost { steps.new ≡ steps.old + both_steps O.KEEP O.TAKE (length a.now) (length b.now) }
@@ -98,8 +114,24 @@ fn none_rest(words: &[Block], from: usize, counts: bool, steps: &mut Steps) -> b
 
 // Whether no bit is set in the joined words, to the end of the longer row.
 #[inline(always)]
-#[tactic(auto, using(crate::proofs::TwoRows::all_longest))]
+#[tactic(auto, using(crate::proofs::TwoRows::all_like))]
 fn none_words<O: WordOp>(a: &[Block], b: &[Block], steps: &mut Steps) -> bool
+    ensures zero { result ≡ list_all (λ word. word == 0) (zip_longest O.joined O.KEEP O.TAKE a.now b.now) }
+    ensures cost { steps.new ≤ steps.old + both_steps O.KEEP O.TAKE (length a.now) (length b.now) }
+    ensures whole { IsTrue result → steps.new ≡ steps.old + both_steps O.KEEP O.TAKE (length a.now) (length b.now) }
+{
+    if a.len() == b.len() {
+        lanes::none::<O>(a, b, steps)
+    } else {
+        none_unlike::<O>(a, b, steps)
+    }
+}
+
+// `none_words`, for rows of unlike lengths.
+#[cold]
+#[inline(never)]
+#[tactic(auto, using(crate::proofs::TwoRows::all_longest))]
+fn none_unlike<O: WordOp>(a: &[Block], b: &[Block], steps: &mut Steps) -> bool
     ensures zero { result ≡ list_all (λ word. word == 0) (zip_longest O.joined O.KEEP O.TAKE a.now b.now) }
     ensures cost { steps.new ≤ steps.old + both_steps O.KEEP O.TAKE (length a.now) (length b.now) }
     ensures whole { IsTrue result → steps.new ≡ steps.old + both_steps O.KEEP O.TAKE (length a.now) (length b.now) }

@@ -146,12 +146,7 @@ fn count_part<O: WordOp>(words: &[Block], start: usize, end: usize, steps: &mut 
 
 // `count`, for the words from `first` up to and without `last`.
 #[inline(always)]
-fn count_whole<O: WordOp>(
-    words: &[Block],
-    first: usize,
-    last: usize,
-    steps: &mut Steps,
-) -> usize
+fn count_whole<O: WordOp>(words: &[Block], first: usize, last: usize, steps: &mut Steps) -> usize
     requires drops { O.TAKE ≡ false }
     requires order { first ≤ last }
     requires within { last ≤ length words.now }
