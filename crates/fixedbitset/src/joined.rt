@@ -74,8 +74,10 @@ impl FixedBitSet {
         requires { O.TAKE ≡ true → other.now.length ≤ self.now.length }
         ensures { IfOk result (λ set. set ≡ joined O.truth self.now other.now) }
     {
+        let mut words = Vec::with_capacity(*self.words.allocator(), self.words.len())?;
+        words.extend_from_slice(self.words.as_slice())?;
         let mut set = FixedBitSet {
-            words: self.words.clone()?,
+            words,
             length: self.length,
         };
         set.join::<O>(other, &mut Steps::new());
