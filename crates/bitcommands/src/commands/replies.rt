@@ -20,10 +20,10 @@ pub enum Reply {
 
 impl fmt::Display for Reply {
     ghost use Rattle.std.specs.Prelude.{Some};
-    ghost use Rattle.bitcommands.specs.Answers.{seen};
+    ghost use Rattle.bitcommands.specs.Answers.{answer_of};
     ghost use Rattle.bitcommands.specs.Texts.{answer_text};
 
-    ghost output = { λ reply. Some (answer_text (seen reply)) };
+    ghost output = { λ reply. Some (answer_text (answer_of reply)) };
 
     fn fmt<W: fmt::Write>(&self, f: &mut fmt::Formatter<W>) -> fmt::Result {
         match self {

@@ -1,23 +1,7 @@
--- A set taken out of its place and put back, and a set joined with itself.
+-- A set taken out of its place, changed and put back.
 use Rattle.std.proofs.Common.{◌≡◌, ◌≢◌, ℕ, ◌<◌, List, length, get_or, set, ap, ◌∙◌, sym}
 use Rattle.std.proofs.lemmas.List.{set-set, set-get_or, get_or-set_other, get_or_read}
 use Rattle.fixedbitset.specs.Bits.{Bits, empty}
-use Rattle.fixedbitset.specs.Ranges.{remove_range}
-use Rattle.fixedbitset.specs.RangesFacts.{remove_range-all}
-use Rattle.fixedbitset.specs.TwoSets.{union, intersection, difference, symmetric_difference}
-use Rattle.fixedbitset.specs.TwoSetsFacts.{union-same, intersection-same, difference-same, symmetric_difference-same}
-
-pub same_union : (v : Bits) → v ≡ union v v
-same_union v = sym (union-same v)
-
-pub same_intersection : (v : Bits) → v ≡ intersection v v
-same_intersection v = sym (intersection-same v)
-
-pub same_difference : (v : Bits) → remove_range v 0 v.length ≡ difference v v
-same_difference v = remove_range-all v ∙ sym (difference-same v)
-
-pub same_symmetric_difference : (v : Bits) → remove_range v 0 v.length ≡ symmetric_difference v v
-same_symmetric_difference v = remove_range-all v ∙ sym (symmetric_difference-same v)
 
 module _ (sets : List Bits) (a : ℕ) (x e new : Bits) (here : x ≡ get_or sets a x) where
   pub back : new ≡ x → set (set sets a e) a new ≡ sets
