@@ -10,6 +10,7 @@ mod comparing;
 mod joining;
 mod looking;
 mod making;
+mod printing;
 mod questions;
 mod ranging;
 mod refusals;

@@ -2,7 +2,7 @@
 use Rattle.std.proofs.Common.{◌≡◌, ℕ, ◌+◌, ◌<◌, ◌≤◌, List, [], ◌∷◌, ◌++◌, length, get_or, drop, Option, Some, None, refl, ap, sym, ◌∙◌, arith, append_assoc, append-nil, option_and_then}
 use Rattle.std.proofs.lemmas.List.{at_drop_more, at_drop_all}
 use Rattle.bitcommands.specs.declared.commands.walking.End.{End}
-use Rattle.bitcommands.specs.Lines.{end_of, ends_from, ends_of}
+use Rattle.bitlines.specs.Arguments.{end_of, ends_from, ends_of}
 
 -- these before those that are still to be read
 abbrev pub onto : {A : Type 0} → List A → Option (List A) → Option (List A)

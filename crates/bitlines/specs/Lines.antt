@@ -1,204 +1,90 @@
 -- Which command a line stands for.
-use Rattle.std.specs.Prelude.{ℕ, ◌+◌, Bool, true, false, ◌==◌, List, [], ◌∷◌, length, take, drop, position, slice_index_or, Option, Some, None, if◌then◌else◌, codes}
-use Rattle.std.specs.Str.{bytes_eq}
-use Rattle.bitcommands.specs.Words.{◌>>=◌, words, number_of, number_at, at_end}
-use Rattle.bitcommands.specs.declared.commands.walking.End.{End}
-use Rattle.bitcommands.specs.declared.commands.walking.End.TheVariants.{Front}
-use Rattle.bitcommands.specs.Actions.{Range, Action, with_capacity, bitand, bitor, bitxor, len, contains, grow, insert, remove, toggle, put, set, count_ones, count_zeroes, set_range, insert_range, remove_range, toggle_range, contains_all_in_range, contains_any_in_range, range_is_valid, union_with, symmetric_difference_with, bitor_assign, bitxor_assign, intersect_with, difference_with, bitand_assign, union_count, intersection_count, difference_count, symmetric_difference_count, is_disjoint, is_subset, is_superset, ones}
+use Rattle.std.specs.Prelude.{ℕ, Bool, true, false, List, [], ◌∷◌, Option, Some, None}
+use Rattle.bitcommands.specs.Actions as action
+use Rattle.bitcommands.specs.Actions.{Action, Range}
+use Rattle.bitlines.specs.Words.{◌>>=◌, words}
+use Rattle.bitlines.specs.Arguments.{one, two, three, two_and_flag, one_and_range, range_and_flag, one_and_ends}
+use Rattle.bitlines.specs.Names.{name_of}
+use Rattle.bitlines.specs.declared.names.Name.{Name}
+use Rattle.bitlines.specs.declared.names.Name.TheVariants as name
+use Rattle.bitlines.specs.declared.names.OneSet.{OneSet}
+use Rattle.bitlines.specs.declared.names.OneSet.TheVariants as one_set
+use Rattle.bitlines.specs.declared.names.SetAndNumber.{SetAndNumber}
+use Rattle.bitlines.specs.declared.names.SetAndNumber.TheVariants as set_and_number
+use Rattle.bitlines.specs.declared.names.TwoSets.{TwoSets}
+use Rattle.bitlines.specs.declared.names.TwoSets.TheVariants as two_sets
+use Rattle.bitlines.specs.declared.names.ThreeSets.{ThreeSets}
+use Rattle.bitlines.specs.declared.names.ThreeSets.TheVariants as three_sets
+use Rattle.bitlines.specs.declared.names.SetAndRange.{SetAndRange}
+use Rattle.bitlines.specs.declared.names.SetAndRange.TheVariants as set_and_range
 
--- ---- arguments
+-- ---- what a name and its arguments mean
 
--- the word is this text
-abbrev pub is : List ℕ → List ℕ → Bool
-is word text = bytes_eq word text
+-- a command on a set
+abbrev pub of_one_set : OneSet → ℕ → Action
+of_one_set one_set.Len k = action.len k
 
--- `true` or `false`
-unfoldable pub flag_of : List ℕ → Option Bool
-flag_of w = if is w (codes "true") then Some true else (if is w (codes "false") then Some false else None)
+-- a command on a set and a number
+abbrev pub of_set_and_number : SetAndNumber → ℕ → ℕ → Action
+of_set_and_number set_and_number.WithCapacity k n = action.with_capacity k n
+of_set_and_number set_and_number.Contains k n = action.contains k n
+of_set_and_number set_and_number.Grow k n = action.grow k n
+of_set_and_number set_and_number.Insert k n = action.insert k n
+of_set_and_number set_and_number.Remove k n = action.remove k n
+of_set_and_number set_and_number.Toggle k n = action.toggle k n
+of_set_and_number set_and_number.Put k n = action.put k n
 
--- the first word as a flag, and the words after it
-unfoldable pub flag_at : List (List ℕ) → Option (Bool × List (List ℕ))
-flag_at [] = None
-flag_at (w ∷ ws) = flag_of w >>= λ e. Some (e, ws)
+-- a command on two sets
+abbrev pub of_two_sets : TwoSets → ℕ → ℕ → Action
+of_two_sets two_sets.UnionWith a b = action.union_with a b
+of_two_sets two_sets.SymmetricDifferenceWith a b = action.symmetric_difference_with a b
+of_two_sets two_sets.BitorAssign a b = action.bitor_assign a b
+of_two_sets two_sets.BitxorAssign a b = action.bitxor_assign a b
+of_two_sets two_sets.IntersectWith a b = action.intersect_with a b
+of_two_sets two_sets.DifferenceWith a b = action.difference_with a b
+of_two_sets two_sets.BitandAssign a b = action.bitand_assign a b
+of_two_sets two_sets.UnionCount a b = action.union_count a b
+of_two_sets two_sets.IntersectionCount a b = action.intersection_count a b
+of_two_sets two_sets.DifferenceCount a b = action.difference_count a b
+of_two_sets two_sets.SymmetricDifferenceCount a b = action.symmetric_difference_count a b
+of_two_sets two_sets.IsDisjoint a b = action.is_disjoint a b
+of_two_sets two_sets.IsSubset a b = action.is_subset a b
+of_two_sets two_sets.IsSuperset a b = action.is_superset a b
 
--- nothing, or a number
-unfoldable pub bound_of : List ℕ → Option (Option ℕ)
-bound_of w = if length w == 0 then Some None else (number_of w >>= λ n. Some (Some n))
+-- a command on three sets
+abbrev pub of_three_sets : ThreeSets → ℕ → ℕ → ℕ → Action
+of_three_sets three_sets.Bitand d a b = action.bitand d a b
+of_three_sets three_sets.Bitor d a b = action.bitor d a b
+of_three_sets three_sets.Bitxor d a b = action.bitxor d a b
 
--- two bounds
-unfoldable pub bounds_of : List ℕ → List ℕ → Option Range
-bounds_of from to = do
-  a ← bound_of from
-  b ← bound_of to
-  Some (a, b)
+-- a command on a set and a range
+abbrev pub of_set_and_range : SetAndRange → ℕ → Range → Action
+of_set_and_range set_and_range.CountOnes k r = action.count_ones k r
+of_set_and_range set_and_range.CountZeroes k r = action.count_zeroes k r
+of_set_and_range set_and_range.InsertRange k r = action.insert_range k r
+of_set_and_range set_and_range.RemoveRange k r = action.remove_range k r
+of_set_and_range set_and_range.ToggleRange k r = action.toggle_range k r
+of_set_and_range set_and_range.ContainsAllInRange k r = action.contains_all_in_range k r
+of_set_and_range set_and_range.ContainsAnyInRange k r = action.contains_any_in_range k r
+of_set_and_range set_and_range.RangeIsValid k r = action.range_is_valid k r
 
--- two bounds with two dots between them
-unfoldable pub range_of : List ℕ → Option Range
-range_of w = do
-  k ← position (λ c. c == 46) w
-  if slice_index_or w (k + 1) 0 == 46 then bounds_of (take k w) (drop (k + 2) w) else None
+-- the command of this name with these arguments, if they are what it asks for
+unfoldable pub command_by : Name → List (List ℕ) → Option Action
+command_by (name.OneSet c) args = one args >>= λ k. Some (of_one_set c k)
+command_by (name.SetAndNumber c) args = two args >>= λ x. Some (of_set_and_number c x.0 x.1)
+command_by (name.TwoSets c) args = two args >>= λ x. Some (of_two_sets c x.0 x.1)
+command_by (name.ThreeSets c) args = three args >>= λ x. Some (of_three_sets c x.0 x.1 x.2)
+command_by (name.SetAndRange c) args = one_and_range args >>= λ x. Some (of_set_and_range c x.0 x.1)
+command_by name.Set args = two_and_flag args >>= λ x. Some (action.set x.0 x.1 x.2)
+command_by name.SetRange args = range_and_flag args >>= λ x. Some (action.set_range x.0 x.1 x.2)
+command_by name.Ones args = one_and_ends args >>= λ x. Some (action.ones x.0 x.1)
 
--- the first word as a range, and the words after it
-unfoldable pub range_at : List (List ℕ) → Option (Range × List (List ℕ))
-range_at [] = None
-range_at (w ∷ ws) = range_of w >>= λ r. Some (r, ws)
+-- ---- lines
 
--- the letter of an end
-unfoldable pub end_of : ℕ → Option End
-end_of letter = if letter == 102 then Some Front else None
-
--- an end for each letter
-unfoldable pub ends_from : List ℕ → Option (List End)
-ends_from [] = Some []
-ends_from (c ∷ cs) = end_of c >>= λ e. ends_from cs >>= λ es. Some (e ∷ es)
-
--- one or more letters
-unfoldable pub ends_of : List ℕ → Option (List End)
-ends_of [] = None
-ends_of (c ∷ cs) = ends_from (c ∷ cs)
-
--- the first word as ends, and the words after it
-unfoldable pub ends_at : List (List ℕ) → Option (List End × List (List ℕ))
-ends_at [] = None
-ends_at (w ∷ ws) = ends_of w >>= λ es. Some (es, ws)
-
--- one number
-unfoldable pub one : List (List ℕ) → Option ℕ
-one ws = do
-  a ← number_at ws
-  end ← at_end a.1
-  Some a.0
-
--- two numbers
-unfoldable pub two : List (List ℕ) → Option (ℕ × ℕ)
-two ws = do
-  a ← number_at ws
-  b ← number_at a.1
-  end ← at_end b.1
-  Some (a.0, b.0)
-
--- three numbers
-unfoldable pub three : List (List ℕ) → Option (ℕ × ℕ × ℕ)
-three ws = do
-  a ← number_at ws
-  b ← number_at a.1
-  c ← number_at b.1
-  end ← at_end c.1
-  Some (a.0, b.0, c.0)
-
--- two numbers and a flag
-unfoldable pub two_and_flag : List (List ℕ) → Option (ℕ × ℕ × Bool)
-two_and_flag ws = do
-  a ← number_at ws
-  b ← number_at a.1
-  e ← flag_at b.1
-  end ← at_end e.1
-  Some (a.0, b.0, e.0)
-
--- a number and a range
-unfoldable pub one_and_range : List (List ℕ) → Option (ℕ × Range)
-one_and_range ws = do
-  a ← number_at ws
-  r ← range_at a.1
-  end ← at_end r.1
-  Some (a.0, r.0)
-
--- a number, a range and a flag
-unfoldable pub range_and_flag : List (List ℕ) → Option (ℕ × Range × Bool)
-range_and_flag ws = do
-  a ← number_at ws
-  r ← range_at a.1
-  e ← flag_at r.1
-  end ← at_end e.1
-  Some (a.0, r.0, e.0)
-
--- a number and ends
-unfoldable pub one_and_ends : List (List ℕ) → Option (ℕ × List End)
-one_and_ends ws = do
-  a ← number_at ws
-  es ← ends_at a.1
-  end ← at_end es.1
-  Some (a.0, es.0)
-
--- ---- the commands of each group, by their word and their arguments
-
-unfoldable pub make_of : List ℕ → List (List ℕ) → Option Action
-make_of name args =
-    if is name (codes "with_capacity") then (two args >>= λ x. Some (with_capacity x.0 x.1)) else
-    if is name (codes "bitand") then (three args >>= λ x. Some (bitand x.0 x.1 x.2)) else
-    if is name (codes "bitor") then (three args >>= λ x. Some (bitor x.0 x.1 x.2)) else
-    if is name (codes "bitxor") then (three args >>= λ x. Some (bitxor x.0 x.1 x.2)) else
-    None
-
-unfoldable pub look_of : List ℕ → List (List ℕ) → Option Action
-look_of name args =
-    if is name (codes "len") then (one args >>= λ k. Some (len k)) else
-    if is name (codes "contains") then (two args >>= λ x. Some (contains x.0 x.1)) else
-    None
-
-unfoldable pub change_of : List ℕ → List (List ℕ) → Option Action
-change_of name args =
-    if is name (codes "grow") then (two args >>= λ x. Some (grow x.0 x.1)) else
-    if is name (codes "insert") then (two args >>= λ x. Some (insert x.0 x.1)) else
-    if is name (codes "remove") then (two args >>= λ x. Some (remove x.0 x.1)) else
-    if is name (codes "toggle") then (two args >>= λ x. Some (toggle x.0 x.1)) else
-    if is name (codes "put") then (two args >>= λ x. Some (put x.0 x.1)) else
-    if is name (codes "set") then (two_and_flag args >>= λ x. Some (set x.0 x.1 x.2)) else
-    None
-
-unfoldable pub ranged_of : List ℕ → List (List ℕ) → Option Action
-ranged_of name args =
-    if is name (codes "count_ones") then (one_and_range args >>= λ x. Some (count_ones x.0 x.1)) else
-    if is name (codes "count_zeroes") then (one_and_range args >>= λ x. Some (count_zeroes x.0 x.1)) else
-    if is name (codes "set_range") then (range_and_flag args >>= λ x. Some (set_range x.0 x.1 x.2)) else
-    if is name (codes "insert_range") then (one_and_range args >>= λ x. Some (insert_range x.0 x.1)) else
-    if is name (codes "remove_range") then (one_and_range args >>= λ x. Some (remove_range x.0 x.1)) else
-    if is name (codes "toggle_range") then (one_and_range args >>= λ x. Some (toggle_range x.0 x.1)) else
-    if is name (codes "contains_all_in_range") then (one_and_range args >>= λ x. Some (contains_all_in_range x.0 x.1)) else
-    if is name (codes "contains_any_in_range") then (one_and_range args >>= λ x. Some (contains_any_in_range x.0 x.1)) else
-    if is name (codes "range_is_valid") then (one_and_range args >>= λ x. Some (range_is_valid x.0 x.1)) else
-    None
-
-unfoldable pub whole_of : List ℕ → List (List ℕ) → Option Action
-whole_of name args =
-    if is name (codes "union_with") then (two args >>= λ x. Some (union_with x.0 x.1)) else
-    if is name (codes "symmetric_difference_with") then (two args >>= λ x. Some (symmetric_difference_with x.0 x.1)) else
-    if is name (codes "bitor_assign") then (two args >>= λ x. Some (bitor_assign x.0 x.1)) else
-    if is name (codes "bitxor_assign") then (two args >>= λ x. Some (bitxor_assign x.0 x.1)) else
-    if is name (codes "intersect_with") then (two args >>= λ x. Some (intersect_with x.0 x.1)) else
-    if is name (codes "difference_with") then (two args >>= λ x. Some (difference_with x.0 x.1)) else
-    if is name (codes "bitand_assign") then (two args >>= λ x. Some (bitand_assign x.0 x.1)) else
-    None
-
-unfoldable pub compare_of : List ℕ → List (List ℕ) → Option Action
-compare_of name args =
-    if is name (codes "union_count") then (two args >>= λ x. Some (union_count x.0 x.1)) else
-    if is name (codes "intersection_count") then (two args >>= λ x. Some (intersection_count x.0 x.1)) else
-    if is name (codes "difference_count") then (two args >>= λ x. Some (difference_count x.0 x.1)) else
-    if is name (codes "symmetric_difference_count") then (two args >>= λ x. Some (symmetric_difference_count x.0 x.1)) else
-    if is name (codes "is_disjoint") then (two args >>= λ x. Some (is_disjoint x.0 x.1)) else
-    if is name (codes "is_subset") then (two args >>= λ x. Some (is_subset x.0 x.1)) else
-    if is name (codes "is_superset") then (two args >>= λ x. Some (is_superset x.0 x.1)) else
-    None
-
-unfoldable pub walk_of : List ℕ → List (List ℕ) → Option Action
-walk_of name args =
-    if is name (codes "ones") then (one_and_ends args >>= λ x. Some (ones x.0 x.1)) else
-    None
-
--- the first of two that is there
-abbrev pub or_else : {A : Type 0} → Option A → Option A → Option A
-or_else (Some x) other = Some x
-or_else None other = other
-
-unfoldable pub command_by : List ℕ → List (List ℕ) → Option Action
-command_by name args =
-    or_else (make_of name args) (or_else (look_of name args) (or_else (change_of name args) (or_else (ranged_of name args) (or_else (whole_of name args) (or_else (compare_of name args) (walk_of name args))))))
-
--- the first word is the command's, and the others are its arguments
+-- the first word is the command's name, and the others are its arguments
 unfoldable pub command_of_words : List (List ℕ) → Option Action
 command_of_words [] = None
-command_of_words (name ∷ args) = command_by name args
+command_of_words (w ∷ args) = name_of w >>= λ c. command_by c args
 
 -- The command that a line stands for, if there is one.
 abbrev pub command_of : List ℕ → Option Action
@@ -206,14 +92,21 @@ command_of line = command_of_words (words line)
 
 -- ---- which lines want memory
 
--- whether a command of this word has a list
-abbrev pub has_list : List ℕ → Bool
-has_list name = is name (codes "ones")
+-- whether a command of this name has a list
+abbrev pub has_list : Name → Bool
+has_list name.Ones = true
+has_list c = false
 
-abbrev pub words_have_list : List (List ℕ) → Bool
-words_have_list [] = false
-words_have_list (name ∷ args) = has_list name
+-- whether there is a name, and a command of this name has a list
+abbrev pub is_with_list : Option Name → Bool
+is_with_list (Some c) = has_list c
+is_with_list None = false
 
--- whether memory may lack as the line is read: where its first word is that of a command with a list
+-- whether the first word is the name of a command with a list
+unfoldable pub begins_with_list : List (List ℕ) → Bool
+begins_with_list [] = false
+begins_with_list (w ∷ args) = is_with_list (name_of w)
+
+-- whether memory may lack as the line is read: where its first word is the name of a command with a list
 abbrev pub may_lack : List ℕ → Bool
-may_lack line = words_have_list (words line)
+may_lack line = begins_with_list (words line)

@@ -1,13 +1,13 @@
 -- What the program writes for an input.
-use Rattle.std.specs.Prelude.{◌≡◌, ℕ, Bool, true, false, List, [], ◌∷◌, ◌++◌, length, map, replicate, is_some, ◌==◌, if◌then◌else◌}
+use Rattle.std.specs.Prelude.{◌≡◌, ℕ, Bool, true, false, List, [], ◌∷◌, ◌++◌, length, map, replicate, is_some, ◌==◌, if◌then◌else◌, codes}
 use Rattle.std.specs.List.{slice_split, filter_map}
 use Rattle.fixedbitset.specs.Bits.{empty}
 use Rattle.bitcommands.specs.Actions.{Action}
 use Rattle.bitcommands.specs.Answers.{Answer}
-use Rattle.bitcommands.specs.Tests.{Sets}
+use Rattle.bitcommands.specs.Sets.{Sets}
 use Rattle.bitcommands.specs.Steps.{Run}
-use Rattle.bitcommands.specs.Lines.{command_of}
-use Rattle.bitcommands.specs.Texts.{answer_text, fault_text}
+use Rattle.bitlines.specs.Lines.{command_of}
+use Rattle.bitcommands.specs.Texts.{answer_text}
 
 -- ---- lines
 
@@ -31,6 +31,10 @@ commands_of lines = filter_map command_of lines
 
 -- ---- the output
 
+-- the text of a line that is no command
+abbrev pub fault_text : List ℕ
+fault_text = codes "F8 not a command"
+
 -- A line for each line: the text of the next answer where it is a command, else the text of a fault.
 unfoldable pub texts : List Bool → List Answer → List ℕ
 texts [] answers = []
@@ -48,8 +52,3 @@ IsOutputFrom sets lines output = (answers : List Answer) × (final : Sets)
 -- The output belongs to the input: to its lines, from sixteen sets of length 0.
 abbrev pub IsOutput : List ℕ → List ℕ → Type 0
 IsOutput input output = IsOutputFrom (replicate 16 (empty 0)) (lines_of input) output
-
--- what one line puts out, before what any lines put out from the sets that it left, is what they all put out
-abbrev pub AnswersLine : List ℕ → Sets → Sets → List ℕ → Type 0
-AnswersLine line old new out = (lines : List (List ℕ)) (output : List ℕ)
-    → IsOutputFrom new lines output → IsOutputFrom old (line ∷ lines) (out ++ output)

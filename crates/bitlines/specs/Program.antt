@@ -1,8 +1,8 @@
 -- What the program reads, and how it ends.
 use Rattle.std.specs.Prelude.{ℕ, List, Option, Result, Ok, Err}
 use Rattle.std.specs.Io.KnownBytes.{Consumes, IsAtEnd}
-use Rattle.bitcommands.specs.declared.program.RunFault.{RunFault}
-use Rattle.bitcommands.specs.declared.program.RunFault.TheVariants.{Read, Write, Memory}
+use Rattle.bitlines.specs.declared.program.RunFault.{RunFault}
+use Rattle.bitlines.specs.declared.program.RunFault.TheVariants.{Read, Write, Memory}
 
 -- the input is all that the reader had left
 abbrev pub IsRead : {R : Type 0} → (R → Option (List ℕ)) → R → R → List ℕ → Type 0

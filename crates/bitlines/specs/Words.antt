@@ -1,14 +1,8 @@
 -- The words of a line, and numbers.
-use Rattle.std.specs.Prelude.{◌≡◌, ℕ, ◌^◌, ◌&&◌, Bool, List, [], ◌∷◌, length, IsTrue, Option, Some, None, Result, Ok, Err, nat_lt, ◌==◌, if◌then◌else◌, option_and_then}
+use Rattle.std.specs.Prelude.{ℕ, ◌^◌, ◌&&◌, List, [], ◌∷◌, length, Option, Some, None, nat_lt, ◌==◌, if◌then◌else◌, option_and_then}
 use Rattle.std.specs.List.{slice_split}
 use Rattle.std.specs.Str.{all_ascii_digits}
 use Rattle.std.specs.Str.Parse.{digits_value}
-use Rattle.bitcommands.specs.declared.lines.LineFault.{LineFault}
-use Rattle.bitcommands.specs.declared.lines.LineFault.TheVariants as faults
-
-infixl 10 ◌>>=◌
-abbrev pub ◌>>=◌ : {A B : Type 0} → Option A → (A → Option B) → Option B
-o >>= f = option_and_then f o
 
 -- a text is cut at each space
 abbrev pub words : List ℕ → List (List ℕ)
@@ -18,12 +12,12 @@ words text = slice_split (λ b. b == 32) text
 unfoldable pub number_of : List ℕ → Option ℕ
 number_of word = if nat_lt 0 (length word) && (all_ascii_digits word && nat_lt (digits_value 10 word) (2 ^ 64)) then Some (digits_value 10 word) else None
 
--- What a reader of a line returns, seen by view, is what the definition gives: a value, or none; or memory is
--- lacking, where it may be.
-abbrev pub Reads : {X Y : Type 0} → Bool → (X → Y) → Result X LineFault → Option Y → Type 0
-Reads lacks view (Ok x) read = read ≡ Some (view x)
-Reads lacks view (Err faults.NotACommand) read = read ≡ None
-Reads lacks view (Err faults.Memory) read = IsTrue lacks
+-- ---- readers of words
+
+-- what is read by the second reader, once the first has read
+infixl 10 ◌>>=◌
+abbrev pub ◌>>=◌ : {A B : Type 0} → Option A → (A → Option B) → Option B
+o >>= f = option_and_then f o
 
 -- the first word as a number, and the words after it
 unfoldable pub number_at : List (List ℕ) → Option (ℕ × List (List ℕ))

@@ -1,14 +1,15 @@
 //! The program over any reader and writer.
-ghost use Rattle.std.specs.Prelude.{◌≡◌, ◌≢◌, ◌∷◌, ◌++◌, ℕ, ◌<◌, List, length, replicate, string_bytes, IfOk, OnOk, IfErr, Err};
+ghost use Rattle.std.specs.Prelude.{◌≡◌, ◌≢◌, ◌∷◌, ◌++◌, ℕ, ◌<◌, List, length, replicate, IfOk, OnOk, IfErr, Err};
 ghost use Rattle.std.specs.Io.{StartsWith};
 ghost use Rattle.std.specs.Io.KnownBytes.{Keeps, Appends};
 ghost use Rattle.fixedbitset.specs.Bits.{empty};
-ghost use Rattle.bitcommands.specs.Output.{IsOutput, AnswersLine, lines_of};
-ghost use Rattle.bitcommands.specs.Program.{IsRead, status_of};
+ghost use Rattle.bitlines.specs.Output.{IsOutput, lines_of};
+ghost use Rattle.bitlines.specs.OneLine.{AnswersLine};
+ghost use Rattle.bitlines.specs.Program.{IsRead, status_of};
 
-use crate::commands::apply;
 use crate::lines::{LineFault, parse_line};
 use crate::words::find;
+use bitcommands::commands::apply;
 use fixedbitset::FixedBitSet;
 use std::alloc::{AllocError, Global};
 use std::io::{Read, Write};
@@ -56,10 +57,10 @@ pub fn run_text<R: Read, W: Write>(
     ensures memory { result ≡ Err RunFault.Memory → Keeps (W.contents writer.old) (W.contents writer.new) }
 {
     let input = read_all(alloc, reader)?;
-    let Ok(text) = output_of(alloc, input.as_slice()) else {
+    let Ok(output) = output_of(alloc, input.as_slice()) else {
         return Err(RunFault::Memory);
     };
-    send(writer, text.as_bytes())
+    send(writer, output.as_slice())
 }
 
 /// The exit status: 0 for success, 1 for `Read`, 2 for `Write`, 3 for `Memory`.
@@ -75,37 +76,38 @@ pub fn status(outcome: &Result<(), RunFault>) -> u8
 }
 
 // The output for an input.
-fn output_of(alloc: Global, input: &[u8]) -> Result<String, AllocError>
-    ensures { IfOk result (λ text. IsOutput input.now (string_bytes text)) }
+fn output_of(alloc: Global, input: &[u8]) -> Result<Vec<u8>, AllocError>
+    ensures { IfOk result (λ output. IsOutput input.now output.items) }
 {
     let mut sets = new_sets(alloc)?;
     let sets = sets.as_mut_slice();
-    let mut text = String::new(alloc);
+    let mut output = Vec::new(alloc);
     let mut rest = input;
     while !rest.is_empty() {
         let (line, more) = first_line(rest);
-        answer_line(alloc, sets, line, &mut text)?;
+        answer_line(alloc, sets, line, &mut output)?;
         rest = more;
     }
-    Ok(text)
+    Ok(output)
 }
 
-// Carries out a line, and puts its reply, or a fault, and a line end behind the text.
+// Carries out a line, and puts its reply, or a fault, and a line end behind the output.
 fn answer_line(
     alloc: Global,
     sets: &mut [FixedBitSet],
     line: &[u8],
-    text: &mut String,
+    output: &mut Vec<u8>,
 ) -> Result<(), AllocError>
-    ensures { OnOk result ((out : List ℕ) × (string_bytes text.new ≡ string_bytes text.old ++ out)
+    ensures { OnOk result ((out : List ℕ) × (output.new.items ≡ output.old.items ++ out)
         × AnswersLine line.now sets.old sets.new out) }
 {
     match parse_line(alloc, line) {
         Ok(command) => {
             let reply = apply(alloc, sets, &command, LIMIT);
-            writeln!(text, "{reply}")?;
+            reply.push_text(output)?;
+            output.push(b'\n')?;
         }
-        Err(LineFault::NotACommand) => text.push_str("F8 not a command\n")?,
+        Err(LineFault::NotACommand) => output.extend_from_slice(b"F8 not a command\n")?,
         Err(LineFault::Memory) => return Err(AllocError),
     }
     Ok(())
@@ -122,7 +124,7 @@ fn new_sets(alloc: Global) -> Result<Vec<FixedBitSet>, AllocError>
 }
 
 // The first line, and what stands behind its line end.
-#[tactic(auto, using(crate::proofs::Output::lines_of_found, crate::proofs::Output::lines_of_none, crate::proofs::Output::lines_of_nil))]
+#[tactic(auto, using(crate::proofs::Outputs::lines_of_found, crate::proofs::Outputs::lines_of_none, crate::proofs::Outputs::lines_of_nil))]
 fn first_line(text: &[u8]) -> (&[u8], &[u8])
     requires { 0 < length text.now }
     ensures lines { lines_of text.now ≡ result.0.now ∷ lines_of result.1.now }

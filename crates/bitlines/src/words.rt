@@ -1,11 +1,11 @@
 //! The words of a line.
 ghost use Rattle.std.specs.Prelude.{◌≡◌, ◌==◌, ℕ, false, ◌∷◌, [], position, MatchOption};
-ghost use Rattle.bitcommands.specs.Words.{words, number_of, number_at, at_end, Reads};
-ghost use Rattle.bitcommands.specs.Lines.{is, flag_of, flag_at};
+ghost use Rattle.bitlines.specs.Words.{words, number_of, number_at, at_end};
+ghost use Rattle.bitlines.specs.Arguments.{is, flag_of, flag_at};
+ghost use Rattle.bitlines.specs.Reads.{Reads};
 
 use crate::lines::LineFault;
 use std::marker::Model;
-use std::str;
 
 /// The words of a line that are still to be read.
 #[derive(Drop)]
@@ -15,7 +15,7 @@ pub(crate) struct Words<'a> {
 
 impl<'a> Model for Words<'a> {
     ghost use Rattle.std.specs.Prelude.{List, ℕ};
-    ghost use Rattle.bitcommands.specs.Left.{words_left};
+    ghost use Rattle.bitlines.specs.Cursor.{words_left};
 
     ghost Value = { List (List ℕ) };
 
@@ -23,20 +23,15 @@ impl<'a> Model for Words<'a> {
 }
 
 impl<'a> Words<'a> {
+    #[inline]
     pub(crate) fn new(line: &'a [u8]) -> Words<'a>
         ensures { result ≡ words line.now }
     {
         Words { rest: Some(line) }
     }
 
-    /// The same words, to be read once more.
-    pub(crate) fn again(&self) -> Words<'a>
-        ensures { result ≡ self.now }
-    {
-        Words { rest: self.rest }
-    }
-
     /// The next word.
+    #[inline]
     pub(crate) fn next(&mut self) -> Option<&'a [u8]>
         ensures { MatchOption result ((self.old ≡ []) × (self.new ≡ [])) (λ w. self.old ≡ w.now ∷ self.new) }
     {
@@ -55,6 +50,7 @@ impl<'a> Words<'a> {
 
     /// The next word as a number.
     #[tactic(auto, unfolding(crate::specs::Words::number_at))]
+    #[inline]
     pub(crate) fn number(&mut self) -> Result<usize, LineFault>
         ensures { Reads false (λ n. (n, self.new)) result (number_at self.old) }
     {
@@ -63,7 +59,7 @@ impl<'a> Words<'a> {
     }
 
     /// The next word as `true` or `false`.
-    #[tactic(auto, unfolding(crate::specs::Lines::flag_at))]
+    #[tactic(auto, unfolding(crate::specs::Arguments::flag_at))]
     pub(crate) fn flag(&mut self) -> Result<bool, LineFault>
         ensures { Reads false (λ e. (e, self.new)) result (flag_at self.old) }
     {
@@ -73,6 +69,7 @@ impl<'a> Words<'a> {
 
     /// No word is left.
     #[tactic(auto, unfolding(crate::specs::Words::at_end))]
+    #[inline]
     pub(crate) fn end(&mut self) -> Result<(), LineFault>
         ensures { Reads false (λ u. u) result (at_end self.old) }
     {
@@ -84,6 +81,7 @@ impl<'a> Words<'a> {
 }
 
 /// The place of the first such byte.
+#[inline]
 pub(crate) fn find(text: &[u8], byte: u8) -> Option<usize>
     ensures { result ≡ position (λ b. b == byte) text.now }
 {
@@ -91,34 +89,50 @@ pub(crate) fn find(text: &[u8], byte: u8) -> Option<usize>
 }
 
 /// Whether the word is this text.
-pub(crate) fn is(word: &[u8], text: &str) -> bool
+#[inline(always)]
+pub(crate) fn is<const N: usize>(word: &[u8], text: &[u8; N]) -> bool
     ensures { result ≡ is word.now text.now }
 {
-    word == text.as_bytes()
+    match word.as_array::<N>() {
+        Some(word) => *word == *text,
+        None => false,
+    }
 }
 
-#[tactic(auto, unfolding(crate::specs::Lines::flag_of))]
+#[tactic(auto, unfolding(crate::specs::Arguments::flag_of))]
 fn flag(word: &[u8]) -> Option<bool>
     ensures { result ≡ flag_of word.now }
 {
-    if is(word, "true") {
+    if is(word, b"true") {
         Some(true)
-    } else if is(word, "false") {
+    } else if is(word, b"false") {
         Some(false)
     } else {
         None
     }
 }
 
-/// One or more decimal digits as a number. `parse` alone would take a plus before them.
+/// One or more decimal digits as a number, where it is below 2 ^ 64.
+#[inline]
 pub(crate) fn number(word: &[u8]) -> Option<usize>
     ensures { result ≡ number_of word.now }
 {
-    if word.starts_with(b"+") {
+    if word.is_empty() {
         return None;
     }
-    let Ok(text) = str::from_utf8(word) else {
-        return None;
-    };
-    text.parse().ok()
+    let mut value: usize = 0;
+    for byte in word {
+        let digit = byte.wrapping_sub(b'0');
+        if digit > 9 {
+            return None;
+        }
+        let Some(tens) = value.checked_mul(10) else {
+            return None;
+        };
+        let Some(sum) = tens.checked_add(digit as usize) else {
+            return None;
+        };
+        value = sum;
+    }
+    Some(value)
 }

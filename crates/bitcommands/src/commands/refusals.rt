@@ -26,6 +26,24 @@ pub enum Refusal {
     Limit,
 }
 
+impl Refusal {
+    ghost use Rattle.std.specs.Prelude.{◌≡◌};
+    ghost use Rattle.bitcommands.specs.Texts.{refusal_text};
+
+    /// The text that `Display` prints.
+    pub(super) fn text(&self) -> &'static str
+        ensures { result.now ≡ refusal_text self.now }
+    {
+        match self {
+            Refusal::NoSet => "F1 no such set",
+            Refusal::Position => "F2 position not below the length",
+            Refusal::Range => "F3 range not valid",
+            Refusal::Memory => "F6 no memory",
+            Refusal::Limit => "F7 length above the limit",
+        }
+    }
+}
+
 impl fmt::Display for Refusal {
     ghost use Rattle.std.specs.Prelude.{Some};
     ghost use Rattle.bitcommands.specs.Texts.{refusal_text};
@@ -33,13 +51,7 @@ impl fmt::Display for Refusal {
     ghost output = { λ refusal. Some (refusal_text refusal) };
 
     fn fmt<W: fmt::Write>(&self, f: &mut fmt::Formatter<W>) -> fmt::Result {
-        f.write_str(match self {
-            Refusal::NoSet => "F1 no such set",
-            Refusal::Position => "F2 position not below the length",
-            Refusal::Range => "F3 range not valid",
-            Refusal::Memory => "F6 no memory",
-            Refusal::Limit => "F7 length above the limit",
-        })
+        f.write_str(self.text())
     }
 }
 

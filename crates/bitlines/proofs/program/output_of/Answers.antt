@@ -1,7 +1,7 @@
 use Rattle.std.proofs.Common.{◌≡◌, [], ◌++◌, length, append_assoc, append-nil, arith}
 use Rattle.std.proofs.lemmas.Bool.Decides.{nat_tests}
-use Rattle.bitcommands.proofs.Output.{lines_of_empty, no_lines}
-use Rattle.bitcommands.proofs.program.output_of.Goals as goal
+use Rattle.bitlines.proofs.Outputs.{lines_of_empty, no_lines}
+use Rattle.bitlines.proofs.program.output_of.Goals as goal
 
 pub loop-sets-preserved : goal.loop-sets-preserved
 loop-sets-preserved c output rest =

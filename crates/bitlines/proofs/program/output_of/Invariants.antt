@@ -1,7 +1,7 @@
 use Rattle.std.proofs.Common.{ℕ, List, ◌++◌, length, replicate, string_bytes}
 use Rattle.fixedbitset.specs.Bits.{empty}
-use Rattle.bitcommands.specs.Output.{IsOutputFrom, lines_of}
-use Rattle.bitcommands.proofs.program.output_of.Given as goal
+use Rattle.bitlines.specs.Output.{IsOutputFrom, lines_of}
+use Rattle.bitlines.proofs.program.output_of.Given as goal
 
 -- the text so far, before what the lines left put out, is what all lines put out
 abbrev pub invariant-loop-sets : goal.invariant-loop-sets

@@ -1,8 +1,8 @@
 use Rattle.std.proofs.Common.{arith, length-drop}
 use Rattle.std.proofs.Math.Seq.{take-add}
 use Rattle.std.proofs.KnownBytes.{Appends-trans}
-use Rattle.bitcommands.proofs.Cuts.{rest_from}
-use Rattle.bitcommands.proofs.program.send.Goals as goal
+use Rattle.bitlines.proofs.LineSplits.{rest_from}
+use Rattle.bitlines.proofs.program.send.Goals as goal
 
 pub loop-done-preserved : goal.loop-done-preserved
 loop-done-preserved g c = record {

@@ -1,9 +1,9 @@
 use Rattle.std.proofs.Common.{arith, ◌≡◌, ◌-◌, ◌+◌, ◌∷◌, length, take, drop, sym, ap, ◌∙◌}
 use Rattle.std.proofs.lemmas.Grind.{common_steps}
-use Rattle.bitcommands.specs.Words.{words}
-use Rattle.bitcommands.specs.Left.{words_left}
-use Rattle.bitcommands.proofs.Cuts.{cut_found, cut_none}
-use Rattle.bitcommands.proofs.words.Words.next.Goals as goal
+use Rattle.bitlines.specs.Words.{words}
+use Rattle.bitlines.specs.Cursor.{words_left}
+use Rattle.bitlines.proofs.LineSplits.{cut_found, cut_none}
+use Rattle.bitlines.proofs.words.Words.next.Goals as goal
 
 pub returns-in-Some : goal.returns-in-Some
 returns-in-Some c =

@@ -5,12 +5,13 @@ use Rattle.std.proofs.lemmas.Bool.Decides.{nat_tests}
 use Rattle.std.proofs.lemmas.Grind.{common_steps}
 use Rattle.bitcommands.specs.Actions.{Action}
 use Rattle.bitcommands.specs.Answers.{Answer}
-use Rattle.bitcommands.specs.Texts.{answer_text, fault_text}
-use Rattle.bitcommands.specs.Tests.{Sets}
+use Rattle.bitcommands.specs.Texts.{answer_text}
+use Rattle.bitcommands.specs.Sets.{Sets}
 use Rattle.bitcommands.specs.Steps.{Step}
-use Rattle.bitcommands.specs.Lines.{command_of}
-use Rattle.bitcommands.specs.Output.{IsOutputFrom, AnswersLine, lines_of, without_empty_last, texts}
-use Rattle.bitcommands.proofs.Cuts.{cut_found, cut_none}
+use Rattle.bitlines.specs.Lines.{command_of}
+use Rattle.bitlines.specs.Output.{fault_text, IsOutputFrom, lines_of, without_empty_last, texts}
+use Rattle.bitlines.specs.OneLine.{AnswersLine}
+use Rattle.bitlines.proofs.LineSplits.{cut_found, cut_none}
 
 -- a split text has a first part
 parts : (b : ℕ) (xs : List ℕ) → (p : List ℕ) × (ps : List (List ℕ)) × (slice_split (λ x. eqb x b) xs ≡ p ∷ ps)

@@ -1,7 +1,7 @@
 use Rattle.std.proofs.Common.{◌≡◌, drop}
-use Rattle.bitcommands.specs.Lines.{ends_of, ends_from}
-use Rattle.bitcommands.proofs.Ends.{onto}
-use Rattle.bitcommands.proofs.lines.ends.Given as goal
+use Rattle.bitlines.specs.Arguments.{ends_of, ends_from}
+use Rattle.bitlines.proofs.EndLetters.{onto}
+use Rattle.bitlines.proofs.arguments.ends.Given as goal
 
 -- the ends so far, before those of the letters that are left
 abbrev pub invariant-loop-letter : goal.invariant-loop-letter

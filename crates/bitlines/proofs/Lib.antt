@@ -1,0 +1,4 @@
+pub mod LineSplits
+pub mod Outputs
+pub mod EndLetters
+pub mod Dots

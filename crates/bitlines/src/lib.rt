@@ -1,0 +1,8 @@
+//! Lines as commands over numbered sets of bits, and the program that answers each line.
+#![tactic(auto)]
+
+mod arguments;
+pub mod lines;
+mod names;
+pub mod program;
+mod words;
