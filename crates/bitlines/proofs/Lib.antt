@@ -1,4 +1,5 @@
 pub mod LineSplits
 pub mod Outputs
+pub mod Numbers
 pub mod EndLetters
 pub mod Dots

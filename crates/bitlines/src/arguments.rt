@@ -112,7 +112,10 @@ fn bound(word: &[u8]) -> Result<Option<usize>, LineFault>
 }
 
 #[tactic(auto, unfolding(crate::specs::Arguments::one_and_ends))]
-pub(crate) fn one_and_ends(alloc: Global, mut args: Words<'_>) -> Result<(usize, Vec<End>), LineFault>
+pub(crate) fn one_and_ends(
+    alloc: Global,
+    mut args: Words<'_>,
+) -> Result<(usize, Vec<End>), LineFault>
     ensures { Reads true (λ x. (x.0, x.1.items)) result (one_and_ends args.entry) }
 {
     let set = args.number()?;

@@ -116,7 +116,10 @@ fn of_two_sets(name: TwoSets, a: usize, b: usize) -> Command
         TwoSets::UnionCount => Command::Compare(Compare::UnionCount { a, b }),
         TwoSets::IntersectionCount => Command::Compare(Compare::IntersectionCount { a, b }),
         TwoSets::DifferenceCount => Command::Compare(Compare::DifferenceCount { a, b }),
-        TwoSets::SymmetricDifferenceCount => Command::Compare(Compare::SymmetricDifferenceCount { a, b }),
+        TwoSets::SymmetricDifferenceCount => Command::Compare(Compare::SymmetricDifferenceCount {
+            a,
+            b,
+        }),
         TwoSets::IsDisjoint => Command::Compare(Compare::IsDisjoint { a, b }),
         TwoSets::IsSubset => Command::Compare(Compare::IsSubset { a, b }),
         TwoSets::IsSuperset => Command::Compare(Compare::IsSuperset { a, b }),
@@ -142,8 +145,14 @@ fn of_set_and_range(name: SetAndRange, set: usize, range: Span) -> Command
         SetAndRange::InsertRange => Command::Ranged(Ranged::InsertRange { set, range }),
         SetAndRange::RemoveRange => Command::Ranged(Ranged::RemoveRange { set, range }),
         SetAndRange::ToggleRange => Command::Ranged(Ranged::ToggleRange { set, range }),
-        SetAndRange::ContainsAllInRange => Command::Ranged(Ranged::ContainsAllInRange { set, range }),
-        SetAndRange::ContainsAnyInRange => Command::Ranged(Ranged::ContainsAnyInRange { set, range }),
+        SetAndRange::ContainsAllInRange => Command::Ranged(Ranged::ContainsAllInRange {
+            set,
+            range,
+        }),
+        SetAndRange::ContainsAnyInRange => Command::Ranged(Ranged::ContainsAnyInRange {
+            set,
+            range,
+        }),
         SetAndRange::RangeIsValid => Command::Ranged(Ranged::RangeIsValid { set, range }),
     }
 }

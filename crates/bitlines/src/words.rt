@@ -122,14 +122,13 @@ pub(crate) fn number(word: &[u8]) -> Option<usize>
     }
     let mut value: usize = 0;
     for byte in word {
-        let digit = byte.wrapping_sub(b'0');
-        if digit > 9 {
+        if !byte.is_ascii_digit() {
             return None;
         }
         let Some(tens) = value.checked_mul(10) else {
             return None;
         };
-        let Some(sum) = tens.checked_add(digit as usize) else {
+        let Some(sum) = tens.checked_add(usize::from(*byte - b'0')) else {
             return None;
         };
         value = sum;

@@ -1,6 +1,6 @@
 //! The program over readers and writers of the tests' own.
 use crate::streams::{Sink, Source};
-use bitcommands::program::{RunFault, run_text, status};
+use bitlines::program::{RunFault, run_text, status};
 use std::alloc::Global;
 use std::process::Abort;
 use std::test::Fail;
