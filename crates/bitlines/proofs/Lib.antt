@@ -1,4 +1,5 @@
 pub mod LineSplits
+pub mod FirstBytes
 pub mod Outputs
 pub mod Numbers
 pub mod EndLetters

@@ -4,5 +4,6 @@
 mod arguments;
 pub mod lines;
 mod names;
+mod near;
 pub mod program;
 mod words;

@@ -8,7 +8,7 @@ ghost use Rattle.bitlines.specs.OneLine.{AnswersLine};
 ghost use Rattle.bitlines.specs.Program.{IsRead, status_of};
 
 use crate::lines::{LineFault, parse_line};
-use crate::words::find;
+use crate::near::find_near;
 use bitcommands::commands::apply;
 use fixedbitset::FixedBitSet;
 use std::alloc::{AllocError, Global};
@@ -130,7 +130,7 @@ fn first_line(text: &[u8]) -> (&[u8], &[u8])
     ensures lines { lines_of text.now ≡ result.0.now ∷ lines_of result.1.now }
     ensures shorter { length result.1.now < length text.now }
 {
-    match find(text, b'\n') {
+    match find_near(text, b'\n') {
         Some(end) => (&text[..end], &text[end + 1..]),
         None => (text, &text[text.len()..]),
     }
