@@ -3,7 +3,7 @@ use Rattle.std.proofs.Common.{◌≡◌, ℕ, ◌+◌, ◌<◌, ◌≤◌, List,
 use Rattle.std.proofs.lemmas.List.{at_drop_more, at_drop_all}
 use Rattle.bitcommands.specs.declared.commands.walking.End.{End}
 use Rattle.bitcommands.specs.declared.commands.walking.End.TheVariants.{Front}
-use Rattle.bitcommands.specs.Tests.{calls, first_of, behind_first}
+use Rattle.bitcommands.specs.Calls.{calls, first_of, behind_first}
 
 -- a call that yields the first item is the first of the calls
 pub first_call : (ends : List End) (xs ys : List ℕ) (r : Option ℕ) → MatchOption r ((xs ≡ []) × (ys ≡ [])) (λ x. xs ≡ x ∷ ys) → calls (Front ∷ ends) xs ≡ r ∷ calls ends ys

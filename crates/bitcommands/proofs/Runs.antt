@@ -3,9 +3,9 @@ use Rattle.std.proofs.Common.{◌≡◌, ℕ, ◌+◌, ◌<◌, List, [], ◌∷
 use Rattle.std.proofs.lemmas.List.{take_more, map-append}
 use Rattle.bitcommands.specs.declared.commands.Command.{Command}
 use Rattle.bitcommands.specs.declared.commands.replies.Reply.{Reply}
-use Rattle.bitcommands.specs.Actions.{Action, meant}
-use Rattle.bitcommands.specs.Answers.{Answer, seen}
-use Rattle.bitcommands.specs.Tests.{Sets}
+use Rattle.bitcommands.specs.Actions.{Action, action_of}
+use Rattle.bitcommands.specs.Answers.{Answer, answer_of}
+use Rattle.bitcommands.specs.Sets.{Sets}
 use Rattle.bitcommands.specs.Steps.{Step, Run}
 
 pub Run-snoc : (limit : ℕ) (old mid new : Sets) (cs : List Action) (rs : List Answer) (c : Action) (r : Answer)
@@ -16,7 +16,7 @@ Run-snoc limit old mid new [] (q ∷ rs) c r run step = absurd run
 Run-snoc limit old mid new (d ∷ cs) [] c r run step = absurd run
 
 pub Run_more : (limit : ℕ) (old mid new : Sets) (cs : List Command) (rs : List Reply) (i : ℕ) (c : Command) (r : Reply)
-    → i < length cs → c ≡ get_or cs i c → Run limit old (map meant (take i cs)) (map seen rs) mid → Step limit mid (meant c) (seen r) new
-    → Run limit old (map meant (take (i + 1) cs)) (map seen (rs ++ r ∷ [])) new
+    → i < length cs → c ≡ get_or cs i c → Run limit old (map action_of (take i cs)) (map answer_of rs) mid → Step limit mid (action_of c) (answer_of r) new
+    → Run limit old (map action_of (take (i + 1) cs)) (map answer_of (rs ++ r ∷ [])) new
 Run_more limit old mid new cs rs i c r lt is run step =
-    rw (take_more cs i c lt, ← is, map-append meant (take i cs), map-append seen rs) (Run-snoc limit old mid new (map meant (take i cs)) (map seen rs) (meant c) (seen r) run step)
+    rw (take_more cs i c lt, ← is, map-append action_of (take i cs), map-append answer_of rs) (Run-snoc limit old mid new (map action_of (take i cs)) (map answer_of rs) (action_of c) (answer_of r) run step)

@@ -62,68 +62,68 @@ pub data Action : Type 0 where
   ones : ℕ → List End → Action
 
 -- what a command that makes a set means
-abbrev pub make_meant : Make → Action
-make_meant (makes.WithCapacity d bits) = with_capacity d bits
-make_meant (makes.Bitand d a b) = bitand d a b
-make_meant (makes.Bitor d a b) = bitor d a b
-make_meant (makes.Bitxor d a b) = bitxor d a b
+abbrev pub make_action : Make → Action
+make_action (makes.WithCapacity d bits) = with_capacity d bits
+make_action (makes.Bitand d a b) = bitand d a b
+make_action (makes.Bitor d a b) = bitor d a b
+make_action (makes.Bitxor d a b) = bitxor d a b
 
 -- what a command that looks at a set means
-abbrev pub look_meant : Look → Action
-look_meant (looks.Len k) = len k
-look_meant (looks.Contains k p) = contains k p
+abbrev pub look_action : Look → Action
+look_action (looks.Len k) = len k
+look_action (looks.Contains k p) = contains k p
 
 -- what a command that changes a set means
-abbrev pub change_meant : Change → Action
-change_meant (changes.Grow k bits) = grow k bits
-change_meant (changes.Insert k p) = insert k p
-change_meant (changes.Remove k p) = remove k p
-change_meant (changes.Toggle k p) = toggle k p
-change_meant (changes.Put k p) = put k p
-change_meant (changes.Set k p e) = set k p e
+abbrev pub change_action : Change → Action
+change_action (changes.Grow k bits) = grow k bits
+change_action (changes.Insert k p) = insert k p
+change_action (changes.Remove k p) = remove k p
+change_action (changes.Toggle k p) = toggle k p
+change_action (changes.Put k p) = put k p
+change_action (changes.Set k p e) = set k p e
 
 -- what a command over a range of a set means
-abbrev pub ranged_meant : Ranged → Action
-ranged_meant (ranges.CountOnes k r) = count_ones k (r.start, r.end)
-ranged_meant (ranges.CountZeroes k r) = count_zeroes k (r.start, r.end)
-ranged_meant (ranges.SetRange k r e) = set_range k (r.start, r.end) e
-ranged_meant (ranges.InsertRange k r) = insert_range k (r.start, r.end)
-ranged_meant (ranges.RemoveRange k r) = remove_range k (r.start, r.end)
-ranged_meant (ranges.ToggleRange k r) = toggle_range k (r.start, r.end)
-ranged_meant (ranges.ContainsAllInRange k r) = contains_all_in_range k (r.start, r.end)
-ranged_meant (ranges.ContainsAnyInRange k r) = contains_any_in_range k (r.start, r.end)
-ranged_meant (ranges.RangeIsValid k r) = range_is_valid k (r.start, r.end)
+abbrev pub ranged_action : Ranged → Action
+ranged_action (ranges.CountOnes k r) = count_ones k (r.start, r.end)
+ranged_action (ranges.CountZeroes k r) = count_zeroes k (r.start, r.end)
+ranged_action (ranges.SetRange k r e) = set_range k (r.start, r.end) e
+ranged_action (ranges.InsertRange k r) = insert_range k (r.start, r.end)
+ranged_action (ranges.RemoveRange k r) = remove_range k (r.start, r.end)
+ranged_action (ranges.ToggleRange k r) = toggle_range k (r.start, r.end)
+ranged_action (ranges.ContainsAllInRange k r) = contains_all_in_range k (r.start, r.end)
+ranged_action (ranges.ContainsAnyInRange k r) = contains_any_in_range k (r.start, r.end)
+ranged_action (ranges.RangeIsValid k r) = range_is_valid k (r.start, r.end)
 
 -- what a command that changes a set by another one means
-abbrev pub whole_meant : Whole → Action
-whole_meant (wholes.UnionWith a b) = union_with a b
-whole_meant (wholes.SymmetricDifferenceWith a b) = symmetric_difference_with a b
-whole_meant (wholes.BitorAssign a b) = bitor_assign a b
-whole_meant (wholes.BitxorAssign a b) = bitxor_assign a b
-whole_meant (wholes.IntersectWith a b) = intersect_with a b
-whole_meant (wholes.DifferenceWith a b) = difference_with a b
-whole_meant (wholes.BitandAssign a b) = bitand_assign a b
+abbrev pub whole_action : Whole → Action
+whole_action (wholes.UnionWith a b) = union_with a b
+whole_action (wholes.SymmetricDifferenceWith a b) = symmetric_difference_with a b
+whole_action (wholes.BitorAssign a b) = bitor_assign a b
+whole_action (wholes.BitxorAssign a b) = bitxor_assign a b
+whole_action (wholes.IntersectWith a b) = intersect_with a b
+whole_action (wholes.DifferenceWith a b) = difference_with a b
+whole_action (wholes.BitandAssign a b) = bitand_assign a b
 
 -- what a command that compares two sets means
-abbrev pub compare_meant : Compare → Action
-compare_meant (compares.UnionCount a b) = union_count a b
-compare_meant (compares.IntersectionCount a b) = intersection_count a b
-compare_meant (compares.DifferenceCount a b) = difference_count a b
-compare_meant (compares.SymmetricDifferenceCount a b) = symmetric_difference_count a b
-compare_meant (compares.IsDisjoint a b) = is_disjoint a b
-compare_meant (compares.IsSubset a b) = is_subset a b
-compare_meant (compares.IsSuperset a b) = is_superset a b
+abbrev pub compare_action : Compare → Action
+compare_action (compares.UnionCount a b) = union_count a b
+compare_action (compares.IntersectionCount a b) = intersection_count a b
+compare_action (compares.DifferenceCount a b) = difference_count a b
+compare_action (compares.SymmetricDifferenceCount a b) = symmetric_difference_count a b
+compare_action (compares.IsDisjoint a b) = is_disjoint a b
+compare_action (compares.IsSubset a b) = is_subset a b
+compare_action (compares.IsSuperset a b) = is_superset a b
 
 -- what a command that walks over a set means
-abbrev pub walk_meant : Walk → Action
-walk_meant (walks.Ones k ends) = ones k ends.items
+abbrev pub walk_action : Walk → Action
+walk_action (walks.Ones k ends) = ones k ends.items
 
 -- what a command means
-abbrev pub meant : Command → Action
-meant (commands.Make c) = make_meant c
-meant (commands.Look c) = look_meant c
-meant (commands.Change c) = change_meant c
-meant (commands.Ranged c) = ranged_meant c
-meant (commands.Whole c) = whole_meant c
-meant (commands.Compare c) = compare_meant c
-meant (commands.Walk c) = walk_meant c
+abbrev pub action_of : Command → Action
+action_of (commands.Make c) = make_action c
+action_of (commands.Look c) = look_action c
+action_of (commands.Change c) = change_action c
+action_of (commands.Ranged c) = ranged_action c
+action_of (commands.Whole c) = whole_action c
+action_of (commands.Compare c) = compare_action c
+action_of (commands.Walk c) = walk_action c

@@ -12,9 +12,9 @@ pub data Answer : Type 0 where
   refused : Refusal → Answer
 
 -- what a reply says
-abbrev pub seen : Reply → Answer
-seen replies.Done = done
-seen (replies.Bool e) = bool e
-seen (replies.Number n) = number n
-seen (replies.Items list) = items list.items
-seen (replies.Refused f) = refused f
+abbrev pub answer_of : Reply → Answer
+answer_of replies.Done = done
+answer_of (replies.Bool e) = bool e
+answer_of (replies.Number n) = number n
+answer_of (replies.Items list) = items list.items
+answer_of (replies.Refused f) = refused f

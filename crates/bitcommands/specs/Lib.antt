@@ -1,12 +1,10 @@
 pub mod Actions
 pub mod Answers
-pub mod Tests
+pub mod Sets
+pub mod Guards
+pub mod Calls
 pub mod Table
-pub mod Joints
 pub mod Steps
-pub mod Words
-pub mod Left
-pub mod Lines
 pub mod Texts
-pub mod Output
-pub mod Program
+pub mod Outcomes
+pub mod Joints

@@ -1,59 +1,112 @@
 -- The table: what each command answers, and what it leaves.
-use Rattle.std.specs.Prelude.{ℕ, Bool, true, false, Option}
+use Rattle.std.specs.Prelude.{ℕ, Bool, true, false, List, Option}
+use Rattle.std.specs.Option.{option_or}
 use Rattle.fixedbitset.specs.Bits as model
+use Rattle.fixedbitset.specs.Bits.{Bits}
 use Rattle.fixedbitset.specs.Ranges as ranges
 use Rattle.fixedbitset.specs.TwoSets as sets
 use Rattle.fixedbitset.specs.Questions as questions
 use Rattle.bitcommands.specs.declared.commands.refusals.Refusal.{Refusal}
-use Rattle.bitcommands.specs.Actions.{Action, with_capacity, bitand, bitor, bitxor, len, contains, grow, insert, remove, toggle, put, set, count_ones, count_zeroes, set_range, insert_range, remove_range, toggle_range, contains_all_in_range, contains_any_in_range, range_is_valid, union_with, symmetric_difference_with, bitor_assign, bitxor_assign, intersect_with, difference_with, bitand_assign, union_count, intersection_count, difference_count, symmetric_difference_count, is_disjoint, is_subset, is_superset, ones}
+use Rattle.bitcommands.specs.declared.commands.walking.End.{End}
+use Rattle.bitcommands.specs.Actions as action
+use Rattle.bitcommands.specs.Actions.{Action, Range}
 use Rattle.bitcommands.specs.Answers as answer
-use Rattle.bitcommands.specs.Answers.{Answer, done}
-use Rattle.bitcommands.specs.Tests.{Sets, at, place, ◌//◌, no_set, past_length, not_valid, past_limit, from, to, more, calls}
+use Rattle.bitcommands.specs.Answers.{Answer}
+use Rattle.bitcommands.specs.Sets.{Sets, at, place}
+use Rattle.bitcommands.specs.Guards.{no_set, no_sets, no_position, no_range, past_limit, needs_more_words, from, to, is_valid}
+use Rattle.bitcommands.specs.Calls.{calls}
 
--- What a command does: the first of its tests that refuses; where none does, its answer and the sets left;
+-- What a command does: the first of its guards that refuses; where none does, its answer and the sets left;
 -- and whether memory may be refused in their place.
 abbrev pub Row : Type 0
-Row = record { refusal : Option Refusal; answer : Answer; left : Sets; lacks : Bool }
+Row = record { refusal : Option Refusal; answer : Answer; left : Sets; may_lack_memory : Bool }
 
 abbrev pub row : Option Refusal → Answer → Sets → Bool → Row
-row refusal answer left lacks = record { refusal = refusal; answer = answer; left = left; lacks = lacks }
+row refusal answer left may_lack_memory = record { refusal = refusal; answer = answer; left = left; may_lack_memory = may_lack_memory }
 
--- The row of a command, at the limit m and the sets s: its tests in their order, its answer, the sets left, and
--- whether memory may lack.
+-- ---- the forms of rows, at the sets s
+
+-- a value of the length n is made in the place of set d, where the limit m allows it
+abbrev pub makes : ℕ → Sets → ℕ → ℕ → Bits → Row
+makes m s d n v = row (option_or (no_set s d) (past_limit m n)) answer.done (place s d v) true
+
+-- a value is made of the sets a and b, in the place of set d
+abbrev pub makes_of : Sets → ℕ → ℕ → ℕ → (Bits → Bits → Bits) → Row
+makes_of s d a b join = row (option_or (no_set s d) (no_sets s a b)) answer.done (place s d (join (at s a) (at s b))) true
+
+-- set k is asked, and nothing changes
+abbrev pub asks : Sets → ℕ → (Bits → Answer) → Row
+asks s k tell = row (no_set s k) (tell (at s k)) s false
+
+-- set k is asked about a range, and nothing changes
+abbrev pub asks_range : {A : Type 0} → Sets → ℕ → Range → (A → Answer) → (Bits → ℕ → ℕ → A) → Row
+asks_range s k r seen_as tell = row (no_range s k r) (seen_as (tell (at s k) (from r) (to (at s k) r))) s false
+
+-- the sets a and b are compared, and nothing changes
+abbrev pub compares : {A : Type 0} → Sets → ℕ → ℕ → (A → Answer) → (Bits → Bits → A) → Row
+compares s a b seen_as tell = row (no_sets s a b) (seen_as (tell (at s a) (at s b))) s false
+
+-- set k is walked over by calls that begin at these ends, and nothing changes
+abbrev pub walks : Sets → ℕ → List End → (Bits → List ℕ) → Row
+walks s k ends items = row (no_set s k) (answer.items (calls ends (items (at s k)))) s true
+
+-- set k grows to the length n, where the limit m allows it
+abbrev pub grows : ℕ → Sets → ℕ → ℕ → Bits → Row
+grows m s k n v = row (option_or (no_set s k) (past_limit m n)) answer.done (place s k v) (needs_more_words (at s k) n)
+
+-- set k changes at the position p
+abbrev pub changes_at : Sets → ℕ → ℕ → (Bits → ℕ → Bits) → Row
+changes_at s k p change = row (no_position s k p) answer.done (place s k (change (at s k) p)) false
+
+-- set k changes in a range
+abbrev pub changes_range : Sets → ℕ → Range → (Bits → ℕ → ℕ → Bits) → Row
+changes_range s k r change = row (no_range s k r) answer.done (place s k (change (at s k) (from r) (to (at s k) r))) false
+
+-- set a changes by set b, and keeps its length
+abbrev pub changes_by : Sets → ℕ → ℕ → (Bits → Bits → Bits) → Row
+changes_by s a b join = row (no_sets s a b) answer.done (place s a (join (at s a) (at s b))) false
+
+-- set a changes by set b, and grows to the length of b
+abbrev pub grows_by : Sets → ℕ → ℕ → (Bits → Bits → Bits) → Row
+grows_by s a b join = row (no_sets s a b) answer.done (place s a (join (at s a) (at s b))) (needs_more_words (at s a) (at s b).length)
+
+-- ---- the rows
+
+-- The row of a command, at the limit m and the sets s.
 abbrev pub row_of : ℕ → Sets → Action → Row
-row_of m s (with_capacity d n) = row (no_set s d // past_limit m n) done (place s d (model.empty n)) true
-row_of m s (bitand d a b) = row (no_set s d // no_set s a // no_set s b) done (place s d (sets.bitand (at s a) (at s b))) true
-row_of m s (bitor d a b) = row (no_set s d // no_set s a // no_set s b) done (place s d (sets.union (at s a) (at s b))) true
-row_of m s (bitxor d a b) = row (no_set s d // no_set s a // no_set s b) done (place s d (sets.symmetric_difference (at s a) (at s b))) true
-row_of m s (len k) = row (no_set s k) (answer.number (at s k).length) s false
-row_of m s (contains k p) = row (no_set s k) (answer.bool (model.contains (at s k) p)) s false
-row_of m s (grow k n) = row (no_set s k // past_limit m n) done (place s k (model.grow (at s k) n)) (more (at s k) n)
-row_of m s (insert k p) = row (no_set s k // past_length (at s k) p) done (place s k (model.insert (at s k) p)) false
-row_of m s (remove k p) = row (no_set s k // past_length (at s k) p) done (place s k (model.remove (at s k) p)) false
-row_of m s (toggle k p) = row (no_set s k // past_length (at s k) p) done (place s k (model.toggle (at s k) p)) false
-row_of m s (put k p) = row (no_set s k // past_length (at s k) p) (answer.bool (model.contains (at s k) p)) (place s k (model.insert (at s k) p)) false
-row_of m s (set k p e) = row (no_set s k // past_length (at s k) p) done (place s k (model.set_bit (at s k) p e)) false
-row_of m s (count_ones k r) = row (no_set s k // not_valid (at s k) r) (answer.number (ranges.count_ones (at s k) (from r) (to (at s k) r))) s false
-row_of m s (count_zeroes k r) = row (no_set s k // not_valid (at s k) r) (answer.number (ranges.count_zeroes (at s k) (from r) (to (at s k) r))) s false
-row_of m s (set_range k r e) = row (no_set s k // not_valid (at s k) r) done (place s k (ranges.set_range (at s k) (from r) (to (at s k) r) e)) false
-row_of m s (insert_range k r) = row (no_set s k // not_valid (at s k) r) done (place s k (ranges.insert_range (at s k) (from r) (to (at s k) r))) false
-row_of m s (remove_range k r) = row (no_set s k // not_valid (at s k) r) done (place s k (ranges.remove_range (at s k) (from r) (to (at s k) r))) false
-row_of m s (toggle_range k r) = row (no_set s k // not_valid (at s k) r) done (place s k (ranges.toggle_range (at s k) (from r) (to (at s k) r))) false
-row_of m s (contains_all_in_range k r) = row (no_set s k // not_valid (at s k) r) (answer.bool (questions.contains_all (at s k) (from r) (to (at s k) r))) s false
-row_of m s (contains_any_in_range k r) = row (no_set s k // not_valid (at s k) r) (answer.bool (questions.contains_any (at s k) (from r) (to (at s k) r))) s false
-row_of m s (range_is_valid k r) = row (no_set s k) (answer.bool (questions.range_is_valid (at s k).length r.0 r.1)) s false
-row_of m s (union_with a b) = row (no_set s a // no_set s b) done (place s a (sets.union (at s a) (at s b))) (more (at s a) (at s b).length)
-row_of m s (symmetric_difference_with a b) = row (no_set s a // no_set s b) done (place s a (sets.symmetric_difference (at s a) (at s b))) (more (at s a) (at s b).length)
-row_of m s (bitor_assign a b) = row (no_set s a // no_set s b) done (place s a (sets.union (at s a) (at s b))) (more (at s a) (at s b).length)
-row_of m s (bitxor_assign a b) = row (no_set s a // no_set s b) done (place s a (sets.symmetric_difference (at s a) (at s b))) (more (at s a) (at s b).length)
-row_of m s (intersect_with a b) = row (no_set s a // no_set s b) done (place s a (sets.intersection (at s a) (at s b))) false
-row_of m s (difference_with a b) = row (no_set s a // no_set s b) done (place s a (sets.difference (at s a) (at s b))) false
-row_of m s (bitand_assign a b) = row (no_set s a // no_set s b) done (place s a (sets.intersection (at s a) (at s b))) false
-row_of m s (union_count a b) = row (no_set s a // no_set s b) (answer.number (sets.union_count (at s a) (at s b))) s false
-row_of m s (intersection_count a b) = row (no_set s a // no_set s b) (answer.number (sets.intersection_count (at s a) (at s b))) s false
-row_of m s (difference_count a b) = row (no_set s a // no_set s b) (answer.number (sets.difference_count (at s a) (at s b))) s false
-row_of m s (symmetric_difference_count a b) = row (no_set s a // no_set s b) (answer.number (sets.symmetric_difference_count (at s a) (at s b))) s false
-row_of m s (is_disjoint a b) = row (no_set s a // no_set s b) (answer.bool (questions.is_disjoint (at s a) (at s b))) s false
-row_of m s (is_subset a b) = row (no_set s a // no_set s b) (answer.bool (questions.is_subset (at s a) (at s b))) s false
-row_of m s (is_superset a b) = row (no_set s a // no_set s b) (answer.bool (questions.is_subset (at s b) (at s a))) s false
-row_of m s (ones k ends) = row (no_set s k) (answer.items (calls ends (model.asc (at s k)))) s true
+row_of m s (action.with_capacity d n) = makes m s d n (model.empty n)
+row_of m s (action.bitand d a b) = makes_of s d a b sets.bitand
+row_of m s (action.bitor d a b) = makes_of s d a b sets.union
+row_of m s (action.bitxor d a b) = makes_of s d a b sets.symmetric_difference
+row_of m s (action.len k) = asks s k (λ v. answer.number v.length)
+row_of m s (action.contains k p) = asks s k (λ v. answer.bool (model.contains v p))
+row_of m s (action.grow k n) = grows m s k n (model.grow (at s k) n)
+row_of m s (action.insert k p) = changes_at s k p model.insert
+row_of m s (action.remove k p) = changes_at s k p model.remove
+row_of m s (action.toggle k p) = changes_at s k p model.toggle
+row_of m s (action.put k p) = row (no_position s k p) (answer.bool (model.contains (at s k) p)) (place s k (model.insert (at s k) p)) false
+row_of m s (action.set k p e) = changes_at s k p (λ v q. model.set_bit v q e)
+row_of m s (action.count_ones k r) = asks_range s k r answer.number ranges.count_ones
+row_of m s (action.count_zeroes k r) = asks_range s k r answer.number ranges.count_zeroes
+row_of m s (action.set_range k r e) = changes_range s k r (λ v start end. ranges.set_range v start end e)
+row_of m s (action.insert_range k r) = changes_range s k r ranges.insert_range
+row_of m s (action.remove_range k r) = changes_range s k r ranges.remove_range
+row_of m s (action.toggle_range k r) = changes_range s k r ranges.toggle_range
+row_of m s (action.contains_all_in_range k r) = asks_range s k r answer.bool questions.contains_all
+row_of m s (action.contains_any_in_range k r) = asks_range s k r answer.bool questions.contains_any
+row_of m s (action.range_is_valid k r) = asks s k (λ v. answer.bool (is_valid v r))
+row_of m s (action.union_with a b) = grows_by s a b sets.union
+row_of m s (action.symmetric_difference_with a b) = grows_by s a b sets.symmetric_difference
+row_of m s (action.bitor_assign a b) = grows_by s a b sets.union
+row_of m s (action.bitxor_assign a b) = grows_by s a b sets.symmetric_difference
+row_of m s (action.intersect_with a b) = changes_by s a b sets.intersection
+row_of m s (action.difference_with a b) = changes_by s a b sets.difference
+row_of m s (action.bitand_assign a b) = changes_by s a b sets.intersection
+row_of m s (action.union_count a b) = compares s a b answer.number sets.union_count
+row_of m s (action.intersection_count a b) = compares s a b answer.number sets.intersection_count
+row_of m s (action.difference_count a b) = compares s a b answer.number sets.difference_count
+row_of m s (action.symmetric_difference_count a b) = compares s a b answer.number sets.symmetric_difference_count
+row_of m s (action.is_disjoint a b) = compares s a b answer.bool questions.is_disjoint
+row_of m s (action.is_subset a b) = compares s a b answer.bool questions.is_subset
+row_of m s (action.is_superset a b) = compares s a b answer.bool (λ v w. questions.is_subset w v)
+row_of m s (action.ones k ends) = walks s k ends model.asc

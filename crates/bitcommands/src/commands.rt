@@ -1,14 +1,17 @@
 //! Commands over numbered sets.
 ghost use Rattle.std.specs.Prelude.{◌≡◌, IfOk, OnErr, map};
-ghost use Rattle.bitcommands.specs.Actions.{meant};
-ghost use Rattle.bitcommands.specs.Answers.{seen};
-ghost use Rattle.bitcommands.specs.Steps.{Step, Run, replied};
+ghost use Rattle.bitcommands.specs.Actions.{action_of};
+ghost use Rattle.bitcommands.specs.Answers.{answer_of};
+ghost use Rattle.bitcommands.specs.Steps.{Step, Run};
+ghost use Rattle.bitcommands.specs.Outcomes.{replied};
 
 mod changing;
 mod comparing;
 mod joining;
 mod looking;
 mod making;
+mod printing;
+mod questions;
 mod ranging;
 mod refusals;
 mod replies;
@@ -47,11 +50,11 @@ pub enum Command {
 
 /// Carries out one command, and answers its reply.
 ///
-/// The tests of the command are made first, in the order of the table (`specs/Table.antt`): the first that refuses is
+/// The guards of the command are tested first, in the order of the table (`specs/Table.antt`): the first that refuses is
 /// the reply, and then no set changes. `limit` is the greatest length that a command may ask for. The reply is
 /// `Refusal::Memory` only where the table says that memory may be refused, and then no set changes.
 pub fn apply(alloc: Global, sets: &mut [FixedBitSet], command: &Command, limit: usize) -> Reply
-    ensures { Step limit sets.old (meant command.now) (seen result) sets.new }
+    ensures { Step limit sets.old (action_of command.now) (answer_of result) sets.new }
 {
     match command {
         Command::Make(command) => reply_of(apply_make(alloc, sets, command, limit)),
@@ -74,7 +77,7 @@ pub fn run(
     commands: &[Command],
     limit: usize,
 ) -> Result<Vec<Reply>, AllocError>
-    ensures run { IfOk result (λ replies. Run limit sets.old (map meant commands.now) (map seen replies.items) sets.new) }
+    ensures run { IfOk result (λ replies. Run limit sets.old (map action_of commands.now) (map answer_of replies.items) sets.new) }
     ensures err { OnErr result (sets.new ≡ sets.old) }
 {
     let mut replies = Vec::with_capacity(alloc, commands.len())?;
@@ -86,7 +89,7 @@ pub fn run(
 }
 
 fn reply_of(outcome: Result<Reply, Refusal>) -> Reply
-    ensures { seen result ≡ replied outcome }
+    ensures { answer_of result ≡ replied outcome }
 {
     match outcome {
         Ok(reply) => reply,

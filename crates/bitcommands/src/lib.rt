@@ -1,7 +1,4 @@
-//! Commands over numbered sets of bits, and the program that reads them from lines and writes a reply for each.
+//! Commands over numbered sets of bits: what each does and answers.
 #![tactic(auto)]
 
 pub mod commands;
-pub mod lines;
-pub mod program;
-mod words;

@@ -1,8 +1,8 @@
 //! The program `bits`: reads lines of commands from standard input, and writes one reply a line to standard output.
-//! It looks at no arguments. Everything that matters is in the library `bitcommands`.
+//! It looks at no arguments. Everything that matters is in the library `bitlines`.
 #![tactic(auto)]
 
-use bitcommands::program::{run_text, status};
+use bitlines::program::{run_text, status};
 use std::process::ExitCode;
 
 fn main(rt: HostRuntime) -> ExitCode {

@@ -1,6 +1,6 @@
 //! The program over readers and writers of the tests' own.
 use crate::streams::{Sink, Source};
-use bitcommands::program::{RunFault, run_text, status};
+use bitlines::program::{RunFault, run_text, status};
 use std::alloc::Global;
 use std::process::Abort;
 use std::test::Fail;
@@ -24,6 +24,43 @@ fn assert_output(rt: &impl Abort, alloc: Global, input: &str, output: &str) -> R
     assert_eq!(rt; sink.flushed, 1);
     Ok(())
 }
+
+// The lines of `examples/first.txt`, and the replies that `examples/first.out` has.
+const FIRST: &str = "with_capacity 0 10
+insert 0 3
+put 0 3
+contains 0 3
+contains 0 10
+insert 0 10
+insert_range 0 5..
+count_ones 0 ..
+with_capacity 1 70
+insert_range 1 ..4
+union_count 0 1
+is_subset 1 0
+bitand 2 0 1
+len 2
+ones 2 ff
+count_ones 2 5..11
+";
+
+const FIRST_REPLIES: &str = "ok
+ok
+true
+true
+false
+F2 position not below the length
+ok
+6
+ok
+ok
+9
+false
+ok
+10
+3 none
+F3 range not valid
+";
 
 const GROWTH: &str = "with_capacity 0 64
 insert 0 63
@@ -59,6 +96,7 @@ F8 not a command
 
 #[test]
 fn runs_of_commands(rt: HostRuntime) -> Result<(), Fail> {
+    assert_output(&rt, rt.alloc(), FIRST, FIRST_REPLIES)?;
     assert_output(&rt, rt.alloc(), GROWTH, GROWTH_REPLIES)?;
     assert_output(
         &rt,

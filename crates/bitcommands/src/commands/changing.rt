@@ -1,8 +1,8 @@
 //! Commands that change one set.
-ghost use Rattle.bitcommands.specs.Actions.{change_meant};
-ghost use Rattle.bitcommands.specs.Steps.{Answers};
+ghost use Rattle.bitcommands.specs.Actions.{change_action};
+ghost use Rattle.bitcommands.specs.Outcomes.{Answers};
 
-use crate::commands::refusals::{Refusal, below, known, within};
+use crate::commands::refusals::{Refusal, check_limit, check_position, check_set};
 use crate::commands::replies::Reply;
 use fixedbitset::FixedBitSet;
 
@@ -28,36 +28,36 @@ pub(super) fn apply_change(
     command: &Change,
     limit: usize,
 ) -> Result<Reply, Refusal>
-    ensures { Answers limit sets.old (change_meant command.now) result sets.new }
+    ensures { Answers limit sets.old (change_action command.now) result sets.new }
 {
     match command {
         Change::Grow { set, bits } => {
-            known(sets, *set)?;
-            within(limit, *bits)?;
+            check_set(sets, *set)?;
+            check_limit(limit, *bits)?;
             sets[*set].grow(*bits)?;
             Ok(Reply::Done)
         }
         Change::Insert { set, bit } => {
-            below(sets, *set, *bit)?;
+            check_position(sets, *set, *bit)?;
             sets[*set].insert(*bit);
             Ok(Reply::Done)
         }
         Change::Remove { set, bit } => {
-            below(sets, *set, *bit)?;
+            check_position(sets, *set, *bit)?;
             sets[*set].remove(*bit);
             Ok(Reply::Done)
         }
         Change::Toggle { set, bit } => {
-            below(sets, *set, *bit)?;
+            check_position(sets, *set, *bit)?;
             sets[*set].toggle(*bit);
             Ok(Reply::Done)
         }
         Change::Put { set, bit } => {
-            below(sets, *set, *bit)?;
+            check_position(sets, *set, *bit)?;
             Ok(Reply::Bool(sets[*set].put(*bit)))
         }
         Change::Set { set, bit, value } => {
-            below(sets, *set, *bit)?;
+            check_position(sets, *set, *bit)?;
             sets[*set].set(*bit, *value);
             Ok(Reply::Done)
         }

@@ -1,10 +1,9 @@
 //! Commands that compare the positions of two sets and change nothing.
-ghost use Rattle.std.specs.Prelude.{◌≡◌};
-ghost use Rattle.fixedbitset.specs.Questions as questions;
-ghost use Rattle.bitcommands.specs.Actions.{compare_meant};
-ghost use Rattle.bitcommands.specs.Steps.{Answers};
+ghost use Rattle.bitcommands.specs.Actions.{compare_action};
+ghost use Rattle.bitcommands.specs.Outcomes.{Answers};
 
-use crate::commands::refusals::{Refusal, both};
+use crate::commands::questions::{is_disjoint, is_subset, is_superset};
+use crate::commands::refusals::{Refusal, check_sets};
 use crate::commands::replies::Reply;
 use fixedbitset::FixedBitSet;
 
@@ -32,54 +31,36 @@ pub(super) fn apply_compare(
     command: &Compare,
     _limit: usize,
 ) -> Result<Reply, Refusal>
-    ensures { Answers _limit sets.now (compare_meant command.now) result sets.now }
+    ensures { Answers _limit sets.now (compare_action command.now) result sets.now }
 {
     match command {
         Compare::UnionCount { a, b } => {
-            both(sets, *a, *b)?;
+            check_sets(sets, *a, *b)?;
             Ok(Reply::Number(sets[*a].union_count(&sets[*b])))
         }
         Compare::IntersectionCount { a, b } => {
-            both(sets, *a, *b)?;
+            check_sets(sets, *a, *b)?;
             Ok(Reply::Number(sets[*a].intersection_count(&sets[*b])))
         }
         Compare::DifferenceCount { a, b } => {
-            both(sets, *a, *b)?;
+            check_sets(sets, *a, *b)?;
             Ok(Reply::Number(sets[*a].difference_count(&sets[*b])))
         }
         Compare::SymmetricDifferenceCount { a, b } => {
-            both(sets, *a, *b)?;
+            check_sets(sets, *a, *b)?;
             Ok(Reply::Number(sets[*a].symmetric_difference_count(&sets[*b])))
         }
         Compare::IsDisjoint { a, b } => {
-            both(sets, *a, *b)?;
+            check_sets(sets, *a, *b)?;
             Ok(Reply::Bool(is_disjoint(&sets[*a], &sets[*b])))
         }
         Compare::IsSubset { a, b } => {
-            both(sets, *a, *b)?;
+            check_sets(sets, *a, *b)?;
             Ok(Reply::Bool(is_subset(&sets[*a], &sets[*b])))
         }
         Compare::IsSuperset { a, b } => {
-            both(sets, *a, *b)?;
+            check_sets(sets, *a, *b)?;
             Ok(Reply::Bool(is_superset(&sets[*a], &sets[*b])))
         }
     }
-}
-
-fn is_disjoint(set: &FixedBitSet, other: &FixedBitSet) -> bool
-    ensures { result ≡ questions.is_disjoint set.now other.now }
-{
-    set.is_disjoint(other)
-}
-
-fn is_subset(set: &FixedBitSet, other: &FixedBitSet) -> bool
-    ensures { result ≡ questions.is_subset set.now other.now }
-{
-    set.is_subset(other)
-}
-
-fn is_superset(set: &FixedBitSet, other: &FixedBitSet) -> bool
-    ensures { result ≡ questions.is_subset other.now set.now }
-{
-    set.is_superset(other)
 }

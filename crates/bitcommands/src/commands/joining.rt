@@ -1,11 +1,11 @@
 //! Commands that change one set by another one, or by itself.
 ghost use Rattle.std.specs.Prelude.{◌≡◌, ◌<◌, length, IsTrue, OnOk, OnErr};
-ghost use Rattle.bitcommands.specs.Actions.{whole_meant};
-ghost use Rattle.bitcommands.specs.Joints.{joined, joint_lacks};
-ghost use Rattle.bitcommands.specs.Tests.{at, place};
-ghost use Rattle.bitcommands.specs.Steps.{Answers};
+ghost use Rattle.bitcommands.specs.Actions.{whole_action};
+ghost use Rattle.bitcommands.specs.Joints.{combined, joint_may_lack_memory};
+ghost use Rattle.bitcommands.specs.Sets.{at, place};
+ghost use Rattle.bitcommands.specs.Outcomes.{Answers};
 
-use crate::commands::refusals::{Refusal, both};
+use crate::commands::refusals::{Refusal, check_sets};
 use crate::commands::replies::Reply;
 use fixedbitset::FixedBitSet;
 use std::alloc::{AllocError, Global};
@@ -36,41 +36,41 @@ pub(super) fn apply_whole(
     command: &Whole,
     limit: usize,
 ) -> Result<Reply, Refusal>
-    ensures { Answers limit sets.old (whole_meant command.now) result sets.new }
+    ensures { Answers limit sets.old (whole_action command.now) result sets.new }
 {
     match command {
         Whole::UnionWith { a, b } => {
-            both(sets, *a, *b)?;
+            check_sets(sets, *a, *b)?;
             join(alloc, sets, *a, *b, Joint::Union)?;
             Ok(Reply::Done)
         }
         Whole::SymmetricDifferenceWith { a, b } => {
-            both(sets, *a, *b)?;
+            check_sets(sets, *a, *b)?;
             join(alloc, sets, *a, *b, Joint::SymmetricDifference)?;
             Ok(Reply::Done)
         }
         Whole::BitorAssign { a, b } => {
-            both(sets, *a, *b)?;
+            check_sets(sets, *a, *b)?;
             join(alloc, sets, *a, *b, Joint::Union)?;
             Ok(Reply::Done)
         }
         Whole::BitxorAssign { a, b } => {
-            both(sets, *a, *b)?;
+            check_sets(sets, *a, *b)?;
             join(alloc, sets, *a, *b, Joint::SymmetricDifference)?;
             Ok(Reply::Done)
         }
         Whole::IntersectWith { a, b } => {
-            both(sets, *a, *b)?;
+            check_sets(sets, *a, *b)?;
             join(alloc, sets, *a, *b, Joint::Intersection)?;
             Ok(Reply::Done)
         }
         Whole::DifferenceWith { a, b } => {
-            both(sets, *a, *b)?;
+            check_sets(sets, *a, *b)?;
             join(alloc, sets, *a, *b, Joint::Difference)?;
             Ok(Reply::Done)
         }
         Whole::BitandAssign { a, b } => {
-            both(sets, *a, *b)?;
+            check_sets(sets, *a, *b)?;
             join(alloc, sets, *a, *b, Joint::Intersection)?;
             Ok(Reply::Done)
         }
@@ -96,9 +96,9 @@ fn join(
 ) -> Result<(), AllocError>
     requires first { target < length sets.old }
     requires second { other < length sets.old }
-    ensures ok { OnOk result (sets.new ≡ place sets.old target (joined joint (at sets.old target) (at sets.old other))) }
+    ensures ok { OnOk result (sets.new ≡ place sets.old target (combined joint (at sets.old target) (at sets.old other))) }
     ensures err { OnErr result (sets.new ≡ sets.old) }
-    ensures lacks { OnErr result (IsTrue (joint_lacks joint (at sets.old target) (at sets.old other))) }
+    ensures lacks { OnErr result (IsTrue (joint_may_lack_memory joint (at sets.old target) (at sets.old other))) }
 {
     if target == other {
         with_itself(&mut sets[target], &joint);
@@ -111,9 +111,9 @@ fn join(
 }
 
 fn combine(target: &mut FixedBitSet, other: &FixedBitSet, joint: &Joint) -> Result<(), AllocError>
-    ensures ok { OnOk result (target.new ≡ joined joint.now target.old other.now) }
+    ensures ok { OnOk result (target.new ≡ combined joint.now target.old other.now) }
     ensures err { OnErr result (target.new ≡ target.old) }
-    ensures lacks { OnErr result (IsTrue (joint_lacks joint.now target.old other.now)) }
+    ensures lacks { OnErr result (IsTrue (joint_may_lack_memory joint.now target.old other.now)) }
 {
     match joint {
         Joint::Union => target.union_with(other),
@@ -129,10 +129,10 @@ fn combine(target: &mut FixedBitSet, other: &FixedBitSet, joint: &Joint) -> Resu
     }
 }
 
-// A set joined with itself stays as it is, or becomes clear.
-#[tactic(auto, using(crate::proofs::Taken::same_union, crate::proofs::Taken::same_intersection, crate::proofs::Taken::same_symmetric_difference, crate::proofs::Taken::same_difference))]
+// A set combined with itself stays as it is, or becomes clear.
+#[tactic(auto, using(crate::proofs::JoinedWithItself::same_union, crate::proofs::JoinedWithItself::same_intersection, crate::proofs::JoinedWithItself::same_symmetric_difference, crate::proofs::JoinedWithItself::same_difference))]
 fn with_itself(target: &mut FixedBitSet, joint: &Joint)
-    ensures { target.new ≡ joined joint.now target.old target.old }
+    ensures { target.new ≡ combined joint.now target.old target.old }
 {
     match joint {
         Joint::Union | Joint::Intersection => {}

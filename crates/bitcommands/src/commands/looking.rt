@@ -1,8 +1,8 @@
 //! Commands that look at one set and change nothing.
-ghost use Rattle.bitcommands.specs.Actions.{look_meant};
-ghost use Rattle.bitcommands.specs.Steps.{Answers};
+ghost use Rattle.bitcommands.specs.Actions.{look_action};
+ghost use Rattle.bitcommands.specs.Outcomes.{Answers};
 
-use crate::commands::refusals::{Refusal, known};
+use crate::commands::refusals::{Refusal, check_set};
 use crate::commands::replies::Reply;
 use fixedbitset::FixedBitSet;
 
@@ -20,15 +20,15 @@ pub(super) fn apply_look(
     command: &Look,
     _limit: usize,
 ) -> Result<Reply, Refusal>
-    ensures { Answers _limit sets.now (look_meant command.now) result sets.now }
+    ensures { Answers _limit sets.now (look_action command.now) result sets.now }
 {
     match command {
         Look::Len { set } => {
-            known(sets, *set)?;
+            check_set(sets, *set)?;
             Ok(Reply::Number(sets[*set].len()))
         }
         Look::Contains { set, bit } => {
-            known(sets, *set)?;
+            check_set(sets, *set)?;
             Ok(Reply::Bool(sets[*set].contains(*bit)))
         }
     }

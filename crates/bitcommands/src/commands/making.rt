@@ -1,8 +1,8 @@
 //! Commands that put a new value in a set's place.
-ghost use Rattle.bitcommands.specs.Actions.{make_meant};
-ghost use Rattle.bitcommands.specs.Steps.{Answers};
+ghost use Rattle.bitcommands.specs.Actions.{make_action};
+ghost use Rattle.bitcommands.specs.Outcomes.{Answers};
 
-use crate::commands::refusals::{Refusal, both, known, within};
+use crate::commands::refusals::{Refusal, check_limit, check_set, check_sets};
 use crate::commands::replies::Reply;
 use fixedbitset::FixedBitSet;
 use std::alloc::Global;
@@ -26,30 +26,30 @@ pub(super) fn apply_make(
     command: &Make,
     limit: usize,
 ) -> Result<Reply, Refusal>
-    ensures { Answers limit sets.old (make_meant command.now) result sets.new }
+    ensures { Answers limit sets.old (make_action command.now) result sets.new }
 {
     match command {
         Make::WithCapacity { target, bits } => {
-            known(sets, *target)?;
-            within(limit, *bits)?;
+            check_set(sets, *target)?;
+            check_limit(limit, *bits)?;
             sets[*target] = FixedBitSet::with_capacity(alloc, *bits)?;
             Ok(Reply::Done)
         }
         Make::Bitand { target, a, b } => {
-            known(sets, *target)?;
-            both(sets, *a, *b)?;
+            check_set(sets, *target)?;
+            check_sets(sets, *a, *b)?;
             sets[*target] = sets[*a].bitand(&sets[*b])?;
             Ok(Reply::Done)
         }
         Make::Bitor { target, a, b } => {
-            known(sets, *target)?;
-            both(sets, *a, *b)?;
+            check_set(sets, *target)?;
+            check_sets(sets, *a, *b)?;
             sets[*target] = sets[*a].bitor(&sets[*b])?;
             Ok(Reply::Done)
         }
         Make::Bitxor { target, a, b } => {
-            known(sets, *target)?;
-            both(sets, *a, *b)?;
+            check_set(sets, *target)?;
+            check_sets(sets, *a, *b)?;
             sets[*target] = sets[*a].bitxor(&sets[*b])?;
             Ok(Reply::Done)
         }

@@ -1,11 +1,9 @@
 //! Commands over a range of one set.
-ghost use Rattle.std.specs.Prelude.{◌≡◌, IsTrue};
-ghost use Rattle.fixedbitset.specs.Ranges.{start_of, end_of, IsValid};
-ghost use Rattle.fixedbitset.specs.Questions as questions;
-ghost use Rattle.bitcommands.specs.Actions.{ranged_meant};
-ghost use Rattle.bitcommands.specs.Steps.{Answers};
+ghost use Rattle.bitcommands.specs.Actions.{ranged_action};
+ghost use Rattle.bitcommands.specs.Outcomes.{Answers};
 
-use crate::commands::refusals::{Refusal, known, valid};
+use crate::commands::questions::{contains_all, contains_any, is_valid};
+use crate::commands::refusals::{Refusal, check_range, check_set};
 use crate::commands::replies::Reply;
 use fixedbitset::{FixedBitSet, IndexRange};
 
@@ -86,69 +84,48 @@ pub(super) fn apply_ranged(
     command: &Ranged,
     limit: usize,
 ) -> Result<Reply, Refusal>
-    ensures { Answers limit sets.old (ranged_meant command.now) result sets.new }
+    ensures { Answers limit sets.old (ranged_action command.now) result sets.new }
 {
     match command {
         Ranged::CountOnes { set, range } => {
-            valid(sets, *set, *range)?;
+            check_range(sets, *set, *range)?;
             Ok(Reply::Number(sets[*set].count_ones(*range)))
         }
         Ranged::CountZeroes { set, range } => {
-            valid(sets, *set, *range)?;
+            check_range(sets, *set, *range)?;
             Ok(Reply::Number(sets[*set].count_zeroes(*range)))
         }
         Ranged::SetRange { set, range, value } => {
-            valid(sets, *set, *range)?;
+            check_range(sets, *set, *range)?;
             sets[*set].set_range(*range, *value);
             Ok(Reply::Done)
         }
         Ranged::InsertRange { set, range } => {
-            valid(sets, *set, *range)?;
+            check_range(sets, *set, *range)?;
             sets[*set].insert_range(*range);
             Ok(Reply::Done)
         }
         Ranged::RemoveRange { set, range } => {
-            valid(sets, *set, *range)?;
+            check_range(sets, *set, *range)?;
             sets[*set].remove_range(*range);
             Ok(Reply::Done)
         }
         Ranged::ToggleRange { set, range } => {
-            valid(sets, *set, *range)?;
+            check_range(sets, *set, *range)?;
             sets[*set].toggle_range(*range);
             Ok(Reply::Done)
         }
         Ranged::ContainsAllInRange { set, range } => {
-            valid(sets, *set, *range)?;
+            check_range(sets, *set, *range)?;
             Ok(Reply::Bool(contains_all(&sets[*set], *range)))
         }
         Ranged::ContainsAnyInRange { set, range } => {
-            valid(sets, *set, *range)?;
+            check_range(sets, *set, *range)?;
             Ok(Reply::Bool(contains_any(&sets[*set], *range)))
         }
         Ranged::RangeIsValid { set, range } => {
-            known(sets, *set)?;
+            check_set(sets, *set)?;
             Ok(Reply::Bool(is_valid(&sets[*set], *range)))
         }
     }
-}
-
-pub(super) fn is_valid(set: &FixedBitSet, range: Span) -> bool
-    ensures answer { result ≡ questions.range_is_valid set.now.length range.start range.end }
-    ensures valid { IsTrue result → IsValid set.now.length range.start range.end }
-{
-    set.range_is_valid(&range)
-}
-
-fn contains_all(set: &FixedBitSet, range: Span) -> bool
-    requires { IsValid set.now.length range.start range.end }
-    ensures { result ≡ questions.contains_all set.now (start_of range.start) (end_of range.end set.now.length) }
-{
-    set.contains_all_in_range(range)
-}
-
-fn contains_any(set: &FixedBitSet, range: Span) -> bool
-    requires { IsValid set.now.length range.start range.end }
-    ensures { result ≡ questions.contains_any set.now (start_of range.start) (end_of range.end set.now.length) }
-{
-    set.contains_any_in_range(range)
 }

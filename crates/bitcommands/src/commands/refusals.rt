@@ -1,9 +1,12 @@
-//! Why a command is refused, and the tests that find it out.
+//! Why a command is refused, and the checks that find it out.
 ghost use Rattle.std.specs.Prelude.{OnOk};
 ghost use Rattle.fixedbitset.specs.Ranges.{IsValid};
-ghost use Rattle.bitcommands.specs.Tests.{at, no_set, no_sets, not_below, not_valid_at, past_limit, Passes};
+ghost use Rattle.bitcommands.specs.Sets.{at};
+ghost use Rattle.bitcommands.specs.Guards.{no_set, no_sets, no_position, no_range, past_limit};
+ghost use Rattle.bitcommands.specs.Outcomes.{Passes};
 
-use crate::commands::ranging::{Span, is_valid};
+use crate::commands::questions::is_valid;
+use crate::commands::ranging::Span;
 use fixedbitset::FixedBitSet;
 use std::alloc::AllocError;
 use std::fmt;
@@ -23,6 +26,24 @@ pub enum Refusal {
     Limit,
 }
 
+impl Refusal {
+    ghost use Rattle.std.specs.Prelude.{◌≡◌};
+    ghost use Rattle.bitcommands.specs.Texts.{refusal_text};
+
+    /// The text that `Display` prints.
+    pub(super) fn text(&self) -> &'static str
+        ensures { result.now ≡ refusal_text self.now }
+    {
+        match self {
+            Refusal::NoSet => "F1 no such set",
+            Refusal::Position => "F2 position not below the length",
+            Refusal::Range => "F3 range not valid",
+            Refusal::Memory => "F6 no memory",
+            Refusal::Limit => "F7 length above the limit",
+        }
+    }
+}
+
 impl fmt::Display for Refusal {
     ghost use Rattle.std.specs.Prelude.{Some};
     ghost use Rattle.bitcommands.specs.Texts.{refusal_text};
@@ -30,13 +51,7 @@ impl fmt::Display for Refusal {
     ghost output = { λ refusal. Some (refusal_text refusal) };
 
     fn fmt<W: fmt::Write>(&self, f: &mut fmt::Formatter<W>) -> fmt::Result {
-        f.write_str(match self {
-            Refusal::NoSet => "F1 no such set",
-            Refusal::Position => "F2 position not below the length",
-            Refusal::Range => "F3 range not valid",
-            Refusal::Memory => "F6 no memory",
-            Refusal::Limit => "F7 length above the limit",
-        })
+        f.write_str(self.text())
     }
 }
 
@@ -52,7 +67,7 @@ impl From<AllocError> for Refusal {
 }
 
 // There is such a set.
-pub(super) fn known(sets: &[FixedBitSet], set: usize) -> Result<(), Refusal>
+pub(super) fn check_set(sets: &[FixedBitSet], set: usize) -> Result<(), Refusal>
     ensures { Passes result (no_set sets.now set) }
 {
     if set < sets.len() {
@@ -63,10 +78,10 @@ pub(super) fn known(sets: &[FixedBitSet], set: usize) -> Result<(), Refusal>
 }
 
 // There is such a set, and the position is below its length.
-pub(super) fn below(sets: &[FixedBitSet], set: usize, bit: usize) -> Result<(), Refusal>
-    ensures { Passes result (not_below sets.now set bit) }
+pub(super) fn check_position(sets: &[FixedBitSet], set: usize, bit: usize) -> Result<(), Refusal>
+    ensures { Passes result (no_position sets.now set bit) }
 {
-    known(sets, set)?;
+    check_set(sets, set)?;
     if bit < sets[set].len() {
         Ok(())
     } else {
@@ -75,7 +90,7 @@ pub(super) fn below(sets: &[FixedBitSet], set: usize, bit: usize) -> Result<(), 
 }
 
 // The length may be asked for.
-pub(super) fn within(limit: usize, bits: usize) -> Result<(), Refusal>
+pub(super) fn check_limit(limit: usize, bits: usize) -> Result<(), Refusal>
     ensures { Passes result (past_limit limit bits) }
 {
     if bits <= limit {
@@ -86,19 +101,19 @@ pub(super) fn within(limit: usize, bits: usize) -> Result<(), Refusal>
 }
 
 // There are both sets.
-pub(super) fn both(sets: &[FixedBitSet], first: usize, second: usize) -> Result<(), Refusal>
+pub(super) fn check_sets(sets: &[FixedBitSet], first: usize, second: usize) -> Result<(), Refusal>
     ensures { Passes result (no_sets sets.now first second) }
 {
-    known(sets, first)?;
-    known(sets, second)
+    check_set(sets, first)?;
+    check_set(sets, second)
 }
 
 // There is such a set, and the range is valid for it.
-pub(super) fn valid(sets: &[FixedBitSet], set: usize, range: Span) -> Result<(), Refusal>
-    ensures passes { Passes result (not_valid_at sets.now set (range.start, range.end)) }
+pub(super) fn check_range(sets: &[FixedBitSet], set: usize, range: Span) -> Result<(), Refusal>
+    ensures passes { Passes result (no_range sets.now set (range.start, range.end)) }
     ensures valid { OnOk result (IsValid (at sets.now set).length range.start range.end) }
 {
-    known(sets, set)?;
+    check_set(sets, set)?;
     if is_valid(&sets[set], range) {
         Ok(())
     } else {

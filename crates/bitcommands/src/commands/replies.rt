@@ -2,7 +2,9 @@
 ghost use Rattle.std.specs.Fmt.{WritesOnOk};
 ghost use Rattle.bitcommands.specs.Texts.{items_text};
 
+use crate::commands::printing::{push_flag, push_items, push_number};
 use crate::commands::refusals::Refusal;
+use std::alloc::AllocError;
 use std::fmt;
 
 /// The reply to a command.
@@ -18,12 +20,33 @@ pub enum Reply {
     Refused(Refusal),
 }
 
-impl fmt::Display for Reply {
-    ghost use Rattle.std.specs.Prelude.{Some};
-    ghost use Rattle.bitcommands.specs.Answers.{seen};
+impl Reply {
+    ghost use Rattle.std.specs.Prelude.{◌≡◌, ◌++◌, OnOk};
+    ghost use Rattle.bitcommands.specs.Answers.{answer_of};
     ghost use Rattle.bitcommands.specs.Texts.{answer_text};
 
-    ghost output = { λ reply. Some (answer_text (seen reply)) };
+    /// Puts the text that `Display` prints behind the output, without a formatter. Where memory is refused, a part of
+    /// the text may stand there.
+    #[inline]
+    pub fn push_text(&self, output: &mut Vec<u8>) -> Result<(), AllocError>
+        ensures { OnOk result (output.new.items ≡ output.old.items ++ answer_text (answer_of self.now)) }
+    {
+        match self {
+            Reply::Done => output.extend_from_slice(b"ok"),
+            Reply::Bool(flag) => push_flag(*flag, output),
+            Reply::Number(number) => push_number(*number, output),
+            Reply::Items(items) => push_items(items.as_slice(), output),
+            Reply::Refused(refusal) => output.extend_from_slice(refusal.text().as_bytes()),
+        }
+    }
+}
+
+impl fmt::Display for Reply {
+    ghost use Rattle.std.specs.Prelude.{Some};
+    ghost use Rattle.bitcommands.specs.Answers.{answer_of};
+    ghost use Rattle.bitcommands.specs.Texts.{answer_text};
+
+    ghost output = { λ reply. Some (answer_text (answer_of reply)) };
 
     fn fmt<W: fmt::Write>(&self, f: &mut fmt::Formatter<W>) -> fmt::Result {
         match self {

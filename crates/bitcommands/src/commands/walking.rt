@@ -1,11 +1,11 @@
 //! Commands that walk over the positions of a set.
 ghost use Rattle.std.specs.Prelude.{◌≡◌, ◌∷◌, List, IfOk};
 ghost use Rattle.bitcommands.specs.declared.commands.walking.End.{End};
-ghost use Rattle.bitcommands.specs.Actions.{walk_meant};
-ghost use Rattle.bitcommands.specs.Tests.{calls};
-ghost use Rattle.bitcommands.specs.Steps.{Answers};
+ghost use Rattle.bitcommands.specs.Actions.{walk_action};
+ghost use Rattle.bitcommands.specs.Calls.{calls};
+ghost use Rattle.bitcommands.specs.Outcomes.{Answers};
 
-use crate::commands::refusals::{Refusal, known};
+use crate::commands::refusals::{Refusal, check_set};
 use crate::commands::replies::Reply;
 use fixedbitset::FixedBitSet;
 use fixedbitset::walks::Ones;
@@ -30,11 +30,11 @@ pub(super) fn apply_walk(
     command: &Walk,
     _limit: usize,
 ) -> Result<Reply, Refusal>
-    ensures { Answers _limit sets.now (walk_meant command.now) result sets.now }
+    ensures { Answers _limit sets.now (walk_action command.now) result sets.now }
 {
     match command {
         Walk::Ones { set, ends } => {
-            known(sets, *set)?;
+            check_set(sets, *set)?;
             let items = call_all(alloc, sets[*set].ones(), ends.as_slice())?;
             Ok(Reply::Items(items))
         }

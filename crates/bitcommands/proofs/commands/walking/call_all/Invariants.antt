@@ -1,5 +1,5 @@
 use Rattle.std.proofs.Common.{◌≡◌, ◌++◌, drop}
-use Rattle.bitcommands.specs.Tests.{calls}
+use Rattle.bitcommands.specs.Calls.{calls}
 use Rattle.bitcommands.proofs.commands.walking.call_all.Given as goal
 
 -- the answers so far, and those of the ends that are left

@@ -1,0 +1,31 @@
+use Rattle.std.proofs.Common.{sym, arith, append-nil}
+use Rattle.std.proofs.lemmas.List.{drop_all}
+use Rattle.bitcommands.proofs.Digits.{digits_room, digits_room-step, digits_some, digits_step, digits_last}
+use Rattle.bitcommands.proofs.commands.printing.write_digits.Goals as goal
+
+pub loop-rest-init : goal.loop-rest-init
+loop-rest-init c = record {
+  written = rw (drop_all 20 c.args.digits.now (omega arith)) (sym (append-nil _));
+  room = digits_room c.args.number (omega arith);
+  inside = omega arith;
+}
+
+pub overflow_sub-start : goal.overflow_sub-start
+overflow_sub-start c = digits_some c.loop-rest.rest _ (omega arith) c.loop-rest.invariant.room
+
+pub loop-rest-preserved : goal.loop-rest-preserved
+loop-rest-preserved c =
+    let some = digits_some c.loop-rest.rest c.loop-rest.start (omega arith) c.loop-rest.invariant.room in
+    record {
+      written = digits_step _ _ c.loop-rest.start c.loop-rest.digits c.loop-rest.invariant.written (omega arith) (omega arith) some (omega arith);
+      room = digits_room-step _ _ (omega arith) (omega arith) c.loop-rest.invariant.room;
+      inside = omega arith;
+    }
+
+pub overflow_sub-start-2 : goal.overflow_sub-start-2
+overflow_sub-start-2 c = digits_some c.loop-rest.rest _ (omega arith) c.loop-rest.invariant.room
+
+pub returns-clause-written : goal.returns-clause-written
+returns-clause-written c =
+    let some = digits_some c.loop-rest.rest c.loop-rest.start (omega arith) c.loop-rest.invariant.room in
+    digits_last _ _ c.loop-rest.start c.loop-rest.digits c.loop-rest.invariant.written (omega arith) some (omega arith)

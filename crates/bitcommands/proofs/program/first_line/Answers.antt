@@ -1,6 +1,0 @@
-use Rattle.bitcommands.proofs.Cuts.{rest_from}
-use Rattle.bitcommands.proofs.Output.{lines_of_found}
-use Rattle.bitcommands.proofs.program.first_line.Goals as goal
-
-pub returns-in-Some-clause-lines : goal.returns-in-Some-clause-lines
-returns-in-Some-clause-lines c = rw (rest_from c.args.text.now _) (lines_of_found c.args.text.now c.in-Some.end (cc))

@@ -1,8 +1,0 @@
--- The words that are left of a text, where one is left.
-use Rattle.std.specs.Prelude.{ℕ, List, [], Option, Some, None}
-use Rattle.std.specs.Borrow.{Bor}
-use Rattle.bitcommands.specs.Words.{words}
-
-abbrev pub words_left : Option (Bor (List ℕ)) → List (List ℕ)
-words_left None = []
-words_left (Some text) = words text.now

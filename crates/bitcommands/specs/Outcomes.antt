@@ -1,0 +1,22 @@
+-- No public clause cites this module. What the functions of a group answer, and what a check of a guard answers.
+use Rattle.std.specs.Prelude.{◌≡◌, ℕ, Option, Result, Ok, Err, MatchOption, IsOk}
+use Rattle.bitcommands.specs.declared.commands.refusals.Refusal.{Refusal}
+use Rattle.bitcommands.specs.declared.commands.replies.Reply.{Reply}
+use Rattle.bitcommands.specs.Actions.{Action}
+use Rattle.bitcommands.specs.Answers as answer
+use Rattle.bitcommands.specs.Answers.{Answer, answer_of}
+use Rattle.bitcommands.specs.Sets.{Sets}
+use Rattle.bitcommands.specs.Steps.{Step}
+
+-- a check answers the first refusal of its guard
+abbrev pub Passes : {A : Type 0} → Result A Refusal → Option Refusal → Type 0
+Passes result guard = MatchOption guard (IsOk result) (λ f. result ≡ Err f)
+
+-- a refusal that is answered as an error is the reply
+abbrev pub replied : Result Reply Refusal → Answer
+replied (Ok r) = answer_of r
+replied (Err f) = answer.refused f
+
+-- a function that answers a refusal as an error makes a step
+abbrev pub Answers : ℕ → Sets → Action → Result Reply Refusal → Sets → Type 0
+Answers m old c result new = Step m old c (replied result) new

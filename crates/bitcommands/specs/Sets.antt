@@ -1,0 +1,16 @@
+-- Sets by number.
+use Rattle.std.specs.Prelude.{ℕ, List, slice_index_or, slice_set}
+use Rattle.fixedbitset.specs.Bits as model
+use Rattle.fixedbitset.specs.Bits.{Bits}
+
+-- the sets, by number
+abbrev pub Sets : Type 0
+Sets = List Bits
+
+-- the set with this number (an empty one where there is none)
+abbrev pub at : Sets → ℕ → Bits
+at s k = slice_index_or s k (model.empty 0)
+
+-- the sets with this value in the place of that number
+abbrev pub place : Sets → ℕ → Bits → Sets
+place s k v = slice_set s k v

@@ -1,0 +1,51 @@
+-- The letters of ends, one after the other.
+use Rattle.std.proofs.Common.{◌≡◌, ℕ, ◌+◌, ◌<◌, ◌≤◌, List, [], ◌∷◌, ◌++◌, length, get_or, drop, Option, Some, None, refl, ap, sym, ◌∙◌, arith, append_assoc, append-nil, option_and_then}
+use Rattle.std.proofs.lemmas.List.{at_drop_more, at_drop_all}
+use Rattle.bitcommands.specs.declared.commands.walking.End.{End}
+use Rattle.bitlines.specs.Arguments.{end_of, ends_from, ends_of}
+
+-- these before those that are still to be read
+abbrev pub onto : {A : Type 0} → List A → Option (List A) → Option (List A)
+onto xs (Some ys) = Some (xs ++ ys)
+onto xs None = None
+
+onto-onto : {A : Type 0} (xs : List A) (x : A) (o : Option (List A)) → onto xs (onto (x ∷ []) o) ≡ onto (xs ++ x ∷ []) o
+onto-onto xs x (Some ys) = ap Some (sym (append_assoc xs (x ∷ []) ys))
+onto-onto xs x None = refl
+
+onto-nil : {A : Type 0} (o : Option (List A)) → o ≡ onto [] o
+onto-nil (Some ys) = refl
+onto-nil None = refl
+
+ends_cons_some : (c : ℕ) (cs : List ℕ) (x : End) → end_of c ≡ Some x → ends_from (c ∷ cs) ≡ onto (x ∷ []) (ends_from cs)
+unfolding ends_from
+ends_cons_some c cs x e = rw e (by_rest (ends_from cs))
+  where
+    by_rest : (o : Option (List End)) → option_and_then (λ es. Some (x ∷ es)) o ≡ onto (x ∷ []) o
+    by_rest (Some es) = refl
+    by_rest None = refl
+
+ends_cons_none : (c : ℕ) (cs : List ℕ) → end_of c ≡ None → ends_from (c ∷ cs) ≡ None
+unfolding ends_from
+ends_cons_none c cs e = rw e refl
+
+pub ends_empty : (w : List ℕ) → length w ≡ 0 → ends_of w ≡ None
+unfolding ends_of
+ends_empty [] e = refl
+ends_empty (c ∷ cs) e = absurd (omega arith)
+
+pub ends_start : (w : List ℕ) → 0 < length w → ends_of w ≡ onto [] (ends_from w)
+unfolding ends_of
+ends_start [] lt = absurd (omega arith)
+ends_start (c ∷ cs) lt = onto-nil (ends_from (c ∷ cs))
+
+pub ends_more : (all : Option (List End)) (xs : List End) (w : List ℕ) (i : ℕ) (x : End) → all ≡ onto xs (ends_from (drop i w)) → i < length w → end_of (get_or w i 0) ≡ Some x
+    → all ≡ onto (xs ++ x ∷ []) (ends_from (drop (i + 1) w))
+ends_more all xs w i x e lt some = e ∙ at_drop_more (λ u. onto xs (ends_from u)) w i 0 lt ∙ ap (onto xs) (ends_cons_some _ _ x some) ∙ onto-onto xs x _
+
+pub ends_none : (all : Option (List End)) (xs : List End) (w : List ℕ) (i : ℕ) → all ≡ onto xs (ends_from (drop i w)) → i < length w → end_of (get_or w i 0) ≡ None → all ≡ None
+ends_none all xs w i e lt none = e ∙ at_drop_more (λ u. onto xs (ends_from u)) w i 0 lt ∙ ap (onto xs) (ends_cons_none _ _ none)
+
+pub ends_end : (all : Option (List End)) (xs : List End) (w : List ℕ) (i : ℕ) → all ≡ onto xs (ends_from (drop i w)) → length w ≤ i → all ≡ Some xs
+unfolding ends_from
+ends_end all xs w i e past = e ∙ at_drop_all (λ u. onto xs (ends_from u)) w i past ∙ ap Some (append-nil xs)

@@ -1,0 +1,68 @@
+-- Lines and texts from the front.
+use Rattle.std.proofs.Common.{◌≡◌, ℕ, ◌+◌, ◌<◌, List, [], ◌∷◌, ◌++◌, length, take, drop, Some, None, true, false, cond, eqb, refl, ap, ◌∙◌, arith}
+use Rattle.std.specs.List.{slice_split, onto_first, position}
+use Rattle.std.proofs.lemmas.Bool.Decides.{nat_tests}
+use Rattle.std.proofs.lemmas.Grind.{common_steps}
+use Rattle.bitcommands.specs.Actions.{Action}
+use Rattle.bitcommands.specs.Answers.{Answer}
+use Rattle.bitcommands.specs.Texts.{answer_text}
+use Rattle.bitcommands.specs.Sets.{Sets}
+use Rattle.bitcommands.specs.Steps.{Step}
+use Rattle.bitlines.specs.Lines.{command_of}
+use Rattle.bitlines.specs.Output.{fault_text, IsOutputFrom, lines_of, without_empty_last, texts}
+use Rattle.bitlines.specs.OneLine.{AnswersLine}
+use Rattle.bitlines.proofs.LineSplits.{cut_found, cut_none}
+
+-- a split text has a first part
+parts : (b : ℕ) (xs : List ℕ) → (p : List ℕ) × (ps : List (List ℕ)) × (slice_split (λ x. eqb x b) xs ≡ p ∷ ps)
+parts b [] = ([], [], refl)
+parts b (x ∷ xs) =
+    elim (eqb x b) as (λ t. (p : List ℕ) × (ps : List (List ℕ)) × (cond t ([] ∷ slice_split (λ y. eqb y b) xs) (onto_first x (slice_split (λ y. eqb y b) xs)) ≡ p ∷ ps)) [
+      | true ↦ ([], slice_split (λ y. eqb y b) xs, refl)
+      | false ↦ (let r = parts b xs in (x ∷ r.0, r.1, ap (onto_first x) r.2))
+    ]
+
+without_empty_last-cons : (t p : List ℕ) (ps qs : List (List ℕ)) → ps ≡ p ∷ qs → without_empty_last (t ∷ ps) ≡ t ∷ without_empty_last ps
+without_empty_last-cons t p ps qs e = rw e refl
+
+pub lines_of_found : (xs : List ℕ) (k : ℕ) → position (λ x. eqb x 10) xs ≡ Some k → lines_of xs ≡ take k xs ∷ lines_of (drop (k + 1) xs)
+unfolding lines_of
+lines_of_found xs k e =
+    let p = parts 10 (drop (k + 1) xs) in
+    ap without_empty_last (cut_found 10 xs k e) ∙ without_empty_last-cons (take k xs) p.0 _ p.1 p.2
+
+pub lines_of_none : (xs : List ℕ) → 0 < length xs → position (λ x. eqb x 10) xs ≡ None → lines_of xs ≡ xs ∷ []
+unfolding lines_of
+lines_of_none (x ∷ xs) lt e = ap without_empty_last (cut_none 10 (x ∷ xs) e) ∙ grind (arith, nat_tests)
+lines_of_none [] lt e = absurd (omega arith)
+
+pub lines_of_nil : lines_of [] ≡ []
+unfolding lines_of
+lines_of_nil = refl
+
+pub lines_of_empty : (xs : List ℕ) → length xs ≡ 0 → lines_of xs ≡ []
+unfolding lines_of
+lines_of_empty [] e = refl
+lines_of_empty (x ∷ xs) e = absurd (omega arith)
+
+-- ---- one line, before the lines left
+
+line_then : (out line output rest : List ℕ) → out ≡ line ++ 10 ∷ [] → output ≡ rest → out ++ output ≡ line ++ 10 ∷ rest
+line_then out line output rest e f = grind (arith, common_steps)
+
+-- a line that is a command is carried out
+pub line_answered : (line : List ℕ) (old new : Sets) (c : Action) (r : Answer) → command_of line ≡ Some c → Step 1000000 old c r new → AnswersLine line old new (answer_text r ++ 10 ∷ [])
+unfolding texts
+line_answered line old new c r is step lines output rest =
+    (r ∷ rest.0, rest.1, rw is (new, step, rest.2), rw is (line_then _ (answer_text r) output _ refl rest.3))
+
+-- a line that is none leaves the sets
+pub line_refused : (line : List ℕ) (sets : Sets) → command_of line ≡ None → AnswersLine line sets sets (fault_text ++ 10 ∷ [])
+unfolding texts
+line_refused line sets none lines output rest =
+    (rest.0, rest.1, rw none rest.2, rw none (line_then _ fault_text output _ refl rest.3))
+
+-- no lines put out nothing
+pub no_lines : (sets : Sets) (lines : List (List ℕ)) → lines ≡ [] → IsOutputFrom sets lines []
+unfolding texts
+no_lines sets lines none = rw none ([], sets, refl, refl)

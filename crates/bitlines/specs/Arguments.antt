@@ -1,0 +1,123 @@
+-- The arguments of commands.
+use Rattle.std.specs.Prelude.{ℕ, ◌+◌, Bool, true, false, ◌==◌, List, [], ◌∷◌, length, take, drop, position, slice_index_or, Option, Some, None, if◌then◌else◌, codes}
+use Rattle.std.specs.Str.{bytes_eq}
+use Rattle.bitlines.specs.Words.{◌>>=◌, number_of, number_at, at_end}
+use Rattle.bitcommands.specs.declared.commands.walking.End.{End}
+use Rattle.bitcommands.specs.declared.commands.walking.End.TheVariants.{Front}
+use Rattle.bitcommands.specs.Actions.{Range}
+
+-- ---- one argument
+
+-- the word is this text
+abbrev pub is : List ℕ → List ℕ → Bool
+is word text = bytes_eq word text
+
+-- `true` or `false`
+unfoldable pub flag_of : List ℕ → Option Bool
+flag_of w = if is w (codes "true") then Some true else (if is w (codes "false") then Some false else None)
+
+-- the first word as a flag, and the words after it
+unfoldable pub flag_at : List (List ℕ) → Option (Bool × List (List ℕ))
+flag_at [] = None
+flag_at (w ∷ ws) = flag_of w >>= λ e. Some (e, ws)
+
+-- nothing, or a number
+unfoldable pub bound_of : List ℕ → Option (Option ℕ)
+bound_of w = if length w == 0 then Some None else (number_of w >>= λ n. Some (Some n))
+
+-- two bounds
+unfoldable pub bounds_of : List ℕ → List ℕ → Option Range
+bounds_of from to = do
+  a ← bound_of from
+  b ← bound_of to
+  Some (a, b)
+
+-- two bounds with two dots between them
+unfoldable pub range_of : List ℕ → Option Range
+range_of w = do
+  k ← position (λ c. c == 46) w
+  if slice_index_or w (k + 1) 0 == 46 then bounds_of (take k w) (drop (k + 2) w) else None
+
+-- the first word as a range, and the words after it
+unfoldable pub range_at : List (List ℕ) → Option (Range × List (List ℕ))
+range_at [] = None
+range_at (w ∷ ws) = range_of w >>= λ r. Some (r, ws)
+
+-- the letter of an end
+unfoldable pub end_of : ℕ → Option End
+end_of letter = if letter == 102 then Some Front else None
+
+-- an end for each letter
+unfoldable pub ends_from : List ℕ → Option (List End)
+ends_from [] = Some []
+ends_from (c ∷ cs) = end_of c >>= λ e. ends_from cs >>= λ es. Some (e ∷ es)
+
+-- one or more letters
+unfoldable pub ends_of : List ℕ → Option (List End)
+ends_of [] = None
+ends_of (c ∷ cs) = ends_from (c ∷ cs)
+
+-- the first word as ends, and the words after it
+unfoldable pub ends_at : List (List ℕ) → Option (List End × List (List ℕ))
+ends_at [] = None
+ends_at (w ∷ ws) = ends_of w >>= λ es. Some (es, ws)
+
+-- ---- all arguments of a command
+
+-- one number
+unfoldable pub one : List (List ℕ) → Option ℕ
+one ws = do
+  a ← number_at ws
+  end ← at_end a.1
+  Some a.0
+
+-- two numbers
+unfoldable pub two : List (List ℕ) → Option (ℕ × ℕ)
+two ws = do
+  a ← number_at ws
+  b ← number_at a.1
+  end ← at_end b.1
+  Some (a.0, b.0)
+
+-- three numbers
+unfoldable pub three : List (List ℕ) → Option (ℕ × ℕ × ℕ)
+three ws = do
+  a ← number_at ws
+  b ← number_at a.1
+  c ← number_at b.1
+  end ← at_end c.1
+  Some (a.0, b.0, c.0)
+
+-- two numbers and a flag
+unfoldable pub two_and_flag : List (List ℕ) → Option (ℕ × ℕ × Bool)
+two_and_flag ws = do
+  a ← number_at ws
+  b ← number_at a.1
+  e ← flag_at b.1
+  end ← at_end e.1
+  Some (a.0, b.0, e.0)
+
+-- a number and a range
+unfoldable pub one_and_range : List (List ℕ) → Option (ℕ × Range)
+one_and_range ws = do
+  a ← number_at ws
+  r ← range_at a.1
+  end ← at_end r.1
+  Some (a.0, r.0)
+
+-- a number, a range and a flag
+unfoldable pub range_and_flag : List (List ℕ) → Option (ℕ × Range × Bool)
+range_and_flag ws = do
+  a ← number_at ws
+  r ← range_at a.1
+  e ← flag_at r.1
+  end ← at_end e.1
+  Some (a.0, r.0, e.0)
+
+-- a number and ends
+unfoldable pub one_and_ends : List (List ℕ) → Option (ℕ × List End)
+one_and_ends ws = do
+  a ← number_at ws
+  es ← ends_at a.1
+  end ← at_end es.1
+  Some (a.0, es.0)

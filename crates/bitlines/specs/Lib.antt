@@ -1,0 +1,9 @@
+pub mod Words
+pub mod Reads
+pub mod Arguments
+pub mod Names
+pub mod Lines
+pub mod Output
+pub mod Program
+pub mod Cursor
+pub mod OneLine

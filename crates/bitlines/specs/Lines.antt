@@ -1,0 +1,112 @@
+-- Which command a line stands for.
+use Rattle.std.specs.Prelude.{ℕ, Bool, true, false, List, [], ◌∷◌, Option, Some, None}
+use Rattle.bitcommands.specs.Actions as action
+use Rattle.bitcommands.specs.Actions.{Action, Range}
+use Rattle.bitlines.specs.Words.{◌>>=◌, words}
+use Rattle.bitlines.specs.Arguments.{one, two, three, two_and_flag, one_and_range, range_and_flag, one_and_ends}
+use Rattle.bitlines.specs.Names.{name_of}
+use Rattle.bitlines.specs.declared.names.Name.{Name}
+use Rattle.bitlines.specs.declared.names.Name.TheVariants as name
+use Rattle.bitlines.specs.declared.names.OneSet.{OneSet}
+use Rattle.bitlines.specs.declared.names.OneSet.TheVariants as one_set
+use Rattle.bitlines.specs.declared.names.SetAndNumber.{SetAndNumber}
+use Rattle.bitlines.specs.declared.names.SetAndNumber.TheVariants as set_and_number
+use Rattle.bitlines.specs.declared.names.TwoSets.{TwoSets}
+use Rattle.bitlines.specs.declared.names.TwoSets.TheVariants as two_sets
+use Rattle.bitlines.specs.declared.names.ThreeSets.{ThreeSets}
+use Rattle.bitlines.specs.declared.names.ThreeSets.TheVariants as three_sets
+use Rattle.bitlines.specs.declared.names.SetAndRange.{SetAndRange}
+use Rattle.bitlines.specs.declared.names.SetAndRange.TheVariants as set_and_range
+
+-- ---- what a name and its arguments mean
+
+-- a command on a set
+abbrev pub of_one_set : OneSet → ℕ → Action
+of_one_set one_set.Len k = action.len k
+
+-- a command on a set and a number
+abbrev pub of_set_and_number : SetAndNumber → ℕ → ℕ → Action
+of_set_and_number set_and_number.WithCapacity k n = action.with_capacity k n
+of_set_and_number set_and_number.Contains k n = action.contains k n
+of_set_and_number set_and_number.Grow k n = action.grow k n
+of_set_and_number set_and_number.Insert k n = action.insert k n
+of_set_and_number set_and_number.Remove k n = action.remove k n
+of_set_and_number set_and_number.Toggle k n = action.toggle k n
+of_set_and_number set_and_number.Put k n = action.put k n
+
+-- a command on two sets
+abbrev pub of_two_sets : TwoSets → ℕ → ℕ → Action
+of_two_sets two_sets.UnionWith a b = action.union_with a b
+of_two_sets two_sets.SymmetricDifferenceWith a b = action.symmetric_difference_with a b
+of_two_sets two_sets.BitorAssign a b = action.bitor_assign a b
+of_two_sets two_sets.BitxorAssign a b = action.bitxor_assign a b
+of_two_sets two_sets.IntersectWith a b = action.intersect_with a b
+of_two_sets two_sets.DifferenceWith a b = action.difference_with a b
+of_two_sets two_sets.BitandAssign a b = action.bitand_assign a b
+of_two_sets two_sets.UnionCount a b = action.union_count a b
+of_two_sets two_sets.IntersectionCount a b = action.intersection_count a b
+of_two_sets two_sets.DifferenceCount a b = action.difference_count a b
+of_two_sets two_sets.SymmetricDifferenceCount a b = action.symmetric_difference_count a b
+of_two_sets two_sets.IsDisjoint a b = action.is_disjoint a b
+of_two_sets two_sets.IsSubset a b = action.is_subset a b
+of_two_sets two_sets.IsSuperset a b = action.is_superset a b
+
+-- a command on three sets
+abbrev pub of_three_sets : ThreeSets → ℕ → ℕ → ℕ → Action
+of_three_sets three_sets.Bitand d a b = action.bitand d a b
+of_three_sets three_sets.Bitor d a b = action.bitor d a b
+of_three_sets three_sets.Bitxor d a b = action.bitxor d a b
+
+-- a command on a set and a range
+abbrev pub of_set_and_range : SetAndRange → ℕ → Range → Action
+of_set_and_range set_and_range.CountOnes k r = action.count_ones k r
+of_set_and_range set_and_range.CountZeroes k r = action.count_zeroes k r
+of_set_and_range set_and_range.InsertRange k r = action.insert_range k r
+of_set_and_range set_and_range.RemoveRange k r = action.remove_range k r
+of_set_and_range set_and_range.ToggleRange k r = action.toggle_range k r
+of_set_and_range set_and_range.ContainsAllInRange k r = action.contains_all_in_range k r
+of_set_and_range set_and_range.ContainsAnyInRange k r = action.contains_any_in_range k r
+of_set_and_range set_and_range.RangeIsValid k r = action.range_is_valid k r
+
+-- the command of this name with these arguments, if they are what it asks for
+unfoldable pub command_by : Name → List (List ℕ) → Option Action
+command_by (name.OneSet c) args = one args >>= λ k. Some (of_one_set c k)
+command_by (name.SetAndNumber c) args = two args >>= λ x. Some (of_set_and_number c x.0 x.1)
+command_by (name.TwoSets c) args = two args >>= λ x. Some (of_two_sets c x.0 x.1)
+command_by (name.ThreeSets c) args = three args >>= λ x. Some (of_three_sets c x.0 x.1 x.2)
+command_by (name.SetAndRange c) args = one_and_range args >>= λ x. Some (of_set_and_range c x.0 x.1)
+command_by name.Set args = two_and_flag args >>= λ x. Some (action.set x.0 x.1 x.2)
+command_by name.SetRange args = range_and_flag args >>= λ x. Some (action.set_range x.0 x.1 x.2)
+command_by name.Ones args = one_and_ends args >>= λ x. Some (action.ones x.0 x.1)
+
+-- ---- lines
+
+-- the first word is the command's name, and the others are its arguments
+unfoldable pub command_of_words : List (List ℕ) → Option Action
+command_of_words [] = None
+command_of_words (w ∷ args) = name_of w >>= λ c. command_by c args
+
+-- The command that a line stands for, if there is one.
+abbrev pub command_of : List ℕ → Option Action
+command_of line = command_of_words (words line)
+
+-- ---- which lines want memory
+
+-- whether a command of this name has a list
+abbrev pub has_list : Name → Bool
+has_list name.Ones = true
+has_list c = false
+
+-- whether there is a name, and a command of this name has a list
+abbrev pub is_with_list : Option Name → Bool
+is_with_list (Some c) = has_list c
+is_with_list None = false
+
+-- whether the first word is the name of a command with a list
+unfoldable pub begins_with_list : List (List ℕ) → Bool
+begins_with_list [] = false
+begins_with_list (w ∷ args) = is_with_list (name_of w)
+
+-- whether memory may lack as the line is read: where its first word is the name of a command with a list
+abbrev pub may_lack : List ℕ → Bool
+may_lack line = begins_with_list (words line)

@@ -1,0 +1,66 @@
+-- The names of commands.
+use Rattle.std.specs.Prelude.{ℕ, List, [], ◌∷◌, Option, Some, None, if◌then◌else◌, codes}
+use Rattle.std.specs.Option.{option_or}
+use Rattle.std.specs.Str.{bytes_eq}
+use Rattle.bitlines.specs.declared.names.Name.{Name}
+use Rattle.bitlines.specs.declared.names.Name.TheVariants.{OneSet, SetAndNumber, TwoSets, ThreeSets, SetAndRange, Set, SetRange, Ones}
+use Rattle.bitlines.specs.declared.names.OneSet.TheVariants.{Len}
+use Rattle.bitlines.specs.declared.names.SetAndNumber.TheVariants.{WithCapacity, Contains, Grow, Insert, Remove, Toggle, Put}
+use Rattle.bitlines.specs.declared.names.TwoSets.TheVariants.{UnionWith, SymmetricDifferenceWith, BitorAssign, BitxorAssign, IntersectWith, DifferenceWith, BitandAssign, UnionCount, IntersectionCount, DifferenceCount, SymmetricDifferenceCount, IsDisjoint, IsSubset, IsSuperset}
+use Rattle.bitlines.specs.declared.names.ThreeSets.TheVariants.{Bitand, Bitor, Bitxor}
+use Rattle.bitlines.specs.declared.names.SetAndRange.TheVariants.{CountOnes, CountZeroes, InsertRange, RemoveRange, ToggleRange, ContainsAllInRange, ContainsAnyInRange, RangeIsValid}
+
+-- the name that stands beside this text, in a list of texts and names
+abbrev pub name_in : List (List ℕ × Name) → List ℕ → Option Name
+name_in [] word = None
+name_in (entry ∷ entries) word = if bytes_eq word entry.0 then Some entry.1 else name_in entries word
+
+-- the names of up to ten letters, by their length
+abbrev pub short_names : List (List ℕ × Name)
+short_names =
+    (codes "len", OneSet Len) ∷
+    (codes "put", SetAndNumber Put) ∷
+    (codes "set", Set) ∷
+    (codes "grow", SetAndNumber Grow) ∷
+    (codes "ones", Ones) ∷
+    (codes "bitor", ThreeSets Bitor) ∷
+    (codes "bitand", ThreeSets Bitand) ∷
+    (codes "bitxor", ThreeSets Bitxor) ∷
+    (codes "insert", SetAndNumber Insert) ∷
+    (codes "remove", SetAndNumber Remove) ∷
+    (codes "toggle", SetAndNumber Toggle) ∷
+    (codes "contains", SetAndNumber Contains) ∷
+    (codes "is_subset", TwoSets IsSubset) ∷
+    (codes "set_range", SetRange) ∷
+    (codes "count_ones", SetAndRange CountOnes) ∷
+    (codes "union_with", TwoSets UnionWith) ∷
+    []
+
+-- the longer ones, by their length
+abbrev pub long_names : List (List ℕ × Name)
+long_names =
+    (codes "is_disjoint", TwoSets IsDisjoint) ∷
+    (codes "is_superset", TwoSets IsSuperset) ∷
+    (codes "union_count", TwoSets UnionCount) ∷
+    (codes "bitor_assign", TwoSets BitorAssign) ∷
+    (codes "count_zeroes", SetAndRange CountZeroes) ∷
+    (codes "insert_range", SetAndRange InsertRange) ∷
+    (codes "remove_range", SetAndRange RemoveRange) ∷
+    (codes "toggle_range", SetAndRange ToggleRange) ∷
+    (codes "bitand_assign", TwoSets BitandAssign) ∷
+    (codes "bitxor_assign", TwoSets BitxorAssign) ∷
+    (codes "with_capacity", SetAndNumber WithCapacity) ∷
+    (codes "intersect_with", TwoSets IntersectWith) ∷
+    (codes "range_is_valid", SetAndRange RangeIsValid) ∷
+    (codes "difference_with", TwoSets DifferenceWith) ∷
+    (codes "difference_count", TwoSets DifferenceCount) ∷
+    (codes "intersection_count", TwoSets IntersectionCount) ∷
+    (codes "contains_all_in_range", SetAndRange ContainsAllInRange) ∷
+    (codes "contains_any_in_range", SetAndRange ContainsAnyInRange) ∷
+    (codes "symmetric_difference_with", TwoSets SymmetricDifferenceWith) ∷
+    (codes "symmetric_difference_count", TwoSets SymmetricDifferenceCount) ∷
+    []
+
+-- the name that a word is, if it is one
+unfoldable pub name_of : List ℕ → Option Name
+name_of word = option_or (name_in short_names word) (name_in long_names word)

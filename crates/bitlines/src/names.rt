@@ -1,0 +1,157 @@
+//! The names of commands.
+ghost use Rattle.std.specs.Prelude.{◌≡◌};
+ghost use Rattle.bitlines.specs.Names.{name_in, short_names, long_names, name_of};
+
+use crate::words::is;
+
+/// The name of a command, by what its arguments are.
+#[derive(Clone, Copy)]
+pub(crate) enum Name {
+    /// A set.
+    OneSet(OneSet),
+    /// A set and a number.
+    SetAndNumber(SetAndNumber),
+    /// Two sets.
+    TwoSets(TwoSets),
+    /// Three sets.
+    ThreeSets(ThreeSets),
+    /// A set and a range.
+    SetAndRange(SetAndRange),
+    /// A set, a position and whether it is set.
+    Set,
+    /// A set, a range and whether it is set.
+    SetRange,
+    /// A set and the ends of a walk.
+    Ones,
+}
+
+/// The name of a command on a set.
+#[derive(Clone, Copy)]
+pub(crate) enum OneSet {
+    Len,
+}
+
+/// The name of a command on a set and a number.
+#[derive(Clone, Copy)]
+pub(crate) enum SetAndNumber {
+    WithCapacity,
+    Contains,
+    Grow,
+    Insert,
+    Remove,
+    Toggle,
+    Put,
+}
+
+/// The name of a command on two sets.
+#[derive(Clone, Copy)]
+pub(crate) enum TwoSets {
+    UnionWith,
+    SymmetricDifferenceWith,
+    BitorAssign,
+    BitxorAssign,
+    IntersectWith,
+    DifferenceWith,
+    BitandAssign,
+    UnionCount,
+    IntersectionCount,
+    DifferenceCount,
+    SymmetricDifferenceCount,
+    IsDisjoint,
+    IsSubset,
+    IsSuperset,
+}
+
+/// The name of a command on three sets.
+#[derive(Clone, Copy)]
+pub(crate) enum ThreeSets {
+    Bitand,
+    Bitor,
+    Bitxor,
+}
+
+/// The name of a command on a set and a range.
+#[derive(Clone, Copy)]
+pub(crate) enum SetAndRange {
+    CountOnes,
+    CountZeroes,
+    InsertRange,
+    RemoveRange,
+    ToggleRange,
+    ContainsAllInRange,
+    ContainsAnyInRange,
+    RangeIsValid,
+}
+
+// The name beside the text that the word is, if there is one.
+macro_rules! name_in {
+    ($word:expr; $($text:literal => $name:expr,)+) => {{
+        $(if is($word, $text) {
+            return Some($name);
+        })+
+        None
+    }};
+}
+
+/// The name that a word is, if it is one.
+#[tactic(auto, unfolding(crate::specs::Names::name_of))]
+#[inline]
+pub(crate) fn name_of(word: &[u8]) -> Option<Name>
+    ensures { result ≡ name_of word.now }
+{
+    match short_name(word) {
+        Some(name) => Some(name),
+        None => long_name(word),
+    }
+}
+
+#[inline]
+fn short_name(word: &[u8]) -> Option<Name>
+    ensures { result ≡ name_in short_names word.now }
+{
+    name_in!(word;
+        b"len" => Name::OneSet(OneSet::Len),
+        b"put" => Name::SetAndNumber(SetAndNumber::Put),
+        b"set" => Name::Set,
+        b"grow" => Name::SetAndNumber(SetAndNumber::Grow),
+        b"ones" => Name::Ones,
+        b"bitor" => Name::ThreeSets(ThreeSets::Bitor),
+        b"bitand" => Name::ThreeSets(ThreeSets::Bitand),
+        b"bitxor" => Name::ThreeSets(ThreeSets::Bitxor),
+        b"insert" => Name::SetAndNumber(SetAndNumber::Insert),
+        b"remove" => Name::SetAndNumber(SetAndNumber::Remove),
+        b"toggle" => Name::SetAndNumber(SetAndNumber::Toggle),
+        b"contains" => Name::SetAndNumber(SetAndNumber::Contains),
+        b"is_subset" => Name::TwoSets(TwoSets::IsSubset),
+        b"set_range" => Name::SetRange,
+        b"count_ones" => Name::SetAndRange(SetAndRange::CountOnes),
+        b"union_with" => Name::TwoSets(TwoSets::UnionWith),
+    )
+}
+
+fn long_name(word: &[u8]) -> Option<Name>
+    ensures { result ≡ name_in long_names word.now }
+{
+    name_in!(word;
+        b"is_disjoint" => Name::TwoSets(TwoSets::IsDisjoint),
+        b"is_superset" => Name::TwoSets(TwoSets::IsSuperset),
+        b"union_count" => Name::TwoSets(TwoSets::UnionCount),
+        b"bitor_assign" => Name::TwoSets(TwoSets::BitorAssign),
+        b"count_zeroes" => Name::SetAndRange(SetAndRange::CountZeroes),
+        b"insert_range" => Name::SetAndRange(SetAndRange::InsertRange),
+        b"remove_range" => Name::SetAndRange(SetAndRange::RemoveRange),
+        b"toggle_range" => Name::SetAndRange(SetAndRange::ToggleRange),
+        b"bitand_assign" => Name::TwoSets(TwoSets::BitandAssign),
+        b"bitxor_assign" => Name::TwoSets(TwoSets::BitxorAssign),
+        b"with_capacity" => Name::SetAndNumber(SetAndNumber::WithCapacity),
+        b"intersect_with" => Name::TwoSets(TwoSets::IntersectWith),
+        b"range_is_valid" => Name::SetAndRange(SetAndRange::RangeIsValid),
+        b"difference_with" => Name::TwoSets(TwoSets::DifferenceWith),
+        b"difference_count" => Name::TwoSets(TwoSets::DifferenceCount),
+        b"intersection_count" => Name::TwoSets(TwoSets::IntersectionCount),
+        b"contains_all_in_range" => Name::SetAndRange(SetAndRange::ContainsAllInRange),
+        b"contains_any_in_range" => Name::SetAndRange(SetAndRange::ContainsAnyInRange),
+        b"symmetric_difference_with" => Name::TwoSets(TwoSets::SymmetricDifferenceWith),
+        b"symmetric_difference_count" => Name::TwoSets(TwoSets::SymmetricDifferenceCount),
+    )
+}

@@ -1,0 +1,37 @@
+//! A byte that is likely to be near, looked for among many at a time.
+ghost use Rattle.std.specs.Prelude.{◌≡◌, ℕ, ◌≤◌, ◌==◌, length, position};
+ghost use Rattle.std.specs.List.{position_or_len};
+ghost use Rattle.std.specs.Simd.Lanes.{chunk};
+
+use crate::words::find;
+use std::simd::prelude::*;
+
+/// The place of the first such byte. Where it is among the first 32, it is found at once.
+#[inline]
+pub(crate) fn find_near(text: &[u8], byte: u8) -> Option<usize>
+    ensures { result ≡ position (λ b. b == byte) text.now }
+{
+    if text.len() >= 32 {
+        let near = place_of_32(text, byte);
+        if near < 32 {
+            return Some(near);
+        }
+    }
+    find(text, byte)
+}
+
+// The place of the first such byte among the first 32, or 32.
+#[inline(always)]
+fn place_of_32(text: &[u8], byte: u8) -> usize
+    requires { 32 ≤ length text.now }
+    ensures { result ≡ position_or_len (λ b. b == byte) (chunk 0 32 text.now) }
+{
+    let hits = u8x32::from_slice(text)
+        .simd_eq(u8x32::splat(byte))
+        .to_bitmask();
+    if hits == 0 {
+        32
+    } else {
+        hits.trailing_zeros() as usize
+    }
+}

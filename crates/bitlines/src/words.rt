@@ -1,0 +1,137 @@
+//! The words of a line.
+ghost use Rattle.std.specs.Prelude.{◌≡◌, ◌==◌, ℕ, false, ◌∷◌, [], position, MatchOption};
+ghost use Rattle.bitlines.specs.Words.{words, number_of, number_at, at_end};
+ghost use Rattle.bitlines.specs.Arguments.{is, flag_of, flag_at};
+ghost use Rattle.bitlines.specs.Reads.{Reads};
+
+use crate::lines::LineFault;
+use std::marker::Model;
+
+/// The words of a line that are still to be read.
+#[derive(Drop)]
+pub(crate) struct Words<'a> {
+    rest: Option<&'a [u8]>,
+}
+
+impl<'a> Model for Words<'a> {
+    ghost use Rattle.std.specs.Prelude.{List, ℕ};
+    ghost use Rattle.bitlines.specs.Cursor.{words_left};
+
+    ghost Value = { List (List ℕ) };
+
+    ghost view = { λ w. words_left w.rest };
+}
+
+impl<'a> Words<'a> {
+    #[inline]
+    pub(crate) fn new(line: &'a [u8]) -> Words<'a>
+        ensures { result ≡ words line.now }
+    {
+        Words { rest: Some(line) }
+    }
+
+    /// The next word.
+    #[inline]
+    pub(crate) fn next(&mut self) -> Option<&'a [u8]>
+        ensures { MatchOption result ((self.old ≡ []) × (self.new ≡ [])) (λ w. self.old ≡ w.now ∷ self.new) }
+    {
+        let line = self.rest?;
+        match find(line, b' ') {
+            Some(end) => {
+                self.rest = Some(&line[end + 1..]);
+                Some(&line[..end])
+            }
+            None => {
+                self.rest = None;
+                Some(line)
+            }
+        }
+    }
+
+    /// The next word as a number.
+    #[tactic(auto, unfolding(crate::specs::Words::number_at))]
+    #[inline]
+    pub(crate) fn number(&mut self) -> Result<usize, LineFault>
+        ensures { Reads false (λ n. (n, self.new)) result (number_at self.old) }
+    {
+        let word = self.next().ok_or(LineFault::NotACommand)?;
+        number(word).ok_or(LineFault::NotACommand)
+    }
+
+    /// The next word as `true` or `false`.
+    #[tactic(auto, unfolding(crate::specs::Arguments::flag_at))]
+    pub(crate) fn flag(&mut self) -> Result<bool, LineFault>
+        ensures { Reads false (λ e. (e, self.new)) result (flag_at self.old) }
+    {
+        let word = self.next().ok_or(LineFault::NotACommand)?;
+        flag(word).ok_or(LineFault::NotACommand)
+    }
+
+    /// No word is left.
+    #[tactic(auto, unfolding(crate::specs::Words::at_end))]
+    #[inline]
+    pub(crate) fn end(&mut self) -> Result<(), LineFault>
+        ensures { Reads false (λ u. u) result (at_end self.old) }
+    {
+        match self.next() {
+            Some(_) => Err(LineFault::NotACommand),
+            None => Ok(()),
+        }
+    }
+}
+
+/// The place of the first such byte.
+#[inline]
+pub(crate) fn find(text: &[u8], byte: u8) -> Option<usize>
+    ensures { result ≡ position (λ b. b == byte) text.now }
+{
+    text.iter().position(|b| *b == byte)
+}
+
+/// Whether the word is this text.
+#[inline(always)]
+pub(crate) fn is<const N: usize>(word: &[u8], text: &[u8; N]) -> bool
+    ensures { result ≡ is word.now text.now }
+{
+    match word.as_array::<N>() {
+        Some(word) => *word == *text,
+        None => false,
+    }
+}
+
+#[tactic(auto, unfolding(crate::specs::Arguments::flag_of))]
+fn flag(word: &[u8]) -> Option<bool>
+    ensures { result ≡ flag_of word.now }
+{
+    if is(word, b"true") {
+        Some(true)
+    } else if is(word, b"false") {
+        Some(false)
+    } else {
+        None
+    }
+}
+
+/// One or more decimal digits as a number, where it is below 2 ^ 64.
+#[inline]
+pub(crate) fn number(word: &[u8]) -> Option<usize>
+    ensures { result ≡ number_of word.now }
+{
+    if word.is_empty() {
+        return None;
+    }
+    let mut value: usize = 0;
+    for byte in word {
+        if !byte.is_ascii_digit() {
+            return None;
+        }
+        let Some(tens) = value.checked_mul(10) else {
+            return None;
+        };
+        let Some(sum) = tens.checked_add(usize::from(*byte - b'0')) else {
+            return None;
+        };
+        value = sum;
+    }
+    Some(value)
+}
