@@ -9,4 +9,5 @@ pub mod Left
 pub mod Lines
 pub mod Texts
 pub mod Output
+pub mod OutputLaws
 pub mod Program

@@ -2,6 +2,7 @@
 #![tactic(auto)]
 
 pub mod commands;
+pub mod laws;
 pub mod lines;
 pub mod program;
 mod words;
