@@ -1,5 +1,5 @@
 //! The commands over two sets, by every pair of fifteen lengths beside slow values.
-use crate::whole::{assert_agree, every_pair, filled, joined, size};
+use crate::slow::{assert_same, every_pair, filled, joined, size};
 use bitcommands::commands::{
     Change, Command, Compare, Look, Make, Refusal, Reply, Whole, apply, run,
 };
@@ -26,8 +26,8 @@ fn assert_changed(
     let mut sets = three_sets(alloc, a, b)?;
     let reply = apply(alloc, &mut sets, &Command::Whole(command), 1_000_000);
     assert!(rt; matches!(reply, Reply::Done));
-    assert_agree(rt, &sets[0], expected);
-    assert_agree(rt, &sets[1], b);
+    assert_same(rt, &sets[0], expected);
+    assert_same(rt, &sets[1], b);
     Ok(())
 }
 
@@ -42,9 +42,9 @@ fn assert_made(
     let mut sets = three_sets(alloc, a, b)?;
     let reply = apply(alloc, &mut sets, &Command::Make(command), 1_000_000);
     assert!(rt; matches!(reply, Reply::Done));
-    assert_agree(rt, &sets[0], a);
-    assert_agree(rt, &sets[1], b);
-    assert_agree(rt, &sets[2], expected);
+    assert_same(rt, &sets[0], a);
+    assert_same(rt, &sets[1], b);
+    assert_same(rt, &sets[2], expected);
     Ok(())
 }
 

@@ -1,4 +1,8 @@
 //! The program's output, for inputs given at once and byte by byte.
+
+ghost use Rattle.std.specs.Prelude.{IfOk};
+ghost use Rattle.bitcommands.specs.Output.{IsOutput};
+
 use crate::streams::{Calls, Failure, Sink, Source};
 use bitcommands::program::{RunFault, run_text, status};
 use std::alloc::Global;
@@ -6,7 +10,9 @@ use std::process::Abort;
 use std::test::Fail;
 
 // What the program writes for an input.
-fn output_of(alloc: Global, input: &[u8]) -> Result<Vec<u8>, Fail> {
+fn output_of(alloc: Global, input: &[u8]) -> Result<Vec<u8>, Fail>
+    ensures { IfOk result (λ output. IsOutput input.now output.items) }
+{
     let mut reader = input;
     let mut output = Vec::new(alloc);
     run_text(alloc, &mut reader, &mut output)?;
