@@ -58,8 +58,8 @@ pub fn filled(alloc: Global, flags: &[bool]) -> Result<FixedBitSet, AllocError>
     Ok(set)
 }
 
-/// How many positions a slow value has.
-pub fn size(flags: &[bool]) -> usize {
+// How many positions a slow value has.
+fn size(flags: &[bool]) -> usize {
     flags.iter().filter(|is_set| **is_set).count()
 }
 
@@ -82,6 +82,32 @@ pub fn joined<F: Fn(bool, bool) -> bool>(
         flags.push(join(has(a, position), has(b, position)))?;
     }
     Ok(flags)
+}
+
+/// How many positions each joined value of two slow values has.
+#[derive(Clone, Copy)]
+pub struct Sizes {
+    pub either: usize,
+    pub both: usize,
+    /// Those of the first that the second lacks.
+    pub lacked: usize,
+    /// Those of the second that the first lacks.
+    pub lacking: usize,
+    pub one: usize,
+}
+
+impl Sizes {
+    /// Those of these two, each counted by itself.
+    pub fn new(alloc: Global, a: &[bool], b: &[bool]) -> Result<Sizes, AllocError> {
+        let longer = a.len().max(b.len());
+        Ok(Sizes {
+            either: size(&joined(alloc, longer, a, b, |x, y| x || y)?),
+            both: size(&joined(alloc, longer, a, b, |x, y| x && y)?),
+            lacked: size(&joined(alloc, longer, a, b, |x, y| x && !y)?),
+            lacking: size(&joined(alloc, longer, a, b, |x, y| !x && y)?),
+            one: size(&joined(alloc, longer, a, b, |x, y| x != y)?),
+        })
+    }
 }
 
 // ---- every pair of lengths

@@ -2,7 +2,7 @@
 
 ghost use Rattle.std.specs.Prelude.{◌≡◌, ◌+◌};
 
-use crate::slow::{assert_same, every_pair, filled, joined, size};
+use crate::slow::{Sizes, assert_same, every_pair, filled, joined};
 use fixedbitset::{FixedBitSet, Steps, counted};
 use std::alloc::{AllocError, Global};
 use std::process::Abort;
@@ -245,19 +245,14 @@ fn made(rt: &impl Abort, alloc: Global, a: &[bool], b: &[bool]) -> Result<(), Al
 fn answers(rt: &impl Abort, alloc: Global, a: &[bool], b: &[bool]) -> Result<(), AllocError> {
     let set = filled(alloc, a)?;
     let other = filled(alloc, b)?;
-    let longer = a.len().max(b.len());
-    let either = size(&joined(alloc, longer, a, b, |x, y| x || y)?);
-    let both = size(&joined(alloc, longer, a, b, |x, y| x && y)?);
-    let lacked = size(&joined(alloc, longer, a, b, |x, y| x && !y)?);
-    let lacking = size(&joined(alloc, longer, a, b, |x, y| !x && y)?);
-    let one = size(&joined(alloc, longer, a, b, |x, y| x != y)?);
-    assert_eq!(rt; set.union_count(&other), either);
-    assert_eq!(rt; set.intersection_count(&other), both);
-    assert_eq!(rt; set.difference_count(&other), lacked);
-    assert_eq!(rt; set.symmetric_difference_count(&other), one);
-    assert_eq!(rt; set.is_disjoint(&other), both == 0);
-    assert_eq!(rt; set.is_subset(&other), lacked == 0);
-    assert_eq!(rt; set.is_superset(&other), lacking == 0);
+    let sizes = Sizes::new(alloc, a, b)?;
+    assert_eq!(rt; set.union_count(&other), sizes.either);
+    assert_eq!(rt; set.intersection_count(&other), sizes.both);
+    assert_eq!(rt; set.difference_count(&other), sizes.lacked);
+    assert_eq!(rt; set.symmetric_difference_count(&other), sizes.one);
+    assert_eq!(rt; set.is_disjoint(&other), sizes.both == 0);
+    assert_eq!(rt; set.is_subset(&other), sizes.lacked == 0);
+    assert_eq!(rt; set.is_superset(&other), sizes.lacking == 0);
     Ok(())
 }
 
