@@ -4,3 +4,4 @@ pub mod Outputs
 pub mod Numbers
 pub mod EndLetters
 pub mod Dots
+pub mod OneOutput

@@ -14,7 +14,7 @@ use Rattle.bitlines.specs.OneLine.{AnswersLine}
 use Rattle.bitlines.proofs.LineSplits.{cut_found, cut_none}
 
 -- a split text has a first part
-parts : (b : ℕ) (xs : List ℕ) → (p : List ℕ) × (ps : List (List ℕ)) × (slice_split (λ x. eqb x b) xs ≡ p ∷ ps)
+pub parts : (b : ℕ) (xs : List ℕ) → (p : List ℕ) × (ps : List (List ℕ)) × (slice_split (λ x. eqb x b) xs ≡ p ∷ ps)
 parts b [] = ([], [], refl)
 parts b (x ∷ xs) =
     elim (eqb x b) as (λ t. (p : List ℕ) × (ps : List (List ℕ)) × (cond t ([] ∷ slice_split (λ y. eqb y b) xs) (onto_first x (slice_split (λ y. eqb y b) xs)) ≡ p ∷ ps)) [

@@ -4,6 +4,7 @@ pub mod Arguments
 pub mod Names
 pub mod Lines
 pub mod Output
+pub mod OutputLaws
 pub mod Program
 pub mod Cursor
 pub mod OneLine

@@ -2,6 +2,7 @@
 #![tactic(auto)]
 
 mod arguments;
+pub mod laws;
 pub mod lines;
 mod names;
 mod near;

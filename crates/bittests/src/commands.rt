@@ -1,5 +1,5 @@
 //! The commands over two sets, by every pair of fifteen lengths beside slow values.
-use crate::whole::{assert_agree, every_pair, filled, joined, size};
+use crate::slow::{Sizes, assert_same, every_pair, filled, joined};
 use bitcommands::commands::{
     Change, Command, Compare, Look, Make, Refusal, Reply, Whole, apply, run,
 };
@@ -26,8 +26,8 @@ fn assert_changed(
     let mut sets = three_sets(alloc, a, b)?;
     let reply = apply(alloc, &mut sets, &Command::Whole(command), 1_000_000);
     assert!(rt; matches!(reply, Reply::Done));
-    assert_agree(rt, &sets[0], expected);
-    assert_agree(rt, &sets[1], b);
+    assert_same(rt, &sets[0], expected);
+    assert_same(rt, &sets[1], b);
     Ok(())
 }
 
@@ -42,9 +42,9 @@ fn assert_made(
     let mut sets = three_sets(alloc, a, b)?;
     let reply = apply(alloc, &mut sets, &Command::Make(command), 1_000_000);
     assert!(rt; matches!(reply, Reply::Done));
-    assert_agree(rt, &sets[0], a);
-    assert_agree(rt, &sets[1], b);
-    assert_agree(rt, &sets[2], expected);
+    assert_same(rt, &sets[0], a);
+    assert_same(rt, &sets[1], b);
+    assert_same(rt, &sets[2], expected);
     Ok(())
 }
 
@@ -119,92 +119,31 @@ fn compared(alloc: Global, a: &[bool], b: &[bool], command: Compare) -> Result<R
     Ok(apply(alloc, &mut sets, &Command::Compare(command), 1_000_000))
 }
 
-fn assert_number(
-    rt: &impl Abort,
-    alloc: Global,
-    (a, b): (&[bool], &[bool]),
-    command: Compare,
-    expected: usize,
-) -> Result<(), AllocError> {
-    let reply = compared(alloc, a, b, command)?;
-    assert!(rt; matches!(reply, Reply::Number(number) if number == expected));
-    Ok(())
-}
-
-fn assert_bool(
-    rt: &impl Abort,
-    alloc: Global,
-    (a, b): (&[bool], &[bool]),
-    command: Compare,
-    expected: bool,
-) -> Result<(), AllocError> {
-    let reply = compared(alloc, a, b, command)?;
-    assert!(rt; matches!(reply, Reply::Bool(answer) if answer == expected));
-    Ok(())
-}
-
 fn counts(rt: &impl Abort, alloc: Global, a: &[bool], b: &[bool]) -> Result<(), AllocError> {
-    let longer = a.len().max(b.len());
-    let either = size(&joined(alloc, longer, a, b, |x, y| x || y)?);
-    let both = size(&joined(alloc, longer, a, b, |x, y| x && y)?);
-    let lacked = size(&joined(alloc, longer, a, b, |x, y| x && !y)?);
-    let one = size(&joined(alloc, longer, a, b, |x, y| x != y)?);
-    assert_number(
-        rt,
-        alloc,
-        (a, b),
-        Compare::UnionCount { a: 0, b: 1 },
-        either,
-    )?;
-    assert_number(
-        rt,
-        alloc,
-        (a, b),
-        Compare::IntersectionCount { a: 0, b: 1 },
-        both,
-    )?;
-    assert_number(
-        rt,
-        alloc,
-        (a, b),
-        Compare::DifferenceCount { a: 0, b: 1 },
-        lacked,
-    )?;
-    assert_number(
-        rt,
-        alloc,
-        (a, b),
-        Compare::SymmetricDifferenceCount { a: 0, b: 1 },
-        one,
-    )
+    let sizes = Sizes::new(alloc, a, b)?;
+    for (command, expected) in [
+        (Compare::UnionCount { a: 0, b: 1 }, sizes.either),
+        (Compare::IntersectionCount { a: 0, b: 1 }, sizes.both),
+        (Compare::DifferenceCount { a: 0, b: 1 }, sizes.lacked),
+        (Compare::SymmetricDifferenceCount { a: 0, b: 1 }, sizes.one),
+    ] {
+        let reply = compared(alloc, a, b, command)?;
+        assert!(rt; matches!(reply, Reply::Number(number) if number == expected));
+    }
+    Ok(())
 }
 
 fn comparisons(rt: &impl Abort, alloc: Global, a: &[bool], b: &[bool]) -> Result<(), AllocError> {
-    let longer = a.len().max(b.len());
-    let both = size(&joined(alloc, longer, a, b, |x, y| x && y)?);
-    let lacked = size(&joined(alloc, longer, a, b, |x, y| x && !y)?);
-    let lacking = size(&joined(alloc, longer, a, b, |x, y| !x && y)?);
-    assert_bool(
-        rt,
-        alloc,
-        (a, b),
-        Compare::IsDisjoint { a: 0, b: 1 },
-        both == 0,
-    )?;
-    assert_bool(
-        rt,
-        alloc,
-        (a, b),
-        Compare::IsSubset { a: 0, b: 1 },
-        lacked == 0,
-    )?;
-    assert_bool(
-        rt,
-        alloc,
-        (a, b),
-        Compare::IsSuperset { a: 0, b: 1 },
-        lacking == 0,
-    )
+    let sizes = Sizes::new(alloc, a, b)?;
+    for (command, expected) in [
+        (Compare::IsDisjoint { a: 0, b: 1 }, sizes.both == 0),
+        (Compare::IsSubset { a: 0, b: 1 }, sizes.lacked == 0),
+        (Compare::IsSuperset { a: 0, b: 1 }, sizes.lacking == 0),
+    ] {
+        let reply = compared(alloc, a, b, command)?;
+        assert!(rt; matches!(reply, Reply::Bool(answer) if answer == expected));
+    }
+    Ok(())
 }
 
 #[test]

@@ -1,12 +1,18 @@
-//! The program over readers and writers of the tests' own.
-use crate::streams::{Sink, Source};
+//! The program's output, for inputs given at once and byte by byte.
+
+ghost use Rattle.std.specs.Prelude.{IfOk};
+ghost use Rattle.bitlines.specs.Output.{IsOutput};
+
+use crate::streams::{Calls, Failure, Sink, Source};
 use bitlines::program::{RunFault, run_text, status};
 use std::alloc::Global;
 use std::process::Abort;
 use std::test::Fail;
 
 // What the program writes for an input.
-fn output_of(alloc: Global, input: &[u8]) -> Result<Vec<u8>, Fail> {
+fn output_of(alloc: Global, input: &[u8]) -> Result<Vec<u8>, Fail>
+    ensures { IfOk result (λ output. IsOutput input.now output.items) }
+{
     let mut reader = input;
     let mut output = Vec::new(alloc);
     run_text(alloc, &mut reader, &mut output)?;
@@ -17,11 +23,12 @@ fn output_of(alloc: Global, input: &[u8]) -> Result<Vec<u8>, Fail> {
 fn assert_output(rt: &impl Abort, alloc: Global, input: &str, output: &str) -> Result<(), Fail> {
     let written = output_of(alloc, input.as_bytes())?;
     assert_eq!(rt; written.as_slice(), output.as_bytes());
-    let mut source = Source::new(input.as_bytes(), 0);
-    let mut sink = Sink::new(Vec::new(alloc), 0, false);
+    let calls = Calls::new();
+    let mut source = Source::new(input.as_bytes(), &calls, Failure::Nowhere);
+    let mut sink = Sink::new(Vec::new(alloc), &calls, Failure::Nowhere);
     run_text(alloc, &mut source, &mut sink)?;
     assert_eq!(rt; sink.taken.as_slice(), output.as_bytes());
-    assert_eq!(rt; sink.flushed, 1);
+    calls.assert_are(rt, input.len().wrapping_add(1), output.len(), 1);
     Ok(())
 }
 
@@ -341,42 +348,5 @@ fn texts_of_faults(rt: HostRuntime) -> Result<(), Fail> {
     assert_eq!(rt; read.as_str(), "read failed");
     assert_eq!(rt; write.as_str(), "write failed");
     assert_eq!(rt; memory.as_str(), "no memory");
-    Ok(())
-}
-
-const SHORT: &str = "grow 0 9\nlen 0\n";
-
-const SHORT_REPLIES: &str = "ok\n9\n";
-
-// Each read fails in turn: the program ends there, and nothing was written.
-#[test]
-fn each_read_fails_in_turn(rt: HostRuntime) -> Result<(), Fail> {
-    for call in 1..17 {
-        let mut source = Source::new(SHORT.as_bytes(), call);
-        let mut sink = Sink::new(Vec::new(rt.alloc()), 0, false);
-        let outcome = run_text(rt.alloc(), &mut source, &mut sink);
-        assert_eq!(rt; status(&outcome), 1, "at {call}");
-        assert_eq!(rt; source.failures, 1, "at {call}");
-        assert_eq!(rt; source.calls, call);
-        assert_eq!(rt; sink.calls, 0);
-    }
-    Ok(())
-}
-
-// Each write, and then the flush, fails in turn: what went out is a beginning of the output.
-#[test]
-fn each_write_fails_in_turn(rt: HostRuntime) -> Result<(), Fail> {
-    for is_full in [false, true] {
-        for call in 1..7 {
-            let mut source = Source::new(SHORT.as_bytes(), 0);
-            let mut sink = Sink::new(Vec::new(rt.alloc()), call, is_full);
-            let outcome = run_text(rt.alloc(), &mut source, &mut sink);
-            assert_eq!(rt; status(&outcome), 2, "at {call}");
-            assert_eq!(rt; sink.failures, 1, "at {call}");
-            assert_eq!(rt; sink.calls, call);
-            assert_eq!(rt; sink.flushed, 0);
-            assert!(rt; SHORT_REPLIES.as_bytes().starts_with(sink.taken.as_slice()));
-        }
-    }
     Ok(())
 }

@@ -2,6 +2,7 @@
 
 ghost use Rattle.std.specs.Prelude.{◌≡◌, ◌+◌, ◌≤◌, ◌^◌, ◌<◌, Option, Some};
 
+use crate::slow::{assert_same, filled};
 use bitlanes::word::Block;
 use fixedbitset::{FixedBitSet, IndexRange, Steps, counted};
 use std::alloc::{AllocError, Global};
@@ -210,16 +211,6 @@ fn slow_value(alloc: Global, bits: usize) -> Result<Vec<bool>, AllocError> {
     Ok(slow)
 }
 
-fn set_like(alloc: Global, slow: &[bool]) -> Result<FixedBitSet, AllocError> {
-    let mut set = FixedBitSet::with_capacity(alloc, slow.len())?;
-    for (position, is_set) in slow.iter().enumerate() {
-        if *is_set && position < set.len() {
-            set.insert(position);
-        }
-    }
-    Ok(set)
-}
-
 fn check_questions<R: Abort>(rt: &R, slow: &[bool], set: &FixedBitSet, start: usize, end: usize) {
     let bits = slow.len();
     let set_there = slow
@@ -263,7 +254,6 @@ fn check_changes<R: Abort>(
     start: usize,
     end: usize,
 ) -> Result<(), AllocError> {
-    let bits = slow.len();
     for change in [
         Change::Insert,
         Change::Remove,
@@ -271,21 +261,17 @@ fn check_changes<R: Abort>(
         Change::Set(true),
         Change::Set(false),
     ] {
-        let mut set = set_like(alloc, slow)?;
+        let mut set = filled(alloc, slow)?;
         apply(rt, &mut set, start..end, change);
-        assert_eq!(rt; set.len(), bits);
+        let mut expected = Vec::new(alloc);
         for (position, was_set) in slow.iter().enumerate() {
-            let is_set = if start <= position && position < end {
+            expected.push(if start <= position && position < end {
                 changed(*was_set, change)
             } else {
                 *was_set
-            };
-            assert_eq!(rt;
-                set.contains(position),
-                is_set,
-                "{position} in {start}..{end} of {bits}"
-            );
+            })?;
         }
+        assert_same(rt, &set, &expected);
     }
     Ok(())
 }
@@ -294,7 +280,7 @@ fn check_changes<R: Abort>(
 fn every_range_of_every_length_to_130(rt: HostRuntime) -> Result<(), Fail> {
     for bits in 0..131 {
         let slow = slow_value(rt.alloc(), bits)?;
-        let set = set_like(rt.alloc(), &slow)?;
+        let set = filled(rt.alloc(), &slow)?;
         for start in 0..bits + 2 {
             for end in 0..bits + 2 {
                 let is_valid = start <= end && end <= bits;

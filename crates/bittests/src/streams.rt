@@ -1,33 +1,104 @@
-//! A reader that gives one byte a call and a writer that takes one byte a call. Each fails at one call, counted from 1,
-//! and counts its failures.
+//! A reader that gives one byte a call and a writer that takes one byte a call. One call of the two may fail. Both count
+//! their calls in one place, so that a test sees how often they were called, and in which order.
+use std::cell::Cell;
 use std::io;
 use std::io::{ErrorKind, Read, Write};
+use std::process::Abort;
+
+/// The one call that fails, counted from 1, and how it does.
+#[derive(Clone, Copy, PartialEq, Eq)]
+pub enum Failure {
+    Nowhere,
+    Read { call: usize, kind: ErrorKind },
+    Write { call: usize, kind: ErrorKind },
+    /// The write takes none of the bytes.
+    TakesNothing { call: usize },
+    /// The first flush.
+    Flush { kind: ErrorKind },
+}
+
+/// The calls of a reader and a writer.
+#[derive(Drop)]
+pub struct Calls {
+    reads: Cell<usize>,
+    writes: Cell<usize>,
+    flushes: Cell<usize>,
+    // Whether no read came behind a write or a flush, and no write behind a flush.
+    is_in_order: Cell<bool>,
+}
+
+impl Calls {
+    pub fn new() -> Calls {
+        Calls {
+            reads: Cell::new(0),
+            writes: Cell::new(0),
+            flushes: Cell::new(0),
+            is_in_order: Cell::new(true),
+        }
+    }
+
+    /// The reader was called exactly so often, then the writer so often to write, and then so often to flush.
+    pub fn assert_are(&self, rt: &impl Abort, reads: usize, writes: usize, flushes: usize) {
+        assert_eq!(rt; self.reads.get(), reads, "reads");
+        assert_eq!(rt; self.writes.get(), writes, "writes");
+        assert_eq!(rt; self.flushes.get(), flushes, "flushes");
+        assert!(rt; self.is_in_order.get());
+    }
+
+    // Counts a read, and answers how many there are.
+    fn read(&self) -> usize {
+        if self.writes.get() != 0 || self.flushes.get() != 0 {
+            self.is_in_order.set(false);
+        }
+        self.reads.set(self.reads.get().wrapping_add(1));
+        self.reads.get()
+    }
+
+    fn write(&self) -> usize {
+        if self.flushes.get() != 0 {
+            self.is_in_order.set(false);
+        }
+        self.writes.set(self.writes.get().wrapping_add(1));
+        self.writes.get()
+    }
+
+    fn flush(&self) -> usize {
+        self.flushes.set(self.flushes.get().wrapping_add(1));
+        self.flushes.get()
+    }
+}
 
 #[derive(Drop)]
 pub struct Source<'a> {
     pub bytes: &'a [u8],
-    pub calls: u64,
-    pub fails_at: u64,
-    pub failures: u64,
+    calls: &'a Calls,
+    failure: Failure,
 }
 
 impl<'a> Source<'a> {
-    pub fn new(bytes: &'a [u8], fails_at: u64) -> Source<'a> {
+    ghost use Rattle.std.specs.Prelude.{◌≡◌};
+
+    pub fn new(bytes: &'a [u8], calls: &'a Calls, failure: Failure) -> Source<'a>
+        ensures { result.bytes.now ≡ bytes.now }
+    {
         Source {
             bytes,
-            calls: 0,
-            fails_at,
-            failures: 0,
+            calls,
+            failure,
         }
     }
 }
 
 impl<'a> Read for Source<'a> {
+    ghost use Rattle.std.specs.Prelude.{Some};
+
+    ghost remaining = { λ source. Some source.bytes.now };
+
     fn read(&mut self, buffer: &mut [u8]) -> io::Result<usize> {
-        self.calls = self.calls.wrapping_add(1);
-        if self.calls == self.fails_at {
-            self.failures = self.failures.wrapping_add(1);
-            return Err(io::Error::from(ErrorKind::Other));
+        let read = self.calls.read();
+        match self.failure {
+            Failure::Read { call, kind } if call == read => return Err(io::Error::from(kind)),
+            _ => {}
         }
         let Some((first, rest)) = self.bytes.split_first() else {
             return Ok(0);
@@ -42,47 +113,37 @@ impl<'a> Read for Source<'a> {
 }
 
 #[derive(Drop)]
-pub struct Sink {
+pub struct Sink<'a> {
     pub taken: Vec<u8>,
-    pub flushed: u64,
-    pub calls: u64,
-    pub fails_at: u64,
-    pub failures: u64,
-    /// Whether the failing call takes none of the bytes in place of answering an error.
-    pub is_full: bool,
+    calls: &'a Calls,
+    failure: Failure,
 }
 
-impl Sink {
-    pub fn new(taken: Vec<u8>, fails_at: u64, is_full: bool) -> Sink {
+impl<'a> Sink<'a> {
+    ghost use Rattle.std.specs.Prelude.{◌≡◌};
+
+    pub fn new(taken: Vec<u8>, calls: &'a Calls, failure: Failure) -> Sink<'a>
+        ensures { result.taken ≡ taken }
+    {
         Sink {
             taken,
-            flushed: 0,
-            calls: 0,
-            fails_at,
-            failures: 0,
-            is_full,
+            calls,
+            failure,
         }
-    }
-
-    // Whether this call is the one that fails.
-    fn fails(&mut self) -> bool {
-        self.calls = self.calls.wrapping_add(1);
-        let fails = self.calls == self.fails_at;
-        if fails {
-            self.failures = self.failures.wrapping_add(1);
-        }
-        fails
     }
 }
 
-impl Write for Sink {
+impl<'a> Write for Sink<'a> {
+    ghost use Rattle.std.specs.Prelude.{Some};
+
+    ghost contents = { λ sink. Some sink.taken.items };
+
     fn write(&mut self, bytes: &[u8]) -> io::Result<usize> {
-        if self.fails() {
-            return if self.is_full {
-                Ok(0)
-            } else {
-                Err(io::Error::from(ErrorKind::Other))
-            };
+        let write = self.calls.write();
+        match self.failure {
+            Failure::Write { call, kind } if call == write => return Err(io::Error::from(kind)),
+            Failure::TakesNothing { call } if call == write => return Ok(0),
+            _ => {}
         }
         let Some(first) = bytes.first() else {
             return Ok(0);
@@ -92,10 +153,10 @@ impl Write for Sink {
     }
 
     fn flush(&mut self) -> io::Result<()> {
-        if self.fails() {
-            return Err(io::Error::from(ErrorKind::Other));
+        let flush = self.calls.flush();
+        match self.failure {
+            Failure::Flush { kind } if flush == 1 => Err(io::Error::from(kind)),
+            _ => Ok(()),
         }
-        self.flushed = self.flushed.wrapping_add(1);
-        Ok(())
     }
 }

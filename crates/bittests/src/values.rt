@@ -1,5 +1,5 @@
 //! The calls of a set against the slow value, at every length up to 130.
-use crate::slow::assert_same;
+use crate::slow::{assert_same, filled};
 use fixedbitset::FixedBitSet;
 use std::process::Abort;
 use std::test::Fail;
@@ -31,19 +31,15 @@ fn change(rt: &impl Abort, set: &mut FixedBitSet, flags: &mut [bool], position: 
         assert_eq!(rt; set.put(position), before);
         flags[position] = true;
         assert_same(rt, set, flags);
-        assert!(rt; position < flags.len() && position < set.len());
         set.toggle(position);
         flags[position] = false;
         assert_same(rt, set, flags);
-        assert!(rt; position < flags.len() && position < set.len());
         set.toggle(position);
         flags[position] = true;
         assert_same(rt, set, flags);
-        assert!(rt; position < flags.len() && position < set.len());
         set.remove(position);
         flags[position] = false;
         assert_same(rt, set, flags);
-        assert!(rt; position < flags.len() && position < set.len());
         set.set(position, enabled);
         flags[position] = enabled;
         assert_same(rt, set, flags);
@@ -60,13 +56,11 @@ fn change(rt: &impl Abort, set: &mut FixedBitSet, flags: &mut [bool], position: 
 fn growing_keeps_the_positions(rt: HostRuntime) -> Result<(), Fail> {
     for length in 0..131 {
         for bits in 0..131 {
-            let mut set = FixedBitSet::with_capacity(rt.alloc(), length)?;
-            let mut flags = vec![in rt.alloc(); false; length]?;
-            for position in (0..length).step_by(5) {
-                assert!(rt; position < flags.len() && position < set.len());
-                set.insert(position);
-                flags[position] = true;
+            let mut flags = Vec::new(rt.alloc());
+            for position in 0..length {
+                flags.push(position % 5 == 0)?;
             }
+            let mut set = filled(rt.alloc(), &flags)?;
             set.grow(bits)?;
             flags.resize(length.max(bits), false)?;
             assert_same(&rt, &set, flags.as_slice());

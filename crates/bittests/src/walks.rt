@@ -3,6 +3,7 @@
 ghost use Rattle.std.specs.Prelude.{◌≡◌, nat_lt, take_while, IfOk};
 ghost use Rattle.fixedbitset.specs.Bits as model;
 
+use crate::slow::filled;
 use bitlanes::counter::Steps;
 use bitlanes::word::Block;
 use fixedbitset::set::FixedBitSet;
@@ -60,16 +61,11 @@ fn generic_callers(rt: HostRuntime) -> Result<(), Fail> {
 #[test]
 fn every_length_to_200_against_a_slow_list(rt: HostRuntime) -> Result<(), Fail> {
     for bits in 0..201 {
-        let mut set = FixedBitSet::with_capacity(rt.alloc(), bits)?;
         let mut slow = Vec::new(rt.alloc());
         for position in 0..bits {
-            let is_seventh = position % 7 == 0;
-            slow.push(is_seventh)?;
-            if is_seventh {
-                assert!(rt; position < set.len());
-                set.insert(position);
-            }
+            slow.push(position % 7 == 0)?;
         }
+        let set = filled(rt.alloc(), &slow)?;
         let mut walk = set.ones();
         for (position, is_set) in slow.iter().enumerate() {
             if *is_set {

@@ -2,6 +2,7 @@
 
 ghost use Rattle.std.specs.Prelude.{◌≡◌, ◌+◌};
 
+use crate::slow::{Sizes, assert_same, every_pair, filled, joined};
 use fixedbitset::{FixedBitSet, Steps, counted};
 use std::alloc::{AllocError, Global};
 use std::process::Abort;
@@ -181,88 +182,6 @@ fn callers_of_counted_calls(rt: HostRuntime) -> Result<(), Fail> {
 
 // ---- every pair of lengths
 
-// None, one word and less, and lanes of four words with a rest of 0 to 3 words.
-const LENGTHS: [usize; 15] = [
-    0, 1, 63, 64, 65, 128, 191, 192, 193, 255, 256, 257, 320, 448, 576,
-];
-
-// How the two sets of a pair are filled.
-const FILLINGS: [(usize, usize); 8] = [
-    (0, 1),
-    (1, 2),
-    (2, 0),
-    (3, 4),
-    (4, 1),
-    (5, 2),
-    (2, 5),
-    (1, 1),
-];
-
-// Whether a set of the filling has the position.
-fn is_chosen(filling: usize, position: usize) -> bool {
-    match filling {
-        0 => true,
-        1 => position % 3 == 0,
-        2 => position % 64 > 59 || position % 7 == 2,
-        3 => position > 189,
-        4 => position == 575 || position == 256,
-        _ => false,
-    }
-}
-
-// A slow value: for each position below the length, whether it is set.
-fn slow(alloc: Global, length: usize, filling: usize) -> Result<Vec<bool>, AllocError> {
-    let mut slow = Vec::new(alloc);
-    for position in 0..length {
-        slow.push(is_chosen(filling, position))?;
-    }
-    Ok(slow)
-}
-
-fn has(slow: &[bool], position: usize) -> bool {
-    position < slow.len() && slow[position]
-}
-
-// The slow value of this length that has the positions at which `join` of two slow values' answers is true.
-pub(crate) fn joined<F: Fn(bool, bool) -> bool>(
-    alloc: Global,
-    length: usize,
-    a: &[bool],
-    b: &[bool],
-    join: F,
-) -> Result<Vec<bool>, AllocError>
-    requires { F.IsAlwaysCallable join }
-{
-    let mut slow = Vec::new(alloc);
-    for position in 0..length {
-        slow.push(join(has(a, position), has(b, position)))?;
-    }
-    Ok(slow)
-}
-
-pub(crate) fn filled(alloc: Global, slow: &[bool]) -> Result<FixedBitSet, AllocError> {
-    let mut set = FixedBitSet::with_capacity(alloc, slow.len())?;
-    for (position, is_set) in slow.iter().enumerate() {
-        if *is_set && position < set.len() {
-            set.insert(position);
-        }
-    }
-    Ok(set)
-}
-
-pub(crate) fn assert_agree(rt: &impl Abort, set: &FixedBitSet, slow: &[bool]) {
-    assert_eq!(rt; set.len(), slow.len());
-    for position in 0..641 {
-        if set.contains(position) != has(slow, position) {
-            panic!(rt; "position {position} of {} and of {slow:?}", set.len());
-        }
-    }
-}
-
-pub(crate) fn size(slow: &[bool]) -> usize {
-    slow.iter().filter(|is_set| **is_set).count()
-}
-
 fn changes(rt: &impl Abort, alloc: Global, a: &[bool], b: &[bool]) -> Result<(), AllocError> {
     let other = filled(alloc, b)?;
     let longer = a.len().max(b.len());
@@ -271,16 +190,16 @@ fn changes(rt: &impl Abort, alloc: Global, a: &[bool], b: &[bool]) -> Result<(),
 
     let mut set = filled(alloc, a)?;
     set.union_with(&other)?;
-    assert_agree(rt, &set, &either);
+    assert_same(rt, &set, &either);
     let mut set = filled(alloc, a)?;
     set.bitor_assign(&other)?;
-    assert_agree(rt, &set, &either);
+    assert_same(rt, &set, &either);
     let mut set = filled(alloc, a)?;
     set.symmetric_difference_with(&other)?;
-    assert_agree(rt, &set, &one);
+    assert_same(rt, &set, &one);
     let mut set = filled(alloc, a)?;
     set.bitxor_assign(&other)?;
-    assert_agree(rt, &set, &one);
+    assert_same(rt, &set, &one);
     Ok(())
 }
 
@@ -294,18 +213,18 @@ fn changes_of_one_length(
     let both = joined(alloc, a.len(), a, b, |x, y| x && y)?;
     let mut set = filled(alloc, a)?;
     set.intersect_with(&other);
-    assert_agree(rt, &set, &both);
+    assert_same(rt, &set, &both);
     let mut set = filled(alloc, a)?;
     set &= &other;
-    assert_agree(rt, &set, &both);
+    assert_same(rt, &set, &both);
     let mut set = filled(alloc, a)?;
     set &= filled(alloc, b)?;
-    assert_agree(rt, &set, &both);
+    assert_same(rt, &set, &both);
 
     let lacked = joined(alloc, a.len(), a, b, |x, y| x && !y)?;
     let mut set = filled(alloc, a)?;
     set.difference_with(&other);
-    assert_agree(rt, &set, &lacked);
+    assert_same(rt, &set, &lacked);
     Ok(())
 }
 
@@ -315,49 +234,25 @@ fn made(rt: &impl Abort, alloc: Global, a: &[bool], b: &[bool]) -> Result<(), Al
     let shorter = a.len().min(b.len());
     let longer = a.len().max(b.len());
     let both = joined(alloc, shorter, a, b, |x, y| x && y)?;
-    assert_agree(rt, &set.bitand(&other)?, &both);
+    assert_same(rt, &set.bitand(&other)?, &both);
     let either = joined(alloc, longer, a, b, |x, y| x || y)?;
-    assert_agree(rt, &set.bitor(&other)?, &either);
+    assert_same(rt, &set.bitor(&other)?, &either);
     let one = joined(alloc, longer, a, b, |x, y| x != y)?;
-    assert_agree(rt, &set.bitxor(&other)?, &one);
+    assert_same(rt, &set.bitxor(&other)?, &one);
     Ok(())
 }
 
 fn answers(rt: &impl Abort, alloc: Global, a: &[bool], b: &[bool]) -> Result<(), AllocError> {
     let set = filled(alloc, a)?;
     let other = filled(alloc, b)?;
-    let longer = a.len().max(b.len());
-    let either = size(&joined(alloc, longer, a, b, |x, y| x || y)?);
-    let both = size(&joined(alloc, longer, a, b, |x, y| x && y)?);
-    let lacked = size(&joined(alloc, longer, a, b, |x, y| x && !y)?);
-    let lacking = size(&joined(alloc, longer, a, b, |x, y| !x && y)?);
-    let one = size(&joined(alloc, longer, a, b, |x, y| x != y)?);
-    assert_eq!(rt; set.union_count(&other), either);
-    assert_eq!(rt; set.intersection_count(&other), both);
-    assert_eq!(rt; set.difference_count(&other), lacked);
-    assert_eq!(rt; set.symmetric_difference_count(&other), one);
-    assert_eq!(rt; set.is_disjoint(&other), both == 0);
-    assert_eq!(rt; set.is_subset(&other), lacked == 0);
-    assert_eq!(rt; set.is_superset(&other), lacking == 0);
-    Ok(())
-}
-
-// Goes through all pairs of lengths and of fillings.
-pub(crate) fn every_pair<F: Fn(&[bool], &[bool]) -> Result<(), AllocError>>(
-    alloc: Global,
-    check: F,
-) -> Result<(), AllocError>
-    requires { F.IsAlwaysCallable check }
-{
-    for length in LENGTHS {
-        for other_length in LENGTHS {
-            for (filling, other_filling) in FILLINGS {
-                let a = slow(alloc, length, filling)?;
-                let b = slow(alloc, other_length, other_filling)?;
-                check(&a, &b)?;
-            }
-        }
-    }
+    let sizes = Sizes::new(alloc, a, b)?;
+    assert_eq!(rt; set.union_count(&other), sizes.either);
+    assert_eq!(rt; set.intersection_count(&other), sizes.both);
+    assert_eq!(rt; set.difference_count(&other), sizes.lacked);
+    assert_eq!(rt; set.symmetric_difference_count(&other), sizes.one);
+    assert_eq!(rt; set.is_disjoint(&other), sizes.both == 0);
+    assert_eq!(rt; set.is_subset(&other), sizes.lacked == 0);
+    assert_eq!(rt; set.is_superset(&other), sizes.lacking == 0);
     Ok(())
 }
 

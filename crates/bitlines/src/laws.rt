@@ -1,0 +1,9 @@
+//! Each function here does nothing: its contract is a law, which holds for all values.
+
+ghost use Rattle.bitlines.specs.OutputLaws.{OneOutput};
+
+/// Two outputs of one input, neither with a line that says that memory was refused, are equal: but for memory, what the
+/// program writes is a function of what it reads.
+pub fn one_output()
+    ensures { OneOutput }
+{}
