@@ -3,8 +3,7 @@ use Rattle.std.specs.Prelude.{ℕ, Bool, true, false, not, length, Option, Some,
 use Rattle.std.specs.Option.{option_or}
 use Rattle.fixedbitset.specs.Bits as model
 use Rattle.fixedbitset.specs.Bits.{Bits}
-use Rattle.fixedbitset.specs.Ranges.{start_of, end_of}
-use Rattle.fixedbitset.specs.Questions as questions
+use Rattle.fixedbitset.specs.Ranges.{over, is_valid}
 use Rattle.bitcommands.specs.Actions.{Range}
 use Rattle.bitcommands.specs.declared.commands.refusals.Refusal.{Refusal}
 use Rattle.bitcommands.specs.declared.commands.refusals.Refusal.TheVariants as refusal
@@ -45,21 +44,9 @@ needs_more_words v n = nat_lt (model.words_needed v.length) (model.words_needed 
 
 -- ---- ranges
 
--- where a range of the set starts
-abbrev pub from : Range → ℕ
-from r = start_of r.0
-
--- where a range of the set ends
-abbrev pub to : Bits → Range → ℕ
-to v r = end_of r.1 v.length
-
--- whether the range is valid for the set
-abbrev pub is_valid : Bits → Range → Bool
-is_valid v r = questions.range_is_valid v.length r.0 r.1
-
 -- the range isn't valid for the set
 abbrev pub not_valid : Bits → Range → Option Refusal
-not_valid v r = refuse refusal.Range (not (is_valid v r))
+not_valid v r = refuse refusal.Range (not (over is_valid v r.0 r.1))
 
 -- there is no such set, or the range isn't valid for it
 abbrev pub no_range : Sets → ℕ → Range → Option Refusal

@@ -4,8 +4,8 @@ use Rattle.std.specs.Option.{option_or}
 use Rattle.fixedbitset.specs.Bits as model
 use Rattle.fixedbitset.specs.Bits.{Bits}
 use Rattle.fixedbitset.specs.Ranges as ranges
+use Rattle.fixedbitset.specs.Ranges.{over}
 use Rattle.fixedbitset.specs.TwoSets as sets
-use Rattle.fixedbitset.specs.Questions as questions
 use Rattle.bitcommands.specs.declared.commands.refusals.Refusal.{Refusal}
 use Rattle.bitcommands.specs.declared.commands.walking.End.{End}
 use Rattle.bitcommands.specs.Actions as action
@@ -13,7 +13,7 @@ use Rattle.bitcommands.specs.Actions.{Action, Range}
 use Rattle.bitcommands.specs.Answers as answer
 use Rattle.bitcommands.specs.Answers.{Answer}
 use Rattle.bitcommands.specs.Sets.{Sets, at, place}
-use Rattle.bitcommands.specs.Guards.{no_set, no_sets, no_position, no_range, past_limit, needs_more_words, from, to, is_valid}
+use Rattle.bitcommands.specs.Guards.{no_set, no_sets, no_position, no_range, past_limit, needs_more_words}
 use Rattle.bitcommands.specs.Calls.{calls}
 
 -- What a command does: the first of its guards that refuses; where none does, its answer and the sets left;
@@ -40,7 +40,7 @@ asks s k tell = row (no_set s k) (tell (at s k)) s false
 
 -- set k is asked about a range, and nothing changes
 abbrev pub asks_range : {A : Type 0} → Sets → ℕ → Range → (A → Answer) → (Bits → ℕ → ℕ → A) → Row
-asks_range s k r seen_as tell = row (no_range s k r) (seen_as (tell (at s k) (from r) (to (at s k) r))) s false
+asks_range s k r seen_as tell = row (no_range s k r) (seen_as (over tell (at s k) r.0 r.1)) s false
 
 -- the sets a and b are compared, and nothing changes
 abbrev pub compares : {A : Type 0} → Sets → ℕ → ℕ → (A → Answer) → (Bits → Bits → A) → Row
@@ -60,7 +60,7 @@ changes_at s k p change = row (no_position s k p) answer.done (place s k (change
 
 -- set k changes in a range
 abbrev pub changes_range : Sets → ℕ → Range → (Bits → ℕ → ℕ → Bits) → Row
-changes_range s k r change = row (no_range s k r) answer.done (place s k (change (at s k) (from r) (to (at s k) r))) false
+changes_range s k r change = row (no_range s k r) answer.done (place s k (over change (at s k) r.0 r.1)) false
 
 -- set a changes by set b, and keeps its length
 abbrev pub changes_by : Sets → ℕ → ℕ → (Bits → Bits → Bits) → Row
@@ -92,9 +92,9 @@ row_of m s (action.set_range k r e) = changes_range s k r (λ v start end. range
 row_of m s (action.insert_range k r) = changes_range s k r ranges.insert_range
 row_of m s (action.remove_range k r) = changes_range s k r ranges.remove_range
 row_of m s (action.toggle_range k r) = changes_range s k r ranges.toggle_range
-row_of m s (action.contains_all_in_range k r) = asks_range s k r answer.bool questions.contains_all
-row_of m s (action.contains_any_in_range k r) = asks_range s k r answer.bool questions.contains_any
-row_of m s (action.range_is_valid k r) = asks s k (λ v. answer.bool (is_valid v r))
+row_of m s (action.contains_all_in_range k r) = asks_range s k r answer.bool ranges.contains_all
+row_of m s (action.contains_any_in_range k r) = asks_range s k r answer.bool ranges.contains_any
+row_of m s (action.range_is_valid k r) = asks s k (λ v. answer.bool (over ranges.is_valid v r.0 r.1))
 row_of m s (action.union_with a b) = grows_by s a b sets.union
 row_of m s (action.symmetric_difference_with a b) = grows_by s a b sets.symmetric_difference
 row_of m s (action.bitor_assign a b) = grows_by s a b sets.union
@@ -106,7 +106,7 @@ row_of m s (action.union_count a b) = compares s a b answer.number sets.union_co
 row_of m s (action.intersection_count a b) = compares s a b answer.number sets.intersection_count
 row_of m s (action.difference_count a b) = compares s a b answer.number sets.difference_count
 row_of m s (action.symmetric_difference_count a b) = compares s a b answer.number sets.symmetric_difference_count
-row_of m s (action.is_disjoint a b) = compares s a b answer.bool questions.is_disjoint
-row_of m s (action.is_subset a b) = compares s a b answer.bool questions.is_subset
-row_of m s (action.is_superset a b) = compares s a b answer.bool (λ v w. questions.is_subset w v)
+row_of m s (action.is_disjoint a b) = compares s a b answer.bool sets.is_disjoint
+row_of m s (action.is_subset a b) = compares s a b answer.bool sets.is_subset
+row_of m s (action.is_superset a b) = compares s a b answer.bool (λ v w. sets.is_subset w v)
 row_of m s (action.ones k ends) = walks s k ends model.asc

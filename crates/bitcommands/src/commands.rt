@@ -11,7 +11,6 @@ mod joining;
 mod looking;
 mod making;
 mod printing;
-mod questions;
 mod ranging;
 mod refusals;
 mod replies;

@@ -2,7 +2,6 @@
 ghost use Rattle.bitcommands.specs.Actions.{compare_action};
 ghost use Rattle.bitcommands.specs.Outcomes.{Answers};
 
-use crate::commands::questions::{is_disjoint, is_subset, is_superset};
 use crate::commands::refusals::{Refusal, check_sets};
 use crate::commands::replies::Reply;
 use fixedbitset::FixedBitSet;
@@ -52,15 +51,15 @@ pub(super) fn apply_compare(
         }
         Compare::IsDisjoint { a, b } => {
             check_sets(sets, *a, *b)?;
-            Ok(Reply::Bool(is_disjoint(&sets[*a], &sets[*b])))
+            Ok(Reply::Bool(sets[*a].is_disjoint(&sets[*b])))
         }
         Compare::IsSubset { a, b } => {
             check_sets(sets, *a, *b)?;
-            Ok(Reply::Bool(is_subset(&sets[*a], &sets[*b])))
+            Ok(Reply::Bool(sets[*a].is_subset(&sets[*b])))
         }
         Compare::IsSuperset { a, b } => {
             check_sets(sets, *a, *b)?;
-            Ok(Reply::Bool(is_superset(&sets[*a], &sets[*b])))
+            Ok(Reply::Bool(sets[*a].is_superset(&sets[*b])))
         }
     }
 }

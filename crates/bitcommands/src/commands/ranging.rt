@@ -2,7 +2,6 @@
 ghost use Rattle.bitcommands.specs.Actions.{ranged_action};
 ghost use Rattle.bitcommands.specs.Outcomes.{Answers};
 
-use crate::commands::questions::{contains_all, contains_any, is_valid};
 use crate::commands::refusals::{Refusal, check_range, check_set};
 use crate::commands::replies::Reply;
 use fixedbitset::{FixedBitSet, IndexRange};
@@ -117,15 +116,15 @@ pub(super) fn apply_ranged(
         }
         Ranged::ContainsAllInRange { set, range } => {
             check_range(sets, *set, *range)?;
-            Ok(Reply::Bool(contains_all(&sets[*set], *range)))
+            Ok(Reply::Bool(sets[*set].contains_all_in_range(*range)))
         }
         Ranged::ContainsAnyInRange { set, range } => {
             check_range(sets, *set, *range)?;
-            Ok(Reply::Bool(contains_any(&sets[*set], *range)))
+            Ok(Reply::Bool(sets[*set].contains_any_in_range(*range)))
         }
         Ranged::RangeIsValid { set, range } => {
             check_set(sets, *set)?;
-            Ok(Reply::Bool(is_valid(&sets[*set], *range)))
+            Ok(Reply::Bool(sets[*set].range_is_valid(range)))
         }
     }
 }

@@ -1,11 +1,10 @@
 //! Why a command is refused, and the checks that find it out.
-ghost use Rattle.std.specs.Prelude.{OnOk};
-ghost use Rattle.fixedbitset.specs.Ranges.{IsValid};
+ghost use Rattle.std.specs.Prelude.{IsTrue, OnOk};
+ghost use Rattle.fixedbitset.specs.Ranges.{over, is_valid};
 ghost use Rattle.bitcommands.specs.Sets.{at};
 ghost use Rattle.bitcommands.specs.Guards.{no_set, no_sets, no_position, no_range, past_limit};
 ghost use Rattle.bitcommands.specs.Outcomes.{Passes};
 
-use crate::commands::questions::is_valid;
 use crate::commands::ranging::Span;
 use fixedbitset::FixedBitSet;
 use std::alloc::AllocError;
@@ -111,10 +110,10 @@ pub(super) fn check_sets(sets: &[FixedBitSet], first: usize, second: usize) -> R
 // There is such a set, and the range is valid for it.
 pub(super) fn check_range(sets: &[FixedBitSet], set: usize, range: Span) -> Result<(), Refusal>
     ensures passes { Passes result (no_range sets.now set (range.start, range.end)) }
-    ensures valid { OnOk result (IsValid (at sets.now set).length range.start range.end) }
+    ensures valid { OnOk result (IsTrue (over is_valid (at sets.now set) range.start range.end)) }
 {
     check_set(sets, set)?;
-    if is_valid(&sets[set], range) {
+    if sets[set].range_is_valid(&range) {
         Ok(())
     } else {
         Err(Refusal::Range)

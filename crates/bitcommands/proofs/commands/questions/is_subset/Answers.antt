@@ -1,5 +1,0 @@
-use Rattle.fixedbitset.specs.QuestionsFacts.{is_subset_from}
-use Rattle.bitcommands.proofs.commands.questions.is_subset.Goals as goal
-
-pub returns : goal.returns
-returns c = is_subset_from _ _ _ c.is_subset.ensures
