@@ -1,5 +1,5 @@
 -- sums and tests of a list, one lane of four further
-use Rattle.std.proofs.Common.{◌≡◌, ℕ, zero, suc, ◌+◌, ◌*◌, ◌≤◌, Bool, false, ◌==◌, ◌&&◌, List, [], ◌∷◌, ◌++◌, length, take, drop, replicate, sum_by, bit_or, refl, ap, sym, ◌∙◌, arith}
+use Rattle.std.proofs.Common.{◌≡◌, ℕ, zero, suc, ◌+◌, ◌-◌, ◌*◌, ◌≤◌, Bool, false, ◌==◌, ◌&&◌, List, [], ◌∷◌, ◌++◌, length, take, drop, replicate, sum_by, bit_or, refl, ap, sym, ◌∙◌, arith}
 use Rattle.std.specs.List.{list_all}
 use Rattle.std.specs.Simd.Lanes.{fold_l, chunk, put_chunk}
 use Rattle.std.proofs.Math.Bool.{and-true, and-false, and_assoc}
@@ -52,3 +52,19 @@ pub zeros_lane : (k : ℕ) (xs : List ℕ) → 4 * k + 4 ≤ length xs → take 
 zeros_lane k xs le h =
     take_more_put_chunk (4 * k) xs (replicate 4 0) (4 * (k + 1)) (omega arith) (omega arith)
     ∙ (ap (λ t. t ++ replicate 4 0) h ∙ (replicate-append-replicate (4 * k) 4 0 ∙ ap (λ n. replicate n 0) (omega arith)))
+
+-- what lies past a lane stays as it is written
+pub drop_put : (n i : ℕ) (xs ys : List ℕ) → i + length ys ≤ n → drop n (put_chunk i xs ys) ≡ drop n xs
+drop_put n i [] ys p = refl
+drop_put n zero (x ∷ xs) [] p = refl
+drop_put zero zero (x ∷ xs) (y ∷ ys) p = absurd (omega arith)
+drop_put (suc n) zero (x ∷ xs) (y ∷ ys) p = drop_put n zero xs ys (omega arith)
+drop_put zero (suc i) (x ∷ xs) ys p = absurd (omega arith)
+drop_put (suc n) (suc i) (x ∷ xs) ys p = drop_put n i xs ys (omega arith)
+
+-- zeros up to a word, and from there on
+pub zeros_whole : (n : ℕ) (xs : List ℕ) → n ≤ length xs → take n xs ≡ replicate n 0 → drop n xs ≡ replicate (length xs - n) 0 → xs ≡ replicate (length xs) 0
+zeros_whole n xs le front back =
+    sym (take-append-drop n xs)
+    ∙ (ap (λ t. t ++ drop n xs) front ∙ (ap (λ t. replicate n 0 ++ t) back
+    ∙ (replicate-append-replicate n (length xs - n) 0 ∙ ap (λ m. replicate m 0) (omega arith))))

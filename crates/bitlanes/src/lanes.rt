@@ -4,7 +4,7 @@
 //! take `m / 4 + m % 4` steps. The kernels are the only loops of calls on whole sets.
 //!
 //! Of two slices a kernel reads as many words as the shorter one has.
-ghost use Rattle.std.specs.Prelude.{◌≡◌, ◌+◌, ◌^◌, ◌<◌, ◌≤◌, ◌==◌, length, min, slice_index, sum_by, replicate};
+ghost use Rattle.std.specs.Prelude.{◌≡◌, ◌+◌, ◌-◌, ◌^◌, ◌<◌, ◌≤◌, ◌==◌, IsTrue, length, min, slice_index, sum, sum_by, replicate, drop};
 ghost use Rattle.std.specs.List.{list_all};
 ghost use Rattle.std.specs.Int.RustNames.{count_ones};
 ghost use Rattle.std.specs.Simd.Lanes.{zip2, chunk, put_chunk};
@@ -52,11 +52,12 @@ pub fn count<O: WordOp>(a: &[Block], b: &[Block], steps: &mut Steps) -> usize
 {
     let words = a.len().min(b.len());
     let lanes = words / LANE;
-    let mut total = 0;
+    let mut totals = [0; LANE];
     for lane in 0..lanes {
         steps.tick();
-        total += ones_at::<O>(a, b, LANE * lane);
+        add_ones(&mut totals, lane_at::<O>(a, b, LANE * lane));
     }
+    let mut total = total_of(&totals);
     for word in 0..words % LANE {
         steps.tick();
         total += word_at::<O>(a, b, LANE * lanes + word).count_ones() as usize;
@@ -67,22 +68,23 @@ pub fn count<O: WordOp>(a: &[Block], b: &[Block], steps: &mut Steps) -> usize
 /// Whether no bit is set in the words of `a` joined with those of `b` by `O`, as far as both go.
 ///
 /// It stops at the first lane or word with a bit, so it takes at most `m / 4 + m % 4` steps, `m` being the number of
-/// words of the shorter slice.
+/// words of the shorter slice, and exactly so many where it answers `true`.
 #[inline(always)]
 #[tactic(auto, using(crate::proofs::Folding::all_lane, crate::proofs::Zipping::all_joined))]
 pub fn none<O: WordOp>(a: &[Block], b: &[Block], steps: &mut Steps) -> bool
     ensures zero { result ≡ list_all (λ word. word == 0) (zip2 O.joined a.now b.now) }
     ensures cost { steps.new ≤ steps.old + turns (min (length a.now) (length b.now)) }
+    ensures whole { IsTrue result → steps.new ≡ steps.old + turns (min (length a.now) (length b.now)) }
 {
-    let words = a.len().min(b.len());
-    let lanes = words / LANE;
+    let common = a.len().min(b.len());
+    let lanes = common / LANE;
     for lane in 0..lanes {
         steps.tick();
         if !is_zero(lane_at::<O>(a, b, LANE * lane)) {
             return false;
         }
     }
-    for word in 0..words % LANE {
+    for word in 0..common % LANE {
         steps.tick();
         if word_at::<O>(a, b, LANE * lanes + word) != 0 {
             return false;
@@ -95,20 +97,16 @@ pub fn none<O: WordOp>(a: &[Block], b: &[Block], steps: &mut Steps) -> bool
 ///
 /// It takes exactly `m / 4 + m % 4` steps, `m` being the number of words.
 #[inline(always)]
-#[tactic(auto, using(crate::proofs::Folding::zeros_lane))]
+#[tactic(auto, using(crate::proofs::Folding::zeros_lane, crate::proofs::Folding::drop_put, crate::proofs::Folding::zeros_whole))]
 pub fn zero(dst: &mut [Block], steps: &mut Steps)
     ensures words { dst.new ≡ replicate (length dst.old) 0 }
     ensures cost { steps.new ≡ steps.old + turns (length dst.old) }
 {
-    let words = dst.len();
-    let lanes = words / LANE;
+    let lanes = dst.len() / LANE;
+    zero_rest(dst, LANE * lanes, steps);
     for lane in 0..lanes {
         steps.tick();
         u64x4::splat(0).copy_to_slice(&mut dst[LANE * lane..]);
-    }
-    for word in 0..words % LANE {
-        steps.tick();
-        dst[LANE * lanes + word] = 0;
     }
 }
 
@@ -122,14 +120,13 @@ pub fn count_one(a: &[Block], steps: &mut Steps) -> usize
     ensures ones { result ≡ sum_by count_ones a.now }
     ensures cost { steps.new ≡ steps.old + turns (length a.now) }
 {
-    let words = a.len();
-    let lanes = words / LANE;
+    let lanes = a.len() / LANE;
     let mut total = 0;
     for lane in 0..lanes {
         steps.tick();
         total += ones_in(u64x4::from_slice(&a[LANE * lane..]).to_array());
     }
-    for word in 0..words % LANE {
+    for word in 0..a.len() % LANE {
         steps.tick();
         total += a[LANE * lanes + word].count_ones() as usize;
     }
@@ -139,12 +136,13 @@ pub fn count_one(a: &[Block], steps: &mut Steps) -> usize
 /// Whether no bit is set in the words.
 ///
 /// It stops at the first lane or word with a bit, so it takes at most `m / 4 + m % 4` steps, `m` being the number of
-/// words.
+/// words, and exactly so many where it answers `true`.
 #[inline(always)]
 #[tactic(auto, using(crate::proofs::Folding::all_lane))]
 pub fn none_one(a: &[Block], steps: &mut Steps) -> bool
     ensures zero { result ≡ list_all (λ word. word == 0) a.now }
     ensures cost { steps.new ≤ steps.old + turns (length a.now) }
+    ensures whole { IsTrue result → steps.new ≡ steps.old + turns (length a.now) }
 {
     let words = a.len();
     let lanes = words / LANE;
@@ -161,6 +159,29 @@ pub fn none_one(a: &[Block], steps: &mut Steps) -> bool
         }
     }
     true
+}
+
+// Makes the words from `at` on 0, at most three, by tests and no loop: a loop would be a call of `memset`.
+#[inline(always)]
+fn zero_rest(dst: &mut [Block], at: usize, steps: &mut Steps)
+    requires from { at ≤ length dst.old }
+    requires few { length dst.old < at + 4 }
+    ensures zeros { drop at dst.new ≡ replicate (length dst.old - at) 0 }
+    ensures cost { steps.new ≡ steps.old + (length dst.old - at) }
+{
+    let rest = dst.len() - at;
+    if rest > 0 {
+        steps.tick();
+        dst[at] = 0;
+        if rest > 1 {
+            steps.tick();
+            dst[at + 1] = 0;
+            if rest > 2 {
+                steps.tick();
+                dst[at + 2] = 0;
+            }
+        }
+    }
 }
 
 // Joins the four words of `dst` from `at` on with those of `src`.
@@ -194,20 +215,27 @@ fn word_at<O: WordOp>(a: &[Block], b: &[Block], at: usize) -> Block
     O::word(a[at], b[at])
 }
 
-// How many bits are set in the four joined words from `at` on. The words are joined one by one, since their bits are
-// counted one by one.
+// Adds to each total the number of bits in its word of the lane. There are four totals, so that the words of a lane
+// can be counted side by side.
 #[inline(always)]
-fn ones_at<O: WordOp>(a: &[Block], b: &[Block], at: usize) -> usize
-    requires in_a { at + 4 ≤ length a.now }
-    requires in_b { at + 4 ≤ length b.now }
-    ensures { result ≡ sum_by count_ones (chunk at 4 (zip2 O.joined a.now b.now)) }
+fn add_ones(totals: &mut [usize; LANE], lane: u64x4)
+    requires { sum totals.old + sum_by count_ones lane < 2 ^ 64 }
+    ensures { sum totals.new ≡ sum totals.old + sum_by count_ones lane }
 {
-    ones_in([
-        word_at::<O>(a, b, at),
-        word_at::<O>(a, b, at + 1),
-        word_at::<O>(a, b, at + 2),
-        word_at::<O>(a, b, at + 3),
-    ])
+    let [first, second, third, fourth] = lane.to_array();
+    totals[0] += first.count_ones() as usize;
+    totals[1] += second.count_ones() as usize;
+    totals[2] += third.count_ones() as usize;
+    totals[3] += fourth.count_ones() as usize;
+}
+
+// The sum of the totals.
+#[inline(always)]
+fn total_of(totals: &[usize; LANE]) -> usize
+    requires { sum totals.now < 2 ^ 64 }
+    ensures { result ≡ sum totals.now }
+{
+    totals[0] + totals[1] + totals[2] + totals[3]
 }
 
 // How many bits are set in four words.
