@@ -80,7 +80,10 @@ pub fn count_ones(words: &[u64], start: usize, end: usize) -> usize {
         [word] => (word & first & last).count_ones() as usize,
         [front, middle @ .., back] => {
             (front & first).count_ones() as usize
-                + middle.iter().map(|word| word.count_ones() as usize).sum::<usize>()
+                + middle
+                    .iter()
+                    .map(|word| word.count_ones() as usize)
+                    .sum::<usize>()
                 + (back & last).count_ones() as usize
         }
     }

@@ -1,50 +1,91 @@
-//! Times calls of a set beside the same work in Rust.
+//! Times calls of a set, beside upstream's and the same work in Rust.
 //!
-//! A set cannot cross to C, so both sides make two sets of their own, and then make the call so many times. The time of
-//! no rounds is taken from that of `rounds`, which leaves the calls alone.
+//! A set cannot cross to C, so each side makes its own sets, and then makes the call so many times. The time of no
+//! rounds is taken from that of `rounds`, which leaves the calls alone.
 
-use crate::Row;
+use crate::table::Row;
 use std::hint::black_box;
 use std::time::Instant;
 
-/// How many positions the sets have. Each of the functions below asks for at least 128.
-const BITS: [usize; 2] = [1_000, 1_000_000];
+/// How many positions the sets have: as many as fill their words, and as many as do not.
+/// Each of the functions below asks for at least 128.
+const BITS: [usize; 4] = [1_000, 1_024, 1_000_000, 1_000_040];
 
 /// How many batches of each call are timed, in turn with those of the others.
-const BATCHES: usize = 1_000;
+const BATCHES: usize = 400;
 
-/// About how many words a batch goes over.
+/// About how many words a batch goes over, or how many single positions.
 const BATCH_WORDS: usize = 320_000;
 
-/// Makes two sets of so many positions, and a call so many times.
+/// Makes sets of so many positions, and a call so many times.
 /// It answers how many positions are left, or what the last call answered.
 type Rounds = fn(usize, usize) -> usize;
 
-/// The calls of a set: the static library of crates/bench_abi. Each asks for at least 128 positions.
-mod ours {
-    unsafe extern "C" {
-        pub safe fn sets_insert_range(bits: usize, rounds: usize) -> usize;
-        pub safe fn sets_count_ones(bits: usize, rounds: usize) -> usize;
-        pub safe fn sets_contains_all_in_range(bits: usize, rounds: usize) -> usize;
-        pub safe fn sets_toggle_range(bits: usize, rounds: usize) -> usize;
-        pub safe fn sets_union_with(bits: usize, rounds: usize) -> usize;
-        pub safe fn sets_intersect_with(bits: usize, rounds: usize) -> usize;
-        pub safe fn sets_difference_with(bits: usize, rounds: usize) -> usize;
-        pub safe fn sets_symmetric_difference_with(bits: usize, rounds: usize) -> usize;
-        pub safe fn sets_union_count(bits: usize, rounds: usize) -> usize;
-        pub safe fn sets_intersection_count(bits: usize, rounds: usize) -> usize;
-        pub safe fn sets_difference_count(bits: usize, rounds: usize) -> usize;
-        pub safe fn sets_symmetric_difference_count(bits: usize, rounds: usize) -> usize;
-        pub safe fn sets_is_disjoint(bits: usize, rounds: usize) -> usize;
-        pub safe fn sets_is_subset(bits: usize, rounds: usize) -> usize;
-        pub safe fn sets_is_superset(bits: usize, rounds: usize) -> usize;
+/// One call on each side that has it.
+struct Call {
+    name: &'static str,
+    ours: Rounds,
+    upstream: Option<Rounds>,
+    loops: Option<Rounds>,
+    calls: Calls,
+}
+
+/// How many calls a round makes of so many positions.
+#[derive(Clone, Copy)]
+enum Calls {
+    One,
+    EachPosition,
+    EachWord,
+}
+
+impl Calls {
+    fn of(self, bits: usize) -> usize {
+        match self {
+            Calls::One => 1,
+            Calls::EachPosition => bits,
+            Calls::EachWord => bits / 64,
+        }
     }
+}
+
+/// The calls of a set: the static library of crates/bench_abi, and the same calls of upstream's crate.
+macro_rules! calls {
+    ($($name:ident)*) => {
+        mod ours {
+            $(pub fn $name(bits: usize, rounds: usize) -> usize {
+                unsafe extern "C" {
+                    #[link_name = concat!("sets_", stringify!($name))]
+                    safe fn call(bits: usize, rounds: usize) -> usize;
+                }
+                call(bits, rounds)
+            })*
+        }
+
+        mod upstreams {
+            use super::Rounds;
+
+            $(#[allow(non_upper_case_globals)]
+            #[cfg(upstream)]
+            pub const $name: Option<Rounds> = Some(crate::upstream::$name);
+
+            #[allow(non_upper_case_globals)]
+            #[cfg(not(upstream))]
+            pub const $name: Option<Rounds> = None;)*
+        }
+    };
+}
+
+calls! {
+    insert_range toggle_range count_ones contains_all_in_range contains_any_in_range
+    union_with intersect_with intersect_with_short difference_with symmetric_difference_with
+    union_count intersection_count difference_count symmetric_difference_count
+    is_disjoint is_subset is_superset bitand bitor bitxor contains put grow
 }
 
 /// The words of a set of so many positions, with those from `start` up to and without `end`.
 fn filled(bits: usize, start: usize, end: usize) -> Vec<u64> {
     let mut words = vec![0; bits.div_ceil(64)];
-    loops_v2::insert_range(&mut words, start, end);
+    loops::insert_range(&mut words, start, end);
     words
 }
 
@@ -56,17 +97,21 @@ fn changed(bits: usize, rounds: usize, change: impl Fn(&mut [u64], &[u64])) -> u
     for _ in 0..rounds {
         change(&mut set, &other);
     }
-    loops_v2::count_ones(&set, 0, bits)
+    loops::count_ones(&set, 0, bits)
 }
 
-/// Asks once and then so many times, each time after the write of a bit that is set.
+/// Asks of the positions below `end` and those from `start` on, once and then so many times, each time after the write
+/// of a bit that is set.
 #[inline(always)]
 fn asked(
-    mut set: Vec<u64>,
-    other: Vec<u64>,
+    bits: usize,
+    end: usize,
+    start: usize,
     rounds: usize,
     ask: impl Fn(&[u64], &[u64]) -> usize,
 ) -> usize {
+    let mut set = filled(bits, 0, end);
+    let other = filled(bits, start, bits);
     let mut answer = ask(&set, &other);
     for round in 0..rounds {
         let bit = round % 64;
@@ -76,171 +121,142 @@ fn asked(
     answer
 }
 
-/// Asks of the lower half of the positions and the upper one.
-#[inline(always)]
-fn halves(bits: usize, rounds: usize, ask: impl Fn(&[u64], &[u64]) -> usize) -> usize {
-    let (lower, upper) = (filled(bits, 0, bits / 2), filled(bits, bits / 2, bits));
-    asked(lower, upper, rounds, ask)
+/// A call with no loop of its own in Rust beside it.
+macro_rules! call {
+    ($shown:expr, $name:ident, $calls:ident) => {
+        Call {
+            name: $shown,
+            ours: ours::$name,
+            upstream: upstreams::$name,
+            loops: None,
+            calls: Calls::$calls,
+        }
+    };
 }
 
-/// Asks of all positions and all.
-#[inline(always)]
-fn full(bits: usize, rounds: usize, ask: impl Fn(&[u64], &[u64]) -> usize) -> usize {
-    asked(filled(bits, 0, bits), filled(bits, 0, bits), rounds, ask)
-}
-
-/// The call of a set, and the loop in Rust for both processors.
+/// A call that changes a set, beside a loop.
 macro_rules! change {
-    (
-        $ours:ident, $call:ident,
-        |$bits:pat_param, $set:pat_param, $other:pat_param| ($($given:expr),*) $(,)?
-    ) => {
-        [
-            |bits, rounds| ours::$ours(bits, rounds),
-            |bits, rounds| {
+    ($shown:expr, $name:ident, |$bits:pat_param, $set:pat_param, $other:pat_param| $given:expr) => {
+        Call {
+            loops: Some(|bits, rounds| {
                 let $bits = bits;
-                changed(bits, rounds, |$set, $other| loops_v2::$call($($given),*))
-            },
-            |bits, rounds| {
-                let $bits = bits;
-                changed(bits, rounds, |$set, $other| loops_default::$call($($given),*))
-            },
-        ]
+                changed(bits, rounds, |$set, $other| $given)
+            }),
+            ..call!($shown, $name, One)
+        }
     };
 }
 
-/// The same of a question, asked of `halves` or `full`.
-macro_rules! question {
-    (
-        $ours:ident, $of:ident, $call:ident,
-        |$bits:pat_param, $set:pat_param, $other:pat_param| ($($given:expr),*) $(,)?
-    ) => {
-        [
-            |bits, rounds| ours::$ours(bits, rounds),
-            |bits, rounds| {
+/// A call that asks of the lower half of the positions and the upper one, beside a loop.
+macro_rules! halves {
+    ($shown:expr, $name:ident, |$bits:pat_param, $set:pat_param, $other:pat_param| $given:expr) => {
+        Call {
+            loops: Some(|bits, rounds| {
                 let $bits = bits;
-                $of(bits, rounds, |$set, $other| usize::from(loops_v2::$call($($given),*)))
-            },
-            |bits, rounds| {
-                let $bits = bits;
-                $of(bits, rounds, |$set, $other| usize::from(loops_default::$call($($given),*)))
-            },
-        ]
+                asked(bits, bits / 2, bits / 2, rounds, |$set, $other| {
+                    usize::from($given)
+                })
+            }),
+            ..call!($shown, $name, One)
+        }
     };
 }
 
-const RANGES: [(&str, [Rounds; 3]); 4] = [
-    (
-        "insert_range(..)",
-        change!(sets_insert_range, insert_range, |bits, set, _| (
-            set, 0, bits
-        )),
-    ),
-    (
-        "count_ones(..)",
-        question!(sets_count_ones, halves, count_ones, |bits, set, _| (
-            set, 0, bits
-        )),
-    ),
-    (
+/// A call that asks of all positions and all, beside a loop.
+macro_rules! full {
+    ($shown:expr, $name:ident, |$bits:pat_param, $set:pat_param, $other:pat_param| $given:expr) => {
+        Call {
+            loops: Some(|bits, rounds| {
+                let $bits = bits;
+                asked(bits, bits, 0, rounds, |$set, $other| usize::from($given))
+            }),
+            ..call!($shown, $name, One)
+        }
+    };
+}
+
+const WHOLE: [Call; 20] = [
+    change!("insert_range(..)", insert_range, |bits, set, _| {
+        loops::insert_range(set, 0, bits)
+    }),
+    change!("toggle_range(..)", toggle_range, |bits, set, _| {
+        loops::toggle_range(set, 0, bits)
+    }),
+    halves!("count_ones(..)", count_ones, |bits, set, _| {
+        loops::count_ones(set, 0, bits)
+    }),
+    full!(
         "contains_all_in_range(..)",
-        question!(
-            sets_contains_all_in_range,
-            full,
-            contains_all,
-            |bits, set, _| (set, 0, bits)
-        ),
+        contains_all_in_range,
+        |bits, set, _| { loops::contains_all(set, 0, bits) }
     ),
-    (
-        "toggle_range(..)",
-        change!(sets_toggle_range, toggle_range, |bits, set, _| (
-            set, 0, bits
-        )),
+    call!("contains_any_in_range(64..)", contains_any_in_range, One),
+    change!("union_with", union_with, |_, set, other| loops::apply_or(
+        set, other
+    )),
+    change!("intersect_with", intersect_with, |_, set, other| {
+        loops::apply_and(set, other)
+    }),
+    call!("intersect_with, beside 64 bits", intersect_with_short, One),
+    change!("difference_with", difference_with, |_, set, other| {
+        loops::apply_and_not(set, other)
+    }),
+    change!(
+        "symmetric_difference_with",
+        symmetric_difference_with,
+        |_, set, other| { loops::apply_xor(set, other) }
     ),
+    halves!("union_count", union_count, |_, set, other| loops::count_or(
+        set, other
+    )),
+    halves!("intersection_count", intersection_count, |_, set, other| {
+        loops::count_and(set, other)
+    }),
+    halves!("difference_count", difference_count, |_, set, other| {
+        loops::count_and_not(set, other)
+    }),
+    halves!(
+        "symmetric_difference_count",
+        symmetric_difference_count,
+        |_, set, other| { loops::count_xor(set, other) }
+    ),
+    halves!("is_disjoint", is_disjoint, |_, set, other| loops::none_and(
+        set, other
+    )),
+    full!("is_subset", is_subset, |_, set, other| loops::none_and_not(
+        set, other
+    )),
+    full!("is_superset", is_superset, |_, set, other| {
+        loops::none_and_not(set, other)
+    }),
+    call!("bitand", bitand, One),
+    call!("bitor", bitor, One),
+    call!("bitxor", bitxor, One),
 ];
 
-const PAIRS: [(&str, [Rounds; 3]); 11] = [
-    (
-        "union_with",
-        change!(sets_union_with, apply_or, |_, set, other| (set, other)),
-    ),
-    (
-        "intersect_with",
-        change!(sets_intersect_with, apply_and, |_, set, other| (set, other)),
-    ),
-    (
-        "difference_with",
-        change!(sets_difference_with, apply_and_not, |_, set, other| (
-            set, other
-        )),
-    ),
-    (
-        "symmetric_difference_with",
-        change!(
-            sets_symmetric_difference_with,
-            apply_xor,
-            |_, set, other| (set, other)
-        ),
-    ),
-    (
-        "union_count",
-        question!(sets_union_count, halves, count_or, |_, set, other| (
-            set, other
-        )),
-    ),
-    (
-        "intersection_count",
-        question!(
-            sets_intersection_count,
-            halves,
-            count_and,
-            |_, set, other| (set, other)
-        ),
-    ),
-    (
-        "difference_count",
-        question!(
-            sets_difference_count,
-            halves,
-            count_and_not,
-            |_, set, other| (set, other)
-        ),
-    ),
-    (
-        "symmetric_difference_count",
-        question!(
-            sets_symmetric_difference_count,
-            halves,
-            count_xor,
-            |_, set, other| (set, other)
-        ),
-    ),
-    (
-        "is_disjoint",
-        question!(sets_is_disjoint, halves, none_and, |_, set, other| (
-            set, other
-        )),
-    ),
-    (
-        "is_subset",
-        question!(sets_is_subset, full, none_and_not, |_, set, other| (
-            set, other
-        )),
-    ),
-    (
-        "is_superset",
-        question!(sets_is_superset, full, none_and_not, |_, set, other| (
-            set, other
-        )),
-    ),
+/// Calls of one position or one word, which are timed at the first length alone.
+const SINGLE: [Call; 3] = [
+    call!("contains", contains, EachPosition),
+    call!("put", put, EachPosition),
+    call!("grow by 64", grow, EachWord),
 ];
 
 /// The least time of a call on each side, in nanoseconds.
-fn least_times(bits: usize, sides: [Rounds; 3]) -> [f64; 3] {
-    let rounds = BATCH_WORDS / bits.div_ceil(64);
-    let mut least = [[f64::INFINITY; 2]; 3];
+fn least_times(bits: usize, call: &Call) -> [f64; 3] {
+    let calls = call.calls.of(bits);
+    let words = bits.div_ceil(64);
+    let rounds = BATCH_WORDS / words.max(calls);
+    let sides = [Some(call.ours), call.upstream, call.loops];
+    let mut least = sides.map(|side| {
+        [if side.is_some() {
+            f64::INFINITY
+        } else {
+            f64::NAN
+        }; 2]
+    });
     for _ in 0..BATCHES {
         for (times, side) in least.iter_mut().zip(sides) {
+            let Some(side) = side else { continue };
             for (time, rounds) in times.iter_mut().zip([0, rounds]) {
                 let start = Instant::now();
                 black_box(side(black_box(bits), rounds));
@@ -248,23 +264,28 @@ fn least_times(bits: usize, sides: [Rounds; 3]) -> [f64; 3] {
             }
         }
     }
-    least.map(|[none, all]| (all - none) / rounds as f64)
+    least.map(|[none, all]| (all - none) / (rounds * calls) as f64)
+}
+
+fn row(bits: usize, call: &Call) -> Row {
+    let name = call.name;
+    let answer = (call.ours)(bits, 3);
+    for other in [call.upstream, call.loops].into_iter().flatten() {
+        assert_eq!(other(bits, 3), answer, "{name}: the sides answer alike");
+    }
+    let [ours, upstream, loops] = least_times(bits, call);
+    Row {
+        call: format!("`{name}`, {bits} bits"),
+        ours,
+        upstream,
+        loops,
+    }
 }
 
 pub fn rows() -> Vec<Row> {
-    let mut rows = Vec::new();
-    for bits in BITS {
-        for (call, sides) in RANGES.into_iter().chain(PAIRS) {
-            let [answer, others @ ..] = sides.map(|side| side(bits, 3));
-            assert_eq!(others, [answer; 2], "{call}: the sides answer alike");
-            let [ours, rust_v2, rust_default] = least_times(bits, sides);
-            rows.push(Row {
-                call: format!("`{call}`, {bits} bits"),
-                ours,
-                rust_v2,
-                rust_default,
-            });
-        }
-    }
-    rows
+    let single = SINGLE.iter().map(|call| row(BITS[0], call));
+    let whole = BITS
+        .iter()
+        .flat_map(|&bits| WHOLE.iter().map(move |call| row(bits, call)));
+    single.chain(whole).collect()
 }

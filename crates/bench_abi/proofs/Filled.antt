@@ -1,11 +1,11 @@
 -- A write that leaves a set as it is, and the positions of a filled set.
-use Rattle.std.proofs.Common.{◌≡◌, ◌∙◌, ℕ, suc, ◌+◌, ◌<◌, ◌≤◌, ◌&&◌, ◌||◌, ◌==◌, Bool, true, false, cond, nat_lt, IsTrue, refl, ap, arith}
+use Rattle.std.proofs.Common.{◌≡◌, ◌∙◌, ℕ, zero, suc, ◌+◌, ◌*◌, ◌<◌, ◌≤◌, ◌&&◌, ◌||◌, ◌==◌, Bool, true, false, cond, if◌then◌else◌, nat_lt, IsTrue, refl, ap, arith}
 use Rattle.std.proofs.lemmas.Bool.{lt-ltb, le-leb, eqb-true, and_from}
-use Rattle.fixedbitset.specs.Bits.{Bits, contains, empty, insert}
+use Rattle.fixedbitset.specs.Bits.{Bits, contains, empty, insert, grow}
 use Rattle.fixedbitset.specs.BitsFacts.{same_bits, length-insert, contains-insert, contains_below, length-empty}
 use Rattle.fixedbitset.specs.Ranges.{in_range}
 use Rattle.fixedbitset.specs.RangesFacts.{contains-insert_range}
-use Rattle.bench_abi.specs.Rounds.{filled, after}
+use Rattle.bench_abi.specs.Rounds.{filled, after, put_below, how_many, grown}
 
 kept : (e c l : Bool) → (c ≡ true → l ≡ true) → (e ≡ true → c ≡ true) → ((e || c) && l) ≡ c
 kept true true l h k = h refl
@@ -39,3 +39,26 @@ contains_filled bits end bit within inside =
 
 pub after_next : (step : Bits → Bits) (n : ℕ) (v : Bits) → after step (n + 1) v ≡ step (after step n v)
 after_next step n v = let one_more : n + 1 ≡ suc n = omega arith in ap (λ k. after step k v) one_more
+
+-- ---- one position or one word more
+
+pub put_next : (v : Bits) (n : ℕ) → put_below v (n + 1) ≡ insert (put_below v n) n
+put_next v n = let one_more : n + 1 ≡ suc n = omega arith in ap (put_below v) one_more
+
+pub length_put : (v : Bits) (n : ℕ) → (put_below v n).length ≡ v.length
+length_put v zero = refl
+length_put v (suc n) = length-insert (put_below v n) n ∙ length_put v n
+
+pub many_next : (v : Bits) (n : ℕ) → how_many v (n + 1) ≡ how_many v n + (if contains v n then 1 else 0)
+many_next v n = let one_more : n + 1 ≡ suc n = omega arith in ap (how_many v) one_more
+
+at_most_one : (b : Bool) → (if b then 1 else 0) ≤ 1
+at_most_one true = omega arith
+at_most_one false = omega arith
+
+pub many_most : (v : Bits) (n : ℕ) → how_many v n ≤ n
+many_most v zero = omega arith
+many_most v (suc n) = omega (arith, many_most v n, at_most_one (contains v n))
+
+pub grown_next : (n : ℕ) → grown (n + 1) ≡ grow (grown n) (64 * (n + 1))
+grown_next n = let one_more : n + 1 ≡ suc n = omega arith in ap grown one_more

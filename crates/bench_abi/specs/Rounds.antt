@@ -1,6 +1,6 @@
 -- What so many rounds of one call make of a set.
-use Rattle.std.specs.Prelude.{ℕ, zero, suc, ◌/◌}
-use Rattle.fixedbitset.specs.Bits.{Bits, empty}
+use Rattle.std.specs.Prelude.{ℕ, zero, suc, ◌+◌, ◌*◌, ◌/◌, if◌then◌else◌}
+use Rattle.fixedbitset.specs.Bits.{Bits, empty, contains, insert, grow}
 use Rattle.fixedbitset.specs.Ranges.{insert_range, count_ones}
 
 -- length `bits`, and the positions from start up to and without end
@@ -27,3 +27,18 @@ size v = count_ones v 0 v.length
 abbrev pub after : (Bits → Bits) → ℕ → Bits → Bits
 after step zero v = v
 after step (suc n) v = step (after step n v)
+
+-- what is left after each position below n is put
+abbrev pub put_below : Bits → ℕ → Bits
+put_below v zero = v
+put_below v (suc n) = insert (put_below v n) n
+
+-- how many positions below n are set
+abbrev pub how_many : Bits → ℕ → ℕ
+how_many v zero = 0
+how_many v (suc n) = how_many v n + (if contains v n then 1 else 0)
+
+-- a set that grew from none to 64 positions, to 128 and so on, n times
+abbrev pub grown : ℕ → Bits
+grown zero = empty 0
+grown (suc n) = grow (grown n) (64 * (n + 1))

@@ -1,8 +1,8 @@
-//! The kernels under C names, and in `sets` the calls of a set, for the program in bench/ that times them. Nothing else
-//! uses it.
+//! The kernels under C names, and in `changes`, `questions` and `growing` the calls of a set, for the program in
+//! bench/ that times them. Nothing else uses it.
 //!
-//! Each slice of a kernel is the first words of an array of `MOST`, with its length beside it. A slice itself would be tested for
-//! null as it comes from C, which the kernels as Rattle calls them do not pay.
+//! Each slice of a kernel is the first words of an array of `MOST`, with its length beside it. A slice itself
+//! would be tested for null as it comes from C, which the kernels as Rattle calls them do not pay.
 #![tactic(auto)]
 
 ghost use Rattle.std.specs.Prelude.{◌≡◌, ◌<◌, ◌≤◌, ◌^◌, ◌==◌, ◌++◌, take, drop, sum_by, replicate, bit_and, bit_or};
@@ -11,6 +11,9 @@ ghost use Rattle.std.specs.Int.RustNames.{count_ones};
 ghost use Rattle.std.specs.Simd.Lanes.{zip2};
 ghost use Rattle.bitlanes.specs.Words.{merge};
 
+pub mod changes;
+pub mod growing;
+pub mod questions;
 pub mod sets;
 
 use bitlanes::ops::{And, Or};

@@ -4,7 +4,7 @@
 //! take `m / 4 + m % 4` steps. The kernels are the only loops of calls on whole sets.
 //!
 //! Of two slices a kernel reads as many words as the shorter one has.
-ghost use Rattle.std.specs.Prelude.{◌≡◌, ◌+◌, ◌-◌, ◌^◌, ◌<◌, ◌≤◌, ◌==◌, length, min, slice_index, sum, sum_by, replicate, drop, map, true, false, IsTrue};
+ghost use Rattle.std.specs.Prelude.{◌≡◌, ◌+◌, ◌-◌, ◌^◌, ◌<◌, ◌≤◌, ◌==◌, length, min, slice_index, sum_by, replicate, drop, map, true, false, IsTrue};
 ghost use Rattle.std.specs.List.{list_all};
 ghost use Rattle.std.specs.Int.RustNames.{count_ones};
 ghost use Rattle.std.specs.Simd.Lanes.{zip2, chunk, put_chunk};
@@ -52,12 +52,11 @@ pub fn count<O: WordOp>(a: &[Block], b: &[Block], steps: &mut Steps) -> usize
 {
     let words = a.len().min(b.len());
     let lanes = words / LANE;
-    let mut totals = [0; LANE];
+    let mut total = 0;
     for lane in 0..lanes {
         steps.tick();
-        add_ones(&mut totals, lane_at::<O>(a, b, LANE * lane));
+        total += ones_at::<O>(a, b, LANE * lane);
     }
-    let mut total = total_of(&totals);
     for word in 0..words % LANE {
         steps.tick();
         total += word_at::<O>(a, b, LANE * lanes + word).count_ones() as usize;
@@ -261,27 +260,20 @@ fn word_at<O: WordOp>(a: &[Block], b: &[Block], at: usize) -> Block
     O::word(a[at], b[at])
 }
 
-// Adds to each total the number of bits in its word of the lane. There are four totals, so that the words of a lane
-// can be counted side by side.
+// How many bits are set in the four joined words from `at` on. The words are joined one by one, since their bits are
+// counted one by one.
 #[inline(always)]
-fn add_ones(totals: &mut [usize; LANE], lane: u64x4)
-    requires { sum totals.old + sum_by count_ones lane < 2 ^ 64 }
-    ensures { sum totals.new ≡ sum totals.old + sum_by count_ones lane }
+fn ones_at<O: WordOp>(a: &[Block], b: &[Block], at: usize) -> usize
+    requires in_a { at + 4 ≤ length a.now }
+    requires in_b { at + 4 ≤ length b.now }
+    ensures { result ≡ sum_by count_ones (chunk at 4 (zip2 O.joined a.now b.now)) }
 {
-    let [first, second, third, fourth] = lane.to_array();
-    totals[0] += first.count_ones() as usize;
-    totals[1] += second.count_ones() as usize;
-    totals[2] += third.count_ones() as usize;
-    totals[3] += fourth.count_ones() as usize;
-}
-
-// The sum of the totals.
-#[inline(always)]
-fn total_of(totals: &[usize; LANE]) -> usize
-    requires { sum totals.now < 2 ^ 64 }
-    ensures { result ≡ sum totals.now }
-{
-    totals[0] + totals[1] + totals[2] + totals[3]
+    ones_in([
+        word_at::<O>(a, b, at),
+        word_at::<O>(a, b, at + 1),
+        word_at::<O>(a, b, at + 2),
+        word_at::<O>(a, b, at + 3),
+    ])
 }
 
 // How many bits are set in four words.

@@ -1,6 +1,6 @@
 use Rattle.std.proofs.Common.{◌≡◌, ◌∙◌, sym, ap, refl, rules}
 use Rattle.bench_abi.proofs.Filled.{after_next}
-use Rattle.bench_abi.proofs.sets.change_for.Goals as goal
+use Rattle.bench_abi.proofs.changes.change_for.Goals as goal
 
 pub loop-round-init : goal.loop-round-init
 loop-round-init g c = refl

@@ -1,5 +1,5 @@
 use Rattle.std.proofs.Common.{◌≡◌}
-use Rattle.bench_abi.proofs.sets.ask_for.Given as goal
+use Rattle.bench_abi.proofs.questions.ask_for.Given as goal
 
 abbrev pub invariant-loop-round : goal.invariant-loop-round
 invariant-loop-round g l = record {

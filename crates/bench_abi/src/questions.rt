@@ -1,0 +1,364 @@
+//! Calls that ask a set or make a new one, under C names, each made for so many rounds.
+
+ghost use Rattle.std.specs.Prelude.{◌≡◌, ℕ, ◌-◌, ◌/◌, ◌^◌, ◌<◌, ◌≤◌, ◌==◌, ◌↔◌, min, IsTrue, IfOk};
+ghost use Rattle.fixedbitset.specs.Bits.{Bits, contains};
+ghost use Rattle.fixedbitset.specs.Ranges as ranges;
+ghost use Rattle.fixedbitset.specs.TwoSets as sets;
+ghost use Rattle.bench_abi.specs.Rounds.{filled, lower, upper, full, how_many};
+
+use crate::sets::{REFUSED, filled};
+use fixedbitset::FixedBitSet;
+use std::alloc::{AllocError, Global};
+
+/// A call that asks a set.
+trait Question {
+    /// Which answers it may give, of the set and the other set.
+    ghost Answers: { Bits → Bits → ℕ → Type 0 };
+
+    fn ask(set: &FixedBitSet, other: &FixedBitSet) -> usize
+        ensures { Answers set.now other.now result };
+}
+
+struct CountOnes;
+
+impl Question for CountOnes {
+    ghost Answers = { λ v w answer. answer ≡ ranges.count_ones v 0 v.length };
+
+    #[inline(never)]
+    fn ask(set: &FixedBitSet, _other: &FixedBitSet) -> usize {
+        set.count_ones(..)
+    }
+}
+
+struct ContainsAll;
+
+impl Question for ContainsAll {
+    ghost Answers = { λ v w answer. IsTrue (answer == 1) ↔ ranges.ContainsAll v 0 v.length };
+
+    #[inline(never)]
+    fn ask(set: &FixedBitSet, _other: &FixedBitSet) -> usize {
+        usize::from(set.contains_all_in_range(..))
+    }
+}
+
+struct UnionCount;
+
+impl Question for UnionCount {
+    ghost Answers = { λ v w answer. answer ≡ sets.union_count v w };
+
+    #[inline(never)]
+    fn ask(set: &FixedBitSet, other: &FixedBitSet) -> usize {
+        set.union_count(other)
+    }
+}
+
+struct IntersectionCount;
+
+impl Question for IntersectionCount {
+    ghost Answers = { λ v w answer. answer ≡ sets.intersection_count v w };
+
+    #[inline(never)]
+    fn ask(set: &FixedBitSet, other: &FixedBitSet) -> usize {
+        set.intersection_count(other)
+    }
+}
+
+struct DifferenceCount;
+
+impl Question for DifferenceCount {
+    ghost Answers = { λ v w answer. answer ≡ sets.difference_count v w };
+
+    #[inline(never)]
+    fn ask(set: &FixedBitSet, other: &FixedBitSet) -> usize {
+        set.difference_count(other)
+    }
+}
+
+struct SymmetricDifferenceCount;
+
+impl Question for SymmetricDifferenceCount {
+    ghost Answers = { λ v w answer. answer ≡ sets.symmetric_difference_count v w };
+
+    #[inline(never)]
+    fn ask(set: &FixedBitSet, other: &FixedBitSet) -> usize {
+        set.symmetric_difference_count(other)
+    }
+}
+
+struct IsDisjoint;
+
+impl Question for IsDisjoint {
+    ghost Answers = { λ v w answer. IsTrue (answer == 1) ↔ sets.IsDisjoint v w };
+
+    #[inline(never)]
+    fn ask(set: &FixedBitSet, other: &FixedBitSet) -> usize {
+        usize::from(set.is_disjoint(other))
+    }
+}
+
+struct IsSubset;
+
+impl Question for IsSubset {
+    ghost Answers = { λ v w answer. IsTrue (answer == 1) ↔ sets.IsSubset v w };
+
+    #[inline(never)]
+    fn ask(set: &FixedBitSet, other: &FixedBitSet) -> usize {
+        usize::from(set.is_subset(other))
+    }
+}
+
+struct IsSuperset;
+
+impl Question for IsSuperset {
+    ghost Answers = { λ v w answer. IsTrue (answer == 1) ↔ sets.IsSubset v w };
+
+    #[inline(never)]
+    fn ask(set: &FixedBitSet, other: &FixedBitSet) -> usize {
+        usize::from(other.is_superset(set))
+    }
+}
+
+/// `contains_any_in_range` from position 64 on.
+struct ContainsAny;
+
+impl Question for ContainsAny {
+    ghost Answers = { λ v w answer. IsTrue (answer == 1) ↔ ranges.ContainsAny v (min 64 v.length) v.length };
+
+    #[inline(never)]
+    fn ask(set: &FixedBitSet, _other: &FixedBitSet) -> usize {
+        let start = set.len().min(64);
+        usize::from(set.contains_any_in_range(start..))
+    }
+}
+
+/// `contains` of each position: how many are set.
+struct ContainsEach;
+
+impl Question for ContainsEach {
+    ghost Answers = { λ v w answer. answer ≡ how_many v v.length };
+
+    #[tactic(auto, using(crate::proofs::Filled::many_next, crate::proofs::Filled::many_most))]
+    fn ask(set: &FixedBitSet, _other: &FixedBitSet) -> usize {
+        let mut total = 0;
+        for bit in 0..set.len() {
+            total += usize::from(contains(set, bit));
+        }
+        total
+    }
+}
+
+#[inline(never)]
+fn contains(set: &FixedBitSet, bit: usize) -> bool
+    ensures { result ≡ contains set.now bit }
+{
+    set.contains(bit)
+}
+
+struct BitAnd;
+
+impl Question for BitAnd {
+    ghost Answers = { λ v w answer. answer < 2 → (IsTrue (answer == 1) ↔ IsTrue (contains (sets.bitand v w) 0)) };
+
+    #[inline(never)]
+    fn ask(set: &FixedBitSet, other: &FixedBitSet) -> usize {
+        match set.bitand(other) {
+            Ok(made) => usize::from(made.contains(0)),
+            Err(_) => REFUSED,
+        }
+    }
+}
+
+struct BitOr;
+
+impl Question for BitOr {
+    ghost Answers = { λ v w answer. answer < 2 → (IsTrue (answer == 1) ↔ IsTrue (contains (sets.union v w) 0)) };
+
+    #[inline(never)]
+    fn ask(set: &FixedBitSet, other: &FixedBitSet) -> usize {
+        match set.bitor(other) {
+            Ok(made) => usize::from(made.contains(0)),
+            Err(_) => REFUSED,
+        }
+    }
+}
+
+struct BitXor;
+
+impl Question for BitXor {
+    ghost Answers = { λ v w answer. answer < 2 → (IsTrue (answer == 1) ↔ IsTrue (contains (sets.symmetric_difference v w) 0)) };
+
+    #[inline(never)]
+    fn ask(set: &FixedBitSet, other: &FixedBitSet) -> usize {
+        match set.bitxor(other) {
+            Ok(made) => usize::from(made.contains(0)),
+            Err(_) => REFUSED,
+        }
+    }
+}
+
+// Asks once, and then again for so many rounds. Each round begins with a write that leaves the set as it is, so that its
+// answer cannot be taken from the round before.
+#[inline(always)]
+#[tactic(auto, using(crate::proofs::Filled::insert_again, crate::proofs::Filled::contained_below))]
+fn ask_for<Q: Question>(set: &mut FixedBitSet, other: &FixedBitSet, rounds: usize) -> usize
+    requires { (bit : ℕ) → bit < 64 → IsTrue (contains set.old bit) }
+    ensures same { set.new ≡ set.old }
+    ensures answer { Q.Answers set.old other.now result }
+{
+    let mut answer = Q::ask(set, other);
+    for round in 0..rounds {
+        set.insert(round % 64);
+        answer = Q::ask(set, other);
+    }
+    answer
+}
+
+// Asks of the positions below `end` and those from `start` on, for so many rounds after a first one.
+#[inline(always)]
+#[tactic(auto, using(crate::proofs::Filled::contains_filled))]
+fn asked<Q: Question>(
+    alloc: Global,
+    bits: usize,
+    end: usize,
+    start: usize,
+    rounds: usize,
+) -> Result<usize, AllocError>
+    requires written { 64 ≤ end }
+    requires within { end ≤ bits }
+    requires other { start ≤ bits }
+    ensures { IfOk result (λ answer. Q.Answers (filled bits 0 end) (filled bits start bits) answer) }
+{
+    let mut set = filled(alloc, bits, 0, end)?;
+    let other = filled(alloc, bits, start, bits)?;
+    Ok(ask_for::<Q>(&mut set, &other, rounds))
+}
+
+/// `count_ones(..)`, of the lower half of the positions.
+#[unsafe(no_mangle)]
+pub extern "C" fn sets_count_ones(alloc: Global, bits: usize, rounds: usize) -> usize
+    requires { 128 ≤ bits }
+    ensures { result < 2 ^ 64 - 1 → result ≡ ranges.count_ones (lower bits) 0 (lower bits).length }
+{
+    asked::<CountOnes>(alloc, bits, bits / 2, bits / 2, rounds).unwrap_or(REFUSED)
+}
+
+/// `contains_all_in_range(..)`, of all positions: 1 where it answers `true`.
+#[unsafe(no_mangle)]
+pub extern "C" fn sets_contains_all_in_range(alloc: Global, bits: usize, rounds: usize) -> usize
+    requires { 64 ≤ bits }
+    ensures { result < 2 ^ 64 - 1 → (IsTrue (result == 1) ↔ ranges.ContainsAll (full bits) 0 (full bits).length) }
+{
+    asked::<ContainsAll>(alloc, bits, bits, 0, rounds).unwrap_or(REFUSED)
+}
+
+/// `union_count`, of the lower half of the positions and the upper one.
+#[unsafe(no_mangle)]
+pub extern "C" fn sets_union_count(alloc: Global, bits: usize, rounds: usize) -> usize
+    requires { 128 ≤ bits }
+    ensures { result < 2 ^ 64 - 1 → result ≡ sets.union_count (lower bits) (upper bits) }
+{
+    asked::<UnionCount>(alloc, bits, bits / 2, bits / 2, rounds).unwrap_or(REFUSED)
+}
+
+/// `intersection_count`, of the lower half of the positions and the upper one.
+#[unsafe(no_mangle)]
+pub extern "C" fn sets_intersection_count(alloc: Global, bits: usize, rounds: usize) -> usize
+    requires { 128 ≤ bits }
+    ensures { result < 2 ^ 64 - 1 → result ≡ sets.intersection_count (lower bits) (upper bits) }
+{
+    asked::<IntersectionCount>(alloc, bits, bits / 2, bits / 2, rounds).unwrap_or(REFUSED)
+}
+
+/// `difference_count`, of the lower half of the positions and the upper one.
+#[unsafe(no_mangle)]
+pub extern "C" fn sets_difference_count(alloc: Global, bits: usize, rounds: usize) -> usize
+    requires { 128 ≤ bits }
+    ensures { result < 2 ^ 64 - 1 → result ≡ sets.difference_count (lower bits) (upper bits) }
+{
+    asked::<DifferenceCount>(alloc, bits, bits / 2, bits / 2, rounds).unwrap_or(REFUSED)
+}
+
+/// `symmetric_difference_count`, of the lower half of the positions and the upper one.
+#[unsafe(no_mangle)]
+pub extern "C" fn sets_symmetric_difference_count(
+    alloc: Global,
+    bits: usize,
+    rounds: usize,
+) -> usize
+    requires { 128 ≤ bits }
+    ensures { result < 2 ^ 64 - 1 → result ≡ sets.symmetric_difference_count (lower bits) (upper bits) }
+{
+    asked::<SymmetricDifferenceCount>(alloc, bits, bits / 2, bits / 2, rounds).unwrap_or(REFUSED)
+}
+
+/// `is_disjoint`, of the lower half of the positions and the upper one: 1 where it answers `true`.
+#[unsafe(no_mangle)]
+pub extern "C" fn sets_is_disjoint(alloc: Global, bits: usize, rounds: usize) -> usize
+    requires { 128 ≤ bits }
+    ensures { result < 2 ^ 64 - 1 → (IsTrue (result == 1) ↔ sets.IsDisjoint (lower bits) (upper bits)) }
+{
+    asked::<IsDisjoint>(alloc, bits, bits / 2, bits / 2, rounds).unwrap_or(REFUSED)
+}
+
+/// `is_subset`, of all positions and all: 1 where it answers `true`.
+#[unsafe(no_mangle)]
+pub extern "C" fn sets_is_subset(alloc: Global, bits: usize, rounds: usize) -> usize
+    requires { 64 ≤ bits }
+    ensures { result < 2 ^ 64 - 1 → (IsTrue (result == 1) ↔ sets.IsSubset (full bits) (full bits)) }
+{
+    asked::<IsSubset>(alloc, bits, bits, 0, rounds).unwrap_or(REFUSED)
+}
+
+/// `is_superset`, of all positions and all: 1 where it answers `true`.
+#[unsafe(no_mangle)]
+pub extern "C" fn sets_is_superset(alloc: Global, bits: usize, rounds: usize) -> usize
+    requires { 64 ≤ bits }
+    ensures { result < 2 ^ 64 - 1 → (IsTrue (result == 1) ↔ sets.IsSubset (full bits) (full bits)) }
+{
+    asked::<IsSuperset>(alloc, bits, bits, 0, rounds).unwrap_or(REFUSED)
+}
+
+/// `contains_any_in_range(64..)`, of the first 64 positions: 1 where it answers `true`.
+#[unsafe(no_mangle)]
+pub extern "C" fn sets_contains_any_in_range(alloc: Global, bits: usize, rounds: usize) -> usize
+    requires { 64 ≤ bits }
+    ensures { result < 2 ^ 64 - 1 → (IsTrue (result == 1) ↔ ranges.ContainsAny (filled bits 0 64) (min 64 (filled bits 0 64).length) (filled bits 0 64).length) }
+{
+    asked::<ContainsAny>(alloc, bits, 64, bits, rounds).unwrap_or(REFUSED)
+}
+
+/// `contains` of each position in turn, a round being all of them, of the lower half: how many are set.
+#[unsafe(no_mangle)]
+pub extern "C" fn sets_contains(alloc: Global, bits: usize, rounds: usize) -> usize
+    requires { 128 ≤ bits }
+    ensures { result < 2 ^ 64 - 1 → result ≡ how_many (lower bits) (lower bits).length }
+{
+    asked::<ContainsEach>(alloc, bits, bits / 2, bits / 2, rounds).unwrap_or(REFUSED)
+}
+
+/// `bitand`, a new set, of the lower half of the positions and the upper one: 1 where position 0 is in it.
+#[unsafe(no_mangle)]
+pub extern "C" fn sets_bitand(alloc: Global, bits: usize, rounds: usize) -> usize
+    requires { 128 ≤ bits }
+    ensures { result < 2 → (IsTrue (result == 1) ↔ IsTrue (contains (sets.bitand (lower bits) (upper bits)) 0)) }
+{
+    asked::<BitAnd>(alloc, bits, bits / 2, bits / 2, rounds).unwrap_or(REFUSED)
+}
+
+/// `bitor`, a new set, of the lower half of the positions and the upper one: 1 where position 0 is in it.
+#[unsafe(no_mangle)]
+pub extern "C" fn sets_bitor(alloc: Global, bits: usize, rounds: usize) -> usize
+    requires { 128 ≤ bits }
+    ensures { result < 2 → (IsTrue (result == 1) ↔ IsTrue (contains (sets.union (lower bits) (upper bits)) 0)) }
+{
+    asked::<BitOr>(alloc, bits, bits / 2, bits / 2, rounds).unwrap_or(REFUSED)
+}
+
+/// `bitxor`, a new set, of the lower half of the positions and the upper one: 1 where position 0 is in it.
+#[unsafe(no_mangle)]
+pub extern "C" fn sets_bitxor(alloc: Global, bits: usize, rounds: usize) -> usize
+    requires { 128 ≤ bits }
+    ensures { result < 2 → (IsTrue (result == 1) ↔ IsTrue (contains (sets.symmetric_difference (lower bits) (upper bits)) 0)) }
+{
+    asked::<BitXor>(alloc, bits, bits / 2, bits / 2, rounds).unwrap_or(REFUSED)
+}
