@@ -3,7 +3,7 @@ use Rattle.std.proofs.Common.{◌≡◌, ◌∙◌, ℕ, zero, suc, ◌+◌, ◌
 use Rattle.std.proofs.lemmas.Bool.{lt-ltb, le-leb, eqb-true, and_from}
 use Rattle.fixedbitset.specs.Bits.{Bits, contains, empty, insert, grow}
 use Rattle.fixedbitset.specs.BitsFacts.{same_bits, length-insert, contains-insert, contains_below, length-empty}
-use Rattle.fixedbitset.specs.Ranges.{in_range}
+use Rattle.bitwords.specs.Rows.{in_range}
 use Rattle.fixedbitset.specs.RangesFacts.{contains-insert_range}
 use Rattle.bench_abi.specs.Rounds.{filled, after, put_below, how_many, grown}
 

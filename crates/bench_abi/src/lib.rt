@@ -5,11 +5,11 @@
 //! would be tested for null as it comes from C, which the kernels as Rattle calls them do not pay.
 #![tactic(auto)]
 
-ghost use Rattle.std.specs.Prelude.{◌≡◌, ◌<◌, ◌≤◌, ◌^◌, ◌==◌, ◌++◌, take, drop, sum_by, replicate, bit_and, bit_or};
+ghost use Rattle.std.specs.Prelude.{◌≡◌, ◌<◌, ◌≤◌, ◌^◌, ◌==◌, ◌++◌, true, false, take, drop, sum_by, replicate, bit_and, bit_or};
 ghost use Rattle.std.specs.List.{list_all};
 ghost use Rattle.std.specs.Int.RustNames.{count_ones};
 ghost use Rattle.std.specs.Simd.Lanes.{zip2};
-ghost use Rattle.bitlanes.specs.Words.{merge};
+ghost use Rattle.bitlanes.specs.Words.{zip_longest};
 
 pub mod changes;
 pub mod growing;
@@ -32,7 +32,7 @@ pub extern "C" fn bitlanes_apply_or(
 )
     requires in_dst { dst_len ≤ 15625 }
     requires in_src { src_len ≤ 15625 }
-    ensures { dst.new ≡ merge bit_or (take dst_len dst.old) (take src_len src.now) ++ drop dst_len dst.old }
+    ensures { dst.new ≡ zip_longest bit_or true false (take dst_len dst.old) (take src_len src.now) ++ drop dst_len dst.old }
 {
     lanes::apply::<Or>(&mut dst[..dst_len], &src[..src_len], &mut Steps::new());
 }

@@ -33,7 +33,7 @@ impl Question for CountOnes {
 struct ContainsAll;
 
 impl Question for ContainsAll {
-    ghost Answers = { λ v w answer. IsTrue (answer == 1) ↔ ranges.ContainsAll v 0 v.length };
+    ghost Answers = { λ v w answer. (answer == 1) ≡ ranges.contains_all v 0 v.length };
 
     #[inline(never)]
     fn ask(set: &FixedBitSet, _other: &FixedBitSet) -> usize {
@@ -88,7 +88,7 @@ impl Question for SymmetricDifferenceCount {
 struct IsDisjoint;
 
 impl Question for IsDisjoint {
-    ghost Answers = { λ v w answer. IsTrue (answer == 1) ↔ sets.IsDisjoint v w };
+    ghost Answers = { λ v w answer. (answer == 1) ≡ sets.is_disjoint v w };
 
     #[inline(never)]
     fn ask(set: &FixedBitSet, other: &FixedBitSet) -> usize {
@@ -99,7 +99,7 @@ impl Question for IsDisjoint {
 struct IsSubset;
 
 impl Question for IsSubset {
-    ghost Answers = { λ v w answer. IsTrue (answer == 1) ↔ sets.IsSubset v w };
+    ghost Answers = { λ v w answer. (answer == 1) ≡ sets.is_subset v w };
 
     #[inline(never)]
     fn ask(set: &FixedBitSet, other: &FixedBitSet) -> usize {
@@ -110,7 +110,7 @@ impl Question for IsSubset {
 struct IsSuperset;
 
 impl Question for IsSuperset {
-    ghost Answers = { λ v w answer. IsTrue (answer == 1) ↔ sets.IsSubset v w };
+    ghost Answers = { λ v w answer. (answer == 1) ≡ sets.is_subset v w };
 
     #[inline(never)]
     fn ask(set: &FixedBitSet, other: &FixedBitSet) -> usize {
@@ -122,7 +122,7 @@ impl Question for IsSuperset {
 struct ContainsAny;
 
 impl Question for ContainsAny {
-    ghost Answers = { λ v w answer. IsTrue (answer == 1) ↔ ranges.ContainsAny v (min 64 v.length) v.length };
+    ghost Answers = { λ v w answer. (answer == 1) ≡ ranges.contains_any v (min 64 v.length) v.length };
 
     #[inline(never)]
     fn ask(set: &FixedBitSet, _other: &FixedBitSet) -> usize {
@@ -246,7 +246,7 @@ pub extern "C" fn sets_count_ones(alloc: Global, bits: usize, rounds: usize) -> 
 #[unsafe(no_mangle)]
 pub extern "C" fn sets_contains_all_in_range(alloc: Global, bits: usize, rounds: usize) -> usize
     requires { 64 ≤ bits }
-    ensures { result < 2 ^ 64 - 1 → (IsTrue (result == 1) ↔ ranges.ContainsAll (full bits) 0 (full bits).length) }
+    ensures { result < 2 ^ 64 - 1 → (result == 1) ≡ ranges.contains_all (full bits) 0 (full bits).length }
 {
     asked::<ContainsAll>(alloc, bits, bits, 0, rounds).unwrap_or(REFUSED)
 }
@@ -295,7 +295,7 @@ pub extern "C" fn sets_symmetric_difference_count(
 #[unsafe(no_mangle)]
 pub extern "C" fn sets_is_disjoint(alloc: Global, bits: usize, rounds: usize) -> usize
     requires { 128 ≤ bits }
-    ensures { result < 2 ^ 64 - 1 → (IsTrue (result == 1) ↔ sets.IsDisjoint (lower bits) (upper bits)) }
+    ensures { result < 2 ^ 64 - 1 → (result == 1) ≡ sets.is_disjoint (lower bits) (upper bits) }
 {
     asked::<IsDisjoint>(alloc, bits, bits / 2, bits / 2, rounds).unwrap_or(REFUSED)
 }
@@ -304,7 +304,7 @@ pub extern "C" fn sets_is_disjoint(alloc: Global, bits: usize, rounds: usize) ->
 #[unsafe(no_mangle)]
 pub extern "C" fn sets_is_subset(alloc: Global, bits: usize, rounds: usize) -> usize
     requires { 64 ≤ bits }
-    ensures { result < 2 ^ 64 - 1 → (IsTrue (result == 1) ↔ sets.IsSubset (full bits) (full bits)) }
+    ensures { result < 2 ^ 64 - 1 → (result == 1) ≡ sets.is_subset (full bits) (full bits) }
 {
     asked::<IsSubset>(alloc, bits, bits, 0, rounds).unwrap_or(REFUSED)
 }
@@ -313,7 +313,7 @@ pub extern "C" fn sets_is_subset(alloc: Global, bits: usize, rounds: usize) -> u
 #[unsafe(no_mangle)]
 pub extern "C" fn sets_is_superset(alloc: Global, bits: usize, rounds: usize) -> usize
     requires { 64 ≤ bits }
-    ensures { result < 2 ^ 64 - 1 → (IsTrue (result == 1) ↔ sets.IsSubset (full bits) (full bits)) }
+    ensures { result < 2 ^ 64 - 1 → (result == 1) ≡ sets.is_subset (full bits) (full bits) }
 {
     asked::<IsSuperset>(alloc, bits, bits, 0, rounds).unwrap_or(REFUSED)
 }
@@ -322,7 +322,7 @@ pub extern "C" fn sets_is_superset(alloc: Global, bits: usize, rounds: usize) ->
 #[unsafe(no_mangle)]
 pub extern "C" fn sets_contains_any_in_range(alloc: Global, bits: usize, rounds: usize) -> usize
     requires { 64 ≤ bits }
-    ensures { result < 2 ^ 64 - 1 → (IsTrue (result == 1) ↔ ranges.ContainsAny (filled bits 0 64) (min 64 (filled bits 0 64).length) (filled bits 0 64).length) }
+    ensures { result < 2 ^ 64 - 1 → (result == 1) ≡ ranges.contains_any (filled bits 0 64) (min 64 (filled bits 0 64).length) (filled bits 0 64).length }
 {
     asked::<ContainsAny>(alloc, bits, 64, bits, rounds).unwrap_or(REFUSED)
 }
