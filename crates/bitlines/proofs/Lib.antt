@@ -3,4 +3,3 @@ pub mod FirstBytes
 pub mod Outputs
 pub mod Numbers
 pub mod EndLetters
-pub mod Dots
