@@ -3,5 +3,4 @@ pub mod FirstBytes
 pub mod Outputs
 pub mod Numbers
 pub mod EndLetters
-pub mod Dots
 pub mod OneOutput

@@ -79,7 +79,7 @@ fn range_in(args: &mut Words<'_>) -> Result<Span, LineFault>
 }
 
 // Two bounds with two dots between them.
-#[tactic(auto, unfolding(crate::specs::Arguments::range_of), using(crate::proofs::LineSplits::rest_from, crate::proofs::Dots::dot_outside))]
+#[tactic(auto, unfolding(crate::specs::Arguments::range_of), using(std::proofs::lemmas::List::take_rest, std::proofs::lemmas::List::get_or_past))]
 fn range(word: &[u8]) -> Result<Span, LineFault>
     ensures { Reads false (λ r. (r.start, r.end)) result (range_of word.now) }
 {
