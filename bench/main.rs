@@ -30,6 +30,7 @@ unsafe extern "C" {
 /// Prints the times alone, or with a file of such times the tables of the least of both.
 fn main() {
     black_box(&raw const shift_end);
+    memory::keep_freed();
     let mut sets = sets::rows();
     let mut kernels = kernels::rows();
     let Some(file) = std::env::args().nth(1) else {
@@ -41,8 +42,5 @@ fn main() {
     for (row, line) in sets.iter_mut().chain(&mut kernels).zip(times.lines()) {
         row.take_less(line);
     }
-    println!("Calls of a set:\n");
-    table::print_table(&sets);
-    println!("\nKernels:\n");
-    table::print_table(&kernels);
+    table::print_tables(&[("Calls of a set", &sets), ("Kernels", &kernels)]);
 }

@@ -3,6 +3,8 @@
 //! A set cannot cross to C, so each side makes its own sets, and then makes the call so many times. The time of no
 //! rounds is taken from that of `rounds`, which leaves the calls alone.
 
+#![allow(unused_braces)] // of the arguments that the macros below are given
+
 use crate::table::Row;
 use std::hint::black_box;
 use std::time::Instant;
@@ -12,10 +14,10 @@ use std::time::Instant;
 const BITS: [usize; 4] = [1_000, 1_024, 1_000_000, 1_000_040];
 
 /// How many batches of each call are timed, in turn with those of the others.
-const BATCHES: usize = 400;
+const BATCHES: usize = 300;
 
 /// About how many words a batch goes over, or how many single positions.
-const BATCH_WORDS: usize = 320_000;
+const BATCH_WORDS: usize = 480_000;
 
 /// Makes sets of so many positions, and a call so many times.
 /// It answers how many positions are left, or what the last call answered.
@@ -275,7 +277,8 @@ fn row(bits: usize, call: &Call) -> Row {
     }
     let [ours, upstream, loops] = least_times(bits, call);
     Row {
-        call: format!("`{name}`, {bits} bits"),
+        call: name.to_string(),
+        bits,
         ours,
         upstream,
         loops,

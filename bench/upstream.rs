@@ -1,0 +1,146 @@
+//! The calls of upstream's crate, each made for so many rounds on sets of its own, as crates/bench_abi makes ours.
+
+use fixedbitset::FixedBitSet;
+
+/// The set of so many positions, with those from `start` up to and without `end`.
+fn filled(bits: usize, start: usize, end: usize) -> FixedBitSet {
+    let mut set = FixedBitSet::with_capacity(bits);
+    set.insert_range(start..end);
+    set
+}
+
+/// Changes the lower half of the positions by another set, so many times, and answers how many are left.
+#[inline(always)]
+fn changed(
+    bits: usize,
+    other: FixedBitSet,
+    rounds: usize,
+    change: impl Fn(&mut FixedBitSet, &FixedBitSet),
+) -> usize {
+    let mut set = filled(bits, 0, bits / 2);
+    for _ in 0..rounds {
+        change(&mut set, &other);
+    }
+    set.count_ones(..)
+}
+
+/// Asks of the positions below `end` and those from `start` on, once and then so many times, each time after the write
+/// of a bit that is set.
+#[inline(always)]
+fn asked(
+    bits: usize,
+    end: usize,
+    start: usize,
+    rounds: usize,
+    ask: impl Fn(&FixedBitSet, &FixedBitSet) -> usize,
+) -> usize {
+    let mut set = filled(bits, 0, end);
+    let other = filled(bits, start, bits);
+    let mut answer = ask(&set, &other);
+    for round in 0..rounds {
+        set.insert(round % 64);
+        answer = ask(&set, &other);
+    }
+    answer
+}
+
+/// A call that changes the lower half by the upper one, and the same beside the 64 positions of a short set.
+macro_rules! change {
+    ($name:ident, $bits:ident => $other:expr, |$set:ident, $by:ident| $call:expr) => {
+        pub fn $name($bits: usize, rounds: usize) -> usize {
+            #[inline(never)]
+            fn call($set: &mut FixedBitSet, $by: &FixedBitSet) {
+                $call
+            }
+            changed($bits, $other, rounds, call)
+        }
+    };
+}
+
+/// A call that asks of the positions below one bound and those from another on.
+macro_rules! question {
+    ($name:ident, $bits:ident => $end:expr, $start:expr, |$set:ident, $by:ident| $call:expr) => {
+        pub fn $name($bits: usize, rounds: usize) -> usize {
+            #[inline(never)]
+            fn call($set: &FixedBitSet, $by: &FixedBitSet) -> usize {
+                usize::from($call)
+            }
+            asked($bits, $end, $start, rounds, call)
+        }
+    };
+}
+
+change!(insert_range, bits => filled(bits, bits / 2, bits), |set, _other| set.insert_range(..));
+change!(toggle_range, bits => filled(bits, bits / 2, bits), |set, _other| set.toggle_range(..));
+change!(union_with, bits => filled(bits, bits / 2, bits), |set, other| set.union_with(other));
+change!(intersect_with, bits => filled(bits, bits / 2, bits), |set, other| set.intersect_with(other));
+change!(intersect_with_short, _bits => filled(64, 0, 64), |set, other| set.intersect_with(other));
+change!(difference_with, bits => filled(bits, bits / 2, bits), |set, other| set.difference_with(other));
+change!(symmetric_difference_with, bits => filled(bits, bits / 2, bits), |set, other| {
+    set.symmetric_difference_with(other)
+});
+question!(count_ones, bits => bits / 2, bits / 2, |set, _other| set.count_ones(..));
+question!(contains_all_in_range, bits => bits, 0, |set, _other| set.contains_all_in_range(..));
+question!(contains_any_in_range, bits => 64, bits, |set, _other| {
+    let start = set.len().min(64);
+    set.contains_any_in_range(start..)
+});
+question!(union_count, bits => bits / 2, bits / 2, |set, other| set.union_count(other));
+question!(intersection_count, bits => bits / 2, bits / 2, |set, other| set.intersection_count(other));
+question!(difference_count, bits => bits / 2, bits / 2, |set, other| set.difference_count(other));
+question!(symmetric_difference_count, bits => bits / 2, bits / 2, |set, other| {
+    set.symmetric_difference_count(other)
+});
+question!(is_disjoint, bits => bits / 2, bits / 2, |set, other| set.is_disjoint(other));
+question!(is_subset, bits => bits, 0, |set, other| set.is_subset(other));
+question!(is_superset, bits => bits, 0, |set, other| other.is_superset(set));
+question!(bitand, bits => bits / 2, bits / 2, |set, other| (set & other).contains(0));
+question!(bitor, bits => bits / 2, bits / 2, |set, other| (set | other).contains(0));
+question!(bitxor, bits => bits / 2, bits / 2, |set, other| (set ^ other).contains(0));
+
+#[inline(never)]
+fn contains_one(set: &FixedBitSet, bit: usize) -> bool {
+    set.contains(bit)
+}
+
+pub fn contains(bits: usize, rounds: usize) -> usize {
+    asked(bits, bits / 2, bits / 2, rounds, |set, _other| {
+        (0..set.len())
+            .map(|bit| usize::from(contains_one(set, bit)))
+            .sum()
+    })
+}
+
+#[inline(never)]
+fn put_one(set: &mut FixedBitSet, bit: usize) -> bool {
+    set.put(bit)
+}
+
+pub fn put(bits: usize, rounds: usize) -> usize {
+    changed(bits, FixedBitSet::new(), rounds, |set, _other| {
+        for bit in 0..set.len() {
+            put_one(set, bit);
+        }
+    })
+}
+
+#[inline(never)]
+fn grow_to(set: &mut FixedBitSet, bits: usize) {
+    set.grow(bits);
+}
+
+fn grown(bits: usize) -> FixedBitSet {
+    let mut set = FixedBitSet::new();
+    for word in 0..bits / 64 {
+        grow_to(&mut set, 64 * (word + 1));
+    }
+    set
+}
+
+pub fn grow(bits: usize, rounds: usize) -> usize {
+    let mut length = grown(bits).len();
+    for _ in 0..rounds {
+        length = grown(bits).len();
+    }
+    length
+}
