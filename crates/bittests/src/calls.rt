@@ -1,6 +1,6 @@
 //! How the program calls its reader and its writer: how often, in which order, and that it ends at the first failure.
 use crate::streams::{Calls, Failure, Sink, Source};
-use bitcommands::program::{run_text, status};
+use bitlines::program::{run_text, status};
 use std::alloc::{AllocError, Global};
 use std::io::ErrorKind;
 use std::process::Abort;
