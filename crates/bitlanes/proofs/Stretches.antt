@@ -1,6 +1,5 @@
 -- words whose bits in one stretch are set, and no other
-use Rattle.std.proofs.Common.{◌≡◌, ℕ, zero, suc, ◌+◌, ◌-◌, ◌/◌, ◌*◌, ◌%◌, ◌^◌, ◌<◌, ◌≤◌, not, ◌&&◌, ◌==◌, nat_lt, nat_le, bit_and, sym, ap, ◌∙◌, arith, ⊎_elim}
-use Rattle.std.specs.Int.{bit_not, w64}
+use Rattle.std.proofs.Common.{◌≡◌, ℕ, zero, suc, ◌+◌, ◌-◌, ◌/◌, ◌*◌, ◌%◌, ◌^◌, ◌<◌, ◌≤◌, not, ◌&&◌, ◌==◌, nat_lt, nat_le, sym, ap, ◌∙◌, arith, ⊎_elim}
 use Rattle.std.proofs.lemmas.Bool.{cases_lt, lt-ltb, le-ltb}
 use Rattle.std.proofs.lemmas.Bool.Decides.{nat_tests}
 use Rattle.std.proofs.Math.Nat.{suc-mul}
@@ -8,7 +7,6 @@ use Rattle.std.proofs.Math.Pow.{pow_mono}
 use Rattle.std.proofs.lemmas.Nat.{one_shl, pow_pos, pow-add}
 use Rattle.std.proofs.lemmas.Nat.Bits.{bit_at_ones, bit_at_ones_above, bit_at-zero, bit_at_cat_low, bit_at_cat_high, ones_shr}
 use Rattle.bitlanes.specs.Bits.{bit}
-use Rattle.bitlanes.specs.BitLaws.{bit-without}
 
 bit-ones : (k i : ℕ) → bit (2 ^ k - 1) i ≡ nat_lt i k
 bit-ones k i =

@@ -1,6 +1,5 @@
 -- The counts of two sets against one another, and sets that are within one another.
 use Rattle.std.proofs.Common.{◌≡◌, ℕ, ◌+◌, ◌<◌, max, ⊎_elim, Bool, true, false, not, ◌&&◌, ◌||◌, nat_le, nat_lt, refl, sym, ap, ◌∙◌, arith}
-use Rattle.std.specs.Prelude.{◌↔◌}
 use Rattle.std.specs.Ordering.{nat_cmp}
 use Rattle.std.specs.Cmp.{nat_cmp_total}
 use Rattle.std.specs.FinSet as set
@@ -12,7 +11,7 @@ use Rattle.fixedbitset.specs.BitsFacts.{contains_below}
 use Rattle.fixedbitset.specs.Numbers.{numbers_between, symmetric_difference}
 use Rattle.fixedbitset.specs.NumbersFacts.{contains-numbers_between, contains-symmetric_difference, same_set, same_truth}
 use Rattle.fixedbitset.specs.Ranges.{count_ones}
-use Rattle.fixedbitset.specs.TwoSets.{union_count, intersection_count, difference_count, symmetric_difference_count, is_subset}
+use Rattle.fixedbitset.specs.TwoSets.{union_count, intersection_count, difference_count, symmetric_difference_count}
 use Rattle.fixedbitset.specs.TwoSetsFacts.{is_subset-tells}
 use Rattle.bitlaws.specs.TwoSetLaws.{SubsetBothWays, StepsBound, StepsOfEqual}
 use Rattle.bitlaws.proofs.Splits.{len-split}

@@ -1,5 +1,5 @@
 -- A set of numbers below a bound is split in two by another set: its size is the sum of both parts' sizes.
-use Rattle.std.proofs.Common.{◌≡◌, ℕ, zero, suc, ◌+◌, ◌<◌, Bool, true, false, not, ◌&&◌, refl, sym, ap, ◌∙◌, arith}
+use Rattle.std.proofs.Common.{◌≡◌, ℕ, zero, suc, ◌+◌, ◌<◌, Bool, true, false, not, ◌&&◌, refl, sym, ◌∙◌, arith}
 use Rattle.std.specs.Ordering.{nat_cmp}
 use Rattle.std.specs.Cmp.{nat_cmp_total}
 use Rattle.std.specs.FinSet as set
@@ -23,8 +23,12 @@ pub len-split : (n : ℕ) (s t : FinSet nat_cmp) → ((p : ℕ) → set.contains
 len-split n s t below =
     let inside = set.contains-intersection nat_cmp_total s t in
     let outside = set.contains-difference nat_cmp_total s t in
-    omega (arith,
-    len-below n s below,
-    len-below n (set.intersection s t) (λ p one. below p (and_parts _ _ (sym (inside p) ∙ one)).0), count-same _ (λ p. set.contains s p && set.contains t p) n (λ p _. inside p),
-    len-below n (set.difference s t) (λ p one. below p (and_parts _ _ (sym (outside p) ∙ one)).0), count-same _ (λ p. set.contains s p && not (set.contains t p)) n (λ p _. outside p),
-    count-parts (set.contains s) (set.contains t) n)
+    omega (
+      arith,
+      len-below n s below,
+      len-below n (set.intersection s t) (λ p one. below p (and_parts _ _ (sym (inside p) ∙ one)).0),
+      count-same _ (λ p. set.contains s p && set.contains t p) n (λ p _. inside p),
+      len-below n (set.difference s t) (λ p one. below p (and_parts _ _ (sym (outside p) ∙ one)).0),
+      count-same _ (λ p. set.contains s p && not (set.contains t p)) n (λ p _. outside p),
+      count-parts (set.contains s) (set.contains t) n,
+    )

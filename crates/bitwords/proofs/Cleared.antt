@@ -8,7 +8,7 @@ use Rattle.bitlanes.specs.Bits.{bit}
 use Rattle.bitlanes.specs.Words.{zip_longest}
 use Rattle.bitwords.specs.Rows.{has_bit, IsJoined}
 use Rattle.bitlanes.specs.Ops.{IsWordOp}
-use Rattle.bitwords.specs.RowFacts.{AreWords, bit-zero, has_bit-past}
+use Rattle.bitwords.specs.RowFacts.{AreWords, has_bit-past}
 
 pub length-kept : (f : ℕ → ℕ → ℕ) (xs ys : List ℕ) → length (zip_longest f true false xs ys) ≡ length xs
 length-kept f [] ys = refl

@@ -1,5 +1,5 @@
 -- The positions of a range that pass, counted part by part.
-use Rattle.std.proofs.Common.{◌≡◌, ℕ, zero, suc, ◌+◌, ◌-◌, ◌*◌, ◌/◌, ◌^◌, ◌<◌, ◌≤◌, Bool, true, false, ◌&&◌, ◌==◌, nat_lt, List, [], ◌∷◌, length, get_or, take, drop, map, sum_by, refl, sym, ap, ◌∙◌, arith, ⊎_elim}
+use Rattle.std.proofs.Common.{◌≡◌, ℕ, zero, suc, ◌+◌, ◌-◌, ◌*◌, ◌/◌, ◌^◌, ◌<◌, ◌≤◌, Bool, true, false, ◌&&◌, ◌==◌, nat_lt, List, ◌∷◌, length, get_or, take, drop, map, sum_by, refl, sym, ap, ◌∙◌, arith, ⊎_elim}
 use Rattle.std.specs.Int.Count.{ones}
 use Rattle.std.proofs.Math.Seq.{drop-cons}
 use Rattle.std.proofs.lemmas.Bool.{lt-ltb, eq-eqb, eqb-true}
@@ -8,8 +8,8 @@ use Rattle.std.proofs.lemmas.List.Sums.{sum_by-cons}
 use Rattle.bitlanes.specs.Bits.{bit}
 use Rattle.bitlanes.specs.Ops.{IsWordOp}
 use Rattle.bitwords.specs.Cuts.{IsCut}
-use Rattle.bitwords.specs.Rows.{has_bit, in_range, count_below, bit_test}
-use Rattle.bitwords.specs.CountFacts.{count-zero, count-same, count-append, count-none, count-shorter, count-mono, count-in_range}
+use Rattle.bitwords.specs.Rows.{in_range, count_below, bit_test}
+use Rattle.bitwords.specs.CountFacts.{count-same, count-append, count-none, count-shorter, count-mono, count-in_range}
 use Rattle.bitwords.specs.RowFacts.{AreWords, has_bit-at, before_range, past_range}
 use Rattle.bitwords.proofs.Ones.{ones-bits}
 use Rattle.bitwords.proofs.Parts.{masked_whole}

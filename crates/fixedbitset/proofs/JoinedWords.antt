@@ -1,6 +1,6 @@
 -- Words joined bit by bit with a test of positions: what that does to the value.
 use Rattle.std.specs.Prelude.{IsTrue}
-use Rattle.std.proofs.Common.{nat_le, ◌≡◌, ℕ, ◌*◌, ◌/◌, ◌%◌, ◌^◌, ◌<◌, ◌≤◌, Bool, true, false, ◌&&◌, ◌==◌, nat_lt, List, length, get_or, sym, ap, ◌∙◌, arith, ⊎_elim}
+use Rattle.std.proofs.Common.{nat_le, ◌≡◌, ℕ, ◌*◌, ◌<◌, ◌≤◌, Bool, true, false, ◌&&◌, nat_lt, List, length, sym, ap, ◌∙◌, arith, ⊎_elim}
 use Rattle.std.proofs.lemmas.Bool.{cases_lt, cases_Bool, le-ltb, leb-true, and_left, and_right, and_parts}
 use Rattle.bitwords.specs.Rows.{has_bit, IsJoined}
 use Rattle.bitwords.specs.RowFacts.{has_bit-past}

@@ -1,10 +1,9 @@
 -- The length and the members of each value that a call with a range makes, for those who call a set.
-use Rattle.std.specs.Prelude.{IsTrue, ◌↔◌, ◌==◌, ◌≡◌, ℕ, ◌<◌, ◌≤◌, Bool, true, false, cond, not, ◌&&◌, ◌||◌, nat_lt, nat_le}
+use Rattle.std.specs.Prelude.{IsTrue, ◌↔◌, ◌≡◌, ℕ, ◌<◌, ◌≤◌, Bool, true, false, cond, not, ◌&&◌, ◌||◌, nat_lt, nat_le}
 use Rattle.std.specs.Cmp.{nat_cmp_total}
 use Rattle.std.specs.FinSet as set
 use Rattle.std.proofs.Common.{refl, sym, ap, ◌∙◌, arith}
 use Rattle.std.proofs.lemmas.Bool.{lt-ltb, le-leb, ltb-true, leb-true, and_parts, and_from, true≢false, false_from_ne_true}
-use Rattle.std.proofs.lemmas.Bool.Decides.{nat_tests}
 use Rattle.bitlanes.specs.Bits.{either}
 use Rattle.fixedbitset.specs.Numbers.{numbers_between}
 use Rattle.bitwords.specs.Rows.{in_range}

@@ -5,22 +5,23 @@
 //! them has, where these are cleared or counted. A comparison takes at most as many, since it stops at the first lane or
 //! word that decides; where it answers `true`, exactly. What `grow` writes is not counted.
 
-ghost use Rattle.std.specs.Prelude.{◌≡◌, ◌≤◌, ◌+◌, IsTrue, IsOk, OnOk, OnErr, true, false};
+ghost use Rattle.std.specs.Prelude.{◌≡◌, ◌<◌, ◌≤◌, ◌+◌, IsTrue, IsOk, OnOk, OnErr, true, false};
 ghost use Rattle.bitlanes.specs.Words.{lane_steps};
 ghost use Rattle.bitwords.specs.Steps.{join_steps, both_steps};
 ghost use Rattle.fixedbitset.specs.Bits as model;
+ghost use Rattle.fixedbitset.specs.Stored.{joined};
 ghost use Rattle.fixedbitset.specs.TwoSets as sets;
 
 use crate::set::FixedBitSet;
 use bitlanes::Steps;
-use bitlanes::ops::{And, AndNot, Or, Xor};
+use bitlanes::ops::{And, AndNot, Or, WordOp, Xor};
 use std::alloc::AllocError;
 
 /// [`FixedBitSet::union_with`], with the steps that it takes.
 ///
 /// Where memory was refused the set is as it was.
 #[inline]
-#[tactic(auto, using(crate::proofs::JoinedValues::union_grown, crate::proofs::JoinedValues::grown_over, crate::proofs::JoinedValues::grown_length))]
+#[tactic(auto, using(crate::proofs::JoinedValues::union_grown, crate::proofs::JoinedValues::union_longer))]
 pub fn union_with(
     set: &mut FixedBitSet,
     other: &FixedBitSet,
@@ -32,7 +33,9 @@ pub fn union_with(
     ensures cost { OnOk result (steps.new ≡ steps.old + lane_steps (model.words_needed other.now.length)) }
     ensures refused { OnErr result (steps.new ≡ steps.old) }
 {
-    set.grow(other.len())?;
+    if set.len() < other.len() {
+        return grow_and_join::<Or>(set, other, steps);
+    }
     set.join::<Or>(other, steps);
     Ok(())
 }
@@ -41,7 +44,7 @@ pub fn union_with(
 ///
 /// Where memory was refused the set is as it was.
 #[inline]
-#[tactic(auto, using(crate::proofs::JoinedValues::symmetric_difference_grown, crate::proofs::JoinedValues::grown_over, crate::proofs::JoinedValues::grown_length))]
+#[tactic(auto, using(crate::proofs::JoinedValues::symmetric_difference_grown, crate::proofs::JoinedValues::symmetric_difference_longer))]
 pub fn symmetric_difference_with(
     set: &mut FixedBitSet,
     other: &FixedBitSet,
@@ -53,7 +56,9 @@ pub fn symmetric_difference_with(
     ensures cost { OnOk result (steps.new ≡ steps.old + lane_steps (model.words_needed other.now.length)) }
     ensures refused { OnErr result (steps.new ≡ steps.old) }
 {
-    set.grow(other.len())?;
+    if set.len() < other.len() {
+        return grow_and_join::<Xor>(set, other, steps);
+    }
     set.join::<Xor>(other, steps);
     Ok(())
 }
@@ -152,4 +157,27 @@ pub fn is_subset(set: &FixedBitSet, other: &FixedBitSet, steps: &mut Steps) -> b
         + both_steps true false (model.words_needed set.now.length) (model.words_needed other.now.length) }
 {
     set.none_joined::<AndNot>(other, steps)
+}
+
+// Joins the longer set `other` to `set`, which grows before. It is a call of its own, so that a set which is as long
+// saves nothing for it.
+#[cold]
+#[inline(never)]
+#[tactic(auto, using(crate::proofs::JoinedValues::grown_over, crate::proofs::JoinedValues::grown_length))]
+fn grow_and_join<O: WordOp>(
+    set: &mut FixedBitSet,
+    other: &FixedBitSet,
+    steps: &mut Steps,
+) -> Result<(), AllocError>
+    requires keeps { O.KEEP ≡ true }
+    requires longer { set.old.length < other.now.length }
+    ensures ok { OnOk result (set.new ≡ joined O.truth (model.grow set.old other.now.length) other.now) }
+    ensures err { OnErr result (set.new ≡ set.old) }
+    ensures succeeds { model.words_needed other.now.length ≤ model.words_needed set.old.length → IsOk result }
+    ensures cost { OnOk result (steps.new ≡ steps.old + lane_steps (model.words_needed other.now.length)) }
+    ensures refused { OnErr result (steps.new ≡ steps.old) }
+{
+    set.grow(other.len())?;
+    set.join::<O>(other, steps);
+    Ok(())
 }

@@ -1,4 +1,4 @@
-use Rattle.std.proofs.Common.{◌≡◌, ◌+◌, ◌∙◌, ℕ, ap, arith}
+use Rattle.std.proofs.Common.{arith}
 use Rattle.bitwords.proofs.Joined.{IsJoined-append, IsJoined-same}
 use Rattle.bitwords.proofs.Parts.{parts_words, between}
 use Rattle.bitwords.proofs.ranges.change.Goals as goal

@@ -1,4 +1,4 @@
-use Rattle.std.proofs.Common.{◌<◌, ◌*◌, ◌/◌, ◌^◌, ℕ, get_or, rules, arith}
+use Rattle.std.proofs.Common.{◌<◌, ◌/◌, ◌^◌, ℕ, get_or, rules, arith}
 use Rattle.bitwords.proofs.Joined.{IsJoined-none, IsJoined-word}
 use Rattle.bitwords.proofs.ranges.change_part.Goals as goal
 

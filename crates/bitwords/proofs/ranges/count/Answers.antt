@@ -1,5 +1,5 @@
-use Rattle.std.proofs.Common.{◌≡◌, ◌+◌, ℕ, Bool, true, arith}
-use Rattle.bitwords.specs.Rows.{count_below, bit_test}
+use Rattle.std.proofs.Common.{ℕ, Bool, true, arith}
+use Rattle.bitwords.specs.Rows.{bit_test}
 use Rattle.bitwords.specs.CountFacts.{count-le}
 use Rattle.bitwords.proofs.Counted.{count-between}
 use Rattle.bitwords.proofs.Parts.{parts_words}

@@ -1,5 +1,4 @@
-use Rattle.std.proofs.Common.{◌≡◌, ◌<◌, ◌+◌, ◌*◌, ◌/◌, ◌^◌, ℕ, get_or, rules, true, arith}
-use Rattle.bitwords.specs.Rows.{count_below, bit_test}
+use Rattle.std.proofs.Common.{◌<◌, ◌/◌, ◌^◌, ℕ, get_or, rules, arith}
 use Rattle.bitwords.proofs.Counted.{count-word}
 use Rattle.bitwords.proofs.ranges.count_part.Goals as goal
 

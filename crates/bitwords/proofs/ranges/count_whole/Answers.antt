@@ -1,4 +1,4 @@
-use Rattle.std.proofs.Common.{◌≡◌, ◌<◌, ◌+◌, ◌*◌, ◌^◌, ℕ, get_or, rules, true, ap, arith}
+use Rattle.std.proofs.Common.{◌<◌, ◌+◌, ◌*◌, ◌^◌, ℕ, get_or, rules, true, ap, arith}
 use Rattle.std.specs.Int.Count.{ones}
 use Rattle.bitwords.specs.Rows.{bit_test}
 use Rattle.bitwords.specs.CountFacts.{count-le}

@@ -1,8 +1,7 @@
-use Rattle.std.proofs.Common.{◌≡◌, ◌≤◌, ◌+◌, ◌*◌, ◌/◌, ◌==◌, ◌∙◌, ℕ, Bool, true, sym, ap, refl, arith}
+use Rattle.std.proofs.Common.{◌∙◌, ℕ, Bool, true, sym, arith}
 use Rattle.std.proofs.lemmas.Bool.{true≢false}
 use Rattle.bitwords.specs.Rows.{count_below, bit_test}
 use Rattle.bitwords.proofs.Counted.{grows_within, same-between, stays_upto}
-use Rattle.bitwords.proofs.Parts.{parts_steps}
 use Rattle.bitwords.proofs.ranges.none.Goals as goal
 use Rattle.bitwords.proofs.ranges.none.Goals.{then-none_part, else-none_part}
 

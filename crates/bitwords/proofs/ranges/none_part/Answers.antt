@@ -1,5 +1,4 @@
-use Rattle.std.proofs.Common.{◌≡◌, ◌<◌, ◌+◌, ◌*◌, ◌/◌, ◌^◌, ◌==◌, ℕ, get_or, rules, true, ap, ◌∙◌, arith}
-use Rattle.bitwords.specs.Rows.{bit_test, count_below}
+use Rattle.std.proofs.Common.{◌<◌, ◌/◌, ◌^◌, ◌==◌, ℕ, get_or, rules, ap, ◌∙◌, arith}
 use Rattle.bitwords.proofs.Counted.{count-word}
 use Rattle.bitwords.proofs.Ones.{ones-zero, sum_is_start}
 use Rattle.bitwords.proofs.ranges.none_part.Goals as goal

@@ -1,4 +1,4 @@
-use Rattle.std.proofs.Common.{◌≡◌, ◌<◌, ◌+◌, ◌-◌, ◌*◌, ◌/◌, ◌^◌, ◌==◌, ℕ, get_or, map, take, drop, rules, true, ap, ◌∙◌, arith}
+use Rattle.std.proofs.Common.{◌≡◌, ◌<◌, ◌+◌, ◌-◌, ◌*◌, ◌^◌, ℕ, get_or, map, take, drop, rules, true, ap, ◌∙◌, arith}
 use Rattle.bitwords.specs.Rows.{bit_test, count_below}
 use Rattle.bitwords.proofs.Counted.{count-wholes}
 use Rattle.bitwords.proofs.Ones.{all-ones, sum_is_start}
