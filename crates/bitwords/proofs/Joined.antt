@@ -40,6 +40,19 @@ module _ {f : ℕ → ℕ → ℕ} {t : Bool → Bool → Bool} {keep take : Boo
         (cases_lt n middle);
   }
 
+  -- the same, the range behind before the other
+  pub IsJoined-append_back : (mid new : List ℕ) (start middle end : ℕ) → start ≤ middle → middle ≤ end → IsJoined t old (in_range middle end) mid → IsJoined t mid (in_range start middle) new → IsJoined t old (in_range start end) new
+  IsJoined-append_back mid new start middle end p q first second = record {
+    long = second.long ∙ first.long;
+    bits = λ n h.
+        second.bits n (let e = first.long in omega arith)
+        ∙ ap (λ x. t x (in_range start middle n)) (first.bits n h)
+        ∙ ⊎_elim
+        (λ (lt : n < middle). ap (λ x. t x (in_range start middle n)) (stays _ _ (before_range middle end n lt)) ∙ ap (t (has_bit old n)) (same_end start middle end n lt q))
+        (λ (ge : middle ≤ n). stays _ _ (past_range start middle n ge) ∙ ap (t (has_bit old n)) (same_start start middle end n ge p))
+        (cases_lt n middle);
+  }
+
   -- a range within word k, which is joined with the mask of the range
   pub IsJoined-word : AreWords old → (k mask start end : ℕ) → k < length old → mask < 2 ^ 64 → 64 * k ≤ start → end ≤ 64 * (k + 1) → ((i : ℕ) → bit mask i ≡ (nat_lt i 64 && in_range start end (64 * k + i))) → IsJoined t old (in_range start end) (set old k (f (get_or old k 0) mask))
   unfolding has_bit

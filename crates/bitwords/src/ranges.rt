@@ -26,8 +26,9 @@ pub fn change<O: WordOp>(words: &mut [Block], start: usize, end: usize, steps: &
 {
     let (low, high) = cut(start, end);
     change_part::<O>(words, start, low, steps);
-    change_whole::<O>(words, low / BITS, high / BITS, steps);
     change_part::<O>(words, high, end, steps);
+    // Last, so that nothing has to be kept while the whole words are set or cleared in one call.
+    change_whole::<O>(words, low / BITS, high / BITS, steps);
 }
 
 /// How many positions of the range, each as one that is set joined by `O` with its bit in the words, are set then.

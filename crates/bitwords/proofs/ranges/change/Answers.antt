@@ -1,5 +1,5 @@
 use Rattle.std.proofs.Common.{arith}
-use Rattle.bitwords.proofs.Joined.{IsJoined-append, IsJoined-same}
+use Rattle.bitwords.proofs.Joined.{IsJoined-append, IsJoined-append_back, IsJoined-same}
 use Rattle.bitwords.proofs.Parts.{parts_words, between}
 use Rattle.bitwords.proofs.ranges.change.Goals as goal
 
@@ -7,8 +7,8 @@ pub returns-clause-bits : goal.returns-clause-bits
 returns-clause-bits g c =
     let cut = c.cut-low.ensures in
     let middle = IsJoined-same _ _ _ _ (between _ _ _ _ cut) c.change_whole.ensures.bits in
-    let upto = IsJoined-append g.met.O.WordOp.laws c.requires.keeps _ _ _ _ _ _ cut.first cut.middle c.change_part.ensures.bits middle in
-    IsJoined-append g.met.O.WordOp.laws c.requires.keeps _ _ _ _ _ _ (omega (arith, cut.first, cut.middle)) cut.last upto c.change_part-2.ensures.bits
+    let rest = IsJoined-append_back g.met.O.WordOp.laws c.requires.keeps _ _ _ _ _ _ cut.middle cut.last c.change_part-2.ensures.bits middle in
+    IsJoined-append g.met.O.WordOp.laws c.requires.keeps _ _ _ _ _ _ cut.first (omega (arith, cut.middle, cut.last)) c.change_part.ensures.bits rest
 
 pub returns-clause-cost : goal.returns-clause-cost
 returns-clause-cost g c = omega (arith, c.change_part.ensures.cost, c.change_whole.ensures.cost, c.change_part-2.ensures.cost, parts_words _ _ _ _ c.cut-low.ensures)
