@@ -1,6 +1,6 @@
 //! Calls that ask a set or make a new one, under C names, each made for so many rounds.
 
-ghost use Rattle.std.specs.Prelude.{◌≡◌, ℕ, ◌-◌, ◌/◌, ◌^◌, ◌<◌, ◌≤◌, ◌==◌, ◌↔◌, min, IsTrue, IfOk};
+ghost use Rattle.std.specs.Prelude.{◌≡◌, ℕ, ◌-◌, ◌/◌, ◌^◌, ◌<◌, ◌≤◌, ◌==◌, cond, min, IsTrue, IfOk};
 ghost use Rattle.fixedbitset.specs.Bits.{Bits, contains};
 ghost use Rattle.fixedbitset.specs.Ranges as ranges;
 ghost use Rattle.fixedbitset.specs.TwoSets as sets;
@@ -157,7 +157,7 @@ fn contains(set: &FixedBitSet, bit: usize) -> bool
 struct BitAnd;
 
 impl Question for BitAnd {
-    ghost Answers = { λ v w answer. answer < 2 → (IsTrue (answer == 1) ↔ IsTrue (contains (sets.bitand v w) 0)) };
+    ghost Answers = { λ v w answer. answer < 2 ^ 64 - 1 → answer ≡ cond (contains (sets.bitand v w) 0) 1 0 };
 
     #[inline(never)]
     fn ask(set: &FixedBitSet, other: &FixedBitSet) -> usize {
@@ -171,7 +171,7 @@ impl Question for BitAnd {
 struct BitOr;
 
 impl Question for BitOr {
-    ghost Answers = { λ v w answer. answer < 2 → (IsTrue (answer == 1) ↔ IsTrue (contains (sets.union v w) 0)) };
+    ghost Answers = { λ v w answer. answer < 2 ^ 64 - 1 → answer ≡ cond (contains (sets.union v w) 0) 1 0 };
 
     #[inline(never)]
     fn ask(set: &FixedBitSet, other: &FixedBitSet) -> usize {
@@ -185,7 +185,7 @@ impl Question for BitOr {
 struct BitXor;
 
 impl Question for BitXor {
-    ghost Answers = { λ v w answer. answer < 2 → (IsTrue (answer == 1) ↔ IsTrue (contains (sets.symmetric_difference v w) 0)) };
+    ghost Answers = { λ v w answer. answer < 2 ^ 64 - 1 → answer ≡ cond (contains (sets.symmetric_difference v w) 0) 1 0 };
 
     #[inline(never)]
     fn ask(set: &FixedBitSet, other: &FixedBitSet) -> usize {
@@ -340,7 +340,7 @@ pub extern "C" fn sets_contains(alloc: Global, bits: usize, rounds: usize) -> us
 #[unsafe(no_mangle)]
 pub extern "C" fn sets_bitand(alloc: Global, bits: usize, rounds: usize) -> usize
     requires { 128 ≤ bits }
-    ensures { result < 2 → (IsTrue (result == 1) ↔ IsTrue (contains (sets.bitand (lower bits) (upper bits)) 0)) }
+    ensures { result < 2 ^ 64 - 1 → result ≡ cond (contains (sets.bitand (lower bits) (upper bits)) 0) 1 0 }
 {
     asked::<BitAnd>(alloc, bits, bits / 2, bits / 2, rounds).unwrap_or(REFUSED)
 }
@@ -349,7 +349,7 @@ pub extern "C" fn sets_bitand(alloc: Global, bits: usize, rounds: usize) -> usiz
 #[unsafe(no_mangle)]
 pub extern "C" fn sets_bitor(alloc: Global, bits: usize, rounds: usize) -> usize
     requires { 128 ≤ bits }
-    ensures { result < 2 → (IsTrue (result == 1) ↔ IsTrue (contains (sets.union (lower bits) (upper bits)) 0)) }
+    ensures { result < 2 ^ 64 - 1 → result ≡ cond (contains (sets.union (lower bits) (upper bits)) 0) 1 0 }
 {
     asked::<BitOr>(alloc, bits, bits / 2, bits / 2, rounds).unwrap_or(REFUSED)
 }
@@ -358,7 +358,7 @@ pub extern "C" fn sets_bitor(alloc: Global, bits: usize, rounds: usize) -> usize
 #[unsafe(no_mangle)]
 pub extern "C" fn sets_bitxor(alloc: Global, bits: usize, rounds: usize) -> usize
     requires { 128 ≤ bits }
-    ensures { result < 2 → (IsTrue (result == 1) ↔ IsTrue (contains (sets.symmetric_difference (lower bits) (upper bits)) 0)) }
+    ensures { result < 2 ^ 64 - 1 → result ≡ cond (contains (sets.symmetric_difference (lower bits) (upper bits)) 0) 1 0 }
 {
     asked::<BitXor>(alloc, bits, bits / 2, bits / 2, rounds).unwrap_or(REFUSED)
 }
