@@ -1,5 +1,5 @@
 -- Words joined with the positions of a range, part by part.
-use Rattle.std.proofs.Common.{◌≡◌, ◌≢◌, ℕ, ◌+◌, ◌*◌, ◌/◌, ◌%◌, ◌^◌, ◌<◌, ◌≤◌, Bool, true, false, ◌&&◌, nat_lt, List, length, get_or, set, refl, sym, ap, ◌∙◌, arith, ⊎_elim}
+use Rattle.std.proofs.Common.{◌≡◌, ◌≢◌, ℕ, ◌+◌, ◌*◌, ◌/◌, ◌%◌, ◌^◌, ◌<◌, ◌≤◌, Bool, true, false, ◌&&◌, nat_lt, List, length, get_or, set, refl, sym, ap, ◌∙◌, arith, ◌⊎◌, inl, inr, ⊎_elim}
 use Rattle.std.proofs.lemmas.Bool.{cases_lt, cases_eq, lt-ltb}
 use Rattle.std.proofs.lemmas.Bool.Decides.{nat_tests}
 use Rattle.std.proofs.lemmas.List.{get_or-set_same, get_or-set_other, length-set}
@@ -27,31 +27,28 @@ module _ {f : ℕ → ℕ → ℕ} {t : Bool → Bool → Bool} {keep take : Boo
   pub IsJoined-none : (start end : ℕ) → end ≤ start → IsJoined t old (in_range start end) old
   IsJoined-none start end none = record { long = refl; bits = λ p _. sym (stays (has_bit old p) _ (let out : in_range start end p ≡ false = grind (arith, nat_tests) in out)) }
 
-  -- two ranges, one behind the other
-  pub IsJoined-append : (mid new : List ℕ) (start middle end : ℕ) → start ≤ middle → middle ≤ end → IsJoined t old (in_range start middle) mid → IsJoined t mid (in_range middle end) new → IsJoined t old (in_range start end) new
-  IsJoined-append mid new start middle end p q first second = record {
+  -- joined with one test and then with another: at each position one of the two fails, and the other says what u says
+  IsJoined-then : (mid new : List ℕ) (r s u : ℕ → Bool) → ((n : ℕ) → ((r n ≡ false) × (s n ≡ u n)) ⊎ ((s n ≡ false) × (r n ≡ u n))) → IsJoined t old r mid → IsJoined t mid s new → IsJoined t old u new
+  IsJoined-then mid new r s u apart first second = record {
     long = second.long ∙ first.long;
     bits = λ n h.
         second.bits n (let e = first.long in omega arith)
-        ∙ ap (λ x. t x (in_range middle end n)) (first.bits n h)
+        ∙ ap (λ x. t x (s n)) (first.bits n h)
         ∙ ⊎_elim
-        (λ (lt : n < middle). stays _ _ (before_range middle end n lt) ∙ ap (t (has_bit old n)) (same_end start middle end n lt q))
-        (λ (ge : middle ≤ n). ap (λ x. t x (in_range middle end n)) (stays _ _ (past_range start middle n ge)) ∙ ap (t (has_bit old n)) (same_start start middle end n ge p))
-        (cases_lt n middle);
+        (λ (by_second : (r n ≡ false) × (s n ≡ u n)). ap (λ x. t x (s n)) (stays _ _ by_second.0) ∙ ap (t (has_bit old n)) by_second.1)
+        (λ (by_first : (s n ≡ false) × (r n ≡ u n)). stays _ _ by_first.0 ∙ ap (t (has_bit old n)) by_first.1)
+        (apart n);
   }
 
-  -- the same, the range behind before the other
+  -- two ranges, one behind the other, the one before first
+  pub IsJoined-append : (mid new : List ℕ) (start middle end : ℕ) → start ≤ middle → middle ≤ end → IsJoined t old (in_range start middle) mid → IsJoined t mid (in_range middle end) new → IsJoined t old (in_range start end) new
+  IsJoined-append mid new start middle end p q = IsJoined-then mid new _ _ _
+      (λ n. ⊎_elim (λ (lt : n < middle). inr (before_range middle end n lt, same_end start middle end n lt q)) (λ (ge : middle ≤ n). inl (past_range start middle n ge, same_start start middle end n ge p)) (cases_lt n middle))
+
+  -- the same, the one behind first
   pub IsJoined-append_back : (mid new : List ℕ) (start middle end : ℕ) → start ≤ middle → middle ≤ end → IsJoined t old (in_range middle end) mid → IsJoined t mid (in_range start middle) new → IsJoined t old (in_range start end) new
-  IsJoined-append_back mid new start middle end p q first second = record {
-    long = second.long ∙ first.long;
-    bits = λ n h.
-        second.bits n (let e = first.long in omega arith)
-        ∙ ap (λ x. t x (in_range start middle n)) (first.bits n h)
-        ∙ ⊎_elim
-        (λ (lt : n < middle). ap (λ x. t x (in_range start middle n)) (stays _ _ (before_range middle end n lt)) ∙ ap (t (has_bit old n)) (same_end start middle end n lt q))
-        (λ (ge : middle ≤ n). stays _ _ (past_range start middle n ge) ∙ ap (t (has_bit old n)) (same_start start middle end n ge p))
-        (cases_lt n middle);
-  }
+  IsJoined-append_back mid new start middle end p q = IsJoined-then mid new _ _ _
+      (λ n. ⊎_elim (λ (lt : n < middle). inl (before_range middle end n lt, same_end start middle end n lt q)) (λ (ge : middle ≤ n). inr (past_range start middle n ge, same_start start middle end n ge p)) (cases_lt n middle))
 
   -- a range within word k, which is joined with the mask of the range
   pub IsJoined-word : AreWords old → (k mask start end : ℕ) → k < length old → mask < 2 ^ 64 → 64 * k ≤ start → end ≤ 64 * (k + 1) → ((i : ℕ) → bit mask i ≡ (nat_lt i 64 && in_range start end (64 * k + i))) → IsJoined t old (in_range start end) (set old k (f (get_or old k 0) mask))
