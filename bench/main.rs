@@ -1,5 +1,6 @@
-//! Times the kernels and the calls of a set, beside upstream's crate where `run` was given its source, and beside loops
-//! in Rust, and prints the least times as tables. `run` builds and starts it, once for each processor.
+//! Times the kernels, the calls of a set and the walks over one, beside upstream's crate where `run` was given its
+//! source, and beside loops in Rust, and prints the least times as tables. `run` builds and starts it, once for each
+//! processor.
 
 mod kernels;
 mod memory;
@@ -7,6 +8,7 @@ mod sets;
 mod table;
 #[cfg(upstream)]
 mod upstream;
+mod walks;
 
 use std::arch::global_asm;
 use std::hint::black_box;
@@ -32,15 +34,22 @@ fn main() {
     black_box(&raw const shift_end);
     memory::keep_freed();
     let mut sets = sets::rows();
+    let mut walks = walks::rows();
     let mut kernels = kernels::rows();
     let Some(file) = std::env::args().nth(1) else {
         table::print_times(&sets);
+        table::print_times(&walks);
         table::print_times(&kernels);
         return;
     };
     let times = std::fs::read_to_string(file).expect("the times of the other program");
-    for (row, line) in sets.iter_mut().chain(&mut kernels).zip(times.lines()) {
+    let rows = sets.iter_mut().chain(&mut walks).chain(&mut kernels);
+    for (row, line) in rows.zip(times.lines()) {
         row.take_less(line);
     }
-    table::print_tables(&[("Calls of a set", &sets), ("Kernels", &kernels)]);
+    table::print_tables(&[
+        ("Calls of a set", &sets),
+        ("A position of a walk", &walks),
+        ("Kernels", &kernels),
+    ]);
 }

@@ -144,3 +144,68 @@ pub fn grow(bits: usize, rounds: usize) -> usize {
     }
     length
 }
+
+/// The walks over the positions of a set, each made for so many rounds.
+pub mod walks {
+    use fixedbitset::FixedBitSet;
+
+    /// The set of so many positions, with each for which a number below `limit` is drawn.
+    fn scattered(bits: usize, limit: u64, first: u64) -> FixedBitSet {
+        let mut set = FixedBitSet::with_capacity(bits);
+        let mut drawn = first;
+        for bit in 0..bits {
+            set.set(bit, drawn < limit);
+            drawn = drawn
+                .wrapping_mul(6_364_136_223_846_793_005)
+                .wrapping_add(1_442_695_040_888_963_407);
+        }
+        set
+    }
+
+    /// Adds up the positions of a walk for so many rounds.
+    macro_rules! walk {
+        ($name:ident, |$total:ident, $set:ident, $other:ident| $walk:block) => {
+            pub fn $name(bits: usize, limit: u64, rounds: usize) -> usize {
+                #[inline(never)]
+                fn add_to(mut $total: usize, $set: &FixedBitSet, $other: &FixedBitSet) -> usize {
+                    $walk
+                    $total
+                }
+                let set = scattered(bits, limit, 1);
+                let other = scattered(bits, limit, 2);
+                let mut total = 0;
+                for _ in 0..rounds {
+                    total = add_to(total, &set, &other);
+                }
+                total
+            }
+        };
+    }
+
+    walk!(ones, |total, set, _other| {
+        for bit in set.ones() {
+            total = total.wrapping_add(bit);
+        }
+    });
+    walk!(ones_back, |total, set, _other| {
+        let mut walk = set.ones();
+        while let Some(bit) = walk.next_back() {
+            total = total.wrapping_add(bit);
+        }
+    });
+    walk!(intersection, |total, set, other| {
+        for bit in set.intersection(other) {
+            total = total.wrapping_add(bit);
+        }
+    });
+    walk!(union, |total, set, other| {
+        for bit in set.union(other) {
+            total = total.wrapping_add(bit);
+        }
+    });
+    walk!(zeroes, |total, set, _other| {
+        for bit in set.zeroes() {
+            total = total.wrapping_add(bit);
+        }
+    });
+}

@@ -1,5 +1,5 @@
-//! The kernels under C names, and in `changes`, `questions` and `growing` the calls of a set, for the program in
-//! bench/ that times them. Nothing else uses it.
+//! The kernels under C names, and in `changes`, `questions`, `growing` and `walks` the calls of a set, for the program
+//! in bench/ that times them. Nothing else uses it.
 //!
 //! Each slice of a kernel is the first words of an array of `MOST`, with its length beside it. A slice itself
 //! would be tested for null as it comes from C, which the kernels as Rattle calls them do not pay.
@@ -15,6 +15,7 @@ pub mod changes;
 pub mod growing;
 pub mod questions;
 pub mod sets;
+pub mod walks;
 
 use bitlanes::ops::{And, Or};
 use bitlanes::{Block, Steps, lanes};

@@ -1,19 +1,47 @@
 -- Calls of a walk, one after the other.
-use Rattle.std.proofs.Common.{◌≡◌, ℕ, ◌+◌, ◌<◌, ◌≤◌, List, [], ◌∷◌, ◌++◌, length, get_or, drop, Option, Some, None, MatchOption, refl, ap, sym, ◌∙◌, append_assoc, append-nil}
+use Rattle.std.proofs.Common.{◌≡◌, ℕ, suc, ◌+◌, ◌-◌, ◌<◌, ◌≤◌, List, [], ◌∷◌, ◌++◌, length, get_or, drop, replicate, slice_get, Option, Some, None, MatchOption, refl, ap, sym, ◌∙◌, arith, append_assoc, append-nil}
+use Rattle.std.proofs.lemmas.Grind.{common_steps}
 use Rattle.std.proofs.lemmas.List.{at_drop_more, at_drop_all}
+use Rattle.std.proofs.Math.Seq.{take-append_seam}
 use Rattle.bitcommands.specs.declared.commands.walking.End.{End}
-use Rattle.bitcommands.specs.declared.commands.walking.End.TheVariants.{Front}
-use Rattle.bitcommands.specs.Calls.{calls, first_of, behind_first}
+use Rattle.bitcommands.specs.declared.commands.walking.End.TheVariants.{Front, Back}
+use Rattle.bitcommands.specs.Calls.{calls, item_at, without_item_at}
 
--- a call that yields the first item is the first of the calls
-pub first_call : (ends : List End) (xs ys : List ℕ) (r : Option ℕ) → MatchOption r ((xs ≡ []) × (ys ≡ [])) (λ x. xs ≡ x ∷ ys) → calls (Front ∷ ends) xs ≡ r ∷ calls ends ys
-first_call ends xs ys None h = ap (λ u. first_of u ∷ calls ends (behind_first u)) h.0 ∙ ap (λ u. None ∷ calls ends u) (sym h.1)
-first_call ends xs ys (Some x) h = ap (λ u. first_of u ∷ calls ends (behind_first u)) h
+-- a call gave the item at this end, and left the others
+abbrev pub IsCall : End → List ℕ → Option ℕ → List ℕ → Type 0
+IsCall end xs r ys = (r ≡ item_at end xs) × (ys ≡ without_item_at end xs)
+
+-- a call that yields the first item is one from the front
+pub front_call : (xs ys : List ℕ) (r : Option ℕ) → MatchOption r ((xs ≡ []) × (ys ≡ [])) (λ x. xs ≡ x ∷ ys) → IsCall Front xs r ys
+front_call xs ys None h = rw (h.0, h.1) (refl, refl)
+front_call xs ys (Some x) h = rw h (refl, refl)
+
+last_place : (xs : List ℕ) (x : ℕ) → length (xs ++ x ∷ []) - 1 ≡ length xs
+last_place xs x = grind (arith, common_steps)
+
+get-last : (xs : List ℕ) (x : ℕ) → slice_get (xs ++ x ∷ []) (length xs) ≡ Some x
+get-last [] x = refl
+get-last (y ∷ ys) x = get-last ys x
+
+-- a call that yields the last item is one from the back
+pub back_call : (xs ys : List ℕ) (r : Option ℕ) → MatchOption r ((xs ≡ []) × (ys ≡ [])) (λ x. xs ≡ ys ++ x ∷ []) → IsCall Back xs r ys
+back_call xs ys None h = rw (h.0, h.1) (refl, refl)
+back_call xs ys (Some x) h = rw (h, last_place ys x) (sym (get-last ys x), sym (take-append_seam ys (x ∷ [])))
+
+-- one call more has its answer behind those so far
+calls_next : (all done : List (Option ℕ)) (e : End) (es : List End) (xs ys : List ℕ) (r : Option ℕ) → all ≡ done ++ calls (e ∷ es) xs → IsCall e xs r ys → all ≡ (done ++ r ∷ []) ++ calls es ys
+calls_next all done e es xs ys r h call = rw (call.0, call.1) (h ∙ sym (append_assoc done (item_at e xs ∷ []) _))
 
 pub calls_more : (all done : List (Option ℕ)) (ends : List End) (i : ℕ) (e : End) (xs ys : List ℕ) (r : Option ℕ) → all ≡ done ++ calls (drop i ends) xs → i < length ends → e ≡ get_or ends i e
-    → ((es : List End) → calls (e ∷ es) xs ≡ r ∷ calls es ys) → all ≡ (done ++ r ∷ []) ++ calls (drop (i + 1) ends) ys
-calls_more all done ends i e xs ys r h lt is step =
-    h ∙ at_drop_more (λ u. done ++ calls u xs) ends i e lt ∙ ap (λ u. done ++ calls (u ∷ drop (i + 1) ends) xs) (sym is) ∙ ap (λ u. done ++ u) (step (drop (i + 1) ends)) ∙ sym (append_assoc done (r ∷ []) _)
+    → r ≡ item_at e xs → ys ≡ without_item_at e xs → all ≡ (done ++ r ∷ []) ++ calls (drop (i + 1) ends) ys
+calls_more all done ends i e xs ys r h lt is item left =
+    calls_next all done e (drop (i + 1) ends) xs ys r (h ∙ at_drop_more (λ u. done ++ calls u xs) ends i e lt ∙ ap (λ u. done ++ calls (u ∷ drop (i + 1) ends) xs) (sym is)) (item, left)
+
+pub fronts_more : (all done : List (Option ℕ)) (n i : ℕ) (xs ys : List ℕ) (r : Option ℕ) → all ≡ done ++ calls (replicate (n - i) Front) xs → i < n
+    → MatchOption r ((xs ≡ []) × (ys ≡ [])) (λ x. xs ≡ x ∷ ys) → all ≡ (done ++ r ∷ []) ++ calls (replicate (n - (i + 1)) Front) ys
+fronts_more all done n i xs ys r h lt gives =
+    let more : n - i ≡ suc (n - (i + 1)) = omega arith in
+    calls_next all done Front (replicate (n - (i + 1)) Front) xs ys r (h ∙ ap (λ m. done ++ calls (replicate m Front) xs) more) (front_call xs ys r gives)
 
 pub calls_start : (ends : List End) (xs : List ℕ) → calls ends xs ≡ [] ++ calls ends xs
 calls_start ends xs = refl

@@ -22,7 +22,7 @@ use Rattle.bitcommands.specs.declared.commands.walking.Walk.TheVariants as walks
 abbrev pub Range : Type 0
 Range = Option ℕ × Option ℕ
 
--- Numbers of sets, positions, lengths, ranges and ends of walks, in the order in which a line has them.
+-- Numbers of sets, positions, lengths, ranges, ends of walks and numbers of calls, in the order in which a line has them.
 pub data Action : Type 0 where
   with_capacity : ℕ → ℕ → Action
   bitand : ℕ → ℕ → ℕ → Action
@@ -60,6 +60,12 @@ pub data Action : Type 0 where
   is_subset : ℕ → ℕ → Action
   is_superset : ℕ → ℕ → Action
   ones : ℕ → List End → Action
+  into_ones : ℕ → List End → Action
+  zeroes : ℕ → ℕ → Action
+  union : ℕ → ℕ → List End → Action
+  intersection : ℕ → ℕ → List End → Action
+  difference : ℕ → ℕ → List End → Action
+  symmetric_difference : ℕ → ℕ → List End → Action
 
 -- what a command that makes a set means
 abbrev pub make_action : Make → Action
@@ -114,9 +120,15 @@ compare_action (compares.IsDisjoint a b) = is_disjoint a b
 compare_action (compares.IsSubset a b) = is_subset a b
 compare_action (compares.IsSuperset a b) = is_superset a b
 
--- what a command that walks over a set means
+-- what a command that walks over a set or two means
 abbrev pub walk_action : Walk → Action
 walk_action (walks.Ones k ends) = ones k ends.items
+walk_action (walks.IntoOnes k ends) = into_ones k ends.items
+walk_action (walks.Zeroes k count) = zeroes k count
+walk_action (walks.Union a b ends) = union a b ends.items
+walk_action (walks.Intersection a b ends) = intersection a b ends.items
+walk_action (walks.Difference a b ends) = difference a b ends.items
+walk_action (walks.SymmetricDifference a b ends) = symmetric_difference a b ends.items
 
 -- what a command means
 abbrev pub action_of : Command → Action

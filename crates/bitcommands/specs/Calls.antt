@@ -1,19 +1,19 @@
--- The calls of a walk.
-use Rattle.std.specs.Prelude.{ℕ, List, [], ◌∷◌, Option, Some, None}
+-- The calls of a walk, each from its front or from its back.
+use Rattle.std.specs.Prelude.{ℕ, ◌-◌, List, [], ◌∷◌, length, take, drop, slice_get, Option}
 use Rattle.bitcommands.specs.declared.commands.walking.End.{End}
-use Rattle.bitcommands.specs.declared.commands.walking.End.TheVariants.{Front}
+use Rattle.bitcommands.specs.declared.commands.walking.End.TheVariants.{Front, Back}
 
--- the first item that is left
-abbrev pub first_of : List ℕ → Option ℕ
-first_of [] = None
-first_of (x ∷ xs) = Some x
+-- the first or the last of the items that are left, or `None` where none is left
+abbrev pub item_at : End → List ℕ → Option ℕ
+item_at Front xs = slice_get xs 0
+item_at Back xs = slice_get xs (length xs - 1)
 
--- the items behind the first
-abbrev pub behind_first : List ℕ → List ℕ
-behind_first [] = []
-behind_first (x ∷ xs) = xs
+-- the items that are left without that one
+abbrev pub without_item_at : End → List ℕ → List ℕ
+without_item_at Front xs = drop 1 xs
+without_item_at Back xs = take (length xs - 1) xs
 
 -- what the calls of a walk answer, one an end, in order
 abbrev pub calls : List End → List ℕ → List (Option ℕ)
 calls [] xs = []
-calls (Front ∷ ends) xs = first_of xs ∷ calls ends (behind_first xs)
+calls (end ∷ ends) xs = item_at end xs ∷ calls ends (without_item_at end xs)

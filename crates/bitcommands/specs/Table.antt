@@ -1,5 +1,5 @@
 -- The table: what each command answers, and what it leaves.
-use Rattle.std.specs.Prelude.{ℕ, Bool, true, false, List, Option}
+use Rattle.std.specs.Prelude.{ℕ, Bool, true, false, List, ◌++◌, Option, replicate}
 use Rattle.std.specs.Option.{option_or}
 use Rattle.fixedbitset.specs.Bits as model
 use Rattle.fixedbitset.specs.Bits.{Bits}
@@ -8,6 +8,7 @@ use Rattle.fixedbitset.specs.Ranges.{over}
 use Rattle.fixedbitset.specs.TwoSets as sets
 use Rattle.bitcommands.specs.declared.commands.refusals.Refusal.{Refusal}
 use Rattle.bitcommands.specs.declared.commands.walking.End.{End}
+use Rattle.bitcommands.specs.declared.commands.walking.End.TheVariants.{Front}
 use Rattle.bitcommands.specs.Actions as action
 use Rattle.bitcommands.specs.Actions.{Action, Range}
 use Rattle.bitcommands.specs.Answers as answer
@@ -49,6 +50,14 @@ compares s a b seen_as tell = row (no_sets s a b) (seen_as (tell (at s a) (at s 
 -- set k is walked over by calls that begin at these ends, and nothing changes
 abbrev pub walks : Sets → ℕ → List End → (Bits → List ℕ) → Row
 walks s k ends items = row (no_set s k) (answer.items (calls ends (items (at s k)))) s true
+
+-- the sets a and b are walked over by calls that begin at these ends, and nothing changes
+abbrev pub walks_over_two : Sets → ℕ → ℕ → List End → (Bits → Bits → List ℕ) → Row
+walks_over_two s a b ends items = row (no_sets s a b) (answer.items (calls ends (items (at s a) (at s b)))) s true
+
+-- set k is walked over as well, but it is taken for it: an empty set of length 0 stands in its place
+abbrev pub takes_and_walks : Sets → ℕ → List End → (Bits → List ℕ) → Row
+takes_and_walks s k ends items = row (no_set s k) (answer.items (calls ends (items (at s k)))) (place s k (model.empty 0)) true
 
 -- set k grows to the length n, where the limit m allows it
 abbrev pub grows : ℕ → Sets → ℕ → ℕ → Bits → Row
@@ -110,3 +119,9 @@ row_of m s (action.is_disjoint a b) = compares s a b answer.bool sets.is_disjoin
 row_of m s (action.is_subset a b) = compares s a b answer.bool sets.is_subset
 row_of m s (action.is_superset a b) = compares s a b answer.bool (λ v w. sets.is_subset w v)
 row_of m s (action.ones k ends) = walks s k ends model.asc
+row_of m s (action.into_ones k ends) = takes_and_walks s k ends model.asc
+row_of m s (action.zeroes k n) = walks s k (replicate n Front) (λ v. model.asc (model.complement v))
+row_of m s (action.union a b ends) = walks_over_two s a b ends (λ v w. model.asc v ++ model.asc (sets.difference w v))
+row_of m s (action.intersection a b ends) = walks_over_two s a b ends (λ v w. model.asc (sets.intersection v w))
+row_of m s (action.difference a b ends) = walks_over_two s a b ends (λ v w. model.asc (sets.difference v w))
+row_of m s (action.symmetric_difference a b ends) = walks_over_two s a b ends (λ v w. model.asc (sets.difference v w) ++ model.asc (sets.difference w v))

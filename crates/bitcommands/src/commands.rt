@@ -5,6 +5,7 @@ ghost use Rattle.bitcommands.specs.Answers.{answer_of};
 ghost use Rattle.bitcommands.specs.Steps.{Step, Run};
 ghost use Rattle.bitcommands.specs.Outcomes.{replied};
 
+mod calling;
 mod changing;
 mod comparing;
 mod joining;

@@ -1,10 +1,11 @@
 -- the operations on words, bit by bit, and that they give words
-use Rattle.std.specs.Prelude.{◌≡◌, ℕ, ◌+◌, ◌-◌, ◌<◌, ◌≤◌, ◌%◌, ◌^◌, Bool, true, false, ◌==◌, ◌&&◌, ◌||◌, not, bit_and, bit_or, bit_xor, refl}
+use Rattle.std.specs.Prelude.{◌≡◌, ℕ, ◌+◌, ◌-◌, ◌<◌, ◌≤◌, ◌*◌, ◌%◌, ◌^◌, Bool, true, false, ◌==◌, ◌&&◌, ◌||◌, not, bit_and, bit_or, bit_xor, refl}
 use Rattle.std.specs.Int.{bit_at, bit_not, w64}
 use Rattle.std.specs.Int.Bits.{and_lt}
 use Rattle.std.proofs.Common.{◌∙◌, ap, sym, arith, zero, suc, min, max, ◌⊎◌, inl, inr}
-use Rattle.std.proofs.lemmas.Nat.Bits.{bit_at_and, bit_at_or, bit_at_xor, bit_at_not, bit_at-lt, bit_at_above}
-use Rattle.std.proofs.lemmas.Nat.{or_lt, xor_lt, and_le_l}
+use Rattle.std.proofs.lemmas.Nat.Bits.{bit_at_and, bit_at_or, bit_at_xor, bit_at_not, bit_at-lt, bit_at_above, and_pow}
+use Rattle.std.proofs.lemmas.Nat.{or_lt, xor_lt, and_le_l, one_shl, pow_pos}
+use Rattle.std.proofs.lemmas.Bool.{ne_eqb}
 use Rattle.std.proofs.lemmas.Bool.Decides.{leb_tells}
 use lib.Dec.{leb}
 use Rattle.bitlanes.specs.Bits.{bit, either, bit_without}
@@ -44,6 +45,25 @@ without_at a b i p q (inl (_, above)) =
 
 pub bit-without : (a b i : ℕ) → a < 2 ^ 64 → b < 2 ^ 64 → bit (bit_without a b) i ≡ (bit a i && not (bit b i))
 bit-without a b i p q = without_at a b i p q (leb_tells 64 i)
+
+-- a bit of the inverted word
+pub bit-not : (a i : ℕ) → a < 2 ^ 64 → i < 64 → bit (bit_not w64 a) i ≡ not (bit a i)
+bit-not a i p below = ap (λ n. n == 1) (bit_at_not w64 a i p below) ∙ flipped (bit_at a i) (bit_at-lt a i)
+  where
+    flipped : (x : ℕ) → x < 2 → (1 - x == 1) ≡ not (x == 1)
+    flipped zero h = refl
+    flipped (suc zero) h = refl
+    flipped (suc (suc x)) h = absurd (omega arith)
+
+-- ---- the test `x & (1 << k) != 0`
+
+test_pow : (b k : ℕ) → b < 2 → not (b * 2 ^ k == 0) ≡ (b == 1)
+test_pow zero k h = let e : 0 * 2 ^ k ≡ 0 = omega arith in rw e
+test_pow (suc zero) k h = let p : 0 < 2 ^ k = pow_pos k in let e : (1 * 2 ^ k == 0) ≡ false = ne_eqb _ _ (λ e. omega arith) in ap not e
+test_pow (suc (suc b)) k h = absurd (omega arith)
+
+pub test_of_and : (x k : ℕ) → k < 64 → not (bit_and x (1 * 2 ^ k % 2 ^ 64) == 0) ≡ bit x k
+test_of_and x k h = rw (one_shl k 64 h, and_pow) (test_pow (bit_at x k) k (bit_at-lt x k))
 
 -- ---- the laws of the four operations
 

@@ -46,7 +46,31 @@ pub fn clear_lowest_bit(word: Block) -> Block
     word & (word - 1)
 }
 
-/// The word whose lowest `count` bits are set, and no other. It asks at most 64.
+/// Clears the lowest bit that is set, and answers its index. The word may not be 0.
+#[inline(always)]
+pub fn take_lowest_bit(word: &mut Block) -> usize
+    requires { word.old ≢ 0 }
+    ensures lowest { IsLowestBit word.old result }
+    ensures clears { ClearsBit word.old word.new result }
+{
+    let index = lowest_bit(*word);
+    *word = clear_lowest_bit(*word);
+    index
+}
+
+/// Clears the highest bit that is set, and answers its index. The word may not be 0.
+#[inline(always)]
+pub fn take_highest_bit(word: &mut Block) -> usize
+    requires { word.old ≢ 0 }
+    ensures highest { IsHighestBit word.old result }
+    ensures clears { ClearsBit word.old word.new result }
+{
+    let index = highest_bit(*word);
+    *word = clear_bit(*word, index);
+    index
+}
+
+/// The word whose lowest `count` bits are set, and no other. The count may be 64 at most.
 #[inline(always)]
 #[tactic(auto, using(crate::proofs::Stretches::some_ones, crate::proofs::Stretches::all_ones))]
 pub fn ones_below(count: usize) -> Block
@@ -60,7 +84,7 @@ pub fn ones_below(count: usize) -> Block
     }
 }
 
-/// The word whose bits from `low` up to and without `high` are set, and no other. It asks that neither is past 64.
+/// The word whose bits from `low` up to and without `high` are set, and no other. Neither may be past 64.
 ///
 /// Where `high` is `low` or less, no bit is set.
 #[inline(always)]

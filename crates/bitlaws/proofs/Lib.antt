@@ -2,3 +2,4 @@ mod OneList
 mod OfRanges
 mod Splits
 mod OfTwoSets
+pub mod OfWalks

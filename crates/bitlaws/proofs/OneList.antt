@@ -6,7 +6,7 @@ use Rattle.std.proofs.lemmas.Bool.{cases_eq}
 use Rattle.std.proofs.lemmas.List.Elements.{Contains-append_right, All-contains, filter_passes}
 use Rattle.std.proofs.lemmas.List.Kept.{AllPairs-from_increasing, IsStrictlyIncreasing-filter}
 use Rattle.std.proofs.lemmas.List.FromFn.{length-range_with_len, get_or-range_with_len}
-use Rattle.fixedbitset.specs.Ascending.{ascending}
+use Rattle.bitwords.specs.Ascending.{ascending}
 use Rattle.fixedbitset.specs.Bits.{Bits, contains, asc}
 use Rattle.fixedbitset.specs.BitsFacts.{contains_below}
 use Rattle.bitlaws.specs.AscendingLaws.{IsAscendingListOf, OneAscendingList}

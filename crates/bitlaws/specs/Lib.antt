@@ -1,3 +1,4 @@
 pub mod AscendingLaws
 pub mod RangeLaws
 pub mod TwoSetLaws
+pub mod WalkLaws

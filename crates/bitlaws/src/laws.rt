@@ -3,6 +3,9 @@
 ghost use Rattle.bitlaws.specs.AscendingLaws.{OneAscendingList};
 ghost use Rattle.bitlaws.specs.RangeLaws.{WordsOfRange, NumberOfRangeWords, RangeWordsBound, SearchBound, TogglingTwice, RangeCountsAddUp, IsValidTells, ContainsAllTells, ContainsAnyTells};
 ghost use Rattle.bitlaws.specs.TwoSetLaws.{CountsAddUp, SymmetricDifferenceIsSum, SubsetBothWays, IsSubsetTells, IsDisjointTells, StepsBound, StepsOfEqual};
+ghost use Rattle.bitlaws.specs.WalkLaws.{PartsAreTheList, TurnsOfCalls, LooksUpOnce, JoinsOnce, SplitsOnce};
+ghost use Rattle.bitwords.specs.Walk.{GivesFirst, GivesLast};
+ghost use Rattle.bitwalks.specs.Pairs.{SievesFirst, SievesLast, joined_items, JoinsFirst, JoinsLast, split_items, SplitsFirst, SplitsLast};
 
 /// The ascending list of a set's positions is strictly ascending and has them all and no other, and every list that is
 /// so is this one.
@@ -66,4 +69,23 @@ pub fn tests_of_two_sets()
 pub fn steps_of_two_sets()
     ensures bound { StepsBound }
     ensures equal { StepsOfEqual }
+{}
+
+/// Whatever calls were made of a walk from its two ends: the items that came from the front, then those left, then those
+/// that came from the back, reversed, are the items that it had. It holds of each walk over one set and over two.
+pub fn parts_are_the_list()
+    ensures of_one { PartsAreTheList (λ walk. walk.items) GivesFirst GivesLast }
+    ensures of_sieved { PartsAreTheList (λ sieved. sieved.items) SievesFirst SievesLast }
+    ensures of_joined { PartsAreTheList joined_items JoinsFirst JoinsLast }
+    ensures of_split { PartsAreTheList split_items SplitsFirst SplitsLast }
+{}
+
+/// What calls of a walk cost, in any order from its two ends. Calls of a walk over one set make exactly one turn each, and
+/// one more for each word that they take, each word once at most. A walk over two sets looks up each item that a source
+/// gave exactly once; `c` calls of it make its sources take at most `2 c` turns, one for each item and one for each word.
+pub fn turns_of_calls()
+    ensures of_one { TurnsOfCalls }
+    ensures of_sieved { LooksUpOnce }
+    ensures of_joined { JoinsOnce }
+    ensures of_split { SplitsOnce }
 {}

@@ -1,9 +1,10 @@
 -- The arguments of commands.
-use Rattle.std.specs.Prelude.{ℕ, ◌+◌, Bool, true, false, ◌==◌, List, [], ◌∷◌, length, take, drop, position, slice_index_or, Option, Some, None, if◌then◌else◌, codes}
+use Rattle.std.specs.Prelude.{ℕ, ◌+◌, Bool, true, false, ◌==◌, ◌&&◌, nat_lt, List, [], ◌∷◌, length, take, drop, position, slice_index_or, Option, Some, None, if◌then◌else◌, codes}
+use Rattle.std.specs.List.{list_all}
 use Rattle.std.specs.Str.{bytes_eq}
 use Rattle.bitlines.specs.Words.{◌>>=◌, number_of, number_at, at_end}
 use Rattle.bitcommands.specs.declared.commands.walking.End.{End}
-use Rattle.bitcommands.specs.declared.commands.walking.End.TheVariants.{Front}
+use Rattle.bitcommands.specs.declared.commands.walking.End.TheVariants.{Front, Back}
 use Rattle.bitcommands.specs.Actions.{Range}
 
 -- ---- one argument
@@ -45,7 +46,7 @@ range_at (w ∷ ws) = range_of w >>= λ r. Some (r, ws)
 
 -- the letter of an end
 unfoldable pub end_of : ℕ → Option End
-end_of letter = if letter == 102 then Some Front else None
+end_of letter = if letter == 102 then Some Front else (if letter == 98 then Some Back else None)
 
 -- an end for each letter
 unfoldable pub ends_from : List ℕ → Option (List End)
@@ -61,6 +62,15 @@ ends_of (c ∷ cs) = ends_from (c ∷ cs)
 unfoldable pub ends_at : List (List ℕ) → Option (List End × List (List ℕ))
 ends_at [] = None
 ends_at (w ∷ ws) = ends_of w >>= λ es. Some (es, ws)
+
+-- one or more letters `f`, as their number
+unfoldable pub fronts_of : List ℕ → Option ℕ
+fronts_of w = if nat_lt 0 (length w) && list_all (λ c. c == 102) w then Some (length w) else None
+
+-- the first word as such a number, and the words after it
+unfoldable pub fronts_at : List (List ℕ) → Option (ℕ × List (List ℕ))
+fronts_at [] = None
+fronts_at (w ∷ ws) = fronts_of w >>= λ n. Some (n, ws)
 
 -- ---- all arguments of a command
 
@@ -121,3 +131,20 @@ one_and_ends ws = do
   es ← ends_at a.1
   end ← at_end es.1
   Some (a.0, es.0)
+
+-- two numbers and ends
+unfoldable pub two_and_ends : List (List ℕ) → Option (ℕ × ℕ × List End)
+two_and_ends ws = do
+  a ← number_at ws
+  b ← number_at a.1
+  es ← ends_at b.1
+  end ← at_end es.1
+  Some (a.0, b.0, es.0)
+
+-- a number, and a number of letters `f`
+unfoldable pub one_and_fronts : List (List ℕ) → Option (ℕ × ℕ)
+one_and_fronts ws = do
+  a ← number_at ws
+  n ← fronts_at a.1
+  end ← at_end n.1
+  Some (a.0, n.0)

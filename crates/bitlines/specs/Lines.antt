@@ -1,9 +1,10 @@
 -- Which command a line stands for.
 use Rattle.std.specs.Prelude.{ℕ, Bool, true, false, List, [], ◌∷◌, Option, Some, None}
+use Rattle.bitcommands.specs.declared.commands.walking.End.{End}
 use Rattle.bitcommands.specs.Actions as action
 use Rattle.bitcommands.specs.Actions.{Action, Range}
 use Rattle.bitlines.specs.Words.{◌>>=◌, words}
-use Rattle.bitlines.specs.Arguments.{one, two, three, two_and_flag, one_and_range, range_and_flag, one_and_ends}
+use Rattle.bitlines.specs.Arguments.{one, two, three, two_and_flag, one_and_range, range_and_flag, one_and_ends, two_and_ends, one_and_fronts}
 use Rattle.bitlines.specs.Names.{name_of}
 use Rattle.bitlines.specs.declared.names.Name.{Name}
 use Rattle.bitlines.specs.declared.names.Name.TheVariants as name
@@ -17,6 +18,10 @@ use Rattle.bitlines.specs.declared.names.ThreeSets.{ThreeSets}
 use Rattle.bitlines.specs.declared.names.ThreeSets.TheVariants as three_sets
 use Rattle.bitlines.specs.declared.names.SetAndRange.{SetAndRange}
 use Rattle.bitlines.specs.declared.names.SetAndRange.TheVariants as set_and_range
+use Rattle.bitlines.specs.declared.names.SetAndEnds.{SetAndEnds}
+use Rattle.bitlines.specs.declared.names.SetAndEnds.TheVariants as set_and_ends
+use Rattle.bitlines.specs.declared.names.TwoSetsAndEnds.{TwoSetsAndEnds}
+use Rattle.bitlines.specs.declared.names.TwoSetsAndEnds.TheVariants as two_sets_and_ends
 
 -- ---- what a name and its arguments mean
 
@@ -68,6 +73,18 @@ of_set_and_range set_and_range.ContainsAllInRange k r = action.contains_all_in_r
 of_set_and_range set_and_range.ContainsAnyInRange k r = action.contains_any_in_range k r
 of_set_and_range set_and_range.RangeIsValid k r = action.range_is_valid k r
 
+-- a command on a set and the ends of a walk over it
+abbrev pub of_set_and_ends : SetAndEnds → ℕ → List End → Action
+of_set_and_ends set_and_ends.Ones k ends = action.ones k ends
+of_set_and_ends set_and_ends.IntoOnes k ends = action.into_ones k ends
+
+-- a command on two sets and the ends of a walk over them
+abbrev pub of_two_sets_and_ends : TwoSetsAndEnds → ℕ → ℕ → List End → Action
+of_two_sets_and_ends two_sets_and_ends.Union a b ends = action.union a b ends
+of_two_sets_and_ends two_sets_and_ends.Intersection a b ends = action.intersection a b ends
+of_two_sets_and_ends two_sets_and_ends.Difference a b ends = action.difference a b ends
+of_two_sets_and_ends two_sets_and_ends.SymmetricDifference a b ends = action.symmetric_difference a b ends
+
 -- the command of this name with these arguments, if they are what it asks for
 unfoldable pub command_by : Name → List (List ℕ) → Option Action
 command_by (name.OneSet c) args = one args >>= λ k. Some (of_one_set c k)
@@ -77,7 +94,9 @@ command_by (name.ThreeSets c) args = three args >>= λ x. Some (of_three_sets c 
 command_by (name.SetAndRange c) args = one_and_range args >>= λ x. Some (of_set_and_range c x.0 x.1)
 command_by name.Set args = two_and_flag args >>= λ x. Some (action.set x.0 x.1 x.2)
 command_by name.SetRange args = range_and_flag args >>= λ x. Some (action.set_range x.0 x.1 x.2)
-command_by name.Ones args = one_and_ends args >>= λ x. Some (action.ones x.0 x.1)
+command_by (name.SetAndEnds c) args = one_and_ends args >>= λ x. Some (of_set_and_ends c x.0 x.1)
+command_by (name.TwoSetsAndEnds c) args = two_and_ends args >>= λ x. Some (of_two_sets_and_ends c x.0 x.1 x.2)
+command_by name.Zeroes args = one_and_fronts args >>= λ x. Some (action.zeroes x.0 x.1)
 
 -- ---- lines
 
@@ -94,7 +113,8 @@ command_of line = command_of_words (words line)
 
 -- whether a command of this name has a list
 abbrev pub has_list : Name → Bool
-has_list name.Ones = true
+has_list (name.SetAndEnds c) = true
+has_list (name.TwoSetsAndEnds c) = true
 has_list c = false
 
 -- whether there is a name, and a command of this name has a list

@@ -3,12 +3,14 @@ use Rattle.std.specs.Prelude.{ℕ, List, [], ◌∷◌, Option, Some, None, if�
 use Rattle.std.specs.Option.{option_or}
 use Rattle.std.specs.Str.{bytes_eq}
 use Rattle.bitlines.specs.declared.names.Name.{Name}
-use Rattle.bitlines.specs.declared.names.Name.TheVariants.{OneSet, SetAndNumber, TwoSets, ThreeSets, SetAndRange, Set, SetRange, Ones}
+use Rattle.bitlines.specs.declared.names.Name.TheVariants.{OneSet, SetAndNumber, TwoSets, ThreeSets, SetAndRange, SetAndEnds, TwoSetsAndEnds, Set, SetRange, Zeroes}
 use Rattle.bitlines.specs.declared.names.OneSet.TheVariants.{Len}
 use Rattle.bitlines.specs.declared.names.SetAndNumber.TheVariants.{WithCapacity, Contains, Grow, Insert, Remove, Toggle, Put}
 use Rattle.bitlines.specs.declared.names.TwoSets.TheVariants.{UnionWith, SymmetricDifferenceWith, BitorAssign, BitxorAssign, IntersectWith, DifferenceWith, BitandAssign, UnionCount, IntersectionCount, DifferenceCount, SymmetricDifferenceCount, IsDisjoint, IsSubset, IsSuperset}
 use Rattle.bitlines.specs.declared.names.ThreeSets.TheVariants.{Bitand, Bitor, Bitxor}
 use Rattle.bitlines.specs.declared.names.SetAndRange.TheVariants.{CountOnes, CountZeroes, InsertRange, RemoveRange, ToggleRange, ContainsAllInRange, ContainsAnyInRange, RangeIsValid}
+use Rattle.bitlines.specs.declared.names.SetAndEnds.TheVariants.{Ones, IntoOnes}
+use Rattle.bitlines.specs.declared.names.TwoSetsAndEnds.TheVariants.{Union, Intersection, Difference, SymmetricDifference}
 
 -- the name that stands beside this text, in a list of texts and names
 abbrev pub name_in : List (List ℕ × Name) → List ℕ → Option Name
@@ -22,17 +24,21 @@ short_names =
     (codes "put", SetAndNumber Put) ∷
     (codes "set", Set) ∷
     (codes "grow", SetAndNumber Grow) ∷
-    (codes "ones", Ones) ∷
+    (codes "ones", SetAndEnds Ones) ∷
     (codes "bitor", ThreeSets Bitor) ∷
+    (codes "union", TwoSetsAndEnds Union) ∷
     (codes "bitand", ThreeSets Bitand) ∷
     (codes "bitxor", ThreeSets Bitxor) ∷
     (codes "insert", SetAndNumber Insert) ∷
     (codes "remove", SetAndNumber Remove) ∷
     (codes "toggle", SetAndNumber Toggle) ∷
+    (codes "zeroes", Zeroes) ∷
     (codes "contains", SetAndNumber Contains) ∷
+    (codes "into_ones", SetAndEnds IntoOnes) ∷
     (codes "is_subset", TwoSets IsSubset) ∷
     (codes "set_range", SetRange) ∷
     (codes "count_ones", SetAndRange CountOnes) ∷
+    (codes "difference", TwoSetsAndEnds Difference) ∷
     (codes "union_with", TwoSets UnionWith) ∷
     []
 
@@ -45,6 +51,7 @@ long_names =
     (codes "bitor_assign", TwoSets BitorAssign) ∷
     (codes "count_zeroes", SetAndRange CountZeroes) ∷
     (codes "insert_range", SetAndRange InsertRange) ∷
+    (codes "intersection", TwoSetsAndEnds Intersection) ∷
     (codes "remove_range", SetAndRange RemoveRange) ∷
     (codes "toggle_range", SetAndRange ToggleRange) ∷
     (codes "bitand_assign", TwoSets BitandAssign) ∷
@@ -55,6 +62,7 @@ long_names =
     (codes "difference_with", TwoSets DifferenceWith) ∷
     (codes "difference_count", TwoSets DifferenceCount) ∷
     (codes "intersection_count", TwoSets IntersectionCount) ∷
+    (codes "symmetric_difference", TwoSetsAndEnds SymmetricDifference) ∷
     (codes "contains_all_in_range", SetAndRange ContainsAllInRange) ∷
     (codes "contains_any_in_range", SetAndRange ContainsAnyInRange) ∷
     (codes "symmetric_difference_with", TwoSets SymmetricDifferenceWith) ∷

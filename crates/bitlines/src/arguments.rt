@@ -1,7 +1,8 @@
 //! The arguments of commands.
-ghost use Rattle.std.specs.Prelude.{◌≡◌, true, false};
+ghost use Rattle.std.specs.Prelude.{◌≡◌, ◌==◌, true, false};
+ghost use Rattle.std.specs.List.{list_all};
 ghost use Rattle.bitlines.specs.Reads.{Reads};
-ghost use Rattle.bitlines.specs.Arguments.{bound_of, bounds_of, range_of, range_at, end_of, ends_of, ends_at, one, two, three, two_and_flag, one_and_range, range_and_flag, one_and_ends};
+ghost use Rattle.bitlines.specs.Arguments.{bound_of, bounds_of, range_of, range_at, end_of, ends_of, ends_at, one, two, three, two_and_flag, one_and_range, range_and_flag, one_and_ends, two_and_ends, fronts_of, fronts_at, one_and_fronts};
 
 use crate::lines::LineFault;
 use crate::words::{Words, find, number};
@@ -124,6 +125,20 @@ pub(crate) fn one_and_ends(
     Ok((set, ends))
 }
 
+#[tactic(auto, unfolding(crate::specs::Arguments::two_and_ends))]
+pub(crate) fn two_and_ends(
+    alloc: Global,
+    mut args: Words<'_>,
+) -> Result<(usize, usize, Vec<End>), LineFault>
+    ensures { Reads true (λ x. (x.0, x.1, x.2.items)) result (two_and_ends args.entry) }
+{
+    let a = args.number()?;
+    let b = args.number()?;
+    let ends = ends_in(alloc, &mut args)?;
+    args.end()?;
+    Ok((a, b, ends))
+}
+
 #[tactic(auto, unfolding(crate::specs::Arguments::ends_at))]
 fn ends_in(alloc: Global, args: &mut Words<'_>) -> Result<Vec<End>, LineFault>
     ensures { Reads true (λ ends. (ends.items, args.new)) result (ends_at args.old) }
@@ -158,6 +173,43 @@ fn end_of(letter: u8) -> Option<End>
 {
     match letter {
         b'f' => Some(End::Front),
+        b'b' => Some(End::Back),
         _ => None,
     }
+}
+
+#[tactic(auto, unfolding(crate::specs::Arguments::one_and_fronts))]
+pub(crate) fn one_and_fronts(mut args: Words<'_>) -> Result<(usize, usize), LineFault>
+    ensures { Reads false (λ x. x) result (one_and_fronts args.entry) }
+{
+    let set = args.number()?;
+    let count = fronts_in(&mut args)?;
+    args.end()?;
+    Ok((set, count))
+}
+
+#[tactic(auto, unfolding(crate::specs::Arguments::fronts_at))]
+fn fronts_in(args: &mut Words<'_>) -> Result<usize, LineFault>
+    ensures { Reads false (λ n. (n, args.new)) result (fronts_at args.old) }
+{
+    let word = args.next().ok_or(LineFault::NotACommand)?;
+    fronts(word).ok_or(LineFault::NotACommand)
+}
+
+// One or more letters `f`, as their number.
+#[tactic(auto, unfolding(crate::specs::Arguments::fronts_of))]
+fn fronts(word: &[u8]) -> Option<usize>
+    ensures { result ≡ fronts_of word.now }
+{
+    if word.is_empty() || !is_each_front(word) {
+        return None;
+    }
+    Some(word.len())
+}
+
+// Whether each letter is an `f`.
+fn is_each_front(word: &[u8]) -> bool
+    ensures { result ≡ list_all (λ letter. letter == 102) word.now }
+{
+    word.iter().all(|letter| *letter == b'f')
 }

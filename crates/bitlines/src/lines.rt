@@ -1,15 +1,20 @@
 //! Lines as commands.
-ghost use Rattle.std.specs.Prelude.{◌≡◌};
+ghost use Rattle.std.specs.Prelude.{◌≡◌, true};
 ghost use Rattle.bitcommands.specs.Actions.{action_of};
 ghost use Rattle.bitlines.specs.Reads.{Reads};
-ghost use Rattle.bitlines.specs.Lines.{of_one_set, of_set_and_number, of_two_sets, of_three_sets, of_set_and_range, command_by, command_of, has_list, may_lack};
+ghost use Rattle.bitlines.specs.declared.names.Name.TheVariants as names;
+ghost use Rattle.bitlines.specs.Lines.{of_one_set, of_set_and_number, of_two_sets, of_three_sets, of_set_and_range, of_set_and_ends, of_two_sets_and_ends, command_by, command_of, has_list, may_lack};
 
 use crate::arguments::{
-    one, one_and_ends, one_and_range, range_and_flag, three, two, two_and_flag,
+    one, one_and_ends, one_and_fronts, one_and_range, range_and_flag, three, two, two_and_ends,
+    two_and_flag,
 };
-use crate::names::{Name, OneSet, SetAndNumber, SetAndRange, ThreeSets, TwoSets, name_of};
+use crate::names::{
+    Name, OneSet, SetAndEnds, SetAndNumber, SetAndRange, ThreeSets, TwoSets, TwoSetsAndEnds,
+    name_of,
+};
 use crate::words::Words;
-use bitcommands::commands::{Change, Command, Compare, Look, Make, Ranged, Span, Walk, Whole};
+use bitcommands::commands::{Change, Command, Compare, End, Look, Make, Ranged, Span, Walk, Whole};
 use std::alloc::Global;
 
 /// Why a line gives no command.
@@ -25,7 +30,8 @@ pub enum LineFault {
 /// and none at the ends (`docs/COMMANDS.md`). The line is given without its line end.
 ///
 /// `NotACommand` comes only where the line stands for none, and `Memory` only where the first word is that of a command
-/// with a list (`ones`). Any other line takes no memory.
+/// with a list: `ones`, `into_ones`, `union`, `intersection`, `difference` and `symmetric_difference`. Any other line
+/// takes no memory.
 #[tactic(auto, unfolding(crate::specs::Lines::command_of_words, crate::specs::Lines::begins_with_list))]
 #[inline]
 pub fn parse_line(alloc: Global, line: &[u8]) -> Result<Command, LineFault>
@@ -71,11 +77,29 @@ fn command_by(alloc: Global, name: Name, args: Words<'_>) -> Result<Command, Lin
             let (set, range, value) = range_and_flag(args)?;
             Ok(Command::Ranged(Ranged::SetRange { set, range, value }))
         }
-        Name::Ones => {
-            let (set, ends) = one_and_ends(alloc, args)?;
-            Ok(Command::Walk(Walk::Ones { set, ends }))
+        Name::SetAndEnds(name) => walk_over_one(alloc, name, args),
+        Name::TwoSetsAndEnds(name) => walk_over_two(alloc, name, args),
+        Name::Zeroes => {
+            let (set, count) = one_and_fronts(args)?;
+            Ok(Command::Walk(Walk::Zeroes { set, count }))
         }
     }
+}
+
+#[tactic(auto, unfolding(crate::specs::Lines::command_by))]
+fn walk_over_one(alloc: Global, name: SetAndEnds, args: Words<'_>) -> Result<Command, LineFault>
+    ensures { Reads true action_of result (command_by (names.SetAndEnds name) args.entry) }
+{
+    let (set, ends) = one_and_ends(alloc, args)?;
+    Ok(of_set_and_ends(name, set, ends))
+}
+
+#[tactic(auto, unfolding(crate::specs::Lines::command_by))]
+fn walk_over_two(alloc: Global, name: TwoSetsAndEnds, args: Words<'_>) -> Result<Command, LineFault>
+    ensures { Reads true action_of result (command_by (names.TwoSetsAndEnds name) args.entry) }
+{
+    let (a, b, ends) = two_and_ends(alloc, args)?;
+    Ok(of_two_sets_and_ends(name, a, b, ends))
 }
 
 fn of_one_set(name: OneSet, set: usize) -> Command
@@ -154,5 +178,27 @@ fn of_set_and_range(name: SetAndRange, set: usize, range: Span) -> Command
             range,
         }),
         SetAndRange::RangeIsValid => Command::Ranged(Ranged::RangeIsValid { set, range }),
+    }
+}
+
+fn of_set_and_ends(name: SetAndEnds, set: usize, ends: Vec<End>) -> Command
+    ensures { action_of result ≡ of_set_and_ends name set ends.items }
+{
+    match name {
+        SetAndEnds::Ones => Command::Walk(Walk::Ones { set, ends }),
+        SetAndEnds::IntoOnes => Command::Walk(Walk::IntoOnes { set, ends }),
+    }
+}
+
+fn of_two_sets_and_ends(name: TwoSetsAndEnds, a: usize, b: usize, ends: Vec<End>) -> Command
+    ensures { action_of result ≡ of_two_sets_and_ends name a b ends.items }
+{
+    match name {
+        TwoSetsAndEnds::Union => Command::Walk(Walk::Union { a, b, ends }),
+        TwoSetsAndEnds::Intersection => Command::Walk(Walk::Intersection { a, b, ends }),
+        TwoSetsAndEnds::Difference => Command::Walk(Walk::Difference { a, b, ends }),
+        TwoSetsAndEnds::SymmetricDifference => {
+            Command::Walk(Walk::SymmetricDifference { a, b, ends })
+        }
     }
 }

@@ -17,12 +17,16 @@ pub(crate) enum Name {
     ThreeSets(ThreeSets),
     /// A set and a range.
     SetAndRange(SetAndRange),
+    /// A set and the ends of a walk.
+    SetAndEnds(SetAndEnds),
+    /// Two sets and the ends of a walk.
+    TwoSetsAndEnds(TwoSetsAndEnds),
     /// A set, a position and whether it is set.
     Set,
     /// A set, a range and whether it is set.
     SetRange,
-    /// A set and the ends of a walk.
-    Ones,
+    /// A set and a number of calls from the front of a walk.
+    Zeroes,
 }
 
 /// The name of a command on a set.
@@ -83,6 +87,22 @@ pub(crate) enum SetAndRange {
     RangeIsValid,
 }
 
+/// The name of a command on a set and the ends of a walk over it.
+#[derive(Clone, Copy)]
+pub(crate) enum SetAndEnds {
+    Ones,
+    IntoOnes,
+}
+
+/// The name of a command on two sets and the ends of a walk over them.
+#[derive(Clone, Copy)]
+pub(crate) enum TwoSetsAndEnds {
+    Union,
+    Intersection,
+    Difference,
+    SymmetricDifference,
+}
+
 // The name beside the text that the word is, if there is one.
 macro_rules! name_in {
     ($word:expr; $($text:literal => $name:expr,)+) => {{
@@ -114,17 +134,21 @@ fn short_name(word: &[u8]) -> Option<Name>
         b"put" => Name::SetAndNumber(SetAndNumber::Put),
         b"set" => Name::Set,
         b"grow" => Name::SetAndNumber(SetAndNumber::Grow),
-        b"ones" => Name::Ones,
+        b"ones" => Name::SetAndEnds(SetAndEnds::Ones),
         b"bitor" => Name::ThreeSets(ThreeSets::Bitor),
+        b"union" => Name::TwoSetsAndEnds(TwoSetsAndEnds::Union),
         b"bitand" => Name::ThreeSets(ThreeSets::Bitand),
         b"bitxor" => Name::ThreeSets(ThreeSets::Bitxor),
         b"insert" => Name::SetAndNumber(SetAndNumber::Insert),
         b"remove" => Name::SetAndNumber(SetAndNumber::Remove),
         b"toggle" => Name::SetAndNumber(SetAndNumber::Toggle),
+        b"zeroes" => Name::Zeroes,
         b"contains" => Name::SetAndNumber(SetAndNumber::Contains),
+        b"into_ones" => Name::SetAndEnds(SetAndEnds::IntoOnes),
         b"is_subset" => Name::TwoSets(TwoSets::IsSubset),
         b"set_range" => Name::SetRange,
         b"count_ones" => Name::SetAndRange(SetAndRange::CountOnes),
+        b"difference" => Name::TwoSetsAndEnds(TwoSetsAndEnds::Difference),
         b"union_with" => Name::TwoSets(TwoSets::UnionWith),
     )
 }
@@ -139,6 +163,7 @@ fn long_name(word: &[u8]) -> Option<Name>
         b"bitor_assign" => Name::TwoSets(TwoSets::BitorAssign),
         b"count_zeroes" => Name::SetAndRange(SetAndRange::CountZeroes),
         b"insert_range" => Name::SetAndRange(SetAndRange::InsertRange),
+        b"intersection" => Name::TwoSetsAndEnds(TwoSetsAndEnds::Intersection),
         b"remove_range" => Name::SetAndRange(SetAndRange::RemoveRange),
         b"toggle_range" => Name::SetAndRange(SetAndRange::ToggleRange),
         b"bitand_assign" => Name::TwoSets(TwoSets::BitandAssign),
@@ -149,6 +174,7 @@ fn long_name(word: &[u8]) -> Option<Name>
         b"difference_with" => Name::TwoSets(TwoSets::DifferenceWith),
         b"difference_count" => Name::TwoSets(TwoSets::DifferenceCount),
         b"intersection_count" => Name::TwoSets(TwoSets::IntersectionCount),
+        b"symmetric_difference" => Name::TwoSetsAndEnds(TwoSetsAndEnds::SymmetricDifference),
         b"contains_all_in_range" => Name::SetAndRange(SetAndRange::ContainsAllInRange),
         b"contains_any_in_range" => Name::SetAndRange(SetAndRange::ContainsAnyInRange),
         b"symmetric_difference_with" => Name::TwoSets(TwoSets::SymmetricDifferenceWith),

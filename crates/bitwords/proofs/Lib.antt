@@ -4,3 +4,7 @@ pub mod Ones
 pub mod Counted
 pub mod TwoRows
 pub mod Cleared
+pub mod OnesFrom
+pub mod RowEnds
+pub mod Left
+pub mod Cut

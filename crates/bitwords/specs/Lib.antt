@@ -1,5 +1,11 @@
 pub mod Rows
 pub mod Steps
+pub mod Ascending
+pub mod AscendingFacts
+pub mod Walk
 pub mod CountFacts
 pub mod RowFacts
 pub mod Cuts
+pub mod WalkedWords
+pub mod CallFacts
+pub mod WalkFacts

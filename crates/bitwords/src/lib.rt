@@ -4,5 +4,7 @@
 //! any two lengths. No call here knows a set or its length.
 #![tactic(auto)]
 
+pub mod cursors;
 pub mod joins;
+pub mod positions;
 pub mod ranges;

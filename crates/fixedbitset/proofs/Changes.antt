@@ -3,8 +3,9 @@ use Rattle.std.proofs.Common.{◌≡◌, ◌≢◌, ℕ, zero, suc, ◌+◌, ◌
 use Rattle.std.specs.Int.{bit_at, bit_not, w64}
 use Rattle.std.proofs.lemmas.Bool.{cases_eq, eq-eqb, ne_eqb}
 use Rattle.std.proofs.lemmas.List.{get_or-set_same, get_or-set_other, length-set, get_or_default}
-use Rattle.std.proofs.lemmas.Nat.{one_shl, pow_pos}
-use Rattle.std.proofs.lemmas.Nat.Bits.{bit_at_set_same, bit_at_set_other, bit_at_clear_same, bit_at_clear_other, bit_at_xor, bit_at-pow_same, bit_at-pow_other, bit_at-lt, bit_at-zero, and_pow}
+use Rattle.std.proofs.lemmas.Nat.{one_shl}
+use Rattle.std.proofs.lemmas.Nat.Bits.{bit_at_set_same, bit_at_set_other, bit_at_clear_same, bit_at_clear_other, bit_at_xor, bit_at-pow_same, bit_at-pow_other, bit_at-lt, bit_at-zero}
+use Rattle.bitlanes.specs.BitLaws.{test_of_and}
 use Rattle.bitwords.specs.CountFacts.{indicator}
 use Rattle.bitwords.specs.Rows.{has_bit}
 use Rattle.fixedbitset.specs.Bits.{Bits, contains, insert, remove, set_bit, toggle, empty}
@@ -61,14 +62,6 @@ has_bit-set ws bit new b h changes p =
     (cases_eq (p / 64) (bit / 64))
     ∙ ap (λ t. cond t b (has_bit ws p)) (sym (ne_eqb p bit ne)))
     (cases_eq p bit)
-
-test_pow : (b k : ℕ) → b < 2 → not (b * 2 ^ k == 0) ≡ (b == 1)
-test_pow zero k h = let e : 0 * 2 ^ k ≡ 0 = omega arith in rw e
-test_pow (suc zero) k h = let p : 0 < 2 ^ k = pow_pos k in let e : (1 * 2 ^ k == 0) ≡ false = ne_eqb _ _ (λ e. omega arith) in ap not e
-test_pow (suc (suc b)) k h = absurd (omega arith)
-
-test_of_and : (x k : ℕ) → k < 64 → not (bit_and x (1 * 2 ^ k % 2 ^ 64) == 0) ≡ (bit_at x k == 1)
-test_of_and x k h = rw (one_shl k 64 h, and_pow) (test_pow (bit_at x k) k (bit_at-lt x k))
 
 -- a position below the length stands in one of the words
 pub place_within : (n bit : ℕ) (ws : List ℕ) → IsClean n ws → bit < n → bit / 64 < length ws

@@ -2,8 +2,9 @@ pub mod Values
 pub mod Words
 pub mod Changes
 pub mod Growth
-pub mod Ascending
-pub mod OnesFrom
 pub mod JoinedWords
 pub mod JoinedValues
 pub mod JoinedCounts
+pub mod Positions
+pub mod PairItems
+pub mod PairRows

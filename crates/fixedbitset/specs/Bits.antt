@@ -6,7 +6,7 @@ use Rattle.std.specs.Int.{div_ceil}
 use Rattle.std.specs.FinSet as set
 use Rattle.std.specs.FinSet.{FinSet}
 use Rattle.fixedbitset.specs.Numbers.{numbers_below, kept_below}
-use Rattle.fixedbitset.specs.Ascending.{ascending}
+use Rattle.bitwords.specs.Ascending.{ascending}
 
 -- a length, and a set of positions below it
 pub record Bits : Type 0 where
@@ -48,7 +48,11 @@ toggle v bit = set_bit v bit (not (contains v bit))
 unfoldable pub grow : Bits → ℕ → Bits
 grow v bits = pair (max v.length bits) v.positions
 
--- ---- words
+-- ---- positions and words
+
+-- the same length, and the positions below it that are not set
+unfoldable pub complement : Bits → Bits
+complement v = pair v.length (set.difference (numbers_below v.length) v.positions)
 
 -- the positions in ascending order
 unfoldable pub asc : Bits → List ℕ

@@ -9,7 +9,7 @@ use Rattle.std.proofs.Common.{refl, sym, ap, ◌∙◌, arith, IsTrue}
 use Rattle.std.proofs.lemmas.Bool.{ltb-true, lt-ltb, eqb-true, false_from_ne_true}
 use mathlib.Core.HLevel.{Σ_prop_path}
 use Rattle.fixedbitset.specs.Numbers.{numbers_below, contains-numbers_below}
-use Rattle.fixedbitset.specs.Bits.{Bits, pair, contains, empty, insert, remove, set_bit, toggle, grow}
+use Rattle.fixedbitset.specs.Bits.{Bits, pair, contains, empty, insert, remove, set_bit, toggle, grow, complement}
 
 -- a last test that the one before it implies
 pub last_holds : (a b c : Bool) → (b ≡ true → c ≡ true) → ((a && b) && c) ≡ (a && b)
@@ -111,6 +111,22 @@ unfolding grow contains
 contains-grow v bits p =
     contains-pair (max v.length bits) _ p
     ∙ last_holds true (contains v p) _ (λ one. let h : p < v.length = contains_below v p one in lt-ltb _ _ (omega arith))
+
+pub length-complement : (v : Bits) → (complement v).length ≡ v.length
+unfolding complement
+length-complement v = length-pair v.length _
+
+pub contains-complement : (v : Bits) (p : ℕ) → contains (complement v) p ≡ (nat_lt p v.length && not (contains v p))
+unfolding complement contains
+contains-complement v p =
+    contains-pair v.length _ p
+    ∙ ap (λ b. b && nat_lt p v.length) (set.contains-difference nat_cmp_total (numbers_below v.length) v.positions p ∙ ap (λ b. b && not (contains v p)) (contains-numbers_below v.length p))
+    ∙ first_again (nat_lt p v.length) (not (contains v p))
+  where
+    first_again : (a b : Bool) → ((a && b) && a) ≡ (a && b)
+    first_again true true = refl
+    first_again true false = refl
+    first_again false b = refl
 
 -- what a caller needs of each change
 pub ruleset facts = (length-empty, length-insert, length-remove, length-set_bit, length-toggle, length-grow, contains-empty, contains-insert, contains-remove, contains-set_bit, contains-toggle, contains-grow)

@@ -1,13 +1,13 @@
 pub mod Numbers
-pub mod Ascending
 pub mod Bits
 pub mod Ranges
 pub mod TwoSets
-pub mod Walk
 pub mod NumbersFacts
 pub mod BitsFacts
 pub mod RangesFacts
 pub mod TwoSetsFacts
 pub mod BitsCode
 pub mod Stored
-pub mod WalkedWords
+pub mod WalkFacts
+pub mod FillFacts
+pub mod Walks

@@ -8,11 +8,12 @@ pub mod bits;
 pub mod counted;
 mod joined;
 pub mod operators;
+pub mod pairs;
 pub mod ranges;
 pub mod set;
 pub mod walks;
 pub mod whole;
 
 pub use bitlanes::{Block, IndexRange, Steps};
+pub use bitwalks::{Difference, Intersection, IntoOnes, Ones, SymmetricDifference, Union, Zeroes};
 pub use set::FixedBitSet;
-pub use walks::Ones;

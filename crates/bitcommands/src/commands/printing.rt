@@ -1,5 +1,5 @@
 //! Texts of replies, put behind an output.
-ghost use Rattle.std.specs.Prelude.{◌≡◌, ◌++◌, ◌≤◌, drop, OnOk};
+ghost use Rattle.std.specs.Prelude.{◌≡◌, ◌++◌, ◌≤◌, drop, take, vec_len, OnOk, OnErr};
 ghost use Rattle.std.specs.Fmt.{decimal};
 ghost use Rattle.bitcommands.specs.Texts.{flag_text, item_text, items_text};
 
@@ -10,7 +10,8 @@ const DIGITS: usize = 20;
 
 #[inline]
 pub(super) fn push_flag(flag: bool, output: &mut Vec<u8>) -> Result<(), AllocError>
-    ensures { OnOk result (output.new.items ≡ output.old.items ++ flag_text flag) }
+    ensures ok { OnOk result (output.new.items ≡ output.old.items ++ flag_text flag) }
+    ensures err { OnErr result (output.new.items ≡ output.old.items) }
 {
     if flag {
         output.extend_from_slice(b"true")
@@ -19,9 +20,23 @@ pub(super) fn push_flag(flag: bool, output: &mut Vec<u8>) -> Result<(), AllocErr
     }
 }
 
-// The items, one space between two of them.
+// The items, one space between two of them. Where memory is refused the output is as it was.
 pub(super) fn push_items(items: &[Option<usize>], output: &mut Vec<u8>) -> Result<(), AllocError>
-    ensures { OnOk result (output.new.items ≡ output.old.items ++ items_text items.now) }
+    ensures ok { OnOk result (output.new.items ≡ output.old.items ++ items_text items.now) }
+    ensures err { OnErr result (output.new.items ≡ output.old.items) }
+{
+    let before = output.len();
+    let pushed = push_spaced(items, output);
+    if pushed.is_err() {
+        output.truncate(before);
+    }
+    pushed
+}
+
+// The same. Where memory is refused, a part of the text may stand behind the output.
+fn push_spaced(items: &[Option<usize>], output: &mut Vec<u8>) -> Result<(), AllocError>
+    ensures ok { OnOk result (output.new.items ≡ output.old.items ++ items_text items.now) }
+    ensures err { OnErr result (take (vec_len output.old) output.new.items ≡ output.old.items) }
 {
     let Some((first, rest)) = items.split_first() else {
         return Ok(());
@@ -35,7 +50,8 @@ pub(super) fn push_items(items: &[Option<usize>], output: &mut Vec<u8>) -> Resul
 }
 
 fn push_item(item: Option<usize>, output: &mut Vec<u8>) -> Result<(), AllocError>
-    ensures { OnOk result (output.new.items ≡ output.old.items ++ item_text item) }
+    ensures ok { OnOk result (output.new.items ≡ output.old.items ++ item_text item) }
+    ensures err { OnErr result (output.new.items ≡ output.old.items) }
 {
     match item {
         Some(position) => push_number(position, output),
@@ -44,7 +60,8 @@ fn push_item(item: Option<usize>, output: &mut Vec<u8>) -> Result<(), AllocError
 }
 
 pub(super) fn push_number(number: usize, output: &mut Vec<u8>) -> Result<(), AllocError>
-    ensures { OnOk result (output.new.items ≡ output.old.items ++ decimal number) }
+    ensures ok { OnOk result (output.new.items ≡ output.old.items ++ decimal number) }
+    ensures err { OnErr result (output.new.items ≡ output.old.items) }
 {
     let mut digits = [0; DIGITS];
     let start = write_digits(number, &mut digits);

@@ -21,15 +21,17 @@ pub enum Reply {
 }
 
 impl Reply {
-    ghost use Rattle.std.specs.Prelude.{◌≡◌, ◌++◌, OnOk};
+    ghost use Rattle.std.specs.Prelude.{◌≡◌, ◌++◌, OnOk, OnErr};
     ghost use Rattle.bitcommands.specs.Answers.{answer_of};
     ghost use Rattle.bitcommands.specs.Texts.{answer_text};
 
-    /// Puts the text that `Display` prints behind the output, without a formatter. Where memory is refused, a part of
-    /// the text may stand there.
+    /// Puts the text that `Display` prints behind the output, without a formatter.
+    ///
+    /// `Err` comes only where memory for the text was refused. The output is then as it was.
     #[inline]
     pub fn push_text(&self, output: &mut Vec<u8>) -> Result<(), AllocError>
-        ensures { OnOk result (output.new.items ≡ output.old.items ++ answer_text (answer_of self.now)) }
+        ensures ok { OnOk result (output.new.items ≡ output.old.items ++ answer_text (answer_of self.now)) }
+        ensures err { OnErr result (output.new.items ≡ output.old.items) }
     {
         match self {
             Reply::Done => output.extend_from_slice(b"ok"),

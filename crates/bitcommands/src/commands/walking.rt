@@ -1,36 +1,51 @@
-//! Commands that walk over the positions of a set.
-ghost use Rattle.std.specs.Prelude.{◌≡◌, ◌∷◌, List, IfOk};
-ghost use Rattle.bitcommands.specs.declared.commands.walking.End.{End};
+//! Commands that walk over the positions of a set, or of two.
 ghost use Rattle.bitcommands.specs.Actions.{walk_action};
-ghost use Rattle.bitcommands.specs.Calls.{calls};
 ghost use Rattle.bitcommands.specs.Outcomes.{Answers};
 
-use crate::commands::refusals::{Refusal, check_set};
+use crate::commands::calling::{call_all, call_each, call_fronts};
+use crate::commands::refusals::{Refusal, check_set, check_sets};
 use crate::commands::replies::Reply;
 use fixedbitset::FixedBitSet;
-use fixedbitset::walks::Ones;
-use std::alloc::{AllocError, Global};
+use std::alloc::Global;
+use std::mem;
 
 /// The end of a walk from which an item is asked.
 #[derive(Debug, Drop)]
 pub enum End {
+    /// The first of the items that are left.
     Front,
+    /// The last of them.
+    Back,
 }
 
-/// A command that walks over positions: one call for each of `ends`, in order.
+/// A command that walks over positions, and answers what each call of the walk gives, in order.
+///
+/// The places of all answers are reserved first: where that is refused, no set has changed.
 #[derive(Debug, Drop)]
 pub enum Walk {
-    /// The positions of the set `set`, in ascending order.
+    /// The positions of the set `set`, in ascending order, by one call for each of `ends`.
     Ones { set: usize, ends: Vec<End> },
+    /// The same of a set that the walk takes: an empty set of length 0 is left in its place.
+    IntoOnes { set: usize, ends: Vec<End> },
+    /// The positions below the length that the set `set` lacks, in ascending order, by `count` calls from the front.
+    Zeroes { set: usize, count: usize },
+    /// The positions of the set `a`, and then those of the set `b` that `a` lacks.
+    Union { a: usize, b: usize, ends: Vec<End> },
+    /// The positions that both sets have, in ascending order.
+    Intersection { a: usize, b: usize, ends: Vec<End> },
+    /// The positions of the set `a` that the set `b` lacks, in ascending order.
+    Difference { a: usize, b: usize, ends: Vec<End> },
+    /// The positions of the set `a` that the set `b` lacks, and then those of `b` that `a` lacks.
+    SymmetricDifference { a: usize, b: usize, ends: Vec<End> },
 }
 
 pub(super) fn apply_walk(
     alloc: Global,
-    sets: &[FixedBitSet],
+    sets: &mut [FixedBitSet],
     command: &Walk,
     _limit: usize,
 ) -> Result<Reply, Refusal>
-    ensures { Answers _limit sets.now (walk_action command.now) result sets.now }
+    ensures { Answers _limit sets.old (walk_action command.now) result sets.new }
 {
     match command {
         Walk::Ones { set, ends } => {
@@ -38,31 +53,42 @@ pub(super) fn apply_walk(
             let items = call_all(alloc, sets[*set].ones(), ends.as_slice())?;
             Ok(Reply::Items(items))
         }
-    }
-}
-
-// One call an end, in order. All places are reserved before the first call.
-#[tactic(auto, using(crate::proofs::Calls::calls_start, crate::proofs::Calls::calls_end, crate::proofs::Calls::calls_more))]
-fn call_all(
-    alloc: Global,
-    mut walk: Ones<'_>,
-    ends: &[End],
-) -> Result<Vec<Option<usize>>, AllocError>
-    ensures { IfOk result (λ list. list.items ≡ calls ends.now walk.entry.items) }
-{
-    let mut items = Vec::with_capacity(alloc, ends.len())?;
-    for end in ends {
-        let item = call(&mut walk, end);
-        items.push(item)?;
-    }
-    Ok(items)
-}
-
-#[tactic(auto, using(crate::proofs::Calls::first_call))]
-fn call(walk: &mut Ones<'_>, end: &End) -> Option<usize>
-    ensures { (ends : List End) → calls (end.now ∷ ends) walk.old.items ≡ result ∷ calls ends walk.new.items }
-{
-    match end {
-        End::Front => walk.next(),
+        Walk::IntoOnes { set, ends } => {
+            check_set(sets, *set)?;
+            let places = Vec::with_capacity(alloc, ends.len())?;
+            let taken = mem::replace(&mut sets[*set], FixedBitSet::new(alloc));
+            let items = call_each(taken.into_ones(), ends.as_slice(), places);
+            Ok(Reply::Items(items))
+        }
+        Walk::Zeroes { set, count } => {
+            check_set(sets, *set)?;
+            let places = Vec::with_capacity(alloc, *count)?;
+            let items = call_fronts(sets[*set].zeroes(), *count, places);
+            Ok(Reply::Items(items))
+        }
+        Walk::Union { a, b, ends } => {
+            check_sets(sets, *a, *b)?;
+            let items = call_all(alloc, sets[*a].union(&sets[*b]), ends.as_slice())?;
+            Ok(Reply::Items(items))
+        }
+        Walk::Intersection { a, b, ends } => {
+            check_sets(sets, *a, *b)?;
+            let items = call_all(alloc, sets[*a].intersection(&sets[*b]), ends.as_slice())?;
+            Ok(Reply::Items(items))
+        }
+        Walk::Difference { a, b, ends } => {
+            check_sets(sets, *a, *b)?;
+            let items = call_all(alloc, sets[*a].difference(&sets[*b]), ends.as_slice())?;
+            Ok(Reply::Items(items))
+        }
+        Walk::SymmetricDifference { a, b, ends } => {
+            check_sets(sets, *a, *b)?;
+            let items = call_all(
+                alloc,
+                sets[*a].symmetric_difference(&sets[*b]),
+                ends.as_slice(),
+            )?;
+            Ok(Reply::Items(items))
+        }
     }
 }

@@ -9,7 +9,7 @@ pub returns-in_ok-push-in-Ok : goal.returns-in_ok-push-in-Ok
 returns-in_ok-push-in-Ok c =
     let text = answer_text (answer_of c.apply-reply.result) in (
       text ++ 10 ∷ [],
-      c.in_ok-push-in-Ok.ensures.items ∙ ap (λ u. u ++ 10 ∷ []) c.in_ok-push_text-in-Ok.ensures ∙ append_assoc c.args.output.now.items text (10 ∷ []),
+      c.in_ok-push-in-Ok.ensures.items ∙ ap (λ u. u ++ 10 ∷ []) c.in_ok-push_text-in-Ok.ensures.ok ∙ append_assoc c.args.output.now.items text (10 ∷ []),
       line_answered c.args.line.now _ _ _ _ c.in-Ok.ensures c.apply-reply.ensures,
     )
 

@@ -1,0 +1,129 @@
+-- Calls of a walk from its two ends, in any order.
+use Rattle.std.proofs.Common.{◌≡◌, ℕ, ◌+◌, ◌≤◌, List, [], ◌∷◌, ◌++◌, length, reverse, Option, Some, None, sym, ap, ◌∙◌, arith, append_assoc, append-nil}
+use Rattle.std.proofs.lemmas.List.{length-append, reverse-append}
+use Rattle.std.specs.Iterator.{YieldsFirst, YieldsLast}
+use Rattle.bitwords.specs.Walk.{Walk, TakesFromFront, TakesFromBack}
+use Rattle.bitwalks.specs.Pairs.{Sieved, AsksFront, AsksBack}
+use Rattle.bitlaws.specs.WalkLaws.{Call, from_front, from_back, given_front, given_back, PartsAreTheList, TookWords, TurnsOfCalls, LooksUpOnce, JoinsOnce, SplitsOnce, effort}
+
+module _ {S : Type 0} (items : S → List ℕ) (first last : S → Option ℕ → S → Type 0)
+    (gives_first : (s : S) (r : Option ℕ) (t : S) → first s r t → YieldsFirst items s r t) (gives_last : (s : S) (r : Option ℕ) (t : S) → last s r t → YieldsLast items s r t) where
+  pub parts : PartsAreTheList items first last
+  parts [] s t same = append-nil (items t) ∙ sym (ap items same)
+  parts (from_front None ∷ calls) s t call =
+      let gave = gives_first s None call.0 call.1 in parts calls call.0 t call.2 ∙ gave.1 ∙ sym gave.0
+  parts (from_front (Some x) ∷ calls) s t call = ap (λ xs. x ∷ xs) (parts calls call.0 t call.2) ∙ sym (gives_first s (Some x) call.0 call.1)
+  parts (from_back None ∷ calls) s t call =
+      let gave = gives_last s None call.0 call.1 in parts calls call.0 t call.2 ∙ gave.1 ∙ sym gave.0
+  parts (from_back (Some x) ∷ calls) s t call =
+      let front = given_front calls in
+      let back = reverse (given_back calls) in
+      let turned : reverse (x ∷ given_back calls) ≡ back ++ x ∷ [] = reverse-append (x ∷ []) (given_back calls) in
+      ap (λ xs. front ++ (items t ++ xs)) turned
+      ∙ ap (λ xs. front ++ xs) (sym (append_assoc (items t) back (x ∷ [])))
+      ∙ sym (append_assoc front (items t ++ back) (x ∷ []))
+      ∙ ap (λ xs. xs ++ x ∷ []) (parts calls call.0 t call.2)
+      ∙ sym (gives_last s (Some x) call.0 call.1)
+
+-- ---- turns
+
+took_front : (calls : ℕ) (s u t : Walk) → TakesFromFront 1 s u → TookWords calls u t → TookWords (calls + 1) s t
+took_front calls s u t one rest = record {
+  front = one.words ++ rest.front;
+  back = rest.back;
+  stretch = one.front ∙ ap (λ ws. one.words ++ ws) rest.stretch ∙ sym (append_assoc one.words rest.front (t.words ++ rest.back));
+  taken = omega (arith, one.counts.taken, rest.taken, length-append one.words rest.front);
+  turns = omega (arith, one.counts.turns, rest.turns, length-append one.words rest.front);
+}
+
+took_back : (calls : ℕ) (s u t : Walk) → TakesFromBack 1 s u → TookWords calls u t → TookWords (calls + 1) s t
+took_back calls s u t one rest = record {
+  front = rest.front;
+  back = rest.back ++ one.words;
+  stretch =
+      one.back ∙ ap (λ ws. ws ++ one.words) rest.stretch ∙ append_assoc rest.front (t.words ++ rest.back) one.words
+      ∙ ap (λ ws. rest.front ++ ws) (append_assoc t.words rest.back one.words);
+  taken = omega (arith, one.counts.taken, rest.taken, length-append rest.back one.words);
+  turns = omega (arith, one.counts.turns, rest.turns, length-append rest.back one.words);
+}
+
+one_more : (s t : Walk) (calls : List Call) (c : Call) → TookWords (length calls + 1) s t → TookWords (length (c ∷ calls)) s t
+one_more s t calls c took = record { front = took.front; back = took.back; stretch = took.stretch; taken = took.taken; turns = omega (arith, took.turns) }
+
+pub turns_of_calls : TurnsOfCalls
+turns_of_calls [] s t same = record {
+  front = [];
+  back = [];
+  stretch = ap (λ walk. walk.words) same ∙ sym (append-nil t.words);
+  taken = omega (arith, ap (λ walk. walk.taken) same);
+  turns = omega (arith, ap (λ walk. walk.turns) same);
+}
+turns_of_calls (from_front r ∷ calls) s t call = one_more s t calls (from_front r) (took_front (length calls) s call.0 t call.1.1 (turns_of_calls calls call.0 t call.2))
+turns_of_calls (from_back r ∷ calls) s t call = one_more s t calls (from_back r) (took_back (length calls) s call.0 t call.1.1 (turns_of_calls calls call.0 t call.2))
+
+-- what calls from one end add to the turns of a source, and take from its words
+spent_front : (calls : ℕ) (s t : Walk) → TakesFromFront calls s t → t.turns + length t.words ≡ s.turns + calls + length s.words
+spent_front calls s t takes = omega (arith, takes.counts.turns, ap length takes.front, length-append takes.words t.words)
+
+spent_back : (calls : ℕ) (s t : Walk) → TakesFromBack calls s t → t.turns + length t.words ≡ s.turns + calls + length s.words
+spent_back calls s t takes = omega (arith, takes.counts.turns, ap length takes.back, length-append t.words takes.words)
+
+effort_front : (s t : Sieved) → AsksFront s t → effort t ≤ effort s + 1
+effort_front s t asks = omega (arith, spent_front asks.calls s.source t.source asks.takes, asks.asks.few)
+
+effort_back : (s t : Sieved) → AsksBack s t → effort t ≤ effort s + 1
+effort_back s t asks = omega (arith, spent_back asks.calls s.source t.source asks.takes, asks.asks.few)
+
+pub looks_up_once : LooksUpOnce
+looks_up_once [] s t same = record { asked = omega (arith, ap (λ v. v.asked) same, ap (λ v. length v.source.items) same); turns = omega (arith, ap effort same) }
+looks_up_once (from_front r ∷ calls) s t call =
+    let rest = looks_up_once calls call.0 t call.2 in
+    record { asked = omega (arith, rest.asked, call.1.1.asks.asked); turns = omega (arith, rest.turns, effort_front s call.0 call.1.1) }
+looks_up_once (from_back r ∷ calls) s t call =
+    let rest = looks_up_once calls call.0 t call.2 in
+    record { asked = omega (arith, rest.asked, call.1.1.asks.asked); turns = omega (arith, rest.turns, effort_back s call.0 call.1.1) }
+
+pub joins_once : JoinsOnce
+joins_once [] s t same = record {
+  asked = omega (arith, ap (λ v. v.second.asked) same, ap (λ v. length v.second.source.items) same);
+  turns = omega (arith, ap (λ v. v.first.turns + length v.first.words + effort v.second) same);
+}
+joins_once (from_front r ∷ calls) s t call =
+    let u = call.0 in
+    let rest = joins_once calls u t call.2 in
+    let one = call.1.1.0 in
+    record {
+      asked = omega (arith, rest.asked, call.1.1.1.asks.asked);
+      turns = omega (arith, rest.turns, spent_front one.calls s.first u.first one.takes, one.few, effort_front s.second u.second call.1.1.1);
+    }
+joins_once (from_back r ∷ calls) s t call =
+    let u = call.0 in
+    let rest = joins_once calls u t call.2 in
+    let one = call.1.1.0 in
+    record {
+      asked = omega (arith, rest.asked, call.1.1.1.asks.asked);
+      turns = omega (arith, rest.turns, spent_back one.calls s.first u.first one.takes, one.few, effort_back s.second u.second call.1.1.1);
+    }
+
+pub splits_once : SplitsOnce
+splits_once [] s t same = record {
+  asked_first = omega (arith, ap (λ v. v.first.asked) same, ap (λ v. length v.first.source.items) same);
+  asked_second = omega (arith, ap (λ v. v.second.asked) same, ap (λ v. length v.second.source.items) same);
+  turns = omega (arith, ap (λ v. effort v.first + effort v.second) same);
+}
+splits_once (from_front r ∷ calls) s t call =
+    let u = call.0 in
+    let rest = splits_once calls u t call.2 in
+    record {
+      asked_first = omega (arith, rest.asked_first, call.1.1.0.asks.asked);
+      asked_second = omega (arith, rest.asked_second, call.1.1.1.asks.asked);
+      turns = omega (arith, rest.turns, effort_front s.first u.first call.1.1.0, effort_front s.second u.second call.1.1.1);
+    }
+splits_once (from_back r ∷ calls) s t call =
+    let u = call.0 in
+    let rest = splits_once calls u t call.2 in
+    record {
+      asked_first = omega (arith, rest.asked_first, call.1.1.0.asks.asked);
+      asked_second = omega (arith, rest.asked_second, call.1.1.1.asks.asked);
+      turns = omega (arith, rest.turns, effort_back s.first u.first call.1.1.0, effort_back s.second u.second call.1.1.1);
+    }

@@ -1,0 +1,46 @@
+use Rattle.std.proofs.Common.{ap, sym, ◌∙◌, ◌+◌, arith, length}
+use Rattle.bitwords.specs.CallFacts.{takes_front}
+use Rattle.bitwalks.proofs.Sieved.{first_passes, first_fails, nothing_left}
+use Rattle.bitwalks.proofs.sieve.SieveIterator.next.Goals as goal
+
+pub returns-then-passes-clause-steps : goal.returns-then-passes-clause-steps
+returns-then-passes-clause-steps g c =
+    let before = c.loop-position.invariant in
+    let call = c.in-Some.ensures.steps in
+    let passes = ap g.C.Choice.passes (sym c.contains.ensures) ∙ sym c.passes.ensures ∙ c.if-passes.true in
+    let fewer = ap length call.0 in (
+      first_passes _ _ _ before.same _ _ call.0 passes,
+      record {
+        calls = before.calls + 1;
+        asks = record { asked = omega (arith, before.asked, fewer); fewer = omega (arith, before.each, fewer); few = omega (arith, before.each, fewer) };
+        takes = takes_front before.calls 1 _ _ _ before.takes call.1;
+      },
+    )
+
+pub loop-position-preserved : goal.loop-position-preserved
+loop-position-preserved g c =
+    let before = c.loop-position.invariant in
+    let call = c.in-Some.ensures.steps in
+    let fails = ap g.C.Choice.passes (sym c.contains.ensures) ∙ sym c.passes.ensures ∙ c.if-passes.false in
+    let fewer = ap length call.0 in
+    record {
+      same = first_fails _ _ _ before.same _ _ call.0 fails;
+      asked = omega (arith, before.asked, fewer);
+      calls = before.calls + 1;
+      each = omega (arith, before.each, fewer);
+      takes = takes_front before.calls 1 _ _ _ before.takes call.1;
+    }
+
+pub returns-clause-steps : goal.returns-clause-steps
+returns-clause-steps g c =
+    let before = c.loop-position.invariant in
+    let call = c.in_default.ensures.steps in
+    let none = ap length call.0.0 in
+    let also = ap length call.0.1 in (
+      nothing_left _ _ _ _ before.same call.0.0 call.0.1,
+      record {
+        calls = before.calls + 1;
+        asks = record { asked = omega (arith, before.asked, none, also); fewer = omega (arith, also); few = omega (arith, before.each, also) };
+        takes = takes_front before.calls 1 _ _ _ before.takes call.1;
+      },
+    )

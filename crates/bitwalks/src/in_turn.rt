@@ -1,0 +1,178 @@
+//! Two walks in turn: from the front the first and then the second, from the back the second and then the first.
+
+ghost use Rattle.std.specs.Prelude.{◌≡◌, ℕ, ◌+◌, ◌*◌, ◌^◌, ◌<◌, ◌++◌, List, length, Some, IfSome};
+ghost use Rattle.std.specs.Iterator.{YieldsFirst, YieldsLast, UpTo, at_most};
+ghost use Rattle.bitwalks.specs.Pairs.{WalksFront, WalksBack, AsksFront, AsksBack};
+ghost use Rattle.bitwalks.specs.PairsFacts.{walk_stays, walk_stays_back, sieve_stays, sieve_stays_back};
+
+use crate::sieve::{Choice, Sieve};
+use crate::walks::Ones;
+use std::marker::Model;
+
+/// A walk that may be one of two in turn.
+pub trait Part {
+    /// The items left.
+    ghost items: { Self → List ℕ };
+
+    /// What calls from the front, or none, do to the walk.
+    ghost front: { Self → Self → Type 0 };
+
+    /// What calls from the back, or none, do to the walk.
+    ghost back: { Self → Self → Type 0 };
+
+    /// The first item left.
+    fn take_first(&mut self) -> Option<usize>
+        ensures gives { YieldsFirst items self.old result self.new }
+        ensures moves { front self.old self.new };
+
+    /// The last item left.
+    fn take_last(&mut self) -> Option<usize>
+        ensures gives { YieldsLast items self.old result self.new }
+        ensures moves { back self.old self.new };
+
+    /// 64 for each word that the walk holds or has not yet taken.
+    ghost room: { Self → ℕ };
+
+    /// That number, which is not below the number of items left, where it is a `usize`.
+    fn most(&self) -> Option<usize>
+        ensures upper { IfSome result (UpTo (at_most (length (items self.now)))) }
+        ensures known { room self.now < 2 ^ 64 → result ≡ Some (room self.now) };
+
+    /// Where no call is made, `front` holds of the walk and itself.
+    ghost front_stays: { (walk : Self) → front walk walk };
+
+    /// Where no call is made, `back` holds of the walk and itself.
+    ghost back_stays: { (walk : Self) → back walk walk };
+}
+
+impl<'a> Part for Ones<'a> {
+    ghost items = { λ walk. walk.items };
+
+    ghost front = { WalksFront };
+
+    ghost back = { WalksBack };
+
+    ghost room = { λ walk. 64 * (length walk.words + 2) };
+
+    #[inline]
+    fn take_first(&mut self) -> Option<usize> {
+        self.next()
+    }
+
+    #[inline]
+    fn take_last(&mut self) -> Option<usize> {
+        self.next_back()
+    }
+
+    #[inline]
+    fn most(&self) -> Option<usize> {
+        self.size_hint().1
+    }
+
+    ghost front_stays = { walk_stays };
+
+    ghost back_stays = { walk_stays_back };
+}
+
+impl<'a, C: Choice> Part for Sieve<'a, C> {
+    ghost items = { λ sieved. sieved.items };
+
+    ghost front = { AsksFront };
+
+    ghost back = { AsksBack };
+
+    ghost room = { λ sieved. 64 * (length sieved.source.words + 2) };
+
+    #[inline]
+    fn take_first(&mut self) -> Option<usize> {
+        self.next()
+    }
+
+    #[inline]
+    fn take_last(&mut self) -> Option<usize> {
+        self.next_back()
+    }
+
+    #[inline]
+    fn most(&self) -> Option<usize> {
+        self.size_hint().1
+    }
+
+    ghost front_stays = { sieve_stays };
+
+    ghost back_stays = { sieve_stays_back };
+}
+
+/// The items of the first walk, and then those of the second.
+#[derive(Drop)]
+pub struct InTurn<A: Part + Drop, B: Part + Drop> {
+    first: A,
+    second: B,
+    // Whether the first walk may still have items: once it gave none, no call from the front asks it again.
+    first_left: bool,
+}
+
+impl<A: Part + Drop, B: Part + Drop> Model for InTurn<A, B> {
+    ghost use Rattle.std.specs.Prelude.{◌≡◌, [], false};
+    ghost use Rattle.bitwalks.specs.Pairs.{Two};
+
+    ghost Value = { Two A B };
+
+    ghost view = { λ s. record { first = s.first; second = s.second } };
+
+    ghost invariant = { λ s. s.first_left ≡ false → A.items s.first ≡ [] };
+}
+
+impl<A: Part + Drop, B: Part + Drop> InTurn<A, B> {
+    #[inline]
+    pub fn of(first: A, second: B) -> InTurn<A, B>
+        ensures first { result.first ≡ first }
+        ensures second { result.second ≡ second }
+    {
+        InTurn {
+            first,
+            second,
+            first_left: true,
+        }
+    }
+
+    #[inline]
+    pub fn take_first(&mut self) -> Option<usize>
+        ensures gives { YieldsFirst (λ walk. A.items walk.first ++ B.items walk.second) self.old result self.new }
+        ensures first { A.front self.old.first self.new.first }
+        ensures second { B.front self.old.second self.new.second }
+    {
+        if self.first_left {
+            if let Some(position) = self.first.take_first() {
+                return Some(position);
+            }
+            self.first_left = false;
+        }
+        self.second.take_first()
+    }
+
+    #[inline]
+    pub fn take_last(&mut self) -> Option<usize>
+        ensures gives { YieldsLast (λ walk. A.items walk.first ++ B.items walk.second) self.old result self.new }
+        ensures first { A.back self.old.first self.new.first }
+        ensures second { B.back self.old.second self.new.second }
+    {
+        if let Some(position) = self.second.take_last() {
+            return Some(position);
+        }
+        if self.first_left {
+            self.first.take_last()
+        } else {
+            None
+        }
+    }
+
+    /// The sum of what both have, which is not below the number of items left, where it is a `usize`.
+    #[inline]
+    pub fn most(&self) -> Option<usize>
+        ensures upper { IfSome result (UpTo (at_most (length (A.items self.now.first ++ B.items self.now.second)))) }
+        ensures known { A.room self.now.first + B.room self.now.second < 2 ^ 64 → result ≡ Some (A.room self.now.first + B.room self.now.second) }
+    {
+        self.first.most()?.checked_add(self.second.most()?)
+    }
+}

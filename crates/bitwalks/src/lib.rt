@@ -1,0 +1,10 @@
+//! Walks over the positions of rows of words: over one row, and over two. No walk here knows a set or its length.
+#![tactic(auto)]
+
+mod in_turn;
+pub mod pairs;
+mod sieve;
+pub mod walks;
+
+pub use pairs::{Difference, Intersection, SymmetricDifference, Union};
+pub use walks::{IntoOnes, Ones, Zeroes};

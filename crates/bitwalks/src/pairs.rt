@@ -1,0 +1,310 @@
+//! Walks over two rows of words, of any two lengths.
+//!
+//! `Intersection` and `Difference` walk over the first row and look each of its items up in the other. `Union` walks over
+//! the first row, and then over the second without the first; `SymmetricDifference` over both differences in turn. So the
+//! items of the two last need not ascend as a whole. No walk takes memory.
+//!
+//! Proofs see the items left, how many items of a source were looked up (`asked`), and each source as a walk of its own,
+//! with its turns and its words not yet taken. The counts take no bytes when the program runs.
+
+ghost use Rattle.std.specs.Prelude.{◌≡◌, ◌+◌, ◌*◌, ◌^◌, ◌<◌, ◌≤◌, not, length, Some, IfSome};
+ghost use Rattle.std.specs.Iterator.{item_count, UpTo};
+ghost use Rattle.std.specs.Iterator.SizeHint.{IsWithinCount};
+ghost use Rattle.bitwords.specs.Walk.{over_row};
+ghost use Rattle.bitwalks.specs.Pairs.{sieve_over, SievesFirst, SievesLast, joined_items, JoinsFirst, JoinsLast, split_items, SplitsFirst, SplitsLast};
+
+use crate::in_turn::InTurn;
+use crate::sieve::{Lacked, Shared, Sieve};
+use crate::walks::Ones;
+use bitlanes::word::Block;
+use std::iter::FusedIterator;
+use std::marker::Model;
+
+/// The positions that two rows have in common, in ascending order. A set makes it by `intersection`.
+pub struct Intersection<'a> {
+    shared: Sieve<'a, Shared>,
+}
+
+impl<'a> Model for Intersection<'a> {
+    ghost use Rattle.bitwalks.specs.Pairs.{Sieved};
+
+    ghost Value = { Sieved };
+
+    ghost view = { λ walk. walk.shared };
+}
+
+impl<'a> Drop for Intersection<'a> {
+    #[inline]
+    fn drop(self) {
+        let Intersection { shared: _ } = self;
+    }
+}
+
+/// The positions of a row that another one lacks, in ascending order. A set makes it by `difference`.
+pub struct Difference<'a> {
+    lacked: Sieve<'a, Lacked>,
+}
+
+impl<'a> Model for Difference<'a> {
+    ghost use Rattle.bitwalks.specs.Pairs.{Sieved};
+
+    ghost Value = { Sieved };
+
+    ghost view = { λ walk. walk.lacked };
+}
+
+impl<'a> Drop for Difference<'a> {
+    #[inline]
+    fn drop(self) {
+        let Difference { lacked: _ } = self;
+    }
+}
+
+/// The positions of a row, and then those of another one that the first lacks. A set makes it by `union`.
+pub struct Union<'a> {
+    parts: InTurn<Ones<'a>, Sieve<'a, Lacked>>,
+}
+
+impl<'a> Model for Union<'a> {
+    ghost use Rattle.bitwalks.specs.Pairs.{Joined};
+
+    ghost Value = { Joined };
+
+    ghost view = { λ walk. record { first = walk.parts.first; second = walk.parts.second } };
+}
+
+impl<'a> Drop for Union<'a> {
+    #[inline]
+    fn drop(self) {
+        let Union { parts: _ } = self;
+    }
+}
+
+/// The positions of a row that another one lacks, and then those of the other that the first lacks. A set makes it by
+/// `symmetric_difference`.
+pub struct SymmetricDifference<'a> {
+    sides: InTurn<Sieve<'a, Lacked>, Sieve<'a, Lacked>>,
+}
+
+impl<'a> Model for SymmetricDifference<'a> {
+    ghost use Rattle.bitwalks.specs.Pairs.{Split};
+
+    ghost Value = { Split };
+
+    ghost view = { λ walk. record { first = walk.sides.first; second = walk.sides.second } };
+}
+
+impl<'a> Drop for SymmetricDifference<'a> {
+    #[inline]
+    fn drop(self) {
+        let SymmetricDifference { sides: _ } = self;
+    }
+}
+
+impl<'a> Intersection<'a> {
+    /// The walk over the positions of `words` and `other`.
+    #[inline]
+    pub fn over(words: &'a [Block], other: &'a [Block]) -> Intersection<'a>
+        requires { 64 * length words.now ≤ 2 ^ 64 }
+        ensures { result ≡ sieve_over (λ b. b) words.now other.now }
+    {
+        Intersection {
+            shared: Sieve::over(words, other),
+        }
+    }
+}
+
+impl<'a> Iterator for Intersection<'a> {
+    type Item = usize;
+
+    ghost next_gives = { SievesFirst };
+
+    ghost remaining = { item_count (λ sieved. sieved.items) };
+
+    /// The first position left, or `None` where none is, and then for good. Each item that a source gives is looked up
+    /// once; a source is called once for each, and once more at most.
+    #[inline]
+    fn next(&mut self) -> Option<usize> {
+        self.shared.next()
+    }
+
+    /// At least 0, and at most 64 for each word that the source holds or has not yet taken. The latter is `None` where it
+    /// is no `usize`.
+    #[inline]
+    fn size_hint(&self) -> (usize, Option<usize>)
+        ensures zero { result.0 ≡ 0 }
+        ensures lower { IsWithinCount result.0 (item_count (λ sieved. sieved.items) self.now) }
+        ensures upper { IfSome result.1 (UpTo (item_count (λ sieved. sieved.items) self.now)) }
+        ensures known { 64 * (length self.now.source.words + 2) < 2 ^ 64 → result.1 ≡ Some (64 * (length self.now.source.words + 2)) }
+    {
+        self.shared.size_hint()
+    }
+}
+
+impl<'a> DoubleEndedIterator for Intersection<'a> {
+    ghost next_back_gives = { SievesLast };
+
+    /// The last position left, or `None` where none is, and then for good.
+    #[inline]
+    fn next_back(&mut self) -> Option<usize> {
+        self.shared.next_back()
+    }
+}
+
+impl<'a> FusedIterator for Intersection<'a> {}
+
+impl<'a> Difference<'a> {
+    /// The walk over the positions of `words` and `other`.
+    #[inline]
+    pub fn over(words: &'a [Block], other: &'a [Block]) -> Difference<'a>
+        requires { 64 * length words.now ≤ 2 ^ 64 }
+        ensures { result ≡ sieve_over not words.now other.now }
+    {
+        Difference {
+            lacked: Sieve::over(words, other),
+        }
+    }
+}
+
+impl<'a> Iterator for Difference<'a> {
+    type Item = usize;
+
+    ghost next_gives = { SievesFirst };
+
+    ghost remaining = { item_count (λ sieved. sieved.items) };
+
+    /// The first position left, or `None` where none is, and then for good. Each item that a source gives is looked up
+    /// once; a source is called once for each, and once more at most.
+    #[inline]
+    fn next(&mut self) -> Option<usize> {
+        self.lacked.next()
+    }
+
+    /// At least 0, and at most 64 for each word that the source holds or has not yet taken. The latter is `None` where it
+    /// is no `usize`.
+    #[inline]
+    fn size_hint(&self) -> (usize, Option<usize>)
+        ensures zero { result.0 ≡ 0 }
+        ensures lower { IsWithinCount result.0 (item_count (λ sieved. sieved.items) self.now) }
+        ensures upper { IfSome result.1 (UpTo (item_count (λ sieved. sieved.items) self.now)) }
+        ensures known { 64 * (length self.now.source.words + 2) < 2 ^ 64 → result.1 ≡ Some (64 * (length self.now.source.words + 2)) }
+    {
+        self.lacked.size_hint()
+    }
+}
+
+impl<'a> DoubleEndedIterator for Difference<'a> {
+    ghost next_back_gives = { SievesLast };
+
+    /// The last position left, or `None` where none is, and then for good.
+    #[inline]
+    fn next_back(&mut self) -> Option<usize> {
+        self.lacked.next_back()
+    }
+}
+
+impl<'a> FusedIterator for Difference<'a> {}
+
+impl<'a> Union<'a> {
+    /// The walk over the positions of `words` and `other`.
+    #[inline]
+    pub fn over(words: &'a [Block], other: &'a [Block]) -> Union<'a>
+        requires first { 64 * length words.now ≤ 2 ^ 64 }
+        requires second { 64 * length other.now ≤ 2 ^ 64 }
+        ensures { result ≡ record { first = over_row words.now (64 * length words.now); second = sieve_over not other.now words.now } }
+    {
+        Union {
+            parts: InTurn::of(Ones::over(words), Sieve::over(other, words)),
+        }
+    }
+}
+
+impl<'a> Iterator for Union<'a> {
+    type Item = usize;
+
+    ghost next_gives = { JoinsFirst };
+
+    ghost remaining = { item_count joined_items };
+
+    /// The first position left, or `None` where none is, and then for good. Each item that a source gives is looked up
+    /// once; a source is called once for each, and once more at most.
+    #[inline]
+    fn next(&mut self) -> Option<usize> {
+        self.parts.take_first()
+    }
+
+    /// At least 0, and at most the sum of what both parts have. The latter is `None` where it is no `usize`.
+    #[inline]
+    fn size_hint(&self) -> (usize, Option<usize>)
+        ensures zero { result.0 ≡ 0 }
+        ensures lower { IsWithinCount result.0 (item_count joined_items self.now) }
+        ensures upper { IfSome result.1 (UpTo (item_count joined_items self.now)) }
+        ensures known { 64 * (length self.now.first.words + 2) + 64 * (length self.now.second.source.words + 2) < 2 ^ 64 → result.1 ≡ Some (64 * (length self.now.first.words + 2) + 64 * (length self.now.second.source.words + 2)) }
+    {
+        (0, self.parts.most())
+    }
+}
+
+impl<'a> DoubleEndedIterator for Union<'a> {
+    ghost next_back_gives = { JoinsLast };
+
+    /// The last position left, or `None` where none is, and then for good.
+    #[inline]
+    fn next_back(&mut self) -> Option<usize> {
+        self.parts.take_last()
+    }
+}
+
+impl<'a> FusedIterator for Union<'a> {}
+
+impl<'a> SymmetricDifference<'a> {
+    /// The walk over the positions of `words` and `other`.
+    #[inline]
+    pub fn over(words: &'a [Block], other: &'a [Block]) -> SymmetricDifference<'a>
+        requires first { 64 * length words.now ≤ 2 ^ 64 }
+        requires second { 64 * length other.now ≤ 2 ^ 64 }
+        ensures { result ≡ record { first = sieve_over not words.now other.now; second = sieve_over not other.now words.now } }
+    {
+        SymmetricDifference {
+            sides: InTurn::of(Sieve::over(words, other), Sieve::over(other, words)),
+        }
+    }
+}
+
+impl<'a> Iterator for SymmetricDifference<'a> {
+    type Item = usize;
+
+    ghost next_gives = { SplitsFirst };
+
+    ghost remaining = { item_count split_items };
+
+    /// The first position left, or `None` where none is, and then for good. Each item that a source gives is looked up
+    /// once; a source is called once for each, and once more at most.
+    #[inline]
+    fn next(&mut self) -> Option<usize> {
+        self.sides.take_first()
+    }
+
+    /// At least 0, and at most the sum of what both parts have. The latter is `None` where it is no `usize`.
+    #[inline]
+    fn size_hint(&self) -> (usize, Option<usize>)
+        ensures zero { result.0 ≡ 0 }
+        ensures lower { IsWithinCount result.0 (item_count split_items self.now) }
+        ensures upper { IfSome result.1 (UpTo (item_count split_items self.now)) }
+        ensures known { 64 * (length self.now.first.source.words + 2) + 64 * (length self.now.second.source.words + 2) < 2 ^ 64 → result.1 ≡ Some (64 * (length self.now.first.source.words + 2) + 64 * (length self.now.second.source.words + 2)) }
+    {
+        (0, self.sides.most())
+    }
+}
+
+impl<'a> DoubleEndedIterator for SymmetricDifference<'a> {
+    ghost next_back_gives = { SplitsLast };
+
+    /// The last position left, or `None` where none is, and then for good.
+    #[inline]
+    fn next_back(&mut self) -> Option<usize> {
+        self.sides.take_last()
+    }
+}
+
+impl<'a> FusedIterator for SymmetricDifference<'a> {}

@@ -1,0 +1,141 @@
+//! The walk over one row of words, sieved by another one. Each walk over two rows stands on it.
+
+ghost use Rattle.std.specs.Prelude.{◌≡◌, ◌+◌, ◌*◌, ◌^◌, ◌<◌, ◌≤◌, ℕ, Bool, not, filter, length, Some, IfSome};
+ghost use Rattle.std.specs.Iterator.{item_count, UpTo};
+ghost use Rattle.std.specs.Iterator.SizeHint.{IsWithinCount};
+ghost use Rattle.bitwords.specs.Rows.{has_bit};
+ghost use Rattle.bitwalks.specs.Pairs.{sieve_over, SievesFirst, SievesLast};
+
+use crate::walks::Ones;
+use bitlanes::counter::Steps;
+use bitlanes::word::Block;
+use bitwords::positions::contains;
+use std::marker::{Model, PhantomData};
+
+/// Which positions a sieve lets through.
+pub trait Choice {
+    /// Whether a position passes, by whether the other row has it.
+    ghost passes: { Bool → Bool };
+
+    fn passes(is_set: bool) -> bool
+        ensures { result ≡ passes is_set };
+}
+
+/// The positions that the other row has.
+pub struct Shared;
+
+impl Choice for Shared {
+    ghost passes = { λ b. b };
+
+    #[inline(always)]
+    fn passes(is_set: bool) -> bool {
+        is_set
+    }
+}
+
+/// The positions that the other row lacks.
+pub struct Lacked;
+
+impl Choice for Lacked {
+    ghost passes = { not };
+
+    #[inline(always)]
+    fn passes(is_set: bool) -> bool {
+        !is_set
+    }
+}
+
+/// The positions of one row that pass, in ascending order. Each item that the source gives is looked up once.
+pub struct Sieve<'a, C: Choice> {
+    source: Ones<'a>,
+    other: &'a [Block],
+    asked: Steps,
+    choice: PhantomData<C>,
+}
+
+impl<'a, C: Choice> Model for Sieve<'a, C> {
+    ghost use Rattle.std.specs.Prelude.{filter};
+    ghost use Rattle.bitwords.specs.Rows.{has_bit};
+    ghost use Rattle.bitwalks.specs.Pairs.{Sieved};
+
+    ghost Value = { Sieved };
+
+    ghost view = { λ s. record {
+      items = filter (λ p. C.passes (has_bit s.other.now p)) s.source.items;
+      asked = s.asked;
+      source = s.source;
+    } };
+}
+
+impl<'a, C: Choice> Drop for Sieve<'a, C> {
+    #[inline]
+    fn drop(self) {
+        let Sieve {
+            source: _,
+            other: _,
+            asked: _,
+            choice: _,
+        } = self;
+    }
+}
+
+impl<'a, C: Choice> Sieve<'a, C> {
+    /// The positions set in `words`, sieved by `other`.
+    #[inline]
+    pub fn over(words: &'a [Block], other: &'a [Block]) -> Sieve<'a, C>
+        requires { 64 * length words.now ≤ 2 ^ 64 }
+        ensures { result ≡ sieve_over C.passes words.now other.now }
+    {
+        Sieve {
+            source: Ones::over(words),
+            other,
+            asked: Steps::new(),
+            choice: PhantomData,
+        }
+    }
+}
+
+impl<'a, C: Choice> Iterator for Sieve<'a, C> {
+    type Item = usize;
+
+    ghost next_gives = { SievesFirst };
+
+    ghost remaining = { item_count (λ sieved. sieved.items) };
+
+    #[inline]
+    fn next(&mut self) -> Option<usize> {
+        while let Some(position) = self.source.next() {
+            self.asked.tick();
+            if C::passes(contains(self.other, position)) {
+                return Some(position);
+            }
+        }
+        None
+    }
+
+    /// As the source's.
+    #[inline]
+    fn size_hint(&self) -> (usize, Option<usize>)
+        ensures zero { result.0 ≡ 0 }
+        ensures lower { IsWithinCount result.0 (item_count (λ sieved. sieved.items) self.now) }
+        ensures upper { IfSome result.1 (UpTo (item_count (λ sieved. sieved.items) self.now)) }
+        ensures known { 64 * (length self.now.source.words + 2) < 2 ^ 64 → result.1 ≡ Some (64 * (length self.now.source.words + 2)) }
+    {
+        (0, self.source.size_hint().1)
+    }
+}
+
+impl<'a, C: Choice> DoubleEndedIterator for Sieve<'a, C> {
+    ghost next_back_gives = { SievesLast };
+
+    #[inline]
+    fn next_back(&mut self) -> Option<usize> {
+        while let Some(position) = self.source.next_back() {
+            self.asked.tick();
+            if C::passes(contains(self.other, position)) {
+                return Some(position);
+            }
+        }
+        None
+    }
+}

@@ -1,0 +1,264 @@
+//! The positions of a row of words one by one, in ascending order: those that are set, and those that are not.
+//!
+//! Each walk stands on the one cursor of `bitwords`. It makes one turn a call, and one more for each word that it takes.
+//! Proofs see the items left, the words that no call has taken yet, and the counts of turns and of words taken; the
+//! counts take no bytes when the program runs.
+//!
+//! `Drop` is written by hand and not derived: a walk that is dropped is then one call, and the proof of a loop with a
+//! `return` keeps what it knows of the items.
+
+ghost use Rattle.std.specs.Prelude.{◌≡◌, ◌≢◌, ◌+◌, ◌*◌, ◌^◌, ◌<◌, ◌≤◌, map, length, Some, IfSome};
+ghost use Rattle.std.specs.Int.{bit_not, w64};
+ghost use Rattle.std.specs.Iterator.{item_count, UpTo};
+ghost use Rattle.std.specs.Iterator.SizeHint.{IsWithinCount};
+ghost use Rattle.bitlanes.specs.Word.{IsLowestBit, ClearsBit};
+ghost use Rattle.bitwords.specs.RowFacts.{AreWords};
+ghost use Rattle.bitwords.specs.Walk.{GivesFirst, GivesLast, over_row};
+
+use bitlanes::word::{Block, take_lowest_bit};
+use bitwords::cursors::{Cursor, Inverted, Plain};
+use std::alloc::Global;
+use std::iter::FusedIterator;
+use std::marker::Model;
+use std::vec;
+
+/// The positions that are set, in ascending order. A set makes it by `ones`.
+///
+/// It borrows the words and takes no memory.
+pub struct Ones<'a> {
+    ones: Cursor<Plain<'a>>,
+}
+
+impl<'a> Model for Ones<'a> {
+    ghost use Rattle.std.specs.Vec.Iter.{into_iter_items};
+    ghost use Rattle.bitwords.specs.RowFacts.{AreWords};
+    ghost use Rattle.bitwords.specs.Walk.{Walk};
+
+    ghost Value = { Walk };
+
+    ghost view = { λ walk. walk.ones };
+}
+
+impl<'a> Drop for Ones<'a> {
+    #[inline]
+    fn drop(self) {
+        let Ones { ones: _ } = self;
+    }
+}
+
+/// The positions that are set, in ascending order. A set becomes it by `into_ones`.
+///
+/// It owns the words.
+pub struct IntoOnes {
+    owned: Cursor<vec::IntoIter<Block, Global>>,
+}
+
+impl Model for IntoOnes {
+    ghost use Rattle.std.specs.Vec.Iter.{into_iter_items};
+    ghost use Rattle.bitwords.specs.RowFacts.{AreWords};
+    ghost use Rattle.bitwords.specs.Walk.{Walk};
+
+    ghost Value = { Walk };
+
+    ghost view = { λ walk. walk.owned };
+}
+
+impl Drop for IntoOnes {
+    #[inline]
+    fn drop(self) {
+        let IntoOnes { owned: _ } = self;
+    }
+}
+
+/// The positions below a length that are not set, in ascending order. A set makes it by `zeroes`.
+///
+/// It borrows the words and takes no memory. Proofs see the words with each bit inverted.
+pub struct Zeroes<'a> {
+    zeroes: Cursor<Inverted<'a>>,
+}
+
+impl<'a> Model for Zeroes<'a> {
+    ghost use Rattle.std.specs.Vec.Iter.{into_iter_items};
+    ghost use Rattle.bitwords.specs.RowFacts.{AreWords};
+    ghost use Rattle.bitwords.specs.Walk.{Walk};
+
+    ghost Value = { Walk };
+
+    ghost view = { λ walk. walk.zeroes };
+}
+
+impl<'a> Drop for Zeroes<'a> {
+    #[inline]
+    fn drop(self) {
+        let Zeroes { zeroes: _ } = self;
+    }
+}
+
+impl<'a> Ones<'a> {
+    /// The positions set in the words. It reads the first and the last word; those between are not yet taken.
+    #[inline]
+    pub fn over(words: &'a [Block]) -> Ones<'a>
+        requires { 64 * length words.now ≤ 2 ^ 64 }
+        ensures { result ≡ over_row words.now (64 * length words.now) }
+    {
+        Ones {
+            ones: Cursor::over(Plain { words }),
+        }
+    }
+
+    /// The index of the lowest bit of the word that is set, which it clears. The word may not be 0; upstream's
+    /// subtraction overflows there.
+    #[inline]
+    pub fn last_positive_bit_and_unset(n: &mut Block) -> usize
+        requires { n.old ≢ 0 }
+        ensures lowest { IsLowestBit n.old result }
+        ensures clears { ClearsBit n.old n.new result }
+    {
+        take_lowest_bit(n)
+    }
+}
+
+impl IntoOnes {
+    /// The positions set in the words. It reads the first and the last word; those between are not yet taken.
+    #[inline]
+    pub fn over(words: Vec<Block>) -> IntoOnes
+        requires { 64 * length words.items ≤ 2 ^ 64 }
+        ensures walk { result ≡ over_row words.items (64 * length words.items) }
+        ensures are_words { AreWords words.items }
+    {
+        IntoOnes {
+            owned: Cursor::over(words.into_iter()),
+        }
+    }
+
+    /// The same as `Ones::last_positive_bit_and_unset`.
+    #[inline]
+    pub fn last_positive_bit_and_unset(n: &mut Block) -> usize
+        requires { n.old ≢ 0 }
+        ensures lowest { IsLowestBit n.old result }
+        ensures clears { ClearsBit n.old n.new result }
+    {
+        Ones::last_positive_bit_and_unset(n)
+    }
+}
+
+impl<'a> Iterator for Ones<'a> {
+    type Item = usize;
+
+    ghost next_gives = { GivesFirst };
+
+    ghost remaining = { item_count (λ walk. walk.items) };
+
+    /// The least position left, or `None` where none is, and then for good. It makes one turn, and one more for each
+    /// word that it takes.
+    #[inline]
+    fn next(&mut self) -> Option<usize> {
+        self.ones.next()
+    }
+
+    /// At least 0, and at most 64 for each word not yet taken and for each of the two that the walk holds. The latter
+    /// is `None` where it is no `usize`.
+    #[inline]
+    fn size_hint(&self) -> (usize, Option<usize>)
+        ensures zero { result.0 ≡ 0 }
+        ensures lower { IsWithinCount result.0 (item_count (λ walk. walk.items) self.now) }
+        ensures upper { IfSome result.1 (UpTo (item_count (λ walk. walk.items) self.now)) }
+        ensures known { 64 * (length self.now.words + 2) < 2 ^ 64 → result.1 ≡ Some (64 * (length self.now.words + 2)) }
+    {
+        self.ones.size_hint()
+    }
+}
+
+impl<'a> DoubleEndedIterator for Ones<'a> {
+    ghost next_back_gives = { GivesLast };
+
+    /// The greatest position left, or `None` where none is, and then for good. It makes one turn, and one more for each
+    /// word that it takes.
+    #[inline]
+    fn next_back(&mut self) -> Option<usize> {
+        self.ones.next_back()
+    }
+}
+
+impl<'a> FusedIterator for Ones<'a> {}
+
+impl Iterator for IntoOnes {
+    type Item = usize;
+
+    ghost next_gives = { GivesFirst };
+
+    ghost remaining = { item_count (λ walk. walk.items) };
+
+    /// As that of `Ones`.
+    #[inline]
+    fn next(&mut self) -> Option<usize> {
+        self.owned.next()
+    }
+
+    /// As that of `Ones`.
+    #[inline]
+    fn size_hint(&self) -> (usize, Option<usize>)
+        ensures zero { result.0 ≡ 0 }
+        ensures lower { IsWithinCount result.0 (item_count (λ walk. walk.items) self.now) }
+        ensures upper { IfSome result.1 (UpTo (item_count (λ walk. walk.items) self.now)) }
+        ensures known { 64 * (length self.now.words + 2) < 2 ^ 64 → result.1 ≡ Some (64 * (length self.now.words + 2)) }
+    {
+        self.owned.size_hint()
+    }
+}
+
+impl DoubleEndedIterator for IntoOnes {
+    ghost next_back_gives = { GivesLast };
+
+    /// As that of `Ones`.
+    #[inline]
+    fn next_back(&mut self) -> Option<usize> {
+        self.owned.next_back()
+    }
+}
+
+impl FusedIterator for IntoOnes {}
+
+impl<'a> Zeroes<'a> {
+    /// The positions below `end` that are not set in the words. `end` has to lie in the last word or at its end.
+    #[inline]
+    pub fn below(words: &'a [Block], end: usize) -> Zeroes<'a>
+        requires fits { 64 * length words.now ≤ 2 ^ 64 }
+        requires long { end ≤ 64 * length words.now }
+        requires last { 64 * length words.now < end + 64 }
+        ensures { result ≡ over_row (map (bit_not w64) words.now) end }
+    {
+        let plain = Plain { words };
+        Zeroes {
+            zeroes: Cursor::below(Inverted { plain }, end),
+        }
+    }
+}
+
+impl<'a> Iterator for Zeroes<'a> {
+    type Item = usize;
+
+    ghost next_gives = { GivesFirst };
+
+    ghost remaining = { item_count (λ walk. walk.items) };
+
+    /// The least position left, or `None` where none is, and then for good. It makes one turn, and one more for each
+    /// word that it takes.
+    #[inline]
+    fn next(&mut self) -> Option<usize> {
+        self.zeroes.next()
+    }
+
+    /// As that of `Ones`.
+    #[inline]
+    fn size_hint(&self) -> (usize, Option<usize>)
+        ensures zero { result.0 ≡ 0 }
+        ensures lower { IsWithinCount result.0 (item_count (λ walk. walk.items) self.now) }
+        ensures upper { IfSome result.1 (UpTo (item_count (λ walk. walk.items) self.now)) }
+        ensures known { 64 * (length self.now.words + 2) < 2 ^ 64 → result.1 ≡ Some (64 * (length self.now.words + 2)) }
+    {
+        self.zeroes.size_hint()
+    }
+}
+
+impl<'a> FusedIterator for Zeroes<'a> {}

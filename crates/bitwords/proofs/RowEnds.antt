@@ -1,0 +1,68 @@
+-- The bits of a row of words, seen from its first word and from its last.
+use Rattle.std.proofs.Common.{◌≡◌, ◌≢◌, ℕ, suc, ◌+◌, ◌-◌, ◌*◌, ◌/◌, ◌%◌, ◌<◌, ◌≤◌, ◌==◌, List, [], ◌∷◌, ◌++◌, length, sym, ap, ◌∙◌, arith, ⊎_elim}
+use Rattle.std.specs.Int.{bit_at}
+use Rattle.std.proofs.lemmas.Bool.{cases_lt}
+use Rattle.std.proofs.lemmas.List.{length-append}
+use Rattle.bitlanes.specs.Word.{ClearsBit}
+use Rattle.bitwords.specs.Rows.{has_bit}
+use Rattle.bitwords.specs.RowFacts.{bit-zero, has_bit-past}
+
+-- a position in the first word
+pub has_bit-first : (word : ℕ) (words : List ℕ) (i : ℕ) → i < 64 → has_bit (word ∷ words) i ≡ (bit_at word i == 1)
+unfolding has_bit
+has_bit-first word words i below = let a : i / 64 ≡ 0 = omega arith in let b : i % 64 ≡ i = omega arith in rw (a, b)
+
+-- a position in a later word
+pub has_bit-later : (word : ℕ) (words : List ℕ) (i j : ℕ) → i ≡ j + 64 → has_bit (word ∷ words) i ≡ has_bit words j
+unfolding has_bit
+has_bit-later word words i j later = let a : i / 64 ≡ suc (j / 64) = omega arith in let b : i % 64 ≡ j % 64 = omega arith in rw (a, b)
+
+-- a position in the last word
+pub has_bit-last : (words : List ℕ) (word i j : ℕ) → i ≡ 64 * length words + j → j < 64 → has_bit (words ++ word ∷ []) i ≡ (bit_at word j == 1)
+has_bit-last [] word i j is within = let e : i ≡ j = omega (arith, is) in ap (has_bit (word ∷ [])) e ∙ has_bit-first word [] j within
+has_bit-last (w ∷ words) word i j is within = has_bit-later w (words ++ word ∷ []) i (i - 64) (omega (arith, is)) ∙ has_bit-last words word (i - 64) j (omega (arith, is)) within
+
+-- a position before the last word
+pub has_bit-before : (words : List ℕ) (word i : ℕ) → i < 64 * length words → has_bit (words ++ word ∷ []) i ≡ has_bit words i
+has_bit-before [] word i below = absurd (omega (arith, below))
+has_bit-before (w ∷ words) word i below =
+    ⊎_elim
+    (λ (lt : i < 64). has_bit-first w (words ++ word ∷ []) i lt ∙ sym (has_bit-first w words i lt))
+    (λ (ge : 64 ≤ i).
+    has_bit-later w (words ++ word ∷ []) i (i - 64) (omega arith)
+    ∙ has_bit-before words word (i - 64) (omega (arith, below))
+    ∙ sym (has_bit-later w words i (i - 64) (omega arith)))
+    (cases_lt i 64)
+
+-- an empty word at the end has no position
+pub has_bit-drop_last : (words : List ℕ) (i : ℕ) → has_bit (words ++ 0 ∷ []) i ≡ has_bit words i
+has_bit-drop_last words i =
+    ⊎_elim
+    (λ (lt : i < 64 * length words). has_bit-before words 0 i lt)
+    (λ (ge : 64 * length words ≤ i).
+    ⊎_elim
+    (λ (last : i < 64 * length words + 64). has_bit-last words 0 i (i - 64 * length words) (omega arith) (omega arith) ∙ bit-zero _)
+    (λ (past : 64 * length words + 64 ≤ i). has_bit-past (words ++ 0 ∷ []) i (omega (arith, length-append words (0 ∷ []))))
+    (cases_lt i (64 * length words + 64))
+    ∙ sym (has_bit-past words i ge))
+    (cases_lt i (64 * length words))
+
+-- a bit of the first word is cleared, and each other position stays
+pub has_bit-other : (old new k : ℕ) (words : List ℕ) (i : ℕ) → ClearsBit old new k → i ≢ k → has_bit (new ∷ words) i ≡ has_bit (old ∷ words) i
+has_bit-other old new k words i clears other =
+    ⊎_elim
+    (λ (lt : i < 64). has_bit-first new words i lt ∙ ap (λ b. b == 1) (clears.others i lt other) ∙ sym (has_bit-first old words i lt))
+    (λ (ge : 64 ≤ i). has_bit-later new words i (i - 64) (omega arith) ∙ sym (has_bit-later old words i (i - 64) (omega arith)))
+    (cases_lt i 64)
+
+-- the same of the last word
+pub has_bit-other_last : (words : List ℕ) (old new k i : ℕ) → ClearsBit old new k → i < 64 * length words + 64 → i ≢ 64 * length words + k → has_bit (words ++ new ∷ []) i ≡ has_bit (words ++ old ∷ []) i
+has_bit-other_last words old new k i clears within other =
+    ⊎_elim
+    (λ (lt : i < 64 * length words). has_bit-before words new i lt ∙ sym (has_bit-before words old i lt))
+    (λ (ge : 64 * length words ≤ i).
+    let j : ℕ = i - 64 * length words in
+    has_bit-last words new i j (omega arith) (omega arith)
+    ∙ ap (λ b. b == 1) (clears.others j (omega arith) (omega arith))
+    ∙ sym (has_bit-last words old i j (omega arith) (omega arith)))
+    (cases_lt i (64 * length words))

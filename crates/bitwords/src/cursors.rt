@@ -1,0 +1,287 @@
+//! A cursor over the positions that are set in a row of words, in ascending order, from both ends.
+//!
+//! It holds the first and the last word of those left, without the bits that were given. The words between them stand in
+//! a `Middle`, which says where they come from: a slice, a slice of inverted words, or a vector that the cursor owns.
+
+ghost use Rattle.std.specs.Prelude.{◌≡◌, ℕ, ◌+◌, ◌*◌, ◌^◌, ◌<◌, ◌≤◌, ◌∷◌, ◌++◌, [], List, length, map, Some, IfSome};
+ghost use Rattle.std.specs.Int.{bit_not, w64};
+ghost use Rattle.std.specs.Iterator.{YieldsFirst, YieldsLast, item_count, UpTo};
+ghost use Rattle.std.specs.Iterator.SizeHint.{IsWithinCount};
+ghost use Rattle.std.specs.Vec.Iter.{into_iter_items};
+ghost use Rattle.bitwords.specs.Rows.{has_bit};
+ghost use Rattle.bitwords.specs.Walk.{GivesFirst, GivesLast, between_ends, over_row};
+ghost use Rattle.bitwords.specs.WalkedWords.{held_ends};
+
+use bitlanes::counter::Steps;
+use bitlanes::word::{BITS, Block, ones_below, take_highest_bit, take_lowest_bit};
+use std::alloc::Global;
+use std::marker::Model;
+use std::vec;
+
+/// Words that a cursor has still to take, from either end.
+pub trait Middle {
+    /// The words, in order.
+    ghost words: { Self → List ℕ };
+
+    /// Takes the first word, if there is one.
+    fn take_first(&mut self) -> Option<Block>
+        ensures { YieldsFirst words self.old result self.new };
+
+    /// Takes the last word, if there is one.
+    fn take_last(&mut self) -> Option<Block>
+        ensures { YieldsLast words self.old result self.new };
+
+    /// How many words are left.
+    fn left(&self) -> usize
+        ensures { result ≡ length (words self.now) };
+}
+
+/// Words of a slice.
+#[derive(Drop)]
+pub struct Plain<'a> {
+    pub words: &'a [Block],
+}
+
+impl<'a> Middle for Plain<'a> {
+    ghost words = { λ middle. middle.words.now };
+
+    #[inline]
+    fn take_first(&mut self) -> Option<Block> {
+        let (word, rest) = self.words.split_first()?;
+        self.words = rest;
+        Some(*word)
+    }
+
+    #[inline]
+    fn take_last(&mut self) -> Option<Block> {
+        let (word, rest) = self.words.split_last()?;
+        self.words = rest;
+        Some(*word)
+    }
+
+    #[inline]
+    fn left(&self) -> usize {
+        self.words.len()
+    }
+}
+
+/// Words of a slice, each bit inverted.
+#[derive(Drop)]
+pub struct Inverted<'a> {
+    pub plain: Plain<'a>,
+}
+
+impl<'a> Middle for Inverted<'a> {
+    ghost words = { λ middle. map (bit_not w64) middle.plain.words.now };
+
+    #[inline]
+    fn take_first(&mut self) -> Option<Block> {
+        Some(!self.plain.take_first()?)
+    }
+
+    #[inline]
+    fn take_last(&mut self) -> Option<Block> {
+        Some(!self.plain.take_last()?)
+    }
+
+    #[inline]
+    fn left(&self) -> usize {
+        self.plain.left()
+    }
+}
+
+/// Words that the cursor owns.
+impl Middle for vec::IntoIter<Block, Global> {
+    ghost words = { into_iter_items };
+
+    #[inline]
+    fn take_first(&mut self) -> Option<Block> {
+        self.next()
+    }
+
+    #[inline]
+    fn take_last(&mut self) -> Option<Block> {
+        self.next_back()
+    }
+
+    #[inline]
+    fn left(&self) -> usize {
+        self.len()
+    }
+}
+
+// A row of words, cut into its ends and those between. For a word that isn't there, an end has 0.
+#[derive(Drop)]
+struct Ends<M> {
+    front: Block,
+    middle: M,
+    back: Block,
+}
+
+#[inline(always)]
+fn ends_of<M: Middle + Drop>(mut words: M) -> Ends<M>
+    ensures bits { (p : ℕ) → has_bit (result.front ∷ (M.words result.middle ++ result.back ∷ [])) p ≡ has_bit (M.words words) p }
+    ensures middle { M.words result.middle ≡ between_ends (M.words words) }
+{
+    let front = words.take_first().unwrap_or(0);
+    let back = words.take_last().unwrap_or(0);
+    Ends {
+        front,
+        middle: words,
+        back,
+    }
+}
+
+/// The positions set in a row of words, in ascending order, from both ends.
+///
+/// A call makes one turn, and one more for each word that it takes. The two counts take no bytes when the program runs.
+#[derive(Drop)]
+pub struct Cursor<M: Middle + Drop> {
+    // The first and the last word of those left, without the bits that were given.
+    front: Block,
+    back: Block,
+    // The positions of their bits 0.
+    front_at: usize,
+    back_at: usize,
+    // The words between them, which are not yet taken.
+    middle: M,
+    turns: Steps,
+    taken: Steps,
+}
+
+impl<M: Middle + Drop> Model for Cursor<M> {
+    ghost use Rattle.std.specs.Prelude.{◌∷◌, ◌++◌, [], length};
+    ghost use Rattle.bitwords.specs.Walk.{Walk};
+    ghost use Rattle.bitwords.specs.WalkedWords.{IsSpaced, ones_from};
+
+    ghost Value = { Walk };
+
+    ghost view = { λ s. record {
+      items = ones_from s.front_at (s.front ∷ (M.words s.middle ++ s.back ∷ []));
+      words = M.words s.middle;
+      turns = s.turns;
+      taken = s.taken;
+    } };
+
+    ghost invariant = { λ s. IsSpaced s.front_at s.back_at (length (M.words s.middle)) s.back };
+}
+
+impl<M: Middle + Drop> Cursor<M> {
+    /// The positions set in the words. The first and the last word are read; those between are not yet taken.
+    #[inline(always)]
+    pub fn over(words: M) -> Cursor<M>
+        requires { 64 * length (M.words words) ≤ 2 ^ 64 }
+        ensures { result ≡ over_row (M.words words) (64 * length (M.words words)) }
+    {
+        Cursor::between(ends_of(words))
+    }
+
+    /// Those of the positions that are below `end`, which lies in the last word or at its end.
+    #[inline(always)]
+    pub fn below(words: M, end: usize) -> Cursor<M>
+        requires fits { 64 * length (M.words words) ≤ 2 ^ 64 }
+        requires long { end ≤ 64 * length (M.words words) }
+        requires last { 64 * length (M.words words) < end + 64 }
+        ensures { result ≡ over_row (M.words words) end }
+    {
+        let mut ends = ends_of(words);
+        let back_at = BITS * (ends.middle.left() + 1);
+        ends.front &= ones_below(end.min(BITS));
+        ends.back &= ones_below(end.saturating_sub(back_at));
+        Cursor::between(ends)
+    }
+
+    // The words lie one behind the other from position 0 on.
+    #[inline(always)]
+    fn between(ends: Ends<M>) -> Cursor<M>
+        requires { 64 * (length (M.words ends.middle) + 2) ≤ 2 ^ 64 }
+        ensures { result ≡ held_ends ends.front (M.words ends.middle) ends.back }
+    {
+        let back_at = BITS * (ends.middle.left() + 1);
+        Cursor {
+            front: ends.front,
+            back: ends.back,
+            front_at: 0,
+            back_at,
+            middle: ends.middle,
+            turns: Steps::new(),
+            taken: Steps::new(),
+        }
+    }
+}
+
+impl<M: Middle + Drop> Iterator for Cursor<M> {
+    type Item = usize;
+
+    ghost next_gives = { GivesFirst };
+
+    ghost remaining = { item_count (λ walk. walk.items) };
+
+    /// The least position left, or `None` where none is, and then for good.
+    #[inline]
+    fn next(&mut self) -> Option<usize> {
+        loop {
+            self.turns.tick();
+            if self.front != 0 {
+                return Some(self.front_at + take_lowest_bit(&mut self.front));
+            }
+            match self.middle.take_first() {
+                Some(word) => {
+                    self.taken.tick();
+                    self.front = word;
+                    self.front_at += BITS;
+                }
+                None => {
+                    if self.back == 0 {
+                        return None;
+                    }
+                    // The last word comes to the front: its other bits are then given as those of every word.
+                    self.front = self.back;
+                    self.front_at = self.back_at;
+                    self.back = 0;
+                    return Some(self.back_at + take_lowest_bit(&mut self.front));
+                }
+            }
+        }
+    }
+
+    /// At least 0, and at most 64 for each word not yet taken and for each of the two that the cursor holds. The latter
+    /// is `None` where it is no `usize`.
+    #[inline]
+    fn size_hint(&self) -> (usize, Option<usize>)
+        ensures zero { result.0 ≡ 0 }
+        ensures lower { IsWithinCount result.0 (item_count (λ walk. walk.items) self.now) }
+        ensures upper { IfSome result.1 (UpTo (item_count (λ walk. walk.items) self.now)) }
+        ensures known { 64 * (length self.now.words + 2) < 2 ^ 64 → result.1 ≡ Some (64 * (length self.now.words + 2)) }
+    {
+        (0, (self.middle.left() + 2).checked_mul(BITS))
+    }
+}
+
+impl<M: Middle + Drop> DoubleEndedIterator for Cursor<M> {
+    ghost next_back_gives = { GivesLast };
+
+    /// The greatest position left, or `None` where none is, and then for good.
+    #[inline]
+    fn next_back(&mut self) -> Option<usize> {
+        loop {
+            self.turns.tick();
+            if self.back != 0 {
+                return Some(self.back_at + take_highest_bit(&mut self.back));
+            }
+            match self.middle.take_last() {
+                Some(word) => {
+                    self.taken.tick();
+                    self.back = word;
+                    self.back_at -= BITS;
+                }
+                None => {
+                    if self.front == 0 {
+                        return None;
+                    }
+                    return Some(self.front_at + take_highest_bit(&mut self.front));
+                }
+            }
+        }
+    }
+}

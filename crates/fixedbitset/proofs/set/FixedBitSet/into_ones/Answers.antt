@@ -1,0 +1,23 @@
+use Rattle.std.proofs.Common.{◌≡◌, length, ap, ◌∙◌, arith}
+use Rattle.bitwords.specs.WalkFacts.{walk_forwards, walk_backwards}
+use Rattle.fixedbitset.specs.Walks.{begun}
+use Rattle.fixedbitset.proofs.Positions.{over_row-begun, fits-asc}
+use Rattle.fixedbitset.proofs.set.FixedBitSet.into_ones.Goals as goal
+
+whole : (c : goal.After-over) → c.over.result ≡ begun c.args.self
+whole c = c.over.ensures.walk ∙ over_row-begun _ _ _ c.self.view_is c.self.invariant c.over.ensures.are_words
+
+pub returns-clause-items : goal.returns-clause-items
+returns-clause-items c = ap (λ walk. walk.items) (whole c)
+
+pub returns-clause-fits : goal.returns-clause-fits
+returns-clause-fits c = omega (arith, ap length (returns-clause-items c), fits-asc _ _ _ c.self.view_is c.self.invariant)
+
+pub returns-clause-runs : goal.returns-clause-runs
+returns-clause-runs c = walk_forwards _ _ (returns-clause-items c)
+
+pub returns-clause-runs_back : goal.returns-clause-runs_back
+returns-clause-runs_back c = walk_backwards _ _ (returns-clause-items c)
+
+pub returns-clause-words : goal.returns-clause-words
+returns-clause-words c = ap (λ walk. walk.words) (whole c)

@@ -1,0 +1,13 @@
+//! Tests of lines and of the program: what it writes for an input, and how it calls readers and writers that fail.
+#![tactic(auto)]
+
+#[cfg(test)]
+mod calls;
+#[cfg(test)]
+mod program;
+#[cfg(test)]
+mod sessions;
+#[cfg(test)]
+mod streams;
+#[cfg(test)]
+mod walk_sessions;

@@ -1,0 +1,12 @@
+//! Tests of one set: its positions and ranges, by values from outside and by sweeps over lengths beside slow values, and
+//! callers that know public contracts alone.
+#![tactic(auto)]
+
+#[cfg(test)]
+mod callers;
+#[cfg(test)]
+mod ranges;
+#[cfg(test)]
+mod spans;
+#[cfg(test)]
+mod values;

@@ -1,0 +1,4 @@
+pub mod CallsLemmas
+pub mod FillLemmas
+pub mod SlotLemmas
+pub mod SumLemmas

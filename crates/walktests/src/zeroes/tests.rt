@@ -1,0 +1,27 @@
+use super::*;
+use crate::slow::{assert_answer, assert_items, set_of};
+use std::test::Fail;
+
+#[test]
+fn free_slots(rt: HostRuntime) -> Result<(), Fail> {
+    let mut set = FixedBitSet::with_capacity(rt.alloc(), 83)?;
+    assert_answer(&rt, first_clear(&set), Some(0));
+    assert!(rt; set.range_is_valid(&(..79)));
+    set.insert_range(..79);
+    assert_answer(&rt, first_clear(&set), Some(79));
+    assert_eq!(rt; count(&set), 4);
+    assert_items(&rt, &collected(rt.alloc(), &set)?, &[79, 80, 81, 82]);
+    for (low, wanted) in [(0, Some(79)), (81, Some(81)), (83, None)] {
+        assert_answer(&rt, some_clear_from(&set, low), wanted);
+        assert_answer(&rt, first_clear_from(&set, low), wanted);
+    }
+    Ok(())
+}
+
+#[test]
+fn no_free_slot(rt: HostRuntime) -> Result<(), Fail> {
+    let set = set_of(rt.alloc(), 1, &[0])?;
+    assert_answer(&rt, first_clear(&set), None);
+    assert_answer(&rt, first_clear(&FixedBitSet::new(rt.alloc())), None);
+    Ok(())
+}
