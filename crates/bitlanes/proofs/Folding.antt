@@ -1,5 +1,5 @@
 -- sums and tests of a list, one lane of four further
-use Rattle.std.proofs.Common.{◌≡◌, ℕ, zero, suc, ◌+◌, ◌-◌, ◌*◌, ◌≤◌, Bool, false, ◌==◌, ◌&&◌, List, [], ◌∷◌, ◌++◌, length, take, drop, replicate, sum_by, bit_or, refl, ap, sym, ◌∙◌, arith}
+use Rattle.std.proofs.Common.{◌≡◌, ℕ, zero, suc, ◌+◌, ◌-◌, ◌*◌, ◌≤◌, Bool, true, false, ◌==◌, ◌<◌, ◌&&◌, List, slice_index, [], ◌∷◌, ◌++◌, length, take, drop, replicate, sum_by, bit_or, refl, ap, sym, ◌∙◌, arith}
 use Rattle.std.specs.List.{list_all}
 use Rattle.std.specs.Simd.Lanes.{fold_l, chunk, put_chunk}
 use Rattle.std.proofs.Math.Bool.{and-true, and-false, and_assoc}
@@ -9,7 +9,7 @@ use Rattle.std.proofs.lemmas.List.{take-append-drop, replicate-append-replicate}
 use Rattle.std.proofs.lemmas.List.Folds.{list_all-append}
 use Rattle.std.proofs.lemmas.List.Sums.{sum_by-append, sum_by-take-le}
 use Rattle.std.proofs.lemmas.Nat.{le_or_l}
-use Rattle.std.proofs.lemmas.Simd.{chunk-drop, take_more_put_chunk}
+use Rattle.std.proofs.lemmas.Simd.{chunk-drop, get_or-chunk, take_more_put_chunk}
 
 bit_or-is_zero : (a b : ℕ) → (bit_or a b == 0) ≡ ((a == 0) && (b == 0))
 bit_or-is_zero zero b = refl
@@ -68,3 +68,15 @@ zeros_whole n xs le front back =
     sym (take-append-drop n xs)
     ∙ (ap (λ t. t ++ drop n xs) front ∙ (ap (λ t. replicate n 0 ++ t) back
     ∙ (replicate-append-replicate n (length xs - n) 0 ∙ ap (λ m. replicate m 0) (omega arith))))
+
+-- where each word is 0, so is word i
+all_zero : (xs : List ℕ) → list_all (λ w. w == 0) xs ≡ true → (i : ℕ) → slice_index xs i ≡ 0
+all_zero [] h i = refl
+all_zero (x ∷ xs) h zero = grind (arith, nat_tests)
+all_zero (x ∷ xs) h (suc i) = all_zero xs (grind (arith, nat_tests)) i
+
+-- the words of a lane, as those of the row
+pub zero_in_lane : (k : ℕ) (xs : List ℕ) → list_all (λ w. w == 0) (chunk k 4 xs) ≡ true → (i : ℕ) → k ≤ i → i < k + 4 → slice_index xs i ≡ 0
+zero_in_lane k xs h i from to =
+    let at : k + (i - k) ≡ i = omega arith in
+    ap (slice_index xs) (sym at) ∙ sym (get_or-chunk k 4 xs (i - k) 0 (omega arith)) ∙ all_zero (chunk k 4 xs) h (i - k)

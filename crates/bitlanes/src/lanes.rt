@@ -1,7 +1,8 @@
 //! The kernels: loops over the words of one slice or of two, by lanes of four words and then by single words.
 //!
 //! A step is one lane of four words, or one word, in one turn of a kernel, and is counted by one tick. So `m` words
-//! take `m / 4 + m % 4` steps. The kernels are the only loops of calls on whole sets.
+//! take `m / 4 + m % 4` steps. The kernels and the searches of module `search` are the only loops of calls on whole
+//! sets.
 //!
 //! Of two slices a kernel reads as many words as the shorter one has.
 ghost use Rattle.std.specs.Prelude.{◌≡◌, ◌+◌, ◌-◌, ◌^◌, ◌<◌, ◌≤◌, ◌==◌, length, min, slice_index, sum_by, replicate, drop, map, true, false, IsTrue};
@@ -15,7 +16,7 @@ use crate::{Block, Steps};
 use std::simd::prelude::*;
 
 // How many words a lane has.
-const LANE: usize = 4;
+pub(crate) const LANE: usize = 4;
 
 /// Joins each word of `dst` with the word of `src` at its place, by `O`. Words of `dst` past the end of `src` stay.
 ///
@@ -288,7 +289,7 @@ fn ones_in(words: [Block; LANE]) -> usize
 // Whether no bit is set in a lane.
 #[inline(always)]
 #[tactic(auto, using(crate::proofs::Folding::or_of_lane))]
-fn is_zero(lane: u64x4) -> bool
+pub(crate) fn is_zero(lane: u64x4) -> bool
     ensures { result ≡ list_all (λ word. word == 0) lane }
 {
     lane.reduce_or() == 0

@@ -5,6 +5,7 @@ pub mod counter;
 pub mod lanes;
 pub mod ops;
 pub mod range;
+pub mod search;
 pub mod word;
 
 pub use counter::Steps;

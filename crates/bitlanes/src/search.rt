@@ -1,0 +1,61 @@
+//! Searches for a word that is not 0, by lanes of four words and then by single words.
+ghost use Rattle.std.specs.Prelude.{◌≡◌, ◌+◌, ◌≤◌, ◌==◌, length, IfSome, IfNone};
+ghost use Rattle.std.specs.List.{list_all};
+ghost use Rattle.std.specs.Simd.Lanes.{chunk};
+ghost use Rattle.bitlanes.specs.Search.{IsFirstOne, IsLastOne, AreZeros};
+
+use crate::Block;
+use crate::lanes::{LANE, is_zero};
+use std::simd::prelude::*;
+
+/// The place of the first word that is not 0, or `None` where each word is 0.
+///
+/// It looks at four words at a time up to those that have the word, and then at single words, which are four at most.
+#[inline(always)]
+#[tactic(auto, using(crate::proofs::Folding::zero_in_lane))]
+pub fn first_one(words: &[Block]) -> Option<usize>
+    ensures found { IfSome result (IsFirstOne words.now) }
+    ensures none { IfNone result (AreZeros words.now) }
+{
+    let mut start = 0;
+    while words.len() - start >= LANE && is_zero_at(words, start) {
+        start += LANE;
+    }
+    for at in start..words.len() {
+        if words[at] != 0 {
+            return Some(at);
+        }
+    }
+    None
+}
+
+/// The place of the last word that is not 0, or `None` where each word is 0.
+///
+/// It looks at four words at a time from the end on, down to those that have the word, and then at single words, which
+/// are four at most.
+#[inline(always)]
+#[tactic(auto, using(crate::proofs::Folding::zero_in_lane))]
+pub fn last_one(words: &[Block]) -> Option<usize>
+    ensures found { IfSome result (IsLastOne words.now) }
+    ensures none { IfNone result (AreZeros words.now) }
+{
+    let mut end = words.len();
+    while end >= LANE && is_zero_at(words, end - LANE) {
+        end -= LANE;
+    }
+    for at in (0..end).rev() {
+        if words[at] != 0 {
+            return Some(at);
+        }
+    }
+    None
+}
+
+// Whether each of the four words from `at` on is 0.
+#[inline(always)]
+fn is_zero_at(words: &[Block], at: usize) -> bool
+    requires { at + 4 ≤ length words.now }
+    ensures { result ≡ list_all (λ word. word == 0) (chunk at 4 words.now) }
+{
+    is_zero(u64x4::from_slice(&words[at..]))
+}
