@@ -1,8 +1,10 @@
 -- Words joined with the positions of a range, part by part.
-use Rattle.std.proofs.Common.{◌≡◌, ◌≢◌, ℕ, ◌+◌, ◌*◌, ◌/◌, ◌%◌, ◌^◌, ◌<◌, ◌≤◌, Bool, true, false, ◌&&◌, nat_lt, List, length, get_or, set, refl, sym, ap, ◌∙◌, arith, ◌⊎◌, inl, inr, ⊎_elim}
+use Rattle.std.proofs.Common.{◌≡◌, ◌≢◌, ℕ, ◌+◌, ◌*◌, ◌/◌, ◌%◌, ◌^◌, ◌<◌, ◌≤◌, Bool, true, false, ◌&&◌, nat_lt, List, length, get_or, set, bit_and, refl, sym, ap, ◌∙◌, arith, ◌⊎◌, inl, inr, ⊎_elim}
 use Rattle.std.proofs.lemmas.Bool.{cases_lt, cases_eq, lt-ltb}
 use Rattle.std.proofs.lemmas.Bool.Decides.{nat_tests}
 use Rattle.std.proofs.lemmas.List.{get_or-set_same, get_or-set_other, length-set}
+use Rattle.std.specs.Int.{div_ceil}
+use Rattle.bitlanes.specs.BitLaws.{bit-and}
 use Rattle.bitlanes.specs.Bits.{bit}
 use Rattle.bitlanes.specs.Ops.{IsWordOp}
 use Rattle.bitwords.specs.Rows.{has_bit, in_range, IsJoined}
@@ -72,3 +74,29 @@ module _ {f : ℕ → ℕ → ℕ} {t : Bool → Bool → Bool} {keep take : Boo
 -- tests that agree join alike
 pub IsJoined-same : {t : Bool → Bool → Bool} (old new : List ℕ) (c d : ℕ → Bool) → ((p : ℕ) → c p ≡ d p) → IsJoined t old c new → IsJoined t old d new
 IsJoined-same {t} old new c d same done = record { long = done.long; bits = λ p h. done.bits p h ∙ ap (t (has_bit old p)) (same p) }
+
+-- ---- the positions from one on cleared, which stands in the last word or past it
+module _ (old : List ℕ) (start : ℕ) (short : length old ≤ div_ceil start 64) where
+  stays_before : (b : Bool) (p : ℕ) → p < start → b ≡ (b && nat_lt p start)
+  stays_before true p h = sym (lt-ltb p start h)
+  stays_before false p h = refl
+
+  pub IsJoined_all_before : length old ≤ start / 64 → IsJoined (λ x y. x && y) old (λ p. nat_lt p start) old
+  IsJoined_all_before past = record { long = refl; bits = λ p h. stays_before (has_bit old p) p (omega arith) }
+
+  pub IsJoined_cut : (mask : ℕ) → start / 64 < length old → ((i : ℕ) → bit mask i ≡ nat_lt i (start % 64)) → IsJoined (λ x y. x && y) old (λ p. nat_lt p start) (set old (start / 64) (bit_and (get_or old (start / 64) 0) mask))
+  unfolding has_bit
+  IsJoined_cut mask inside masked = record {
+    long = length-set old (start / 64) _;
+    bits = λ p h. ⊎_elim
+        (λ (at : p / 64 ≡ start / 64).
+        let same : nat_lt (p % 64) (start % 64) ≡ nat_lt p start = grind (arith, nat_tests) in
+        ap (λ j. bit (get_or (set old (start / 64) (bit_and (get_or old (start / 64) 0) mask)) j 0) (p % 64)) at
+        ∙ ap (λ w. bit w (p % 64)) (get_or-set_same old (start / 64) (bit_and (get_or old (start / 64) 0) mask) 0 inside)
+        ∙ bit-and (get_or old (start / 64) 0) mask (p % 64)
+        ∙ (let a : bit (get_or old (start / 64) 0) (p % 64) ≡ has_bit old p = ap (λ j. bit (get_or old j 0) (p % 64)) (sym at) in let b = masked (p % 64) ∙ same in λ i. a i && b i))
+        (λ (other : p / 64 ≢ start / 64).
+        ap (λ w. bit w (p % 64)) (get_or-set_other old (start / 64) (p / 64) (bit_and (get_or old (start / 64) 0) mask) 0 other)
+        ∙ stays_before (has_bit old p) p (omega arith))
+        (cases_eq (p / 64) (start / 64));
+  }

@@ -8,3 +8,4 @@ pub mod OnesFrom
 pub mod RowEnds
 pub mod Left
 pub mod Cut
+pub mod FirstAndLast

@@ -9,7 +9,7 @@ use Rattle.std.proofs.lemmas.Bool.{cases_eq}
 use Rattle.bitwords.specs.Ascending.{ascending}
 use Rattle.bitwords.specs.Rows.{count_below}
 
-range-append : (low m n : ℕ) → range_with_len low (m + n) ≡ range_with_len low m ++ range_with_len (low + m) n
+pub range-append : (low m n : ℕ) → range_with_len low (m + n) ≡ range_with_len low m ++ range_with_len (low + m) n
 range-append low zero n = let a : zero + n ≡ n = omega arith in let b : low + zero ≡ low = omega arith in rw (a, b)
 range-append low (suc m) n =
     let a : suc m + n ≡ suc (m + n) = omega arith in

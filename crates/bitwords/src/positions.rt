@@ -1,8 +1,12 @@
-//! Single positions of a row of words.
-ghost use Rattle.std.specs.Prelude.{◌≡◌};
-ghost use Rattle.bitwords.specs.Rows.{has_bit};
+//! Single positions of a row of words, the first and the last of them, and those from one position on.
+ghost use Rattle.std.specs.Prelude.{◌≡◌, ◌*◌, ◌^◌, ◌≤◌, ◌&&◌, nat_lt, length, slice_get, None};
+ghost use Rattle.std.specs.Int.{div_ceil};
+ghost use Rattle.std.specs.List.{last_or};
+ghost use Rattle.bitwords.specs.Ascending.{ascending};
+ghost use Rattle.bitwords.specs.Rows.{has_bit, IsJoined};
 
-use bitlanes::word::{BITS, Block};
+use bitlanes::search::{first_one, last_one};
+use bitlanes::word::{BITS, Block, highest_bit, lowest_bit, ones_below};
 
 /// Whether the position is set in the words: `false` past their end. It looks at one word.
 #[inline]
@@ -12,5 +16,47 @@ pub fn contains(words: &[Block], position: usize) -> bool
     match words.get(position / BITS) {
         Some(word) => *word & (1 << (position % BITS)) != 0,
         None => false,
+    }
+}
+
+/// The first position that is set, or `None` where none is.
+///
+/// It looks at four words at a time from the first on, up to the one that has this position. The number of positions of
+/// the row, 64 for each word, may be at most 2 ^ 64.
+#[inline]
+#[tactic(auto, using(crate::proofs::FirstAndLast::first_position, crate::proofs::FirstAndLast::no_first_position))]
+pub fn first(words: &[Block]) -> Option<usize>
+    requires { 64 * length words.now ≤ 2 ^ 64 }
+    ensures { result ≡ slice_get (ascending (has_bit words.now) 0 (64 * length words.now)) 0 }
+{
+    let at = first_one(words)?;
+    Some(BITS * at + lowest_bit(words[at]))
+}
+
+/// The last position that is set, or `None` where none is.
+///
+/// It looks at four words at a time from the last on, down to the one that has this position. The number of positions of
+/// the row, 64 for each word, may be at most 2 ^ 64.
+#[inline]
+#[tactic(auto, using(crate::proofs::FirstAndLast::last_position, crate::proofs::FirstAndLast::no_last_position))]
+pub fn last(words: &[Block]) -> Option<usize>
+    requires { 64 * length words.now ≤ 2 ^ 64 }
+    ensures { result ≡ last_or None (ascending (has_bit words.now) 0 (64 * length words.now)) }
+{
+    let at = last_one(words)?;
+    Some(BITS * at + highest_bit(words[at]))
+}
+
+/// Clears each position of the row from `start` on. It writes one word at most.
+///
+/// The row may have no more words than `start` positions need.
+#[inline]
+pub fn clear_from(words: &mut [Block], start: usize)
+    requires { length words.old ≤ div_ceil start 64 }
+    ensures { IsJoined (λ x y. x && y) words.old (λ p. nat_lt p start) words.new }
+{
+    let at = start / BITS;
+    if at < words.len() {
+        words[at] &= ones_below(start % BITS);
     }
 }
