@@ -124,6 +124,7 @@ impl<A: Part + Drop, B: Part + Drop> Model for InTurn<A, B> {
 }
 
 impl<A: Part + Drop, B: Part + Drop> InTurn<A, B> {
+    /// These two walks, the first before the second.
     #[inline]
     pub fn of(first: A, second: B) -> InTurn<A, B>
         ensures first { result.first ≡ first }
@@ -136,6 +137,7 @@ impl<A: Part + Drop, B: Part + Drop> InTurn<A, B> {
         }
     }
 
+    /// The first item that the first walk has left, and once it has none, the first of the second.
     #[inline]
     pub fn take_first(&mut self) -> Option<usize>
         ensures gives { YieldsFirst (λ walk. A.items walk.first ++ B.items walk.second) self.old result self.new }
@@ -151,6 +153,7 @@ impl<A: Part + Drop, B: Part + Drop> InTurn<A, B> {
         self.second.take_first()
     }
 
+    /// The last item that the second walk has left, and where it has none, the last of the first.
     #[inline]
     pub fn take_last(&mut self) -> Option<usize>
         ensures gives { YieldsLast (λ walk. A.items walk.first ++ B.items walk.second) self.old result self.new }
