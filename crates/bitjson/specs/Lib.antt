@@ -1,0 +1,4 @@
+pub mod Form
+pub mod Bytes
+pub mod FormFacts
+pub mod BytesFacts

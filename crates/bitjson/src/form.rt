@@ -1,0 +1,84 @@
+//! The form of a value: its length and its items, or the first fault.
+
+ghost use Rattle.std.specs.Prelude.{◌≡◌, ◌≢◌, IfErr, map};
+ghost use Rattle.std.specs.Result.{result_map_both};
+ghost use Rattle.serde_json.specs.View.{view};
+ghost use Rattle.bitjson.specs.Form as json;
+ghost use Rattle.bitjson.specs.declared.fault.JsonFault.TheVariants.{Memory};
+
+use crate::fault::JsonFault;
+use serde_json::Value;
+
+/// The length and the items of a value in the form: an object with exactly the keys `length` and `data`, or a list of these
+/// two in this order. The length is a whole number of 64 bits, and each item one from 0 to 255.
+///
+/// The items are lent from the value. Each item is looked at once, and no memory is taken.
+///
+/// `Err` says the first fault of the value, and it is never `Memory`.
+#[tactic(auto, unfolding(crate::specs::Form::form))]
+pub fn read_form(value: &Value) -> Result<(usize, &[Value]), JsonFault>
+    ensures value { result_map_both (λ read. (read.0, map json.item_byte read.1.now)) (λ fault. fault) result ≡ json.form (view value.now) }
+    ensures no_memory { IfErr result (λ fault. fault ≢ Memory) }
+{
+    let (length, data) = parts_of(value)?;
+    let length = length.as_u64().ok_or(JsonFault::Length)?;
+    let items = items_of(data)?;
+    Ok((length as usize, items))
+}
+
+// The length and the data, whatever they are.
+#[tactic(auto, unfolding(crate::specs::Form::parts))]
+fn parts_of(value: &Value) -> Result<(&Value, &Value), JsonFault>
+    ensures value { result_map_both (λ parts. (view parts.0.now, view parts.1.now)) (λ fault. fault) result ≡ json.parts (view value.now) }
+    ensures no_memory { IfErr result (λ fault. fault ≢ Memory) }
+{
+    match value {
+        Value::Array(items) => {
+            if items.len() != 2 {
+                return Err(JsonFault::Count);
+            }
+            Ok((&items[0], &items[1]))
+        }
+        Value::Object(members) => {
+            let Some(length) = value.get("length") else {
+                return Err(JsonFault::NoLength);
+            };
+            let Some(data) = value.get("data") else {
+                return Err(JsonFault::NoData);
+            };
+            if members.len() != 2 {
+                return Err(JsonFault::Key);
+            }
+            Ok((length, data))
+        }
+        _ => Err(JsonFault::Shape),
+    }
+}
+
+// The items of a list of bytes.
+#[tactic(auto, unfolding(crate::specs::Form::bytes))]
+fn items_of(list: &Value) -> Result<&[Value], JsonFault>
+    ensures value { result_map_both (λ items. map json.item_byte items.now) (λ fault. fault) result ≡ json.bytes (view list.now) }
+    ensures no_memory { IfErr result (λ fault. fault ≢ Memory) }
+{
+    let items = list.as_array().ok_or(JsonFault::Data)?;
+    let items = items.as_slice();
+    for index in 0..items.len() {
+        if byte_of(&items[index]).is_none() {
+            return Err(JsonFault::Item(index));
+        }
+    }
+    Ok(items)
+}
+
+// The byte that a value is.
+pub(crate) fn byte_of(value: &Value) -> Option<u8>
+    ensures { result ≡ json.byte (view value.now) }
+{
+    let number = value.as_u64()?;
+    if number < 256 {
+        Some(number as u8)
+    } else {
+        None
+    }
+}
