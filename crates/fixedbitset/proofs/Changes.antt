@@ -8,9 +8,9 @@ use Rattle.std.proofs.lemmas.Nat.Bits.{bit_at_set_same, bit_at_set_other, bit_at
 use Rattle.bitlanes.specs.BitLaws.{test_of_and}
 use Rattle.bitwords.specs.CountFacts.{indicator}
 use Rattle.bitwords.specs.Rows.{has_bit}
-use Rattle.fixedbitset.specs.Bits.{Bits, contains, insert, remove, set_bit, toggle, empty}
+use Rattle.fixedbitset.specs.Bits.{Bits, contains, insert, remove, set_bit, toggle, empty, of_words}
 use Rattle.fixedbitset.specs.BitsFacts.{same_bits, length-set_bit, contains-set_bit, length-empty, contains-empty, contains-past}
-use Rattle.fixedbitset.specs.Stored.{of_words, IsClean}
+use Rattle.fixedbitset.specs.Stored.{IsClean}
 use Rattle.fixedbitset.proofs.Values.{length-of_words}
 use Rattle.fixedbitset.proofs.Words.{contains-of_clean, viewed_length}
 
@@ -138,9 +138,6 @@ module _ (n : ℕ) (ws : List ℕ) (v : Bits) (bit x : ℕ) where
   pub viewed_mask : of_words n ws ≡ v → IsClean n ws → bit < v.length → x ≡ get_or ws (bit / 64) x → not (bit_and x (1 * 2 ^ (bit % 64) % 2 ^ 64) == 0) ≡ contains v bit
   viewed_mask view clean inside read = test_of_and x (bit % 64) (omega arith) ∙ viewed_bit view clean inside read
 
-  -- the same, of a position below the length that is kept
-  pub viewed_test : of_words n ws ≡ v → IsClean n ws → bit < n → x ≡ get_or ws (bit / 64) x → not (bit_and x (1 * 2 ^ (bit % 64) % 2 ^ 64) == 0) ≡ contains v bit
-  viewed_test view clean inside read = test_of_and x (bit % 64) (omega arith) ∙ viewed_bit view clean (rw (← viewed_length n ws v view) inside) read
-
-pub viewed_past : (n : ℕ) (ws : List ℕ) (v : Bits) (bit : ℕ) → of_words n ws ≡ v → n ≤ bit → false ≡ contains v bit
-viewed_past n ws v bit view past = sym (contains-past v bit (rw (← viewed_length n ws v view) past))
+-- no position past the length is set
+pub none_past : (v : Bits) (bit : ℕ) → v.length ≤ bit → false ≡ contains v bit
+none_past v bit past = sym (contains-past v bit past)

@@ -2,17 +2,17 @@
 use Rattle.std.proofs.Common.{◌≡◌, ℕ, ◌+◌, ◌-◌, ◌/◌, ◌%◌, ◌^◌, ◌<◌, ◌≤◌, max, false, ◌==◌, List, ◌++◌, replicate, length, get_or, refl, sym, ap, ◌∙◌, arith, ⊎_elim}
 use Rattle.std.specs.Int.{bit_at}
 use Rattle.std.proofs.lemmas.Bool.{cases_lt}
-use Rattle.std.proofs.lemmas.List.{get_or-append_right, get_or_append_left, get_or_past, get_or-replicate, length-replicate, length-append}
+use Rattle.std.proofs.lemmas.List.{append-nil, get_or-append_right, get_or_append_left, get_or_past, get_or-replicate, length-replicate, length-append}
 use Rattle.std.proofs.lemmas.Nat.Bits.{bit_at-zero}
 use Rattle.bitwords.specs.Rows.{has_bit}
 use Rattle.bitwords.specs.RowFacts.{has_bit-same}
-use Rattle.fixedbitset.specs.Bits.{Bits, empty, grow, words_needed}
+use Rattle.fixedbitset.specs.Bits.{Bits, empty, grow, words_needed, of_words}
 use Rattle.fixedbitset.specs.BitsFacts.{same_bits, contains-grow, length-grow, contains-empty, length-empty}
-use Rattle.fixedbitset.specs.Stored.{of_words, IsClean}
+use Rattle.fixedbitset.specs.Stored.{IsClean}
 use Rattle.fixedbitset.proofs.Values.{length-of_words}
 use Rattle.fixedbitset.proofs.Words.{contains-of_clean, viewed_length}
 
-abbrev zeros : ℕ → List ℕ
+abbrev pub zeros : ℕ → List ℕ
 zeros j = replicate j 0
 
 get_or-none : (j i : ℕ) → get_or (zeros j) i 0 ≡ 0
@@ -70,6 +70,10 @@ pub grow_same : (n m : ℕ) (ws : List ℕ) (v : Bits) → of_words n ws ≡ v �
 grow_same n m ws v view h =
     let long : n ≡ v.length = viewed_length n ws v view in
     same_bits _ _ ((let e : v.length ≡ max v.length m = omega arith in e) ∙ sym (length-grow v m)) (λ p. sym (contains-grow v m p))
+
+-- as many words as there are
+pub none_added : (ws : List ℕ) (count len : ℕ) → count ≡ len → ws ≡ ws ++ replicate (count - len) 0
+none_added ws count len same = sym (ap (λ j. ws ++ zeros j) (let e : count - len ≡ 0 = omega arith in e) ∙ append-nil ws)
 
 -- words that are all 0
 has_bit-none : (j p : ℕ) → has_bit (zeros j) p ≡ false

@@ -4,10 +4,10 @@ use Rattle.std.proofs.Common.{nat_le, ◌≡◌, ℕ, ◌*◌, ◌<◌, ◌≤�
 use Rattle.std.proofs.lemmas.Bool.{cases_lt, cases_Bool, le-ltb, leb-true, and_left, and_right, and_parts}
 use Rattle.bitwords.specs.Rows.{has_bit, IsJoined}
 use Rattle.bitwords.specs.RowFacts.{has_bit-past}
-use Rattle.fixedbitset.specs.Bits.{Bits, contains, words_needed}
+use Rattle.fixedbitset.specs.Bits.{Bits, contains, words_needed, of_words}
 use Rattle.fixedbitset.specs.BitsFacts.{same_bits, contains-past}
 use Rattle.fixedbitset.specs.Ranges.{is_valid}
-use Rattle.fixedbitset.specs.Stored.{of_words, IsClean, joined}
+use Rattle.fixedbitset.specs.Stored.{IsClean, joined}
 use Rattle.fixedbitset.proofs.Values.{contains-of_words, length-of_words, contains-having, length-having}
 use Rattle.fixedbitset.proofs.Words.{contains-of_clean, viewed_length}
 

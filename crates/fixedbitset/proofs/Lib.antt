@@ -8,3 +8,7 @@ pub mod JoinedCounts
 pub mod Positions
 pub mod PairItems
 pub mod PairRows
+pub mod Blocks
+pub mod Equality
+pub mod Characters
+pub mod JsonBytes

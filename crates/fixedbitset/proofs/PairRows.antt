@@ -2,8 +2,8 @@
 use Rattle.std.proofs.Common.{◌≡◌, ℕ, ◌^◌, ◌<◌, Bool, not, List, get_or, ap, ◌∙◌}
 use Rattle.bitwords.specs.RowFacts.{AreWords}
 use Rattle.bitwalks.specs.Pairs.{Sieved, sieve_over}
-use Rattle.fixedbitset.specs.Bits.{Bits, asc}
-use Rattle.fixedbitset.specs.Stored.{of_words, IsClean}
+use Rattle.fixedbitset.specs.Bits.{Bits, asc, of_words}
+use Rattle.fixedbitset.specs.Stored.{IsClean}
 use Rattle.fixedbitset.specs.TwoSets.{intersection, difference}
 use Rattle.fixedbitset.specs.Walks.{begun}
 use Rattle.fixedbitset.proofs.PairItems.{asc-intersection, asc-difference}

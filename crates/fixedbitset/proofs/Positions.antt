@@ -1,6 +1,7 @@
 -- The positions of a value, as those of the words in which a set keeps it.
-use Rattle.std.proofs.Common.{◌≡◌, ℕ, Bool, filter, ◌+◌, ◌-◌, ◌*◌, ◌/◌, ◌%◌, ◌^◌, ◌<◌, not, ◌&&◌, List, length, map, get_or, sym, ap, ◌∙◌, arith}
+use Rattle.std.proofs.Common.{◌≡◌, ℕ, Bool, filter, ◌+◌, ◌-◌, ◌*◌, ◌/◌, ◌%◌, ◌^◌, ◌<◌, not, ◌&&◌, List, length, map, get_or, slice_get, None, sym, ap, ◌∙◌, arith}
 use Rattle.std.specs.Int.{bit_not, w64}
+use Rattle.std.specs.List.{last_or}
 use Rattle.std.proofs.lemmas.Bool.{lt-ltb}
 use Rattle.std.proofs.lemmas.List.{get_or-map}
 use Rattle.bitlanes.specs.Bits.{bit}
@@ -12,9 +13,9 @@ use Rattle.bitwords.specs.RowFacts.{AreWords}
 use Rattle.bitwords.specs.Walk.{between_ends, over_row}
 use Rattle.bitwalks.specs.Pairs.{sieve_over}
 use Rattle.fixedbitset.specs.Walks.{begun}
-use Rattle.fixedbitset.specs.Bits.{Bits, contains, asc, complement, words}
+use Rattle.fixedbitset.specs.Bits.{Bits, contains, asc, minimum, maximum, complement, words, of_words}
 use Rattle.fixedbitset.specs.BitsFacts.{length-complement, contains-complement}
-use Rattle.fixedbitset.specs.Stored.{of_words, IsClean}
+use Rattle.fixedbitset.specs.Stored.{IsClean}
 use Rattle.fixedbitset.specs.WalkFacts.{length-asc}
 use Rattle.fixedbitset.proofs.Words.{contains-of_clean, words-of, viewed_length}
 
@@ -39,6 +40,15 @@ module _ (n : ℕ) (ws : List ℕ) (v : Bits) (view : of_words n ws ≡ v) (clea
       let whole : 64 * length ws ≡ v.length + (64 * length ws - v.length) = omega (arith, clean.count, long) in
       ap (ascending (has_bit ws) 0) whole
       ∙ ascending-cut _ (contains v) 0 v.length (64 * length ws - v.length) (λ i above below. members i) (λ i above below. clean.tail i (omega (arith, long)))
+
+  -- the first and the last of them
+  pub row_minimum : slice_get (ascending (has_bit ws) 0 (64 * length ws)) 0 ≡ minimum v
+  unfolding minimum
+  row_minimum = ap (λ xs. slice_get xs 0) row-asc
+
+  pub row_maximum : last_or None (ascending (has_bit ws) 0 (64 * length ws)) ≡ maximum v
+  unfolding maximum
+  row_maximum = ap (last_or None) row-asc
 
   -- those of the inverted words below the length are those of its complement
   pub zeroes-asc : AreWords ws → ascending (has_bit (map (bit_not w64) ws)) 0 n ≡ asc (complement v)

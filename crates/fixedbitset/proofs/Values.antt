@@ -1,39 +1,14 @@
 -- The lengths and the members of the values that words and ranges stand for, and of what is joined of two values.
-use Rattle.std.proofs.Common.{◌≡◌, ℕ, Bool, true, false, ◌&&◌, nat_lt, nat_le, List, refl, sym, ap, ◌∙◌}
+use Rattle.std.proofs.Common.{◌≡◌, ℕ, Bool, ◌&&◌, nat_lt, nat_le, sym, ap, ◌∙◌}
 use Rattle.std.specs.Ordering.{nat_cmp}
 use Rattle.std.specs.FinSet as set
 use Rattle.std.specs.FinSet.{FinSet}
-use Rattle.bitwords.specs.Rows.{has_bit, in_range}
-use Rattle.fixedbitset.specs.Numbers.{numbers_below, contains-numbers_below}
-use Rattle.fixedbitset.specs.NumbersFacts.{contains-kept, contains-numbers_between}
+use Rattle.bitwords.specs.Rows.{in_range}
+use Rattle.fixedbitset.specs.NumbersFacts.{contains-numbers_between}
 use Rattle.fixedbitset.specs.Bits.{Bits, pair, contains}
 use Rattle.fixedbitset.specs.BitsFacts.{length-pair, contains-pair, last_holds, same_bits}
-use Rattle.fixedbitset.specs.Stored.{having, of_words, range_set, joined}
-
-both_last : (a b : Bool) → ((b && a) && b) ≡ (a && b)
-both_last true true = refl
-both_last true false = refl
-both_last false true = refl
-both_last false false = refl
-
-pub length-having : (n : ℕ) (test : ℕ → Bool) → (having n test).length ≡ n
-unfolding having
-length-having n test = length-pair n _
-
-pub contains-having : (n : ℕ) (test : ℕ → Bool) (p : ℕ) → contains (having n test) p ≡ (test p && nat_lt p n)
-unfolding having
-contains-having n test p =
-    contains-pair n _ p
-    ∙ ap (λ b. b && nat_lt p n) (contains-kept (numbers_below n) test p ∙ ap (λ b. b && test p) (contains-numbers_below n p))
-    ∙ both_last (test p) (nat_lt p n)
-
-pub length-of_words : (n : ℕ) (ws : List ℕ) → (of_words n ws).length ≡ n
-unfolding of_words
-length-of_words n ws = length-having n _
-
-pub contains-of_words : (n : ℕ) (ws : List ℕ) (p : ℕ) → contains (of_words n ws) p ≡ (has_bit ws p && nat_lt p n)
-unfolding of_words
-contains-of_words n ws p = contains-having n (has_bit ws) p
+use Rattle.fixedbitset.specs.Stored.{range_set, joined}
+pub use Rattle.fixedbitset.specs.WordsFacts.{length-having, contains-having, length-of_words, contains-of_words}
 
 pub length-range_set : (start end : ℕ) → (range_set start end).length ≡ end
 unfolding range_set

@@ -9,7 +9,7 @@ use Rattle.std.proofs.Common.{refl, sym, ap, ◌∙◌, arith, IsTrue}
 use Rattle.std.proofs.lemmas.Bool.{ltb-true, lt-ltb, eqb-true, false_from_ne_true}
 use mathlib.Core.HLevel.{Σ_prop_path}
 use Rattle.fixedbitset.specs.Numbers.{numbers_below, contains-numbers_below}
-use Rattle.fixedbitset.specs.Bits.{Bits, pair, contains, empty, insert, remove, set_bit, toggle, grow, complement}
+use Rattle.fixedbitset.specs.Bits.{Bits, pair, contains, empty, insert, remove, set_bit, toggle, copy_bit, grow, complement}
 
 -- a last test that the one before it implies
 pub last_holds : (a b c : Bool) → (b ≡ true → c ≡ true) → ((a && b) && c) ≡ (a && b)
@@ -102,6 +102,14 @@ pub contains-toggle : (v : Bits) (bit p : ℕ) → bit < v.length → contains (
 unfolding toggle
 contains-toggle v bit p h = contains-set_bit v bit _ p h
 
+pub length-copy_bit : (v : Bits) (from to : ℕ) → (copy_bit v from to).length ≡ v.length
+unfolding copy_bit
+length-copy_bit v from to = length-set_bit v to _
+
+pub contains-copy_bit : (v : Bits) (from to p : ℕ) → to < v.length → contains (copy_bit v from to) p ≡ cond (p == to) (contains v from) (contains v p)
+unfolding copy_bit
+contains-copy_bit v from to p h = contains-set_bit v to _ p h
+
 pub length-grow : (v : Bits) (bits : ℕ) → (grow v bits).length ≡ max v.length bits
 unfolding grow
 length-grow v bits = length-pair _ _
@@ -129,4 +137,4 @@ contains-complement v p =
     first_again false b = refl
 
 -- what a caller needs of each change
-pub ruleset facts = (length-empty, length-insert, length-remove, length-set_bit, length-toggle, length-grow, contains-empty, contains-insert, contains-remove, contains-set_bit, contains-toggle, contains-grow)
+pub ruleset facts = (length-empty, length-insert, length-remove, length-set_bit, length-toggle, length-copy_bit, length-grow, contains-empty, contains-insert, contains-remove, contains-set_bit, contains-toggle, contains-copy_bit, contains-grow)

@@ -5,11 +5,11 @@ use Rattle.std.specs.FinSet as set
 use Rattle.std.proofs.Common.{refl, sym, ap, ◌∙◌, arith}
 use Rattle.std.proofs.lemmas.Bool.{lt-ltb, le-leb, ltb-true, leb-true, and_parts, and_from, true≢false, false_from_ne_true}
 use Rattle.bitlanes.specs.Bits.{either}
-use Rattle.fixedbitset.specs.Numbers.{numbers_between}
+use Rattle.fixedbitset.specs.Numbers.{numbers_between, contains-numbers_below}
 use Rattle.bitwords.specs.Rows.{in_range}
-use Rattle.fixedbitset.specs.Bits.{Bits, contains, empty}
+use Rattle.fixedbitset.specs.Bits.{Bits, contains, empty, is_full}
 use Rattle.fixedbitset.specs.BitsFacts.{length-pair, contains-pair, contains_below, length-empty, contains-empty, same_bits}
-use Rattle.fixedbitset.specs.NumbersFacts.{contains-numbers_between, contains-symmetric_difference, member_of, none_len}
+use Rattle.fixedbitset.specs.NumbersFacts.{same_set, contains-numbers_between, contains-symmetric_difference, member_of, none_len}
 use Rattle.fixedbitset.specs.Ranges.{insert_range, remove_range, toggle_range, set_range, count_ones, contains_all, contains_any}
 
 -- a last test that the first one implies
@@ -93,6 +93,12 @@ contains_all-tells v start end = (
   λ all p from to. set.is_subset-contains nat_cmp_total (numbers_between start end) v.positions all p (contains-numbers_between start end p ∙ and_from _ _ (le-leb start p from) (lt-ltb p end to)),
   λ all. set.contains-is_subset nat_cmp_total _ _ (λ p one. let ends = and_parts (nat_le start p) _ (sym (contains-numbers_between start end p) ∙ one) in all p (leb-true start p ends.0) (ltb-true p end ends.1)),
 )
+
+-- a set is full if it has each position of the range of all
+pub is_full_all : (v : Bits) → contains_all v 0 v.length ≡ is_full v
+unfolding contains_all is_full
+is_full_all v =
+    ap (λ all. set.is_subset all v.positions) (same_set _ _ (λ p. contains-numbers_between 0 v.length p ∙ ap (λ b. b && nat_lt p v.length) (le-leb 0 p (omega arith)) ∙ sym (contains-numbers_below v.length p)))
 
 -- some number of the range is a position of the set
 pub contains_any-tells : (v : Bits) (start end : ℕ) → IsTrue (contains_any v start end) ↔ ((p : ℕ) × (start ≤ p) × (p < end) × IsTrue (contains v p))

@@ -2,16 +2,8 @@
 use Rattle.std.specs.Prelude.{◌≡◌, ℕ, ◌^◌, ◌<◌, ◌≤◌, Bool, false, List, length}
 use Rattle.std.specs.FinSet as set
 use Rattle.bitwords.specs.Rows.{has_bit}
-use Rattle.fixedbitset.specs.Numbers.{numbers_below, numbers_between}
-use Rattle.fixedbitset.specs.Bits.{Bits, pair, contains, words_needed}
-
--- length n, and the numbers below it that pass the test
-unfoldable pub having : ℕ → (ℕ → Bool) → Bits
-having n test = pair n (set.retain (numbers_below n) test)
-
--- length n, and the positions below it that the words have
-unfoldable pub of_words : ℕ → List ℕ → Bits
-of_words n ws = having n (has_bit ws)
+use Rattle.fixedbitset.specs.Numbers.{numbers_between}
+use Rattle.fixedbitset.specs.Bits.{Bits, pair, having, contains, words_needed}
 
 -- a length that a usize holds, as many words as it needs, and no bit past it
 pub record IsClean (n : ℕ) (ws : List ℕ) : Type 0 where

@@ -1,4 +1,8 @@
 //! Single positions. No call looks at more than one word, and none takes memory.
+//!
+//! A position that is changed has to be below the length: test it by `len()`. Upstream panics past it. The calls whose
+//! names end in `_unchecked` ask the same of each position that they are given; they are `unsafe` upstream, where nobody
+//! tests it. Here the prover asks it of the caller, so that they are safe, and do what the calls without the ending do.
 
 ghost use Rattle.std.specs.Prelude.{◌≡◌, ◌<◌};
 ghost use Rattle.fixedbitset.specs.Bits as model;
@@ -9,42 +13,79 @@ use bitlanes::word::BITS;
 impl FixedBitSet {
     /// Whether the position is set: `false` at or past the length. Every position may be asked.
     #[inline]
-    #[tactic(auto, using(crate::proofs::Changes::viewed_place, crate::proofs::Changes::viewed_test, crate::proofs::Changes::viewed_past))]
+    #[tactic(auto, using(crate::proofs::Changes::none_past))]
     pub fn contains(&self, bit: usize) -> bool
         ensures { result ≡ model.contains self.now bit }
     {
-        if bit < self.length {
-            self.words[bit / BITS] & (1 << (bit % BITS)) != 0
+        if bit < self.len() {
+            self.contains_unchecked(bit)
         } else {
             false
         }
     }
 
-    /// Sets the position, which has to be below the length: test it by `len()`. Upstream panics past it.
+    /// Whether the position, which has to be below the length, is set. The length is not looked at.
+    #[inline]
+    #[tactic(auto, using(crate::proofs::Changes::viewed_place, crate::proofs::Changes::viewed_mask))]
+    pub fn contains_unchecked(&self, bit: usize) -> bool
+        requires { bit < self.now.length }
+        ensures { result ≡ model.contains self.now bit }
+    {
+        self.words[bit / BITS] & (1 << (bit % BITS)) != 0
+    }
+
+    /// Sets the position, which has to be below the length.
+    #[inline]
+    pub fn insert(&mut self, bit: usize)
+        requires { bit < self.old.length }
+        ensures { self.new ≡ model.insert self.old bit }
+    {
+        self.insert_unchecked(bit);
+    }
+
+    /// The same as [`insert`](Self::insert).
     #[inline]
     #[tactic(auto, using(crate::proofs::Changes::viewed_place, crate::proofs::Changes::of_insert))]
-    pub fn insert(&mut self, bit: usize)
+    pub fn insert_unchecked(&mut self, bit: usize)
         requires { bit < self.old.length }
         ensures { self.new ≡ model.insert self.old bit }
     {
         self.words[bit / BITS] |= 1 << (bit % BITS);
     }
 
-    /// Clears the position, which has to be below the length. Upstream panics past it.
+    /// Clears the position, which has to be below the length.
+    #[inline]
+    pub fn remove(&mut self, bit: usize)
+        requires { bit < self.old.length }
+        ensures { self.new ≡ model.remove self.old bit }
+    {
+        self.remove_unchecked(bit);
+    }
+
+    /// The same as [`remove`](Self::remove).
     #[inline]
     #[tactic(auto, using(crate::proofs::Changes::viewed_place, crate::proofs::Changes::of_remove))]
-    pub fn remove(&mut self, bit: usize)
+    pub fn remove_unchecked(&mut self, bit: usize)
         requires { bit < self.old.length }
         ensures { self.new ≡ model.remove self.old bit }
     {
         self.words[bit / BITS] &= !(1 << (bit % BITS));
     }
 
-    /// Sets the position, which has to be below the length, and answers whether it was set before. Upstream panics
-    /// past the length.
+    /// Sets the position, which has to be below the length, and answers whether it was set before.
+    #[inline]
+    pub fn put(&mut self, bit: usize) -> bool
+        requires { bit < self.old.length }
+        ensures before { result ≡ model.contains self.old bit }
+        ensures after { self.new ≡ model.insert self.old bit }
+    {
+        self.put_unchecked(bit)
+    }
+
+    /// The same as [`put`](Self::put).
     #[inline]
     #[tactic(auto, using(crate::proofs::Changes::viewed_place, crate::proofs::Changes::of_insert, crate::proofs::Changes::viewed_mask))]
-    pub fn put(&mut self, bit: usize) -> bool
+    pub fn put_unchecked(&mut self, bit: usize) -> bool
         requires { bit < self.old.length }
         ensures before { result ≡ model.contains self.old bit }
         ensures after { self.new ≡ model.insert self.old bit }
@@ -55,22 +96,38 @@ impl FixedBitSet {
         word & mask != 0
     }
 
-    /// Sets the position if it is clear and clears it if it is set. It has to be below the length; upstream panics
-    /// past it.
+    /// Sets the position if it is clear and clears it if it is set. It has to be below the length.
+    #[inline]
+    pub fn toggle(&mut self, bit: usize)
+        requires { bit < self.old.length }
+        ensures { self.new ≡ model.toggle self.old bit }
+    {
+        self.toggle_unchecked(bit);
+    }
+
+    /// The same as [`toggle`](Self::toggle).
     #[inline]
     #[tactic(auto, using(crate::proofs::Changes::viewed_place, crate::proofs::Changes::of_toggle))]
-    pub fn toggle(&mut self, bit: usize)
+    pub fn toggle_unchecked(&mut self, bit: usize)
         requires { bit < self.old.length }
         ensures { self.new ≡ model.toggle self.old bit }
     {
         self.words[bit / BITS] ^= 1 << (bit % BITS);
     }
 
-    /// Sets the position, or clears it where `enabled` is false. It has to be below the length; upstream panics past
-    /// it.
+    /// Sets the position, or clears it where `enabled` is false. It has to be below the length.
+    #[inline]
+    pub fn set(&mut self, bit: usize, enabled: bool)
+        requires { bit < self.old.length }
+        ensures { self.new ≡ model.set_bit self.old bit enabled }
+    {
+        self.set_unchecked(bit, enabled);
+    }
+
+    /// The same as [`set`](Self::set).
     #[inline]
     #[tactic(auto, unfolding(crate::specs::Bits::set_bit))]
-    pub fn set(&mut self, bit: usize, enabled: bool)
+    pub fn set_unchecked(&mut self, bit: usize, enabled: bool)
         requires { bit < self.old.length }
         ensures { self.new ≡ model.set_bit self.old bit enabled }
     {
@@ -79,5 +136,27 @@ impl FixedBitSet {
         } else {
             self.remove(bit);
         }
+    }
+
+    /// Makes position `to` what position `from` is. `to` has to be below the length; `from` need not be, and past the
+    /// length it is clear, so that `to` is cleared.
+    #[inline]
+    #[tactic(auto, unfolding(crate::specs::Bits::copy_bit))]
+    pub fn copy_bit(&mut self, from: usize, to: usize)
+        requires { to < self.old.length }
+        ensures { self.new ≡ model.copy_bit self.old from to }
+    {
+        self.set(to, self.contains(from));
+    }
+
+    /// The same as [`copy_bit`](Self::copy_bit), for two positions below the length.
+    #[inline]
+    #[tactic(auto, unfolding(crate::specs::Bits::copy_bit))]
+    pub fn copy_bit_unchecked(&mut self, from: usize, to: usize)
+        requires from { from < self.old.length }
+        requires to { to < self.old.length }
+        ensures { self.new ≡ model.copy_bit self.old from to }
+    {
+        self.set(to, self.contains_unchecked(from));
     }
 }

@@ -6,14 +6,21 @@
 
 pub mod bits;
 pub mod counted;
+pub mod extend;
 mod joined;
+pub mod json;
 pub mod operators;
+pub mod order;
 pub mod pairs;
+pub mod questions;
 pub mod ranges;
 pub mod set;
+pub mod text;
 pub mod walks;
 pub mod whole;
 
 pub use bitlanes::{Block, IndexRange, Steps};
 pub use bitwalks::{Difference, Intersection, IntoOnes, Ones, SymmetricDifference, Union, Zeroes};
+pub use extend::ExtendFault;
+pub use json::JsonFault;
 pub use set::FixedBitSet;

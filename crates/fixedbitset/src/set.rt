@@ -1,10 +1,13 @@
 //! The set itself: making one, growing it, its length and its words.
 
-ghost use Rattle.std.specs.Prelude.{◌≡◌, ◌≤◌, ◌-◌, ◌++◌, replicate, vec_len, IsOk, IfOk, OnOk, OnErr};
+ghost use Rattle.std.specs.Prelude.{◌≡◌, ◌<◌, ◌≤◌, ◌-◌, ◌++◌, drop, length, replicate, vec_len, IsOk, IfOk, OnOk, OnErr};
 ghost use Rattle.std.specs.Vec.{vec_capacity};
 ghost use Rattle.fixedbitset.specs.Bits as model;
+ghost use Rattle.fixedbitset.specs.Blocks.{FirstItems};
 
-use bitlanes::word::{BITS, Block};
+use bitlanes::word::{BITS, Block, ones_below};
+use bitlanes::{Steps, lanes};
+use bitwords::positions;
 use std::alloc::{AllocError, Global};
 use std::marker::Model;
 
@@ -19,9 +22,9 @@ pub struct FixedBitSet {
 }
 
 impl Model for FixedBitSet {
-    ghost use Rattle.fixedbitset.specs.Bits.{Bits};
+    ghost use Rattle.fixedbitset.specs.Bits.{Bits, of_words};
     ghost use Rattle.fixedbitset.specs.BitsCode.{code};
-    ghost use Rattle.fixedbitset.specs.Stored.{of_words, IsClean};
+    ghost use Rattle.fixedbitset.specs.Stored.{IsClean};
 
     ghost Value = { Bits };
 
@@ -57,6 +60,41 @@ impl FixedBitSet {
         })
     }
 
+    /// A set of length 0, as `new` makes it.
+    ///
+    /// Upstream implements the trait `Default`, whose call takes no allocator.
+    pub fn default(alloc: Global) -> Self
+        ensures { result ≡ model.empty 0 }
+    {
+        Self::new(alloc)
+    }
+
+    /// A set of `bits` positions, whose words are the first items of `blocks`. Words that no item comes for are 0.
+    ///
+    /// It takes no more items than there are words, which are `bits / 64`, rounded up. So `blocks` need not end. Bits past
+    /// the length are cleared; upstream keeps those of its last word.
+    ///
+    /// `Err` comes only where memory for the words was refused; no item is taken then. It writes each word as 0, then the
+    /// items, and then the last word.
+    pub fn with_capacity_and_blocks<I: IntoIterator<Item = Block>>(
+        alloc: Global,
+        bits: usize,
+        blocks: I,
+    ) -> Result<Self, AllocError>
+        requires { (it : I.IntoIter) → I.into_iter_gives blocks it → I.IntoIter.can_next it }
+        ensures { IfOk result (λ set. (it : I.IntoIter) × I.into_iter_gives blocks it
+            × FirstItems I.IntoIter.next_gives it (model.words_needed bits) (λ words. set ≡ model.of_words bits words)) }
+    {
+        let items = blocks.into_iter();
+        let mut words = vec![in alloc; 0; bits.div_ceil(BITS)]?;
+        fill(&mut words, items);
+        positions::clear_from(&mut words, bits);
+        Ok(FixedBitSet {
+            words,
+            length: bits,
+        })
+    }
+
     /// Makes the length the greater of itself and `bits`. The new positions are not set; a set never shrinks.
     ///
     /// `Err` comes only where more words are needed than the old length has and memory for them was refused. The set
@@ -73,6 +111,43 @@ impl FixedBitSet {
             self.length = bits;
         }
         Ok(())
+    }
+
+    /// Copies `source` into this set, which takes its length and its positions. It uses the words that are there.
+    ///
+    /// `Err` comes only where `source` has more words than the old set has and memory for them was refused. The set is
+    /// then as it was. It writes the words that are added, and then as many as `source` has.
+    ///
+    /// Upstream aborts where memory is refused.
+    pub fn clone_from(&mut self, source: &Self) -> Result<(), AllocError>
+        ensures ok { OnOk result (self.new ≡ source.now) }
+        ensures err { OnErr result (self.new ≡ self.old) }
+        ensures succeeds { model.words_needed source.now.length ≤ model.words_needed self.old.length → IsOk result }
+    {
+        self.words.resize(source.words.len(), 0)?;
+        self.words.copy_from_slice(&source.words);
+        self.length = source.length;
+        Ok(())
+    }
+
+    /// Makes word `index` the given one. Bits past the length are dropped. It writes one word.
+    ///
+    /// The word has to be one of those that `as_slice` has. Upstream has no such call: there a caller writes into
+    /// `as_mut_slice`, and bits past the length stay.
+    #[inline]
+    pub fn set_block(&mut self, index: usize, value: Block)
+        requires { index < length (model.words self.old) }
+        ensures { self.new ≡ model.set_block self.old index value }
+    {
+        let used = (self.length - BITS * index).min(BITS);
+        self.words[index] = value & ones_below(used);
+    }
+
+    /// Clears all positions, and keeps the length. It writes each word once.
+    pub fn clear(&mut self)
+        ensures { self.new ≡ model.empty self.old.length }
+    {
+        lanes::zero(&mut self.words, &mut Steps::new());
     }
 
     /// The length in bits: set positions and others.
@@ -96,10 +171,49 @@ impl FixedBitSet {
     }
 }
 
-// Adds words that are 0 until there are `count`. It is never inlined, so that `grow` is short where nothing has to grow.
-// One word more is pushed, which is quicker than a resize.
-#[inline(never)]
+impl Clone for FixedBitSet {
+    ghost is_clone = { λ set copy. copy ≡ set };
+
+    /// A set of the same length and positions, in memory of its own. It writes each word once.
+    ///
+    /// `Err` comes only where memory for the words was refused; upstream aborts there.
+    fn clone(&self) -> Result<Self, AllocError> {
+        Ok(FixedBitSet {
+            words: self.words.clone()?,
+            length: self.length,
+        })
+    }
+}
+
+// Writes the items that come over the words from the first on, as many as there are words.
+fn fill<I: Iterator<Item = Block>>(words: &mut [Block], blocks: I)
+    requires { I.can_next blocks }
+    ensures { FirstItems I.next_gives blocks (length words.old) (λ items. words.new ≡ items ++ drop (length items) words.old) }
+{
+    for (at, block) in blocks.take(words.len()).enumerate() {
+        words[at] = block;
+    }
+}
+
+// Adds words that are 0 until there are `count`.
+#[inline]
+#[tactic(auto, using(crate::proofs::Growth::none_added))]
 fn lengthen(words: &mut Vec<Block>, count: usize) -> Result<(), AllocError>
+    requires { vec_len words.old ≤ count }
+    ensures ok { OnOk result (words.new.items ≡ words.old.items ++ replicate (count - vec_len words.old) 0) }
+    ensures err { OnErr result (words.new.items ≡ words.old.items) }
+    ensures succeeds { count ≤ vec_capacity words.old → IsOk result }
+{
+    if count == words.len() {
+        return Ok(());
+    }
+    add_words(words, count)
+}
+
+// The same where words are added. It is never inlined, so that `grow` is short where nothing has to grow. One word more is
+// pushed, which is quicker than a resize.
+#[inline(never)]
+fn add_words(words: &mut Vec<Block>, count: usize) -> Result<(), AllocError>
     requires { vec_len words.old ≤ count }
     ensures ok { OnOk result (words.new.items ≡ words.old.items ++ replicate (count - vec_len words.old) 0) }
     ensures err { OnErr result (words.new.items ≡ words.old.items) }

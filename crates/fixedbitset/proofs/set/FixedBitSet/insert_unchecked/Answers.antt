@@ -1,5 +1,5 @@
 use Rattle.fixedbitset.proofs.Changes.{IsClean_insert}
-use Rattle.fixedbitset.proofs.set.FixedBitSet.put.Goals as goal
+use Rattle.fixedbitset.proofs.set.FixedBitSet.insert_unchecked.Goals as goal
 
 pub invariant_of-self : goal.invariant_of-self
 invariant_of-self c = search (IsClean_insert)

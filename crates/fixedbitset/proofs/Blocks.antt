@@ -1,0 +1,150 @@
+-- Words written anew: from an iterator, one alone, or cut at a length; and words that are all 0.
+use Rattle.std.proofs.Common.{◌≡◌, ◌≢◌, ℕ, zero, suc, ◌+◌, ◌-◌, ◌*◌, ◌/◌, ◌%◌, ◌^◌, ◌<◌, ◌≤◌, min, Bool, true, false, cond, ◌&&◌, ◌==◌, nat_lt, List, [], ◌∷◌, ◌++◌, drop, replicate, length, get_or, set, bit_and, refl, sym, ap, ◌∙◌, arith, ⊎_elim}
+use Rattle.std.specs.List.{list_all}
+use Rattle.std.proofs.lemmas.Bool.{cases_lt, cases_eq, lt-ltb, le-ltb, eq-eqb, eqb-true, ne_eqb, and_left, and_right, and_from, and_parts}
+use Rattle.std.proofs.lemmas.Bool.Decides.{nat_tests}
+use Rattle.std.proofs.lemmas.List.{length-set}
+use Rattle.std.proofs.lemmas.Nat.Bits.{same_from_bits_below, bit_at-zero}
+use Rattle.bitlanes.specs.Bits.{bit}
+use Rattle.bitlanes.specs.BitLaws.{bit-and}
+use Rattle.bitwords.specs.CountFacts.{indicator}
+use Rattle.bitwords.specs.Rows.{has_bit, IsJoined}
+use Rattle.bitwords.specs.RowFacts.{AreWords, bit-zero, has_bit-past, has_bit-same}
+use Rattle.fixedbitset.specs.Bits.{Bits, contains, empty, is_clear, set_block, words_needed, words, of_words}
+use Rattle.fixedbitset.specs.BitsFacts.{same_bits, last_holds}
+use Rattle.fixedbitset.specs.NumbersFacts.{same_truth}
+use Rattle.fixedbitset.specs.Stored.{IsClean}
+use Rattle.fixedbitset.specs.MemberFacts.{is_clear-tells}
+use Rattle.fixedbitset.specs.WordsFacts.{length-of_words, contains-of_words, length-words, indicator-has_bit, has_bit-written, length-set_block, contains-set_block}
+use Rattle.fixedbitset.proofs.Growth.{zeros, get_or-zeros, IsClean_replicate, of_replicate}
+use Rattle.fixedbitset.proofs.Words.{contains-of_clean, viewed_length}
+
+-- ---- from an iterator
+
+-- the next item is written over the first word that is left
+pub overwritten : (ys old : List ℕ) (y : ℕ) → length ys < length old → set (ys ++ drop (length ys) old) (length ys) y ≡ (ys ++ y ∷ []) ++ drop (suc (length ys)) old
+overwritten [] [] y h = absurd (omega arith)
+overwritten [] (x ∷ old) y h = refl
+overwritten (z ∷ ys) [] y h = absurd (omega arith)
+overwritten (z ∷ ys) (x ∷ old) y h = ap (λ l. z ∷ l) (overwritten ys old y (omega arith))
+
+drop-zeros : (k m : ℕ) → drop k (zeros m) ≡ zeros (m - k)
+drop-zeros zero m = let e : m ≡ m - 0 = omega arith in ap zeros e
+drop-zeros (suc k) zero = let e : 0 ≡ 0 - suc k = omega arith in ap zeros e
+drop-zeros (suc k) (suc m) = drop-zeros k m ∙ (let e : m - k ≡ suc m - suc k = omega arith in ap zeros e)
+
+stays : (a b : Bool) → b ≡ true → a ≡ (a && b)
+stays true b e = sym e
+stays false b e = refl
+
+-- words with no bit past the length, of which the old ones may have some
+module _ (n : ℕ) (fits : n < 2 ^ 64) (old new : List ℕ) (long : length old ≡ words_needed n) (done : IsJoined (λ x y. x && y) old (λ p. nat_lt p n) new) where
+  has_bit-cut : (p : ℕ) → has_bit new p ≡ (has_bit old p && nat_lt p n)
+  has_bit-cut p =
+      ⊎_elim
+      (λ (lt : p < 64 * length old). done.bits p lt)
+      (λ (ge : 64 * length old ≤ p). has_bit-past new p (omega (arith, done.long)) ∙ sym (and_right _ _ (le-ltb p n (omega arith))))
+      (cases_lt p (64 * length old))
+
+  pub IsClean_cut : IsClean n new
+  IsClean_cut = record { fits = fits; count = done.long ∙ long; tail = λ p past. has_bit-cut p ∙ and_right _ _ (le-ltb p n past) }
+
+  of-cut : of_words n new ≡ of_words n old
+  of-cut = same_bits _ _ (length-of_words n new ∙ sym (length-of_words n old)) (λ p.
+      contains-of_words n new p
+      ∙ ap (λ b. b && nat_lt p n) (has_bit-cut p)
+      ∙ last_holds (has_bit old p) (nat_lt p n) (nat_lt p n) (λ e. e)
+      ∙ sym (contains-of_words n old p))
+
+  -- the items, and 0 for each word that none came for
+  pub of_filled : (items : List ℕ) → old ≡ items ++ drop (length items) (replicate (words_needed n) 0) → of_words n new ≡ of_words n items
+  of_filled items filled =
+      let is : old ≡ items ++ replicate (words_needed n - length items) 0 = filled ∙ ap (λ rest. items ++ rest) (drop-zeros (length items) (words_needed n)) in
+      of-cut
+      ∙ same_bits _ _ (length-of_words n old ∙ sym (length-of_words n items)) (λ p.
+      contains-of_words n old p
+      ∙ ap (λ b. b && nat_lt p n) (ap (λ ws. has_bit ws p) is ∙ has_bit-same _ items (get_or-zeros items (words_needed n - length items)) p)
+      ∙ sym (contains-of_words n items p))
+
+-- ---- one word alone
+
+pub viewed_index : (n : ℕ) (ws : List ℕ) (v : Bits) (index : ℕ) → of_words n ws ≡ v → IsClean n ws → index < length (words v) → index < length ws
+viewed_index n ws v index view clean within = omega (arith, clean.count, length-words v, viewed_length n ws v view)
+
+pub viewed_start : (n : ℕ) (ws : List ℕ) (v : Bits) (index : ℕ) → of_words n ws ≡ v → IsClean n ws → index < length (words v) → 64 * index ≤ n
+viewed_start n ws v index view clean within = omega (arith, clean.count, viewed_index n ws v index view clean within)
+
+-- the word is written with the bits alone that stand below the length
+module _ (n : ℕ) (ws : List ℕ) (v : Bits) (index value mask : ℕ) (view : of_words n ws ≡ v) (clean : IsClean n ws) (within : index < length (words v)) (masked : (i : ℕ) → bit mask i ≡ nat_lt i (min (n - 64 * index) 64)) where
+  inside : index < length ws
+  inside = viewed_index n ws v index view clean within
+
+  word_at : (p : ℕ) → p / 64 ≡ index → bit (bit_and value mask) (p % 64) ≡ (bit value (p % 64) && nat_lt p n)
+  word_at p at =
+      let low : nat_lt (p % 64) (min (n - 64 * index) 64) ≡ nat_lt p n = grind (arith, nat_tests) in
+      bit-and value mask (p % 64) ∙ ap (λ b. bit value (p % 64) && b) (masked (p % 64) ∙ low)
+
+  kept_at : (p : ℕ) → has_bit ws p ≡ (has_bit ws p && nat_lt p n)
+  kept_at p = ⊎_elim
+      (λ (lt : p < n). stays _ _ (lt-ltb p n lt))
+      (λ (ge : n ≤ p). clean.tail p ge ∙ sym (and_left _ _ (clean.tail p ge)))
+      (cases_lt p n)
+
+  has_bit-block : (p : ℕ) → has_bit (set ws index (bit_and value mask)) p ≡ (cond (p / 64 == index) (bit value (p % 64)) (has_bit ws p) && nat_lt p n)
+  has_bit-block p =
+      has_bit-written ws index (bit_and value mask) p inside
+      ∙ ⊎_elim
+      (λ (at : p / 64 ≡ index). let t : (p / 64 == index) ≡ true = eq-eqb _ _ at in rw t (word_at p at))
+      (λ (other : p / 64 ≢ index). let t : (p / 64 == index) ≡ false = ne_eqb _ _ other in rw t (kept_at p))
+      (cases_eq (p / 64) index)
+
+  pub IsClean_block : IsClean n (set ws index (bit_and value mask))
+  IsClean_block = record {
+    fits = clean.fits;
+    count = length-set ws index _ ∙ clean.count;
+    tail = λ p past. has_bit-block p ∙ and_right _ _ (le-ltb p n past);
+  }
+
+  pub of_block : of_words n (set ws index (bit_and value mask)) ≡ set_block v index value
+  of_block =
+      let long : n ≡ v.length = viewed_length n ws v view in
+      same_bits _ _ (length-of_words n _ ∙ long ∙ sym (length-set_block v index value)) (λ p.
+      contains-of_clean n _ IsClean_block p
+      ∙ has_bit-block p
+      ∙ (let a = sym (contains-of_clean n ws clean p) ∙ ap (λ u. contains u p) view in λ i. cond (p / 64 == index) (bit value (p % 64)) (a i) && nat_lt p (long i))
+      ∙ sym (contains-set_block v index value p (omega (arith, within, length-words v))))
+
+-- ---- words that are all 0
+
+-- each word is made 0
+module _ (n : ℕ) (ws old new : List ℕ) (clean : IsClean n ws) (read : old ≡ ws) (zeroed : new ≡ replicate (length old) 0) where
+  are_zeros : new ≡ zeros (words_needed n)
+  are_zeros = zeroed ∙ ap zeros (ap length read ∙ clean.count)
+
+  pub IsClean_zeroed : IsClean n new
+  IsClean_zeroed = rw are_zeros (IsClean_replicate n clean.fits)
+
+  pub of_zeroed : (v : Bits) → of_words n ws ≡ v → of_words n new ≡ empty v.length
+  of_zeroed v view = rw are_zeros (of_replicate n clean.fits ∙ ap empty (viewed_length n ws v view))
+
+zero_at : (ws : List ℕ) → list_all (λ w. w == 0) ws ≡ true → (k : ℕ) → get_or ws k 0 ≡ 0
+zero_at [] all k = refl
+zero_at (w ∷ ws) all zero = eqb-true w 0 (and_parts _ _ all).0
+zero_at (w ∷ ws) all (suc k) = zero_at ws (and_parts (w == 0) _ all).1 k
+
+all_zero : (ws : List ℕ) → ((k : ℕ) → get_or ws k 0 ≡ 0) → list_all (λ w. w == 0) ws ≡ true
+all_zero [] each = refl
+all_zero (w ∷ ws) each = and_from _ _ (eq-eqb w 0 (each 0)) (all_zero ws (λ k. each (suc k)))
+
+no_bit : (ws : List ℕ) (p : ℕ) → get_or ws (p / 64) 0 ≡ 0 → has_bit ws p ≡ false
+unfolding has_bit
+no_bit ws p none = ap (λ w. bit w (p % 64)) none ∙ bit-zero (p % 64)
+
+-- no position is set exactly if each word is 0
+pub zero_words : (n : ℕ) (ws : List ℕ) (v : Bits) → of_words n ws ≡ v → IsClean n ws → AreWords ws → list_all (λ w. w == 0) ws ≡ is_clear v
+zero_words n ws v view clean are =
+    let member : (p : ℕ) → contains v p ≡ has_bit ws p = λ p. ap (λ u. contains u p) (sym view) ∙ contains-of_clean n ws clean p in
+    same_truth _ _
+    (λ all. (is_clear-tells v).1 (λ p. member p ∙ no_bit ws p (zero_at ws all (p / 64))))
+    (λ none. all_zero ws (λ k. same_from_bits_below 64 _ 0 (are k) (omega arith) (λ i l.
+    sym (indicator-has_bit ws k i l) ∙ ap indicator (sym (member (64 * k + i)) ∙ (is_clear-tells v).0 none (64 * k + i)) ∙ sym (bit_at-zero i))))

@@ -1,0 +1,10 @@
+use Rattle.std.proofs.Common.{◌<◌, ◌-◌, ◌^◌, arith, rules}
+use Rattle.std.proofs.lemmas.List.Elements.{All-push}
+use Rattle.fixedbitset.specs.AddFacts.{add_all-last}
+use Rattle.fixedbitset.proofs.set.FixedBitSet.extend.Goals as goal
+
+pub loop-item-preserved : goal.loop-item-preserved
+loop-item-preserved g c = record {
+  added = grind (arith, add_all-last);
+  positions = All-push (λ item. item < 2 ^ 64 - 1) _ _ c.loop-item.invariant.positions (search rules);
+}

@@ -1,0 +1,86 @@
+-- The positions that each change and each join leaves, as statements, for those who call a set.
+use Rattle.std.specs.Prelude.{IsTrue, ◌↔◌, ◌≡◌, ◌≢◌, ℕ, ◌<◌, true, false, not}
+use Rattle.std.specs.Cmp.{nat_cmp_total}
+use Rattle.std.specs.FinSet as set
+use Rattle.std.specs.List.{Contains}
+use Rattle.std.proofs.Common.{◌⊎◌, inl, inr, sym, ap, ◌∙◌, arith, ⊎_elim}
+use Rattle.std.proofs.lemmas.Bool.{lt-ltb, ltb-true, eq-eqb, eqb-true, ne_eqb, and_parts, and_from, or_cases, or_left, or_right, not_from_false, true≢false, false_from_ne_true}
+use Rattle.fixedbitset.specs.NumbersFacts.{same_truth, member_of, none_len}
+use Rattle.fixedbitset.specs.Bits.{Bits, contains, empty, insert, remove, asc, is_clear, is_full}
+use Rattle.fixedbitset.specs.BitsFacts.{contains_below, same_bits, contains-empty, contains-insert, contains-remove}
+use Rattle.fixedbitset.specs.Numbers.{numbers_below, contains-numbers_below}
+use Rattle.fixedbitset.specs.TwoSets.{union, intersection, difference, bitand, is_subset, is_disjoint, intersection_count}
+use Rattle.fixedbitset.specs.TwoSetsFacts.{contains-union, contains-intersection, contains-difference, contains-bitand, is_subset-tells}
+use Rattle.fixedbitset.specs.WalkFacts.{contains_item, item_of}
+
+-- ---- single positions
+
+pub in_empty : (n p : ℕ) → ¬ (IsTrue (contains (empty n) p))
+in_empty n p one = true≢false (sym one ∙ contains-empty n p)
+
+-- where the position may be set, it and those before are
+pub in_insert : (v : Bits) (bit p : ℕ) → bit < v.length → IsTrue (contains (insert v bit) p) ↔ ((p ≡ bit) ⊎ IsTrue (contains v p))
+in_insert v bit p below = (
+  λ one. ⊎_elim (λ here. inl (eqb-true p bit here)) (λ old. inr old) (or_cases _ _ (and_parts _ _ (sym (contains-insert v bit p) ∙ one)).0),
+  λ either. contains-insert v bit p ∙ ⊎_elim
+      (λ (here : p ≡ bit). and_from _ _ (or_left _ _ (eq-eqb p bit here)) (lt-ltb _ _ (omega arith)))
+      (λ (old : contains v p ≡ true). and_from _ _ (or_right _ _ old) (lt-ltb _ _ (contains_below v p old)))
+      either,
+)
+
+pub in_remove : (v : Bits) (bit p : ℕ) → IsTrue (contains (remove v bit) p) ↔ ((p ≢ bit) × IsTrue (contains v p))
+in_remove v bit p = (
+  λ one. let both = and_parts _ _ (sym (contains-remove v bit p) ∙ one) in (λ here. true≢false (sym both.0 ∙ ap not (eq-eqb p bit here)), both.1),
+  λ both. contains-remove v bit p ∙ and_from _ _ (not_from_false _ (ne_eqb p bit both.0)) both.1,
+)
+
+-- ---- two sets
+
+pub in_union : (v w : Bits) (p : ℕ) → IsTrue (contains (union v w) p) ↔ (IsTrue (contains v p) ⊎ IsTrue (contains w p))
+in_union v w p = (λ one. or_cases _ _ (sym (contains-union v w p) ∙ one), λ either. contains-union v w p ∙ ⊎_elim (or_left _ _) (or_right _ _) either)
+
+pub in_intersection : (v w : Bits) (p : ℕ) → IsTrue (contains (intersection v w) p) ↔ (IsTrue (contains v p) × IsTrue (contains w p))
+in_intersection v w p = (λ one. and_parts _ _ (sym (contains-intersection v w p) ∙ one), λ both. contains-intersection v w p ∙ and_from _ _ both.0 both.1)
+
+pub in_bitand : (v w : Bits) (p : ℕ) → IsTrue (contains (bitand v w) p) ↔ (IsTrue (contains v p) × IsTrue (contains w p))
+in_bitand v w p = (λ one. and_parts _ _ (sym (contains-bitand v w p) ∙ one), λ both. contains-bitand v w p ∙ and_from _ _ both.0 both.1)
+
+pub in_difference : (v w : Bits) (p : ℕ) → IsTrue (contains (difference v w) p) ↔ (IsTrue (contains v p) × (¬ (IsTrue (contains w p))))
+in_difference v w p = (
+  λ one. let both = and_parts _ _ (sym (contains-difference v w p) ∙ one) in (both.0, λ other. true≢false (sym both.1 ∙ ap not other)),
+  λ both. contains-difference v w p ∙ and_from _ _ both.0 (not_from_false _ (false_from_ne_true _ both.1)),
+)
+
+-- sets of one length are equal if each is a subset of the other
+pub same_subsets : (v w : Bits) → v.length ≡ w.length → IsTrue (is_subset v w) → IsTrue (is_subset w v) → v ≡ w
+same_subsets v w long to from = same_bits v w long (λ p. same_truth _ _ ((is_subset-tells v w).0 to p) ((is_subset-tells w v).0 from p))
+
+-- sets that are not disjoint have a position in common
+pub common : (v w : Bits) → is_disjoint v w ≡ false → (p : ℕ) × IsTrue (contains v p) × IsTrue (contains w p)
+unfolding is_disjoint intersection_count contains
+common v w meet =
+    let both = set.intersection v.positions w.positions in
+    let parts : (p : ℕ) → set.contains both p ≡ true → (contains v p ≡ true) × (contains w p ≡ true) = λ p one. and_parts _ _ (sym (set.contains-intersection nat_cmp_total v.positions w.positions p) ∙ one) in
+    let found = member_of v.length both (λ p one. contains_below v p (parts p one).0) (λ none. true≢false (sym none ∙ meet)) in (found.0, (parts found.0 found.1).0, (parts found.0 found.1).1)
+
+-- ---- lists and whole sets
+
+-- the ascending list has the positions that are set, and no other
+pub in_asc : (v : Bits) (p : ℕ) → Contains (asc v) p ↔ IsTrue (contains v p)
+in_asc v p = (λ member. ap (contains v) (sym member.2) ∙ contains_item v member.0 p member.1, item_of v p)
+
+-- no position is set
+pub is_clear-tells : (v : Bits) → IsTrue (is_clear v) ↔ ((p : ℕ) → contains v p ≡ false)
+unfolding is_clear contains
+is_clear-tells v = none_len v.positions
+
+-- each position below the length is set
+pub is_full-tells : (v : Bits) → IsTrue (is_full v) ↔ ((p : ℕ) → p < v.length → IsTrue (contains v p))
+unfolding is_full contains
+is_full-tells v = (
+  λ all p below. set.is_subset-contains nat_cmp_total (numbers_below v.length) v.positions all p (contains-numbers_below v.length p ∙ lt-ltb p v.length below),
+  λ all. set.contains-is_subset nat_cmp_total _ _ (λ p one. all p (ltb-true p v.length (sym (contains-numbers_below v.length p) ∙ one))),
+)
+
+-- what a caller needs of the positions that a change or a join leaves
+pub ruleset members = (in_empty, in_insert, in_remove, in_union, in_intersection, in_bitand, in_difference, same_subsets, common, in_asc, is_clear-tells, is_full-tells)

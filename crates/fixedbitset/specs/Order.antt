@@ -1,0 +1,36 @@
+-- Equality and the order of values, said by lengths and positions, and the tests of both.
+use Rattle.std.specs.Prelude.{◌≡◌, ℕ, ◌/◌, ◌<◌, ◌⊎◌, Bool, true, false, List, ◌∷◌, ◌++◌, bytes_eq}
+use Rattle.std.specs.declared.cmp.Ordering.{Ordering}
+use Rattle.std.specs.Ordering.{nat_cmp}
+use Rattle.std.specs.Cmp.Lexicographic.{slice_cmp}
+use Rattle.std.specs.Hash as fed
+use Rattle.std.specs.Hash.{HashWrites}
+use Rattle.fixedbitset.specs.Bits.{Bits, contains, words}
+
+-- position `at` is in w and not in v, the two agree on all earlier stretches of 64 positions, and on the greater positions of its own stretch
+pub record Leads (w v : Bits) : Type 0 where
+  pub at : ℕ
+  pub has : contains w at ≡ true
+  pub lacks : contains v at ≡ false
+  pub before : (p : ℕ) → p / 64 < at / 64 → contains v p ≡ contains w p
+  pub above : (p : ℕ) → p / 64 ≡ at / 64 → at < p → contains v p ≡ contains w p
+
+-- v comes before w: it is shorter, or of the same length and w leads
+abbrev pub IsBelow : Bits → Bits → Type 0
+IsBelow v w = (v.length < w.length) ⊎ ((v.length ≡ w.length) × Leads w v)
+
+-- a list of numbers that tells values apart: the length, and then the words
+unfoldable pub key : Bits → List ℕ
+key v = v.length ∷ words v
+
+-- whether two values are equal
+unfoldable pub equal : Bits → Bits → Bool
+equal v w = bytes_eq (key v) (key w)
+
+-- which of two values comes first
+unfoldable pub compare : Bits → Bits → Ordering
+compare v w = slice_cmp nat_cmp (key v) (key w)
+
+-- what a hasher is fed: the length, and then the words
+unfoldable pub fed_by : Bits → HashWrites
+fed_by v = fed.usize v.length ++ fed.slice fed.u64 (words v)

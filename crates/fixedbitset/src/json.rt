@@ -1,0 +1,68 @@
+//! Sets as JSON values: a length and bytes.
+
+ghost use Rattle.std.specs.Prelude.{◌≡◌, ◌≢◌, ◌⊎◌, Ok, Err, IfOk, IfErr, IsOk};
+ghost use Rattle.serde_json.specs.View.{view};
+ghost use Rattle.bitjson.specs.declared.fault.JsonFault.TheVariants.{Memory};
+ghost use Rattle.fixedbitset.specs.Json as json;
+
+use crate::set::FixedBitSet;
+pub use bitjson::JsonFault;
+use bitjson::bytes::{value_of_words, words_of_items};
+use bitjson::form::read_form;
+use bitlanes::word::BITS;
+use bitwords::positions;
+use serde_json::Value;
+use std::alloc::{AllocError, Global};
+
+impl FixedBitSet {
+    /// The set as a JSON value: an object with the keys `length`, which is `len()`, and `data`, a list of bytes.
+    ///
+    /// Position `p` is bit `p % 8` of byte `p / 8`. There are eight bytes for each word of `as_slice`, so those at the end
+    /// may be 0. `from_value` makes the same set of it.
+    ///
+    /// It makes one item for each byte, and asks for their memory once. `Err` comes only where memory for them or for the
+    /// object was refused.
+    ///
+    /// Upstream has the trait `Serialize` of `serde` in place of this call.
+    pub fn to_value(&self, alloc: Global) -> Result<Value, AllocError>
+        ensures { IfOk result (λ value. view value ≡ json.written self.now) }
+    {
+        value_of_words(alloc, self.len(), self.as_slice())
+    }
+
+    /// The length of the set that `from_value` makes of a value, or the first fault of the value.
+    ///
+    /// So a caller can look at the length before memory is asked for. It looks at each item of the data once, takes no
+    /// memory, and never answers `JsonFault::Memory`.
+    ///
+    /// Upstream has no such call.
+    pub fn check_value(value: &Value) -> Result<usize, JsonFault>
+        ensures value { result ≡ json.length_of (view value.now) }
+        ensures no_memory { IfErr result (λ fault. fault ≢ Memory) }
+    {
+        let (length, _) = read_form(value)?;
+        Ok(length)
+    }
+
+    /// The set that a value in the form means. The form is an object with exactly the keys `length` and `data`, or a list of
+    /// these two in this order. `length` is a whole number from 0 to 2 ^ 64 - 1, and `data` a list of whole numbers from 0 to
+    /// 255.
+    ///
+    /// Position `p` is set where it is below the length and bit `p % 8` of byte `p / 8` is set. So bytes that are missing
+    /// count as 0, and bits past the length are dropped.
+    ///
+    /// `Err` says the first fault of the value, or that the value is in the form and memory was refused. No memory is asked
+    /// for before the value is known to be in the form. It looks at each item of the data at most twice, and writes each word
+    /// of the set once.
+    ///
+    /// Upstream has the trait `Deserialize` of `serde` in place of this call.
+    pub fn from_value(alloc: Global, value: &Value) -> Result<Self, JsonFault>
+        ensures ok { IfOk result (λ set. json.meaning (view value.now) ≡ Ok set) }
+        ensures err { IfErr result (λ fault. (json.meaning (view value.now) ≡ Err fault) ⊎ ((fault ≡ Memory) × IsOk (json.meaning (view value.now)))) }
+    {
+        let (length, items) = read_form(value)?;
+        let mut words = words_of_items(alloc, items, length.div_ceil(BITS))?;
+        positions::clear_from(&mut words, length);
+        Ok(FixedBitSet { words, length })
+    }
+}

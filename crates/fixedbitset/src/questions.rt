@@ -1,0 +1,59 @@
+//! Questions about one whole set: whether it has no position or all, and the first and the last that it has.
+//!
+//! No call takes memory. Each stops at the first word that decides, from the end at which it begins.
+
+ghost use Rattle.std.specs.Prelude.{◌≡◌, ◌==◌};
+ghost use Rattle.fixedbitset.specs.Bits as model;
+
+use crate::set::FixedBitSet;
+use bitlanes::{Steps, lanes};
+use bitwords::positions;
+
+impl FixedBitSet {
+    /// Whether the length is 0. A set of another length is not empty, even where no position is set: see `is_clear`.
+    #[inline]
+    pub fn is_empty(&self) -> bool
+        ensures { result ≡ (self.now.length == 0) }
+    {
+        self.len() == 0
+    }
+
+    /// Whether no position is set; so `true` at length 0. It stops at the first four words that have one, or at the first
+    /// of the last three.
+    #[inline]
+    pub fn is_clear(&self) -> bool
+        ensures { result ≡ model.is_clear self.now }
+    {
+        let row = self.words.as_slice();
+        lanes::none_one(row, &mut Steps::new())
+    }
+
+    /// The first position that is set, or `None` where none is. It looks at four words at a time from the first on, up to
+    /// the one that has this position.
+    #[inline]
+    #[tactic(auto, using(crate::proofs::Positions::row_minimum))]
+    pub fn minimum(&self) -> Option<usize>
+        ensures { result ≡ model.minimum self.now }
+    {
+        positions::first(self.words.as_slice())
+    }
+
+    /// The last position that is set, or `None` where none is. It looks at four words at a time from the last on, down to
+    /// the one that has this position.
+    #[inline]
+    #[tactic(auto, using(crate::proofs::Positions::row_maximum))]
+    pub fn maximum(&self) -> Option<usize>
+        ensures { result ≡ model.maximum self.now }
+    {
+        positions::last(self.words.as_slice())
+    }
+
+    /// Whether each position below the length is set; so `true` at length 0.
+    #[inline]
+    #[tactic(auto, using(crate::specs::RangesFacts::is_full_all))]
+    pub fn is_full(&self) -> bool
+        ensures { result ≡ model.is_full self.now }
+    {
+        self.contains_all_in_range(..)
+    }
+}
