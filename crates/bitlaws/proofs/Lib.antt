@@ -1,5 +1,4 @@
 mod OneList
 mod OfRanges
-mod Splits
 mod OfTwoSets
 pub mod OfWalks

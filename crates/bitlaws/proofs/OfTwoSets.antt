@@ -1,20 +1,20 @@
 -- The counts of two sets against one another, and sets that are within one another.
-use Rattle.std.proofs.Common.{◌≡◌, ℕ, ◌+◌, ◌<◌, max, ⊎_elim, Bool, true, false, not, ◌&&◌, ◌||◌, nat_le, nat_lt, refl, sym, ap, ◌∙◌, arith}
+use Rattle.std.proofs.Common.{◌≡◌, ℕ, ◌+◌, ◌<◌, max, ⊎_elim, Bool, true, false, not, ◌&&◌, ◌||◌, refl, sym, ap, ◌∙◌, arith}
 use Rattle.std.specs.Ordering.{nat_cmp}
 use Rattle.std.specs.Cmp.{nat_cmp_total}
 use Rattle.std.specs.FinSet as set
 use Rattle.std.specs.FinSet.{FinSet}
-use Rattle.std.proofs.lemmas.Bool.{and_from, le-leb, lt-ltb, or_cases}
+use Rattle.std.proofs.lemmas.Bool.{or_cases}
 use Rattle.bitlanes.specs.Bits.{either}
 use Rattle.fixedbitset.specs.Bits.{Bits, contains}
 use Rattle.fixedbitset.specs.BitsFacts.{contains_below}
-use Rattle.fixedbitset.specs.Numbers.{numbers_between, symmetric_difference}
-use Rattle.fixedbitset.specs.NumbersFacts.{contains-numbers_between, contains-symmetric_difference, same_set, same_truth}
+use Rattle.fixedbitset.specs.Numbers.{symmetric_difference}
+use Rattle.fixedbitset.specs.NumbersFacts.{contains-symmetric_difference, same_set, same_truth}
 use Rattle.fixedbitset.specs.Ranges.{count_ones}
+use Rattle.fixedbitset.specs.SizeFacts.{len-split, count_ones-all}
 use Rattle.fixedbitset.specs.TwoSets.{union_count, intersection_count, difference_count, symmetric_difference_count}
 use Rattle.fixedbitset.specs.TwoSetsFacts.{is_subset-tells}
 use Rattle.bitlaws.specs.TwoSetLaws.{SubsetBothWays, StepsBound, StepsOfEqual}
-use Rattle.bitlaws.proofs.Splits.{len-split}
 
 -- the parts of a union and of a symmetric difference
 module _ (n : ℕ) (s t : FinSet nat_cmp) (below_s : (p : ℕ) → set.contains s p ≡ true → p < n) (below_t : (p : ℕ) → set.contains t p ≡ true → p < n) where
@@ -86,19 +86,6 @@ below_first v w p one = let h : p < v.length = contains_below v p one in omega a
 below_second : (v w : Bits) (p : ℕ) → set.contains w.positions p ≡ true → p < max v.length w.length
 unfolding contains
 below_second v w p one = let h : p < w.length = contains_below w p one in omega arith
-
--- all positions of a value are below its length
-count_ones-all : (v : Bits) → count_ones v 0 v.length ≡ set.len v.positions
-unfolding count_ones contains
-count_ones-all v = ap set.len (same_set _ _ (λ p.
-    set.contains-intersection nat_cmp_total (numbers_between 0 v.length) v.positions p
-    ∙ ap (λ b. b && set.contains v.positions p) (contains-numbers_between 0 v.length p)
-    ∙ implied (nat_le 0 p && nat_lt p v.length) (set.contains v.positions p) (λ one. and_from _ _ (le-leb 0 p (omega arith)) (lt-ltb _ _ (contains_below v p one)))))
-  where
-    implied : (a b : Bool) → (b ≡ true → a ≡ true) → (a && b) ≡ b
-    implied true b h = refl
-    implied false true h = h refl
-    implied false false h = refl
 
 pub counts-sum : (v w : Bits) → union_count v w + intersection_count v w ≡ count_ones v 0 v.length + count_ones w 0 w.length
 unfolding union_count intersection_count

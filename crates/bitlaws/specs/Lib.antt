@@ -2,3 +2,5 @@ pub mod AscendingLaws
 pub mod RangeLaws
 pub mod TwoSetLaws
 pub mod WalkLaws
+pub mod SetLaws
+pub mod JsonLaws

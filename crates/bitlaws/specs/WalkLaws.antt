@@ -44,6 +44,7 @@ pub record TookWords (calls : ℕ) (s t : Walk) : Type 0 where
   pub taken : t.taken ≡ s.taken + length front + length back
   pub turns : t.turns ≡ s.turns + calls + length front + length back
 
+-- whatever calls were made of a walk over one set
 abbrev pub TurnsOfCalls : Type 0
 TurnsOfCalls = (calls : List Call) (s t : Walk) → Called (λ walk. walk.items) GivesFirst GivesLast calls s t → TookWords (length calls) s t
 
@@ -56,25 +57,29 @@ pub record LookedUp (calls : ℕ) (s t : Sieved) : Type 0 where
   pub asked : t.asked + length t.source.items ≡ s.asked + length s.source.items
   pub turns : effort t ≤ effort s + calls
 
+-- whatever calls were made of a sieve
 abbrev pub LooksUpOnce : Type 0
 LooksUpOnce = (calls : List Call) (s t : Sieved) → Called (λ sieved. sieved.items) SievesFirst SievesLast calls s t → LookedUp (length calls) s t
 
--- the same of a walk and then a sieve: two turns a call at most, and only items of the second are looked up
+-- the same of a walk and then a sieve, over both: the items of the walk are not looked up
 abbrev pub joined_effort : Joined → ℕ
 joined_effort walk = walk.first.turns + length walk.first.words + effort walk.second
 
+-- each item that the second source gave was looked up once, and both sources made at most two turns for each call, and one for each item and word
 pub record JoinedUp (calls : ℕ) (s t : Joined) : Type 0 where
   pub asked : t.second.asked + length t.second.source.items ≡ s.second.asked + length s.second.source.items
   pub turns : joined_effort t ≤ joined_effort s + 2 * calls
 
+-- whatever calls were made of a walk and then a sieve
 abbrev pub JoinsOnce : Type 0
 JoinsOnce = (calls : List Call) (s t : Joined) → Called joined_items JoinsFirst JoinsLast calls s t → JoinedUp (length calls) s t
 
--- the same of two sieves in turn
+-- each item that a source gave was looked up once, and both sources made at most two turns for each call, and one for each item and word
 pub record SplitUp (calls : ℕ) (s t : Split) : Type 0 where
   pub asked_first : t.first.asked + length t.first.source.items ≡ s.first.asked + length s.first.source.items
   pub asked_second : t.second.asked + length t.second.source.items ≡ s.second.asked + length s.second.source.items
   pub turns : effort t.first + effort t.second ≤ effort s.first + effort s.second + 2 * calls
 
+-- whatever calls were made of two sieves in turn
 abbrev pub SplitsOnce : Type 0
 SplitsOnce = (calls : List Call) (s t : Split) → Called split_items SplitsFirst SplitsLast calls s t → SplitUp (length calls) s t

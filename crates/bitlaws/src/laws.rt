@@ -1,7 +1,9 @@
 //! Each function here does nothing: its contract is a law, which holds for all values.
 
 ghost use Rattle.bitlaws.specs.AscendingLaws.{OneAscendingList};
+ghost use Rattle.bitlaws.specs.JsonLaws.{WrittenReadsBack, TextIsExact, HasWholeNumbers, NestsTwice};
 ghost use Rattle.bitlaws.specs.RangeLaws.{WordsOfRange, NumberOfRangeWords, RangeWordsBound, SearchBound, TogglingTwice, RangeCountsAddUp, IsValidTells, ContainsAllTells, ContainsAnyTells};
+ghost use Rattle.bitlaws.specs.SetLaws.{ClearHasNone, FullHasAll, InsertAddsOne, InsertKeeps, RemoveTakesOne, RemoveKeeps, WordsReadBack};
 ghost use Rattle.bitlaws.specs.TwoSetLaws.{CountsAddUp, SymmetricDifferenceIsSum, SubsetBothWays, IsSubsetTells, IsDisjointTells, StepsBound, StepsOfEqual};
 ghost use Rattle.bitlaws.specs.WalkLaws.{PartsAreTheList, TurnsOfCalls, LooksUpOnce, JoinsOnce, SplitsOnce};
 ghost use Rattle.bitwords.specs.Walk.{GivesFirst, GivesLast};
@@ -11,6 +13,39 @@ ghost use Rattle.bitwalks.specs.Pairs.{SievesFirst, SievesLast, joined_items, Jo
 /// so is this one.
 pub fn one_ascending_list()
     ensures { OneAscendingList }
+{}
+
+/// The value of the words of a set is that set.
+pub fn words_read_back()
+    ensures { WordsReadBack }
+{}
+
+/// What is written of a set as JSON is in the form and means that set.
+pub fn reads_back()
+    ensures { WrittenReadsBack }
+{}
+
+/// The text of what is written of a set as JSON, without spaces and byte for byte. All its numbers are whole and it nests
+/// twice: with these two facts `to_string` of `serde_json` writes this very text, and it is read as what was written.
+pub fn json_text()
+    ensures text { TextIsExact }
+    ensures whole { HasWholeNumbers }
+    ensures nests { NestsTwice }
+{}
+
+/// A set is clear exactly if it has no position, and full exactly if it has as many as its length.
+pub fn none_and_all()
+    ensures clear { ClearHasNone }
+    ensures full { FullHasAll }
+{}
+
+/// Setting a position that was not set makes one more, and clearing one that was set makes one fewer. Setting one that is
+/// set, and clearing one that is not, changes nothing.
+pub fn one_more_or_fewer()
+    ensures insert { InsertAddsOne }
+    ensures insert_again { InsertKeeps }
+    ensures remove { RemoveTakesOne }
+    ensures remove_again { RemoveKeeps }
 {}
 
 /// The words that hold a position of a range are those from the word of its start up to that of its last position, and

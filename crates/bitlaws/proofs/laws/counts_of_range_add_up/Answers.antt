@@ -1,5 +1,5 @@
-use Rattle.bitlaws.proofs.OfRanges.{counts_add_up}
+use Rattle.fixedbitset.specs.SizeFacts.{range_counts_add_up}
 use Rattle.bitlaws.proofs.laws.counts_of_range_add_up.Goals as goal
 
 pub returns : goal.returns
-returns c = counts_add_up
+returns c = range_counts_add_up
