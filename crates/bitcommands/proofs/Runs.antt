@@ -1,5 +1,5 @@
 -- Runs that go on by one step.
-use Rattle.std.proofs.Common.{◌≡◌, ℕ, ◌+◌, ◌<◌, List, [], ◌∷◌, ◌++◌, length, get_or, take, map, refl, subst}
+use Rattle.std.proofs.Common.{◌≡◌, ℕ, ◌+◌, ◌<◌, List, [], ◌∷◌, ◌++◌, length, get_or, take, map, refl, sym, subst}
 use Rattle.std.proofs.lemmas.List.{take_more, map-append}
 use Rattle.bitcommands.specs.declared.commands.Command.{Command}
 use Rattle.bitcommands.specs.declared.commands.replies.Reply.{Reply}
@@ -20,3 +20,7 @@ pub Run_more : (limit : ℕ) (old mid new : Sets) (cs : List Command) (rs : List
     → Run limit old (map action_of (take (i + 1) cs)) (map answer_of (rs ++ r ∷ [])) new
 Run_more limit old mid new cs rs i c r lt is run step =
     rw (take_more cs i c lt, ← is, map-append action_of (take i cs), map-append answer_of rs) (Run-snoc limit old mid new (map action_of (take i cs)) (map answer_of rs) (action_of c) (answer_of r) run step)
+
+-- equal commands with equal answers make equal steps
+pub step_as : (limit : ℕ) (old new : Sets) (c d : Action) (r q : Answer) → c ≡ d → r ≡ q → Step limit old d q new → Step limit old c r new
+step_as limit old new c d r q same answered step = subst (λ x. Step limit old x r new) (sym same) (subst (λ x. Step limit old d x new) (sym answered) step)

@@ -1,5 +1,7 @@
 -- Commands without where they lie in memory, one for each row of the table.
 use Rattle.std.specs.Prelude.{ℕ, Bool, List, Option}
+use Rattle.serde_json.specs.Data.{Data}
+use Rattle.serde_json.specs.View.{view}
 use Rattle.bitcommands.specs.declared.commands.Command.{Command}
 use Rattle.bitcommands.specs.declared.commands.Command.TheVariants as commands
 use Rattle.bitcommands.specs.declared.commands.making.Make.{Make}
@@ -22,20 +24,42 @@ use Rattle.bitcommands.specs.declared.commands.walking.Walk.TheVariants as walks
 abbrev pub Range : Type 0
 Range = Option ℕ × Option ℕ
 
--- Numbers of sets, positions, lengths, ranges, ends of walks and numbers of calls, in the order in which a line has them.
+-- Numbers of sets, positions, lengths, words, ranges, lists, JSON values, ends of walks and numbers of calls, in the order
+-- in which a line has them.
 pub data Action : Type 0 where
+  new : ℕ → Action
+  default : ℕ → Action
   with_capacity : ℕ → ℕ → Action
+  with_capacity_and_blocks : ℕ → ℕ → List ℕ → Action
+  clone : ℕ → ℕ → Action
+  clone_from : ℕ → ℕ → Action
+  from_iter : ℕ → List ℕ → Action
+  from_value : ℕ → Data → Action
   bitand : ℕ → ℕ → ℕ → Action
   bitor : ℕ → ℕ → ℕ → Action
   bitxor : ℕ → ℕ → ℕ → Action
   len : ℕ → Action
+  is_empty : ℕ → Action
+  is_clear : ℕ → Action
+  is_full : ℕ → Action
+  minimum : ℕ → Action
+  maximum : ℕ → Action
+  as_slice : ℕ → Action
   contains : ℕ → ℕ → Action
+  index : ℕ → ℕ → Action
+  text : ℕ → Action
+  to_value : ℕ → Action
+  clear : ℕ → Action
   grow : ℕ → ℕ → Action
+  grow_and_insert : ℕ → ℕ → Action
   insert : ℕ → ℕ → Action
   remove : ℕ → ℕ → Action
   toggle : ℕ → ℕ → Action
   put : ℕ → ℕ → Action
   set : ℕ → ℕ → Bool → Action
+  copy_bit : ℕ → ℕ → ℕ → Action
+  set_block : ℕ → ℕ → ℕ → Action
+  extend : ℕ → List ℕ → Action
   count_ones : ℕ → Range → Action
   count_zeroes : ℕ → Range → Action
   set_range : ℕ → Range → Bool → Action
@@ -59,6 +83,8 @@ pub data Action : Type 0 where
   is_disjoint : ℕ → ℕ → Action
   is_subset : ℕ → ℕ → Action
   is_superset : ℕ → ℕ → Action
+  eq : ℕ → ℕ → Action
+  cmp : ℕ → ℕ → Action
   ones : ℕ → List End → Action
   into_ones : ℕ → List End → Action
   zeroes : ℕ → ℕ → Action
@@ -69,7 +95,14 @@ pub data Action : Type 0 where
 
 -- what a command that makes a set means
 abbrev pub make_action : Make → Action
+make_action (makes.New d) = new d
+make_action (makes.Default d) = default d
 make_action (makes.WithCapacity d bits) = with_capacity d bits
+make_action (makes.WithCapacityAndBlocks d bits blocks) = with_capacity_and_blocks d bits blocks.items
+make_action (makes.Clone d k) = clone d k
+make_action (makes.CloneFrom d k) = clone_from d k
+make_action (makes.FromIter d list) = from_iter d list.items
+make_action (makes.FromValue d json) = from_value d (view json)
 make_action (makes.Bitand d a b) = bitand d a b
 make_action (makes.Bitor d a b) = bitor d a b
 make_action (makes.Bitxor d a b) = bitxor d a b
@@ -77,16 +110,30 @@ make_action (makes.Bitxor d a b) = bitxor d a b
 -- what a command that looks at a set means
 abbrev pub look_action : Look → Action
 look_action (looks.Len k) = len k
+look_action (looks.IsEmpty k) = is_empty k
+look_action (looks.IsClear k) = is_clear k
+look_action (looks.IsFull k) = is_full k
+look_action (looks.Minimum k) = minimum k
+look_action (looks.Maximum k) = maximum k
+look_action (looks.AsSlice k) = as_slice k
 look_action (looks.Contains k p) = contains k p
+look_action (looks.Index k p) = index k p
+look_action (looks.Text k) = text k
+look_action (looks.ToValue k) = to_value k
 
 -- what a command that changes a set means
 abbrev pub change_action : Change → Action
+change_action (changes.Clear k) = clear k
 change_action (changes.Grow k bits) = grow k bits
+change_action (changes.GrowAndInsert k p) = grow_and_insert k p
 change_action (changes.Insert k p) = insert k p
 change_action (changes.Remove k p) = remove k p
 change_action (changes.Toggle k p) = toggle k p
 change_action (changes.Put k p) = put k p
 change_action (changes.Set k p e) = set k p e
+change_action (changes.CopyBit k from to) = copy_bit k from to
+change_action (changes.SetBlock k i w) = set_block k i w
+change_action (changes.Extend k list) = extend k list.items
 
 -- what a command over a range of a set means
 abbrev pub ranged_action : Ranged → Action
@@ -119,6 +166,8 @@ compare_action (compares.SymmetricDifferenceCount a b) = symmetric_difference_co
 compare_action (compares.IsDisjoint a b) = is_disjoint a b
 compare_action (compares.IsSubset a b) = is_subset a b
 compare_action (compares.IsSuperset a b) = is_superset a b
+compare_action (compares.Eq a b) = eq a b
+compare_action (compares.Cmp a b) = cmp a b
 
 -- what a command that walks over a set or two means
 abbrev pub walk_action : Walk → Action

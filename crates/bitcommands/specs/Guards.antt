@@ -1,9 +1,13 @@
 -- The guards of commands: what refuses a command before it does anything.
-use Rattle.std.specs.Prelude.{ℕ, Bool, true, false, not, length, Option, Some, None, nat_lt}
+use Rattle.std.specs.Prelude.{ℕ, ◌-◌, ◌^◌, Bool, true, false, not, ◌==◌, List, length, Option, Some, None, Result, Ok, Err, nat_lt}
 use Rattle.std.specs.Option.{option_or}
+use Rattle.std.specs.List.{list_any, list_all, take_while}
 use Rattle.fixedbitset.specs.Bits as model
 use Rattle.fixedbitset.specs.Bits.{Bits}
 use Rattle.fixedbitset.specs.Ranges.{over, is_valid}
+use Rattle.fixedbitset.specs.Json.{length_of}
+use Rattle.bitjson.specs.declared.fault.JsonFault.{JsonFault}
+use Rattle.serde_json.specs.Data.{Data}
 use Rattle.bitcommands.specs.Actions.{Range}
 use Rattle.bitcommands.specs.declared.commands.refusals.Refusal.{Refusal}
 use Rattle.bitcommands.specs.declared.commands.refusals.Refusal.TheVariants as refusal
@@ -34,13 +38,60 @@ past_length v p = refuse refusal.Position (not (nat_lt p v.length))
 abbrev pub no_position : Sets → ℕ → ℕ → Option Refusal
 no_position s k p = option_or (no_set s k) (past_length (at s k) p)
 
+-- the set has no such word
+abbrev pub past_words : Bits → ℕ → Option Refusal
+past_words v i = refuse refusal.Position (not (nat_lt i (length (model.words v))))
+
+-- there is no such set, or it has no such word
+abbrev pub no_word : Sets → ℕ → ℕ → Option Refusal
+no_word s k i = option_or (no_set s k) (past_words (at s k) i)
+
 -- a length above the limit is asked for
 abbrev pub past_limit : ℕ → ℕ → Option Refusal
 past_limit limit n = refuse refusal.Limit (nat_lt limit n)
 
+-- the length of a value is above the limit, or the value has a fault
+abbrev pub not_read : ℕ → Result ℕ JsonFault → Option Refusal
+not_read limit (Ok n) = past_limit limit n
+not_read limit (Err f) = Some (refusal.Json f)
+
+-- there is no such set, or no set is made of the value: it is not in the form, or its length is above the limit
+abbrev pub no_value : ℕ → Sets → ℕ → Data → Option Refusal
+no_value limit s d json = option_or (no_set s d) (not_read limit (length_of json))
+
 -- whether the set needs more words for this length than it has
 abbrev pub needs_more_words : Bits → ℕ → Bool
 needs_more_words v n = nat_lt (model.words_needed v.length) (model.words_needed n)
+
+-- ---- items that a set grows for
+
+-- whether this is the greatest number, which no length is above
+abbrev pub is_greatest : ℕ → Bool
+is_greatest p = p == 2 ^ 64 - 1
+
+-- the items before the first greatest number
+unfoldable pub before_greatest : List ℕ → List ℕ
+before_greatest items = take_while (λ p. not (is_greatest p)) items
+
+-- whether the greatest number is among the items
+unfoldable pub has_greatest : List ℕ → Bool
+has_greatest items = list_any is_greatest items
+
+-- the position is the greatest number, or isn't below the limit
+abbrev pub past_greatest : ℕ → ℕ → Option Refusal
+past_greatest limit p = option_or (refuse refusal.Greatest (is_greatest p)) (refuse refusal.Limit (not (nat_lt p limit)))
+
+-- there is no such set, or the position is the greatest number, or it isn't below the limit
+abbrev pub no_item : ℕ → Sets → ℕ → ℕ → Option Refusal
+no_item limit s k p = option_or (no_set s k) (past_greatest limit p)
+
+-- of the items before the first greatest number one isn't below the limit
+abbrev pub items_past_limit : ℕ → List ℕ → Option Refusal
+items_past_limit limit items = refuse refusal.Limit (not (list_all (λ p. nat_lt p limit) (before_greatest items)))
+
+-- there is no such set, or one of those items isn't below the limit
+abbrev pub no_items : ℕ → Sets → ℕ → List ℕ → Option Refusal
+no_items limit s k items = option_or (no_set s k) (items_past_limit limit items)
 
 -- ---- ranges
 

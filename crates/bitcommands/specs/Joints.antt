@@ -3,7 +3,7 @@ use Rattle.std.specs.Prelude.{Bool, false}
 use Rattle.fixedbitset.specs.Bits.{Bits}
 use Rattle.fixedbitset.specs.TwoSets as sets
 use Rattle.bitcommands.specs.declared.commands.joining.Joint.{Joint}
-use Rattle.bitcommands.specs.declared.commands.joining.Joint.TheVariants.{Union, SymmetricDifference, Intersection, Difference}
+use Rattle.bitcommands.specs.declared.commands.joining.Joint.TheVariants.{Union, SymmetricDifference, Intersection, Difference, Copy}
 use Rattle.bitcommands.specs.Guards.{needs_more_words}
 
 -- the value that is left
@@ -12,6 +12,7 @@ combined Union v w = sets.union v w
 combined SymmetricDifference v w = sets.symmetric_difference v w
 combined Intersection v w = sets.intersection v w
 combined Difference v w = sets.difference v w
+combined Copy v w = w
 
 -- whether memory may be refused
 abbrev pub joint_may_lack_memory : Joint → Bits → Bits → Bool
@@ -19,3 +20,4 @@ joint_may_lack_memory Union v w = needs_more_words v w.length
 joint_may_lack_memory SymmetricDifference v w = needs_more_words v w.length
 joint_may_lack_memory Intersection v w = false
 joint_may_lack_memory Difference v w = false
+joint_may_lack_memory Copy v w = needs_more_words v w.length

@@ -6,5 +6,6 @@ pub mod Calls
 pub mod Table
 pub mod Steps
 pub mod Texts
+pub mod TextsFacts
 pub mod Outcomes
 pub mod Joints

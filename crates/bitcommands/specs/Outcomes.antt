@@ -1,6 +1,11 @@
 -- No public clause cites this module. What the functions of a group answer, and what a check of a guard answers.
-use Rattle.std.specs.Prelude.{◌≡◌, ℕ, Option, Result, Ok, Err, MatchOption, IsOk}
+use Rattle.std.specs.Prelude.{◌≡◌, ℕ, List, [], Option, Some, None, Result, Ok, Err, MatchOption, IsOk, decimal}
+use Rattle.fixedbitset.specs.declared.extend.ExtendFault.{ExtendFault}
+use Rattle.fixedbitset.specs.declared.extend.ExtendFault.TheVariants as fault
+use Rattle.bitjson.specs.declared.fault.JsonFault.{JsonFault}
+use Rattle.bitjson.specs.declared.fault.JsonFault.TheVariants as json
 use Rattle.bitcommands.specs.declared.commands.refusals.Refusal.{Refusal}
+use Rattle.bitcommands.specs.declared.commands.refusals.Refusal.TheVariants as refusal
 use Rattle.bitcommands.specs.declared.commands.replies.Reply.{Reply}
 use Rattle.bitcommands.specs.Actions.{Action}
 use Rattle.bitcommands.specs.Answers as answer
@@ -20,3 +25,18 @@ replied (Err f) = answer.refused f
 -- a function that answers a refusal as an error makes a step
 abbrev pub Answers : ℕ → Sets → Action → Result Reply Refusal → Sets → Type 0
 Answers m old c result new = Step m old c (replied result) new
+
+-- the refusal that a fault of `extend` or `from_iter` is
+abbrev pub fault_refusal : ExtendFault → Refusal
+fault_refusal fault.Position = refusal.Greatest
+fault_refusal fault.Memory = refusal.Memory
+
+-- the refusal that a fault of a JSON value is
+abbrev pub json_refusal : JsonFault → Refusal
+json_refusal json.Memory = refusal.Memory
+json_refusal f = refusal.Json f
+
+-- a number behind a text, or nothing
+abbrev pub behind : Option ℕ → List ℕ
+behind None = []
+behind (Some n) = decimal n

@@ -58,7 +58,7 @@ pub fn apply(alloc: Global, sets: &mut [FixedBitSet], command: &Command, limit: 
 {
     match command {
         Command::Make(command) => reply_of(apply_make(alloc, sets, command, limit)),
-        Command::Look(command) => reply_of(apply_look(sets, command, limit)),
+        Command::Look(command) => reply_of(apply_look(alloc, sets, command, limit)),
         Command::Change(command) => reply_of(apply_change(sets, command, limit)),
         Command::Ranged(command) => reply_of(apply_ranged(sets, command, limit)),
         Command::Whole(command) => reply_of(apply_whole(alloc, sets, command, limit)),

@@ -1,4 +1,4 @@
-//! Commands that compare the positions of two sets and change nothing.
+//! Commands that compare two sets and change nothing.
 ghost use Rattle.bitcommands.specs.Actions.{compare_action};
 ghost use Rattle.bitcommands.specs.Outcomes.{Answers};
 
@@ -23,6 +23,10 @@ pub enum Compare {
     IsSubset { a: usize, b: usize },
     /// Whether `a` has each position of `b`.
     IsSuperset { a: usize, b: usize },
+    /// Whether both have the same length and the same positions.
+    Eq { a: usize, b: usize },
+    /// Which comes first in the order of sets.
+    Cmp { a: usize, b: usize },
 }
 
 pub(super) fn apply_compare(
@@ -60,6 +64,14 @@ pub(super) fn apply_compare(
         Compare::IsSuperset { a, b } => {
             check_sets(sets, *a, *b)?;
             Ok(Reply::Bool(sets[*a].is_superset(&sets[*b])))
+        }
+        Compare::Eq { a, b } => {
+            check_sets(sets, *a, *b)?;
+            Ok(Reply::Bool(sets[*a] == sets[*b]))
+        }
+        Compare::Cmp { a, b } => {
+            check_sets(sets, *a, *b)?;
+            Ok(Reply::Order(sets[*a].cmp(&sets[*b])))
         }
     }
 }

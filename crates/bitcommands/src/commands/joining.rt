@@ -79,15 +79,17 @@ pub(super) fn apply_whole(
 
 // What is made of a set and another one.
 #[derive(Drop)]
-enum Joint {
+pub(super) enum Joint {
     Union,
     SymmetricDifference,
     Intersection,
     Difference,
+    /// The other one itself.
+    Copy,
 }
 
 // Changes the set `target` by the set `other`, which may be the same. No copy of a set is made.
-fn join(
+pub(super) fn join(
     alloc: Global,
     sets: &mut [FixedBitSet],
     target: usize,
@@ -126,6 +128,7 @@ fn combine(target: &mut FixedBitSet, other: &FixedBitSet, joint: &Joint) -> Resu
             target.difference_with(other);
             Ok(())
         }
+        Joint::Copy => target.clone_from(other),
     }
 }
 
@@ -135,7 +138,7 @@ fn with_itself(target: &mut FixedBitSet, joint: &Joint)
     ensures { target.new ≡ combined joint.now target.old target.old }
 {
     match joint {
-        Joint::Union | Joint::Intersection => {}
+        Joint::Union | Joint::Intersection | Joint::Copy => {}
         Joint::SymmetricDifference | Joint::Difference => target.remove_range(..),
     }
 }

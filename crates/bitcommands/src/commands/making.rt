@@ -1,23 +1,79 @@
 //! Commands that put a new value in a set's place.
-ghost use Rattle.bitcommands.specs.Actions.{make_action};
+ghost use Rattle.std.specs.Prelude.{◌≡◌, IfOk};
+ghost use Rattle.serde_json.specs.View.{view};
+ghost use Rattle.fixedbitset.specs.Bits as model;
+ghost use Rattle.bitcommands.specs.Actions.{make_action, with_capacity_and_blocks, from_iter, from_value};
 ghost use Rattle.bitcommands.specs.Outcomes.{Answers};
 
-use crate::commands::refusals::{Refusal, check_limit, check_set, check_sets};
+use crate::commands::joining::{Joint, join};
+use crate::commands::refusals::{
+    Refusal, check_items, check_limit, check_set, check_sets, check_value,
+};
 use crate::commands::replies::Reply;
-use fixedbitset::FixedBitSet;
-use std::alloc::Global;
+use fixedbitset::{Block, FixedBitSet};
+use serde_json::Value;
+use std::alloc::{AllocError, Global};
 
 /// A command that puts a new value in the place of the set `target`.
 #[derive(Debug, Drop)]
 pub enum Make {
+    /// A set of length 0, by `new`.
+    New {
+        target: usize,
+    },
+    /// The same, by `default`.
+    Default {
+        target: usize,
+    },
     /// A set of `bits` positions, none of them set.
-    WithCapacity { target: usize, bits: usize },
+    WithCapacity {
+        target: usize,
+        bits: usize,
+    },
+    /// A set of `bits` positions, of which those are set that the words have.
+    WithCapacityAndBlocks {
+        target: usize,
+        bits: usize,
+        blocks: Vec<usize>,
+    },
+    /// A copy of the set `source`, in memory of its own.
+    Clone {
+        target: usize,
+        source: usize,
+    },
+    /// A copy of the set `source`, in the memory that `target` has, if that suffices.
+    CloneFrom {
+        target: usize,
+        source: usize,
+    },
+    /// The items, and the length that the greatest of them needs.
+    FromIter {
+        target: usize,
+        items: Vec<usize>,
+    },
+    /// The set that a JSON value in the form means.
+    FromValue {
+        target: usize,
+        json: Value,
+    },
     /// The smaller length, and the positions of both `a` and `b`.
-    Bitand { target: usize, a: usize, b: usize },
+    Bitand {
+        target: usize,
+        a: usize,
+        b: usize,
+    },
     /// The greater length, and the positions of `a` or `b`.
-    Bitor { target: usize, a: usize, b: usize },
+    Bitor {
+        target: usize,
+        a: usize,
+        b: usize,
+    },
     /// The greater length, and the positions of exactly one of `a` and `b`.
-    Bitxor { target: usize, a: usize, b: usize },
+    Bitxor {
+        target: usize,
+        a: usize,
+        b: usize,
+    },
 }
 
 pub(super) fn apply_make(
@@ -29,12 +85,41 @@ pub(super) fn apply_make(
     ensures { Answers limit sets.old (make_action command.now) result sets.new }
 {
     match command {
+        Make::New { target } => {
+            check_set(sets, *target)?;
+            sets[*target] = FixedBitSet::new(alloc);
+            Ok(Reply::Done)
+        }
+        Make::Default { target } => {
+            check_set(sets, *target)?;
+            sets[*target] = FixedBitSet::default(alloc);
+            Ok(Reply::Done)
+        }
         Make::WithCapacity { target, bits } => {
             check_set(sets, *target)?;
             check_limit(limit, *bits)?;
             sets[*target] = FixedBitSet::with_capacity(alloc, *bits)?;
             Ok(Reply::Done)
         }
+        Make::WithCapacityAndBlocks {
+            target,
+            bits,
+            blocks,
+        } => make_of_blocks(alloc, sets, *target, *bits, blocks.as_slice(), limit),
+        Make::Clone { target, source } => {
+            check_sets(sets, *target, *source)?;
+            sets[*target] = sets[*source].clone()?;
+            Ok(Reply::Done)
+        }
+        Make::CloneFrom { target, source } => {
+            check_sets(sets, *target, *source)?;
+            join(alloc, sets, *target, *source, Joint::Copy)?;
+            Ok(Reply::Done)
+        }
+        Make::FromIter { target, items } => {
+            make_of_items(alloc, sets, *target, items.as_slice(), limit)
+        }
+        Make::FromValue { target, json } => make_of_value(alloc, sets, *target, json, limit),
         Make::Bitand { target, a, b } => {
             check_set(sets, *target)?;
             check_sets(sets, *a, *b)?;
@@ -54,4 +139,58 @@ pub(super) fn apply_make(
             Ok(Reply::Done)
         }
     }
+}
+
+fn make_of_blocks(
+    alloc: Global,
+    sets: &mut [FixedBitSet],
+    target: usize,
+    bits: usize,
+    blocks: &[usize],
+    limit: usize,
+) -> Result<Reply, Refusal>
+    ensures { Answers limit sets.old (with_capacity_and_blocks target bits blocks.now) result sets.new }
+{
+    check_set(sets, target)?;
+    check_limit(limit, bits)?;
+    sets[target] = set_of_blocks(alloc, bits, blocks)?;
+    Ok(Reply::Done)
+}
+
+// A set of so many positions, of the words of a list.
+fn set_of_blocks(alloc: Global, bits: usize, blocks: &[usize]) -> Result<FixedBitSet, AllocError>
+    ensures { IfOk result (λ set. set ≡ model.of_words bits blocks.now) }
+{
+    let words = blocks.iter().map(|block| *block as Block);
+    FixedBitSet::with_capacity_and_blocks(alloc, bits, words)
+}
+
+// Where an item is not taken, the set stays as it was.
+fn make_of_items(
+    alloc: Global,
+    sets: &mut [FixedBitSet],
+    target: usize,
+    items: &[usize],
+    limit: usize,
+) -> Result<Reply, Refusal>
+    ensures { Answers limit sets.old (from_iter target items.now) result sets.new }
+{
+    check_items(limit, sets, target, items)?;
+    sets[target] = FixedBitSet::from_iter(alloc, items.iter().copied())?;
+    Ok(Reply::Done)
+}
+
+// The length is looked at before memory is asked for.
+fn make_of_value(
+    alloc: Global,
+    sets: &mut [FixedBitSet],
+    target: usize,
+    json: &Value,
+    limit: usize,
+) -> Result<Reply, Refusal>
+    ensures { Answers limit sets.old (from_value target (view json.now)) result sets.new }
+{
+    check_value(limit, sets, target, json)?;
+    sets[target] = FixedBitSet::from_value(alloc, json)?;
+    Ok(Reply::Done)
 }

@@ -1,9 +1,16 @@
 //! Texts of replies, put behind an output.
-ghost use Rattle.std.specs.Prelude.{◌≡◌, ◌++◌, ◌≤◌, drop, take, vec_len, OnOk, OnErr};
+ghost use Rattle.std.specs.Prelude.{◌≡◌, ◌++◌, ◌≤◌, false, drop, take, vec_len, OnOk, OnErr};
 ghost use Rattle.std.specs.Fmt.{decimal};
-ghost use Rattle.bitcommands.specs.Texts.{flag_text, item_text, items_text};
+ghost use Rattle.serde_json.specs.View.{view};
+ghost use Rattle.serde_json.specs.Written.{has_float, compact_text};
+ghost use Rattle.bitcommands.specs.Texts.{flag_text, spaced_text, words_text, order_text};
+ghost use Rattle.bitcommands.specs.Outcomes.{behind};
 
+use fixedbitset::Block;
+use serde_json::Value;
 use std::alloc::AllocError;
+use std::cmp::Ordering;
+use std::fmt;
 
 // How many decimal digits a number has, at most.
 const DIGITS: usize = 20;
@@ -20,13 +27,116 @@ pub(super) fn push_flag(flag: bool, output: &mut Vec<u8>) -> Result<(), AllocErr
     }
 }
 
-// The items, one space between two of them. Where memory is refused the output is as it was.
-pub(super) fn push_items(items: &[Option<usize>], output: &mut Vec<u8>) -> Result<(), AllocError>
-    ensures ok { OnOk result (output.new.items ≡ output.old.items ++ items_text items.now) }
+pub(super) fn order_name(order: Ordering) -> &'static str
+    ensures { result.now ≡ order_text order }
+{
+    match order {
+        Ordering::Less => "less",
+        Ordering::Equal => "equal",
+        Ordering::Greater => "greater",
+    }
+}
+
+// The value without spaces. Where memory is refused the output is as it was.
+pub(super) fn push_value(value: &Value, output: &mut Vec<u8>) -> Result<(), AllocError>
+    ensures ok { OnOk result (has_float (view value.now) ≡ false → output.new.items ≡ output.old.items ++ compact_text (view value.now)) }
+    ensures err { OnErr result (output.new.items ≡ output.old.items) }
+{
+    let text = value.to_vec(*output.allocator())?;
+    output.extend_from_slice(text.as_slice())
+}
+
+// The text, and the number behind it, if there is one. Where memory is refused the output is as it was.
+pub(super) fn push_numbered(
+    text: &str,
+    number: Option<usize>,
+    output: &mut Vec<u8>,
+) -> Result<(), AllocError>
+    ensures ok { OnOk result (output.new.items ≡ output.old.items ++ (text.now ++ behind number)) }
+    ensures err { OnErr result (output.new.items ≡ output.old.items) }
+{
+    let start = output.len();
+    output.extend_from_slice(text.as_bytes())?;
+    let Some(number) = number else {
+        return Ok(());
+    };
+    let pushed = push_number(number, output);
+    if pushed.is_err() {
+        output.truncate(start);
+    }
+    pushed
+}
+
+// What stands in a list of a reply: an item of a walk, or a word.
+pub(super) trait Part {
+    ghost use Rattle.std.specs.Prelude.{◌≡◌, ◌++◌, List, ℕ, OnOk, OnErr};
+    ghost use Rattle.std.specs.Fmt.{WritesOnOk};
+
+    // Its text.
+    ghost text_of: { Self → List ℕ };
+
+    // Puts the text behind the output. Where memory is refused the output is as it was.
+    fn push_to(&self, output: &mut Vec<u8>) -> Result<(), AllocError>
+        ensures ok { OnOk result (output.new.items ≡ output.old.items ++ text_of self.now) }
+        ensures err { OnErr result (output.new.items ≡ output.old.items) };
+
+    // Writes the text.
+    fn write_to<W: fmt::Write>(&self, f: &mut fmt::Formatter<W>) -> fmt::Result
+        ensures { WritesOnOk W.write_str_gives f.old result (text_of self.now) f.new };
+}
+
+impl Part for Option<usize> {
+    ghost use Rattle.bitcommands.specs.Texts.{item_text};
+
+    ghost text_of = { item_text };
+
+    fn push_to(&self, output: &mut Vec<u8>) -> Result<(), AllocError> {
+        match self {
+            Some(position) => push_number(*position, output),
+            None => output.extend_from_slice(b"none"),
+        }
+    }
+
+    fn write_to<W: fmt::Write>(&self, f: &mut fmt::Formatter<W>) -> fmt::Result {
+        match self {
+            Some(position) => write!(f, "{position}"),
+            None => f.write_str("none"),
+        }
+    }
+}
+
+impl Part for Block {
+    ghost use Rattle.std.specs.Fmt.{decimal};
+
+    ghost text_of = { decimal };
+
+    fn push_to(&self, output: &mut Vec<u8>) -> Result<(), AllocError> {
+        push_number(*self as usize, output)
+    }
+
+    fn write_to<W: fmt::Write>(&self, f: &mut fmt::Formatter<W>) -> fmt::Result {
+        write!(f, "{self}")
+    }
+}
+
+// The words, one space between two of them, or `-` where there are none. Where memory is refused the output is as it was.
+pub(super) fn push_words(words: &[Block], output: &mut Vec<u8>) -> Result<(), AllocError>
+    ensures ok { OnOk result (output.new.items ≡ output.old.items ++ words_text words.now) }
+    ensures err { OnErr result (output.new.items ≡ output.old.items) }
+{
+    if words.is_empty() {
+        return output.extend_from_slice(b"-");
+    }
+    push_parts(words, output)
+}
+
+// One text for each, one space between two of them. Where memory is refused the output is as it was.
+pub(super) fn push_parts<P: Part>(parts: &[P], output: &mut Vec<u8>) -> Result<(), AllocError>
+    ensures ok { OnOk result (output.new.items ≡ output.old.items ++ spaced_text P.text_of parts.now) }
     ensures err { OnErr result (output.new.items ≡ output.old.items) }
 {
     let before = output.len();
-    let pushed = push_spaced(items, output);
+    let pushed = push_spaced(parts, output);
     if pushed.is_err() {
         output.truncate(before);
     }
@@ -34,29 +144,19 @@ pub(super) fn push_items(items: &[Option<usize>], output: &mut Vec<u8>) -> Resul
 }
 
 // The same. Where memory is refused, a part of the text may stand behind the output.
-fn push_spaced(items: &[Option<usize>], output: &mut Vec<u8>) -> Result<(), AllocError>
-    ensures ok { OnOk result (output.new.items ≡ output.old.items ++ items_text items.now) }
+fn push_spaced<P: Part>(parts: &[P], output: &mut Vec<u8>) -> Result<(), AllocError>
+    ensures ok { OnOk result (output.new.items ≡ output.old.items ++ spaced_text P.text_of parts.now) }
     ensures err { OnErr result (take (vec_len output.old) output.new.items ≡ output.old.items) }
 {
-    let Some((first, rest)) = items.split_first() else {
+    let Some((first, rest)) = parts.split_first() else {
         return Ok(());
     };
-    push_item(*first, output)?;
-    for item in rest {
+    first.push_to(output)?;
+    for part in rest {
         output.push(b' ')?;
-        push_item(*item, output)?;
+        part.push_to(output)?;
     }
     Ok(())
-}
-
-fn push_item(item: Option<usize>, output: &mut Vec<u8>) -> Result<(), AllocError>
-    ensures ok { OnOk result (output.new.items ≡ output.old.items ++ item_text item) }
-    ensures err { OnErr result (output.new.items ≡ output.old.items) }
-{
-    match item {
-        Some(position) => push_number(position, output),
-        None => output.extend_from_slice(b"none"),
-    }
 }
 
 pub(super) fn push_number(number: usize, output: &mut Vec<u8>) -> Result<(), AllocError>

@@ -1,16 +1,22 @@
 //! Why a command is refused, and the checks that find it out.
-ghost use Rattle.std.specs.Prelude.{IsTrue, OnOk};
+ghost use Rattle.std.specs.Prelude.{◌≡◌, ◌++◌, nat_lt, IsTrue, IfOk, OnOk};
+ghost use Rattle.std.specs.List.{list_all};
+ghost use Rattle.serde_json.specs.View.{view};
 ghost use Rattle.fixedbitset.specs.Ranges.{over, is_valid};
 ghost use Rattle.bitcommands.specs.Sets.{at};
-ghost use Rattle.bitcommands.specs.Guards.{no_set, no_sets, no_position, no_range, past_limit};
-ghost use Rattle.bitcommands.specs.Outcomes.{Passes};
+ghost use Rattle.bitcommands.specs.Guards.{no_set, no_sets, no_position, no_word, no_range, no_item, no_items, no_value, past_limit, before_greatest};
+ghost use Rattle.bitcommands.specs.declared.commands.refusals.Refusal.TheVariants.{Json};
+ghost use Rattle.bitcommands.specs.Texts.{refusal_text};
+ghost use Rattle.bitcommands.specs.Outcomes.{Passes, behind};
 
 use crate::commands::ranging::Span;
-use fixedbitset::FixedBitSet;
+use fixedbitset::{ExtendFault, FixedBitSet, JsonFault};
+use serde_json::Value;
 use std::alloc::AllocError;
 use std::fmt;
 
-/// Why a command was not carried out. No set has changed then.
+/// Why a command was not carried out. No set has changed then, but by `extend`: of its items those stand that were taken
+/// in before the refusal.
 #[derive(Debug, Drop)]
 pub enum Refusal {
     /// F1: a set number isn't below the number of sets.
@@ -19,6 +25,10 @@ pub enum Refusal {
     Position,
     /// F3: the range isn't valid: its start is past its end, or its end past the length.
     Range,
+    /// F4: a position is the greatest number, `usize::MAX`, which no length is above.
+    Greatest,
+    /// F5: the JSON value is not in the form.
+    Json(JsonFault),
     /// F6: memory was refused.
     Memory,
     /// F7: a length that the command asks for is above the limit.
@@ -26,19 +36,22 @@ pub enum Refusal {
 }
 
 impl Refusal {
-    ghost use Rattle.std.specs.Prelude.{◌≡◌};
+    ghost use Rattle.std.specs.Prelude.{◌≡◌, ◌++◌};
     ghost use Rattle.bitcommands.specs.Texts.{refusal_text};
+    ghost use Rattle.bitcommands.specs.Outcomes.{behind};
 
-    /// The text that `Display` prints.
-    pub(super) fn text(&self) -> &'static str
-        ensures { result.now ≡ refusal_text self.now }
+    /// The text that `Display` prints, and the number that stands behind it, if one does.
+    pub(super) fn text(&self) -> (&'static str, Option<usize>)
+        ensures { refusal_text self.now ≡ result.0.now ++ behind result.1 }
     {
         match self {
-            Refusal::NoSet => "F1 no such set",
-            Refusal::Position => "F2 position not below the length",
-            Refusal::Range => "F3 range not valid",
-            Refusal::Memory => "F6 no memory",
-            Refusal::Limit => "F7 length above the limit",
+            Refusal::NoSet => ("F1 no such set", None),
+            Refusal::Position => ("F2 position not below the length", None),
+            Refusal::Range => ("F3 range not valid", None),
+            Refusal::Greatest => ("F4 position too great", None),
+            Refusal::Json(fault) => json_text(*fault),
+            Refusal::Memory => ("F6 no memory", None),
+            Refusal::Limit => ("F7 length above the limit", None),
         }
     }
 }
@@ -50,7 +63,26 @@ impl fmt::Display for Refusal {
     ghost output = { λ refusal. Some (refusal_text refusal) };
 
     fn fmt<W: fmt::Write>(&self, f: &mut fmt::Formatter<W>) -> fmt::Result {
-        f.write_str(self.text())
+        match self.text() {
+            (text, None) => f.write_str(text),
+            (text, Some(number)) => write!(f, "{text}{number}"),
+        }
+    }
+}
+
+fn json_text(fault: JsonFault) -> (&'static str, Option<usize>)
+    ensures { refusal_text (Json fault) ≡ result.0.now ++ behind result.1 }
+{
+    match fault {
+        JsonFault::Shape => ("F5 J1", None),
+        JsonFault::Count => ("F5 J2", None),
+        JsonFault::NoLength => ("F5 J3", None),
+        JsonFault::NoData => ("F5 J4", None),
+        JsonFault::Key => ("F5 J5", None),
+        JsonFault::Length => ("F5 J6", None),
+        JsonFault::Data => ("F5 J7", None),
+        JsonFault::Item(index) => ("F5 J8 ", Some(index)),
+        JsonFault::Memory => ("F5 J9", None),
     }
 }
 
@@ -65,6 +97,34 @@ impl From<AllocError> for Refusal {
     }
 }
 
+impl From<ExtendFault> for Refusal {
+    ghost use Rattle.std.specs.Prelude.{◌≡◌};
+    ghost use Rattle.bitcommands.specs.Outcomes.{fault_refusal};
+
+    ghost from_gives = { λ fault refusal. refusal ≡ fault_refusal fault };
+
+    fn from(fault: ExtendFault) -> Refusal {
+        match fault {
+            ExtendFault::Position => Refusal::Greatest,
+            ExtendFault::Memory => Refusal::Memory,
+        }
+    }
+}
+
+impl From<JsonFault> for Refusal {
+    ghost use Rattle.std.specs.Prelude.{◌≡◌};
+    ghost use Rattle.bitcommands.specs.Outcomes.{json_refusal};
+
+    ghost from_gives = { λ fault refusal. refusal ≡ json_refusal fault };
+
+    fn from(fault: JsonFault) -> Refusal {
+        match fault {
+            JsonFault::Memory => Refusal::Memory,
+            fault => Refusal::Json(fault),
+        }
+    }
+}
+
 // There is such a set.
 pub(super) fn check_set(sets: &[FixedBitSet], set: usize) -> Result<(), Refusal>
     ensures { Passes result (no_set sets.now set) }
@@ -74,6 +134,14 @@ pub(super) fn check_set(sets: &[FixedBitSet], set: usize) -> Result<(), Refusal>
     } else {
         Err(Refusal::NoSet)
     }
+}
+
+// The set, if there is one.
+pub(super) fn set_at<'a>(sets: &'a [FixedBitSet], set: usize) -> Result<&'a FixedBitSet, Refusal>
+    ensures passes { Passes result (no_set sets.now set) }
+    ensures value { IfOk result (λ v. v.now ≡ at sets.now set) }
+{
+    sets.get(set).ok_or(Refusal::NoSet)
 }
 
 // There is such a set, and the position is below its length.
@@ -88,6 +156,64 @@ pub(super) fn check_position(sets: &[FixedBitSet], set: usize, bit: usize) -> Re
     }
 }
 
+// There is such a set, and it has such a word.
+pub(super) fn check_word(sets: &[FixedBitSet], set: usize, index: usize) -> Result<(), Refusal>
+    ensures { Passes result (no_word sets.now set index) }
+{
+    check_set(sets, set)?;
+    if index < sets[set].as_slice().len() {
+        Ok(())
+    } else {
+        Err(Refusal::Position)
+    }
+}
+
+// There is such a set, and a set may grow for the position.
+pub(super) fn check_item(
+    limit: usize,
+    sets: &[FixedBitSet],
+    set: usize,
+    bit: usize,
+) -> Result<(), Refusal>
+    ensures { Passes result (no_item limit sets.now set bit) }
+{
+    check_set(sets, set)?;
+    if bit == usize::MAX {
+        Err(Refusal::Greatest)
+    } else if bit < limit {
+        Ok(())
+    } else {
+        Err(Refusal::Limit)
+    }
+}
+
+// There is such a set, and a set may grow for each of the items before the first `usize::MAX`.
+pub(super) fn check_items(
+    limit: usize,
+    sets: &[FixedBitSet],
+    set: usize,
+    items: &[usize],
+) -> Result<(), Refusal>
+    ensures { Passes result (no_items limit sets.now set items.now) }
+{
+    check_set(sets, set)?;
+    if is_each_below(limit, items) {
+        Ok(())
+    } else {
+        Err(Refusal::Limit)
+    }
+}
+
+#[tactic(auto, unfolding(crate::specs::Guards::before_greatest))]
+fn is_each_below(limit: usize, items: &[usize]) -> bool
+    ensures { result ≡ list_all (λ p. nat_lt p limit) (before_greatest items.now) }
+{
+    items
+        .iter()
+        .take_while(|item| **item != usize::MAX)
+        .all(|item| *item < limit)
+}
+
 // The length may be asked for.
 pub(super) fn check_limit(limit: usize, bits: usize) -> Result<(), Refusal>
     ensures { Passes result (past_limit limit bits) }
@@ -97,6 +223,20 @@ pub(super) fn check_limit(limit: usize, bits: usize) -> Result<(), Refusal>
     } else {
         Err(Refusal::Limit)
     }
+}
+
+// There is such a set, and the value means a set of a length that may be asked for.
+pub(super) fn check_value(
+    limit: usize,
+    sets: &[FixedBitSet],
+    set: usize,
+    json: &Value,
+) -> Result<(), Refusal>
+    ensures { Passes result (no_value limit sets.now set (view json.now)) }
+{
+    check_set(sets, set)?;
+    let length = FixedBitSet::check_value(json)?;
+    check_limit(limit, length)
 }
 
 // There are both sets.

@@ -1,10 +1,15 @@
 //! What a command answers.
 ghost use Rattle.std.specs.Fmt.{WritesOnOk};
-ghost use Rattle.bitcommands.specs.Texts.{items_text};
+ghost use Rattle.bitcommands.specs.Texts.{spaced_text, words_text};
 
-use crate::commands::printing::{push_flag, push_items, push_number};
+use crate::commands::printing::{
+    Part, order_name, push_flag, push_number, push_numbered, push_parts, push_value, push_words,
+};
 use crate::commands::refusals::Refusal;
+use fixedbitset::Block;
+use serde_json::Value;
 use std::alloc::AllocError;
+use std::cmp::Ordering;
 use std::fmt;
 
 /// The reply to a command.
@@ -14,41 +19,61 @@ pub enum Reply {
     Done,
     Bool(bool),
     Number(usize),
+    /// A position, if there is one.
+    Position(Option<usize>),
     /// What the calls of a walk answered, in order.
     Items(Vec<Option<usize>>),
-    /// It was not carried out.
+    /// The words of a set, in order.
+    Words(Vec<Block>),
+    /// Which of two sets comes first.
+    Order(Ordering),
+    /// A character for each position of a set.
+    Text(String),
+    /// The JSON form of a set.
+    Value(Value),
+    /// It was not carried out, or a part of it alone.
     Refused(Refusal),
 }
 
 impl Reply {
-    ghost use Rattle.std.specs.Prelude.{◌≡◌, ◌++◌, OnOk, OnErr};
+    ghost use Rattle.std.specs.Prelude.{◌≡◌, ◌++◌, OnOk, OnErr, IfSome};
     ghost use Rattle.bitcommands.specs.Answers.{answer_of};
-    ghost use Rattle.bitcommands.specs.Texts.{answer_text};
+    ghost use Rattle.bitcommands.specs.Texts.{one_text};
 
     /// Puts the text that `Display` prints behind the output, without a formatter.
+    ///
+    /// The text of a value is compact JSON. A value that `apply` answers has but one such text. Of a value with a number
+    /// that has a fraction or an exponent no text is promised.
     ///
     /// `Err` comes only where memory for the text was refused. The output is then as it was.
     #[inline]
     pub fn push_text(&self, output: &mut Vec<u8>) -> Result<(), AllocError>
-        ensures ok { OnOk result (output.new.items ≡ output.old.items ++ answer_text (answer_of self.now)) }
+        ensures ok { OnOk result (IfSome (one_text (answer_of self.now)) (λ text. output.new.items ≡ output.old.items ++ text)) }
         ensures err { OnErr result (output.new.items ≡ output.old.items) }
     {
         match self {
             Reply::Done => output.extend_from_slice(b"ok"),
             Reply::Bool(flag) => push_flag(*flag, output),
             Reply::Number(number) => push_number(*number, output),
-            Reply::Items(items) => push_items(items.as_slice(), output),
-            Reply::Refused(refusal) => output.extend_from_slice(refusal.text().as_bytes()),
+            Reply::Position(position) => position.push_to(output),
+            Reply::Items(items) => push_parts(items.as_slice(), output),
+            Reply::Words(words) => push_words(words.as_slice(), output),
+            Reply::Order(order) => output.extend_from_slice(order_name(*order).as_bytes()),
+            Reply::Text(text) => output.extend_from_slice(text.as_bytes()),
+            Reply::Value(value) => push_value(value, output),
+            Reply::Refused(refusal) => {
+                let (text, number) = refusal.text();
+                push_numbered(text, number, output)
+            }
         }
     }
 }
 
 impl fmt::Display for Reply {
-    ghost use Rattle.std.specs.Prelude.{Some};
     ghost use Rattle.bitcommands.specs.Answers.{answer_of};
-    ghost use Rattle.bitcommands.specs.Texts.{answer_text};
+    ghost use Rattle.bitcommands.specs.Texts.{shown_text};
 
-    ghost output = { λ reply. Some (answer_text (answer_of reply)) };
+    ghost output = { λ reply. shown_text (answer_of reply) };
 
     fn fmt<W: fmt::Write>(&self, f: &mut fmt::Formatter<W>) -> fmt::Result {
         match self {
@@ -56,42 +81,38 @@ impl fmt::Display for Reply {
             Reply::Bool(true) => f.write_str("true"),
             Reply::Bool(false) => f.write_str("false"),
             Reply::Number(number) => write!(f, "{number}"),
-            Reply::Items(items) => write_items(items.as_slice(), f),
+            Reply::Position(position) => position.write_to(f),
+            Reply::Items(items) => write_parts(items.as_slice(), f),
+            Reply::Words(words) => write_words(words.as_slice(), f),
+            Reply::Order(order) => f.write_str(order_name(*order)),
+            Reply::Text(text) => f.write_str(text),
+            Reply::Value(value) => write!(f, "{value}"),
             Reply::Refused(refusal) => write!(f, "{refusal}"),
         }
     }
 }
 
-// The items, one space between two of them.
-fn write_items<W: fmt::Write>(items: &[Option<usize>], f: &mut fmt::Formatter<W>) -> fmt::Result
-    ensures { WritesOnOk W.write_str_gives f.old result (items_text items.now) f.new }
+// The words, one space between two of them, or `-` where there are none.
+fn write_words<W: fmt::Write>(words: &[Block], f: &mut fmt::Formatter<W>) -> fmt::Result
+    ensures { WritesOnOk W.write_str_gives f.old result (words_text words.now) f.new }
 {
-    let Some((first, rest)) = items.split_first() else {
+    if words.is_empty() {
+        return f.write_str("-");
+    }
+    write_parts(words, f)
+}
+
+// One text for each, one space between two of them.
+fn write_parts<P: Part, W: fmt::Write>(parts: &[P], f: &mut fmt::Formatter<W>) -> fmt::Result
+    ensures { WritesOnOk W.write_str_gives f.old result (spaced_text P.text_of parts.now) f.new }
+{
+    let Some((first, rest)) = parts.split_first() else {
         return Ok(());
     };
-    write!(f, "{}", Item { answer: *first })?;
-    for item in rest {
-        write!(f, " {}", Item { answer: *item })?;
+    first.write_to(f)?;
+    for part in rest {
+        f.write_str(" ")?;
+        part.write_to(f)?;
     }
     Ok(())
-}
-
-// What one call of a walk answered.
-#[derive(Drop)]
-struct Item {
-    answer: Option<usize>,
-}
-
-impl fmt::Display for Item {
-    ghost use Rattle.std.specs.Prelude.{Some};
-    ghost use Rattle.bitcommands.specs.Texts.{item_text};
-
-    ghost output = { λ item. Some (item_text item.answer) };
-
-    fn fmt<W: fmt::Write>(&self, f: &mut fmt::Formatter<W>) -> fmt::Result {
-        match self.answer {
-            Some(position) => write!(f, "{position}"),
-            None => f.write_str("none"),
-        }
-    }
 }
