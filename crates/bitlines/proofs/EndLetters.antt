@@ -1,21 +1,9 @@
 -- The letters of ends, one after the other.
-use Rattle.std.proofs.Common.{◌≡◌, ℕ, ◌+◌, ◌<◌, ◌≤◌, List, [], ◌∷◌, ◌++◌, length, get_or, drop, Option, Some, None, refl, ap, sym, ◌∙◌, arith, append_assoc, append-nil, option_and_then}
+use Rattle.std.proofs.Common.{◌≡◌, ℕ, ◌+◌, ◌<◌, ◌≤◌, List, [], ◌∷◌, ◌++◌, length, get_or, drop, Option, Some, None, refl, ap, ◌∙◌, arith, append-nil, option_and_then}
 use Rattle.std.proofs.lemmas.List.{at_drop_more, at_drop_all}
 use Rattle.bitcommands.specs.declared.commands.walking.End.{End}
 use Rattle.bitlines.specs.Arguments.{end_of, ends_from, ends_of}
-
--- these before those that are still to be read
-abbrev pub onto : {A : Type 0} → List A → Option (List A) → Option (List A)
-onto xs (Some ys) = Some (xs ++ ys)
-onto xs None = None
-
-onto-onto : {A : Type 0} (xs : List A) (x : A) (o : Option (List A)) → onto xs (onto (x ∷ []) o) ≡ onto (xs ++ x ∷ []) o
-onto-onto xs x (Some ys) = ap Some (sym (append_assoc xs (x ∷ []) ys))
-onto-onto xs x None = refl
-
-onto-nil : {A : Type 0} (o : Option (List A)) → o ≡ onto [] o
-onto-nil (Some ys) = refl
-onto-nil None = refl
+use Rattle.bitlines.proofs.Lists.{onto, onto-onto, onto-nil}
 
 ends_cons_some : (c : ℕ) (cs : List ℕ) (x : End) → end_of c ≡ Some x → ends_from (c ∷ cs) ≡ onto (x ∷ []) (ends_from cs)
 unfolding ends_from

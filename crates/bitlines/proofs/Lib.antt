@@ -2,5 +2,9 @@ pub mod LineSplits
 pub mod FirstBytes
 pub mod Outputs
 pub mod Numbers
+pub mod Lists
 pub mod EndLetters
 pub mod OneOutput
+pub mod JsonTexts
+pub mod ArgumentTexts
+pub mod ReadBack

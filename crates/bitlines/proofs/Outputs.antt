@@ -1,11 +1,12 @@
 -- Lines and texts from the front.
-use Rattle.std.proofs.Common.{◌≡◌, ℕ, ◌+◌, ◌<◌, List, [], ◌∷◌, ◌++◌, length, take, drop, Some, None, true, false, cond, eqb, refl, ap, ◌∙◌, arith}
+use Rattle.std.proofs.Common.{◌≡◌, ℕ, ◌+◌, ◌<◌, List, [], ◌∷◌, ◌++◌, length, take, drop, Some, None, true, false, cond, eqb, IfSome, refl, ap, subst, ◌∙◌, arith, append_assoc}
 use Rattle.std.specs.List.{slice_split, onto_first, position}
 use Rattle.std.proofs.lemmas.Bool.Decides.{nat_tests}
 use Rattle.std.proofs.lemmas.Grind.{common_steps}
 use Rattle.bitcommands.specs.Actions.{Action}
 use Rattle.bitcommands.specs.Answers.{Answer}
-use Rattle.bitcommands.specs.Texts.{answer_text}
+use Rattle.bitcommands.specs.Texts.{answer_text, one_text}
+use Rattle.bitcommands.specs.TextsFacts.{step_one_text}
 use Rattle.bitcommands.specs.Sets.{Sets}
 use Rattle.bitcommands.specs.Steps.{Step}
 use Rattle.bitlines.specs.Lines.{command_of}
@@ -55,6 +56,17 @@ pub line_answered : (line : List ℕ) (old new : Sets) (c : Action) (r : Answer)
 unfolding texts
 line_answered line old new c r is step lines output rest =
     (r ∷ rest.0, rest.1, rw is (new, step, rest.2), rw is (line_then _ (answer_text r) output _ refl rest.3))
+
+-- its text and a line end are put behind an output
+pub command_answered : (line before mid after : List ℕ) (old new : Sets) (c : Action) (r : Answer) → command_of line ≡ Some c → Step 1000000 old c r new
+    → IfSome (one_text r) (λ text. mid ≡ before ++ text) → after ≡ mid ++ 10 ∷ [] → (out : List ℕ) × (after ≡ before ++ out) × AnswersLine line old new out
+command_answered line before mid after old new c r is step put ended =
+    let text = answer_text r in
+    let pushed : mid ≡ before ++ text = subst (λ o. IfSome o (λ t. mid ≡ before ++ t)) (step_one_text 1000000 old new c r step) put in (
+      text ++ 10 ∷ [],
+      ended ∙ ap (λ u. u ++ 10 ∷ []) pushed ∙ append_assoc before text (10 ∷ []),
+      line_answered line old new c r is step,
+    )
 
 -- a line that is none leaves the sets
 pub line_refused : (line : List ℕ) (sets : Sets) → command_of line ≡ None → AnswersLine line sets sets (fault_text ++ 10 ∷ [])

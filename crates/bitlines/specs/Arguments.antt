@@ -1,7 +1,9 @@
 -- The arguments of commands.
 use Rattle.std.specs.Prelude.{ℕ, ◌+◌, Bool, true, false, ◌==◌, ◌&&◌, nat_lt, List, [], ◌∷◌, length, take, drop, position, slice_index_or, Option, Some, None, if◌then◌else◌, codes}
-use Rattle.std.specs.List.{list_all}
-use Rattle.std.specs.Str.{bytes_eq}
+use Rattle.std.specs.List.{list_all, join_with_byte}
+use Rattle.std.specs.Str.{bytes_eq, is_utf8}
+use Rattle.serde_json.specs.Data.{Data}
+use Rattle.serde_json.specs.Read.{read}
 use Rattle.bitlines.specs.Words.{◌>>=◌, number_of, number_at, at_end}
 use Rattle.bitcommands.specs.declared.commands.walking.End.{End}
 use Rattle.bitcommands.specs.declared.commands.walking.End.TheVariants.{Front, Back}
@@ -71,6 +73,19 @@ fronts_of w = if nat_lt 0 (length w) && list_all (λ c. c == 102) w then Some (l
 unfoldable pub fronts_at : List (List ℕ) → Option (ℕ × List (List ℕ))
 fronts_at [] = None
 fronts_at (w ∷ ws) = fronts_of w >>= λ n. Some (n, ws)
+
+-- a number for each word
+unfoldable pub numbers_of : List (List ℕ) → Option (List ℕ)
+numbers_of [] = Some []
+numbers_of (w ∷ ws) = number_of w >>= λ n. numbers_of ws >>= λ ns. Some (n ∷ ns)
+
+-- the JSON value of a text in UTF-8, nested at most 127 deep
+unfoldable pub json_of : List ℕ → Option Data
+json_of text = if is_utf8 text then read text else None
+
+-- the JSON value of all the words, with the spaces between them; where there are none it is that of the empty text, which has none
+unfoldable pub json_at : List (List ℕ) → Option Data
+json_at ws = json_of (join_with_byte 32 ws)
 
 -- ---- all arguments of a command
 
@@ -148,3 +163,25 @@ one_and_fronts ws = do
   n ← fronts_at a.1
   end ← at_end n.1
   Some (a.0, n.0)
+
+-- a number, and none, one or more numbers
+unfoldable pub one_and_list : List (List ℕ) → Option (ℕ × List ℕ)
+one_and_list ws = do
+  a ← number_at ws
+  ns ← numbers_of a.1
+  Some (a.0, ns)
+
+-- two numbers, and none, one or more numbers
+unfoldable pub two_and_list : List (List ℕ) → Option (ℕ × ℕ × List ℕ)
+two_and_list ws = do
+  a ← number_at ws
+  b ← number_at a.1
+  ns ← numbers_of b.1
+  Some (a.0, b.0, ns)
+
+-- a number and a JSON value
+unfoldable pub one_and_json : List (List ℕ) → Option (ℕ × Data)
+one_and_json ws = do
+  a ← number_at ws
+  d ← json_at a.1
+  Some (a.0, d)

@@ -3,6 +3,8 @@ pub mod Reads
 pub mod Arguments
 pub mod Names
 pub mod Lines
+pub mod Written
+pub mod LineLaws
 pub mod Output
 pub mod OutputLaws
 pub mod Program

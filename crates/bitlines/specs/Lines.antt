@@ -4,7 +4,7 @@ use Rattle.bitcommands.specs.declared.commands.walking.End.{End}
 use Rattle.bitcommands.specs.Actions as action
 use Rattle.bitcommands.specs.Actions.{Action, Range}
 use Rattle.bitlines.specs.Words.{◌>>=◌, words}
-use Rattle.bitlines.specs.Arguments.{one, two, three, two_and_flag, one_and_range, range_and_flag, one_and_ends, two_and_ends, one_and_fronts}
+use Rattle.bitlines.specs.Arguments.{one, two, three, two_and_flag, one_and_range, range_and_flag, one_and_ends, two_and_ends, one_and_fronts, one_and_list, two_and_list, one_and_json}
 use Rattle.bitlines.specs.Names.{name_of}
 use Rattle.bitlines.specs.declared.names.Name.{Name}
 use Rattle.bitlines.specs.declared.names.Name.TheVariants as name
@@ -12,6 +12,10 @@ use Rattle.bitlines.specs.declared.names.OneSet.{OneSet}
 use Rattle.bitlines.specs.declared.names.OneSet.TheVariants as one_set
 use Rattle.bitlines.specs.declared.names.SetAndNumber.{SetAndNumber}
 use Rattle.bitlines.specs.declared.names.SetAndNumber.TheVariants as set_and_number
+use Rattle.bitlines.specs.declared.names.SetAndTwoNumbers.{SetAndTwoNumbers}
+use Rattle.bitlines.specs.declared.names.SetAndTwoNumbers.TheVariants as set_and_two_numbers
+use Rattle.bitlines.specs.declared.names.SetAndList.{SetAndList}
+use Rattle.bitlines.specs.declared.names.SetAndList.TheVariants as set_and_list
 use Rattle.bitlines.specs.declared.names.TwoSets.{TwoSets}
 use Rattle.bitlines.specs.declared.names.TwoSets.TheVariants as two_sets
 use Rattle.bitlines.specs.declared.names.ThreeSets.{ThreeSets}
@@ -27,20 +31,45 @@ use Rattle.bitlines.specs.declared.names.TwoSetsAndEnds.TheVariants as two_sets_
 
 -- a command on a set
 abbrev pub of_one_set : OneSet → ℕ → Action
+of_one_set one_set.New k = action.new k
+of_one_set one_set.Default k = action.default k
 of_one_set one_set.Len k = action.len k
+of_one_set one_set.IsEmpty k = action.is_empty k
+of_one_set one_set.IsClear k = action.is_clear k
+of_one_set one_set.IsFull k = action.is_full k
+of_one_set one_set.Minimum k = action.minimum k
+of_one_set one_set.Maximum k = action.maximum k
+of_one_set one_set.AsSlice k = action.as_slice k
+of_one_set one_set.Text k = action.text k
+of_one_set one_set.ToValue k = action.to_value k
+of_one_set one_set.Clear k = action.clear k
 
 -- a command on a set and a number
 abbrev pub of_set_and_number : SetAndNumber → ℕ → ℕ → Action
 of_set_and_number set_and_number.WithCapacity k n = action.with_capacity k n
 of_set_and_number set_and_number.Contains k n = action.contains k n
+of_set_and_number set_and_number.Index k n = action.index k n
 of_set_and_number set_and_number.Grow k n = action.grow k n
+of_set_and_number set_and_number.GrowAndInsert k n = action.grow_and_insert k n
 of_set_and_number set_and_number.Insert k n = action.insert k n
 of_set_and_number set_and_number.Remove k n = action.remove k n
 of_set_and_number set_and_number.Toggle k n = action.toggle k n
 of_set_and_number set_and_number.Put k n = action.put k n
 
+-- a command on a set and two numbers
+abbrev pub of_set_and_two_numbers : SetAndTwoNumbers → ℕ → ℕ → ℕ → Action
+of_set_and_two_numbers set_and_two_numbers.CopyBit k m n = action.copy_bit k m n
+of_set_and_two_numbers set_and_two_numbers.SetBlock k m n = action.set_block k m n
+
+-- a command on a set and a list of numbers
+abbrev pub of_set_and_list : SetAndList → ℕ → List ℕ → Action
+of_set_and_list set_and_list.FromIter k ns = action.from_iter k ns
+of_set_and_list set_and_list.Extend k ns = action.extend k ns
+
 -- a command on two sets
 abbrev pub of_two_sets : TwoSets → ℕ → ℕ → Action
+of_two_sets two_sets.Clone a b = action.clone a b
+of_two_sets two_sets.CloneFrom a b = action.clone_from a b
 of_two_sets two_sets.UnionWith a b = action.union_with a b
 of_two_sets two_sets.SymmetricDifferenceWith a b = action.symmetric_difference_with a b
 of_two_sets two_sets.BitorAssign a b = action.bitor_assign a b
@@ -55,6 +84,8 @@ of_two_sets two_sets.SymmetricDifferenceCount a b = action.symmetric_difference_
 of_two_sets two_sets.IsDisjoint a b = action.is_disjoint a b
 of_two_sets two_sets.IsSubset a b = action.is_subset a b
 of_two_sets two_sets.IsSuperset a b = action.is_superset a b
+of_two_sets two_sets.Eq a b = action.eq a b
+of_two_sets two_sets.Cmp a b = action.cmp a b
 
 -- a command on three sets
 abbrev pub of_three_sets : ThreeSets → ℕ → ℕ → ℕ → Action
@@ -89,6 +120,10 @@ of_two_sets_and_ends two_sets_and_ends.SymmetricDifference a b ends = action.sym
 unfoldable pub command_by : Name → List (List ℕ) → Option Action
 command_by (name.OneSet c) args = one args >>= λ k. Some (of_one_set c k)
 command_by (name.SetAndNumber c) args = two args >>= λ x. Some (of_set_and_number c x.0 x.1)
+command_by (name.SetAndTwoNumbers c) args = three args >>= λ x. Some (of_set_and_two_numbers c x.0 x.1 x.2)
+command_by (name.SetAndList c) args = one_and_list args >>= λ x. Some (of_set_and_list c x.0 x.1)
+command_by name.WithCapacityAndBlocks args = two_and_list args >>= λ x. Some (action.with_capacity_and_blocks x.0 x.1 x.2)
+command_by name.FromValue args = one_and_json args >>= λ x. Some (action.from_value x.0 x.1)
 command_by (name.TwoSets c) args = two args >>= λ x. Some (of_two_sets c x.0 x.1)
 command_by (name.ThreeSets c) args = three args >>= λ x. Some (of_three_sets c x.0 x.1 x.2)
 command_by (name.SetAndRange c) args = one_and_range args >>= λ x. Some (of_set_and_range c x.0 x.1)
@@ -111,22 +146,25 @@ command_of line = command_of_words (words line)
 
 -- ---- which lines want memory
 
--- whether a command of this name has a list
-abbrev pub has_list : Name → Bool
-has_list (name.SetAndEnds c) = true
-has_list (name.TwoSetsAndEnds c) = true
-has_list c = false
+-- whether a command of this name has a list or a JSON value
+abbrev pub takes_memory : Name → Bool
+takes_memory (name.SetAndList c) = true
+takes_memory name.WithCapacityAndBlocks = true
+takes_memory name.FromValue = true
+takes_memory (name.SetAndEnds c) = true
+takes_memory (name.TwoSetsAndEnds c) = true
+takes_memory c = false
 
--- whether there is a name, and a command of this name has a list
-abbrev pub is_with_list : Option Name → Bool
-is_with_list (Some c) = has_list c
-is_with_list None = false
+-- whether there is a name, and a command of this name has one
+abbrev pub is_one_of_them : Option Name → Bool
+is_one_of_them (Some c) = takes_memory c
+is_one_of_them None = false
 
--- whether the first word is the name of a command with a list
-unfoldable pub begins_with_list : List (List ℕ) → Bool
-begins_with_list [] = false
-begins_with_list (w ∷ args) = is_with_list (name_of w)
+-- whether the first word is the name of such a command
+unfoldable pub begins_with_one : List (List ℕ) → Bool
+begins_with_one [] = false
+begins_with_one (w ∷ args) = is_one_of_them (name_of w)
 
--- whether memory may lack as the line is read: where its first word is the name of a command with a list
+-- whether memory may lack as the line is read: where its first word is the name of a command with a list or a JSON value
 abbrev pub may_lack : List ℕ → Bool
-may_lack line = begins_with_list (words line)
+may_lack line = begins_with_one (words line)

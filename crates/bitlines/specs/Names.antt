@@ -3,10 +3,12 @@ use Rattle.std.specs.Prelude.{ℕ, List, [], ◌∷◌, Option, Some, None, if�
 use Rattle.std.specs.Option.{option_or}
 use Rattle.std.specs.Str.{bytes_eq}
 use Rattle.bitlines.specs.declared.names.Name.{Name}
-use Rattle.bitlines.specs.declared.names.Name.TheVariants.{OneSet, SetAndNumber, TwoSets, ThreeSets, SetAndRange, SetAndEnds, TwoSetsAndEnds, Set, SetRange, Zeroes}
-use Rattle.bitlines.specs.declared.names.OneSet.TheVariants.{Len}
-use Rattle.bitlines.specs.declared.names.SetAndNumber.TheVariants.{WithCapacity, Contains, Grow, Insert, Remove, Toggle, Put}
-use Rattle.bitlines.specs.declared.names.TwoSets.TheVariants.{UnionWith, SymmetricDifferenceWith, BitorAssign, BitxorAssign, IntersectWith, DifferenceWith, BitandAssign, UnionCount, IntersectionCount, DifferenceCount, SymmetricDifferenceCount, IsDisjoint, IsSubset, IsSuperset}
+use Rattle.bitlines.specs.declared.names.Name.TheVariants.{OneSet, SetAndNumber, SetAndTwoNumbers, SetAndList, TwoSets, ThreeSets, SetAndRange, SetAndEnds, TwoSetsAndEnds, WithCapacityAndBlocks, FromValue, Set, SetRange, Zeroes}
+use Rattle.bitlines.specs.declared.names.OneSet.TheVariants.{New, Default, Len, IsEmpty, IsClear, IsFull, Minimum, Maximum, AsSlice, Text, ToValue, Clear}
+use Rattle.bitlines.specs.declared.names.SetAndNumber.TheVariants.{WithCapacity, Contains, Index, Grow, GrowAndInsert, Insert, Remove, Toggle, Put}
+use Rattle.bitlines.specs.declared.names.SetAndTwoNumbers.TheVariants.{CopyBit, SetBlock}
+use Rattle.bitlines.specs.declared.names.SetAndList.TheVariants.{FromIter, Extend}
+use Rattle.bitlines.specs.declared.names.TwoSets.TheVariants.{Clone, CloneFrom, UnionWith, SymmetricDifferenceWith, BitorAssign, BitxorAssign, IntersectWith, DifferenceWith, BitandAssign, UnionCount, IntersectionCount, DifferenceCount, SymmetricDifferenceCount, IsDisjoint, IsSubset, IsSuperset, Eq, Cmp}
 use Rattle.bitlines.specs.declared.names.ThreeSets.TheVariants.{Bitand, Bitor, Bitxor}
 use Rattle.bitlines.specs.declared.names.SetAndRange.TheVariants.{CountOnes, CountZeroes, InsertRange, RemoveRange, ToggleRange, ContainsAllInRange, ContainsAnyInRange, RangeIsValid}
 use Rattle.bitlines.specs.declared.names.SetAndEnds.TheVariants.{Ones, IntoOnes}
@@ -17,34 +19,55 @@ abbrev pub name_in : List (List ℕ × Name) → List ℕ → Option Name
 name_in [] word = None
 name_in (entry ∷ entries) word = if bytes_eq word entry.0 then Some entry.1 else name_in entries word
 
--- the names of up to ten letters, by their length
+-- the names of up to eight letters, by their length
 abbrev pub short_names : List (List ℕ × Name)
 short_names =
+    (codes "eq", TwoSets Eq) ∷
+    (codes "cmp", TwoSets Cmp) ∷
     (codes "len", OneSet Len) ∷
+    (codes "new", OneSet New) ∷
     (codes "put", SetAndNumber Put) ∷
     (codes "set", Set) ∷
     (codes "grow", SetAndNumber Grow) ∷
     (codes "ones", SetAndEnds Ones) ∷
+    (codes "text", OneSet Text) ∷
     (codes "bitor", ThreeSets Bitor) ∷
+    (codes "clear", OneSet Clear) ∷
+    (codes "clone", TwoSets Clone) ∷
+    (codes "index", SetAndNumber Index) ∷
     (codes "union", TwoSetsAndEnds Union) ∷
     (codes "bitand", ThreeSets Bitand) ∷
     (codes "bitxor", ThreeSets Bitxor) ∷
+    (codes "extend", SetAndList Extend) ∷
     (codes "insert", SetAndNumber Insert) ∷
     (codes "remove", SetAndNumber Remove) ∷
     (codes "toggle", SetAndNumber Toggle) ∷
     (codes "zeroes", Zeroes) ∷
+    (codes "default", OneSet Default) ∷
+    (codes "is_full", OneSet IsFull) ∷
+    (codes "maximum", OneSet Maximum) ∷
+    (codes "minimum", OneSet Minimum) ∷
+    (codes "as_slice", OneSet AsSlice) ∷
     (codes "contains", SetAndNumber Contains) ∷
-    (codes "into_ones", SetAndEnds IntoOnes) ∷
-    (codes "is_subset", TwoSets IsSubset) ∷
-    (codes "set_range", SetRange) ∷
-    (codes "count_ones", SetAndRange CountOnes) ∷
-    (codes "difference", TwoSetsAndEnds Difference) ∷
-    (codes "union_with", TwoSets UnionWith) ∷
+    (codes "copy_bit", SetAndTwoNumbers CopyBit) ∷
+    (codes "is_clear", OneSet IsClear) ∷
+    (codes "is_empty", OneSet IsEmpty) ∷
+    (codes "to_value", OneSet ToValue) ∷
     []
 
 -- the longer ones, by their length
 abbrev pub long_names : List (List ℕ × Name)
 long_names =
+    (codes "from_iter", SetAndList FromIter) ∷
+    (codes "into_ones", SetAndEnds IntoOnes) ∷
+    (codes "is_subset", TwoSets IsSubset) ∷
+    (codes "set_block", SetAndTwoNumbers SetBlock) ∷
+    (codes "set_range", SetRange) ∷
+    (codes "clone_from", TwoSets CloneFrom) ∷
+    (codes "count_ones", SetAndRange CountOnes) ∷
+    (codes "difference", TwoSetsAndEnds Difference) ∷
+    (codes "from_value", FromValue) ∷
+    (codes "union_with", TwoSets UnionWith) ∷
     (codes "is_disjoint", TwoSets IsDisjoint) ∷
     (codes "is_superset", TwoSets IsSuperset) ∷
     (codes "union_count", TwoSets UnionCount) ∷
@@ -60,11 +83,13 @@ long_names =
     (codes "intersect_with", TwoSets IntersectWith) ∷
     (codes "range_is_valid", SetAndRange RangeIsValid) ∷
     (codes "difference_with", TwoSets DifferenceWith) ∷
+    (codes "grow_and_insert", SetAndNumber GrowAndInsert) ∷
     (codes "difference_count", TwoSets DifferenceCount) ∷
     (codes "intersection_count", TwoSets IntersectionCount) ∷
     (codes "symmetric_difference", TwoSetsAndEnds SymmetricDifference) ∷
     (codes "contains_all_in_range", SetAndRange ContainsAllInRange) ∷
     (codes "contains_any_in_range", SetAndRange ContainsAnyInRange) ∷
+    (codes "with_capacity_and_blocks", WithCapacityAndBlocks) ∷
     (codes "symmetric_difference_with", TwoSets SymmetricDifferenceWith) ∷
     (codes "symmetric_difference_count", TwoSets SymmetricDifferenceCount) ∷
     []

@@ -1,12 +1,14 @@
 //! The arguments of commands.
 ghost use Rattle.std.specs.Prelude.{◌≡◌, ◌==◌, true, false};
 ghost use Rattle.std.specs.List.{list_all};
+ghost use Rattle.serde_json.specs.View.{view};
 ghost use Rattle.bitlines.specs.Reads.{Reads};
-ghost use Rattle.bitlines.specs.Arguments.{bound_of, bounds_of, range_of, range_at, end_of, ends_of, ends_at, one, two, three, two_and_flag, one_and_range, range_and_flag, one_and_ends, two_and_ends, fronts_of, fronts_at, one_and_fronts};
+ghost use Rattle.bitlines.specs.Arguments.{bound_of, bounds_of, range_of, range_at, end_of, ends_of, ends_at, one, two, three, two_and_flag, one_and_range, range_and_flag, one_and_ends, two_and_ends, fronts_of, fronts_at, one_and_fronts, numbers_of, one_and_list, two_and_list, one_and_json};
 
 use crate::lines::LineFault;
 use crate::words::{Words, find, number};
 use bitcommands::commands::{End, Span};
+use serde_json::Value;
 use std::alloc::Global;
 
 #[tactic(auto, unfolding(crate::specs::Arguments::one))]
@@ -212,4 +214,55 @@ fn is_each_front(word: &[u8]) -> bool
     ensures { result ≡ list_all (λ letter. letter == 102) word.now }
 {
     word.iter().all(|letter| *letter == b'f')
+}
+
+#[tactic(auto, unfolding(crate::specs::Arguments::one_and_list))]
+pub(crate) fn one_and_list(
+    alloc: Global,
+    mut args: Words<'_>,
+) -> Result<(usize, Vec<usize>), LineFault>
+    ensures { Reads true (λ x. (x.0, x.1.items)) result (one_and_list args.entry) }
+{
+    let set = args.number()?;
+    let items = numbers(alloc, args)?;
+    Ok((set, items))
+}
+
+#[tactic(auto, unfolding(crate::specs::Arguments::two_and_list))]
+pub(crate) fn two_and_list(
+    alloc: Global,
+    mut args: Words<'_>,
+) -> Result<(usize, usize, Vec<usize>), LineFault>
+    ensures { Reads true (λ x. (x.0, x.1, x.2.items)) result (two_and_list args.entry) }
+{
+    let set = args.number()?;
+    let bits = args.number()?;
+    let blocks = numbers(alloc, args)?;
+    Ok((set, bits, blocks))
+}
+
+// A number for each word that is left.
+#[tactic(auto, using(crate::proofs::Lists::numbers_start, crate::proofs::Lists::numbers_more, crate::proofs::Lists::numbers_none, crate::proofs::Lists::numbers_end))]
+fn numbers(alloc: Global, mut args: Words<'_>) -> Result<Vec<usize>, LineFault>
+    ensures { Reads true (λ list. list.items) result (numbers_of args.entry) }
+{
+    let mut list = Vec::new(alloc);
+    while let Some(word) = args.next() {
+        let Some(number) = number(word) else {
+            return Err(LineFault::NotACommand);
+        };
+        if list.push(number).is_err() {
+            return Err(LineFault::Memory);
+        }
+    }
+    Ok(list)
+}
+
+#[tactic(auto, unfolding(crate::specs::Arguments::one_and_json))]
+pub(crate) fn one_and_json(alloc: Global, mut args: Words<'_>) -> Result<(usize, Value), LineFault>
+    ensures { Reads true (λ x. (x.0, view x.1)) result (one_and_json args.entry) }
+{
+    let set = args.number()?;
+    let json = args.json(alloc)?;
+    Ok((set, json))
 }

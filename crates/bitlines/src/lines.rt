@@ -3,15 +3,15 @@ ghost use Rattle.std.specs.Prelude.{◌≡◌, true};
 ghost use Rattle.bitcommands.specs.Actions.{action_of};
 ghost use Rattle.bitlines.specs.Reads.{Reads};
 ghost use Rattle.bitlines.specs.declared.names.Name.TheVariants as names;
-ghost use Rattle.bitlines.specs.Lines.{of_one_set, of_set_and_number, of_two_sets, of_three_sets, of_set_and_range, of_set_and_ends, of_two_sets_and_ends, command_by, command_of, has_list, may_lack};
+ghost use Rattle.bitlines.specs.Lines.{of_one_set, of_set_and_number, of_set_and_two_numbers, of_set_and_list, of_two_sets, of_three_sets, of_set_and_range, of_set_and_ends, of_two_sets_and_ends, command_by, command_of, takes_memory, may_lack};
 
 use crate::arguments::{
-    one, one_and_ends, one_and_fronts, one_and_range, range_and_flag, three, two, two_and_ends,
-    two_and_flag,
+    one, one_and_ends, one_and_fronts, one_and_json, one_and_list, one_and_range, range_and_flag,
+    three, two, two_and_ends, two_and_flag, two_and_list,
 };
 use crate::names::{
-    Name, OneSet, SetAndEnds, SetAndNumber, SetAndRange, ThreeSets, TwoSets, TwoSetsAndEnds,
-    name_of,
+    Name, OneSet, SetAndEnds, SetAndList, SetAndNumber, SetAndRange, SetAndTwoNumbers, ThreeSets,
+    TwoSets, TwoSetsAndEnds, name_of,
 };
 use crate::words::Words;
 use bitcommands::commands::{Change, Command, Compare, End, Look, Make, Ranged, Span, Walk, Whole};
@@ -27,12 +27,13 @@ pub enum LineFault {
 }
 
 /// The command that a line stands for: a command word and its arguments, with exactly one space between two of them
-/// and none at the ends (`docs/COMMANDS.md`). The line is given without its line end.
+/// and none at the ends (`docs/COMMANDS.md`). The JSON of `from_value` is all the rest of the line, with whatever spaces it
+/// has. The line is given without its line end.
 ///
 /// `NotACommand` comes only where the line stands for none, and `Memory` only where the first word is that of a command
-/// with a list: `ones`, `into_ones`, `union`, `intersection`, `difference` and `symmetric_difference`. Any other line
-/// takes no memory.
-#[tactic(auto, unfolding(crate::specs::Lines::command_of_words, crate::specs::Lines::begins_with_list))]
+/// with a list or with JSON: `with_capacity_and_blocks`, `from_iter`, `from_value`, `extend`, or a walk, which is `ones`,
+/// `into_ones`, `union`, `intersection`, `difference` or `symmetric_difference`. Any other line takes no memory.
+#[tactic(auto, unfolding(crate::specs::Lines::command_of_words, crate::specs::Lines::begins_with_one))]
 #[inline]
 pub fn parse_line(alloc: Global, line: &[u8]) -> Result<Command, LineFault>
     ensures { Reads (may_lack line.now) action_of result (command_of line.now) }
@@ -46,7 +47,7 @@ pub fn parse_line(alloc: Global, line: &[u8]) -> Result<Command, LineFault>
 // The name decides which arguments are read.
 #[tactic(auto, unfolding(crate::specs::Lines::command_by))]
 fn command_by(alloc: Global, name: Name, args: Words<'_>) -> Result<Command, LineFault>
-    ensures { Reads (has_list name) action_of result (command_by name args.entry) }
+    ensures { Reads (takes_memory name) action_of result (command_by name args.entry) }
 {
     match name {
         Name::OneSet(name) => {
@@ -57,6 +58,13 @@ fn command_by(alloc: Global, name: Name, args: Words<'_>) -> Result<Command, Lin
             let (set, number) = two(args)?;
             Ok(of_set_and_number(name, set, number))
         }
+        Name::SetAndTwoNumbers(name) => {
+            let (set, first, second) = three(args)?;
+            Ok(of_set_and_two_numbers(name, set, first, second))
+        }
+        Name::SetAndList(name) => list_for_one(alloc, name, args),
+        Name::WithCapacityAndBlocks => blocks_for_one(alloc, args),
+        Name::FromValue => value_for_one(alloc, args),
         Name::TwoSets(name) => {
             let (a, b) = two(args)?;
             Ok(of_two_sets(name, a, b))
@@ -87,6 +95,34 @@ fn command_by(alloc: Global, name: Name, args: Words<'_>) -> Result<Command, Lin
 }
 
 #[tactic(auto, unfolding(crate::specs::Lines::command_by))]
+fn list_for_one(alloc: Global, name: SetAndList, args: Words<'_>) -> Result<Command, LineFault>
+    ensures { Reads true action_of result (command_by (names.SetAndList name) args.entry) }
+{
+    let (set, items) = one_and_list(alloc, args)?;
+    Ok(of_set_and_list(name, set, items))
+}
+
+#[tactic(auto, unfolding(crate::specs::Lines::command_by))]
+fn blocks_for_one(alloc: Global, args: Words<'_>) -> Result<Command, LineFault>
+    ensures { Reads true action_of result (command_by names.WithCapacityAndBlocks args.entry) }
+{
+    let (target, bits, blocks) = two_and_list(alloc, args)?;
+    Ok(Command::Make(Make::WithCapacityAndBlocks {
+        target,
+        bits,
+        blocks,
+    }))
+}
+
+#[tactic(auto, unfolding(crate::specs::Lines::command_by))]
+fn value_for_one(alloc: Global, args: Words<'_>) -> Result<Command, LineFault>
+    ensures { Reads true action_of result (command_by names.FromValue args.entry) }
+{
+    let (target, json) = one_and_json(alloc, args)?;
+    Ok(Command::Make(Make::FromValue { target, json }))
+}
+
+#[tactic(auto, unfolding(crate::specs::Lines::command_by))]
 fn walk_over_one(alloc: Global, name: SetAndEnds, args: Words<'_>) -> Result<Command, LineFault>
     ensures { Reads true action_of result (command_by (names.SetAndEnds name) args.entry) }
 {
@@ -106,7 +142,18 @@ fn of_one_set(name: OneSet, set: usize) -> Command
     ensures { action_of result ≡ of_one_set name set }
 {
     match name {
+        OneSet::New => Command::Make(Make::New { target: set }),
+        OneSet::Default => Command::Make(Make::Default { target: set }),
         OneSet::Len => Command::Look(Look::Len { set }),
+        OneSet::IsEmpty => Command::Look(Look::IsEmpty { set }),
+        OneSet::IsClear => Command::Look(Look::IsClear { set }),
+        OneSet::IsFull => Command::Look(Look::IsFull { set }),
+        OneSet::Minimum => Command::Look(Look::Minimum { set }),
+        OneSet::Maximum => Command::Look(Look::Maximum { set }),
+        OneSet::AsSlice => Command::Look(Look::AsSlice { set }),
+        OneSet::Text => Command::Look(Look::Text { set }),
+        OneSet::ToValue => Command::Look(Look::ToValue { set }),
+        OneSet::Clear => Command::Change(Change::Clear { set }),
     }
 }
 
@@ -118,7 +165,9 @@ fn of_set_and_number(name: SetAndNumber, set: usize, number: usize) -> Command
     match name {
         SetAndNumber::WithCapacity => Command::Make(Make::WithCapacity { target, bits }),
         SetAndNumber::Contains => Command::Look(Look::Contains { set, bit }),
+        SetAndNumber::Index => Command::Look(Look::Index { set, bit }),
         SetAndNumber::Grow => Command::Change(Change::Grow { set, bits }),
+        SetAndNumber::GrowAndInsert => Command::Change(Change::GrowAndInsert { set, bit }),
         SetAndNumber::Insert => Command::Change(Change::Insert { set, bit }),
         SetAndNumber::Remove => Command::Change(Change::Remove { set, bit }),
         SetAndNumber::Toggle => Command::Change(Change::Toggle { set, bit }),
@@ -126,10 +175,38 @@ fn of_set_and_number(name: SetAndNumber, set: usize, number: usize) -> Command
     }
 }
 
+fn of_set_and_two_numbers(
+    name: SetAndTwoNumbers,
+    set: usize,
+    first: usize,
+    second: usize,
+) -> Command
+    ensures { action_of result ≡ of_set_and_two_numbers name set first second }
+{
+    let (from, to) = (first, second);
+    let (index, value) = (first, second);
+    match name {
+        SetAndTwoNumbers::CopyBit => Command::Change(Change::CopyBit { set, from, to }),
+        SetAndTwoNumbers::SetBlock => Command::Change(Change::SetBlock { set, index, value }),
+    }
+}
+
+fn of_set_and_list(name: SetAndList, set: usize, items: Vec<usize>) -> Command
+    ensures { action_of result ≡ of_set_and_list name set items.items }
+{
+    match name {
+        SetAndList::FromIter => Command::Make(Make::FromIter { target: set, items }),
+        SetAndList::Extend => Command::Change(Change::Extend { set, items }),
+    }
+}
+
 fn of_two_sets(name: TwoSets, a: usize, b: usize) -> Command
     ensures { action_of result ≡ of_two_sets name a b }
 {
+    let (target, source) = (a, b);
     match name {
+        TwoSets::Clone => Command::Make(Make::Clone { target, source }),
+        TwoSets::CloneFrom => Command::Make(Make::CloneFrom { target, source }),
         TwoSets::UnionWith => Command::Whole(Whole::UnionWith { a, b }),
         TwoSets::SymmetricDifferenceWith => Command::Whole(Whole::SymmetricDifferenceWith { a, b }),
         TwoSets::BitorAssign => Command::Whole(Whole::BitorAssign { a, b }),
@@ -147,6 +224,8 @@ fn of_two_sets(name: TwoSets, a: usize, b: usize) -> Command
         TwoSets::IsDisjoint => Command::Compare(Compare::IsDisjoint { a, b }),
         TwoSets::IsSubset => Command::Compare(Compare::IsSubset { a, b }),
         TwoSets::IsSuperset => Command::Compare(Compare::IsSuperset { a, b }),
+        TwoSets::Eq => Command::Compare(Compare::Eq { a, b }),
+        TwoSets::Cmp => Command::Compare(Compare::Cmp { a, b }),
     }
 }
 

@@ -1,10 +1,13 @@
 //! The words of a line.
-ghost use Rattle.std.specs.Prelude.{◌≡◌, ◌==◌, ℕ, false, ◌∷◌, [], position, MatchOption};
+ghost use Rattle.std.specs.Prelude.{◌≡◌, ◌==◌, ℕ, false, true, ◌∷◌, [], position, MatchOption};
+ghost use Rattle.serde_json.specs.View.{view};
 ghost use Rattle.bitlines.specs.Words.{words, number_of, number_at, at_end};
-ghost use Rattle.bitlines.specs.Arguments.{is, flag_of, flag_at};
+ghost use Rattle.bitlines.specs.Arguments.{is, flag_of, flag_at, json_of, json_at};
 ghost use Rattle.bitlines.specs.Reads.{Reads};
 
 use crate::lines::LineFault;
+use serde_json::Value;
+use std::alloc::Global;
 use std::marker::Model;
 
 /// The words of a line that are still to be read.
@@ -67,6 +70,15 @@ impl<'a> Words<'a> {
         flag(word).ok_or(LineFault::NotACommand)
     }
 
+    /// All the words that are left, with the spaces between them, as a JSON value.
+    #[tactic(auto, using(crate::proofs::JsonTexts::json_at_words, crate::proofs::JsonTexts::json_at_none))]
+    pub(crate) fn json(&self, alloc: Global) -> Result<Value, LineFault>
+        ensures { Reads true view result (json_at self.now) }
+    {
+        let text = self.rest.ok_or(LineFault::NotACommand)?;
+        json(alloc, text)
+    }
+
     /// No word is left.
     #[tactic(auto, unfolding(crate::specs::Words::at_end))]
     #[inline]
@@ -109,6 +121,18 @@ fn flag(word: &[u8]) -> Option<bool>
         Some(false)
     } else {
         None
+    }
+}
+
+// A text as a JSON value.
+#[tactic(auto, unfolding(crate::specs::Arguments::json_of), using(crate::proofs::JsonTexts::read_here, crate::proofs::JsonTexts::not_read_here))]
+fn json(alloc: Global, text: &[u8]) -> Result<Value, LineFault>
+    ensures { Reads true view result (json_of text.now) }
+{
+    match Value::from_slice(alloc, text) {
+        Ok(value) => Ok(value),
+        Err(error) if error.is_memory() => Err(LineFault::Memory),
+        Err(_) => Err(LineFault::NotACommand),
     }
 }
 

@@ -1,6 +1,6 @@
 use Rattle.std.proofs.Common.{◌≡◌, drop}
 use Rattle.bitlines.specs.Arguments.{ends_of, ends_from}
-use Rattle.bitlines.proofs.EndLetters.{onto}
+use Rattle.bitlines.proofs.Lists.{onto}
 use Rattle.bitlines.proofs.arguments.ends.Given as goal
 
 -- the ends so far, before those of the letters that are left

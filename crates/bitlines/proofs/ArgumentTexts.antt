@@ -1,0 +1,161 @@
+-- Texts of arguments are read back.
+use Rattle.std.proofs.Common.{◌≡◌, ℕ, zero, suc, ◌+◌, ◌^◌, ◌<◌, Bool, true, false, ◌&&◌, not, eqb, List, [], ◌∷◌, ◌++◌, length, map, replicate, Option, Some, None, true≢false, refl, sym, ap, ◌∙◌, arith, decimal}
+use Rattle.std.specs.Prelude.{codes, slice_index_or, position}
+use Rattle.std.specs.Char.{is_ascii_digit}
+use Rattle.std.specs.Str.{all_ascii_digits}
+use Rattle.std.specs.Str.Parse.{digits_value}
+use Rattle.std.specs.List.{slice_split, onto_first, list_all, position_or_len}
+use Rattle.std.proofs.lemmas.Bool.{lt-ltb, eq-eqb}
+use Rattle.std.proofs.lemmas.Bool.Decides.{nat_tests}
+use Rattle.std.proofs.lemmas.Str.Parse.{IsNumeralModel, numerals_by_value, tells_all_ascii_digits}
+use Rattle.std.proofs.lemmas.Grind.{common_steps}
+use Rattle.std.proofs.lemmas.Fmt.{digits_decimal, digits_value-decimal, decimal_nonempty}
+use Rattle.std.proofs.lemmas.List.{length-replicate}
+use Rattle.std.proofs.lemmas.List.Splits.{slice_split-cons_yes, slice_split-cons_no}
+use Rattle.std.proofs.Math.Seq.{take-append_seam, drop-append-add}
+use Rattle.bitcommands.specs.Actions.{Range}
+use Rattle.bitcommands.specs.declared.commands.walking.End.{End}
+use Rattle.bitcommands.specs.declared.commands.walking.End.TheVariants.{Front, Back}
+use Rattle.bitcommands.specs.Texts.{flag_text}
+use Rattle.bitlines.specs.Words.{number_of}
+use Rattle.bitlines.specs.Arguments.{flag_of, bound_of, bounds_of, range_of, end_of, ends_from, ends_of, fronts_of}
+use Rattle.bitlines.specs.Written.{bound_text, letter, FitsBound}
+
+-- ---- bytes that a text lacks
+
+-- whether the byte is nowhere in the text
+abbrev pub lacks : ℕ → List ℕ → Bool
+lacks b text = list_all (λ x. not (eqb x b)) text
+
+both : (p q : Bool) → p ≡ true → q ≡ true → (p && q) ≡ true
+both true q e f = f
+both false q e f = e
+
+pub left_of : (p q : Bool) → (p && q) ≡ true → p ≡ true
+left_of true q e = refl
+left_of false q e = e
+
+pub right_of : (p q : Bool) → (p && q) ≡ true → q ≡ true
+right_of true q e = e
+right_of false q e = absurd (true≢false (sym e))
+
+pub lacks-append : (b : ℕ) (xs ys : List ℕ) → lacks b xs ≡ true → lacks b ys ≡ true → lacks b (xs ++ ys) ≡ true
+lacks-append b [] ys e f = f
+lacks-append b (x ∷ xs) ys e f = both _ _ (left_of _ _ e) (lacks-append b xs ys (right_of _ _ e) f)
+
+not_true : (p : Bool) → not p ≡ true → p ≡ false
+not_true false e = refl
+not_true true e = sym e
+
+-- a text is cut at the first byte
+pub cut_at : (b : ℕ) (xs ys : List ℕ) → lacks b xs ≡ true → slice_split (λ x. eqb x b) (xs ++ b ∷ ys) ≡ xs ∷ slice_split (λ x. eqb x b) ys
+cut_at b [] ys e = slice_split-cons_yes (λ x. eqb x b) b ys (eq-eqb b b refl)
+cut_at b (x ∷ xs) ys e =
+    slice_split-cons_no (λ x. eqb x b) x (xs ++ b ∷ ys) (not_true _ (left_of _ _ e)) ∙ ap (onto_first x) (cut_at b xs ys (right_of _ _ e))
+
+pub not_cut : (b : ℕ) (xs : List ℕ) → lacks b xs ≡ true → slice_split (λ x. eqb x b) xs ≡ xs ∷ []
+not_cut b [] e = refl
+not_cut b (x ∷ xs) e = slice_split-cons_no (λ x. eqb x b) x xs (not_true _ (left_of _ _ e)) ∙ ap (onto_first x) (not_cut b xs (right_of _ _ e))
+
+-- ---- numbers
+
+own : IsNumeralModel (λ ds. all_ascii_digits ds ≡ true) (digits_value 10)
+own = numerals_by_value (λ ds. all_ascii_digits ds ≡ true) tells_all_ascii_digits
+
+pub number_read : (n : ℕ) → n < 2 ^ 64 → number_of (decimal n) ≡ Some n
+unfolding number_of
+number_read n h = rw (lt-ltb 0 (length (decimal n)) (decimal_nonempty n h), digits_decimal own n h, digits_value-decimal own n h, lt-ltb n (2 ^ 64) h) refl
+
+digits_lack : (b : ℕ) (ds : List ℕ) → b < 48 → all_ascii_digits ds ≡ true → lacks b ds ≡ true
+digits_lack b [] low e = refl
+digits_lack b (d ∷ ds) low e =
+    let digit : is_ascii_digit d ≡ true = left_of _ _ e in
+    let other : eqb d b ≡ false = grind (arith, nat_tests) in
+    rw other (digits_lack b ds low (right_of _ _ e))
+
+pub decimal_lacks : (b n : ℕ) → b < 48 → n < 2 ^ 64 → lacks b (decimal n) ≡ true
+decimal_lacks b n low h = digits_lack b (decimal n) low (digits_decimal own n h)
+
+-- ---- a range
+
+position_or_len_cut : (b : ℕ) (xs ys : List ℕ) → lacks b xs ≡ true → position_or_len (λ x. eqb x b) (xs ++ b ∷ ys) ≡ length xs
+position_or_len_cut b [] ys e = rw (eq-eqb b b refl) refl
+position_or_len_cut b (x ∷ xs) ys e =
+    let more : 1 + length xs ≡ suc (length xs) = omega arith in
+    rw (not_true (eqb x b) (left_of (not (eqb x b)) (lacks b xs) e)) (ap (λ n. 1 + n) (position_or_len_cut b xs ys (right_of _ _ e)) ∙ more)
+
+found_at : (b : ℕ) (xs ys : List ℕ) → lacks b xs ≡ true → position (λ x. eqb x b) (xs ++ b ∷ ys) ≡ Some (length xs)
+found_at b xs ys e =
+    let inside : length xs < length (xs ++ b ∷ ys) = grind (arith, common_steps) in
+    rw (position_or_len_cut b xs ys e, lt-ltb (length xs) (length (xs ++ b ∷ ys)) inside) refl
+
+second_at : (xs ys : List ℕ) → slice_index_or (xs ++ 46 ∷ 46 ∷ ys) (suc (length xs)) 0 ≡ 46
+second_at [] ys = refl
+second_at (x ∷ xs) ys = second_at xs ys
+
+second_dot : (xs ys : List ℕ) → slice_index_or (xs ++ 46 ∷ 46 ∷ ys) (length xs + 1) 0 ≡ 46
+second_dot xs ys =
+    let next : length xs + 1 ≡ suc (length xs) = omega arith in
+    ap (λ k. slice_index_or (xs ++ 46 ∷ 46 ∷ ys) k 0) next ∙ second_at xs ys
+
+pub bound_lacks : (b : ℕ) (o : Option ℕ) → b < 48 → FitsBound o → lacks b (bound_text o) ≡ true
+bound_lacks b None low h = refl
+bound_lacks b (Some n) low h = decimal_lacks b n low h
+
+bound_read : (o : Option ℕ) → FitsBound o → bound_of (bound_text o) ≡ Some o
+unfolding bound_of
+bound_read None h = refl
+bound_read (Some n) h =
+    let some : eqb (length (decimal n)) 0 ≡ false = grind (arith, nat_tests, decimal_nonempty n h) in
+    rw (some, number_read n h) refl
+
+pub range_read : (r : Range) → FitsBound r.0 → FitsBound r.1 → range_of (bound_text r.0 ++ (codes ".." ++ bound_text r.1)) ≡ Some r
+unfolding range_of bounds_of
+range_read r h k =
+    rw (
+      found_at 46 (bound_text r.0) (46 ∷ bound_text r.1) (bound_lacks 46 r.0 (omega arith) h),
+      second_dot (bound_text r.0) (bound_text r.1),
+      take-append_seam (bound_text r.0) (46 ∷ 46 ∷ bound_text r.1),
+      drop-append-add (bound_text r.0) (46 ∷ 46 ∷ bound_text r.1) 2,
+      bound_read r.0 h,
+      bound_read r.1 k,
+    ) refl
+
+-- ---- flags and letters
+
+pub flag_lacks : (e : Bool) → lacks 32 (flag_text e) ≡ true
+flag_lacks true = refl
+flag_lacks false = refl
+
+pub flag_read : (e : Bool) → flag_of (flag_text e) ≡ Some e
+unfolding flag_of
+flag_read true = refl
+flag_read false = refl
+
+pub letters_lack : (es : List End) → lacks 32 (map letter es) ≡ true
+letters_lack [] = refl
+letters_lack (Front ∷ es) = letters_lack es
+letters_lack (Back ∷ es) = letters_lack es
+
+letters_from : (es : List End) → ends_from (map letter es) ≡ Some es
+unfolding ends_from end_of
+letters_from [] = refl
+letters_from (Front ∷ es) = rw (letters_from es) refl
+letters_from (Back ∷ es) = rw (letters_from es) refl
+
+pub letters_read : (es : List End) → 0 < length es → ends_of (map letter es) ≡ Some es
+unfolding ends_of
+letters_read [] h = absurd (omega arith)
+letters_read (e ∷ es) h = letters_from (e ∷ es)
+
+pub fronts_lack : (n : ℕ) → lacks 32 (replicate n 102) ≡ true
+fronts_lack zero = refl
+fronts_lack (suc n) = fronts_lack n
+
+are_fronts : (n : ℕ) → list_all (λ c. eqb c 102) (replicate n 102) ≡ true
+are_fronts zero = refl
+are_fronts (suc n) = are_fronts n
+
+pub fronts_read : (n : ℕ) → 0 < n → fronts_of (replicate n 102) ≡ Some n
+unfolding fronts_of
+fronts_read n h = rw (length-replicate {A = ℕ} n 102, lt-ltb 0 n h, are_fronts n) refl
