@@ -1,7 +1,9 @@
 //! The texts of replies.
 
 use bitcommands::commands::{Refusal, Reply};
+use fixedbitset::{FixedBitSet, JsonFault};
 use std::alloc::{AllocError, Global};
+use std::cmp::Ordering;
 use std::process::Abort;
 use std::test::Fail;
 
@@ -17,7 +19,9 @@ fn assert_text(
     reply.push_text(&mut output)?;
     let printed = format!(in alloc; ">{reply}")?;
     assert_eq!(rt; printed.as_bytes(), output.as_slice());
-    assert_eq!(rt; &output.as_slice()[1..], text.as_bytes());
+    let bytes = output.as_slice();
+    assert!(rt; !bytes.is_empty());
+    assert_eq!(rt; &bytes[1..], text.as_bytes());
     Ok(())
 }
 
@@ -43,7 +47,13 @@ fn a_reply_prints_one_text_both_ways(rt: HostRuntime) -> Result<(), Fail> {
         (Reply::Done, "ok"),
         (Reply::Bool(true), "true"),
         (Reply::Bool(false), "false"),
+        (Reply::Position(Some(70)), "70"),
+        (Reply::Position(None), "none"),
+        (Reply::Refused(Refusal::Greatest), "F4 position too great"),
         (Reply::Refused(Refusal::Limit), "F7 length above the limit"),
+        (Reply::Order(Ordering::Less), "less"),
+        (Reply::Order(Ordering::Equal), "equal"),
+        (Reply::Order(Ordering::Greater), "greater"),
     ] {
         assert_text(&rt, rt.alloc(), &reply, text)?;
     }
@@ -59,5 +69,52 @@ fn items_print_one_text_both_ways(rt: HostRuntime) -> Result<(), Fail> {
     items.push(None)?;
     assert_text(&rt, alloc, &Reply::Items(items), "70 70 none")?;
     assert_text(&rt, alloc, &Reply::Items(Vec::new(alloc)), "")?;
+    Ok(())
+}
+
+#[test]
+fn words_print_one_text_both_ways(rt: HostRuntime) -> Result<(), Fail> {
+    let alloc = rt.alloc();
+    let mut words = vec![in alloc; 0; 2]?;
+    words.push(u64::MAX)?;
+    assert_text(&rt, alloc, &Reply::Words(words), "0 0 18446744073709551615")?;
+    assert_text(&rt, alloc, &Reply::Words(Vec::new(alloc)), "-")?;
+    Ok(())
+}
+
+#[test]
+fn faults_of_json_print_one_text_both_ways(rt: HostRuntime) -> Result<(), Fail> {
+    for (fault, text) in [
+        (JsonFault::Shape, "F5 J1"),
+        (JsonFault::Count, "F5 J2"),
+        (JsonFault::NoLength, "F5 J3"),
+        (JsonFault::NoData, "F5 J4"),
+        (JsonFault::Key, "F5 J5"),
+        (JsonFault::Length, "F5 J6"),
+        (JsonFault::Data, "F5 J7"),
+        (JsonFault::Item(0), "F5 J8 0"),
+        (JsonFault::Item(1_000_000), "F5 J8 1000000"),
+    ] {
+        let reply = Reply::Refused(Refusal::Json(fault));
+        assert_text(&rt, rt.alloc(), &reply, text)?;
+    }
+    Ok(())
+}
+
+#[test]
+fn texts_and_values_print_one_text_both_ways(rt: HostRuntime) -> Result<(), Fail> {
+    let alloc = rt.alloc();
+    let mut set = FixedBitSet::with_capacity(alloc, 10)?;
+    assert!(rt; set.range_is_valid(&(2..4)));
+    set.insert_range(2..4);
+    let text = Reply::Text(set.to_string(alloc)?);
+    assert_text(&rt, alloc, &text, "0011000000")?;
+    let value = Reply::Value(set.to_value(alloc)?);
+    assert_text(
+        &rt,
+        alloc,
+        &value,
+        r#"{"data":[12,0,0,0,0,0,0,0],"length":10}"#,
+    )?;
     Ok(())
 }

@@ -4,9 +4,15 @@
 #[cfg(test)]
 mod calls;
 #[cfg(test)]
+mod json;
+#[cfg(test)]
+mod json_sessions;
+#[cfg(test)]
 mod program;
 #[cfg(test)]
 mod sessions;
+#[cfg(test)]
+mod set_sessions;
 #[cfg(test)]
 mod streams;
 #[cfg(test)]

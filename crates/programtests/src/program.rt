@@ -4,14 +4,14 @@ ghost use Rattle.std.specs.Prelude.{IfOk};
 ghost use Rattle.bitlines.specs.Output.{IsOutput};
 
 use crate::streams::{Calls, Failure, Sink, Source};
-use crate::{sessions, walk_sessions};
+use crate::{sessions, set_sessions, walk_sessions};
 use bitlines::program::{RunFault, run_text, status};
 use std::alloc::{AllocError, Global};
 use std::process::Abort;
 use std::test::Fail;
 
 // What the program writes for an input.
-fn output_of(alloc: Global, input: &[u8]) -> Result<Vec<u8>, Fail>
+pub fn output_of(alloc: Global, input: &[u8]) -> Result<Vec<u8>, Fail>
     ensures { IfOk result (λ output. IsOutput input.now output.items) }
 {
     let mut reader = input;
@@ -21,7 +21,12 @@ fn output_of(alloc: Global, input: &[u8]) -> Result<Vec<u8>, Fail>
 }
 
 // The program writes this output for that input, also byte by byte.
-fn assert_output(rt: &impl Abort, alloc: Global, input: &str, output: &str) -> Result<(), Fail> {
+pub fn assert_output(
+    rt: &impl Abort,
+    alloc: Global,
+    input: &str,
+    output: &str,
+) -> Result<(), Fail> {
     let written = output_of(alloc, input.as_bytes())?;
     assert_eq!(rt; written.as_slice(), output.as_bytes());
     let calls = Calls::new();
@@ -34,7 +39,7 @@ fn assert_output(rt: &impl Abort, alloc: Global, input: &str, output: &str) -> R
 }
 
 // The program answers these lines by these replies.
-fn assert_replies(rt: &impl Abort, alloc: Global, rows: &[(&str, &str)]) -> Result<(), Fail> {
+pub fn assert_replies(rt: &impl Abort, alloc: Global, rows: &[(&str, &str)]) -> Result<(), Fail> {
     let mut input = String::new(alloc);
     let mut output = String::new(alloc);
     for (line, reply) in rows {
@@ -54,6 +59,24 @@ fn runs_of_commands(rt: HostRuntime) -> Result<(), Fail> {
     assert_replies(&rt, rt.alloc(), &sessions::FIRST)?;
     assert_replies(&rt, rt.alloc(), &sessions::GROWTH)?;
     assert_replies(&rt, rt.alloc(), &sessions::MADE_AGAIN)
+}
+
+#[test]
+fn sets_made_and_copied(rt: HostRuntime) -> Result<(), Fail> {
+    assert_replies(&rt, rt.alloc(), &set_sessions::MADE)?;
+    assert_replies(&rt, rt.alloc(), &set_sessions::BLOCKS)
+}
+
+#[test]
+fn sets_looked_at_and_changed(rt: HostRuntime) -> Result<(), Fail> {
+    assert_replies(&rt, rt.alloc(), &set_sessions::LOOKS)?;
+    assert_replies(&rt, rt.alloc(), &set_sessions::CHANGED)
+}
+
+#[test]
+fn items_taken_in(rt: HostRuntime) -> Result<(), Fail> {
+    assert_replies(&rt, rt.alloc(), &set_sessions::TAKEN_IN)?;
+    assert_replies(&rt, rt.alloc(), &set_sessions::NO_COMMANDS)
 }
 
 #[test]

@@ -5,6 +5,16 @@
 #[cfg(test)]
 mod callers;
 #[cfg(test)]
+mod extends;
+#[cfg(test)]
+mod json;
+#[cfg(test)]
+mod keys;
+#[cfg(test)]
+mod making;
+#[cfg(test)]
+mod questions;
+#[cfg(test)]
 mod ranges;
 #[cfg(test)]
 mod spans;

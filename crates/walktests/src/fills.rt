@@ -8,7 +8,7 @@ use fixedbitset::FixedBitSet;
 use std::alloc::{AllocError, Global};
 
 /// Takes the free slots from the first on, one a turn.
-#[tactic(auto, using(fixedbitset::specs::BitsFacts::facts, fixedbitset::specs::FillFacts::falls))]
+#[tactic(auto, using(fixedbitset::specs::BitsFacts::facts, fixedbitset::specs::SizeFacts::falls))]
 pub fn fill(set: &mut FixedBitSet)
     ensures length { set.new.length ≡ set.old.length }
     ensures full { (p : ℕ) → p < set.new.length → model.contains set.new p ≡ true }
@@ -19,7 +19,7 @@ pub fn fill(set: &mut FixedBitSet)
 }
 
 /// Follows `next` from `start` until a node comes again, and answers it.
-#[tactic(auto, using(fixedbitset::specs::BitsFacts::facts, fixedbitset::specs::FillFacts::falls))]
+#[tactic(auto, using(fixedbitset::specs::BitsFacts::facts, fixedbitset::specs::SizeFacts::falls))]
 pub fn first_again(visited: &mut FixedBitSet, next: &[usize], start: usize) -> usize
     requires nodes { length next.now ≡ visited.old.length }
     requires starts { start < visited.old.length }
@@ -35,7 +35,7 @@ pub fn first_again(visited: &mut FixedBitSet, next: &[usize], start: usize) -> u
 }
 
 /// The nodes that are reached from `start`: a node is set as it is put on the list of those to do.
-#[tactic(auto, using(fixedbitset::specs::BitsFacts::facts, fixedbitset::specs::FillFacts::falls, crate::proofs::FillLemmas::contains_stays))]
+#[tactic(auto, using(fixedbitset::specs::BitsFacts::facts, fixedbitset::specs::SizeFacts::falls, crate::proofs::FillLemmas::contains_stays))]
 pub fn reached(alloc: Global, edges: &[Vec<usize>], start: usize) -> Result<FixedBitSet, AllocError>
     requires { start < length edges.now }
     ensures nodes { IfOk result (λ visited. visited.length ≡ length edges.now) }
