@@ -81,7 +81,7 @@ calls! {
     insert_range toggle_range count_ones contains_all_in_range contains_any_in_range
     union_with intersect_with intersect_with_short difference_with symmetric_difference_with
     union_count intersection_count difference_count symmetric_difference_count
-    is_disjoint is_subset is_superset bitand bitor bitxor contains put grow
+    is_disjoint is_subset is_superset maximum eq cmp bitand bitor bitxor contains put grow
 }
 
 /// The words of a set of so many positions, with those from `start` up to and without `end`.
@@ -177,7 +177,7 @@ macro_rules! full {
     };
 }
 
-const WHOLE: [Call; 20] = [
+const WHOLE: [Call; 23] = [
     change!("insert_range(..)", insert_range, |bits, set, _| {
         loops::insert_range(set, 0, bits)
     }),
@@ -231,6 +231,9 @@ const WHOLE: [Call; 20] = [
     full!("is_superset", is_superset, |_, set, other| {
         loops::none_and_not(set, other)
     }),
+    call!("maximum, of the first 64", maximum, One),
+    call!("==, of equal sets", eq, One),
+    call!("cmp, of equal sets", cmp, One),
     call!("bitand", bitand, One),
     call!("bitor", bitor, One),
     call!("bitxor", bitxor, One),

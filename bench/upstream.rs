@@ -94,6 +94,9 @@ question!(symmetric_difference_count, bits => bits / 2, bits / 2, |set, other| {
 question!(is_disjoint, bits => bits / 2, bits / 2, |set, other| set.is_disjoint(other));
 question!(is_subset, bits => bits, 0, |set, other| set.is_subset(other));
 question!(is_superset, bits => bits, 0, |set, other| other.is_superset(set));
+question!(maximum, bits => 64, bits, |set, _other| set.maximum().unwrap_or(0));
+question!(eq, bits => bits, 0, |set, other| set == other);
+question!(cmp, bits => bits, 0, |set, other| set.cmp(other).is_eq());
 question!(bitand, bits => bits / 2, bits / 2, |set, other| (set & other).contains(0));
 question!(bitor, bits => bits / 2, bits / 2, |set, other| (set | other).contains(0));
 question!(bitxor, bits => bits / 2, bits / 2, |set, other| (set ^ other).contains(0));

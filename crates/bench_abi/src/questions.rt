@@ -1,7 +1,8 @@
 //! Calls that ask a set or make a new one, under C names, each made for so many rounds.
 
-ghost use Rattle.std.specs.Prelude.{◌≡◌, ℕ, ◌-◌, ◌/◌, ◌^◌, ◌<◌, ◌≤◌, ◌==◌, cond, min, IsTrue, IfOk};
-ghost use Rattle.fixedbitset.specs.Bits.{Bits, contains};
+ghost use Rattle.std.specs.Prelude.{◌≡◌, ℕ, ◌-◌, ◌/◌, ◌^◌, ◌<◌, ◌≤◌, ◌==◌, cond, min, unwrap_or, IsTrue, IfOk};
+ghost use Rattle.fixedbitset.specs.Bits.{Bits, contains, maximum};
+ghost use Rattle.fixedbitset.specs.Order.{equal};
 ghost use Rattle.fixedbitset.specs.Ranges as ranges;
 ghost use Rattle.fixedbitset.specs.TwoSets as sets;
 ghost use Rattle.bench_abi.specs.Rounds.{filled, lower, upper, full, how_many};
@@ -9,6 +10,7 @@ ghost use Rattle.bench_abi.specs.Rounds.{filled, lower, upper, full, how_many};
 use crate::sets::{REFUSED, filled};
 use fixedbitset::FixedBitSet;
 use std::alloc::{AllocError, Global};
+use std::cmp::Ordering;
 
 /// A call that asks a set.
 trait Question {
@@ -115,6 +117,44 @@ impl Question for IsSuperset {
     #[inline(never)]
     fn ask(set: &FixedBitSet, other: &FixedBitSet) -> usize {
         usize::from(other.is_superset(set))
+    }
+}
+
+struct Maximum;
+
+impl Question for Maximum {
+    ghost Answers = { λ v w answer. answer ≡ unwrap_or (maximum v) 0 };
+
+    #[inline(never)]
+    fn ask(set: &FixedBitSet, _other: &FixedBitSet) -> usize {
+        set.maximum().unwrap_or(0)
+    }
+}
+
+/// `==`.
+struct Equal;
+
+impl Question for Equal {
+    ghost Answers = { λ v w answer. (answer == 1) ≡ equal v w };
+
+    #[inline(never)]
+    fn ask(set: &FixedBitSet, other: &FixedBitSet) -> usize {
+        usize::from(set == other)
+    }
+}
+
+/// `cmp`: 1 where it answers that the sets are equal.
+struct Compare;
+
+impl Question for Compare {
+    ghost Answers = { λ v w answer. answer ≡ 1 → v ≡ w };
+
+    #[inline(never)]
+    fn ask(set: &FixedBitSet, other: &FixedBitSet) -> usize {
+        match set.cmp(other) {
+            Ordering::Equal => 1,
+            Ordering::Less | Ordering::Greater => 0,
+        }
     }
 }
 
@@ -316,6 +356,33 @@ pub extern "C" fn sets_is_superset(alloc: Global, bits: usize, rounds: usize) ->
     ensures { result < 2 ^ 64 - 1 → (result == 1) ≡ sets.is_subset (full bits) (full bits) }
 {
     asked::<IsSuperset>(alloc, bits, bits, 0, rounds).unwrap_or(REFUSED)
+}
+
+/// `maximum`, of the first 64 positions: 0 where there is none.
+#[unsafe(no_mangle)]
+pub extern "C" fn sets_maximum(alloc: Global, bits: usize, rounds: usize) -> usize
+    requires { 64 ≤ bits }
+    ensures { result < 2 ^ 64 - 1 → result ≡ unwrap_or (maximum (filled bits 0 64)) 0 }
+{
+    asked::<Maximum>(alloc, bits, 64, bits, rounds).unwrap_or(REFUSED)
+}
+
+/// `==`, of all positions and all: 1 where it answers `true`.
+#[unsafe(no_mangle)]
+pub extern "C" fn sets_eq(alloc: Global, bits: usize, rounds: usize) -> usize
+    requires { 64 ≤ bits }
+    ensures { result < 2 ^ 64 - 1 → (result == 1) ≡ equal (full bits) (full bits) }
+{
+    asked::<Equal>(alloc, bits, bits, 0, rounds).unwrap_or(REFUSED)
+}
+
+/// `cmp`, of all positions and all: 1 where it answers that they are equal.
+#[unsafe(no_mangle)]
+pub extern "C" fn sets_cmp(alloc: Global, bits: usize, rounds: usize) -> usize
+    requires { 64 ≤ bits }
+    ensures { result < 2 ^ 64 - 1 → result ≡ 1 → full bits ≡ full bits }
+{
+    asked::<Compare>(alloc, bits, bits, 0, rounds).unwrap_or(REFUSED)
 }
 
 /// `contains_any_in_range(64..)`, of the first 64 positions: 1 where it answers `true`.
