@@ -44,11 +44,12 @@ unfolding has_bit
 none_in_word ws p k at clear = ap (λ j. bit (slice_index ws j) (p % 64)) at ∙ ap (λ b. b == 1) clear
 
 module _ (ws : List ℕ) where
-  abbrev row : List ℕ
-  row = ascending (has_bit ws) 0 (64 * length ws)
+  -- the positions of the row, in ascending order
+  abbrev positions : List ℕ
+  positions = ascending (has_bit ws) 0 (64 * length ws)
 
   -- the lowest bit of the first word that is not 0 is the first position
-  pub first_position : (k j : ℕ) → IsFirstOne ws k → IsLowestBit (slice_index ws k) j → slice_get row 0 ≡ Some (64 * k + j)
+  pub first_position : (k j : ℕ) → IsFirstOne ws k → IsLowestBit (slice_index ws k) j → slice_get positions 0 ≡ Some (64 * k + j)
   first_position k j word low =
       let x : ℕ = 64 * k + j in
       ap (λ xs. slice_get xs 0) (ascending-first (has_bit ws) (without (has_bit ws) x) 0 (64 * length ws) x
@@ -60,7 +61,7 @@ module _ (ws : List ℕ) where
       (cases_lt (i / 64) k)))
 
   -- the highest bit of the last word that is not 0 is the last position
-  pub last_position : (k j : ℕ) → IsLastOne ws k → IsHighestBit (slice_index ws k) j → last_or None row ≡ Some (64 * k + j)
+  pub last_position : (k j : ℕ) → IsLastOne ws k → IsHighestBit (slice_index ws k) j → last_or None positions ≡ Some (64 * k + j)
   last_position k j word high =
       let x : ℕ = 64 * k + j in
       let rest = without (has_bit ws) x in
@@ -74,11 +75,11 @@ module _ (ws : List ℕ) where
       ∙ last_or-push None (ascending rest 0 (64 * length ws)) x
 
   -- zeros have no position
-  none_in_zeros : AreZeros ws → row ≡ []
+  none_in_zeros : AreZeros ws → positions ≡ []
   none_in_zeros zeros = ascending-none (has_bit ws) 0 (64 * length ws) (λ i above below. none_in_zero ws i (zeros (i / 64)))
 
-  pub no_first_position : AreZeros ws → slice_get row 0 ≡ None
+  pub no_first_position : AreZeros ws → slice_get positions 0 ≡ None
   no_first_position zeros = ap (λ xs. slice_get xs 0) (none_in_zeros zeros)
 
-  pub no_last_position : AreZeros ws → last_or None row ≡ None
+  pub no_last_position : AreZeros ws → last_or None positions ≡ None
   no_last_position zeros = ap (last_or None) (none_in_zeros zeros)
