@@ -1,5 +1,5 @@
--- how the words of a row are joined with those of another one, by one lane of four and by one word; the rest is kept
-use Rattle.std.proofs.Common.{◌≡◌, ℕ, zero, suc, ◌+◌, ◌*◌, ◌<◌, ◌≤◌, List, [], ◌∷◌, ◌++◌, length, take, get_or, slice_set, refl, ap, sym, ◌∙◌, arith, min, add-one, true, false}
+-- how the words of a row are joined with those of another one, by lanes of four and a last part; the rest is kept
+use Rattle.std.proofs.Common.{◌≡◌, ℕ, zero, suc, ◌+◌, ◌*◌, ◌≤◌, List, [], ◌∷◌, ◌++◌, length, take, refl, ap, sym, ◌∙◌, arith, min, true, false}
 use Rattle.std.specs.Simd.Lanes.{zip2, chunk, put_chunk}
 use Rattle.std.proofs.Math.Seq.{take-add}
 use Rattle.bitlanes.specs.Words.{zip_longest}
@@ -8,7 +8,7 @@ pub kept_none : (f : ℕ → ℕ → ℕ) (xs : List ℕ) → zip_longest f true
 kept_none f [] = refl
 kept_none f (x ∷ xs) = refl
 
-put_none : (i : ℕ) (xs : List ℕ) → put_chunk i xs [] ≡ xs
+pub put_none : (i : ℕ) (xs : List ℕ) → put_chunk i xs [] ≡ xs
 put_none i [] = refl
 put_none zero (x ∷ xs) = refl
 put_none (suc i) (x ∷ xs) = ap (λ t. x ∷ t) (put_none i xs)
@@ -33,18 +33,6 @@ pub kept_lane : (f : ℕ → ℕ → ℕ) (k : ℕ) (xs ys : List ℕ) → 4 * k
     → zip_longest f true false xs (take (4 * (k + 1)) ys) ≡ put_chunk (4 * k) (zip_longest f true false xs (take (4 * k) ys)) (zip2 f (chunk (4 * k) 4 (zip_longest f true false xs (take (4 * k) ys))) (chunk (4 * k) 4 ys))
 kept_lane f k xs ys p q = let e : 4 * (k + 1) ≡ 4 * k + 4 = omega arith in rw (e, take-add) (sym (kept_more f 4 (4 * k) xs ys p q))
 
-set_kept : (f : ℕ → ℕ → ℕ) (i : ℕ) (xs ys : List ℕ) → i < length xs → i < length ys
-    → slice_set (zip_longest f true false xs (take i ys)) i (f (get_or (zip_longest f true false xs (take i ys)) i 0) (get_or ys i 0)) ≡ zip_longest f true false xs (take (suc i) ys)
-set_kept f i [] ys p q = absurd (omega arith)
-set_kept f i (x ∷ xs) [] p q = absurd (omega arith)
-set_kept f zero (x ∷ xs) (y ∷ ys) p q = ap (λ t. f x y ∷ t) (sym (kept_none f xs))
-set_kept f (suc i) (x ∷ xs) (y ∷ ys) p q = ap (λ t. f x y ∷ t) (set_kept f i xs ys (omega arith) (omega arith))
-
--- one word more
-pub kept_word : (f : ℕ → ℕ → ℕ) (i : ℕ) (xs ys now : List ℕ) → now ≡ zip_longest f true false xs (take i ys) → i < length xs → i < length ys
-    → slice_set now i (f (get_or now i 0) (get_or ys i 0)) ≡ zip_longest f true false xs (take (i + 1) ys)
-kept_word f i xs ys now e p q = rw (e, add-one) (set_kept f i xs ys p q)
-
 -- what lies past the end of either is not read
 pub kept_take : (f : ℕ → ℕ → ℕ) (k : ℕ) (xs ys : List ℕ) → min (length xs) (length ys) ≤ k → zip_longest f true false xs (take k ys) ≡ zip_longest f true false xs ys
 kept_take f k [] ys p = refl
@@ -52,3 +40,11 @@ kept_take f zero (x ∷ xs) [] p = refl
 kept_take f (suc k) (x ∷ xs) [] p = refl
 kept_take f zero (x ∷ xs) (y ∷ ys) p = absurd (omega arith)
 kept_take f (suc k) (x ∷ xs) (y ∷ ys) p = ap (λ t. f x y ∷ t) (kept_take f k xs ys (omega arith))
+
+-- the last words, which are fewer than a lane
+pub kept_part : (f : ℕ → ℕ → ℕ) (k n : ℕ) (xs ys : List ℕ) → 4 * k + n ≡ min (length xs) (length ys)
+    → put_chunk (4 * k) (zip_longest f true false xs (take (4 * k) ys)) (zip2 f (chunk (4 * k) n (zip_longest f true false xs (take (4 * k) ys))) (chunk (4 * k) n ys)) ≡ zip_longest f true false xs ys
+kept_part f k n xs ys e =
+    kept_more f n (4 * k) xs ys (omega arith) (omega arith)
+    ∙ ap (zip_longest f true false xs) (sym (take-add (4 * k) n ys))
+    ∙ kept_take f (4 * k + n) xs ys (omega arith)

@@ -1,3 +1,4 @@
+pub mod Filling
 pub mod Folding
 pub mod Kept
 pub mod LowestBit

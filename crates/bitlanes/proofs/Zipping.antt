@@ -2,15 +2,15 @@
 use Rattle.std.proofs.Common.{◌≡◌, ℕ, zero, suc, ◌≤◌, Bool, List, [], ◌∷◌, length, take, drop, map, min, replicate, sum_by, refl, sym, ap, ◌∙◌, arith, ◌+◌}
 use Rattle.std.specs.List.{list_all}
 use Rattle.std.specs.Simd.Lanes.{zip2, chunk}
-use Rattle.std.proofs.lemmas.List.{take_all, drop-map, take-map, length-take-le, length-drop}
-use Rattle.std.proofs.lemmas.Simd.{zip2_splat_left}
+use Rattle.std.proofs.lemmas.List.{take_all, drop-map, take-map}
+use Rattle.std.proofs.lemmas.Simd.{zip2_splat_left, length-chunk}
 
 pub zip2_map_right : {X Y Z V : Type 0} (f : X → Z → V) (g : Y → Z) → (xs : List X) (ys : List Y) → zip2 f xs (map g ys) ≡ zip2 (λ x y. f x (g y)) xs ys
 zip2_map_right f g [] ys = refl
 zip2_map_right f g (x ∷ xs) [] = refl
 zip2_map_right f g (x ∷ xs) (y ∷ ys) = ap (λ zs. f x (g y) ∷ zs) (zip2_map_right f g xs ys)
 
-length_joined : (f : ℕ → ℕ → ℕ) (xs ys : List ℕ) → length (zip2 f xs ys) ≡ min (length xs) (length ys)
+pub length_joined : (f : ℕ → ℕ → ℕ) (xs ys : List ℕ) → length (zip2 f xs ys) ≡ min (length xs) (length ys)
 length_joined f [] ys = omega arith
 length_joined f (x ∷ xs) [] = omega arith
 length_joined f (x ∷ xs) (y ∷ ys) = let e = length_joined f xs ys in omega arith
@@ -45,7 +45,7 @@ pub all_joined : (f : ℕ → ℕ → ℕ) (p : ℕ → Bool) (k : ℕ) (xs ys :
 all_joined f p k xs ys e = ap (list_all p) (take_joined f k xs ys e)
 
 -- one word joined with each word of a chunk
-pub chunk_masked : (f : ℕ → ℕ → ℕ) (mask i : ℕ) (xs : List ℕ) → i + 4 ≤ length xs → zip2 f (replicate 4 mask) (chunk i 4 xs) ≡ chunk i 4 (map (f mask) xs)
-chunk_masked f mask i xs within =
-    zip2_splat_left f mask 4 (chunk i 4 xs) (length-take-le 4 (drop i xs) (omega (arith, length-drop i xs)))
-    ∙ sym (ap (take 4) (drop-map (f mask) i xs) ∙ take-map (f mask) 4 (drop i xs))
+pub chunk_masked : (f : ℕ → ℕ → ℕ) (mask i n : ℕ) (xs : List ℕ) → i + n ≤ length xs → zip2 f (replicate n mask) (chunk i n xs) ≡ chunk i n (map (f mask) xs)
+chunk_masked f mask i n xs within =
+    zip2_splat_left f mask n (chunk i n xs) (length-chunk i n xs within)
+    ∙ sym (ap (take n) (drop-map (f mask) i xs) ∙ take-map (f mask) n (drop i xs))

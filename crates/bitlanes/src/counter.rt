@@ -14,7 +14,7 @@ enum Tally {
 
 /// How many steps were taken: a whole number with no greatest. It takes no bytes.
 ///
-/// A step is one lane of four words, or one word, in one turn of a kernel of `lanes`.
+/// A step is one lane of four words in one turn of a kernel of `lanes`, or one word in one turn of another loop.
 #[derive(Drop)]
 pub struct Steps {
     tally: Snapshot<Tally>,

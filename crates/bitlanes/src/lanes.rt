@@ -1,28 +1,29 @@
-//! The kernels: loops over the words of one slice or of two, by lanes of four words and then by single words.
+//! The kernels: loops over the words of one slice or of two, by lanes of four words.
 //!
-//! A step is one lane of four words, or one word, in one turn of a kernel, and is counted by one tick. So `m` words
-//! take `m / 4 + m % 4` steps. The kernels and the searches of module `search` are the only loops of calls on whole
-//! sets.
+//! A step is one lane in one turn of a kernel, and is counted by one tick. Where the number of words is no multiple of
+//! four, the one to three words that are left are a lane of their own, filled with zeros, of which only these words are
+//! written back. So `m` words take `m / 4` steps, rounded up. The kernels and the searches of module `search` are the
+//! only loops of calls on whole sets.
 //!
 //! Of two slices a kernel reads as many words as the shorter one has.
-ghost use Rattle.std.specs.Prelude.{◌≡◌, ◌+◌, ◌-◌, ◌^◌, ◌<◌, ◌≤◌, ◌==◌, length, min, slice_index, sum_by, replicate, drop, map, true, false, IsTrue};
+ghost use Rattle.std.specs.Prelude.{◌≡◌, ◌+◌, ◌-◌, ◌^◌, ◌<◌, ◌≤◌, ◌==◌, length, min, slice_index, sum_by, replicate, take, map, true, false, IsTrue};
 ghost use Rattle.std.specs.List.{list_all};
 ghost use Rattle.std.specs.Int.RustNames.{count_ones};
 ghost use Rattle.std.specs.Simd.Lanes.{zip2, chunk, put_chunk};
-ghost use Rattle.bitlanes.specs.Words.{zip_longest, lane_steps};
+ghost use Rattle.bitlanes.specs.Words.{zip_longest, filled, lane_steps};
 
 use crate::ops::WordOp;
 use crate::{Block, Steps};
 use std::simd::prelude::*;
 
-// How many words a lane has.
-pub(crate) const LANE: usize = 4;
+/// How many words a lane has.
+pub const LANE: usize = 4;
 
 /// Joins each word of `dst` with the word of `src` at its place, by `O`. Words of `dst` past the end of `src` stay.
 ///
-/// It takes exactly `m / 4 + m % 4` steps, `m` being the number of words of the shorter slice.
+/// It takes exactly `m / 4` steps, rounded up, `m` being the number of words of the shorter slice.
 #[inline(always)]
-#[tactic(auto, using(crate::proofs::Kept::kept_none, crate::proofs::Kept::kept_lane, crate::proofs::Kept::kept_word, crate::proofs::Kept::kept_take))]
+#[tactic(auto, using(crate::proofs::Kept::kept_none, crate::proofs::Kept::kept_lane, crate::proofs::Kept::kept_take, crate::proofs::Kept::kept_part))]
 pub fn apply<O: WordOp>(dst: &mut [Block], src: &[Block], steps: &mut Steps)
     ensures words { dst.new ≡ zip_longest O.joined true false dst.old src.now }
     ensures cost { steps.new ≡ steps.old + lane_steps (min (length dst.old) (length src.now)) }
@@ -33,19 +34,19 @@ pub fn apply<O: WordOp>(dst: &mut [Block], src: &[Block], steps: &mut Steps)
         steps.tick();
         join_lane::<O>(dst, src, LANE * lane);
     }
-    for word in 0..words % LANE {
+    let rest = words % LANE;
+    if rest > 0 {
         steps.tick();
-        let at = LANE * lanes + word;
-        dst[at] = O::word(dst[at], src[at]);
+        join_part::<O>(dst, src, LANE * lanes, rest);
     }
 }
 
 /// How many bits are set in the words of `a` joined with those of `b` by `O`, as far as both go.
 ///
-/// It asks that this number fits `usize`, and takes exactly `m / 4 + m % 4` steps, `m` being the number of words of
+/// It asks that this number fits `usize`, and takes exactly `m / 4` steps, rounded up, `m` being the number of words of
 /// the shorter slice.
 #[inline(always)]
-#[tactic(auto, using(crate::proofs::Folding::sum_lane, crate::proofs::Folding::sum_lane_le, crate::proofs::Zipping::sum_joined))]
+#[tactic(auto, using(crate::proofs::Folding::sum_lane, crate::proofs::Folding::sum_lane_le, crate::proofs::Zipping::sum_joined, crate::proofs::Filling::sum_joined_part))]
 pub fn count<O: WordOp>(a: &[Block], b: &[Block], steps: &mut Steps) -> usize
     requires fits { sum_by count_ones (zip2 O.joined a.now b.now) < 2 ^ 64 }
     ensures ones { result ≡ sum_by count_ones (zip2 O.joined a.now b.now) }
@@ -58,19 +59,20 @@ pub fn count<O: WordOp>(a: &[Block], b: &[Block], steps: &mut Steps) -> usize
         steps.tick();
         total += ones_at::<O>(a, b, LANE * lane);
     }
-    for word in 0..words % LANE {
+    let rest = words % LANE;
+    if rest > 0 {
         steps.tick();
-        total += word_at::<O>(a, b, LANE * lanes + word).count_ones() as usize;
+        total += ones_in(joined_part_at::<O>(a, b, LANE * lanes, rest).to_array());
     }
     total
 }
 
 /// Whether no bit is set in the words of `a` joined with those of `b` by `O`, as far as both go.
 ///
-/// It stops at the first lane or word with a bit, so it takes at most `m / 4 + m % 4` steps, `m` being the number of
-/// words of the shorter slice; where it answers `true` it takes exactly as many.
+/// It stops at the first lane with a bit, so it takes at most `m / 4` steps, rounded up, `m` being the number of words
+/// of the shorter slice; where it answers `true` it takes exactly as many.
 #[inline(always)]
-#[tactic(auto, using(crate::proofs::Folding::all_lane, crate::proofs::Zipping::all_joined))]
+#[tactic(auto, using(crate::proofs::Folding::all_lane, crate::proofs::Zipping::all_joined, crate::proofs::Filling::all_joined_part))]
 pub fn none<O: WordOp>(a: &[Block], b: &[Block], steps: &mut Steps) -> bool
     ensures zero { result ≡ list_all (λ word. word == 0) (zip2 O.joined a.now b.now) }
     ensures cost { steps.new ≤ steps.old + lane_steps (min (length a.now) (length b.now)) }
@@ -84,18 +86,17 @@ pub fn none<O: WordOp>(a: &[Block], b: &[Block], steps: &mut Steps) -> bool
             return false;
         }
     }
-    for word in 0..common % LANE {
+    let rest = common % LANE;
+    if rest > 0 {
         steps.tick();
-        if word_at::<O>(a, b, LANE * lanes + word) != 0 {
-            return false;
-        }
+        return is_zero(joined_part_at::<O>(a, b, LANE * lanes, rest));
     }
     true
 }
 
 /// Makes each word 0.
 ///
-/// It takes exactly `m / 4 + m % 4` steps, `m` being the number of words.
+/// It takes exactly `m / 4` steps, rounded up, `m` being the number of words.
 #[inline(always)]
 #[tactic(auto, using(crate::proofs::Folding::zeros_lane, crate::proofs::Folding::drop_put, crate::proofs::Folding::zeros_whole))]
 pub fn zero(dst: &mut [Block], steps: &mut Steps)
@@ -103,7 +104,12 @@ pub fn zero(dst: &mut [Block], steps: &mut Steps)
     ensures cost { steps.new ≡ steps.old + lane_steps (length dst.old) }
 {
     let lanes = dst.len() / LANE;
-    zero_rest(dst, LANE * lanes, steps);
+    // The rest comes first, for the loop is a call of `memset`, with no return to here.
+    let rest = dst.len() % LANE;
+    if rest > 0 {
+        steps.tick();
+        put_part(dst, LANE * lanes, rest, u64x4::splat(0));
+    }
     for lane in 0..lanes {
         steps.tick();
         u64x4::splat(0).copy_to_slice(&mut dst[LANE * lane..]);
@@ -112,9 +118,9 @@ pub fn zero(dst: &mut [Block], steps: &mut Steps)
 
 /// How many bits are set in the words.
 ///
-/// It asks that this number fits `usize`, and takes exactly `m / 4 + m % 4` steps, `m` being the number of words.
+/// It asks that this number fits `usize`, and takes exactly `m / 4` steps, rounded up, `m` being the number of words.
 #[inline(always)]
-#[tactic(auto, using(crate::proofs::Folding::sum_lane, crate::proofs::Folding::sum_lane_le))]
+#[tactic(auto, using(crate::proofs::Folding::sum_lane, crate::proofs::Folding::sum_lane_le, crate::proofs::Filling::sum_part))]
 pub fn count_one(a: &[Block], steps: &mut Steps) -> usize
     requires fits { sum_by count_ones a.now < 2 ^ 64 }
     ensures ones { result ≡ sum_by count_ones a.now }
@@ -126,19 +132,20 @@ pub fn count_one(a: &[Block], steps: &mut Steps) -> usize
         steps.tick();
         total += ones_in(u64x4::from_slice(&a[LANE * lane..]).to_array());
     }
-    for word in 0..a.len() % LANE {
+    let rest = a.len() % LANE;
+    if rest > 0 {
         steps.tick();
-        total += a[LANE * lanes + word].count_ones() as usize;
+        total += ones_in(part_at(a, LANE * lanes, rest).to_array());
     }
     total
 }
 
 /// Whether no bit is set in the words.
 ///
-/// It stops at the first lane or word with a bit, so it takes at most `m / 4 + m % 4` steps, `m` being the number of
-/// words; where it answers `true` it takes exactly as many.
+/// It stops at the first lane with a bit, so it takes at most `m / 4` steps, rounded up, `m` being the number of words;
+/// where it answers `true` it takes exactly as many.
 #[inline(always)]
-#[tactic(auto, using(crate::proofs::Folding::all_lane))]
+#[tactic(auto, using(crate::proofs::Folding::all_lane, crate::proofs::Filling::all_part))]
 pub fn none_one(a: &[Block], steps: &mut Steps) -> bool
     ensures zero { result ≡ list_all (λ word. word == 0) a.now }
     ensures cost { steps.new ≤ steps.old + lane_steps (length a.now) }
@@ -152,21 +159,20 @@ pub fn none_one(a: &[Block], steps: &mut Steps) -> bool
             return false;
         }
     }
-    for word in 0..words % LANE {
+    let rest = words % LANE;
+    if rest > 0 {
         steps.tick();
-        if a[LANE * lanes + word] != 0 {
-            return false;
-        }
+        return is_zero(part_at(a, LANE * lanes, rest));
     }
     true
 }
 
 /// Whether no bit is set in the word `mask` joined with each word of `words` by `O`.
 ///
-/// It stops at the first lane or word with a bit, so it takes at most `m / 4 + m % 4` steps, `m` being the number of
-/// words; where it answers `true` it takes exactly as many.
+/// It stops at the first lane with a bit, so it takes at most `m / 4` steps, rounded up, `m` being the number of words;
+/// where it answers `true` it takes exactly as many.
 #[inline(always)]
-#[tactic(auto, using(crate::proofs::Folding::all_lane))]
+#[tactic(auto, using(crate::proofs::Folding::all_lane, crate::proofs::Filling::all_mapped_part))]
 pub fn none_masked<O: WordOp>(mask: Block, words: &[Block], steps: &mut Steps) -> bool
     ensures zero { result ≡ list_all (λ word. word == 0) (map (O.joined mask) words.now) }
     ensures cost { steps.new ≤ steps.old + lane_steps (length words.now) }
@@ -180,36 +186,12 @@ pub fn none_masked<O: WordOp>(mask: Block, words: &[Block], steps: &mut Steps) -
             return false;
         }
     }
-    for word in 0..count % LANE {
-        steps.tick();
-        if masked_word_at::<O>(mask, words, LANE * lanes + word) != 0 {
-            return false;
-        }
-    }
-    true
-}
-
-// Makes the words from `at` on 0, at most three, by tests and no loop: a loop would be a call of `memset`.
-#[inline(always)]
-fn zero_rest(dst: &mut [Block], at: usize, steps: &mut Steps)
-    requires from { at ≤ length dst.old }
-    requires few { length dst.old < at + 4 }
-    ensures zeros { drop at dst.new ≡ replicate (length dst.old - at) 0 }
-    ensures cost { steps.new ≡ steps.old + (length dst.old - at) }
-{
-    let rest = dst.len() - at;
+    let rest = count % LANE;
     if rest > 0 {
         steps.tick();
-        dst[at] = 0;
-        if rest > 1 {
-            steps.tick();
-            dst[at + 1] = 0;
-            if rest > 2 {
-                steps.tick();
-                dst[at + 2] = 0;
-            }
-        }
+        return is_zero(masked_part_at::<O>(mask, words, LANE * lanes, rest));
     }
+    true
 }
 
 // Joins the four words of `dst` from `at` on with those of `src`.
@@ -240,15 +222,6 @@ fn masked_lane_at<O: WordOp>(mask: Block, words: &[Block], at: usize) -> u64x4
     ensures { result ≡ chunk at 4 (map (O.joined mask) words.now) }
 {
     O::lane(u64x4::splat(mask), u64x4::from_slice(&words[at..]))
-}
-
-// The mask joined with the word at `at`.
-#[inline(always)]
-fn masked_word_at<O: WordOp>(mask: Block, words: &[Block], at: usize) -> Block
-    requires { at < length words.now }
-    ensures { result ≡ slice_index (map (O.joined mask) words.now) at }
-{
-    O::word(mask, words[at])
 }
 
 // The joined word at `at`.
@@ -293,4 +266,73 @@ pub(crate) fn is_zero(lane: u64x4) -> bool
     ensures { result ≡ list_all (λ word. word == 0) lane }
 {
     lane.reduce_or() == 0
+}
+
+// The last one to three words, from `at` on, and zeros. They are read by tests, for a copy of as many words as are left
+// would be a call of `memcpy`.
+#[inline(always)]
+fn part_at(words: &[Block], at: usize, rest: usize) -> u64x4
+    requires some { 0 < rest }
+    requires few { rest < 4 }
+    requires within { at + rest ≤ length words.now }
+    ensures { result ≡ filled at rest words.now }
+{
+    let second = if rest > 1 { words[at + 1] } else { 0 };
+    let third = if rest > 2 { words[at + 2] } else { 0 };
+    u64x4::from_array([words[at], second, third, 0])
+}
+
+// Writes the first one to three words of the lane, from `at` on, by tests as `part_at` reads them.
+#[inline(always)]
+fn put_part(words: &mut [Block], at: usize, rest: usize, lane: u64x4)
+    requires some { 0 < rest }
+    requires few { rest < 4 }
+    requires within { at + rest ≤ length words.old }
+    ensures { words.new ≡ put_chunk at words.old (take rest lane) }
+{
+    let [first, second, third, _] = lane.to_array();
+    words[at] = first;
+    if rest > 1 {
+        words[at + 1] = second;
+        if rest > 2 {
+            words[at + 2] = third;
+        }
+    }
+}
+
+// Joins the last one to three words of `dst`, from `at` on, with those of `src`.
+#[inline(always)]
+fn join_part<O: WordOp>(dst: &mut [Block], src: &[Block], at: usize, rest: usize)
+    requires some { 0 < rest }
+    requires few { rest < 4 }
+    requires in_dst { at + rest ≤ length dst.old }
+    requires in_src { at + rest ≤ length src.now }
+    ensures { dst.new ≡ put_chunk at dst.old (zip2 O.joined (chunk at rest dst.old) (chunk at rest src.now)) }
+{
+    let lane = joined_part_at::<O>(dst, src, at, rest);
+    put_part(dst, at, rest, lane);
+}
+
+// The last one to three joined words, from `at` on, and zeros.
+#[inline(always)]
+fn joined_part_at<O: WordOp>(a: &[Block], b: &[Block], at: usize, rest: usize) -> u64x4
+    requires some { 0 < rest }
+    requires few { rest < 4 }
+    requires in_a { at + rest ≤ length a.now }
+    requires in_b { at + rest ≤ length b.now }
+    ensures { result ≡ filled at rest (zip2 O.joined a.now b.now) }
+{
+    O::lane(part_at(a, at, rest), part_at(b, at, rest))
+}
+
+// The mask joined with each of the last one to three words, from `at` on, and zeros. Past the words the mask is 0 too,
+// for a mask joined with 0 need not be 0.
+#[inline(always)]
+fn masked_part_at<O: WordOp>(mask: Block, words: &[Block], at: usize, rest: usize) -> u64x4
+    requires some { 0 < rest }
+    requires few { rest < 4 }
+    requires within { at + rest ≤ length words.now }
+    ensures { result ≡ filled at rest (map (O.joined mask) words.now) }
+{
+    O::lane(part_at(&[mask; LANE], 0, rest), part_at(words, at, rest))
 }

@@ -106,6 +106,39 @@ fn one_slice(rt: HostRuntime) {
     }
 }
 
+// The mask makes no bit past the words: `LEFT` has bit 2 from its word 4 on.
+#[test]
+fn masked_words(rt: HostRuntime) {
+    for m in 0..21 {
+        let shared = lanes::none_masked::<And>(4, &LEFT[..m], &mut Steps::new());
+        assert_eq!(rt; shared, m <= 4, "{m} words");
+        let either = lanes::none_masked::<Or>(4, &[0; 20][..m], &mut Steps::new());
+        assert_eq!(rt; either, m == 0, "{m} words");
+        let lacked = lanes::none_masked::<AndNot>(4, &[4; 20][..m], &mut Steps::new());
+        assert_eq!(rt; lacked, true, "{m} words");
+    }
+}
+
+// A kernel that writes works on the first `m` words alone: those behind them stay.
+#[test]
+fn words_past_the_slice_stay(rt: HostRuntime) {
+    for m in 0..21 {
+        let mut joined = [u64::MAX; 24];
+        lanes::apply::<Xor>(&mut joined[..m], &RIGHT, &mut Steps::new());
+        let mut cleared = [u64::MAX; 24];
+        lanes::zero(&mut cleared[..m], &mut Steps::new());
+        for at in 0..24 {
+            let (word, none) = if at < m {
+                (!RIGHT[at], 0)
+            } else {
+                (u64::MAX, u64::MAX)
+            };
+            assert_eq!(rt; joined[at], word, "word {at} beside {m} words");
+            assert_eq!(rt; cleared[at], none, "word {at} beside {m} words");
+        }
+    }
+}
+
 #[test]
 fn steps_take_no_bytes(rt: HostRuntime) {
     assert_eq!(rt; size_of::<Steps>(), 0);
@@ -116,10 +149,10 @@ fn apply_steps(dst: &mut [Block], src: &[Block], steps: &mut Steps)
     requires { length src.now ≡ length dst.old }
     ensures of_0 { length dst.old ≡ 0 → steps.new ≡ steps.old }
     ensures of_1 { length dst.old ≡ 1 → steps.new ≡ steps.old + 1 }
-    ensures of_3 { length dst.old ≡ 3 → steps.new ≡ steps.old + 3 }
+    ensures of_3 { length dst.old ≡ 3 → steps.new ≡ steps.old + 1 }
     ensures of_4 { length dst.old ≡ 4 → steps.new ≡ steps.old + 1 }
     ensures of_5 { length dst.old ≡ 5 → steps.new ≡ steps.old + 2 }
-    ensures of_7 { length dst.old ≡ 7 → steps.new ≡ steps.old + 4 }
+    ensures of_7 { length dst.old ≡ 7 → steps.new ≡ steps.old + 2 }
     ensures of_8 { length dst.old ≡ 8 → steps.new ≡ steps.old + 2 }
     ensures of_9 { length dst.old ≡ 9 → steps.new ≡ steps.old + 3 }
 {
@@ -131,10 +164,10 @@ fn count_steps(a: &[Block], b: &[Block], steps: &mut Steps) -> usize
     requires fits { sum_by count_ones (zip2 bit_and a.now b.now) < 2 ^ 64 }
     ensures of_0 { length a.now ≡ 0 → steps.new ≡ steps.old }
     ensures of_1 { length a.now ≡ 1 → steps.new ≡ steps.old + 1 }
-    ensures of_3 { length a.now ≡ 3 → steps.new ≡ steps.old + 3 }
+    ensures of_3 { length a.now ≡ 3 → steps.new ≡ steps.old + 1 }
     ensures of_4 { length a.now ≡ 4 → steps.new ≡ steps.old + 1 }
     ensures of_5 { length a.now ≡ 5 → steps.new ≡ steps.old + 2 }
-    ensures of_7 { length a.now ≡ 7 → steps.new ≡ steps.old + 4 }
+    ensures of_7 { length a.now ≡ 7 → steps.new ≡ steps.old + 2 }
     ensures of_8 { length a.now ≡ 8 → steps.new ≡ steps.old + 2 }
     ensures of_9 { length a.now ≡ 9 → steps.new ≡ steps.old + 3 }
 {

@@ -111,7 +111,7 @@ steps_bound false true n m = (omega arith, omega arith)
 steps_bound false false n m = (omega arith, omega arith)
 
 pub steps_of_equal : StepsOfEqual
-steps_of_equal true true n = (omega arith, omega arith)
-steps_of_equal true false n = (omega arith, omega arith)
-steps_of_equal false true n = (omega arith, omega arith)
-steps_of_equal false false n = (omega arith, omega arith)
+steps_of_equal true true n m same = (omega arith, omega arith)
+steps_of_equal true false n m same = (omega arith, omega arith)
+steps_of_equal false true n m same = (omega arith, omega arith)
+steps_of_equal false false n m same = (omega arith, omega arith)

@@ -2,7 +2,7 @@
 use Rattle.std.specs.Prelude.{◌≡◌, ℕ, ◌+◌, ◌-◌, ◌/◌, ◌≤◌, max, min, Bool, IsTrue, ◌↔◌}
 use Rattle.bitlanes.specs.Words.{lane_steps}
 use Rattle.bitwords.specs.Steps.{join_steps, both_steps}
-use Rattle.fixedbitset.specs.Bits.{Bits, contains}
+use Rattle.fixedbitset.specs.Bits.{Bits, contains, words_needed, storage_words}
 use Rattle.fixedbitset.specs.Ranges.{count_ones}
 use Rattle.fixedbitset.specs.TwoSets.{union_count, intersection_count, difference_count, symmetric_difference_count, is_subset, is_disjoint}
 
@@ -30,10 +30,12 @@ IsDisjointTells = (v w : Bits) → IsTrue (is_disjoint v w) ↔ ((p : ℕ) → I
 abbrev pub most_steps : ℕ → ℕ → ℕ
 most_steps n m = min n m / 4 + 3 + ((max n m - min n m) / 4 + 3)
 
--- no call over two sets takes more steps
+-- no call over two sets of these lengths takes more steps than suffice over their words
 abbrev pub StepsBound : Type 0
-StepsBound = (keep take : Bool) (n m : ℕ) → (join_steps keep n m ≤ most_steps n m) × (both_steps keep take n m ≤ most_steps n m)
+StepsBound = (keep take : Bool) (n m : ℕ) → (join_steps keep (storage_words n) (storage_words m) ≤ most_steps (words_needed n) (words_needed m))
+    × (both_steps keep take (storage_words n) (storage_words m) ≤ most_steps (words_needed n) (words_needed m))
 
--- over as many words each takes those of one kernel
+-- where both lengths need as many words, each takes the steps of one kernel over them
 abbrev pub StepsOfEqual : Type 0
-StepsOfEqual = (keep take : Bool) (n : ℕ) → (join_steps keep n n ≡ lane_steps n) × (both_steps keep take n n ≡ lane_steps n)
+StepsOfEqual = (keep take : Bool) (n m : ℕ) → words_needed n ≡ words_needed m → (join_steps keep (storage_words n) (storage_words m) ≡ lane_steps (words_needed n))
+    × (both_steps keep take (storage_words n) (storage_words m) ≡ lane_steps (words_needed n))

@@ -99,8 +99,9 @@ pub fn tests_of_two_sets()
     ensures disjoint { IsDisjointTells }
 {}
 
-/// With `m` words that both sets have and `t` that only the longer has a call over two sets takes at most `m / 4 + 3`
-/// steps for the first and `t / 4 + 3` for the second; over as many words, `m` each, exactly `m / 4 + m % 4`.
+/// With `m` words that both lengths need and `t` that only the longer needs, a call over two sets takes at most
+/// `m / 4 + 3` steps for the first and `t / 4 + 3` for the second. Over as many words, `m` each, it takes exactly `m / 4`,
+/// rounded up.
 pub fn steps_of_two_sets()
     ensures bound { StepsBound }
     ensures equal { StepsOfEqual }

@@ -1,4 +1,4 @@
--- The words of a row joined with those of another one: the rest is kept, or cleared.
+-- The words of a row joined with those of another one: the rest is kept, or cleared. And a row whose rest is made 0.
 use Rattle.std.proofs.Common.{◌≡◌, ℕ, zero, suc, ◌-◌, ◌*◌, ◌/◌, ◌%◌, ◌<◌, ◌≤◌, Bool, true, false, ◌&&◌, ◌==◌, List, [], ◌∷◌, ◌++◌, take, drop, length, get_or, replicate, refl, sym, ap, ◌∙◌, arith, ⊎_elim, ◌⊎◌}
 use Rattle.std.proofs.lemmas.Bool.{cases_lt}
 use Rattle.std.proofs.lemmas.List.{get_or_append_left, get_or-append_right, get_or-take, length-append, length-take-le, length-drop, length-replicate, get_or-replicate}
@@ -9,6 +9,34 @@ use Rattle.bitlanes.specs.Words.{zip_longest}
 use Rattle.bitwords.specs.Rows.{has_bit, IsJoined}
 use Rattle.bitlanes.specs.Ops.{IsWordOp}
 use Rattle.bitwords.specs.RowFacts.{AreWords, has_bit-past}
+
+-- ---- a row whose words from word k on are made 0
+module _ (row zeros : List ℕ) (k : ℕ) (inside : k ≤ length row) (are : zeros ≡ replicate (length row - k) 0) where
+  abbrev pub cut_row : List ℕ
+  cut_row = put_mid k (length row - k) row zeros
+
+  front : length (take k row) ≡ k
+  front = length-take-le k row inside
+
+  middle : length zeros ≡ length row - k
+  middle = ap length are ∙ length-replicate (length row - k) 0
+
+  pub length-cut_row : length cut_row ≡ length row
+  length-cut_row =
+      let rest : List ℕ = post_of k (length row - k) row in
+      let none : length rest ≡ 0 = length-drop (length row - k) (drop k row) ∙ (let e = length-drop k row in omega arith) in
+      length-append (take k row) (zeros ++ rest) ∙ (let e = length-append zeros rest in let f = front in let m = middle in omega arith)
+
+  pub get_or-cut_row_below : (i : ℕ) → i < k → get_or cut_row i 0 ≡ get_or row i 0
+  get_or-cut_row_below i l = get_or_append_left (take k row) _ 0 i (let f = front in omega arith) ∙ get_or-take k row i 0 l
+
+  pub get_or-cut_row_from : (i : ℕ) → k ≤ i → i < length row → get_or cut_row i 0 ≡ 0
+  get_or-cut_row_from i l h =
+      let m = middle in
+      get_or-append_right (take k row) _ k i 0 front l
+      ∙ get_or_append_left zeros (post_of k (length row - k) row) 0 (i - k) (omega arith)
+      ∙ ap (λ z. get_or z (i - k) 0) are
+      ∙ get_or-replicate (length row - k) (i - k) 0 0 (omega arith)
 
 pub length-kept : (f : ℕ → ℕ → ℕ) (xs ys : List ℕ) → length (zip_longest f true false xs ys) ≡ length xs
 length-kept f [] ys = refl
@@ -63,16 +91,11 @@ module _ {f : ℕ → ℕ → ℕ} {t : Bool → Bool → Bool} {keep take_right
   IsJoined-zeroed zeros gone shorter are =
       let m : List ℕ = zip_longest f true false xs ys in
       let long : length m ≡ length xs = length-kept f xs ys in
-      let k : ℕ = length ys in
-      let rest : List ℕ = post_of k (length m - k) m in
-      let front : length (take k m) ≡ k = length-take-le k m (omega arith) in
-      let middle : length zeros ≡ length m - k = ap length are ∙ length-replicate (length m - k) 0 in
-      let none : length rest ≡ 0 = length-drop (length m - k) (drop k m) ∙ (let e = length-drop k m in omega arith) in
-      let low : (i : ℕ) → i < k → get_or (put_mid k (length m - k) m zeros) i 0 ≡ get_or m i 0 = λ j l. get_or_append_left (take k m) _ 0 j (omega arith) ∙ get_or-take k m j 0 l in
-      let high : (i : ℕ) → k ≤ i → i < length m → get_or (put_mid k (length m - k) m zeros) i 0 ≡ 0 = λ j l h.
-      get_or-append_right (take k m) _ k j 0 front l ∙ get_or_append_left zeros rest 0 (j - k) (omega arith) ∙ ap (λ z. get_or z (j - k) 0) are ∙ get_or-replicate (length m - k) (j - k) 0 0 (omega arith) in
+      let within : length ys ≤ length m = omega arith in
+      let low = get_or-cut_row_below m zeros (length ys) within are in
+      let high = get_or-cut_row_from m zeros (length ys) within are in
       record {
-        long = length-append (take k m) (zeros ++ rest) ∙ (let e = length-append zeros rest in omega arith);
+        long = length-cut_row m zeros (length ys) within are ∙ long;
         bits = λ p h. ⊎_elim
             (λ (lt : p / 64 < length ys). has_bit-both _ p (low _ lt) h lt)
             (λ (ge : length ys ≤ p / 64). zero_at _ p (high (p / 64) ge (omega arith)) ∙ sym (has_bit-only p ge ∙ ap (λ b. b && has_bit xs p) gone))

@@ -1,14 +1,15 @@
 -- Words joined with the positions of a range, part by part.
-use Rattle.std.proofs.Common.{◌≡◌, ◌≢◌, ℕ, ◌+◌, ◌*◌, ◌/◌, ◌%◌, ◌^◌, ◌<◌, ◌≤◌, Bool, true, false, ◌&&◌, nat_lt, List, length, get_or, set, bit_and, refl, sym, ap, ◌∙◌, arith, ◌⊎◌, inl, inr, ⊎_elim}
-use Rattle.std.proofs.lemmas.Bool.{cases_lt, cases_eq, lt-ltb}
+use Rattle.std.proofs.Common.{◌≡◌, ◌≢◌, ℕ, ◌+◌, ◌*◌, ◌/◌, ◌%◌, ◌^◌, ◌<◌, ◌≤◌, Bool, true, false, ◌&&◌, nat_lt, List, length, get_or, set, bit_and, ◌-◌, replicate, refl, sym, ap, ◌∙◌, arith, ◌⊎◌, inl, inr, ⊎_elim}
+use Rattle.std.proofs.lemmas.Bool.{cases_lt, cases_eq, lt-ltb, le-ltb, and_right}
 use Rattle.std.proofs.lemmas.Bool.Decides.{nat_tests}
 use Rattle.std.proofs.lemmas.List.{get_or-set_same, get_or-set_other, length-set}
-use Rattle.std.specs.Int.{div_ceil}
 use Rattle.bitlanes.specs.BitLaws.{bit-and}
 use Rattle.bitlanes.specs.Bits.{bit}
 use Rattle.bitlanes.specs.Ops.{IsWordOp}
 use Rattle.bitwords.specs.Rows.{has_bit, in_range, IsJoined}
-use Rattle.bitwords.specs.RowFacts.{AreWords, before_range, past_range}
+use Rattle.bitwords.specs.RowFacts.{AreWords, bit-zero, before_range, past_range}
+use Rattle.bitwords.proofs.Cleared.{length-cut_row, get_or-cut_row_below, get_or-cut_row_from}
+use borrow.Rule.Slice.PartMut.{put_mid}
 
 same_end : (start middle end p : ℕ) → p < middle → middle ≤ end → in_range start middle p ≡ in_range start end p
 same_end start middle end p h le = grind (arith, nat_tests)
@@ -75,8 +76,8 @@ module _ {f : ℕ → ℕ → ℕ} {t : Bool → Bool → Bool} {keep take : Boo
 pub IsJoined-same : {t : Bool → Bool → Bool} (old new : List ℕ) (c d : ℕ → Bool) → ((p : ℕ) → c p ≡ d p) → IsJoined t old c new → IsJoined t old d new
 IsJoined-same {t} old new c d same done = record { long = done.long; bits = λ p h. done.bits p h ∙ ap (t (has_bit old p)) (same p) }
 
--- ---- the positions from one on cleared, which stands in the last word or past it
-module _ (old : List ℕ) (start : ℕ) (short : length old ≤ div_ceil start 64) where
+-- ---- the positions from one on cleared
+module _ (old : List ℕ) (start : ℕ) where
   stays_before : (b : Bool) (p : ℕ) → p < start → b ≡ (b && nat_lt p start)
   stays_before true p h = sym (lt-ltb p start h)
   stays_before false p h = refl
@@ -84,19 +85,47 @@ module _ (old : List ℕ) (start : ℕ) (short : length old ≤ div_ceil start 6
   pub IsJoined_all_before : length old ≤ start / 64 → IsJoined (λ x y. x && y) old (λ p. nat_lt p start) old
   IsJoined_all_before past = record { long = refl; bits = λ p h. stays_before (has_bit old p) p (omega arith) }
 
-  pub IsJoined_cut : (mask : ℕ) → start / 64 < length old → ((i : ℕ) → bit mask i ≡ nat_lt i (start % 64)) → IsJoined (λ x y. x && y) old (λ p. nat_lt p start) (set old (start / 64) (bit_and (get_or old (start / 64) 0) mask))
-  unfolding has_bit
-  IsJoined_cut mask inside masked = record {
-    long = length-set old (start / 64) _;
-    bits = λ p h. ⊎_elim
-        (λ (at : p / 64 ≡ start / 64).
-        let same : nat_lt (p % 64) (start % 64) ≡ nat_lt p start = grind (arith, nat_tests) in
-        ap (λ j. bit (get_or (set old (start / 64) (bit_and (get_or old (start / 64) 0) mask)) j 0) (p % 64)) at
-        ∙ ap (λ w. bit w (p % 64)) (get_or-set_same old (start / 64) (bit_and (get_or old (start / 64) 0) mask) 0 inside)
-        ∙ bit-and (get_or old (start / 64) 0) mask (p % 64)
-        ∙ (let a : bit (get_or old (start / 64) 0) (p % 64) ≡ has_bit old p = ap (λ j. bit (get_or old j 0) (p % 64)) (sym at) in let b = masked (p % 64) ∙ same in λ i. a i && b i))
-        (λ (other : p / 64 ≢ start / 64).
-        ap (λ w. bit w (p % 64)) (get_or-set_other old (start / 64) (p / 64) (bit_and (get_or old (start / 64) 0) mask) 0 other)
-        ∙ stays_before (has_bit old p) p (omega arith))
-        (cases_eq (p / 64) (start / 64));
-  }
+  -- the word of the position is masked, and those behind it are made 0
+  module _ (mask : ℕ) (zeros : List ℕ) (inside : start / 64 < length old) (masked : (i : ℕ) → bit mask i ≡ nat_lt i (start % 64)) where
+    abbrev word : ℕ
+    word = bit_and (get_or old (start / 64) 0) mask
+
+    abbrev row : List ℕ
+    row = set old (start / 64) word
+
+    same_length : length row ≡ length old
+    same_length = length-set old (start / 64) word
+
+    within : start / 64 + 1 ≤ length row
+    within = let e = same_length in omega arith
+
+    module _ (are : zeros ≡ replicate (length row - (start / 64 + 1)) 0) where
+      abbrev pub new : List ℕ
+      new = put_mid (start / 64 + 1) (length row - (start / 64 + 1)) row zeros
+
+      below : (i : ℕ) → i < start / 64 + 1 → get_or new i 0 ≡ get_or row i 0
+      below = get_or-cut_row_below row zeros (start / 64 + 1) within are
+
+      pub IsJoined_cut : IsJoined (λ x y. x && y) old (λ p. nat_lt p start) new
+      unfolding has_bit
+      IsJoined_cut = record {
+        long = length-cut_row row zeros (start / 64 + 1) within are ∙ same_length;
+        bits = λ p h. ⊎_elim
+            (λ (at : p / 64 ≡ start / 64).
+            let same : nat_lt (p % 64) (start % 64) ≡ nat_lt p start = grind (arith, nat_tests) in
+            ap (λ j. bit (get_or new j 0) (p % 64)) at
+            ∙ ap (λ w. bit w (p % 64)) (below (start / 64) (omega arith) ∙ get_or-set_same old (start / 64) word 0 inside)
+            ∙ bit-and (get_or old (start / 64) 0) mask (p % 64)
+            ∙ (let a : bit (get_or old (start / 64) 0) (p % 64) ≡ has_bit old p = ap (λ j. bit (get_or old j 0) (p % 64)) (sym at) in let b = masked (p % 64) ∙ same in λ i. a i && b i))
+            (λ (other : p / 64 ≢ start / 64).
+            ⊎_elim
+            (λ (lt : p / 64 < start / 64).
+            ap (λ w. bit w (p % 64)) (below (p / 64) (omega arith) ∙ get_or-set_other old (start / 64) (p / 64) word 0 other)
+            ∙ stays_before (has_bit old p) p (omega arith))
+            (λ (ge : start / 64 ≤ p / 64).
+            ap (λ w. bit w (p % 64)) (get_or-cut_row_from row zeros (start / 64 + 1) within are (p / 64) (omega arith) (let e = same_length in omega arith))
+            ∙ bit-zero (p % 64)
+            ∙ sym (and_right (has_bit old p) _ (le-ltb p start (omega arith))))
+            (cases_lt (p / 64) (start / 64)))
+            (cases_eq (p / 64) (start / 64));
+      }

@@ -1,7 +1,7 @@
 -- How many numbers below a bound pass a test, for those who count positions.
-use Rattle.std.proofs.Common.{◌≡◌, ◌≢◌, ℕ, zero, suc, ◌+◌, ◌<◌, ◌≤◌, ◌-◌, Bool, true, false, cond, ◌&&◌, nat_lt, [], ◌∷◌, ◌++◌, count_by, refl, ap, ◌∙◌, arith, ⊎_elim}
+use Rattle.std.proofs.Common.{◌≡◌, ℕ, zero, suc, ◌+◌, ◌<◌, ◌≤◌, ◌-◌, Bool, true, false, cond, ◌&&◌, nat_lt, [], ◌∷◌, ◌++◌, count_by, refl, ap, ◌∙◌, arith}
 use Rattle.std.specs.List.{range_with_len}
-use Rattle.std.proofs.lemmas.Bool.{cases_eq, cases_Bool, le-leb, lt-ltb, and_from, false_from_ne_true, leb-true}
+use Rattle.std.proofs.lemmas.Bool.{le-leb, lt-ltb, and_from, false_from_ne_true, leb-true}
 use Rattle.std.proofs.lemmas.List.Sums.{sum_by-append}
 use Rattle.bitwords.specs.Rows.{count_below, in_range}
 

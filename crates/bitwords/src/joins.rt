@@ -14,8 +14,8 @@ use bitlanes::{Block, Steps, lanes};
 
 /// Joins each position of `words` with that of `other` by `O`.
 ///
-/// With `m` words that both have and `t` that only `words` has it takes exactly `m / 4 + m % 4` steps, and
-/// `t / 4 + t % 4` more where the rest is cleared.
+/// With `m` words that both have and `t` that only `words` has it takes exactly `m / 4` steps, rounded up, and `t / 4`,
+/// rounded up, more where the rest is cleared.
 #[inline(always)]
 pub fn join<O: WordOp>(words: &mut [Block], other: &[Block], steps: &mut Steps)
     ensures bits { IsJoined O.truth words.old (has_bit other.now) words.new }
@@ -30,8 +30,8 @@ pub fn join<O: WordOp>(words: &mut [Block], other: &[Block], steps: &mut Steps)
 
 /// How many positions are set in `a` joined with `b` by `O`. It asks that this number fits `usize`.
 ///
-/// With `m` words that both have and `t` that only the longer has it takes exactly `m / 4 + m % 4` steps, and
-/// `t / 4 + t % 4` more where these count.
+/// With `m` words that both have and `t` that only the longer has it takes exactly `m / 4` steps, rounded up, and
+/// `t / 4`, rounded up, more where these count.
 #[inline(always)]
 pub fn count<O: WordOp>(a: &[Block], b: &[Block], steps: &mut Steps) -> usize
     requires fits { count_below (bits_test O.truth a.now b.now) (64 * max (length a.now) (length b.now)) < 2 ^ 64 }
@@ -43,8 +43,8 @@ pub fn count<O: WordOp>(a: &[Block], b: &[Block], steps: &mut Steps) -> usize
 
 /// Whether `count` is 0, whether or not it fits `usize`.
 ///
-/// It stops at the first lane or word that decides, so it takes at most the steps of `count`; where it answers `true` it
-/// takes exactly as many.
+/// It stops at the first lane that decides, so it takes at most the steps of `count`; where it answers `true` it takes
+/// exactly as many.
 #[inline(always)]
 pub fn none<O: WordOp>(a: &[Block], b: &[Block], steps: &mut Steps) -> bool
     ensures none { result ≡ (count_below (bits_test O.truth a.now b.now) (64 * max (length a.now) (length b.now)) == 0) }

@@ -1,12 +1,12 @@
 //! Single positions of a row of words, the first and the last of them, and those from one position on.
 ghost use Rattle.std.specs.Prelude.{◌≡◌, ◌*◌, ◌^◌, ◌≤◌, ◌&&◌, nat_lt, length, slice_get, None};
-ghost use Rattle.std.specs.Int.{div_ceil};
 ghost use Rattle.std.specs.List.{last_or};
 ghost use Rattle.bitwords.specs.Ascending.{ascending};
 ghost use Rattle.bitwords.specs.Rows.{has_bit, IsJoined};
 
 use bitlanes::search::{first_one, last_one};
 use bitlanes::word::{BITS, Block, highest_bit, lowest_bit, ones_below};
+use bitlanes::{Steps, lanes};
 
 /// Whether the position is set in the words: `false` past their end. It looks at one word.
 #[inline]
@@ -47,16 +47,14 @@ pub fn last(words: &[Block]) -> Option<usize>
     Some(BITS * at + highest_bit(words[at]))
 }
 
-/// Clears each position of the row from `start` on. It writes one word at most.
-///
-/// The row may have no more words than `start` positions need.
+/// Clears each position of the row from `start` on. It writes the word of `start` and those behind it.
 #[inline]
 pub fn clear_from(words: &mut [Block], start: usize)
-    requires { length words.old ≤ div_ceil start 64 }
     ensures { IsJoined (λ x y. x && y) words.old (λ p. nat_lt p start) words.new }
 {
     let at = start / BITS;
     if at < words.len() {
         words[at] &= ones_below(start % BITS);
+        lanes::zero(&mut words[at + 1..], &mut Steps::new());
     }
 }

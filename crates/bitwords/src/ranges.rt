@@ -53,8 +53,8 @@ pub fn count<O: WordOp>(words: &[Block], start: usize, end: usize, steps: &mut S
 /// Whether `count` is 0.
 ///
 /// It stops at the first lane or word that decides, so it takes at most `search_steps`: one step for each lane of four of
-/// the words that are wholly in the range, and one for each other word that holds a position of it. Where it answers
-/// `true` it takes exactly as many.
+/// the words that are wholly in the range, the last of which may have fewer, and one for each other word that holds a
+/// position of it. Where it answers `true` it takes exactly as many.
 #[inline(always)]
 pub fn none<O: WordOp>(words: &[Block], start: usize, end: usize, steps: &mut Steps) -> bool
     requires drops { O.TAKE ≡ false }

@@ -10,7 +10,7 @@ use Rattle.bitlanes.specs.BitLaws.{bit-and}
 use Rattle.bitwords.specs.CountFacts.{indicator}
 use Rattle.bitwords.specs.Rows.{has_bit, IsJoined}
 use Rattle.bitwords.specs.RowFacts.{AreWords, bit-zero, has_bit-past, has_bit-same}
-use Rattle.fixedbitset.specs.Bits.{Bits, contains, empty, is_clear, set_block, words_needed, words, of_words}
+use Rattle.fixedbitset.specs.Bits.{Bits, contains, empty, is_clear, set_block, storage_words, words, of_words}
 use Rattle.fixedbitset.specs.BitsFacts.{same_bits, last_holds}
 use Rattle.fixedbitset.specs.NumbersFacts.{same_truth}
 use Rattle.fixedbitset.specs.Stored.{IsClean}
@@ -38,7 +38,7 @@ stays true b e = sym e
 stays false b e = refl
 
 -- words with no bit past the length, of which the old ones may have some
-module _ (n : ℕ) (fits : n < 2 ^ 64) (old new : List ℕ) (long : length old ≡ words_needed n) (done : IsJoined (λ x y. x && y) old (λ p. nat_lt p n) new) where
+module _ (n : ℕ) (fits : n < 2 ^ 64) (old new : List ℕ) (long : length old ≡ storage_words n) (done : IsJoined (λ x y. x && y) old (λ p. nat_lt p n) new) where
   has_bit-cut : (p : ℕ) → has_bit new p ≡ (has_bit old p && nat_lt p n)
   has_bit-cut p =
       ⊎_elim
@@ -57,13 +57,13 @@ module _ (n : ℕ) (fits : n < 2 ^ 64) (old new : List ℕ) (long : length old �
       ∙ sym (contains-of_words n old p))
 
   -- the items, and 0 for each word that none came for
-  pub of_filled : (items : List ℕ) → old ≡ items ++ drop (length items) (replicate (words_needed n) 0) → of_words n new ≡ of_words n items
+  pub of_filled : (items : List ℕ) → old ≡ items ++ drop (length items) (replicate (storage_words n) 0) → of_words n new ≡ of_words n items
   of_filled items filled =
-      let is : old ≡ items ++ replicate (words_needed n - length items) 0 = filled ∙ ap (λ rest. items ++ rest) (drop-zeros (length items) (words_needed n)) in
+      let is : old ≡ items ++ replicate (storage_words n - length items) 0 = filled ∙ ap (λ rest. items ++ rest) (drop-zeros (length items) (storage_words n)) in
       of-cut
       ∙ same_bits _ _ (length-of_words n old ∙ sym (length-of_words n items)) (λ p.
       contains-of_words n old p
-      ∙ ap (λ b. b && nat_lt p n) (ap (λ ws. has_bit ws p) is ∙ has_bit-same _ items (get_or-zeros items (words_needed n - length items)) p)
+      ∙ ap (λ b. b && nat_lt p n) (ap (λ ws. has_bit ws p) is ∙ has_bit-same _ items (get_or-zeros items (storage_words n - length items)) p)
       ∙ sym (contains-of_words n items p))
 
 -- ---- one word alone
@@ -72,7 +72,7 @@ pub viewed_index : (n : ℕ) (ws : List ℕ) (v : Bits) (index : ℕ) → of_wor
 viewed_index n ws v index view clean within = omega (arith, clean.count, length-words v, viewed_length n ws v view)
 
 pub viewed_start : (n : ℕ) (ws : List ℕ) (v : Bits) (index : ℕ) → of_words n ws ≡ v → IsClean n ws → index < length (words v) → 64 * index ≤ n
-viewed_start n ws v index view clean within = omega (arith, clean.count, viewed_index n ws v index view clean within)
+viewed_start n ws v index view clean within = omega (arith, length-words v, viewed_length n ws v view)
 
 -- the word is written with the bits alone that stand below the length
 module _ (n : ℕ) (ws : List ℕ) (v : Bits) (index value mask : ℕ) (view : of_words n ws ≡ v) (clean : IsClean n ws) (within : index < length (words v)) (masked : (i : ℕ) → bit mask i ≡ nat_lt i (min (n - 64 * index) 64)) where
@@ -118,7 +118,7 @@ module _ (n : ℕ) (ws : List ℕ) (v : Bits) (index value mask : ℕ) (view : o
 
 -- each word is made 0
 module _ (n : ℕ) (ws old new : List ℕ) (clean : IsClean n ws) (read : old ≡ ws) (zeroed : new ≡ replicate (length old) 0) where
-  are_zeros : new ≡ zeros (words_needed n)
+  are_zeros : new ≡ zeros (storage_words n)
   are_zeros = zeroed ∙ ap zeros (ap length read ∙ clean.count)
 
   pub IsClean_zeroed : IsClean n new

@@ -6,7 +6,7 @@ use Rattle.std.proofs.lemmas.List.{append-nil, get_or-append_right, get_or_appen
 use Rattle.std.proofs.lemmas.Nat.Bits.{bit_at-zero}
 use Rattle.bitwords.specs.Rows.{has_bit}
 use Rattle.bitwords.specs.RowFacts.{has_bit-same}
-use Rattle.fixedbitset.specs.Bits.{Bits, empty, grow, words_needed, of_words}
+use Rattle.fixedbitset.specs.Bits.{Bits, empty, grow, words_needed, storage_words, of_words}
 use Rattle.fixedbitset.specs.BitsFacts.{same_bits, contains-grow, length-grow, contains-empty, length-empty}
 use Rattle.fixedbitset.specs.Stored.{IsClean}
 use Rattle.fixedbitset.proofs.Values.{length-of_words}
@@ -31,7 +31,7 @@ get_or-zeros ws j i =
     (cases_lt i (length ws))
 
 -- the words mean the same
-module _ (n m : ℕ) (ws new : List ℕ) (clean : IsClean n ws) (fits : m < 2 ^ 64) (longer : n ≤ m) (long : length new ≡ words_needed m) (same : (p : ℕ) → has_bit new p ≡ has_bit ws p) where
+module _ (n m : ℕ) (ws new : List ℕ) (clean : IsClean n ws) (fits : m < 2 ^ 64) (longer : n ≤ m) (long : length new ≡ storage_words m) (same : (p : ℕ) → has_bit new p ≡ has_bit ws p) where
   pub IsClean-longer : IsClean m new
   IsClean-longer = record { fits = fits; count = long; tail = λ p past. same p ∙ clean.tail p (omega arith) }
 
@@ -45,26 +45,26 @@ has_bit-zeros ws j p = has_bit-same (ws ++ zeros j) ws (get_or-zeros ws j) p
 
 -- what `lengthen` leaves
 module _ (n m : ℕ) (ws : List ℕ) (v : Bits) (new : List ℕ) (len needed : ℕ) where
-  enough : IsClean n ws → n < m → len ≡ length ws → needed ≡ words_needed m → len ≤ needed
+  enough : IsClean n ws → n < m → len ≡ length ws → needed ≡ storage_words m → len ≤ needed
   enough clean longer same_len same_needed = omega (arith, clean.count)
 
-  length-new : IsClean n ws → n < m → len ≡ length ws → needed ≡ words_needed m → new ≡ ws ++ replicate (needed - len) 0 → length new ≡ words_needed m
+  length-new : IsClean n ws → n < m → len ≡ length ws → needed ≡ storage_words m → new ≡ ws ++ replicate (needed - len) 0 → length new ≡ storage_words m
   length-new clean longer same_len same_needed items =
       let fits : len ≤ needed = enough clean longer same_len same_needed in
       ap length items ∙ length-append ws _ ∙ ap (λ x. length ws + x) (length-replicate (needed - len) 0) ∙ omega arith
 
-  pub IsClean_longer : IsClean n ws → m < 2 ^ 64 → n < m → len ≡ length ws → needed ≡ words_needed m → new ≡ ws ++ replicate (needed - len) 0 → IsClean m new
+  pub IsClean_longer : IsClean n ws → m < 2 ^ 64 → n < m → len ≡ length ws → needed ≡ storage_words m → new ≡ ws ++ replicate (needed - len) 0 → IsClean m new
   IsClean_longer clean below longer same_len same_needed items =
       IsClean-longer n m ws new clean below (omega arith) (length-new clean longer same_len same_needed items) (λ p. ap (λ xs. has_bit xs p) items ∙ has_bit-zeros ws (needed - len) p)
 
-  pub of_longer : of_words n ws ≡ v → IsClean n ws → m < 2 ^ 64 → n < m → len ≡ length ws → needed ≡ words_needed m → new ≡ ws ++ replicate (needed - len) 0 → of_words m new ≡ grow v m
+  pub of_longer : of_words n ws ≡ v → IsClean n ws → m < 2 ^ 64 → n < m → len ≡ length ws → needed ≡ storage_words m → new ≡ ws ++ replicate (needed - len) 0 → of_words m new ≡ grow v m
   of_longer view clean below longer same_len same_needed items =
       of-longer n m ws new clean below (omega arith) (length-new clean longer same_len same_needed items) (λ p. ap (λ xs. has_bit xs p) items ∙ has_bit-zeros ws (needed - len) p)
       ∙ ap (λ w. grow w m) view
 
   -- room for as many words as there are is there already
-  pub room : of_words n ws ≡ v → IsClean n ws → len ≡ length ws → (cap : ℕ) → len ≤ cap → needed ≡ words_needed m → words_needed m ≤ words_needed v.length → needed ≤ cap
-  room view clean same_len cap within same_needed needs = let e : n ≡ v.length = viewed_length n ws v view in let f : words_needed v.length ≡ length ws = ap words_needed (sym e) ∙ sym clean.count in omega arith
+  pub room : of_words n ws ≡ v → IsClean n ws → len ≡ length ws → (cap : ℕ) → len ≤ cap → needed ≡ storage_words m → words_needed m ≤ words_needed v.length → needed ≤ cap
+  room view clean same_len cap within same_needed needs = let e : n ≡ v.length = viewed_length n ws v view in let f : storage_words v.length ≡ length ws = ap storage_words (sym e) ∙ sym clean.count in omega arith
 
 pub grow_same : (n m : ℕ) (ws : List ℕ) (v : Bits) → of_words n ws ≡ v → m ≤ n → v ≡ grow v m
 grow_same n m ws v view h =
@@ -80,8 +80,8 @@ has_bit-none : (j p : ℕ) → has_bit (zeros j) p ≡ false
 unfolding has_bit
 has_bit-none j p = ap (λ x. bit_at x (p % 64) == 1) (get_or-none j (p / 64)) ∙ (let e : bit_at 0 (p % 64) ≡ 0 = bit_at-zero (p % 64) in ap (λ x. x == 1) e)
 
-pub IsClean_replicate : (n : ℕ) → n < 2 ^ 64 → IsClean n (replicate (words_needed n) 0)
+pub IsClean_replicate : (n : ℕ) → n < 2 ^ 64 → IsClean n (replicate (storage_words n) 0)
 IsClean_replicate n fits = record { fits = fits; count = length-replicate _ 0; tail = λ p _. has_bit-none _ p }
 
-pub of_replicate : (n : ℕ) → n < 2 ^ 64 → of_words n (replicate (words_needed n) 0) ≡ empty n
+pub of_replicate : (n : ℕ) → n < 2 ^ 64 → of_words n (replicate (storage_words n) 0) ≡ empty n
 of_replicate n fits = same_bits _ _ (length-of_words n _ ∙ sym (length-empty n)) (λ p. contains-of_clean n _ (IsClean_replicate n fits) p ∙ has_bit-none _ p ∙ sym (contains-empty n p))

@@ -4,7 +4,7 @@ use Rattle.std.proofs.Common.{nat_le, ◌≡◌, ℕ, ◌*◌, ◌<◌, ◌≤�
 use Rattle.std.proofs.lemmas.Bool.{cases_lt, cases_Bool, le-ltb, leb-true, and_left, and_right, and_parts}
 use Rattle.bitwords.specs.Rows.{has_bit, IsJoined}
 use Rattle.bitwords.specs.RowFacts.{has_bit-past}
-use Rattle.fixedbitset.specs.Bits.{Bits, contains, words_needed, of_words}
+use Rattle.fixedbitset.specs.Bits.{Bits, contains, of_words}
 use Rattle.fixedbitset.specs.BitsFacts.{same_bits, contains-past}
 use Rattle.fixedbitset.specs.Ranges.{is_valid}
 use Rattle.fixedbitset.specs.Stored.{IsClean, joined}
@@ -12,9 +12,6 @@ use Rattle.fixedbitset.proofs.Values.{contains-of_words, length-of_words, contai
 use Rattle.fixedbitset.proofs.Words.{contains-of_clean, viewed_length}
 
 -- ---- the values
-
-pub viewed_words : (n : ℕ) (ws : List ℕ) (v : Bits) → of_words n ws ≡ v → IsClean n ws → words_needed v.length ≡ length ws
-viewed_words n ws v view clean = ap words_needed (sym (viewed_length n ws v view)) ∙ sym clean.count
 
 -- what words without a bit past the length have is what the value has
 pub has_bit-of : (n : ℕ) (ws : List ℕ) (v : Bits) → of_words n ws ≡ v → IsClean n ws → (p : ℕ) → has_bit ws p ≡ contains v p

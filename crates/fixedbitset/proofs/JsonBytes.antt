@@ -12,7 +12,7 @@ use Rattle.bitwords.specs.Rows.{has_bit, IsJoined}
 use Rattle.bitjson.specs.Bytes.{word_of, byte_of, bytes_of}
 use Rattle.bitjson.specs.BytesFacts.{bit_at-word_of, bit_at-byte_of, byte_of-lt}
 use Rattle.bitjson.specs.Form.{object_of}
-use Rattle.fixedbitset.specs.Bits.{Bits, contains, of_words, words, words_needed}
+use Rattle.fixedbitset.specs.Bits.{Bits, contains, of_words, words, words_needed, storage_words}
 use Rattle.fixedbitset.specs.BitsFacts.{same_bits}
 use Rattle.fixedbitset.specs.WordsFacts.{length-having, contains-having, length-of_words, contains-of_words, number_at-lt, bit_at-number_at, length-words, get_or-words}
 use Rattle.fixedbitset.specs.Json.{of_bytes, byte, bytes, written}
@@ -21,12 +21,12 @@ use Rattle.fixedbitset.proofs.Blocks.{of_filled}
 -- words of bytes mean what the bytes mean
 module _ (bs : List ℕ) (small : (j : ℕ) → get_or bs j 0 < 256) (n : ℕ) where
   abbrev made : List ℕ
-  made = map (word_of bs) (range_with_len 0 (words_needed n))
+  made = map (word_of bs) (range_with_len 0 (storage_words n))
 
   has_bit-made : (p : ℕ) → p < n → has_bit made p ≡ bit (get_or bs (p / 8) 0) (p % 8)
   unfolding has_bit
   has_bit-made p lt =
-      let at : get_or made (p / 64) 0 ≡ word_of bs (p / 64) = get_or-map-range_with_len (word_of bs) 0 (words_needed n) (p / 64) (p / 64) 0 (omega arith) (omega arith) in
+      let at : get_or made (p / 64) 0 ≡ word_of bs (p / 64) = get_or-map-range_with_len (word_of bs) 0 (storage_words n) (p / 64) (p / 64) 0 (omega arith) (omega arith) in
       let place : 8 * (p / 64) + p % 64 / 8 ≡ p / 8 = omega arith in
       let low : p % 64 % 8 ≡ p % 8 = omega arith in
       ap (λ x. bit x (p % 64)) at
@@ -45,9 +45,9 @@ module _ (bs : List ℕ) (small : (j : ℕ) → get_or bs j 0 < 256) (n : ℕ) w
       ∙ sym (contains-having n _ p))
 
 -- words cut at the length mean what they meant
-pub of_cut : (n : ℕ) → n < 2 ^ 64 → (old new : List ℕ) → length old ≡ words_needed n → IsJoined (λ x y. x && y) old (λ p. nat_lt p n) new → of_words n new ≡ of_words n old
+pub of_cut : (n : ℕ) → n < 2 ^ 64 → (old new : List ℕ) → length old ≡ storage_words n → IsJoined (λ x y. x && y) old (λ p. nat_lt p n) new → of_words n new ≡ of_words n old
 of_cut n fits old new long done =
-    let none = drop_all (length old) (replicate (words_needed n) 0) (omega (arith, long, length-replicate {A = ℕ} (words_needed n) 0)) in
+    let none = drop_all (length old) (replicate (storage_words n) 0) (omega (arith, long, length-replicate {A = ℕ} (storage_words n) 0)) in
     of_filled n fits old new long done old (sym (ap (λ rest. old ++ rest) none ∙ append-nil old))
 
 -- a byte of the words of a value is that of its positions

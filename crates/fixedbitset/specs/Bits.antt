@@ -107,6 +107,10 @@ word v k = number_at v (64 * k) 64
 abbrev pub words_needed : ℕ → ℕ
 words_needed n = div_ceil n 64
 
+-- how many words a set of n positions keeps: whole lanes of four
+abbrev pub storage_words : ℕ → ℕ
+storage_words n = 4 * div_ceil (words_needed n) 4
+
 -- the words, the first 64 positions first
 unfoldable pub words : Bits → List ℕ
 words v = map (word v) (range_with_len 0 (words_needed v.length))

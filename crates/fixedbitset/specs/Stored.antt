@@ -3,12 +3,12 @@ use Rattle.std.specs.Prelude.{◌≡◌, ℕ, ◌^◌, ◌<◌, ◌≤◌, Bool,
 use Rattle.std.specs.FinSet as set
 use Rattle.bitwords.specs.Rows.{has_bit}
 use Rattle.fixedbitset.specs.Numbers.{numbers_between}
-use Rattle.fixedbitset.specs.Bits.{Bits, pair, having, contains, words_needed}
+use Rattle.fixedbitset.specs.Bits.{Bits, pair, having, contains, storage_words}
 
--- a length that a usize holds, as many words as it needs, and no bit past it
+-- a length that a usize holds, whole lanes of words for it, and no bit past it
 pub record IsClean (n : ℕ) (ws : List ℕ) : Type 0 where
   pub fits : n < 2 ^ 64
-  pub count : length ws ≡ words_needed n
+  pub count : length ws ≡ storage_words n
   pub tail : (p : ℕ) → n ≤ p → has_bit ws p ≡ false
 
 -- ---- what all changes share, and all questions: a second value, which may be that of a range

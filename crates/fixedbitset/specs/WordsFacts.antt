@@ -5,7 +5,7 @@ use Rattle.std.specs.Int.{bit_at}
 use Rattle.std.proofs.lemmas.Bool.{cases_lt, cases_eq, cases_Bool, true≢false, lt-ltb, le-ltb, eq-eqb, ne_eqb, and_right, and_from, and_parts, ltb-true, leb-true}
 use Rattle.std.proofs.lemmas.Bool.Decides.{nat_tests}
 use Rattle.std.proofs.lemmas.List.Elements.{filter-append}
-use Rattle.std.proofs.lemmas.List.{get_or-set_same, get_or-set_other}
+use Rattle.std.proofs.lemmas.List.{get_or-set_same, get_or-set_other, get_or_past}
 use Rattle.std.proofs.lemmas.List.Sums.{sum_by-append}
 use Rattle.std.proofs.lemmas.List.FromFn.{length-map-range_with_len, get_or-map-range_with_len}
 use Rattle.std.proofs.lemmas.Nat.Bits.{bit_at_cat_low, bit_at_cat_high, bit_at-zero, bit_at-lt, bit_at_above}
@@ -14,6 +14,7 @@ use Rattle.std.proofs.Math.Nat.{pow-suc}
 use Rattle.bitlanes.specs.Bits.{bit}
 use Rattle.bitwords.specs.CountFacts.{indicator, range-push}
 use Rattle.bitwords.specs.Rows.{has_bit}
+use Rattle.bitwords.specs.RowFacts.{AreWords, has_bit-past}
 use Rattle.fixedbitset.specs.Numbers.{numbers_below, contains-numbers_below}
 use Rattle.fixedbitset.specs.NumbersFacts.{contains-kept}
 use Rattle.fixedbitset.specs.Bits.{Bits, contains, asc, number_at, word, words, words_needed, having, of_words, set_block}
@@ -185,16 +186,31 @@ same_digits true false e = absurd (omega arith)
 same_digits false true e = absurd (omega arith)
 same_digits false false e = refl
 
-pub has_bit-words : (v : Bits) (p : ℕ) → p < v.length → has_bit (words v) p ≡ contains v p
-has_bit-words v p h =
+has_bit-words_in : (v : Bits) (p : ℕ) → p / 64 < words_needed v.length → has_bit (words v) p ≡ contains v p
+has_bit-words_in v p h =
     let at : 64 * (p / 64) + p % 64 ≡ p = omega arith in
     let low : p % 64 < 64 = omega arith in
     same_digits _ _ (
     ap (λ q. indicator (has_bit (words v) q)) (sym at)
     ∙ indicator-has_bit (words v) (p / 64) (p % 64) low
-    ∙ ap (λ w. bit_at w (p % 64)) (get_or-words v (p / 64) (omega arith))
+    ∙ ap (λ w. bit_at w (p % 64)) (get_or-words v (p / 64) h)
     ∙ bit_at-number_at v (64 * (p / 64)) 64 (p % 64) low
     ∙ ap (λ q. indicator (contains v q)) at)
+
+-- the words have the positions of the value, and no other
+pub has_bit-words : (v : Bits) (p : ℕ) → has_bit (words v) p ≡ contains v p
+has_bit-words v p =
+    ⊎_elim
+    (λ (lt : p / 64 < words_needed v.length). has_bit-words_in v p lt)
+    (λ (ge : words_needed v.length ≤ p / 64). has_bit-past (words v) p (omega (arith, length-words v)) ∙ sym (contains-past v p (omega arith)))
+    (cases_lt (p / 64) (words_needed v.length))
+
+pub are_words : (v : Bits) → AreWords (words v)
+are_words v k =
+    ⊎_elim
+    (λ (lt : k < words_needed v.length). rw (get_or-words v k lt) (number_at-lt v (64 * k) 64))
+    (λ (ge : words_needed v.length ≤ k). rw (get_or_past (words v) k 0 (omega (arith, length-words v))) (pow_pos 64))
+    (cases_lt k (words_needed v.length))
 
 -- the value of the words of a value is that value
 pub of_words-words : (v : Bits) → of_words v.length (words v) ≡ v
@@ -202,7 +218,7 @@ of_words-words v =
     same_bits _ _ (length-of_words _ _) (λ p.
     contains-of_words v.length (words v) p
     ∙ ⊎_elim
-    (λ (lt : p < v.length). ap (λ b. b && nat_lt p v.length) (has_bit-words v p lt) ∙ last_holds true (contains v p) _ (λ _. lt-ltb _ _ lt))
+    (λ (lt : p < v.length). ap (λ b. b && nat_lt p v.length) (has_bit-words v p) ∙ last_holds true (contains v p) _ (λ _. lt-ltb _ _ lt))
     (λ (ge : v.length ≤ p). and_right (has_bit (words v) p) _ (le-ltb _ _ ge) ∙ sym (contains-past v p ge))
     (cases_lt p v.length))
 
@@ -232,7 +248,7 @@ contains-set_block v index value p inside =
     contains-of_words v.length (set (words v) index value) p
     ∙ ap (λ b. b && nat_lt p v.length) (has_bit-written (words v) index value p (omega (arith, length-words v)))
     ∙ ⊎_elim
-    (λ (lt : p < v.length). ap (λ b. cond (p / 64 == index) (bit value (p % 64)) b && nat_lt p v.length) (has_bit-words v p lt))
+    (λ (lt : p < v.length). ap (λ b. cond (p / 64 == index) (bit value (p % 64)) b && nat_lt p v.length) (has_bit-words v p))
     (λ (ge : v.length ≤ p). and_right _ _ (le-ltb _ _ ge) ∙ sym (and_right _ _ (le-ltb _ _ ge)))
     (cases_lt p v.length)
 

@@ -62,7 +62,7 @@ impl FixedBitSet {
         requires { O.TAKE ≡ true → other.now.length ≤ self.old.length }
         ensures value { self.new ≡ joined O.truth self.old other.now }
         ensures cost { steps.new ≡ steps.old
-            + join_steps O.KEEP (model.words_needed self.old.length) (model.words_needed other.now.length) }
+            + join_steps O.KEEP (model.storage_words self.old.length) (model.storage_words other.now.length) }
     {
         let words = other.words.as_slice();
         joins::join::<O>(&mut self.words, words, steps);
@@ -89,7 +89,7 @@ impl FixedBitSet {
     pub(crate) fn count_joined<O: WordOp>(&self, other: &Self, steps: &mut Steps) -> usize
         ensures count { result ≡ count_joined O.truth self.now other.now }
         ensures cost { steps.new ≡ steps.old
-            + both_steps O.KEEP O.TAKE (model.words_needed self.now.length) (model.words_needed other.now.length) }
+            + both_steps O.KEEP O.TAKE (model.storage_words self.now.length) (model.storage_words other.now.length) }
     {
         let a = self.words.as_slice();
         let b = other.words.as_slice();
@@ -101,9 +101,9 @@ impl FixedBitSet {
     pub(crate) fn none_joined<O: WordOp>(&self, other: &Self, steps: &mut Steps) -> bool
         ensures none { result ≡ (count_joined O.truth self.now other.now == 0) }
         ensures cost { steps.new ≤ steps.old
-            + both_steps O.KEEP O.TAKE (model.words_needed self.now.length) (model.words_needed other.now.length) }
+            + both_steps O.KEEP O.TAKE (model.storage_words self.now.length) (model.storage_words other.now.length) }
         ensures whole { IsTrue result → steps.new ≡ steps.old
-            + both_steps O.KEEP O.TAKE (model.words_needed self.now.length) (model.words_needed other.now.length) }
+            + both_steps O.KEEP O.TAKE (model.storage_words self.now.length) (model.storage_words other.now.length) }
     {
         let a = self.words.as_slice();
         let b = other.words.as_slice();

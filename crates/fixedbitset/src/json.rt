@@ -5,11 +5,10 @@ ghost use Rattle.serde_json.specs.View.{view};
 ghost use Rattle.bitjson.specs.declared.fault.JsonFault.TheVariants.{Memory};
 ghost use Rattle.fixedbitset.specs.Json as json;
 
-use crate::set::FixedBitSet;
+use crate::set::{FixedBitSet, storage_words};
 pub use bitjson::JsonFault;
 use bitjson::bytes::{value_of_words, words_of_items};
 use bitjson::form::read_form;
-use bitlanes::word::BITS;
 use bitwords::positions;
 use serde_json::Value;
 use std::alloc::{AllocError, Global};
@@ -61,7 +60,7 @@ impl FixedBitSet {
         ensures err { IfErr result (λ fault. (json.meaning (view value.now) ≡ Err fault) ⊎ ((fault ≡ Memory) × IsOk (json.meaning (view value.now)))) }
     {
         let (length, items) = read_form(value)?;
-        let mut words = words_of_items(alloc, items, length.div_ceil(BITS))?;
+        let mut words = words_of_items(alloc, items, storage_words(length))?;
         positions::clear_from(&mut words, length);
         Ok(FixedBitSet { words, length })
     }

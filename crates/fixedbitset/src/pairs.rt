@@ -29,8 +29,8 @@ impl FixedBitSet {
         ensures asked { result.asked ≡ 0 }
         ensures source { result.source ≡ begun self.now }
     {
-        let words = self.words.as_slice();
-        let others = other.words.as_slice();
+        let words = self.used_words();
+        let others = other.used_words();
         Intersection::over(words, others)
     }
 
@@ -45,8 +45,8 @@ impl FixedBitSet {
         ensures asked { result.asked ≡ 0 }
         ensures source { result.source ≡ begun self.now }
     {
-        let words = self.words.as_slice();
-        let others = other.words.as_slice();
+        let words = self.used_words();
+        let others = other.used_words();
         Difference::over(words, others)
     }
 
@@ -62,8 +62,8 @@ impl FixedBitSet {
         ensures asked { result.second.asked ≡ 0 }
         ensures source { result.second.source ≡ begun other.now }
     {
-        let words = self.words.as_slice();
-        let others = other.words.as_slice();
+        let words = self.used_words();
+        let others = other.used_words();
         Union::over(words, others)
     }
 
@@ -80,8 +80,8 @@ impl FixedBitSet {
         ensures source_first { result.first.source ≡ begun self.now }
         ensures source_second { result.second.source ≡ begun other.now }
     {
-        let words = self.words.as_slice();
-        let others = other.words.as_slice();
+        let words = self.used_words();
+        let others = other.used_words();
         SymmetricDifference::over(words, others)
     }
 }

@@ -18,8 +18,8 @@ impl FixedBitSet {
         self.len() == 0
     }
 
-    /// Whether no position is set; so `true` at length 0. It stops at the first four words that have one, or at the first
-    /// of the last three.
+    /// Whether no position is set; so `true` at length 0. It looks at four words at a time, and stops at the first four
+    /// that have one.
     #[inline]
     pub fn is_clear(&self) -> bool
         ensures { result ≡ model.is_clear self.now }

@@ -1,7 +1,8 @@
 //! Ranges of positions.
 //!
-//! A range is any `IndexRange<usize>`: `..`, `start..`, `..end`, `start..end`, or a type of the caller's own. It means
-//! the positions from its start up to and without its end; an absent start stands for 0, and an absent end for `len()`.
+//! A range is any `IndexRange<usize>`: `..`, `start..`, `..end`, `start..end`, `start..=last`, `..=last`, or a type of the
+//! caller's own. It means the positions from its start up to and without its end; an absent start stands for 0, and an
+//! absent end for `len()`. The end of an inclusive range is the position behind its last one.
 //!
 //! For each call but `range_is_valid` the range must be valid: its start not past its end, and its end not past
 //! `len()`; `range_is_valid` is the test. Upstream panics on others. No call takes memory, and each looks once at

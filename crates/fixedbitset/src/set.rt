@@ -1,20 +1,21 @@
 //! The set itself: making one, growing it, its length and its words.
 
-ghost use Rattle.std.specs.Prelude.{◌≡◌, ◌<◌, ◌≤◌, ◌-◌, ◌++◌, drop, length, replicate, vec_len, IsOk, IfOk, OnOk, OnErr};
+ghost use Rattle.std.specs.Prelude.{◌≡◌, ◌<◌, ◌≤◌, ◌-◌, ◌^◌, ◌++◌, drop, length, replicate, vec_len, IsOk, IfOk, OnOk, OnErr};
 ghost use Rattle.std.specs.Vec.{vec_capacity};
 ghost use Rattle.fixedbitset.specs.Bits as model;
 ghost use Rattle.fixedbitset.specs.Blocks.{FirstItems};
 
+use bitlanes::Steps;
+use bitlanes::lanes::{self, LANE};
 use bitlanes::word::{BITS, Block, ones_below};
-use bitlanes::{Steps, lanes};
 use bitwords::positions;
 use std::alloc::{AllocError, Global};
 use std::marker::Model;
 
 /// A set of bits: a length in bits, and a set of positions below it.
 ///
-/// It holds as many words as the length needs, and bits past the length are always zero. Two sets are the same value
-/// exactly if their lengths and their positions are.
+/// It keeps the words that the length needs, and up to three more, so that they make whole lanes of four. Bits past the
+/// length are always zero. Two sets are the same value exactly if their lengths and their positions are.
 #[derive(Debug, Drop)]
 pub struct FixedBitSet {
     pub(crate) words: Vec<Block>,
@@ -48,14 +49,15 @@ impl FixedBitSet {
         }
     }
 
-    /// A set of `bits` positions, none of them set. It writes `bits / 64` words, rounded up.
+    /// A set of `bits` positions, none of them set. It writes `bits / 64` words, rounded up, and those up to a whole lane
+    /// of four.
     ///
     /// `Err` comes only where memory for the words was refused; upstream aborts there.
     pub fn with_capacity(alloc: Global, bits: usize) -> Result<Self, AllocError>
         ensures { IfOk result (λ set. set ≡ model.empty bits) }
     {
         Ok(FixedBitSet {
-            words: vec![in alloc; 0; bits.div_ceil(BITS)]?,
+            words: vec![in alloc; 0; storage_words(bits)]?,
             length: bits,
         })
     }
@@ -86,8 +88,8 @@ impl FixedBitSet {
             × FirstItems I.IntoIter.next_gives it (model.words_needed bits) (λ words. set ≡ model.of_words bits words)) }
     {
         let items = blocks.into_iter();
-        let mut words = vec![in alloc; 0; bits.div_ceil(BITS)]?;
-        fill(&mut words, items);
+        let mut words = vec![in alloc; 0; storage_words(bits)]?;
+        fill(&mut words, bits.div_ceil(BITS), items);
         positions::clear_from(&mut words, bits);
         Ok(FixedBitSet {
             words,
@@ -107,7 +109,7 @@ impl FixedBitSet {
         ensures succeeds { model.words_needed bits ≤ model.words_needed self.old.length → IsOk result }
     {
         if bits > self.length {
-            lengthen(&mut self.words, bits.div_ceil(BITS))?;
+            lengthen(&mut self.words, storage_words(bits))?;
             self.length = bits;
         }
         Ok(())
@@ -166,8 +168,18 @@ impl FixedBitSet {
     pub fn as_slice(&self) -> &[Block]
         ensures { result.now ≡ model.words self.now }
     {
+        self.used_words()
+    }
+
+    // The words that the length needs, without those behind them that make up a whole lane.
+    #[inline]
+    pub(crate) fn used_words(&self) -> &[Block]
+        ensures value { result.now ≡ model.words self.now }
+        ensures count { length result.now ≡ model.words_needed self.now.length }
+        ensures fits { self.now.length < 2 ^ 64 }
+    {
         let words = self.words.as_slice();
-        words
+        &words[..self.length.div_ceil(BITS)]
     }
 }
 
@@ -185,12 +197,21 @@ impl Clone for FixedBitSet {
     }
 }
 
-// Writes the items that come over the words from the first on, as many as there are words.
-fn fill<I: Iterator<Item = Block>>(words: &mut [Block], blocks: I)
-    requires { I.can_next blocks }
-    ensures { FirstItems I.next_gives blocks (length words.old) (λ items. words.new ≡ items ++ drop (length items) words.old) }
+// How many words a set of so many positions keeps.
+#[inline]
+pub(crate) fn storage_words(bits: usize) -> usize
+    ensures { result ≡ model.storage_words bits }
 {
-    for (at, block) in blocks.take(words.len()).enumerate() {
+    LANE * bits.div_ceil(BITS).div_ceil(LANE)
+}
+
+// Writes the items that come over the words from the first on, `count` at most.
+fn fill<I: Iterator<Item = Block>>(words: &mut [Block], count: usize, blocks: I)
+    requires items { I.can_next blocks }
+    requires within { count ≤ length words.old }
+    ensures { FirstItems I.next_gives blocks count (λ items. words.new ≡ items ++ drop (length items) words.old) }
+{
+    for (at, block) in blocks.take(count).enumerate() {
         words[at] = block;
     }
 }
@@ -210,8 +231,7 @@ fn lengthen(words: &mut Vec<Block>, count: usize) -> Result<(), AllocError>
     add_words(words, count)
 }
 
-// The same where words are added. It is never inlined, so that `grow` is short where nothing has to grow. One word more is
-// pushed, which is quicker than a resize.
+// The same where words are added. It is never inlined, so that `grow` is short where nothing has to grow.
 #[inline(never)]
 fn add_words(words: &mut Vec<Block>, count: usize) -> Result<(), AllocError>
     requires { vec_len words.old ≤ count }
@@ -219,10 +239,5 @@ fn add_words(words: &mut Vec<Block>, count: usize) -> Result<(), AllocError>
     ensures err { OnErr result (words.new.items ≡ words.old.items) }
     ensures succeeds { count ≤ vec_capacity words.old → IsOk result }
 {
-    if count == words.len() + 1 {
-        words.push(0)?;
-    } else {
-        words.resize(count, 0)?;
-    }
-    Ok(())
+    words.resize(count, 0)
 }

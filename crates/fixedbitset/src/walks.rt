@@ -11,6 +11,7 @@ ghost use Rattle.bitwords.specs.Walk.{GivesFirst, GivesLast, between_ends};
 ghost use Rattle.fixedbitset.specs.Bits as model;
 
 use crate::set::FixedBitSet;
+use bitlanes::word::BITS;
 use bitwalks::walks::{IntoOnes, Ones, Zeroes};
 
 impl FixedBitSet {
@@ -26,8 +27,7 @@ impl FixedBitSet {
         ensures turns { result.turns ≡ 0 }
         ensures taken { result.taken ≡ 0 }
     {
-        let words = self.words.as_slice();
-        Ones::over(words)
+        Ones::over(self.used_words())
     }
 
     /// The set positions, in ascending order, from a walk that owns the words of the set. It takes no memory, and reads
@@ -42,22 +42,24 @@ impl FixedBitSet {
         ensures turns { result.turns ≡ 0 }
         ensures taken { result.taken ≡ 0 }
     {
-        let FixedBitSet { words, length: _ } = self;
+        let FixedBitSet { mut words, length } = self;
+        words.truncate(length.div_ceil(BITS));
         IntoOnes::over(words)
     }
 
     /// The positions below the length that are not set, in ascending order. It takes no memory, and reads the first and
     /// the last word; those between are not yet taken.
     #[inline]
+    #[tactic(auto, using(crate::proofs::Words::viewed_length))]
     pub fn zeroes(&self) -> Zeroes<'_>
         ensures items { result.items ≡ model.asc (model.complement self.now) }
         ensures fits { length result.items < 2 ^ 64 }
         ensures runs { EachRunFrom GivesFirst result (λ run. ItemsAre run (model.asc (model.complement self.now))) }
+        ensures runs_back { EachRunFrom GivesLast result (λ run. ItemsAreReversed run (model.asc (model.complement self.now))) }
         ensures words { result.words ≡ between_ends (map (bit_not w64) (model.words self.now)) }
         ensures turns { result.turns ≡ 0 }
         ensures taken { result.taken ≡ 0 }
     {
-        let words = self.words.as_slice();
-        Zeroes::below(words, self.length)
+        Zeroes::below(self.used_words(), self.length)
     }
 }

@@ -1,7 +1,8 @@
 //! Two whole sets, of any two lengths.
 //!
-//! The words that both sets have are joined by lanes of four; the rest of the longer set is copied, cleared or left, as
-//! the operation says. Module `counted` has the same calls with a counter.
+//! A lane is four words, and a set of `n` positions has `n / 256` lanes, rounded up. The lanes that both sets have are
+//! joined; the rest of the longer set is copied, cleared or left, as the operation says. Module `counted` has the same
+//! calls with a counter.
 
 ghost use Rattle.std.specs.Prelude.{◌≡◌, ◌≤◌, IsOk, IfOk, OnOk, OnErr};
 ghost use Rattle.fixedbitset.specs.Bits as model;
@@ -17,9 +18,8 @@ impl FixedBitSet {
     /// Leaves the greater of the two lengths, and the positions of either set.
     ///
     /// `Err` comes only where `other` has more words than this set and memory for them was refused; this set is then as
-    /// it was. Where `other` needs no more words, the call takes no memory and is never refused. With `m` words that
-    /// both have and `t` that only the longer has it takes at most `m / 4 + 3` steps and `t / 4 + 3` more; new words are
-    /// written once before.
+    /// it was. Where `other` needs no more words, the call takes no memory and is never refused. It takes one step for
+    /// each lane of `other`; new words are written once before.
     pub fn union_with(&mut self, other: &Self) -> Result<(), AllocError>
         ensures ok { OnOk result (self.new ≡ sets.union self.old other.now) }
         ensures err { OnErr result (self.new ≡ self.old) }
@@ -41,8 +41,7 @@ impl FixedBitSet {
 
     /// Leaves this set's length, and the positions of both sets. It takes no memory.
     ///
-    /// With `m` words that both have and `t` that only this set has it takes `m / 4 + m % 4` steps, and
-    /// `t / 4 + t % 4` more to clear the rest.
+    /// It takes one step for each lane that both have, and one for each that only this set has, to clear it.
     pub fn intersect_with(&mut self, other: &Self)
         ensures { self.new ≡ sets.intersection self.old other.now }
     {
@@ -51,7 +50,7 @@ impl FixedBitSet {
 
     /// Leaves this set's length, and its positions that `other` lacks. It takes no memory.
     ///
-    /// With `m` words that both have it takes `m / 4 + m % 4` steps.
+    /// It takes one step for each lane that both have.
     pub fn difference_with(&mut self, other: &Self)
         ensures { self.new ≡ sets.difference self.old other.now }
     {
@@ -80,7 +79,7 @@ impl FixedBitSet {
     /// A new set of the smaller of the two lengths, with the positions of both sets.
     ///
     /// `Err` comes only where memory for its words was refused. It copies the shorter set's words and takes
-    /// `m / 4 + m % 4` steps over these `m` words. Upstream's operator `&` is this call.
+    /// one step for each of its lanes. Upstream's operator `&` is this call.
     #[tactic(auto, using(crate::proofs::JoinedValues::bitand_shorter, crate::proofs::JoinedValues::bitand_longer, crate::proofs::Words::viewed_length))]
     pub fn bitand(&self, other: &Self) -> Result<Self, AllocError>
         ensures { IfOk result (λ set. set ≡ sets.bitand self.now other.now) }
@@ -95,7 +94,7 @@ impl FixedBitSet {
     /// A new set of the greater of the two lengths, with the positions of either set.
     ///
     /// `Err` comes only where memory for its words was refused. It copies the longer set's words and takes
-    /// `m / 4 + m % 4` steps over the `m` words of the shorter. Upstream's operator `|` is this call.
+    /// one step for each lane of the shorter. Upstream's operator `|` is this call.
     #[tactic(auto, using(crate::proofs::JoinedValues::union_longer, crate::proofs::JoinedValues::union_shorter, crate::proofs::Words::viewed_length))]
     pub fn bitor(&self, other: &Self) -> Result<Self, AllocError>
         ensures { IfOk result (λ set. set ≡ sets.union self.now other.now) }
@@ -110,7 +109,7 @@ impl FixedBitSet {
     /// A new set of the greater of the two lengths, with the positions of exactly one of the sets.
     ///
     /// `Err` comes only where memory for its words was refused. It copies the longer set's words and takes
-    /// `m / 4 + m % 4` steps over the `m` words of the shorter. Upstream's operator `^` is this call.
+    /// one step for each lane of the shorter. Upstream's operator `^` is this call.
     #[tactic(auto, using(crate::proofs::JoinedValues::symmetric_difference_longer, crate::proofs::JoinedValues::symmetric_difference_shorter, crate::proofs::Words::viewed_length))]
     pub fn bitxor(&self, other: &Self) -> Result<Self, AllocError>
         ensures { IfOk result (λ set. set ≡ sets.symmetric_difference self.now other.now) }
@@ -124,8 +123,7 @@ impl FixedBitSet {
 
     /// How many positions are in either set.
     ///
-    /// With `m` words that both have and `t` that only the longer has it takes `m / 4 + m % 4` steps, and
-    /// `t / 4 + t % 4` more.
+    /// It takes one step for each lane of the longer set.
     #[inline]
     pub fn union_count(&self, other: &Self) -> usize
         ensures { result ≡ sets.union_count self.now other.now }
@@ -135,7 +133,7 @@ impl FixedBitSet {
 
     /// How many positions are in both sets.
     ///
-    /// With `m` words that both have it takes `m / 4 + m % 4` steps.
+    /// It takes one step for each lane that both have.
     #[inline]
     pub fn intersection_count(&self, other: &Self) -> usize
         ensures { result ≡ sets.intersection_count self.now other.now }
@@ -146,8 +144,7 @@ impl FixedBitSet {
     /// How many positions of this set `other` lacks. Upstream leaves out those in the words of this set past the last
     /// word of `other`, against its documentation.
     ///
-    /// With `m` words that both have and `t` that only this set has it takes `m / 4 + m % 4` steps, and
-    /// `t / 4 + t % 4` more.
+    /// It takes one step for each lane of this set.
     #[inline]
     pub fn difference_count(&self, other: &Self) -> usize
         ensures { result ≡ sets.difference_count self.now other.now }
@@ -157,8 +154,7 @@ impl FixedBitSet {
 
     /// How many positions are in exactly one of the sets.
     ///
-    /// With `m` words that both have and `t` that only the longer has it takes `m / 4 + m % 4` steps, and
-    /// `t / 4 + t % 4` more.
+    /// It takes one step for each lane of the longer set.
     #[inline]
     pub fn symmetric_difference_count(&self, other: &Self) -> usize
         ensures { result ≡ sets.symmetric_difference_count self.now other.now }
@@ -168,8 +164,7 @@ impl FixedBitSet {
 
     /// Whether no position is in both sets. The lengths are not compared.
     ///
-    /// It stops at the first lane or word with a position of both. With `m` words that both have it takes at most
-    /// `m / 4 + m % 4` steps.
+    /// It stops at the first lane with a position of both, and takes at most one step for each lane that both have.
     pub fn is_disjoint(&self, other: &Self) -> bool
         ensures { result ≡ sets.is_disjoint self.now other.now }
     {
@@ -178,8 +173,8 @@ impl FixedBitSet {
 
     /// Whether `other` has each position of this set. The lengths are not compared.
     ///
-    /// It stops at the first lane or word with a position that `other` lacks. With `m` words that both have and `t`
-    /// that only this set has it takes at most `m / 4 + m % 4` steps, and `t / 4 + t % 4` more.
+    /// It stops at the first lane with a position that `other` lacks, and takes at most one step for each lane of this
+    /// set.
     pub fn is_subset(&self, other: &Self) -> bool
         ensures { result ≡ sets.is_subset self.now other.now }
     {

@@ -6,7 +6,7 @@ use fixedbitset::{FixedBitSet, Steps, counted};
 use std::alloc::AllocError;
 use std::test::Fail;
 
-// Two sets of 7 words: one lane of four words, and three words.
+// Two sets of 7 words: a lane of four words, and one of three words and a word of zeros.
 fn unite_seven_words(
     set: &mut FixedBitSet,
     other: &FixedBitSet,
@@ -14,12 +14,12 @@ fn unite_seven_words(
 ) -> Result<(), AllocError>
     requires left { set.old.length ≡ 448 }
     requires right { other.now.length ≡ 448 }
-    ensures { steps.new ≡ steps.old + 4 }
+    ensures { steps.new ≡ steps.old + 2 }
 {
     counted::union_with(set, other, steps)
 }
 
-// Two sets of 9 words: two lanes of four words, and one word.
+// Two sets of 9 words: two lanes of four words, and one of a word and three words of zeros.
 fn unite_nine_words(
     set: &mut FixedBitSet,
     other: &FixedBitSet,

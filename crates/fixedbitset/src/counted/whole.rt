@@ -1,9 +1,9 @@
 //! Two whole sets, with a counter of steps.
 //!
-//! A step is one lane of four words, or one word, in one turn of a kernel. A change or a count takes exactly
-//! `m / 4 + m % 4` steps over the `m` words that both sets have, and `t / 4 + t % 4` over the `t` words that only one of
-//! them has, where these are cleared or counted. A comparison takes at most as many, since it stops at the first lane or
-//! word that decides; where it answers `true`, exactly. What `grow` writes is not counted.
+//! A step is one lane of four words in one turn of a kernel. A set of `n` positions has `n / 256` lanes, rounded up. A
+//! change or a count takes exactly one step for each lane that both sets have, and one for each that only one of them has,
+//! where these are cleared or counted. A comparison takes at most as many, since it stops at the first lane that decides;
+//! where it answers `true`, exactly. What `grow` writes is not counted.
 
 ghost use Rattle.std.specs.Prelude.{◌≡◌, ◌<◌, ◌≤◌, ◌+◌, IsTrue, IsOk, OnOk, OnErr, true, false};
 ghost use Rattle.bitlanes.specs.Words.{lane_steps};
@@ -69,7 +69,7 @@ pub fn symmetric_difference_with(
 pub fn intersect_with(set: &mut FixedBitSet, other: &FixedBitSet, steps: &mut Steps)
     ensures value { set.new ≡ sets.intersection set.old other.now }
     ensures cost { steps.new ≡ steps.old
-        + join_steps false (model.words_needed set.old.length) (model.words_needed other.now.length) }
+        + join_steps false (model.storage_words set.old.length) (model.storage_words other.now.length) }
 {
     set.join::<And>(other, steps);
 }
@@ -80,7 +80,7 @@ pub fn intersect_with(set: &mut FixedBitSet, other: &FixedBitSet, steps: &mut St
 pub fn difference_with(set: &mut FixedBitSet, other: &FixedBitSet, steps: &mut Steps)
     ensures value { set.new ≡ sets.difference set.old other.now }
     ensures cost { steps.new ≡ steps.old
-        + join_steps true (model.words_needed set.old.length) (model.words_needed other.now.length) }
+        + join_steps true (model.storage_words set.old.length) (model.storage_words other.now.length) }
 {
     set.join::<AndNot>(other, steps);
 }
@@ -91,7 +91,7 @@ pub fn difference_with(set: &mut FixedBitSet, other: &FixedBitSet, steps: &mut S
 pub fn union_count(set: &FixedBitSet, other: &FixedBitSet, steps: &mut Steps) -> usize
     ensures count { result ≡ sets.union_count set.now other.now }
     ensures cost { steps.new ≡ steps.old
-        + both_steps true true (model.words_needed set.now.length) (model.words_needed other.now.length) }
+        + both_steps true true (model.storage_words set.now.length) (model.storage_words other.now.length) }
 {
     set.count_joined::<Or>(other, steps)
 }
@@ -102,7 +102,7 @@ pub fn union_count(set: &FixedBitSet, other: &FixedBitSet, steps: &mut Steps) ->
 pub fn intersection_count(set: &FixedBitSet, other: &FixedBitSet, steps: &mut Steps) -> usize
     ensures count { result ≡ sets.intersection_count set.now other.now }
     ensures cost { steps.new ≡ steps.old
-        + both_steps false false (model.words_needed set.now.length) (model.words_needed other.now.length) }
+        + both_steps false false (model.storage_words set.now.length) (model.storage_words other.now.length) }
 {
     set.count_joined::<And>(other, steps)
 }
@@ -113,7 +113,7 @@ pub fn intersection_count(set: &FixedBitSet, other: &FixedBitSet, steps: &mut St
 pub fn difference_count(set: &FixedBitSet, other: &FixedBitSet, steps: &mut Steps) -> usize
     ensures count { result ≡ sets.difference_count set.now other.now }
     ensures cost { steps.new ≡ steps.old
-        + both_steps true false (model.words_needed set.now.length) (model.words_needed other.now.length) }
+        + both_steps true false (model.storage_words set.now.length) (model.storage_words other.now.length) }
 {
     set.count_joined::<AndNot>(other, steps)
 }
@@ -128,7 +128,7 @@ pub fn symmetric_difference_count(
 ) -> usize
     ensures count { result ≡ sets.symmetric_difference_count set.now other.now }
     ensures cost { steps.new ≡ steps.old
-        + both_steps true true (model.words_needed set.now.length) (model.words_needed other.now.length) }
+        + both_steps true true (model.storage_words set.now.length) (model.storage_words other.now.length) }
 {
     set.count_joined::<Xor>(other, steps)
 }
@@ -139,9 +139,9 @@ pub fn symmetric_difference_count(
 pub fn is_disjoint(set: &FixedBitSet, other: &FixedBitSet, steps: &mut Steps) -> bool
     ensures told { result ≡ sets.is_disjoint set.now other.now }
     ensures cost { steps.new ≤ steps.old
-        + both_steps false false (model.words_needed set.now.length) (model.words_needed other.now.length) }
+        + both_steps false false (model.storage_words set.now.length) (model.storage_words other.now.length) }
     ensures whole { IsTrue result → steps.new ≡ steps.old
-        + both_steps false false (model.words_needed set.now.length) (model.words_needed other.now.length) }
+        + both_steps false false (model.storage_words set.now.length) (model.storage_words other.now.length) }
 {
     set.none_joined::<And>(other, steps)
 }
@@ -152,9 +152,9 @@ pub fn is_disjoint(set: &FixedBitSet, other: &FixedBitSet, steps: &mut Steps) ->
 pub fn is_subset(set: &FixedBitSet, other: &FixedBitSet, steps: &mut Steps) -> bool
     ensures told { result ≡ sets.is_subset set.now other.now }
     ensures cost { steps.new ≤ steps.old
-        + both_steps true false (model.words_needed set.now.length) (model.words_needed other.now.length) }
+        + both_steps true false (model.storage_words set.now.length) (model.storage_words other.now.length) }
     ensures whole { IsTrue result → steps.new ≡ steps.old
-        + both_steps true false (model.words_needed set.now.length) (model.words_needed other.now.length) }
+        + both_steps true false (model.storage_words set.now.length) (model.storage_words other.now.length) }
 {
     set.none_joined::<AndNot>(other, steps)
 }

@@ -7,9 +7,3 @@ invariant-loop-lane g l = record {
   words : l.dst ≡ zip_longest g.O.WordOp.joined true false l.fn.dst (take (4 * l.lane) l.src);
   cost : l.steps ≡ l.fn.steps + l.lane;
 }
-
-abbrev pub invariant-loop-word : goal.invariant-loop-word
-invariant-loop-word g l = record {
-  words : l.dst ≡ zip_longest g.O.WordOp.joined true false l.fn.dst (take (4 * l.lanes + l.word) l.src);
-  cost : l.steps ≡ l.fn.steps + l.lanes + l.word;
-}

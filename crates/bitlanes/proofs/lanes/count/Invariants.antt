@@ -8,9 +8,3 @@ invariant-loop-lane g l = record {
   ones : l.total ≡ sum_by count_ones (take (4 * l.lane) (zip2 g.O.WordOp.joined l.a l.b));
   cost : l.steps ≡ l.fn.steps + l.lane;
 }
-
-abbrev pub invariant-loop-word : goal.invariant-loop-word
-invariant-loop-word g l = record {
-  ones : l.total ≡ sum_by count_ones (take (4 * l.lanes + l.word) (zip2 g.O.WordOp.joined l.a l.b));
-  cost : l.steps ≡ l.fn.steps + l.lanes + l.word;
-}

@@ -7,9 +7,3 @@ invariant-loop-lane l = record {
   ones : l.total ≡ sum_by count_ones (take (4 * l.lane) l.a);
   cost : l.steps ≡ l.fn.steps + l.lane;
 }
-
-abbrev pub invariant-loop-word : goal.invariant-loop-word
-invariant-loop-word l = record {
-  ones : l.total ≡ sum_by count_ones (take (4 * l.lanes + l.word) l.a);
-  cost : l.steps ≡ l.fn.steps + l.lanes + l.word;
-}

@@ -7,9 +7,3 @@ invariant-loop-lane l = record {
   zero : list_all (λ word. word == 0) (take (4 * l.lane) l.a) ≡ true;
   cost : l.steps ≡ l.fn.steps + l.lane;
 }
-
-abbrev pub invariant-loop-word : goal.invariant-loop-word
-invariant-loop-word l = record {
-  zero : list_all (λ word. word == 0) (take (4 * l.lanes + l.word) l.a) ≡ true;
-  cost : l.steps ≡ l.fn.steps + l.lanes + l.word;
-}

@@ -21,7 +21,7 @@ loop-at-preserved g c =
       words =
           ap (λ ws. set ws c.in-Some.at c.in-Some.block) (before.words ∙ ap (λ k. blocks ++ drop k old) (sym count))
           ∙ ap (λ k. set (blocks ++ drop (length blocks) old) k c.in-Some.block) (step.1 ∙ before.count ∙ sym count)
-          ∙ overwritten blocks old c.in-Some.block (omega (arith, count, step.0.1, before.room))
+          ∙ overwritten blocks old c.in-Some.block (omega (arith, count, step.0.1, before.room, c.requires.within))
           ∙ (let front = sym (map-append (λ (x : ℕ × ℕ). x.1) seen (item ∷ [])) in let rest : suc (length blocks) ≡ length (seen ++ item ∷ []) = omega (arith, count, long) in λ i. front i ++ drop (rest i) old);
     }
 

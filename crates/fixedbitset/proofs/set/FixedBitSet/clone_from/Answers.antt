@@ -1,5 +1,5 @@
 use Rattle.std.proofs.Common.{arith, ◌≤◌, ◌≡◌, ap, ◌∙◌}
-use Rattle.fixedbitset.specs.Bits.{words_needed}
+use Rattle.fixedbitset.specs.Bits.{storage_words}
 use Rattle.fixedbitset.proofs.Growth.{room}
 use Rattle.fixedbitset.proofs.Words.{viewed_length}
 use Rattle.fixedbitset.proofs.set.FixedBitSet.clone_from.Goals as goal
@@ -8,8 +8,8 @@ pub returns-in_err-resize-clause-succeeds : goal.returns-in_err-resize-clause-su
 returns-in_err-resize-clause-succeeds c =
     λ needs.
     let words = c.self.inside.words in
-    let needed : c.len.result ≡ words_needed c.args.source.now.length =
-    c.len.ensures ∙ c.source.inside.words.ok.0 ∙ c.source.invariant.count ∙ ap words_needed (viewed_length _ _ _ c.source.view_is)
+    let needed : c.len.result ≡ storage_words c.args.source.now.length =
+    c.len.ensures ∙ c.source.inside.words.ok.0 ∙ c.source.invariant.count ∙ ap storage_words (viewed_length _ _ _ c.source.view_is)
     in
     let enough : c.len.result ≤ words.cap =
     room _ c.args.source.now.length _ _ words.items _ _ c.self.view_is c.self.invariant words.ok.0 _ words.ok.1 needed needs

@@ -1,7 +1,7 @@
 use Rattle.std.proofs.Common.{◌∙◌, sym, arith}
 use Rattle.fixedbitset.proofs.JoinedCounts.{count_rows, count_rows-le}
-use Rattle.fixedbitset.proofs.JoinedWords.{viewed_words, has_bit-of, holds_all}
-use Rattle.fixedbitset.proofs.Words.{viewed_length}
+use Rattle.fixedbitset.proofs.JoinedWords.{has_bit-of, holds_all}
+use Rattle.fixedbitset.proofs.Words.{viewed_length, viewed_storage}
 use Rattle.fixedbitset.proofs.set.FixedBitSet.count_joined.Goals as goal
 
 pub count-requires : goal.count-requires
@@ -21,5 +21,5 @@ returns-clause-count g c =
 
 pub returns-clause-cost : goal.returns-clause-cost
 returns-clause-cost g c =
-    rw (viewed_words _ _ _ c.self.view_is c.self.invariant, viewed_words _ _ _ c.other.view_is c.other.invariant)
+    rw (viewed_storage _ _ _ c.self.view_is c.self.invariant, viewed_storage _ _ _ c.other.view_is c.other.invariant)
     (rw (c.as_slice-a.ensures.value, c.as_slice-b.ensures.value) at c.count.ensures.cost)

@@ -1,22 +1,22 @@
-use Rattle.std.proofs.Common.{◌≡◌, ◌<◌, ◌^◌, ℕ, not, get_or, rules, length, ap, ◌∙◌, arith}
+use Rattle.std.proofs.Common.{◌≡◌, not, length, ap, ◌∙◌, arith}
 use Rattle.bitwords.specs.WalkFacts.{runs_forwards, runs_backwards}
 use Rattle.bitwalks.specs.Pairs.{SievesFirst, SievesLast, sieve_over}
+use Rattle.fixedbitset.specs.Bits.{words}
 use Rattle.fixedbitset.specs.TwoSets.{difference}
 use Rattle.fixedbitset.specs.TwoSetsFacts.{length-difference}
 use Rattle.fixedbitset.specs.WalkFacts.{length-asc}
-use Rattle.fixedbitset.proofs.Words.{viewed_length}
-use Rattle.fixedbitset.proofs.PairRows.{slice_words, lacked_items, sieve_source}
+use Rattle.fixedbitset.proofs.PairRows.{lacked_items, sieve_source}
 use Rattle.fixedbitset.proofs.set.FixedBitSet.difference.Goals as goal
 
-walk : (c : goal.After-over) → c.over.result ≡ sieve_over not c.self.inside.words.items c.other.inside.words.items
-walk c = let words = c.as_slice-words.ensures.value in let others = c.as_slice-others.ensures.value in c.over.ensures ∙ (λ i. sieve_over not (words i) (others i))
+walk : (c : goal.After-over) → c.over.result ≡ sieve_over not (words c.args.self.now) (words c.args.other.now)
+walk c = let one = c.used_words-words.ensures.value in let two = c.used_words-others.ensures.value in c.over.ensures ∙ (λ i. sieve_over not (one i) (two i))
 
 pub returns-clause-items : goal.returns-clause-items
-returns-clause-items c = lacked_items _ _ _ _ _ _ c.self.view_is c.self.invariant c.other.view_is c.other.invariant _ (walk c)
+returns-clause-items c = lacked_items c.args.self.now c.args.other.now _ (walk c)
 
 pub returns-clause-fits : goal.returns-clause-fits
 returns-clause-fits c =
-    omega (arith, ap length (returns-clause-items c), length-asc (difference c.args.self.now c.args.other.now), length-difference c.args.self.now c.args.other.now, c.self.invariant.fits, viewed_length _ _ _ c.self.view_is)
+    omega (arith, ap length (returns-clause-items c), length-asc (difference c.args.self.now c.args.other.now), length-difference c.args.self.now c.args.other.now, c.used_words-words.ensures.fits)
 
 pub returns-clause-runs : goal.returns-clause-runs
 returns-clause-runs c = runs_forwards (λ sieved. sieved.items) SievesFirst (λ s r t h. h.0) _ _ (returns-clause-items c)
@@ -25,6 +25,4 @@ pub returns-clause-runs_back : goal.returns-clause-runs_back
 returns-clause-runs_back c = runs_backwards (λ sieved. sieved.items) SievesLast (λ s r t h. h.0) _ _ (returns-clause-items c)
 
 pub returns-clause-source : goal.returns-clause-source
-returns-clause-source c =
-    let fit : (k : ℕ) → get_or c.as_slice-words.result.now k 0 < 2 ^ 64 = λ k. search rules in
-    sieve_source _ _ _ _ _ _ c.self.view_is c.self.invariant c.other.view_is c.other.invariant not _ (walk c) (slice_words _ _ c.as_slice-words.ensures.value fit)
+returns-clause-source c = sieve_source c.args.self.now c.args.other.now _ not (walk c)

@@ -1,17 +1,22 @@
-use Rattle.std.proofs.Common.{◌≡◌, length, ap, ◌∙◌, arith}
+use Rattle.std.proofs.Common.{◌≡◌, length, ap, ◌∙◌, arith, ◌*◌}
+use Rattle.bitwords.specs.Walk.{over_row}
 use Rattle.bitwords.specs.WalkFacts.{walk_forwards, walk_backwards}
 use Rattle.fixedbitset.specs.Walks.{begun}
+use Rattle.fixedbitset.proofs.Words.{viewed_words, viewed_fits}
 use Rattle.fixedbitset.proofs.Positions.{over_row-begun, fits-asc}
 use Rattle.fixedbitset.proofs.set.FixedBitSet.into_ones.Goals as goal
 
 whole : (c : goal.After-over) → c.over.result ≡ begun c.args.self
-whole c = c.over.ensures.walk ∙ over_row-begun _ _ _ c.self.view_is c.self.invariant c.over.ensures.are_words
+whole c =
+    let items = c.truncate.ensures.items in
+    let words = items ∙ viewed_words _ _ _ c.self.view_is c.self.invariant _ c.div_ceil.ensures (λ k. rw items at (c.over.ensures.are_words k)) in
+    c.over.ensures.walk ∙ ap (λ ws. over_row ws (64 * length ws)) words ∙ over_row-begun c.args.self
 
 pub returns-clause-items : goal.returns-clause-items
 returns-clause-items c = ap (λ walk. walk.items) (whole c)
 
 pub returns-clause-fits : goal.returns-clause-fits
-returns-clause-fits c = omega (arith, ap length (returns-clause-items c), fits-asc _ _ _ c.self.view_is c.self.invariant)
+returns-clause-fits c = omega (arith, ap length (returns-clause-items c), fits-asc c.args.self (viewed_fits _ _ _ c.self.view_is c.self.invariant))
 
 pub returns-clause-runs : goal.returns-clause-runs
 returns-clause-runs c = walk_forwards _ _ (returns-clause-items c)

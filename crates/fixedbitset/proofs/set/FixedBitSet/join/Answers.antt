@@ -1,6 +1,7 @@
 use Rattle.std.proofs.Common.{◌∙◌, sym}
 use Rattle.std.proofs.lemmas.List.{with_items_is}
-use Rattle.fixedbitset.proofs.JoinedWords.{viewed_words, has_bit-of, of_joined, IsClean_joined}
+use Rattle.fixedbitset.proofs.JoinedWords.{has_bit-of, of_joined, IsClean_joined}
+use Rattle.fixedbitset.proofs.Words.{viewed_storage}
 use Rattle.fixedbitset.proofs.set.FixedBitSet.join.Goals as goal
 
 pub invariant_of-self : goal.invariant_of-self
@@ -17,5 +18,5 @@ returns-clause-value g c =
 
 pub returns-clause-cost : goal.returns-clause-cost
 returns-clause-cost g c =
-    rw (viewed_words _ _ _ c.self.view_is c.self.invariant, viewed_words _ _ _ c.other.view_is c.other.invariant)
+    rw (viewed_storage _ _ _ c.self.view_is c.self.invariant, viewed_storage _ _ _ c.other.view_is c.other.invariant)
     (rw (c.deref_mut.ensures.value, c.as_slice-words.ensures.value) at c.join.ensures.cost)

@@ -1,6 +1,7 @@
 use Rattle.std.proofs.Common.{◌∙◌, ◌==◌, sym, ap}
 use Rattle.fixedbitset.proofs.JoinedCounts.{count_rows}
-use Rattle.fixedbitset.proofs.JoinedWords.{viewed_words, has_bit-of, holds_all}
+use Rattle.fixedbitset.proofs.JoinedWords.{has_bit-of, holds_all}
+use Rattle.fixedbitset.proofs.Words.{viewed_storage}
 use Rattle.fixedbitset.proofs.set.FixedBitSet.none_joined.Goals as goal
 
 pub returns-clause-none : goal.returns-clause-none
@@ -12,10 +13,10 @@ returns-clause-none g c =
 
 pub returns-clause-cost : goal.returns-clause-cost
 returns-clause-cost g c =
-    rw (viewed_words _ _ _ c.self.view_is c.self.invariant, viewed_words _ _ _ c.other.view_is c.other.invariant)
+    rw (viewed_storage _ _ _ c.self.view_is c.self.invariant, viewed_storage _ _ _ c.other.view_is c.other.invariant)
     (rw (c.as_slice-a.ensures.value, c.as_slice-b.ensures.value) at c.none.ensures.cost)
 
 pub returns-clause-whole : goal.returns-clause-whole
 returns-clause-whole g c =
-    rw (viewed_words _ _ _ c.self.view_is c.self.invariant, viewed_words _ _ _ c.other.view_is c.other.invariant)
+    rw (viewed_storage _ _ _ c.self.view_is c.self.invariant, viewed_storage _ _ _ c.other.view_is c.other.invariant)
     (rw (c.as_slice-a.ensures.value, c.as_slice-b.ensures.value) at c.none.ensures.whole)

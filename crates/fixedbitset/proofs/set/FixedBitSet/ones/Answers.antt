@@ -1,4 +1,4 @@
-use Rattle.std.proofs.Common.{◌≡◌, ◌<◌, ◌^◌, ℕ, get_or, rules, length, ap, ◌∙◌, arith, ◌*◌}
+use Rattle.std.proofs.Common.{◌≡◌, length, ap, ◌∙◌, arith, ◌*◌}
 use Rattle.bitwords.specs.Walk.{over_row}
 use Rattle.bitwords.specs.WalkFacts.{walk_forwards, walk_backwards}
 use Rattle.fixedbitset.specs.Walks.{begun}
@@ -6,16 +6,13 @@ use Rattle.fixedbitset.proofs.Positions.{over_row-begun, fits-asc}
 use Rattle.fixedbitset.proofs.set.FixedBitSet.ones.Goals as goal
 
 whole : (c : goal.After-over) → c.over.result ≡ begun c.args.self.now
-whole c =
-    let value = c.as_slice-words.ensures.value in
-    let fit : (k : ℕ) → get_or c.as_slice-words.result.now k 0 < 2 ^ 64 = λ k. search rules in
-    c.over.ensures ∙ ap (λ ws. over_row ws (64 * length ws)) value ∙ over_row-begun _ _ _ c.self.view_is c.self.invariant (λ k. rw (← value) (fit k))
+whole c = c.over.ensures ∙ ap (λ ws. over_row ws (64 * length ws)) c.used_words.ensures.value ∙ over_row-begun c.args.self.now
 
 pub returns-clause-items : goal.returns-clause-items
 returns-clause-items c = ap (λ walk. walk.items) (whole c)
 
 pub returns-clause-fits : goal.returns-clause-fits
-returns-clause-fits c = omega (arith, ap length (returns-clause-items c), fits-asc _ _ _ c.self.view_is c.self.invariant)
+returns-clause-fits c = omega (arith, ap length (returns-clause-items c), fits-asc c.args.self.now c.used_words.ensures.fits)
 
 pub returns-clause-runs : goal.returns-clause-runs
 returns-clause-runs c = walk_forwards _ _ (returns-clause-items c)

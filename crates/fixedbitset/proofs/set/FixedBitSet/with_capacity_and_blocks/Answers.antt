@@ -1,7 +1,7 @@
 use Rattle.std.proofs.Common.{rules, ◌≡◌, ◌++◌, ℕ, List, drop, length, ap, ◌∙◌, arith}
 use Rattle.std.specs.Vec.{with_items}
-use Rattle.std.proofs.lemmas.List.{with_items_is, length-replicate}
-use Rattle.fixedbitset.specs.Bits.{words_needed}
+use Rattle.std.proofs.lemmas.List.{with_items_is}
+use Rattle.fixedbitset.specs.Bits.{storage_words}
 use Rattle.fixedbitset.proofs.Blocks.{IsClean_cut, of_filled}
 use Rattle.fixedbitset.proofs.Growth.{zeros}
 use Rattle.fixedbitset.proofs.set.FixedBitSet.with_capacity_and_blocks.Goals as goal
@@ -10,7 +10,7 @@ pub invariant_of-result : goal.invariant_of-result
 invariant_of-result g c =
     let words = c.in_ok-words.words in
     let long : length c.fill.new.words ≡ words.len = search rules in
-    let needed : words.len ≡ words_needed c.args.bits = c.in_ok-words.ensures.len ∙ c.div_ceil.ensures in
+    let needed : words.len ≡ storage_words c.args.bits = c.in_ok-words.ensures.len ∙ c.storage_words.ensures in
     let filled = with_items_is words c.fill.new.words long in
     let done = rw (c.deref_mut-2.ensures.value, filled) at c.clear_from.ensures in
     rw (with_items_is (with_items words c.fill.new.words) c.clear_from.new.words (done.long ∙ long)) (IsClean_cut _ c.ranges.bits.fits _ _ (long ∙ needed) done)
@@ -19,9 +19,8 @@ pub returns : goal.returns
 returns g c =
     let words = c.in_ok-words.words in
     let long : length c.fill.new.words ≡ words.len = search rules in
-    let needed : words.len ≡ words_needed c.args.bits = c.in_ok-words.ensures.len ∙ c.div_ceil.ensures in
-    let made : c.deref_mut.result.now ≡ zeros (words_needed c.args.bits) = search rules in
-    let count : length c.deref_mut.result.now ≡ words_needed c.args.bits = ap length made ∙ length-replicate {A = ℕ} (words_needed c.args.bits) 0 in
+    let needed : words.len ≡ storage_words c.args.bits = c.in_ok-words.ensures.len ∙ c.storage_words.ensures in
+    let made : c.deref_mut.result.now ≡ zeros (storage_words c.args.bits) = search rules in
     let filled = with_items_is words c.fill.new.words long in
     let done = rw (c.deref_mut-2.ensures.value, filled) at c.clear_from.ensures in
     let run = c.fill.ensures in
@@ -32,8 +31,8 @@ returns g c =
         run.0,
         run.1,
         (
-          omega (arith, run.2.0, count),
-          λ short. run.2.1 (omega (arith, short, count)),
+          omega (arith, run.2.0, c.div_ceil.ensures),
+          λ short. run.2.1 (omega (arith, short, c.div_ceil.ensures)),
           rw (with_items_is (with_items words c.fill.new.words) c.clear_from.new.words (done.long ∙ long)) (of_filled _ c.ranges.bits.fits _ _ (long ∙ needed) done run.0.items is),
         ),
       ),

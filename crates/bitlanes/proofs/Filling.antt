@@ -1,0 +1,144 @@
+-- the last lane: one to three words, and zeros
+use Rattle.std.proofs.Common.{◌≡◌, ℕ, zero, suc, ◌+◌, ◌-◌, ◌*◌, ◌^◌, lit<, ◌<◌, ◌≤◌, ◌==◌, Bool, true, false, ◌&&◌, List, [], ◌∷◌, ◌++◌, length, take, drop, get_or, slice_set, map, replicate, sum_by, refl, ap, sym, ◌∙◌, arith, min}
+use Rattle.std.specs.List.{list_all}
+use Rattle.std.specs.Simd.Lanes.{zip2, chunk, put_chunk}
+use Rattle.std.specs.Int.{bit_at}
+use Rattle.std.specs.Int.RustNames.{count_ones}
+use Rattle.std.proofs.Math.Bool.{and-true}
+use Rattle.std.proofs.Math.Seq.{take-add, take-append_seam}
+use Rattle.std.proofs.lemmas.List.{take_all, drop_all, take-replicate, length-map, length-replicate}
+use Rattle.std.proofs.lemmas.List.Folds.{list_all-append, sum_by-replicate}
+use Rattle.std.proofs.lemmas.List.Sums.{sum_by-append}
+use Rattle.std.proofs.lemmas.Nat.Bits.{same_from_bits, bit_at-zero, bit_at-lt}
+use Rattle.std.proofs.lemmas.Simd.{length-chunk, put_chunk_whole}
+use Rattle.bitlanes.specs.Bits.{bit}
+use Rattle.bitlanes.specs.Words.{filled}
+use Rattle.bitlanes.proofs.Kept.{put_none}
+use Rattle.bitlanes.proofs.Zipping.{length_joined, chunk_zip2, chunk_masked}
+
+-- ---- written, word by word
+
+put_first : (i y : ℕ) (xs ys : List ℕ) → put_chunk i xs (y ∷ ys) ≡ put_chunk (suc i) (slice_set xs i y) ys
+put_first i y [] ys = refl
+put_first zero y (x ∷ xs) ys = refl
+put_first (suc i) y (x ∷ xs) ys = ap (λ t. x ∷ t) (put_first i y xs ys)
+
+pub put_one : (i : ℕ) (xs ys : List ℕ) → 1 ≤ length ys → put_chunk i xs (take 1 ys) ≡ slice_set xs i (get_or ys 0 0)
+put_one i xs [] h = absurd (omega arith)
+put_one i xs (y ∷ ys) h = put_first i y xs [] ∙ put_none (suc i) (slice_set xs i y)
+
+pub put_two : (i j : ℕ) (xs ys : List ℕ) → j ≡ i + 1 → 2 ≤ length ys → put_chunk i xs (take 2 ys) ≡ slice_set (slice_set xs i (get_or ys 0 0)) j (get_or ys 1 0)
+put_two i j xs [] e h = absurd (omega arith)
+put_two i j xs (y ∷ ys) e h = put_first i y xs (take 1 ys) ∙ ap (λ k. put_chunk k (slice_set xs i y) (take 1 ys)) (omega (arith, e)) ∙ put_one j (slice_set xs i y) ys (omega arith)
+
+pub put_three : (i j k : ℕ) (xs ys : List ℕ) → j ≡ i + 1 → k ≡ j + 1 → 3 ≤ length ys → put_chunk i xs (take 3 ys) ≡ slice_set (slice_set (slice_set xs i (get_or ys 0 0)) j (get_or ys 1 0)) k (get_or ys 2 0)
+put_three i j k xs [] e f h = absurd (omega arith)
+put_three i j k xs (y ∷ ys) e f h = put_first i y xs (take 2 ys) ∙ ap (λ k. put_chunk k (slice_set xs i y) (take 2 ys)) (omega (arith, e)) ∙ put_two j k (slice_set xs i y) ys f (omega arith)
+
+-- ---- joined
+
+-- the first words of a filled lane
+take_filled : (i n : ℕ) (xs : List ℕ) → i + n ≤ length xs → take n (filled i n xs) ≡ chunk i n xs
+take_filled i n xs within =
+    let zeros : List ℕ = replicate (4 - n) 0 in
+    ap (λ k. take k (chunk i n xs ++ zeros)) (sym (length-chunk i n xs within)) ∙ take-append_seam (chunk i n xs) zeros
+
+-- the first words of two rows joined
+pub take_joined_part : (f : ℕ → ℕ → ℕ) (i n : ℕ) (xs ys : List ℕ) → i + n ≤ length xs → i + n ≤ length ys → take n (filled i n (zip2 f xs ys)) ≡ zip2 f (chunk i n xs) (chunk i n ys)
+take_joined_part f i n xs ys p q = take_filled i n (zip2 f xs ys) (omega (arith, length_joined f xs ys)) ∙ chunk_zip2 f i n xs ys
+
+zip2_append : (f : ℕ → ℕ → ℕ) (us vs xs ys : List ℕ) → length us ≡ length vs → zip2 f (us ++ xs) (vs ++ ys) ≡ zip2 f us vs ++ zip2 f xs ys
+zip2_append f [] [] xs ys e = refl
+zip2_append f [] (v ∷ vs) xs ys e = absurd (omega arith)
+zip2_append f (u ∷ us) [] xs ys e = absurd (omega arith)
+zip2_append f (u ∷ us) (v ∷ vs) xs ys e = ap (λ t. f u v ∷ t) (zip2_append f us vs xs ys (omega arith))
+
+zip2_zeros : (f : ℕ → ℕ → ℕ) → f 0 0 ≡ 0 → (k : ℕ) → zip2 f (replicate k 0) (replicate k 0) ≡ replicate k 0
+zip2_zeros f h zero = refl
+zip2_zeros f h (suc k) = ap (λ n. n ∷ zip2 f (replicate k 0) (replicate k 0)) h ∙ ap (λ t. 0 ∷ t) (zip2_zeros f h k)
+
+-- two lanes filled with as many zeros
+zip2_filled : (f : ℕ → ℕ → ℕ) → f 0 0 ≡ 0 → (i j n : ℕ) (xs ys : List ℕ) → i + n ≤ length xs → j + n ≤ length ys
+    → zip2 f (filled i n xs) (filled j n ys) ≡ zip2 f (chunk i n xs) (chunk j n ys) ++ replicate (4 - n) 0
+zip2_filled f h i j n xs ys p q =
+    zip2_append f (chunk i n xs) (chunk j n ys) (replicate (4 - n) 0) (replicate (4 - n) 0) (length-chunk i n xs p ∙ sym (length-chunk j n ys q))
+    ∙ ap (λ t. zip2 f (chunk i n xs) (chunk j n ys) ++ t) (zip2_zeros f h (4 - n))
+
+pub filled_joined : (f : ℕ → ℕ → ℕ) → f 0 0 ≡ 0 → (i n : ℕ) (xs ys : List ℕ) → i + n ≤ length xs → i + n ≤ length ys → zip2 f (filled i n xs) (filled i n ys) ≡ filled i n (zip2 f xs ys)
+filled_joined f h i n xs ys p q = zip2_filled f h i i n xs ys p q ∙ ap (λ t. t ++ replicate (4 - n) 0) (sym (chunk_zip2 f i n xs ys))
+
+-- one word joined with each word of a part
+pub filled_masked : (f : ℕ → ℕ → ℕ) → f 0 0 ≡ 0 → (mask i n : ℕ) (xs : List ℕ) → n ≤ 4 → i + n ≤ length xs → zip2 f (filled 0 n (replicate 4 mask)) (filled i n xs) ≡ filled i n (map (f mask) xs)
+filled_masked f h mask i n xs few within =
+    zip2_filled f h 0 i n (replicate 4 mask) xs (omega arith) within
+    ∙ ap (λ t. t ++ replicate (4 - n) 0) (ap (λ t. zip2 f t (chunk i n xs)) (take-replicate n 4 mask few) ∙ chunk_masked f mask i n xs within)
+
+digit_zero : (d : ℕ) → d < 2 → (d == 1) ≡ false → d ≡ 0
+digit_zero zero p h = refl
+digit_zero (suc zero) p h = cc
+digit_zero (suc (suc d)) p h = absurd (omega arith)
+
+-- no bit joined with no bit is no bit, so nothing joined with nothing is nothing
+pub nothing_joined : (f : ℕ → ℕ → ℕ) (t : Bool → Bool → Bool) → ((a b i : ℕ) → a < 2 ^ 64 → b < 2 ^ 64 → bit (f a b) i ≡ t (bit a i) (bit b i)) → t false false ≡ false → f 0 0 ≡ 0
+nothing_joined f t by_bits neither = same_from_bits (f 0 0) 0 (λ i.
+    let unset : bit 0 i ≡ false = ap (λ d. d == 1) (bit_at-zero i) in
+    digit_zero (bit_at (f 0 0) i) (bit_at-lt (f 0 0) i) (by_bits 0 0 i (lit< tt) (lit< tt) ∙ (ap (λ x. t x x) unset ∙ neither)) ∙ sym (bit_at-zero i))
+
+-- ---- the whole lanes and the last
+
+split_last : (k n : ℕ) (xs : List ℕ) → 4 * k + n ≡ length xs → take (4 * k) xs ++ chunk (4 * k) n xs ≡ xs
+split_last k n xs e = sym (take-add (4 * k) n xs) ∙ take_all (4 * k + n) xs (omega arith)
+
+ones_of_zeros : (k : ℕ) → sum_by count_ones (replicate k 0) ≡ 0
+unfolding count_ones
+ones_of_zeros k = let none : count_ones 0 ≡ 0 = refl in let product : k * 0 ≡ 0 = omega arith in sum_by-replicate count_ones k 0 ∙ (ap (λ c. k * c) none ∙ product)
+
+pub sum_part : (k n : ℕ) (xs : List ℕ) → 4 * k + n ≡ length xs → sum_by count_ones (take (4 * k) xs) + sum_by count_ones (filled (4 * k) n xs) ≡ sum_by count_ones xs
+sum_part k n xs e =
+    let all : sum_by count_ones (take (4 * k) xs ++ chunk (4 * k) n xs) ≡ sum_by count_ones xs = ap (sum_by count_ones) (split_last k n xs e) in
+    omega (arith, sum_by-append count_ones (take (4 * k) xs) (chunk (4 * k) n xs), sum_by-append count_ones (chunk (4 * k) n xs) (replicate (4 - n) 0), ones_of_zeros (4 - n), all)
+
+-- of joined words, as many as both rows have
+pub sum_joined_part : (f : ℕ → ℕ → ℕ) (k n : ℕ) (xs ys : List ℕ) → 4 * k + n ≡ min (length xs) (length ys) → sum_by count_ones (take (4 * k) (zip2 f xs ys)) + sum_by count_ones (filled (4 * k) n (zip2 f xs ys)) ≡ sum_by count_ones (zip2 f xs ys)
+sum_joined_part f k n xs ys e = sum_part k n (zip2 f xs ys) (e ∙ sym (length_joined f xs ys))
+
+are_zeros : (k : ℕ) → list_all (λ w. w == 0) (replicate k 0) ≡ true
+are_zeros zero = refl
+are_zeros (suc k) = are_zeros k
+
+-- where each word of the whole lanes is 0, the last lane tells of all
+pub all_part : (k n : ℕ) (xs : List ℕ) → 4 * k + n ≡ length xs → list_all (λ w. w == 0) (take (4 * k) xs) ≡ true → list_all (λ w. w == 0) (filled (4 * k) n xs) ≡ list_all (λ w. w == 0) xs
+all_part k n xs e zeros =
+    let p = λ (w : ℕ). w == 0 in
+    list_all-append p (chunk (4 * k) n xs) (replicate (4 - n) 0)
+    ∙ ap (λ b. list_all p (chunk (4 * k) n xs) && b) (are_zeros (4 - n))
+    ∙ and-true (list_all p (chunk (4 * k) n xs))
+    ∙ ap (λ b. b && list_all p (chunk (4 * k) n xs)) (sym zeros)
+    ∙ sym (list_all-append p (take (4 * k) xs) (chunk (4 * k) n xs))
+    ∙ ap (list_all p) (split_last k n xs e)
+
+pub all_joined_part : (f : ℕ → ℕ → ℕ) (k n : ℕ) (xs ys : List ℕ) → 4 * k + n ≡ min (length xs) (length ys) → list_all (λ w. w == 0) (take (4 * k) (zip2 f xs ys)) ≡ true → list_all (λ w. w == 0) (filled (4 * k) n (zip2 f xs ys)) ≡ list_all (λ w. w == 0) (zip2 f xs ys)
+all_joined_part f k n xs ys e zeros = all_part k n (zip2 f xs ys) (e ∙ sym (length_joined f xs ys)) zeros
+
+-- of words that were each made into another one
+pub all_mapped_part : (f : ℕ → ℕ) (k n : ℕ) (xs : List ℕ) → 4 * k + n ≡ length xs → list_all (λ w. w == 0) (take (4 * k) (map f xs)) ≡ true → list_all (λ w. w == 0) (filled (4 * k) n (map f xs)) ≡ list_all (λ w. w == 0) (map f xs)
+all_mapped_part f k n xs e zeros = all_part k n (map f xs) (e ∙ sym (length-map xs f)) zeros
+
+-- written up to the end
+drop_put_rest : (i : ℕ) (xs ys : List ℕ) → i + length ys ≡ length xs → drop i (put_chunk i xs ys) ≡ ys
+drop_put_rest zero xs ys e = put_chunk_whole xs ys (omega arith)
+drop_put_rest (suc i) [] ys e = absurd (omega arith)
+drop_put_rest (suc i) (x ∷ xs) ys e = drop_put_rest i xs ys (omega arith)
+
+-- zeros from the whole lanes on
+pub zeros_part : (k n : ℕ) (xs : List ℕ) → 4 * k + n ≡ length xs → n ≤ 4 → drop (4 * k) (put_chunk (4 * k) xs (take n (replicate 4 0))) ≡ replicate (length xs - 4 * k) 0
+zeros_part k n xs e few =
+    let part : take n (replicate {A = ℕ} 4 0) ≡ replicate {A = ℕ} n 0 = take-replicate n 4 0 few in
+    let long : length (replicate {A = ℕ} n 0) ≡ n = length-replicate n 0 in
+    ap (λ ys. drop (4 * k) (put_chunk (4 * k) xs ys)) part
+    ∙ drop_put_rest (4 * k) xs (replicate n 0) (omega (arith, long, e))
+    ∙ ap (λ m. replicate m 0) (omega arith)
+
+-- past the end there is none
+pub zeros_past : (n : ℕ) (xs : List ℕ) → length xs ≤ n → drop n xs ≡ replicate (length xs - n) 0
+zeros_past n xs past = let none : length xs - n ≡ 0 = omega arith in rw (drop_all n xs past, none) refl
