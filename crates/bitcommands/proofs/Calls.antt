@@ -1,5 +1,5 @@
 -- Calls of a walk, one after the other.
-use Rattle.std.proofs.Common.{◌≡◌, ℕ, suc, ◌+◌, ◌-◌, ◌<◌, ◌≤◌, List, [], ◌∷◌, ◌++◌, length, get_or, drop, replicate, slice_get, Option, Some, None, MatchOption, refl, ap, sym, ◌∙◌, arith, append_assoc, append-nil}
+use Rattle.std.proofs.Common.{◌≡◌, ℕ, ◌+◌, ◌-◌, ◌<◌, ◌≤◌, List, [], ◌∷◌, ◌++◌, length, get_or, drop, slice_get, Option, Some, None, MatchOption, refl, ap, sym, ◌∙◌, arith, append_assoc, append-nil}
 use Rattle.std.proofs.lemmas.Grind.{common_steps}
 use Rattle.std.proofs.lemmas.List.{at_drop_more, at_drop_all}
 use Rattle.std.proofs.Math.Seq.{take-append_seam}
@@ -36,12 +36,6 @@ pub calls_more : (all done : List (Option ℕ)) (ends : List End) (i : ℕ) (e :
     → r ≡ item_at e xs → ys ≡ without_item_at e xs → all ≡ (done ++ r ∷ []) ++ calls (drop (i + 1) ends) ys
 calls_more all done ends i e xs ys r h lt is item left =
     calls_next all done e (drop (i + 1) ends) xs ys r (h ∙ at_drop_more (λ u. done ++ calls u xs) ends i e lt ∙ ap (λ u. done ++ calls (u ∷ drop (i + 1) ends) xs) (sym is)) (item, left)
-
-pub fronts_more : (all done : List (Option ℕ)) (n i : ℕ) (xs ys : List ℕ) (r : Option ℕ) → all ≡ done ++ calls (replicate (n - i) Front) xs → i < n
-    → MatchOption r ((xs ≡ []) × (ys ≡ [])) (λ x. xs ≡ x ∷ ys) → all ≡ (done ++ r ∷ []) ++ calls (replicate (n - (i + 1)) Front) ys
-fronts_more all done n i xs ys r h lt gives =
-    let more : n - i ≡ suc (n - (i + 1)) = omega arith in
-    calls_next all done Front (replicate (n - (i + 1)) Front) xs ys r (h ∙ ap (λ m. done ++ calls (replicate m Front) xs) more) (front_call xs ys r gives)
 
 pub calls_start : (ends : List End) (xs : List ℕ) → calls ends xs ≡ [] ++ calls ends xs
 calls_start ends xs = refl

@@ -24,8 +24,8 @@ use Rattle.bitcommands.specs.declared.commands.walking.Walk.TheVariants as walks
 abbrev pub Range : Type 0
 Range = Option ℕ × Option ℕ
 
--- Numbers of sets, positions, lengths, words, ranges, lists, JSON values, ends of walks and numbers of calls, in the order
--- in which a line has them.
+-- Numbers of sets, positions, lengths, words, ranges, lists, JSON values and ends of walks, in the order in which a line
+-- has them.
 pub data Action : Type 0 where
   new : ℕ → Action
   default : ℕ → Action
@@ -87,7 +87,7 @@ pub data Action : Type 0 where
   cmp : ℕ → ℕ → Action
   ones : ℕ → List End → Action
   into_ones : ℕ → List End → Action
-  zeroes : ℕ → ℕ → Action
+  zeroes : ℕ → List End → Action
   union : ℕ → ℕ → List End → Action
   intersection : ℕ → ℕ → List End → Action
   difference : ℕ → ℕ → List End → Action
@@ -173,7 +173,7 @@ compare_action (compares.Cmp a b) = cmp a b
 abbrev pub walk_action : Walk → Action
 walk_action (walks.Ones k ends) = ones k ends.items
 walk_action (walks.IntoOnes k ends) = into_ones k ends.items
-walk_action (walks.Zeroes k count) = zeroes k count
+walk_action (walks.Zeroes k ends) = zeroes k ends.items
 walk_action (walks.Union a b ends) = union a b ends.items
 walk_action (walks.Intersection a b ends) = intersection a b ends.items
 walk_action (walks.Difference a b ends) = difference a b ends.items

@@ -1,5 +1,5 @@
 -- The table: what each command answers, and what it leaves.
-use Rattle.std.specs.Prelude.{ℕ, ◌+◌, Bool, true, false, List, ◌++◌, length, Option, replicate, nat_lt, ◌==◌, if◌then◌else◌}
+use Rattle.std.specs.Prelude.{ℕ, ◌+◌, Bool, true, false, List, ◌++◌, length, Option, nat_lt, ◌==◌, if◌then◌else◌}
 use Rattle.std.specs.Option.{option_or}
 use Rattle.std.specs.Result.{result_unwrap_or}
 use Rattle.fixedbitset.specs.Bits as model
@@ -13,7 +13,6 @@ use Rattle.fixedbitset.specs.Json.{meaning, written}
 use Rattle.bitcommands.specs.declared.commands.refusals.Refusal.{Refusal}
 use Rattle.bitcommands.specs.declared.commands.refusals.Refusal.TheVariants as refusal
 use Rattle.bitcommands.specs.declared.commands.walking.End.{End}
-use Rattle.bitcommands.specs.declared.commands.walking.End.TheVariants.{Front}
 use Rattle.bitcommands.specs.Actions as action
 use Rattle.bitcommands.specs.Actions.{Action, Range}
 use Rattle.bitcommands.specs.Answers as answer
@@ -164,7 +163,7 @@ row_of m s (action.eq a b) = compares s a b answer.bool equal
 row_of m s (action.cmp a b) = compares s a b answer.order compare
 row_of m s (action.ones k ends) = walks s k ends model.asc
 row_of m s (action.into_ones k ends) = takes_and_walks s k ends model.asc
-row_of m s (action.zeroes k n) = walks s k (replicate n Front) (λ v. model.asc (model.complement v))
+row_of m s (action.zeroes k ends) = walks s k ends (λ v. model.asc (model.complement v))
 row_of m s (action.union a b ends) = walks_over_two s a b ends (λ v w. model.asc v ++ model.asc (sets.difference w v))
 row_of m s (action.intersection a b ends) = walks_over_two s a b ends (λ v w. model.asc (sets.intersection v w))
 row_of m s (action.difference a b ends) = walks_over_two s a b ends (λ v w. model.asc (sets.difference v w))

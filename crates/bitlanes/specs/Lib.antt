@@ -2,6 +2,8 @@ pub mod Bits
 pub mod BitLaws
 pub mod Depth
 pub mod Ops
+pub mod Range
+pub mod RangeFacts
 pub mod Search
 pub mod Word
 pub mod Words

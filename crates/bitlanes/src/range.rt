@@ -1,7 +1,9 @@
 //! A range of indices, given by its two ends.
 ghost use Rattle.std.specs.Prelude.{◌≡◌, Option, None, Some};
+ghost use Rattle.std.specs.Range.{range_inclusive_start, range_inclusive_end};
+ghost use Rattle.bitlanes.specs.Range.{behind};
 
-use std::ops::{Range, RangeFrom, RangeFull, RangeTo};
+use std::ops::{Range, RangeFrom, RangeFull, RangeInclusive, RangeTo, RangeToInclusive};
 
 /// Two ends, each of which may be absent. An absent start stands for the first index, and an absent end for the
 /// length of what the range is taken of.
@@ -85,5 +87,46 @@ impl<T: Copy> IndexRange<T> for Range<T> {
     #[inline]
     fn end(&self) -> Option<T> {
         Some(self.end) // of `start..end`
+    }
+}
+
+/// The indices from the start up to and with the end, which the range answers at the call.
+///
+/// So the end that it means is the index behind `end()`. Behind `usize::MAX` there is none: the end is then `usize::MAX`
+/// itself, and no sum wraps.
+///
+/// A range that was iterated over means what its two calls `start()` and `end()` answer from then on, also where its
+/// iteration has ended: such a range is not empty here.
+impl IndexRange<usize> for RangeInclusive<usize> {
+    ghost start_of = { λ range. Some (range_inclusive_start range) };
+
+    ghost end_of = { λ range. Some (behind (range_inclusive_end range)) };
+
+    #[inline]
+    fn start(&self) -> Option<usize> {
+        Some(*RangeInclusive::start(self)) // of `start..=last`
+    }
+
+    #[inline]
+    fn end(&self) -> Option<usize> {
+        Some(RangeInclusive::end(self).saturating_add(1)) // of `start..=last`
+    }
+}
+
+/// The indices up to and with the end. As above, the end that it means is the index behind it, and behind `usize::MAX`
+/// that number itself.
+impl IndexRange<usize> for RangeToInclusive<usize> {
+    ghost start_of = { λ _. None };
+
+    ghost end_of = { λ range. Some (behind range.end) };
+
+    #[inline]
+    fn start(&self) -> Option<usize> {
+        None // of `..=last`
+    }
+
+    #[inline]
+    fn end(&self) -> Option<usize> {
+        Some(self.end.saturating_add(1)) // of `..=last`
     }
 }

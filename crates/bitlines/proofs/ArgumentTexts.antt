@@ -1,5 +1,5 @@
 -- Texts of arguments are read back.
-use Rattle.std.proofs.Common.{◌≡◌, ℕ, zero, suc, ◌+◌, ◌^◌, ◌<◌, Bool, true, false, ◌&&◌, not, eqb, List, [], ◌∷◌, ◌++◌, length, map, replicate, Option, Some, None, true≢false, refl, sym, ap, ◌∙◌, arith, decimal}
+use Rattle.std.proofs.Common.{◌≡◌, ℕ, suc, ◌+◌, ◌^◌, ◌<◌, Bool, true, false, ◌&&◌, not, eqb, List, [], ◌∷◌, ◌++◌, length, map, Option, Some, None, true≢false, refl, sym, ap, ◌∙◌, arith, decimal}
 use Rattle.std.specs.Prelude.{codes, slice_index_or, position}
 use Rattle.std.specs.Char.{is_ascii_digit}
 use Rattle.std.specs.Str.{all_ascii_digits}
@@ -10,7 +10,6 @@ use Rattle.std.proofs.lemmas.Bool.Decides.{nat_tests}
 use Rattle.std.proofs.lemmas.Str.Parse.{IsNumeralModel, numerals_by_value, tells_all_ascii_digits}
 use Rattle.std.proofs.lemmas.Grind.{common_steps}
 use Rattle.std.proofs.lemmas.Fmt.{digits_decimal, digits_value-decimal, decimal_nonempty}
-use Rattle.std.proofs.lemmas.List.{length-replicate}
 use Rattle.std.proofs.lemmas.List.Splits.{slice_split-cons_yes, slice_split-cons_no}
 use Rattle.std.proofs.Math.Seq.{take-append_seam, drop-append-add}
 use Rattle.bitcommands.specs.Actions.{Range}
@@ -18,7 +17,7 @@ use Rattle.bitcommands.specs.declared.commands.walking.End.{End}
 use Rattle.bitcommands.specs.declared.commands.walking.End.TheVariants.{Front, Back}
 use Rattle.bitcommands.specs.Texts.{flag_text}
 use Rattle.bitlines.specs.Words.{number_of}
-use Rattle.bitlines.specs.Arguments.{flag_of, bound_of, bounds_of, range_of, end_of, ends_from, ends_of, fronts_of}
+use Rattle.bitlines.specs.Arguments.{flag_of, bound_of, end_bound_of, bounds_of, range_of, end_of, ends_from, ends_of}
 use Rattle.bitlines.specs.Written.{bound_text, letter, FitsBound}
 
 -- ---- bytes that a text lacks
@@ -66,15 +65,16 @@ pub number_read : (n : ℕ) → n < 2 ^ 64 → number_of (decimal n) ≡ Some n
 unfolding number_of
 number_read n h = rw (lt-ltb 0 (length (decimal n)) (decimal_nonempty n h), digits_decimal own n h, digits_value-decimal own n h, lt-ltb n (2 ^ 64) h) refl
 
-digits_lack : (b : ℕ) (ds : List ℕ) → b < 48 → all_ascii_digits ds ≡ true → lacks b ds ≡ true
-digits_lack b [] low e = refl
-digits_lack b (d ∷ ds) low e =
+digits_lack : (b : ℕ) (ds : List ℕ) → is_ascii_digit b ≡ false → all_ascii_digits ds ≡ true → lacks b ds ≡ true
+digits_lack b [] none e = refl
+digits_lack b (d ∷ ds) none e =
     let digit : is_ascii_digit d ≡ true = left_of _ _ e in
     let other : eqb d b ≡ false = grind (arith, nat_tests) in
-    rw other (digits_lack b ds low (right_of _ _ e))
+    rw other (digits_lack b ds none (right_of _ _ e))
 
-pub decimal_lacks : (b n : ℕ) → b < 48 → n < 2 ^ 64 → lacks b (decimal n) ≡ true
-decimal_lacks b n low h = digits_lack b (decimal n) low (digits_decimal own n h)
+-- a byte that is no digit is nowhere in a number
+pub decimal_lacks : (b n : ℕ) → is_ascii_digit b ≡ false → n < 2 ^ 64 → lacks b (decimal n) ≡ true
+decimal_lacks b n none h = digits_lack b (decimal n) none (digits_decimal own n h)
 
 -- ---- a range
 
@@ -98,9 +98,9 @@ second_dot xs ys =
     let next : length xs + 1 ≡ suc (length xs) = omega arith in
     ap (λ k. slice_index_or (xs ++ 46 ∷ 46 ∷ ys) k 0) next ∙ second_at xs ys
 
-pub bound_lacks : (b : ℕ) (o : Option ℕ) → b < 48 → FitsBound o → lacks b (bound_text o) ≡ true
-bound_lacks b None low h = refl
-bound_lacks b (Some n) low h = decimal_lacks b n low h
+pub bound_lacks : (b : ℕ) (o : Option ℕ) → is_ascii_digit b ≡ false → FitsBound o → lacks b (bound_text o) ≡ true
+bound_lacks b None none h = refl
+bound_lacks b (Some n) none h = decimal_lacks b n none h
 
 bound_read : (o : Option ℕ) → FitsBound o → bound_of (bound_text o) ≡ Some o
 unfolding bound_of
@@ -109,16 +109,24 @@ bound_read (Some n) h =
     let some : eqb (length (decimal n)) 0 ≡ false = grind (arith, nat_tests, decimal_nonempty n h) in
     rw (some, number_read n h) refl
 
+not_first : (xs : List ℕ) → lacks 61 xs ≡ true → eqb (slice_index_or xs 0 0) 61 ≡ false
+not_first [] e = refl
+not_first (x ∷ xs) e = not_true _ (left_of _ _ e)
+
+end_bound_read : (o : Option ℕ) → FitsBound o → end_bound_of (bound_text o) ≡ Some o
+unfolding end_bound_of
+end_bound_read o h = rw (not_first (bound_text o) (bound_lacks 61 o refl h)) (bound_read o h)
+
 pub range_read : (r : Range) → FitsBound r.0 → FitsBound r.1 → range_of (bound_text r.0 ++ (codes ".." ++ bound_text r.1)) ≡ Some r
 unfolding range_of bounds_of
 range_read r h k =
     rw (
-      found_at 46 (bound_text r.0) (46 ∷ bound_text r.1) (bound_lacks 46 r.0 (omega arith) h),
+      found_at 46 (bound_text r.0) (46 ∷ bound_text r.1) (bound_lacks 46 r.0 refl h),
       second_dot (bound_text r.0) (bound_text r.1),
       take-append_seam (bound_text r.0) (46 ∷ 46 ∷ bound_text r.1),
       drop-append-add (bound_text r.0) (46 ∷ 46 ∷ bound_text r.1) 2,
       bound_read r.0 h,
-      bound_read r.1 k,
+      end_bound_read r.1 k,
     ) refl
 
 -- ---- flags and letters
@@ -147,15 +155,3 @@ pub letters_read : (es : List End) → 0 < length es → ends_of (map letter es)
 unfolding ends_of
 letters_read [] h = absurd (omega arith)
 letters_read (e ∷ es) h = letters_from (e ∷ es)
-
-pub fronts_lack : (n : ℕ) → lacks 32 (replicate n 102) ≡ true
-fronts_lack zero = refl
-fronts_lack (suc n) = fronts_lack n
-
-are_fronts : (n : ℕ) → list_all (λ c. eqb c 102) (replicate n 102) ≡ true
-are_fronts zero = refl
-are_fronts (suc n) = are_fronts n
-
-pub fronts_read : (n : ℕ) → 0 < n → fronts_of (replicate n 102) ≡ Some n
-unfolding fronts_of
-fronts_read n h = rw (length-replicate {A = ℕ} n 102, lt-ltb 0 n h, are_fronts n) refl

@@ -1,5 +1,5 @@
 -- The law of lines: what is written of a command is read as that command.
-use Rattle.std.proofs.Common.{◌≡◌, ℕ, ◌^◌, ◌<◌, Bool, true, false, List, [], ◌∷◌, ◌++◌, length, map, Some, true≢false, refl, sym, ap, ◌∙◌, arith, decimal}
+use Rattle.std.proofs.Common.{◌≡◌, ℕ, ◌^◌, ◌<◌, Bool, true, false, List, [], ◌∷◌, ◌++◌, length, map, Some, true≢false, refl, sym, ap, ◌∙◌, decimal}
 use Rattle.std.specs.Prelude.{codes}
 use Rattle.std.specs.List.{list_all, join_with_byte}
 use Rattle.serde_json.specs.Data.{Data}
@@ -8,10 +8,10 @@ use Rattle.bitcommands.specs.declared.commands.walking.End.{End}
 use Rattle.bitcommands.specs.Actions as action
 use Rattle.bitcommands.specs.Actions.{Action, Range}
 use Rattle.bitlines.specs.Words.{words, number_at, at_end}
-use Rattle.bitlines.specs.Arguments.{one, two, three, two_and_flag, one_and_range, range_and_flag, one_and_ends, two_and_ends, one_and_fronts, one_and_list, two_and_list, one_and_json, json_of, flag_at, range_at, ends_at, fronts_at, numbers_of}
+use Rattle.bitlines.specs.Arguments.{one, two, three, two_and_flag, one_and_range, range_and_flag, one_and_ends, two_and_ends, one_and_list, two_and_list, one_and_json, json_of, flag_at, range_at, ends_at, numbers_of}
 use Rattle.bitlines.specs.Names.{name_of}
 use Rattle.bitlines.specs.Lines.{of_one_set, of_set_and_number, of_set_and_two_numbers, of_set_and_list, of_two_sets, of_three_sets, of_set_and_range, of_set_and_ends, of_two_sets_and_ends, command_by, command_of_words, command_of}
-use Rattle.bitlines.specs.Written.{Argument, number, flag, range, ends, fronts, json, argument_text, bound_text, letter, Fits, AllFit, spelled, line_of}
+use Rattle.bitlines.specs.Written.{Argument, number, flag, range, ends, json, argument_text, bound_text, letter, Fits, AllFit, spelled, line_of}
 use Rattle.bitlines.specs.LineLaws.{LinesReadBack}
 use Rattle.bitlines.specs.declared.names.Name.{Name}
 use Rattle.bitlines.specs.declared.names.Name.TheVariants as name
@@ -34,7 +34,7 @@ use Rattle.bitlines.specs.declared.names.SetAndEnds.TheVariants as set_and_ends
 use Rattle.bitlines.specs.declared.names.TwoSetsAndEnds.{TwoSetsAndEnds}
 use Rattle.bitlines.specs.declared.names.TwoSetsAndEnds.TheVariants as two_sets_and_ends
 use Rattle.bitlines.proofs.JsonTexts.{json_at_words}
-use Rattle.bitlines.proofs.ArgumentTexts.{left_of, right_of, lacks, lacks-append, cut_at, not_cut, number_read, decimal_lacks, bound_lacks, range_read, flag_lacks, flag_read, letters_lack, letters_read, fronts_lack, fronts_read}
+use Rattle.bitlines.proofs.ArgumentTexts.{left_of, right_of, lacks, lacks-append, cut_at, not_cut, number_read, decimal_lacks, bound_lacks, range_read, flag_lacks, flag_read, letters_lack, letters_read}
 
 -- ---- the words of a line
 
@@ -44,12 +44,11 @@ is_word (json d) = false
 is_word x = true
 
 word_lacks : (x : Argument) → is_word x ≡ true → Fits x → lacks 32 (argument_text x) ≡ true
-word_lacks (number n) e h = decimal_lacks 32 n (omega arith) h
+word_lacks (number n) e h = decimal_lacks 32 n refl h
 word_lacks (flag b) e h = flag_lacks b
 word_lacks (range r) e h =
-    lacks-append 32 (bound_text r.0) _ (bound_lacks 32 r.0 (omega arith) h.0) (lacks-append 32 (codes "..") (bound_text r.1) refl (bound_lacks 32 r.1 (omega arith) h.1))
+    lacks-append 32 (bound_text r.0) _ (bound_lacks 32 r.0 refl h.0) (lacks-append 32 (codes "..") (bound_text r.1) refl (bound_lacks 32 r.1 refl h.1))
 word_lacks (ends es) e h = letters_lack es
-word_lacks (fronts n) e h = fronts_lack n
 word_lacks (json d) e h = absurd (true≢false (sym e))
 
 -- a line is cut into its words
@@ -117,10 +116,6 @@ back_two_sets_and_ends : (c : TwoSetsAndEnds) (a b : ℕ) (es : List End) → a 
 unfolding command_by two_and_ends number_at ends_at at_end
 back_two_sets_and_ends c a b es h k l = rw (number_read a h, number_read b k, letters_read es l) refl
 
-back_zeroes : (a n : ℕ) → a < 2 ^ 64 → 0 < n → command_by name.Zeroes (decimal a ∷ argument_text (fronts n) ∷ []) ≡ Some (action.zeroes a n)
-unfolding command_by one_and_fronts number_at fronts_at at_end
-back_zeroes a n h k = rw (number_read a h, fronts_read n k) refl
-
 numbers_read : (ns : List ℕ) → AllFit (map number ns) → numbers_of (map argument_text (map number ns)) ≡ Some ns
 unfolding numbers_of
 numbers_read [] h = refl
@@ -145,7 +140,7 @@ back_value a d h k = rw (number_read a h, json_at_words (compact_text d), k) ref
 read_value : (a : ℕ) (d : Data) → AllFit (spelled (action.from_value a d)).1 → command_of (line_of (action.from_value a d)) ≡ Some (action.from_value a d)
 read_value a d h =
     let cut : words (line_of (action.from_value a d)) ≡ codes "from_value" ∷ decimal a ∷ words (compact_text d) =
-    cut_at 32 (codes "from_value") (decimal a ++ 32 ∷ compact_text d) refl ∙ ap (λ ws. codes "from_value" ∷ ws) (cut_at 32 (decimal a) (compact_text d) (decimal_lacks 32 a (omega arith) h.0)) in
+    cut_at 32 (codes "from_value") (decimal a ++ 32 ∷ compact_text d) refl ∙ ap (λ ws. codes "from_value" ∷ ws) (cut_at 32 (decimal a) (compact_text d) (decimal_lacks 32 a refl h.0)) in
     ap command_of_words cut ∙ back_value a d h.0 h.1.0
 
 -- ---- the law
@@ -212,7 +207,7 @@ read_back (action.eq a b) h = by_name _ (name.TwoSets two_sets.Eq) refl refl h r
 read_back (action.cmp a b) h = by_name _ (name.TwoSets two_sets.Cmp) refl refl h refl (back_two_sets two_sets.Cmp a b h.0 h.1.0)
 read_back (action.ones a b) h = by_name _ (name.SetAndEnds set_and_ends.Ones) refl refl h refl (back_set_and_ends set_and_ends.Ones a b h.0 h.1.0)
 read_back (action.into_ones a b) h = by_name _ (name.SetAndEnds set_and_ends.IntoOnes) refl refl h refl (back_set_and_ends set_and_ends.IntoOnes a b h.0 h.1.0)
-read_back (action.zeroes a b) h = by_name _ name.Zeroes refl refl h refl (back_zeroes a b h.0 h.1.0)
+read_back (action.zeroes a b) h = by_name _ (name.SetAndEnds set_and_ends.Zeroes) refl refl h refl (back_set_and_ends set_and_ends.Zeroes a b h.0 h.1.0)
 read_back (action.union a b c) h = by_name _ (name.TwoSetsAndEnds two_sets_and_ends.Union) refl refl h refl (back_two_sets_and_ends two_sets_and_ends.Union a b c h.0 h.1.0 h.1.1.0)
 read_back (action.intersection a b c) h = by_name _ (name.TwoSetsAndEnds two_sets_and_ends.Intersection) refl refl h refl (back_two_sets_and_ends two_sets_and_ends.Intersection a b c h.0 h.1.0 h.1.1.0)
 read_back (action.difference a b c) h = by_name _ (name.TwoSetsAndEnds two_sets_and_ends.Difference) refl refl h refl (back_two_sets_and_ends two_sets_and_ends.Difference a b c h.0 h.1.0 h.1.1.0)

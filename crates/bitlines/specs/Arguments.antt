@@ -1,9 +1,10 @@
 -- The arguments of commands.
-use Rattle.std.specs.Prelude.{ℕ, ◌+◌, Bool, true, false, ◌==◌, ◌&&◌, nat_lt, List, [], ◌∷◌, length, take, drop, position, slice_index_or, Option, Some, None, if◌then◌else◌, codes}
-use Rattle.std.specs.List.{list_all, join_with_byte}
+use Rattle.std.specs.Prelude.{ℕ, ◌+◌, Bool, true, false, ◌==◌, List, [], ◌∷◌, length, take, drop, position, slice_index_or, Option, Some, None, if◌then◌else◌, codes}
+use Rattle.std.specs.List.{join_with_byte}
 use Rattle.std.specs.Str.{bytes_eq, is_utf8}
 use Rattle.serde_json.specs.Data.{Data}
 use Rattle.serde_json.specs.Read.{read}
+use Rattle.bitlanes.specs.Range.{behind}
 use Rattle.bitlines.specs.Words.{◌>>=◌, number_of, number_at, at_end}
 use Rattle.bitcommands.specs.declared.commands.walking.End.{End}
 use Rattle.bitcommands.specs.declared.commands.walking.End.TheVariants.{Front, Back}
@@ -28,14 +29,18 @@ flag_at (w ∷ ws) = flag_of w >>= λ e. Some (e, ws)
 unfoldable pub bound_of : List ℕ → Option (Option ℕ)
 bound_of w = if length w == 0 then Some None else (number_of w >>= λ n. Some (Some n))
 
--- two bounds
+-- a bound, or `=` and the last position of the range, which then ends behind it
+unfoldable pub end_bound_of : List ℕ → Option (Option ℕ)
+end_bound_of w = if slice_index_or w 0 0 == 61 then (number_of (drop 1 w) >>= λ n. Some (Some (behind n))) else bound_of w
+
+-- the two bounds of a range
 unfoldable pub bounds_of : List ℕ → List ℕ → Option Range
 bounds_of from to = do
   a ← bound_of from
-  b ← bound_of to
+  b ← end_bound_of to
   Some (a, b)
 
--- two bounds with two dots between them
+-- the two bounds with two dots between them
 unfoldable pub range_of : List ℕ → Option Range
 range_of w = do
   k ← position (λ c. c == 46) w
@@ -64,15 +69,6 @@ ends_of (c ∷ cs) = ends_from (c ∷ cs)
 unfoldable pub ends_at : List (List ℕ) → Option (List End × List (List ℕ))
 ends_at [] = None
 ends_at (w ∷ ws) = ends_of w >>= λ es. Some (es, ws)
-
--- one or more letters `f`, as their number
-unfoldable pub fronts_of : List ℕ → Option ℕ
-fronts_of w = if nat_lt 0 (length w) && list_all (λ c. c == 102) w then Some (length w) else None
-
--- the first word as such a number, and the words after it
-unfoldable pub fronts_at : List (List ℕ) → Option (ℕ × List (List ℕ))
-fronts_at [] = None
-fronts_at (w ∷ ws) = fronts_of w >>= λ n. Some (n, ws)
 
 -- a number for each word
 unfoldable pub numbers_of : List (List ℕ) → Option (List ℕ)
@@ -155,14 +151,6 @@ two_and_ends ws = do
   es ← ends_at b.1
   end ← at_end es.1
   Some (a.0, b.0, es.0)
-
--- a number, and a number of letters `f`
-unfoldable pub one_and_fronts : List (List ℕ) → Option (ℕ × ℕ)
-one_and_fronts ws = do
-  a ← number_at ws
-  n ← fronts_at a.1
-  end ← at_end n.1
-  Some (a.0, n.0)
 
 -- a number, and none, one or more numbers
 unfoldable pub one_and_list : List (List ℕ) → Option (ℕ × List ℕ)

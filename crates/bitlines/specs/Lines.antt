@@ -4,7 +4,7 @@ use Rattle.bitcommands.specs.declared.commands.walking.End.{End}
 use Rattle.bitcommands.specs.Actions as action
 use Rattle.bitcommands.specs.Actions.{Action, Range}
 use Rattle.bitlines.specs.Words.{◌>>=◌, words}
-use Rattle.bitlines.specs.Arguments.{one, two, three, two_and_flag, one_and_range, range_and_flag, one_and_ends, two_and_ends, one_and_fronts, one_and_list, two_and_list, one_and_json}
+use Rattle.bitlines.specs.Arguments.{one, two, three, two_and_flag, one_and_range, range_and_flag, one_and_ends, two_and_ends, one_and_list, two_and_list, one_and_json}
 use Rattle.bitlines.specs.Names.{name_of}
 use Rattle.bitlines.specs.declared.names.Name.{Name}
 use Rattle.bitlines.specs.declared.names.Name.TheVariants as name
@@ -108,6 +108,7 @@ of_set_and_range set_and_range.RangeIsValid k r = action.range_is_valid k r
 abbrev pub of_set_and_ends : SetAndEnds → ℕ → List End → Action
 of_set_and_ends set_and_ends.Ones k ends = action.ones k ends
 of_set_and_ends set_and_ends.IntoOnes k ends = action.into_ones k ends
+of_set_and_ends set_and_ends.Zeroes k ends = action.zeroes k ends
 
 -- a command on two sets and the ends of a walk over them
 abbrev pub of_two_sets_and_ends : TwoSetsAndEnds → ℕ → ℕ → List End → Action
@@ -131,7 +132,6 @@ command_by name.Set args = two_and_flag args >>= λ x. Some (action.set x.0 x.1 
 command_by name.SetRange args = range_and_flag args >>= λ x. Some (action.set_range x.0 x.1 x.2)
 command_by (name.SetAndEnds c) args = one_and_ends args >>= λ x. Some (of_set_and_ends c x.0 x.1)
 command_by (name.TwoSetsAndEnds c) args = two_and_ends args >>= λ x. Some (of_two_sets_and_ends c x.0 x.1 x.2)
-command_by name.Zeroes args = one_and_fronts args >>= λ x. Some (action.zeroes x.0 x.1)
 
 -- ---- lines
 

@@ -3,7 +3,7 @@ use Rattle.std.specs.Prelude.{ℕ, List, [], ◌∷◌, Option, Some, None, if�
 use Rattle.std.specs.Option.{option_or}
 use Rattle.std.specs.Str.{bytes_eq}
 use Rattle.bitlines.specs.declared.names.Name.{Name}
-use Rattle.bitlines.specs.declared.names.Name.TheVariants.{OneSet, SetAndNumber, SetAndTwoNumbers, SetAndList, TwoSets, ThreeSets, SetAndRange, SetAndEnds, TwoSetsAndEnds, WithCapacityAndBlocks, FromValue, Set, SetRange, Zeroes}
+use Rattle.bitlines.specs.declared.names.Name.TheVariants.{OneSet, SetAndNumber, SetAndTwoNumbers, SetAndList, TwoSets, ThreeSets, SetAndRange, SetAndEnds, TwoSetsAndEnds, WithCapacityAndBlocks, FromValue, Set, SetRange}
 use Rattle.bitlines.specs.declared.names.OneSet.TheVariants.{New, Default, Len, IsEmpty, IsClear, IsFull, Minimum, Maximum, AsSlice, Text, ToValue, Clear}
 use Rattle.bitlines.specs.declared.names.SetAndNumber.TheVariants.{WithCapacity, Contains, Index, Grow, GrowAndInsert, Insert, Remove, Toggle, Put}
 use Rattle.bitlines.specs.declared.names.SetAndTwoNumbers.TheVariants.{CopyBit, SetBlock}
@@ -11,7 +11,7 @@ use Rattle.bitlines.specs.declared.names.SetAndList.TheVariants.{FromIter, Exten
 use Rattle.bitlines.specs.declared.names.TwoSets.TheVariants.{Clone, CloneFrom, UnionWith, SymmetricDifferenceWith, BitorAssign, BitxorAssign, IntersectWith, DifferenceWith, BitandAssign, UnionCount, IntersectionCount, DifferenceCount, SymmetricDifferenceCount, IsDisjoint, IsSubset, IsSuperset, Eq, Cmp}
 use Rattle.bitlines.specs.declared.names.ThreeSets.TheVariants.{Bitand, Bitor, Bitxor}
 use Rattle.bitlines.specs.declared.names.SetAndRange.TheVariants.{CountOnes, CountZeroes, InsertRange, RemoveRange, ToggleRange, ContainsAllInRange, ContainsAnyInRange, RangeIsValid}
-use Rattle.bitlines.specs.declared.names.SetAndEnds.TheVariants.{Ones, IntoOnes}
+use Rattle.bitlines.specs.declared.names.SetAndEnds.TheVariants.{Ones, IntoOnes, Zeroes}
 use Rattle.bitlines.specs.declared.names.TwoSetsAndEnds.TheVariants.{Union, Intersection, Difference, SymmetricDifference}
 
 -- the name that stands beside this text, in a list of texts and names
@@ -42,7 +42,7 @@ short_names =
     (codes "insert", SetAndNumber Insert) ∷
     (codes "remove", SetAndNumber Remove) ∷
     (codes "toggle", SetAndNumber Toggle) ∷
-    (codes "zeroes", Zeroes) ∷
+    (codes "zeroes", SetAndEnds Zeroes) ∷
     (codes "default", OneSet Default) ∷
     (codes "is_full", OneSet IsFull) ∷
     (codes "maximum", OneSet Maximum) ∷

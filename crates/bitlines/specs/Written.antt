@@ -1,5 +1,5 @@
 -- The line that a command is written as.
-use Rattle.std.specs.Prelude.{◌≡◌, ℕ, ◌^◌, ◌<◌, Bool, List, [], ◌∷◌, ◌++◌, map, length, replicate, Option, Some, None, MatchOption, codes, decimal}
+use Rattle.std.specs.Prelude.{◌≡◌, ℕ, ◌^◌, ◌<◌, Bool, List, [], ◌∷◌, ◌++◌, map, length, Option, Some, None, MatchOption, codes, decimal}
 use Rattle.std.specs.List.{join_with_byte}
 use Rattle.serde_json.specs.Data.{Data}
 use Rattle.serde_json.specs.Written.{compact_text}
@@ -16,7 +16,6 @@ pub data Argument : Type 0 where
   flag : Bool → Argument
   range : Range → Argument
   ends : List End → Argument
-  fronts : ℕ → Argument
   json : Data → Argument
 
 -- a bound of a range, or nothing
@@ -35,7 +34,6 @@ argument_text (number n) = decimal n
 argument_text (flag e) = flag_text e
 argument_text (range r) = bound_text r.0 ++ (codes ".." ++ bound_text r.1)
 argument_text (ends es) = map letter es
-argument_text (fronts n) = replicate n 102
 argument_text (json d) = compact_text d
 
 -- a bound fits a `usize`
@@ -48,7 +46,6 @@ Fits (number n) = n < 2 ^ 64
 Fits (flag e) = Unit {0}
 Fits (range r) = FitsBound r.0 × FitsBound r.1
 Fits (ends es) = 0 < length es
-Fits (fronts n) = 0 < n
 Fits (json d) = json_of (compact_text d) ≡ Some d
 
 -- all arguments do
@@ -118,7 +115,7 @@ spelled (action.eq a b) = (codes "eq", number a ∷ number b ∷ [])
 spelled (action.cmp a b) = (codes "cmp", number a ∷ number b ∷ [])
 spelled (action.ones a b) = (codes "ones", number a ∷ ends b ∷ [])
 spelled (action.into_ones a b) = (codes "into_ones", number a ∷ ends b ∷ [])
-spelled (action.zeroes a b) = (codes "zeroes", number a ∷ fronts b ∷ [])
+spelled (action.zeroes a b) = (codes "zeroes", number a ∷ ends b ∷ [])
 spelled (action.union a b c) = (codes "union", number a ∷ number b ∷ ends c ∷ [])
 spelled (action.intersection a b c) = (codes "intersection", number a ∷ number b ∷ ends c ∷ [])
 spelled (action.difference a b c) = (codes "difference", number a ∷ number b ∷ ends c ∷ [])

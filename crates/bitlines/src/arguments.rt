@@ -1,13 +1,13 @@
 //! The arguments of commands.
-ghost use Rattle.std.specs.Prelude.{◌≡◌, ◌==◌, true, false};
-ghost use Rattle.std.specs.List.{list_all};
+ghost use Rattle.std.specs.Prelude.{◌≡◌, true, false};
 ghost use Rattle.serde_json.specs.View.{view};
 ghost use Rattle.bitlines.specs.Reads.{Reads};
-ghost use Rattle.bitlines.specs.Arguments.{bound_of, bounds_of, range_of, range_at, end_of, ends_of, ends_at, one, two, three, two_and_flag, one_and_range, range_and_flag, one_and_ends, two_and_ends, fronts_of, fronts_at, one_and_fronts, numbers_of, one_and_list, two_and_list, one_and_json};
+ghost use Rattle.bitlines.specs.Arguments.{bound_of, end_bound_of, bounds_of, range_of, range_at, end_of, ends_of, ends_at, one, two, three, two_and_flag, one_and_range, range_and_flag, one_and_ends, two_and_ends, numbers_of, one_and_list, two_and_list, one_and_json};
 
 use crate::lines::LineFault;
 use crate::words::{Words, find, number};
 use bitcommands::commands::{End, Span};
+use fixedbitset::IndexRange;
 use serde_json::Value;
 use std::alloc::Global;
 
@@ -81,7 +81,7 @@ fn range_in(args: &mut Words<'_>) -> Result<Span, LineFault>
     range(word)
 }
 
-// Two bounds with two dots between them.
+// The two bounds with two dots between them.
 #[tactic(auto, unfolding(crate::specs::Arguments::range_of), using(std::proofs::lemmas::List::take_rest, std::proofs::lemmas::List::get_or_past))]
 fn range(word: &[u8]) -> Result<Span, LineFault>
     ensures { Reads false (λ r. (r.start, r.end)) result (range_of word.now) }
@@ -98,8 +98,20 @@ fn bounds(from: &[u8], to: &[u8]) -> Result<Span, LineFault>
     ensures { Reads false (λ r. (r.start, r.end)) result (bounds_of from.now to.now) }
 {
     let start = bound(from)?;
-    let end = bound(to)?;
+    let end = end_bound(to)?;
     Ok(Span { start, end })
+}
+
+// A bound, or `=` and the last position of the range.
+#[tactic(auto, unfolding(crate::specs::Arguments::end_bound_of))]
+fn end_bound(word: &[u8]) -> Result<Option<usize>, LineFault>
+    ensures { Reads false (λ b. b) result (end_bound_of word.now) }
+{
+    if word.is_empty() || word[0] != b'=' {
+        return bound(word);
+    }
+    let last = number(&word[1..]).ok_or(LineFault::NotACommand)?;
+    Ok((..=last).end())
 }
 
 // Nothing, or a number.
@@ -178,42 +190,6 @@ fn end_of(letter: u8) -> Option<End>
         b'b' => Some(End::Back),
         _ => None,
     }
-}
-
-#[tactic(auto, unfolding(crate::specs::Arguments::one_and_fronts))]
-pub(crate) fn one_and_fronts(mut args: Words<'_>) -> Result<(usize, usize), LineFault>
-    ensures { Reads false (λ x. x) result (one_and_fronts args.entry) }
-{
-    let set = args.number()?;
-    let count = fronts_in(&mut args)?;
-    args.end()?;
-    Ok((set, count))
-}
-
-#[tactic(auto, unfolding(crate::specs::Arguments::fronts_at))]
-fn fronts_in(args: &mut Words<'_>) -> Result<usize, LineFault>
-    ensures { Reads false (λ n. (n, args.new)) result (fronts_at args.old) }
-{
-    let word = args.next().ok_or(LineFault::NotACommand)?;
-    fronts(word).ok_or(LineFault::NotACommand)
-}
-
-// One or more letters `f`, as their number.
-#[tactic(auto, unfolding(crate::specs::Arguments::fronts_of))]
-fn fronts(word: &[u8]) -> Option<usize>
-    ensures { result ≡ fronts_of word.now }
-{
-    if word.is_empty() || !is_each_front(word) {
-        return None;
-    }
-    Some(word.len())
-}
-
-// Whether each letter is an `f`.
-fn is_each_front(word: &[u8]) -> bool
-    ensures { result ≡ list_all (λ letter. letter == 102) word.now }
-{
-    word.iter().all(|letter| *letter == b'f')
 }
 
 #[tactic(auto, unfolding(crate::specs::Arguments::one_and_list))]

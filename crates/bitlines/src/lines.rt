@@ -6,8 +6,8 @@ ghost use Rattle.bitlines.specs.declared.names.Name.TheVariants as names;
 ghost use Rattle.bitlines.specs.Lines.{of_one_set, of_set_and_number, of_set_and_two_numbers, of_set_and_list, of_two_sets, of_three_sets, of_set_and_range, of_set_and_ends, of_two_sets_and_ends, command_by, command_of, takes_memory, may_lack};
 
 use crate::arguments::{
-    one, one_and_ends, one_and_fronts, one_and_json, one_and_list, one_and_range, range_and_flag,
-    three, two, two_and_ends, two_and_flag, two_and_list,
+    one, one_and_ends, one_and_json, one_and_list, one_and_range, range_and_flag, three, two,
+    two_and_ends, two_and_flag, two_and_list,
 };
 use crate::names::{
     Name, OneSet, SetAndEnds, SetAndList, SetAndNumber, SetAndRange, SetAndTwoNumbers, ThreeSets,
@@ -32,7 +32,7 @@ pub enum LineFault {
 ///
 /// `NotACommand` comes only where the line stands for none, and `Memory` only where the first word is that of a command
 /// with a list or with JSON: `with_capacity_and_blocks`, `from_iter`, `from_value`, `extend`, or a walk, which is `ones`,
-/// `into_ones`, `union`, `intersection`, `difference` or `symmetric_difference`. Any other line takes no memory.
+/// `into_ones`, `zeroes`, `union`, `intersection`, `difference` or `symmetric_difference`. Any other line takes no memory.
 #[tactic(auto, unfolding(crate::specs::Lines::command_of_words, crate::specs::Lines::begins_with_one))]
 #[inline]
 pub fn parse_line(alloc: Global, line: &[u8]) -> Result<Command, LineFault>
@@ -87,10 +87,6 @@ fn command_by(alloc: Global, name: Name, args: Words<'_>) -> Result<Command, Lin
         }
         Name::SetAndEnds(name) => walk_over_one(alloc, name, args),
         Name::TwoSetsAndEnds(name) => walk_over_two(alloc, name, args),
-        Name::Zeroes => {
-            let (set, count) = one_and_fronts(args)?;
-            Ok(Command::Walk(Walk::Zeroes { set, count }))
-        }
     }
 }
 
@@ -266,6 +262,7 @@ fn of_set_and_ends(name: SetAndEnds, set: usize, ends: Vec<End>) -> Command
     match name {
         SetAndEnds::Ones => Command::Walk(Walk::Ones { set, ends }),
         SetAndEnds::IntoOnes => Command::Walk(Walk::IntoOnes { set, ends }),
+        SetAndEnds::Zeroes => Command::Walk(Walk::Zeroes { set, ends }),
     }
 }
 

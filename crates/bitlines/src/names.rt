@@ -33,8 +33,6 @@ pub(crate) enum Name {
     Set,
     /// A set, a range and whether it is set.
     SetRange,
-    /// A set and a number of calls from the front of a walk.
-    Zeroes,
 }
 
 /// The name of a command on a set.
@@ -131,6 +129,7 @@ pub(crate) enum SetAndRange {
 pub(crate) enum SetAndEnds {
     Ones,
     IntoOnes,
+    Zeroes,
 }
 
 /// The name of a command on two sets and the ends of a walk over them.
@@ -189,7 +188,7 @@ fn short_name(word: &[u8]) -> Option<Name>
         b"insert" => Name::SetAndNumber(SetAndNumber::Insert),
         b"remove" => Name::SetAndNumber(SetAndNumber::Remove),
         b"toggle" => Name::SetAndNumber(SetAndNumber::Toggle),
-        b"zeroes" => Name::Zeroes,
+        b"zeroes" => Name::SetAndEnds(SetAndEnds::Zeroes),
         b"default" => Name::OneSet(OneSet::Default),
         b"is_full" => Name::OneSet(OneSet::IsFull),
         b"maximum" => Name::OneSet(OneSet::Maximum),

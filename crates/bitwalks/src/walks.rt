@@ -261,4 +261,15 @@ impl<'a> Iterator for Zeroes<'a> {
     }
 }
 
+impl<'a> DoubleEndedIterator for Zeroes<'a> {
+    ghost next_back_gives = { GivesLast };
+
+    /// The greatest position left, or `None` where none is, and then for good. It makes one turn, and one more for each
+    /// word that it takes.
+    #[inline]
+    fn next_back(&mut self) -> Option<usize> {
+        self.zeroes.next_back()
+    }
+}
+
 impl<'a> FusedIterator for Zeroes<'a> {}

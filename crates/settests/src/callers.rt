@@ -1,6 +1,7 @@
 //! Callers as a user writes them: each is proved by the public contracts alone, and run once.
-ghost use Rattle.std.specs.Prelude.{IfOk, ◌≡◌, ◌<◌};
+ghost use Rattle.std.specs.Prelude.{IfOk, ◌≡◌, ◌+◌, ◌<◌, true, false};
 ghost use Rattle.fixedbitset.specs.Bits as model;
+ghost use Rattle.fixedbitset.specs.Ranges as ranges;
 
 use fixedbitset::FixedBitSet;
 use std::alloc::{AllocError, Global};
@@ -23,5 +24,27 @@ fn the_start_is_visited(rt: HostRuntime) -> Result<(), Fail> {
     assert!(rt; visited.contains(0));
     assert!(rt; !visited.contains(1));
     assert_eq!(rt; visited.as_slice(), [1, 0].as_slice());
+    Ok(())
+}
+
+/// Takes the slots from `first` to `last`, both of them too, and answers whether there are such slots.
+#[tactic(auto, using(bitlanes::specs::RangeFacts::behind_next))]
+fn take(slots: &mut FixedBitSet, first: usize, last: usize) -> bool
+    ensures taken { result ≡ true → slots.new ≡ ranges.insert_range slots.old first (last + 1) }
+    ensures left { result ≡ false → slots.new ≡ slots.old }
+{
+    if first > last || last >= slots.len() {
+        return false;
+    }
+    slots.insert_range(first..=last);
+    true
+}
+
+#[test]
+fn the_last_slot_is_taken_too(rt: HostRuntime) -> Result<(), Fail> {
+    let mut slots = FixedBitSet::with_capacity(rt.alloc(), 70)?;
+    assert!(rt; take(&mut slots, 63, 64));
+    assert!(rt; !take(&mut slots, 0, 70));
+    assert_eq!(rt; slots.as_slice(), [1 << 63, 1].as_slice());
     Ok(())
 }

@@ -4,7 +4,8 @@
 ghost use Rattle.std.specs.Prelude.{◌≡◌, ◌+◌, ◌≤◌};
 
 use crate::spans::{
-    Change, Fact, Span, Window, assert_facts, change_all, change_range, changed, holds,
+    Change, Endless, Fact, FromThree, Span, Window, assert_facts, change_all, change_range,
+    change_span, changed, holds, holds_of_span,
 };
 use bitlanes::word::Block;
 use fixedbitset::{FixedBitSet, Steps, counted};
@@ -137,6 +138,54 @@ fn removed_and_set(rt: HostRuntime) -> Result<(), Fail> {
     Ok(())
 }
 
+// A range ends behind its last position, and behind `usize::MAX` there is none.
+#[test]
+fn inclusive_ranges(rt: HostRuntime) -> Result<(), Fail> {
+    let changes = [
+        (Span::UpThrough(4), Change::Insert),
+        (Span::Through(2, 2), Change::Remove),
+        (Span::Through(9, 8), Change::Toggle),
+        (Span::Through(8, 9), Change::Set(true)),
+    ];
+    let mut set = FixedBitSet::with_capacity(rt.alloc(), 10)?;
+    change_all(&rt, &mut set, &changes);
+    assert_positions(&rt, rt.alloc(), &set, &[0, 1, 3, 4, 8, 9])?;
+    let facts = [
+        (Span::UpThrough(4), Fact::Ones(4)),
+        (Span::UpThrough(9), Fact::Zeroes(4)),
+        (Span::Through(2, 2), Fact::Zeroes(1)),
+        (Span::Through(3, 2), Fact::Ones(0)),
+        (Span::Through(3, 4), Fact::All(true)),
+        (Span::Through(5, 7), Fact::Any(false)),
+        (Span::Through(4, 2), Fact::IsNotValid),
+        (Span::UpThrough(10), Fact::IsNotValid),
+        (Span::UpThrough(usize::MAX), Fact::IsNotValid),
+        (Span::Through(0, usize::MAX), Fact::IsNotValid),
+        (Span::Through(usize::MAX, usize::MAX), Fact::IsNotValid),
+    ];
+    assert_facts(&rt, &set, &facts);
+    Ok(())
+}
+
+// A length that is the start of a range makes it empty, and a lesser one makes it not valid.
+#[test]
+fn range_types_without_an_end(rt: HostRuntime) -> Result<(), Fail> {
+    let mut set = FixedBitSet::with_capacity(rt.alloc(), 5)?;
+    change_range(&rt, &mut set, FromThree, Change::Insert);
+    assert_positions(&rt, rt.alloc(), &set, &[3, 4])?;
+    change_range(&rt, &mut set, Endless, Change::Toggle);
+    assert_positions(&rt, rt.alloc(), &set, &[0, 1, 2])?;
+    assert!(rt; holds(&set, Endless, Fact::Zeroes(2)));
+    let three = FixedBitSet::with_capacity(rt.alloc(), 3)?;
+    assert!(rt; holds(&three, FromThree, Fact::Zeroes(0)));
+    assert!(rt; holds(&three, FromThree, Fact::All(true)));
+    assert!(rt; holds(&three, FromThree, Fact::Any(false)));
+    let two = FixedBitSet::with_capacity(rt.alloc(), 2)?;
+    assert!(rt; holds(&two, FromThree, Fact::IsNotValid));
+    assert!(rt; holds(&two, Endless, Fact::Ones(0)));
+    Ok(())
+}
+
 fn window(from: usize, size: usize) -> Span
     requires { from + size ≤ 1_000 }
 {
@@ -194,7 +243,8 @@ fn changed_between(
     Ok(left)
 }
 
-fn assert_answers(rt: &impl Abort, flags: &[bool], set: &FixedBitSet, start: usize, end: usize) {
+fn assert_answers(rt: &impl Abort, flags: &[bool], set: &FixedBitSet, span: Span) {
+    let (start, end) = span.ends(flags.len());
     let ones = count_in(flags, start, end, true);
     let zeroes = count_in(flags, start, end, false);
     for fact in [
@@ -204,8 +254,8 @@ fn assert_answers(rt: &impl Abort, flags: &[bool], set: &FixedBitSet, start: usi
         Fact::Any(ones != 0),
     ] {
         assert!(rt;
-            holds(set, start..end, fact),
-            "{start}..{end} of {}",
+            holds_of_span(set, span, fact),
+            "{span:?} of {}",
             flags.len()
         );
     }
@@ -215,9 +265,9 @@ fn assert_changes(
     rt: &impl Abort,
     alloc: Global,
     flags: &[bool],
-    start: usize,
-    end: usize,
+    span: Span,
 ) -> Result<(), AllocError> {
+    let (start, end) = span.ends(flags.len());
     for change in [
         Change::Insert,
         Change::Remove,
@@ -226,14 +276,35 @@ fn assert_changes(
         Change::Set(false),
     ] {
         let mut set = filled(alloc, flags)?;
-        change_range(rt, &mut set, start..end, change);
+        change_span(rt, &mut set, span, change);
         let expected = changed_between(alloc, flags, start, end, change)?;
         assert!(rt;
             is_same(&set, &expected),
-            "{change:?} of {start}..{end} of {}",
+            "{change:?} of {span:?} of {}",
             flags.len()
         );
     }
+    Ok(())
+}
+
+// Each call on the range, or that it is not valid.
+fn assert_range(
+    rt: &impl Abort,
+    alloc: Global,
+    flags: &[bool],
+    set: &FixedBitSet,
+    span: Span,
+) -> Result<(), AllocError> {
+    let (start, end) = span.ends(flags.len());
+    if start <= end && end <= flags.len() {
+        assert_answers(rt, flags, set, span);
+        return assert_changes(rt, alloc, flags, span);
+    }
+    assert!(rt;
+        holds_of_span(set, span, Fact::IsNotValid),
+        "{span:?} of {}",
+        flags.len()
+    );
     Ok(())
 }
 
@@ -246,16 +317,7 @@ fn assert_ranges_from(
 ) -> Result<(), AllocError> {
     let set = filled(alloc, flags)?;
     for end in 0..flags.len().saturating_add(2) {
-        let is_valid = start <= end && end <= flags.len();
-        assert!(rt;
-            set.range_is_valid(&(start..end)) == is_valid,
-            "{start}..{end} of {}",
-            flags.len()
-        );
-        if is_valid {
-            assert_answers(rt, flags, &set, start, end);
-            assert_changes(rt, alloc, flags, start, end)?;
-        }
+        assert_range(rt, alloc, flags, &set, Span::Between(start, end))?;
     }
     Ok(())
 }
@@ -266,6 +328,32 @@ fn every_range_of_every_length_to_130(rt: HostRuntime) -> Result<(), Fail> {
         let flags = chosen(rt.alloc(), bits)?;
         for start in 0..bits + 2 {
             assert_ranges_from(&rt, rt.alloc(), &flags, start)?;
+        }
+    }
+    Ok(())
+}
+
+// The same of the ranges that have their last position too.
+fn assert_ranges_through(
+    rt: &impl Abort,
+    alloc: Global,
+    flags: &[bool],
+    last: usize,
+) -> Result<(), AllocError> {
+    let set = filled(alloc, flags)?;
+    assert_range(rt, alloc, flags, &set, Span::UpThrough(last))?;
+    for start in 0..flags.len().saturating_add(2) {
+        assert_range(rt, alloc, flags, &set, Span::Through(start, last))?;
+    }
+    Ok(())
+}
+
+#[test]
+fn every_inclusive_range_of_every_length_to_130(rt: HostRuntime) -> Result<(), Fail> {
+    for bits in 0..131 {
+        let flags = chosen(rt.alloc(), bits)?;
+        for last in 0..bits + 1 {
+            assert_ranges_through(&rt, rt.alloc(), &flags, last)?;
         }
     }
     Ok(())

@@ -1,12 +1,12 @@
 //! Ranges and the calls on them by name, so that tables can have them.
 
-ghost use Rattle.std.specs.Prelude.{◌≡◌, ◌+◌, ◌≤◌, ◌^◌, ◌<◌, Option, Some};
+ghost use Rattle.std.specs.Prelude.{◌≡◌, ◌+◌, ◌≤◌, ◌^◌, ◌<◌, Option, None, Some};
 
 use fixedbitset::{FixedBitSet, IndexRange};
 use std::process::Abort;
 
 /// A range type of the caller's own: the `size` positions from `from` on.
-#[derive(Clone, Copy)]
+#[derive(Clone, Copy, Debug)]
 pub struct Window {
     pub from: usize,
     pub size: usize,
@@ -27,14 +27,67 @@ impl IndexRange<usize> for Window {
     }
 }
 
-/// A range, by the type that it is of.
+/// A range type of the caller's own that has no ends: all positions.
 #[derive(Clone, Copy)]
+pub struct Endless;
+
+impl IndexRange<usize> for Endless {
+    ghost start_of = { λ _. None };
+
+    ghost end_of = { λ _. None };
+
+    fn start(&self) -> Option<usize> {
+        None
+    }
+
+    fn end(&self) -> Option<usize> {
+        None
+    }
+}
+
+/// A range type of the caller's own: the positions from 3 on.
+#[derive(Clone, Copy)]
+pub struct FromThree;
+
+impl IndexRange<usize> for FromThree {
+    ghost start_of = { λ _. Some 3 };
+
+    ghost end_of = { λ _. None };
+
+    fn start(&self) -> Option<usize> {
+        Some(3)
+    }
+
+    fn end(&self) -> Option<usize> {
+        None
+    }
+}
+
+/// A range, by the type that it is of.
+#[derive(Clone, Copy, Debug)]
 pub enum Span {
     Full,
     From(usize),
     To(usize),
     Between(usize, usize),
+    Through(usize, usize),
+    UpThrough(usize),
     Own(Window),
+}
+
+impl Span {
+    /// What it means of a set of this length: the positions from the first up to and without the second.
+    pub fn ends(self, length: usize) -> (usize, usize) {
+        match self {
+            Span::Full => (0, length),
+            Span::From(start) => (start, length),
+            Span::To(end) => (0, end),
+            Span::Between(start, end) => (start, end),
+            Span::Through(start, last) => (start, last.saturating_add(1)),
+            Span::UpThrough(last) => (0, last.saturating_add(1)),
+            Span::Own(window) => (window.from, window.from + window.size),
+        }
+    }
 }
 
 #[derive(Clone, Copy, Debug)]
@@ -71,12 +124,15 @@ pub fn change_range<R: IndexRange<usize> + Drop>(
     }
 }
 
-fn change_span(rt: &impl Abort, set: &mut FixedBitSet, span: Span, change: Change) {
+/// Changes the positions of a span.
+pub fn change_span(rt: &impl Abort, set: &mut FixedBitSet, span: Span, change: Change) {
     match span {
         Span::Full => change_range(rt, set, .., change),
         Span::From(start) => change_range(rt, set, start.., change),
         Span::To(end) => change_range(rt, set, ..end, change),
         Span::Between(start, end) => change_range(rt, set, start..end, change),
+        Span::Through(start, last) => change_range(rt, set, start..=last, change),
+        Span::UpThrough(last) => change_range(rt, set, ..=last, change),
         Span::Own(window) => change_range(rt, set, window, change),
     }
 }
@@ -112,12 +168,15 @@ pub fn holds<R: IndexRange<usize> + Drop>(set: &FixedBitSet, range: R, fact: Fac
     }
 }
 
-fn holds_of_span(set: &FixedBitSet, span: Span, fact: Fact) -> bool {
+/// The same of a span.
+pub fn holds_of_span(set: &FixedBitSet, span: Span, fact: Fact) -> bool {
     match span {
         Span::Full => holds(set, .., fact),
         Span::From(start) => holds(set, start.., fact),
         Span::To(end) => holds(set, ..end, fact),
         Span::Between(start, end) => holds(set, start..end, fact),
+        Span::Through(start, last) => holds(set, start..=last, fact),
+        Span::UpThrough(last) => holds(set, ..=last, fact),
         Span::Own(window) => holds(set, window, fact),
     }
 }

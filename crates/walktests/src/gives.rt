@@ -43,25 +43,5 @@ pub fn assert_gives<I: DoubleEndedIterator<Item = usize>>(
     }
 }
 
-/// The same of a walk that is called from the front alone.
-pub fn assert_gives_in_order<I: Iterator<Item = usize>>(
-    rt: &impl Abort,
-    mut walk: I,
-    items: &[usize],
-)
-    requires { (state : I) → I.can_next state }
-{
-    let mut left = items;
-    for item in items {
-        assert_within(rt, walk.size_hint(), left.len());
-        assert_eq!(rt; walk.next(), Some(*item));
-        left = left.get(1..).unwrap_or(&[]);
-    }
-    for _ in 0..3 {
-        assert_within(rt, walk.size_hint(), 0);
-        assert_eq!(rt; walk.next(), None);
-    }
-}
-
 /// From the front alone, from the back alone, and from both in turn.
 pub const ORDERS: [[bool; 2]; 4] = [[true, true], [false, false], [true, false], [false, true]];

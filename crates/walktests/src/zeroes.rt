@@ -1,6 +1,6 @@
 //! The positions below the length that are not set: the free slots of an allocator.
 
-ghost use Rattle.std.specs.Prelude.{◌≡◌, ℕ, ◌<◌, ◌≤◌, nat_le, length, find, true, false, IfOk, IfSome, IfNone};
+ghost use Rattle.std.specs.Prelude.{◌≡◌, ℕ, ◌<◌, ◌≤◌, nat_le, length, reverse, find, true, false, IfOk, IfSome, IfNone};
 ghost use Rattle.walktests.specs.Calls.{first_of};
 ghost use Rattle.fixedbitset.specs.Bits as model;
 
@@ -57,6 +57,13 @@ pub fn collected(alloc: Global, set: &FixedBitSet) -> Result<Vec<usize>, AllocEr
     ensures { IfOk result (λ list. list.items ≡ model.asc (model.complement set.now)) }
 {
     set.zeroes().collect(alloc)
+}
+
+/// All free slots, the last one first.
+pub fn descending(alloc: Global, set: &FixedBitSet) -> Result<Vec<usize>, AllocError>
+    ensures { IfOk result (λ list. list.items ≡ reverse (model.asc (model.complement set.now))) }
+{
+    set.zeroes().rev().collect(alloc)
 }
 
 #[cfg(test)]

@@ -1,8 +1,7 @@
 //! Calls of a walk from its ends, one after the other.
-ghost use Rattle.std.specs.Prelude.{◌≡◌, ◌≤◌, [], length, replicate, IfOk};
+ghost use Rattle.std.specs.Prelude.{◌≡◌, ◌≤◌, [], length, IfOk};
 ghost use Rattle.std.specs.Vec.{vec_capacity};
 ghost use Rattle.bitwalks.specs.Pairs.{joined_items, split_items};
-ghost use Rattle.bitcommands.specs.declared.commands.walking.End.TheVariants.{Front};
 ghost use Rattle.bitcommands.specs.Calls.{calls, item_at, without_item_at};
 
 use crate::commands::walking::End;
@@ -39,6 +38,18 @@ impl<'a> TwoEnds for Ones<'a> {
 }
 
 impl TwoEnds for IntoOnes {
+    ghost items_left = { λ walk. walk.items };
+
+    fn front(&mut self) -> Option<usize> {
+        self.next()
+    }
+
+    fn back(&mut self) -> Option<usize> {
+        self.next_back()
+    }
+}
+
+impl<'a> TwoEnds for Zeroes<'a> {
     ghost items_left = { λ walk. walk.items };
 
     fn front(&mut self) -> Option<usize> {
@@ -138,21 +149,4 @@ fn call<W: TwoEnds>(walk: &mut W, end: &End) -> Option<usize>
         End::Front => walk.front(),
         End::Back => walk.back(),
     }
-}
-
-// So many calls from the front. The list is empty and has a place for each answer.
-pub(super) fn call_fronts(
-    mut walk: Zeroes<'_>,
-    count: usize,
-    mut items: Vec<Option<usize>>,
-) -> Vec<Option<usize>>
-    requires empty { items.items ≡ [] }
-    requires room { count ≤ vec_capacity items }
-    ensures { result.items ≡ calls (replicate count Front) walk.entry.items }
-{
-    for _ in 0..count {
-        let item = walk.next();
-        items.push(item).unwrap();
-    }
-    items
 }

@@ -2,7 +2,7 @@
 ghost use Rattle.bitcommands.specs.Actions.{walk_action};
 ghost use Rattle.bitcommands.specs.Outcomes.{Answers};
 
-use crate::commands::calling::{call_all, call_each, call_fronts};
+use crate::commands::calling::{call_all, call_each};
 use crate::commands::refusals::{Refusal, check_set, check_sets};
 use crate::commands::replies::Reply;
 use fixedbitset::FixedBitSet;
@@ -27,8 +27,8 @@ pub enum Walk {
     Ones { set: usize, ends: Vec<End> },
     /// The same of a set that the walk takes: an empty set of length 0 is left in its place.
     IntoOnes { set: usize, ends: Vec<End> },
-    /// The positions below the length that the set `set` lacks, in ascending order, by `count` calls from the front.
-    Zeroes { set: usize, count: usize },
+    /// The positions below the length that the set `set` lacks, in ascending order.
+    Zeroes { set: usize, ends: Vec<End> },
     /// The positions of the set `a`, and then those of the set `b` that `a` lacks.
     Union { a: usize, b: usize, ends: Vec<End> },
     /// The positions that both sets have, in ascending order.
@@ -60,10 +60,9 @@ pub(super) fn apply_walk(
             let items = call_each(taken.into_ones(), ends.as_slice(), places);
             Ok(Reply::Items(items))
         }
-        Walk::Zeroes { set, count } => {
+        Walk::Zeroes { set, ends } => {
             check_set(sets, *set)?;
-            let places = Vec::with_capacity(alloc, *count)?;
-            let items = call_fronts(sets[*set].zeroes(), *count, places);
+            let items = call_all(alloc, sets[*set].zeroes(), ends.as_slice())?;
             Ok(Reply::Items(items))
         }
         Walk::Union { a, b, ends } => {

@@ -11,6 +11,7 @@ fn free_slots(rt: HostRuntime) -> Result<(), Fail> {
     assert_answer(&rt, first_clear(&set), Some(79));
     assert_eq!(rt; count(&set), 4);
     assert_items(&rt, &collected(rt.alloc(), &set)?, &[79, 80, 81, 82]);
+    assert_items(&rt, &descending(rt.alloc(), &set)?, &[82, 81, 80, 79]);
     for (low, wanted) in [(0, Some(79)), (81, Some(81)), (83, None)] {
         assert_answer(&rt, some_clear_from(&set, low), wanted);
         assert_answer(&rt, first_clear_from(&set, low), wanted);
