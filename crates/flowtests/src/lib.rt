@@ -1,0 +1,10 @@
+//! Tests of the data-flow solver: worked problems with their least solutions, what is no problem, refused memory, and small
+//! problems beside a solver that tries all solutions.
+#![tactic(auto)]
+
+#[cfg(test)]
+mod slow;
+#[cfg(test)]
+mod small;
+#[cfg(test)]
+mod worked;
