@@ -1,0 +1,114 @@
+//! An allocator of slots: which of so many slots are taken.
+//!
+//! What it promises: `take` takes the least free slot, and answers `None` exactly where all are taken; `give_back` makes that
+//! slot free and no other; and in every run of calls a slot that `take` answered twice was given back in between. Contracts
+//! see it as a length, how many slots there are, and the set of those that are taken (`specs/Pool.antt`).
+
+ghost use Rattle.std.specs.Prelude.{◌≡◌, ◌≢◌, ◌+◌, ◌<◌, ◌≤◌, ◌↔◌, ℕ, List, [], ◌∷◌, ◌++◌, Contains, IsTrue, IfOk, IfNone, IfSome, MatchOption};
+ghost use Rattle.fixedbitset.specs.Bits as model;
+ghost use Rattle.fixedbitset.specs.Bits.{Bits};
+ghost use Rattle.use_slots.specs.Pool.{IsTaken, IsFree, IsLeastFree, IsAnswer, IsLeft, free_count, taken_count};
+ghost use Rattle.use_slots.specs.Runs.{Call, Take, Give_back, Runs};
+
+use bitlaws::laws::counts_of_range_add_up;
+use fixedbitset::FixedBitSet;
+use std::alloc::{AllocError, Global};
+use std::marker::Model;
+
+/// So many slots, numbered from 0, each taken or free.
+#[derive(Drop)]
+pub struct Slots {
+    taken: FixedBitSet,
+}
+
+impl Model for Slots {
+    ghost use Rattle.fixedbitset.specs.Bits.{Bits};
+    ghost use Rattle.fixedbitset.specs.BitsCode.{code};
+
+    ghost Value = { Bits };
+
+    ghost coded = { code };
+
+    ghost view = { λ s. s.taken };
+}
+
+impl Slots {
+    /// So many slots, all free. `Err` comes only where memory was refused.
+    pub fn new(alloc: Global, many: usize) -> Result<Slots, AllocError>
+        ensures { IfOk result (λ slots. slots ≡ model.empty many) }
+    {
+        Ok(Slots {
+            taken: FixedBitSet::with_capacity(alloc, many)?,
+        })
+    }
+
+    /// Takes the least free slot. `None` comes exactly where all are taken.
+    #[tactic(auto, using(fixedbitset::specs::WalkFacts::zero_items))]
+    pub fn take(&mut self) -> Option<usize>
+        ensures slot { IsAnswer self.old result }
+        ensures after { IsLeft self.old result self.new }
+        ensures left { MatchOption result (free_count self.old ≡ 0) (λ _. free_count self.new + 1 ≡ free_count self.old) }
+    {
+        let slot = self.taken.zeroes().next()?;
+        self.taken.insert(slot);
+        Some(slot)
+    }
+
+    /// Makes a slot free that is taken.
+    pub fn give_back(&mut self, slot: usize)
+        requires { IsTaken self.old slot }
+        ensures after { self.new ≡ model.remove self.old slot }
+        ensures left { free_count self.new ≡ free_count self.old + 1 }
+    {
+        self.taken.remove(slot);
+    }
+
+    /// Whether the slot is taken. A slot past the end is not.
+    pub fn is_taken(&self, slot: usize) -> bool
+        ensures { IsTrue result ↔ IsTaken self.now slot }
+    {
+        self.taken.contains(slot)
+    }
+
+    /// How many slots are free. They and those that are taken are all slots.
+    pub fn free(&self) -> usize
+        ensures count { result ≡ free_count self.now }
+        ensures all { result + taken_count self.now ≡ self.now.length }
+    {
+        counts_of_range_add_up();
+        self.taken.count_zeroes(..)
+    }
+
+    /// Moves what is in a slot to the front: gives the slot back and takes the least free one, which is not past it.
+    pub fn lower(&mut self, slot: usize) -> usize
+        requires { IsTaken self.old slot }
+        ensures least { IsLeastFree (model.remove self.old slot) result }
+        ensures after { self.new ≡ model.insert (model.remove self.old slot) result }
+        ensures within { result ≤ slot }
+    {
+        self.give_back(slot);
+        self.take().unwrap_or(slot)
+    }
+}
+
+/// Takes two slots, which differ, or none where fewer than two are free.
+pub fn take_two(slots: &mut Slots) -> Option<(usize, usize)>
+    ensures few { IfNone result ((free_count slots.old < 2) × (slots.new ≡ slots.old)) }
+    ensures apart { IfSome result (λ two. two.0 ≢ two.1) }
+    ensures were_free { IfSome result (λ two. IsFree slots.old two.0 × IsFree slots.old two.1) }
+    ensures are_taken { IfSome result (λ two. IsTaken slots.new two.0 × IsTaken slots.new two.1) }
+{
+    if slots.free() < 2 {
+        return None;
+    }
+    let first = slots.take()?;
+    let second = slots.take()?;
+    Some((first, second))
+}
+
+/// In every run of calls a slot that `take` answers twice was given back in between. It does nothing: its contract is a
+/// law of what `take` and `give_back` ensure.
+pub fn never_twice()
+    ensures { (old new : Bits) (slot : ℕ) (between : List Call)
+        → Runs old (Take (Some slot) ∷ (between ++ Take (Some slot) ∷ [])) new → Contains between (Give_back slot) }
+{}
