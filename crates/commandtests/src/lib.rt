@@ -1,7 +1,9 @@
 //! Tests of commands over numbered sets: the commands on two sets by every pair of fifteen lengths beside slow values, a
-//! run past a refusal, and the texts of replies.
+//! run past a refusal, lengths near the greatest, and the texts of replies.
 #![tactic(auto)]
 
+#[cfg(test)]
+mod greatest;
 #[cfg(test)]
 mod pairs;
 #[cfg(test)]

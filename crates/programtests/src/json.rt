@@ -12,7 +12,8 @@ fn a_run_with_json(rt: HostRuntime) -> Result<(), Fail> {
 #[test]
 fn faults_of_json(rt: HostRuntime) -> Result<(), Fail> {
     assert_replies(&rt, rt.alloc(), &json_sessions::FAULTS)?;
-    assert_replies(&rt, rt.alloc(), &json_sessions::ORDER_OF_TESTS)
+    assert_replies(&rt, rt.alloc(), &json_sessions::ORDER_OF_TESTS)?;
+    assert_replies(&rt, rt.alloc(), &json_sessions::HOSTILE)
 }
 
 #[test]

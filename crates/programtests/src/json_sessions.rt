@@ -79,6 +79,23 @@ pub const ORDER_OF_TESTS: [(&str, &str); 11] = [
     ("text 16", "F1 no such set"),
 ];
 
+/// Of a key that comes twice the last value counts. JSON that does not end is no command, whichever set it is for.
+pub const HOSTILE: [(&str, &str); 10] = [
+    ("from_value 0 [1,[[[]]]]", "F5 J8 0"),
+    (
+        "from_value 0 [18446744073709551615,[]]",
+        "F7 length above the limit",
+    ),
+    ("from_value 16 [", "F8 not a command"),
+    ("len 0", "0"),
+    ("from_value 0  [70,[]]", "ok"),
+    ("len 0", "70"),
+    ("from_value 0 [71,[]]\r", "ok"),
+    ("len 0", "71"),
+    (r#"from_value 0 {"length":1,"length":2,"data":[255]}"#, "ok"),
+    ("text 0", "11"),
+];
+
 /// Spaces, tabs and carriage returns in the JSON and around it, and lines that have none.
 pub const SPACES: [(&str, &str); 25] = [
     ("from_value 0  [ 3 , [ 5 ] ] ", "ok"),

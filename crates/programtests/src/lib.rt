@@ -8,6 +8,8 @@ mod json;
 #[cfg(test)]
 mod json_sessions;
 #[cfg(test)]
+mod mutants;
+#[cfg(test)]
 mod program;
 #[cfg(test)]
 mod sessions;

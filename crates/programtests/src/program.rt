@@ -88,6 +88,7 @@ fn walks_from_the_front(rt: HostRuntime) -> Result<(), Fail> {
 fn walks_from_both_ends(rt: HostRuntime) -> Result<(), Fail> {
     assert_replies(&rt, rt.alloc(), &walk_sessions::BOTH_ENDS)?;
     assert_replies(&rt, rt.alloc(), &walk_sessions::ZEROES)?;
+    assert_replies(&rt, rt.alloc(), &walk_sessions::ZEROES_FROM_BOTH_ENDS)?;
     assert_replies(&rt, rt.alloc(), &walk_sessions::NO_WALKS)
 }
 
@@ -102,7 +103,8 @@ fn walks_over_two_sets(rt: HostRuntime) -> Result<(), Fail> {
 fn commands_over_ranges(rt: HostRuntime) -> Result<(), Fail> {
     assert_replies(&rt, rt.alloc(), &sessions::NO_POSITIONS)?;
     assert_replies(&rt, rt.alloc(), &sessions::SET_RANGES)?;
-    assert_replies(&rt, rt.alloc(), &sessions::TOGGLED_RANGES)
+    assert_replies(&rt, rt.alloc(), &sessions::TOGGLED_RANGES)?;
+    assert_replies(&rt, rt.alloc(), &sessions::INCLUSIVE_RANGES)
 }
 
 #[test]
@@ -137,6 +139,8 @@ fn one_set_named_twice(rt: HostRuntime) -> Result<(), Fail> {
         "bitor_assign",
         "intersect_with",
         "bitand_assign",
+        "clone_from",
+        "clone",
     ] {
         assert_with_itself(&rt, rt.alloc(), command, ("ones 3 fff", "1 5 none"))?;
     }

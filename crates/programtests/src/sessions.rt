@@ -94,6 +94,29 @@ pub const TOGGLED_RANGES: [(&str, &str); 10] = [
     ("count_ones 2 ..", "0"),
 ];
 
+/// With `=` a range ends behind its last position; behind the greatest number there is none.
+pub const INCLUSIVE_RANGES: [(&str, &str); 19] = [
+    ("with_capacity 1 10", "ok"),
+    ("insert_range 1 ..", "ok"),
+    ("count_ones 1 ..=4", "5"),
+    ("count_ones 1 2..=2", "1"),
+    ("count_ones 1 3..=2", "0"),
+    ("count_ones 1 ..=9", "10"),
+    ("count_ones 1 4..=2", "F3 range not valid"),
+    ("count_ones 1 ..=10", "F3 range not valid"),
+    ("count_ones 1 ..=18446744073709551615", "F3 range not valid"),
+    ("range_is_valid 1 0..=18446744073709551615", "false"),
+    ("range_is_valid 1 10..=9", "true"),
+    ("range_is_valid 1 00..=09", "true"),
+    ("remove_range 1 3..=5", "ok"),
+    ("set_range 1 ..=0 false", "ok"),
+    ("toggle_range 1 5..=6", "ok"),
+    ("count_zeroes 1 ..=6", "4"),
+    ("contains_all_in_range 1 1..=2", "true"),
+    ("contains_any_in_range 1 3..=4", "false"),
+    ("ones 1 ffffffff", "1 2 5 7 8 9 none none"),
+];
+
 /// No set comes before a range that isn't valid, and a refused command changes nothing.
 pub const RANGES_NOT_VALID: [(&str, &str); 14] = [
     ("with_capacity 3 10", "ok"),
@@ -148,7 +171,7 @@ pub const GROWN_BY_A_UNION: [(&str, &str); 11] = [
     ("is_subset 16 0", "F1 no such set"),
 ];
 
-pub const WITH_ITSELF: [(&str, &str); 13] = [
+pub const WITH_ITSELF: [(&str, &str); 23] = [
     ("grow 3 9", "ok"),
     ("insert 3 1", "ok"),
     ("insert 3 5", "ok"),
@@ -157,8 +180,18 @@ pub const WITH_ITSELF: [(&str, &str); 13] = [
     ("bitor 3 3 3", "ok"),
     ("ones 3 fff", "1 5 none"),
     ("union_count 3 3", "2"),
+    ("intersection_count 3 3", "2"),
+    ("difference_count 3 3", "0"),
+    ("symmetric_difference_count 3 3", "0"),
     ("is_subset 3 3", "true"),
+    ("is_superset 3 3", "true"),
     ("is_disjoint 3 3", "false"),
+    ("eq 3 3", "true"),
+    ("cmp 3 3", "equal"),
+    ("union 3 3 fbf", "1 5 none"),
+    ("intersection 3 3 bfb", "5 1 none"),
+    ("difference 3 3 fb", "none none"),
+    ("symmetric_difference 3 3 bf", "none none"),
     ("bitxor 3 3 3", "ok"),
     ("len 3", "9"),
     ("ones 3 f", "none"),
@@ -181,7 +214,8 @@ pub const LIMIT: [(&str, &str); 4] = [
     ("len 3", "1000000"),
 ];
 
-pub const LEADING_ZEROS: [(&str, &str); 3] = [
+pub const LEADING_ZEROS: [(&str, &str); 4] = [
+    ("len 00", "0"),
     ("grow 00 0007", "ok"),
     ("len 0", "7"),
     ("grow 0 018446744073709551615", "F7 length above the limit"),
@@ -212,9 +246,19 @@ pub const NO_COMMANDS: &[&str] = &[
     "count_ones 0 .",
     "count_ones 0 0",
     "count_ones 0 0...1",
+    "count_ones 0 ...",
     "count_ones 0 0.. 1",
     "count_ones 0 +0..1",
-    "count_ones 0 0..=1",
+    "count_ones 0 0..=",
+    "count_ones 0 ..=",
+    "count_ones 0 ..==1",
+    "count_ones 0 ..= 1",
+    "count_ones 0 =1",
+    "count_ones 0 0=..1",
+    "count_ones 0 0.=1",
+    "count_ones 0 ..=+1",
+    "count_ones 0 ..=1=",
+    "count_ones 0 ..=18446744073709551616",
     "count_ones 0 ..18446744073709551616",
     "set_range 0 ..",
     "union_with 0",

@@ -24,6 +24,30 @@ pub const BOTH_ENDS: [(&str, &str); 20] = [
     ("ones 9 b", "none"),
 ];
 
+/// No zero is past the length or at a position that is set, also at the edges of words and from the back.
+pub const ZEROES_FROM_BOTH_ENDS: [(&str, &str); 20] = [
+    ("with_capacity 2 3", "ok"),
+    ("insert 2 1", "ok"),
+    ("zeroes 2 bfb", "2 0 none"),
+    ("zeroes 2 ffbb", "0 2 none none"),
+    ("with_capacity 3 131", "ok"),
+    ("insert 3 0", "ok"),
+    ("insert_range 3 63..=64", "ok"),
+    ("insert 3 130", "ok"),
+    ("zeroes 3 bfbf", "129 1 128 2"),
+    ("with_capacity 4 70", "ok"),
+    ("insert_range 4 64..=69", "ok"),
+    ("zeroes 4 b", "63"),
+    ("zeroes 4 bb", "63 62"),
+    ("with_capacity 5 0", "ok"),
+    ("zeroes 5 bf", "none none"),
+    ("with_capacity 6 128", "ok"),
+    ("zeroes 6 bfb", "127 0 126"),
+    ("insert_range 6 1..=127", "ok"),
+    ("zeroes 6 bbf", "0 none none"),
+    ("zeroes 16 b", "F1 no such set"),
+];
+
 /// Where each position below the length is set there is no zero, also in the last word.
 pub const ZEROES: [(&str, &str); 14] = [
     ("with_capacity 2 64", "ok"),
@@ -42,11 +66,13 @@ pub const ZEROES: [(&str, &str); 14] = [
     ("zeroes 6 ffff", "0 2 none none"),
 ];
 
-/// The letters are `f` and `b`, at least one; of `zeroes` `f` alone.
-pub const NO_WALKS: [(&str, &str); 13] = [
+/// The letters are `f` and `b`, at least one.
+pub const NO_WALKS: [(&str, &str); 15] = [
     ("with_capacity 1 3", "ok"),
     ("insert 1 1", "ok"),
-    ("zeroes 1 fb", "F8 not a command"),
+    ("zeroes 1 fb", "0 2"),
+    ("zeroes 1 fbx", "F8 not a command"),
+    ("zeroes 1 2", "F8 not a command"),
     ("zeroes 1", "F8 not a command"),
     ("ones 1", "F8 not a command"),
     ("ones 1 fx", "F8 not a command"),

@@ -1,0 +1,128 @@
+//! The calls that may be refused memory and make a value, and those of commands and lines.
+
+use crate::outcome::Fault;
+use crate::starts::{LONG, Starts, is_long, is_short, is_value};
+use bitcommands::commands::{Change, Command, Look, Reply, run};
+use bitlines::lines::parse_line;
+use fixedbitset::FixedBitSet;
+use std::alloc::Global;
+
+#[derive(Clone, Copy, PartialEq, Eq)]
+pub enum Making {
+    WithCapacity,
+    WithCapacityAndBlocks,
+    FromIter,
+    Clone,
+    Bitand,
+    Bitor,
+    Bitxor,
+    FromValue,
+    ToValue,
+    Text,
+    PushText,
+    Run,
+}
+
+pub const CALLS: [(&str, Making); 12] = [
+    ("with_capacity", Making::WithCapacity),
+    ("with_capacity_and_blocks", Making::WithCapacityAndBlocks),
+    ("from_iter", Making::FromIter),
+    ("clone", Making::Clone),
+    ("bitand", Making::Bitand),
+    ("bitor", Making::Bitor),
+    ("bitxor", Making::Bitxor),
+    ("from_value", Making::FromValue),
+    ("to_value", Making::ToValue),
+    ("to_string", Making::Text),
+    ("push_text", Making::PushText),
+    ("run", Making::Run),
+];
+
+/// Makes the call, looks at the value that it makes, and that the sets which it is given stay.
+pub fn made(alloc: Global, starts: &mut Starts, call: Making) -> Result<bool, Fault> {
+    let outcome = match call {
+        Making::ToValue | Making::Text | Making::PushText => text_made(alloc, starts, call),
+        Making::Run => commands_run(alloc, starts),
+        _ => set_made(alloc, starts, call),
+    };
+    if is_short(&starts.short) && is_long(&starts.long) {
+        outcome
+    } else {
+        Ok(false)
+    }
+}
+
+fn set_made(alloc: Global, starts: &Starts, call: Making) -> Result<bool, Fault> {
+    let (short, long) = (&starts.short, &starts.long);
+    Ok(match call {
+        Making::WithCapacity => is_value(&FixedBitSet::with_capacity(alloc, LONG)?, LONG, &[]),
+        Making::WithCapacityAndBlocks => {
+            let set = FixedBitSet::with_capacity_and_blocks(alloc, LONG, [8])?;
+            is_value(&set, LONG, &[3])
+        }
+        Making::FromIter => is_value(&FixedBitSet::from_iter(alloc, [LONG])?, LONG + 1, &[LONG]),
+        Making::Clone => is_long(&long.clone()?),
+        Making::Bitand => is_value(&long.bitand(short)?, 10, &[]),
+        Making::Bitor => is_value(&short.bitor(long)?, LONG, &[3, LONG - 1]),
+        Making::Bitxor => is_value(&short.bitxor(long)?, LONG, &[3, LONG - 1]),
+        Making::FromValue => is_short(&FixedBitSet::from_value(alloc, &starts.json)?),
+        _ => false,
+    })
+}
+
+fn text_made(alloc: Global, starts: &mut Starts, call: Making) -> Result<bool, Fault> {
+    Ok(match call {
+        Making::ToValue => FixedBitSet::check_value(&starts.short.to_value(alloc)?)? == 10,
+        Making::Text => starts.short.to_string(alloc)?.as_str() == "0001000000",
+        Making::PushText => {
+            let pushed = Reply::Done.push_text(&mut starts.full);
+            if pushed.is_err() && !starts.full.is_empty() {
+                return Ok(false);
+            }
+            pushed?;
+            starts.full.as_slice() == "ok".as_bytes()
+        }
+        _ => false,
+    })
+}
+
+// Of three commands that take no memory the places of the replies alone are asked for.
+fn commands_run(alloc: Global, starts: &mut Starts) -> Result<bool, Fault> {
+    let mut sets = [starts.take_short()?];
+    let commands = [
+        Command::Change(Change::Toggle { set: 0, bit: 3 }),
+        Command::Look(Look::IsClear { set: 0 }),
+        Command::Change(Change::Put { set: 0, bit: 9 }),
+    ];
+    match run(alloc, &mut sets, &commands, LONG) {
+        Ok(replies) => Ok(
+            replies.len() == 3
+                && matches!(replies.first(), Some(Reply::Done))
+                && matches!(replies.get(1), Some(Reply::Bool(true)))
+                && matches!(replies.get(2), Some(Reply::Bool(false)))
+                && is_value(&sets[0], 10, &[9]),
+        ),
+        Err(fault) if is_short(&sets[0]) => Err(Fault::from(fault)),
+        Err(_) => Ok(false),
+    }
+}
+
+/// One line of each command that holds a list or a JSON value.
+pub const LINES: [&str; 10] = [
+    "with_capacity_and_blocks 0 9 1",
+    "from_iter 0 1",
+    "from_value 0 [3,[5]]",
+    "extend 0 1",
+    "ones 0 f",
+    "into_ones 0 f",
+    "union 0 1 f",
+    "intersection 0 1 f",
+    "difference 0 1 f",
+    "symmetric_difference 0 1 f",
+];
+
+/// Reads the line.
+pub fn line_read(alloc: Global, line: &str) -> Result<bool, Fault> {
+    parse_line(alloc, line.as_bytes())?;
+    Ok(true)
+}

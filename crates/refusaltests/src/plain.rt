@@ -1,0 +1,324 @@
+//! The calls on sets that take no memory, in groups. Each answers whether all calls of the group did what they do with
+//! ample memory.
+
+use crate::growing::Asked;
+use crate::outcome::Fault;
+use crate::starts::{LONG, Starts, is_long, is_short, is_value};
+use fixedbitset::{ExtendFault, FixedBitSet, IndexRange, JsonFault, Steps, counted};
+use serde_json::Value;
+use std::alloc::Global;
+use std::cmp::Ordering;
+use std::hash::{DefaultHasher, Hash, Hasher};
+
+#[derive(Clone, Copy, PartialEq, Eq)]
+pub enum Group {
+    Looks,
+    Positions,
+    Unchecked,
+    RangesAsked,
+    RangesChanged,
+    RangesCounted,
+    Lesser,
+    Counts,
+    Counted,
+    Order,
+    GrowthInPlace,
+    JoinsInPlace,
+    Json,
+}
+
+pub const GROUPS: [(&str, Group); 13] = [
+    ("looks", Group::Looks),
+    ("positions", Group::Positions),
+    ("unchecked", Group::Unchecked),
+    ("ranges_asked", Group::RangesAsked),
+    ("ranges_changed", Group::RangesChanged),
+    ("ranges_counted", Group::RangesCounted),
+    ("lesser", Group::Lesser),
+    ("counts", Group::Counts),
+    ("counted", Group::Counted),
+    ("order", Group::Order),
+    ("growth_in_place", Group::GrowthInPlace),
+    ("joins_in_place", Group::JoinsInPlace),
+    ("json", Group::Json),
+];
+
+pub fn holds(alloc: Global, starts: &mut Starts, group: Group) -> Result<bool, Fault> {
+    match group {
+        Group::Looks => looks(alloc, starts),
+        Group::Positions => positions(starts),
+        Group::Unchecked => unchecked(starts),
+        Group::RangesAsked => Ok(ranges_asked(&starts.short)),
+        Group::RangesChanged => ranges_changed(starts),
+        Group::RangesCounted => ranges_counted(starts),
+        Group::Lesser => lesser(starts),
+        Group::Counts => Ok(counts(&starts.short, &starts.long)),
+        Group::Counted => counted_calls(starts),
+        Group::Order => Ok(order(&starts.short, &starts.long)),
+        Group::GrowthInPlace => growth_in_place(starts),
+        Group::JoinsInPlace => joins_in_place(starts),
+        Group::Json => Ok(values(&starts.json)),
+    }
+}
+
+// A value in the form, and one that is not.
+fn values(json: &Value) -> bool {
+    FixedBitSet::check_value(json) == Ok(10)
+        && FixedBitSet::check_value(&Value::Null) == Err(JsonFault::Shape)
+}
+
+fn looks(alloc: Global, starts: &mut Starts) -> Result<bool, Fault> {
+    let (empty, default) = (FixedBitSet::new(alloc), FixedBitSet::default(alloc));
+    let mut set = starts.take_short()?;
+    let asked = set.len() == 10
+        && !set.is_empty()
+        && !set.is_clear()
+        && !set.is_full()
+        && set.minimum() == Some(3)
+        && set.maximum() == Some(3)
+        && set.as_slice() == [8].as_slice();
+    if set.as_slice().is_empty() {
+        return Ok(false);
+    }
+    set.set_block(0, 6);
+    let is_set = is_value(&set, 10, &[1, 2]);
+    set.clear();
+    let is_cleared = is_value(&set, 10, &[]);
+    Ok(empty.is_empty() && default.is_full() && asked && is_set && is_cleared)
+}
+
+// A call on one position. `CopyBit` copies what the position before it is.
+#[derive(Clone, Copy)]
+enum Placing {
+    Insert,
+    Remove,
+    Toggle,
+    Put,
+    Set,
+    CopyBit,
+}
+
+const PLACINGS: [(usize, Placing); 6] = [
+    (4, Placing::Insert),
+    (3, Placing::Remove),
+    (5, Placing::Toggle),
+    (6, Placing::Put),
+    (7, Placing::Set),
+    (8, Placing::CopyBit),
+];
+
+// Makes the call, where the position is below the length. `put` answers that it was not set before.
+fn place(set: &mut FixedBitSet, position: usize, placing: Placing) -> bool {
+    if position == 0 || position >= set.len() {
+        return false;
+    }
+    match placing {
+        Placing::Insert => set.insert(position),
+        Placing::Remove => set.remove(position),
+        Placing::Toggle => set.toggle(position),
+        Placing::Put => return !set.put(position),
+        Placing::Set => set.set(position, true),
+        Placing::CopyBit => set.copy_bit(position - 1, position),
+    }
+    true
+}
+
+fn place_unchecked(set: &mut FixedBitSet, position: usize, placing: Placing) -> bool {
+    if position == 0 || position >= set.len() {
+        return false;
+    }
+    match placing {
+        Placing::Insert => set.insert_unchecked(position),
+        Placing::Remove => set.remove_unchecked(position),
+        Placing::Toggle => set.toggle_unchecked(position),
+        Placing::Put => return !set.put_unchecked(position),
+        Placing::Set => set.set_unchecked(position, true),
+        Placing::CopyBit => set.copy_bit_unchecked(position - 1, position),
+    }
+    true
+}
+
+fn positions(starts: &mut Starts) -> Result<bool, Fault> {
+    let mut set = starts.take_short()?;
+    for (position, placing) in PLACINGS {
+        if !place(&mut set, position, placing) {
+            return Ok(false);
+        }
+    }
+    Ok(set.contains(4) && set[5] && !set[10] && is_value(&set, 10, &[4, 5, 6, 7, 8]))
+}
+
+fn unchecked(starts: &mut Starts) -> Result<bool, Fault> {
+    let mut set = starts.take_short()?;
+    for (position, placing) in PLACINGS {
+        if !place_unchecked(&mut set, position, placing) {
+            return Ok(false);
+        }
+    }
+    let is_set = set.len() > 8 && set.contains_unchecked(8);
+    Ok(is_set && is_value(&set, 10, &[4, 5, 6, 7, 8]))
+}
+
+fn ranges_asked(set: &FixedBitSet) -> bool {
+    if !set.range_is_valid(&(2..9)) || set.range_is_valid(&(2..11)) {
+        return false;
+    }
+    set.count_ones(2..9) == 1
+        && set.count_zeroes(2..9) == 6
+        && !set.contains_all_in_range(2..9)
+        && set.contains_any_in_range(2..9)
+        && (2..9).start() == Some(2)
+        && (2..9).end() == Some(9)
+}
+
+// A change of the range, where it is valid.
+#[derive(Clone, Copy)]
+enum Changing {
+    Insert,
+    Remove,
+    Toggle,
+    Set,
+}
+
+fn change<R: IndexRange<usize> + Drop>(set: &mut FixedBitSet, range: R, changing: Changing) {
+    if !set.range_is_valid(&range) {
+        return;
+    }
+    match changing {
+        Changing::Insert => set.insert_range(range),
+        Changing::Remove => set.remove_range(range),
+        Changing::Toggle => set.toggle_range(range),
+        Changing::Set => set.set_range(range, true),
+    }
+}
+
+fn change_counted<R: IndexRange<usize> + Drop>(
+    set: &mut FixedBitSet,
+    range: R,
+    changing: Changing,
+) {
+    if !set.range_is_valid(&range) {
+        return;
+    }
+    let steps = &mut Steps::new();
+    match changing {
+        Changing::Insert | Changing::Set => counted::insert_range(set, range, steps),
+        Changing::Remove => counted::remove_range(set, range, steps),
+        Changing::Toggle => counted::toggle_range(set, range, steps),
+    }
+}
+
+fn ranges_changed(starts: &mut Starts) -> Result<bool, Fault> {
+    let mut set = starts.take_short()?;
+    change(&mut set, .., Changing::Insert);
+    change(&mut set, 2.., Changing::Remove);
+    change(&mut set, ..3, Changing::Toggle);
+    change(&mut set, 8..10, Changing::Set);
+    Ok(is_value(&set, 10, &[2, 8, 9]))
+}
+
+fn ranges_counted(starts: &mut Starts) -> Result<bool, Fault> {
+    let mut set = starts.take_short()?;
+    change_counted(&mut set, .., Changing::Insert);
+    change_counted(&mut set, 2.., Changing::Remove);
+    change_counted(&mut set, ..3, Changing::Toggle);
+    let steps = &mut Steps::new();
+    Ok(
+        is_value(&set, 10, &[2])
+            && counted::count_ones(&set, .., steps) == 1
+            && counted::count_zeroes(&set, .., steps) == 9
+            && !counted::contains_all_in_range(&set, .., steps)
+            && counted::contains_any_in_range(&set, .., steps),
+    )
+}
+
+// The calls on two sets that leave the length of the first.
+fn lesser(starts: &mut Starts) -> Result<bool, Fault> {
+    let mut set = starts.take_short()?;
+    set &= &starts.short;
+    set &= starts.take_short()?;
+    set.intersect_with(&starts.short);
+    let is_kept = is_short(&set);
+    set.difference_with(&starts.long);
+    let is_still_kept = is_short(&set);
+    set.difference_with(&starts.short);
+    Ok(is_kept && is_still_kept && is_value(&set, 10, &[]))
+}
+
+fn counts(short: &FixedBitSet, long: &FixedBitSet) -> bool {
+    short.union_count(long) == 2
+        && short.intersection_count(long) == 0
+        && short.difference_count(long) == 1
+        && short.symmetric_difference_count(long) == 2
+        && short.is_disjoint(long)
+        && !short.is_subset(long)
+        && !short.is_superset(long)
+        && is_short(short)
+        && is_long(long)
+}
+
+fn counted_calls(starts: &mut Starts) -> Result<bool, Fault> {
+    let (mut set, mut wide) = (starts.take_short()?, starts.take_long()?);
+    let (short, long) = (&starts.short, &starts.long);
+    let steps = &mut Steps::new();
+    let is_counted = counted::union_count(short, long, steps) == 2
+        && counted::intersection_count(short, long, steps) == 0
+        && counted::difference_count(short, long, steps) == 1
+        && counted::symmetric_difference_count(short, long, steps) == 2
+        && counted::is_disjoint(short, long, steps)
+        && !counted::is_subset(short, long, steps);
+    counted::intersect_with(&mut set, short, steps);
+    counted::difference_with(&mut set, long, steps);
+    counted::union_with(&mut wide, short, steps)?;
+    let is_joined = is_value(&wide, LONG, &[3, LONG - 1]);
+    counted::symmetric_difference_with(&mut wide, short, steps)?;
+    Ok(is_counted && is_joined && is_short(&set) && is_long(&wide))
+}
+
+fn hash_of(set: &FixedBitSet) -> u64 {
+    let mut hasher = DefaultHasher::new();
+    set.hash(&mut hasher);
+    hasher.finish()
+}
+
+fn order(short: &FixedBitSet, long: &FixedBitSet) -> bool {
+    short == short
+        && short != long
+        && short.cmp(long) == Ordering::Less
+        && long.partial_cmp(short) == Some(Ordering::Greater)
+        && hash_of(long) == hash_of(long)
+        && hash_of(long) != hash_of(short)
+}
+
+// What needs no more words than the set has. An item that is no position stops `extend` without a request.
+fn growth_in_place(starts: &mut Starts) -> Result<bool, Fault> {
+    let mut set = starts.take_short()?;
+    set.grow(64)?;
+    set.grow_and_insert(63)?;
+    set.extend([5, 63, 6])?;
+    let has_grown = is_value(&set, 64, &[3, 5, 6, 63]);
+    let mut stopped = starts.take_short()?;
+    let mut items = Asked {
+        items: &[4, usize::MAX, LONG],
+        count: 0,
+    };
+    let fault = stopped.extend(&mut items);
+    let has_stopped = matches!(fault, Err(ExtendFault::Position)) && items.count == 2;
+    Ok(has_grown && has_stopped && is_value(&stopped, 10, &[3, 4]))
+}
+
+// A long set joined with a short one.
+fn joins_in_place(starts: &mut Starts) -> Result<bool, Fault> {
+    let mut set = starts.take_long()?;
+    let short = &starts.short;
+    set.union_with(short)?;
+    let is_joined = is_value(&set, LONG, &[3, LONG - 1]);
+    set.symmetric_difference_with(short)?;
+    let is_back = is_long(&set);
+    set.bitor_assign(short)?;
+    let is_joined_again = is_value(&set, LONG, &[3, LONG - 1]);
+    set.bitxor_assign(short)?;
+    let is_back_again = is_long(&set);
+    set.clone_from(short)?;
+    Ok(is_joined && is_back && is_joined_again && is_back_again && is_short(&set))
+}

@@ -1,0 +1,70 @@
+//! The walks, which take no memory: each is made, asked for its hint and called from its ends.
+
+use crate::outcome::Fault;
+use crate::starts::{LONG, Starts};
+use fixedbitset::{IntoOnes, Ones};
+
+#[derive(Clone, Copy, PartialEq, Eq)]
+pub enum Walk {
+    Ones,
+    IntoOnes,
+    Zeroes,
+    Intersection,
+    Difference,
+    Union,
+    SymmetricDifference,
+    LastBit,
+}
+
+pub const WALKS: [(&str, Walk); 8] = [
+    ("ones", Walk::Ones),
+    ("into_ones", Walk::IntoOnes),
+    ("zeroes", Walk::Zeroes),
+    ("intersection", Walk::Intersection),
+    ("difference", Walk::Difference),
+    ("union", Walk::Union),
+    ("symmetric_difference", Walk::SymmetricDifference),
+    ("last_positive_bit_and_unset", Walk::LastBit),
+];
+
+// Whether the walk gives two items, the first from the front and the last from the back, and then no more.
+fn gives_two<I: DoubleEndedIterator<Item = usize>>(mut walk: I, first: usize, last: usize) -> bool
+    requires front { (state : I) → I.can_next state }
+    requires back { (state : I) → I.can_next_back state }
+{
+    let (lower, upper) = walk.size_hint();
+    lower == 0
+        && upper >= Some(2)
+        && walk.next() == Some(first)
+        && walk.next_back() == Some(last)
+        && walk.next().is_none()
+        && walk.next_back().is_none()
+}
+
+pub fn gives(starts: &mut Starts, walk: Walk) -> Result<bool, Fault> {
+    let mut set = starts.take_short()?;
+    if set.len() != 10 {
+        return Ok(false);
+    }
+    set.insert(9);
+    let (short, long) = (&starts.short, &starts.long);
+    Ok(match walk {
+        Walk::Ones => gives_two(set.ones(), 3, 9),
+        Walk::IntoOnes => gives_two(set.into_ones(), 3, 9),
+        Walk::Zeroes => {
+            let mut zeroes = short.zeroes();
+            zeroes.nth(3) == Some(4) && zeroes.size_hint().1 >= Some(5)
+        }
+        Walk::Intersection => gives_two(set.intersection(&set), 3, 9),
+        Walk::Difference => gives_two(set.difference(long), 3, 9),
+        Walk::Union => gives_two(short.union(long), 3, LONG - 1),
+        Walk::SymmetricDifference => gives_two(long.symmetric_difference(short), LONG - 1, 3),
+        Walk::LastBit => {
+            let (mut word, mut other) = (12, 12);
+            Ones::last_positive_bit_and_unset(&mut word) == 2
+                && IntoOnes::last_positive_bit_and_unset(&mut other) == 2
+                && word == 8
+                && other == 8
+        }
+    })
+}
