@@ -147,9 +147,10 @@ impl Question for Equal {
 struct Compare;
 
 impl Question for Compare {
-    ghost Answers = { λ v w answer. answer ≡ 1 → v ≡ w };
+    ghost Answers = { λ v w answer. (answer == 1) ≡ equal v w };
 
     #[inline(never)]
+    #[tactic(auto, using(fixedbitset::specs::OrderFacts::compare_ties))]
     fn ask(set: &FixedBitSet, other: &FixedBitSet) -> usize {
         match set.cmp(other) {
             Ordering::Equal => 1,
@@ -380,7 +381,7 @@ pub extern "C" fn sets_eq(alloc: Global, bits: usize, rounds: usize) -> usize
 #[unsafe(no_mangle)]
 pub extern "C" fn sets_cmp(alloc: Global, bits: usize, rounds: usize) -> usize
     requires { 64 ≤ bits }
-    ensures { result < 2 ^ 64 - 1 → result ≡ 1 → full bits ≡ full bits }
+    ensures { result < 2 ^ 64 - 1 → (result == 1) ≡ equal (full bits) (full bits) }
 {
     asked::<Compare>(alloc, bits, bits, 0, rounds).unwrap_or(REFUSED)
 }
