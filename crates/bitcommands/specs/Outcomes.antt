@@ -26,6 +26,10 @@ replied (Err f) = answer.refused f
 abbrev pub Answers : ℕ → Sets → Action → Result Reply Refusal → Sets → Type 0
 Answers m old c result new = Step m old c (replied result) new
 
+-- it does so whatever the limit is
+abbrev pub AnswersAlways : Sets → Action → Result Reply Refusal → Sets → Type 0
+AnswersAlways old c result new = (m : ℕ) → Answers m old c result new
+
 -- the refusal that a fault of `extend` or `from_iter` is
 abbrev pub fault_refusal : ExtendFault → Refusal
 fault_refusal fault.Position = refusal.Greatest

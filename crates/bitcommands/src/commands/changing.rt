@@ -1,6 +1,7 @@
 //! Commands that change one set.
-ghost use Rattle.bitcommands.specs.Actions.{change_action, extend};
-ghost use Rattle.bitcommands.specs.Outcomes.{Answers};
+ghost use Rattle.bitcommands.specs.Actions as action;
+ghost use Rattle.bitcommands.specs.Actions.{change_action};
+ghost use Rattle.bitcommands.specs.Outcomes.{Answers, AnswersAlways};
 
 use crate::commands::refusals::{
     Refusal, check_item, check_items, check_limit, check_position, check_set, check_word,
@@ -78,68 +79,118 @@ pub(super) fn apply_change(
     ensures { Answers limit sets.old (change_action command.now) result sets.new }
 {
     match command {
-        Change::Clear { set } => {
-            check_set(sets, *set)?;
-            sets[*set].clear();
-            Ok(Reply::Done)
-        }
-        Change::Grow { set, bits } => {
-            check_set(sets, *set)?;
-            check_limit(limit, *bits)?;
-            sets[*set].grow(*bits)?;
-            Ok(Reply::Done)
-        }
-        Change::GrowAndInsert { set, bit } => {
-            check_item(limit, sets, *set, *bit)?;
-            sets[*set].grow_and_insert(*bit)?;
-            Ok(Reply::Done)
-        }
-        Change::Insert { set, bit } => {
-            check_position(sets, *set, *bit)?;
-            sets[*set].insert(*bit);
-            Ok(Reply::Done)
-        }
-        Change::Remove { set, bit } => {
-            check_position(sets, *set, *bit)?;
-            sets[*set].remove(*bit);
-            Ok(Reply::Done)
-        }
-        Change::Toggle { set, bit } => {
-            check_position(sets, *set, *bit)?;
-            sets[*set].toggle(*bit);
-            Ok(Reply::Done)
-        }
-        Change::Put { set, bit } => {
-            check_position(sets, *set, *bit)?;
-            Ok(Reply::Bool(sets[*set].put(*bit)))
-        }
-        Change::Set { set, bit, value } => {
-            check_position(sets, *set, *bit)?;
-            sets[*set].set(*bit, *value);
-            Ok(Reply::Done)
-        }
-        Change::CopyBit { set, from, to } => {
-            check_position(sets, *set, *to)?;
-            sets[*set].copy_bit(*from, *to);
-            Ok(Reply::Done)
-        }
-        Change::SetBlock { set, index, value } => {
-            check_word(sets, *set, *index)?;
-            sets[*set].set_block(*index, *value as Block);
-            Ok(Reply::Done)
-        }
-        Change::Extend { set, items } => apply_extend(sets, *set, items.as_slice(), limit),
+        Change::Clear { set } => clear(sets, *set),
+        Change::Grow { set, bits } => grow(sets, *set, *bits, limit),
+        Change::GrowAndInsert { set, bit } => grow_and_insert(sets, *set, *bit, limit),
+        Change::Insert { set, bit } => insert(sets, *set, *bit),
+        Change::Remove { set, bit } => remove(sets, *set, *bit),
+        Change::Toggle { set, bit } => toggle(sets, *set, *bit),
+        Change::Put { set, bit } => put(sets, *set, *bit),
+        Change::Set { set, bit, value } => set_to(sets, *set, *bit, *value),
+        Change::CopyBit { set, from, to } => copy_bit(sets, *set, *from, *to),
+        Change::SetBlock { set, index, value } => set_block(sets, *set, *index, *value),
+        Change::Extend { set, items } => extend(sets, *set, items.as_slice(), limit),
     }
 }
 
+fn clear(sets: &mut [FixedBitSet], set: usize) -> Result<Reply, Refusal>
+    ensures { AnswersAlways sets.old (action.clear set) result sets.new }
+{
+    check_set(sets, set)?;
+    sets[set].clear();
+    Ok(Reply::Done)
+}
+
+fn grow(sets: &mut [FixedBitSet], set: usize, bits: usize, limit: usize) -> Result<Reply, Refusal>
+    ensures { Answers limit sets.old (action.grow set bits) result sets.new }
+{
+    check_set(sets, set)?;
+    check_limit(limit, bits)?;
+    sets[set].grow(bits)?;
+    Ok(Reply::Done)
+}
+
+fn grow_and_insert(
+    sets: &mut [FixedBitSet],
+    set: usize,
+    bit: usize,
+    limit: usize,
+) -> Result<Reply, Refusal>
+    ensures { Answers limit sets.old (action.grow_and_insert set bit) result sets.new }
+{
+    check_item(limit, sets, set, bit)?;
+    sets[set].grow_and_insert(bit)?;
+    Ok(Reply::Done)
+}
+
+fn insert(sets: &mut [FixedBitSet], set: usize, bit: usize) -> Result<Reply, Refusal>
+    ensures { AnswersAlways sets.old (action.insert set bit) result sets.new }
+{
+    check_position(sets, set, bit)?;
+    sets[set].insert(bit);
+    Ok(Reply::Done)
+}
+
+fn remove(sets: &mut [FixedBitSet], set: usize, bit: usize) -> Result<Reply, Refusal>
+    ensures { AnswersAlways sets.old (action.remove set bit) result sets.new }
+{
+    check_position(sets, set, bit)?;
+    sets[set].remove(bit);
+    Ok(Reply::Done)
+}
+
+fn toggle(sets: &mut [FixedBitSet], set: usize, bit: usize) -> Result<Reply, Refusal>
+    ensures { AnswersAlways sets.old (action.toggle set bit) result sets.new }
+{
+    check_position(sets, set, bit)?;
+    sets[set].toggle(bit);
+    Ok(Reply::Done)
+}
+
+fn put(sets: &mut [FixedBitSet], set: usize, bit: usize) -> Result<Reply, Refusal>
+    ensures { AnswersAlways sets.old (action.put set bit) result sets.new }
+{
+    check_position(sets, set, bit)?;
+    Ok(Reply::Bool(sets[set].put(bit)))
+}
+
+fn set_to(sets: &mut [FixedBitSet], set: usize, bit: usize, value: bool) -> Result<Reply, Refusal>
+    ensures { AnswersAlways sets.old (action.set set bit value) result sets.new }
+{
+    check_position(sets, set, bit)?;
+    sets[set].set(bit, value);
+    Ok(Reply::Done)
+}
+
+fn copy_bit(sets: &mut [FixedBitSet], set: usize, from: usize, to: usize) -> Result<Reply, Refusal>
+    ensures { AnswersAlways sets.old (action.copy_bit set from to) result sets.new }
+{
+    check_position(sets, set, to)?;
+    sets[set].copy_bit(from, to);
+    Ok(Reply::Done)
+}
+
+fn set_block(
+    sets: &mut [FixedBitSet],
+    set: usize,
+    index: usize,
+    value: usize,
+) -> Result<Reply, Refusal>
+    ensures { AnswersAlways sets.old (action.set_block set index value) result sets.new }
+{
+    check_word(sets, set, index)?;
+    sets[set].set_block(index, value as Block);
+    Ok(Reply::Done)
+}
+
 // The items before one that is not taken stand.
-fn apply_extend(
+fn extend(
     sets: &mut [FixedBitSet],
     set: usize,
     items: &[usize],
     limit: usize,
 ) -> Result<Reply, Refusal>
-    ensures { Answers limit sets.old (extend set items.now) result sets.new }
+    ensures { Answers limit sets.old (action.extend set items.now) result sets.new }
 {
     check_items(limit, sets, set, items)?;
     sets[set].extend(items.iter().copied())?;

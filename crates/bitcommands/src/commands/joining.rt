@@ -1,9 +1,10 @@
 //! Commands that change one set by another one, or by itself.
 ghost use Rattle.std.specs.Prelude.{◌≡◌, ◌<◌, length, IsTrue, OnOk, OnErr};
+ghost use Rattle.bitcommands.specs.Actions as action;
 ghost use Rattle.bitcommands.specs.Actions.{whole_action};
 ghost use Rattle.bitcommands.specs.Joints.{combined, joint_may_lack_memory};
 ghost use Rattle.bitcommands.specs.Sets.{at, place};
-ghost use Rattle.bitcommands.specs.Outcomes.{Answers};
+ghost use Rattle.bitcommands.specs.Outcomes.{Answers, AnswersAlways};
 
 use crate::commands::refusals::{Refusal, check_sets};
 use crate::commands::replies::Reply;
@@ -34,47 +35,66 @@ pub(super) fn apply_whole(
     alloc: Global,
     sets: &mut [FixedBitSet],
     command: &Whole,
-    limit: usize,
+    _limit: usize,
 ) -> Result<Reply, Refusal>
-    ensures { Answers limit sets.old (whole_action command.now) result sets.new }
+    ensures { Answers _limit sets.old (whole_action command.now) result sets.new }
 {
     match command {
-        Whole::UnionWith { a, b } => {
-            check_sets(sets, *a, *b)?;
-            join(alloc, sets, *a, *b, Joint::Union)?;
-            Ok(Reply::Done)
-        }
-        Whole::SymmetricDifferenceWith { a, b } => {
-            check_sets(sets, *a, *b)?;
-            join(alloc, sets, *a, *b, Joint::SymmetricDifference)?;
-            Ok(Reply::Done)
-        }
-        Whole::BitorAssign { a, b } => {
-            check_sets(sets, *a, *b)?;
-            join(alloc, sets, *a, *b, Joint::Union)?;
-            Ok(Reply::Done)
-        }
-        Whole::BitxorAssign { a, b } => {
-            check_sets(sets, *a, *b)?;
-            join(alloc, sets, *a, *b, Joint::SymmetricDifference)?;
-            Ok(Reply::Done)
-        }
-        Whole::IntersectWith { a, b } => {
-            check_sets(sets, *a, *b)?;
-            join(alloc, sets, *a, *b, Joint::Intersection)?;
-            Ok(Reply::Done)
-        }
-        Whole::DifferenceWith { a, b } => {
-            check_sets(sets, *a, *b)?;
-            join(alloc, sets, *a, *b, Joint::Difference)?;
-            Ok(Reply::Done)
-        }
-        Whole::BitandAssign { a, b } => {
-            check_sets(sets, *a, *b)?;
-            join(alloc, sets, *a, *b, Joint::Intersection)?;
-            Ok(Reply::Done)
-        }
+        Whole::UnionWith { a, b } => union_with(alloc, sets, *a, *b),
+        Whole::SymmetricDifferenceWith { a, b } => symmetric_difference_with(alloc, sets, *a, *b),
+        Whole::BitorAssign { a, b } => union_with(alloc, sets, *a, *b),
+        Whole::BitxorAssign { a, b } => symmetric_difference_with(alloc, sets, *a, *b),
+        Whole::IntersectWith { a, b } => intersect_with(alloc, sets, *a, *b),
+        Whole::DifferenceWith { a, b } => difference_with(alloc, sets, *a, *b),
+        Whole::BitandAssign { a, b } => intersect_with(alloc, sets, *a, *b),
     }
+}
+
+fn union_with(alloc: Global, sets: &mut [FixedBitSet], a: usize, b: usize) -> Result<Reply, Refusal>
+    ensures { AnswersAlways sets.old (action.union_with a b) result sets.new }
+{
+    check_sets(sets, a, b)?;
+    join(alloc, sets, a, b, Joint::Union)?;
+    Ok(Reply::Done)
+}
+
+fn symmetric_difference_with(
+    alloc: Global,
+    sets: &mut [FixedBitSet],
+    a: usize,
+    b: usize,
+) -> Result<Reply, Refusal>
+    ensures { AnswersAlways sets.old (action.symmetric_difference_with a b) result sets.new }
+{
+    check_sets(sets, a, b)?;
+    join(alloc, sets, a, b, Joint::SymmetricDifference)?;
+    Ok(Reply::Done)
+}
+
+fn intersect_with(
+    alloc: Global,
+    sets: &mut [FixedBitSet],
+    a: usize,
+    b: usize,
+) -> Result<Reply, Refusal>
+    ensures { AnswersAlways sets.old (action.intersect_with a b) result sets.new }
+{
+    check_sets(sets, a, b)?;
+    join(alloc, sets, a, b, Joint::Intersection)?;
+    Ok(Reply::Done)
+}
+
+fn difference_with(
+    alloc: Global,
+    sets: &mut [FixedBitSet],
+    a: usize,
+    b: usize,
+) -> Result<Reply, Refusal>
+    ensures { AnswersAlways sets.old (action.difference_with a b) result sets.new }
+{
+    check_sets(sets, a, b)?;
+    join(alloc, sets, a, b, Joint::Difference)?;
+    Ok(Reply::Done)
 }
 
 // What is made of a set and another one.

@@ -2,8 +2,9 @@
 ghost use Rattle.std.specs.Prelude.{◌≡◌, IfOk};
 ghost use Rattle.serde_json.specs.View.{view};
 ghost use Rattle.fixedbitset.specs.Bits as model;
-ghost use Rattle.bitcommands.specs.Actions.{make_action, with_capacity_and_blocks, from_iter, from_value};
-ghost use Rattle.bitcommands.specs.Outcomes.{Answers};
+ghost use Rattle.bitcommands.specs.Actions as action;
+ghost use Rattle.bitcommands.specs.Actions.{make_action};
+ghost use Rattle.bitcommands.specs.Outcomes.{Answers, AnswersAlways};
 
 use crate::commands::joining::{Joint, join};
 use crate::commands::refusals::{
@@ -85,63 +86,58 @@ pub(super) fn apply_make(
     ensures { Answers limit sets.old (make_action command.now) result sets.new }
 {
     match command {
-        Make::New { target } => {
-            check_set(sets, *target)?;
-            sets[*target] = FixedBitSet::new(alloc);
-            Ok(Reply::Done)
-        }
-        Make::Default { target } => {
-            check_set(sets, *target)?;
-            sets[*target] = FixedBitSet::default(alloc);
-            Ok(Reply::Done)
-        }
-        Make::WithCapacity { target, bits } => {
-            check_set(sets, *target)?;
-            check_limit(limit, *bits)?;
-            sets[*target] = FixedBitSet::with_capacity(alloc, *bits)?;
-            Ok(Reply::Done)
-        }
+        Make::New { target } => new(alloc, sets, *target),
+        Make::Default { target } => default(alloc, sets, *target),
+        Make::WithCapacity { target, bits } => with_capacity(alloc, sets, *target, *bits, limit),
         Make::WithCapacityAndBlocks {
             target,
             bits,
             blocks,
-        } => make_of_blocks(alloc, sets, *target, *bits, blocks.as_slice(), limit),
-        Make::Clone { target, source } => {
-            check_sets(sets, *target, *source)?;
-            sets[*target] = sets[*source].clone()?;
-            Ok(Reply::Done)
-        }
-        Make::CloneFrom { target, source } => {
-            check_sets(sets, *target, *source)?;
-            join(alloc, sets, *target, *source, Joint::Copy)?;
-            Ok(Reply::Done)
-        }
+        } => with_capacity_and_blocks(alloc, sets, *target, *bits, blocks.as_slice(), limit),
+        Make::Clone { target, source } => clone(sets, *target, *source),
+        Make::CloneFrom { target, source } => clone_from(alloc, sets, *target, *source),
         Make::FromIter { target, items } => {
-            make_of_items(alloc, sets, *target, items.as_slice(), limit)
+            from_iter(alloc, sets, *target, items.as_slice(), limit)
         }
-        Make::FromValue { target, json } => make_of_value(alloc, sets, *target, json, limit),
-        Make::Bitand { target, a, b } => {
-            check_set(sets, *target)?;
-            check_sets(sets, *a, *b)?;
-            sets[*target] = sets[*a].bitand(&sets[*b])?;
-            Ok(Reply::Done)
-        }
-        Make::Bitor { target, a, b } => {
-            check_set(sets, *target)?;
-            check_sets(sets, *a, *b)?;
-            sets[*target] = sets[*a].bitor(&sets[*b])?;
-            Ok(Reply::Done)
-        }
-        Make::Bitxor { target, a, b } => {
-            check_set(sets, *target)?;
-            check_sets(sets, *a, *b)?;
-            sets[*target] = sets[*a].bitxor(&sets[*b])?;
-            Ok(Reply::Done)
-        }
+        Make::FromValue { target, json } => from_value(alloc, sets, *target, json, limit),
+        Make::Bitand { target, a, b } => bitand(sets, *target, *a, *b),
+        Make::Bitor { target, a, b } => bitor(sets, *target, *a, *b),
+        Make::Bitxor { target, a, b } => bitxor(sets, *target, *a, *b),
     }
 }
 
-fn make_of_blocks(
+fn new(alloc: Global, sets: &mut [FixedBitSet], target: usize) -> Result<Reply, Refusal>
+    ensures { AnswersAlways sets.old (action.new target) result sets.new }
+{
+    check_set(sets, target)?;
+    sets[target] = FixedBitSet::new(alloc);
+    Ok(Reply::Done)
+}
+
+fn default(alloc: Global, sets: &mut [FixedBitSet], target: usize) -> Result<Reply, Refusal>
+    ensures { AnswersAlways sets.old (action.default target) result sets.new }
+{
+    check_set(sets, target)?;
+    sets[target] = FixedBitSet::default(alloc);
+    Ok(Reply::Done)
+}
+
+fn with_capacity(
+    alloc: Global,
+    sets: &mut [FixedBitSet],
+    target: usize,
+    bits: usize,
+    limit: usize,
+) -> Result<Reply, Refusal>
+    ensures { Answers limit sets.old (action.with_capacity target bits) result sets.new }
+{
+    check_set(sets, target)?;
+    check_limit(limit, bits)?;
+    sets[target] = FixedBitSet::with_capacity(alloc, bits)?;
+    Ok(Reply::Done)
+}
+
+fn with_capacity_and_blocks(
     alloc: Global,
     sets: &mut [FixedBitSet],
     target: usize,
@@ -149,7 +145,7 @@ fn make_of_blocks(
     blocks: &[usize],
     limit: usize,
 ) -> Result<Reply, Refusal>
-    ensures { Answers limit sets.old (with_capacity_and_blocks target bits blocks.now) result sets.new }
+    ensures { Answers limit sets.old (action.with_capacity_and_blocks target bits blocks.now) result sets.new }
 {
     check_set(sets, target)?;
     check_limit(limit, bits)?;
@@ -165,15 +161,36 @@ fn set_of_blocks(alloc: Global, bits: usize, blocks: &[usize]) -> Result<FixedBi
     FixedBitSet::with_capacity_and_blocks(alloc, bits, words)
 }
 
+fn clone(sets: &mut [FixedBitSet], target: usize, source: usize) -> Result<Reply, Refusal>
+    ensures { AnswersAlways sets.old (action.clone target source) result sets.new }
+{
+    check_sets(sets, target, source)?;
+    sets[target] = sets[source].clone()?;
+    Ok(Reply::Done)
+}
+
+fn clone_from(
+    alloc: Global,
+    sets: &mut [FixedBitSet],
+    target: usize,
+    source: usize,
+) -> Result<Reply, Refusal>
+    ensures { AnswersAlways sets.old (action.clone_from target source) result sets.new }
+{
+    check_sets(sets, target, source)?;
+    join(alloc, sets, target, source, Joint::Copy)?;
+    Ok(Reply::Done)
+}
+
 // Where an item is not taken, the set stays as it was.
-fn make_of_items(
+fn from_iter(
     alloc: Global,
     sets: &mut [FixedBitSet],
     target: usize,
     items: &[usize],
     limit: usize,
 ) -> Result<Reply, Refusal>
-    ensures { Answers limit sets.old (from_iter target items.now) result sets.new }
+    ensures { Answers limit sets.old (action.from_iter target items.now) result sets.new }
 {
     check_items(limit, sets, target, items)?;
     sets[target] = FixedBitSet::from_iter(alloc, items.iter().copied())?;
@@ -181,16 +198,43 @@ fn make_of_items(
 }
 
 // The length is looked at before memory is asked for.
-fn make_of_value(
+fn from_value(
     alloc: Global,
     sets: &mut [FixedBitSet],
     target: usize,
     json: &Value,
     limit: usize,
 ) -> Result<Reply, Refusal>
-    ensures { Answers limit sets.old (from_value target (view json.now)) result sets.new }
+    ensures { Answers limit sets.old (action.from_value target (view json.now)) result sets.new }
 {
     check_value(limit, sets, target, json)?;
     sets[target] = FixedBitSet::from_value(alloc, json)?;
+    Ok(Reply::Done)
+}
+
+fn bitand(sets: &mut [FixedBitSet], target: usize, a: usize, b: usize) -> Result<Reply, Refusal>
+    ensures { AnswersAlways sets.old (action.bitand target a b) result sets.new }
+{
+    check_set(sets, target)?;
+    check_sets(sets, a, b)?;
+    sets[target] = sets[a].bitand(&sets[b])?;
+    Ok(Reply::Done)
+}
+
+fn bitor(sets: &mut [FixedBitSet], target: usize, a: usize, b: usize) -> Result<Reply, Refusal>
+    ensures { AnswersAlways sets.old (action.bitor target a b) result sets.new }
+{
+    check_set(sets, target)?;
+    check_sets(sets, a, b)?;
+    sets[target] = sets[a].bitor(&sets[b])?;
+    Ok(Reply::Done)
+}
+
+fn bitxor(sets: &mut [FixedBitSet], target: usize, a: usize, b: usize) -> Result<Reply, Refusal>
+    ensures { AnswersAlways sets.old (action.bitxor target a b) result sets.new }
+{
+    check_set(sets, target)?;
+    check_sets(sets, a, b)?;
+    sets[target] = sets[a].bitxor(&sets[b])?;
     Ok(Reply::Done)
 }

@@ -1,6 +1,7 @@
 //! Commands over a range of one set.
+ghost use Rattle.bitcommands.specs.Actions as action;
 ghost use Rattle.bitcommands.specs.Actions.{ranged_action};
-ghost use Rattle.bitcommands.specs.Outcomes.{Answers};
+ghost use Rattle.bitcommands.specs.Outcomes.{Answers, AnswersAlways};
 
 use crate::commands::refusals::{Refusal, check_range, check_set};
 use crate::commands::replies::Reply;
@@ -81,50 +82,91 @@ pub enum Ranged {
 pub(super) fn apply_ranged(
     sets: &mut [FixedBitSet],
     command: &Ranged,
-    limit: usize,
+    _limit: usize,
 ) -> Result<Reply, Refusal>
-    ensures { Answers limit sets.old (ranged_action command.now) result sets.new }
+    ensures { Answers _limit sets.old (ranged_action command.now) result sets.new }
 {
     match command {
-        Ranged::CountOnes { set, range } => {
-            check_range(sets, *set, *range)?;
-            Ok(Reply::Number(sets[*set].count_ones(*range)))
-        }
-        Ranged::CountZeroes { set, range } => {
-            check_range(sets, *set, *range)?;
-            Ok(Reply::Number(sets[*set].count_zeroes(*range)))
-        }
-        Ranged::SetRange { set, range, value } => {
-            check_range(sets, *set, *range)?;
-            sets[*set].set_range(*range, *value);
-            Ok(Reply::Done)
-        }
-        Ranged::InsertRange { set, range } => {
-            check_range(sets, *set, *range)?;
-            sets[*set].insert_range(*range);
-            Ok(Reply::Done)
-        }
-        Ranged::RemoveRange { set, range } => {
-            check_range(sets, *set, *range)?;
-            sets[*set].remove_range(*range);
-            Ok(Reply::Done)
-        }
-        Ranged::ToggleRange { set, range } => {
-            check_range(sets, *set, *range)?;
-            sets[*set].toggle_range(*range);
-            Ok(Reply::Done)
-        }
-        Ranged::ContainsAllInRange { set, range } => {
-            check_range(sets, *set, *range)?;
-            Ok(Reply::Bool(sets[*set].contains_all_in_range(*range)))
-        }
-        Ranged::ContainsAnyInRange { set, range } => {
-            check_range(sets, *set, *range)?;
-            Ok(Reply::Bool(sets[*set].contains_any_in_range(*range)))
-        }
-        Ranged::RangeIsValid { set, range } => {
-            check_set(sets, *set)?;
-            Ok(Reply::Bool(sets[*set].range_is_valid(range)))
-        }
+        Ranged::CountOnes { set, range } => count_ones(sets, *set, *range),
+        Ranged::CountZeroes { set, range } => count_zeroes(sets, *set, *range),
+        Ranged::SetRange { set, range, value } => set_range(sets, *set, *range, *value),
+        Ranged::InsertRange { set, range } => insert_range(sets, *set, *range),
+        Ranged::RemoveRange { set, range } => remove_range(sets, *set, *range),
+        Ranged::ToggleRange { set, range } => toggle_range(sets, *set, *range),
+        Ranged::ContainsAllInRange { set, range } => contains_all_in_range(sets, *set, *range),
+        Ranged::ContainsAnyInRange { set, range } => contains_any_in_range(sets, *set, *range),
+        Ranged::RangeIsValid { set, range } => range_is_valid(sets, *set, *range),
     }
+}
+
+fn count_ones(sets: &[FixedBitSet], set: usize, range: Span) -> Result<Reply, Refusal>
+    ensures { AnswersAlways sets.now (action.count_ones set (range.start, range.end)) result sets.now }
+{
+    check_range(sets, set, range)?;
+    Ok(Reply::Number(sets[set].count_ones(range)))
+}
+
+fn count_zeroes(sets: &[FixedBitSet], set: usize, range: Span) -> Result<Reply, Refusal>
+    ensures { AnswersAlways sets.now (action.count_zeroes set (range.start, range.end)) result sets.now }
+{
+    check_range(sets, set, range)?;
+    Ok(Reply::Number(sets[set].count_zeroes(range)))
+}
+
+fn set_range(
+    sets: &mut [FixedBitSet],
+    set: usize,
+    range: Span,
+    value: bool,
+) -> Result<Reply, Refusal>
+    ensures { AnswersAlways sets.old (action.set_range set (range.start, range.end) value) result sets.new }
+{
+    check_range(sets, set, range)?;
+    sets[set].set_range(range, value);
+    Ok(Reply::Done)
+}
+
+fn insert_range(sets: &mut [FixedBitSet], set: usize, range: Span) -> Result<Reply, Refusal>
+    ensures { AnswersAlways sets.old (action.insert_range set (range.start, range.end)) result sets.new }
+{
+    check_range(sets, set, range)?;
+    sets[set].insert_range(range);
+    Ok(Reply::Done)
+}
+
+fn remove_range(sets: &mut [FixedBitSet], set: usize, range: Span) -> Result<Reply, Refusal>
+    ensures { AnswersAlways sets.old (action.remove_range set (range.start, range.end)) result sets.new }
+{
+    check_range(sets, set, range)?;
+    sets[set].remove_range(range);
+    Ok(Reply::Done)
+}
+
+fn toggle_range(sets: &mut [FixedBitSet], set: usize, range: Span) -> Result<Reply, Refusal>
+    ensures { AnswersAlways sets.old (action.toggle_range set (range.start, range.end)) result sets.new }
+{
+    check_range(sets, set, range)?;
+    sets[set].toggle_range(range);
+    Ok(Reply::Done)
+}
+
+fn contains_all_in_range(sets: &[FixedBitSet], set: usize, range: Span) -> Result<Reply, Refusal>
+    ensures { AnswersAlways sets.now (action.contains_all_in_range set (range.start, range.end)) result sets.now }
+{
+    check_range(sets, set, range)?;
+    Ok(Reply::Bool(sets[set].contains_all_in_range(range)))
+}
+
+fn contains_any_in_range(sets: &[FixedBitSet], set: usize, range: Span) -> Result<Reply, Refusal>
+    ensures { AnswersAlways sets.now (action.contains_any_in_range set (range.start, range.end)) result sets.now }
+{
+    check_range(sets, set, range)?;
+    Ok(Reply::Bool(sets[set].contains_any_in_range(range)))
+}
+
+fn range_is_valid(sets: &[FixedBitSet], set: usize, range: Span) -> Result<Reply, Refusal>
+    ensures { AnswersAlways sets.now (action.range_is_valid set (range.start, range.end)) result sets.now }
+{
+    check_set(sets, set)?;
+    Ok(Reply::Bool(sets[set].range_is_valid(&range)))
 }

@@ -1,6 +1,7 @@
 //! Commands that walk over the positions of a set, or of two.
+ghost use Rattle.bitcommands.specs.Actions as action;
 ghost use Rattle.bitcommands.specs.Actions.{walk_action};
-ghost use Rattle.bitcommands.specs.Outcomes.{Answers};
+ghost use Rattle.bitcommands.specs.Outcomes.{Answers, AnswersAlways};
 
 use crate::commands::calling::{call_all, call_each};
 use crate::commands::refusals::{Refusal, check_set, check_sets};
@@ -48,46 +49,101 @@ pub(super) fn apply_walk(
     ensures { Answers _limit sets.old (walk_action command.now) result sets.new }
 {
     match command {
-        Walk::Ones { set, ends } => {
-            check_set(sets, *set)?;
-            let items = call_all(alloc, sets[*set].ones(), ends.as_slice())?;
-            Ok(Reply::Items(items))
-        }
-        Walk::IntoOnes { set, ends } => {
-            check_set(sets, *set)?;
-            let places = Vec::with_capacity(alloc, ends.len())?;
-            let taken = mem::replace(&mut sets[*set], FixedBitSet::new(alloc));
-            let items = call_each(taken.into_ones(), ends.as_slice(), places);
-            Ok(Reply::Items(items))
-        }
-        Walk::Zeroes { set, ends } => {
-            check_set(sets, *set)?;
-            let items = call_all(alloc, sets[*set].zeroes(), ends.as_slice())?;
-            Ok(Reply::Items(items))
-        }
-        Walk::Union { a, b, ends } => {
-            check_sets(sets, *a, *b)?;
-            let items = call_all(alloc, sets[*a].union(&sets[*b]), ends.as_slice())?;
-            Ok(Reply::Items(items))
-        }
-        Walk::Intersection { a, b, ends } => {
-            check_sets(sets, *a, *b)?;
-            let items = call_all(alloc, sets[*a].intersection(&sets[*b]), ends.as_slice())?;
-            Ok(Reply::Items(items))
-        }
-        Walk::Difference { a, b, ends } => {
-            check_sets(sets, *a, *b)?;
-            let items = call_all(alloc, sets[*a].difference(&sets[*b]), ends.as_slice())?;
-            Ok(Reply::Items(items))
-        }
+        Walk::Ones { set, ends } => ones(alloc, sets, *set, ends.as_slice()),
+        Walk::IntoOnes { set, ends } => into_ones(alloc, sets, *set, ends.as_slice()),
+        Walk::Zeroes { set, ends } => zeroes(alloc, sets, *set, ends.as_slice()),
+        Walk::Union { a, b, ends } => union(alloc, sets, *a, *b, ends.as_slice()),
+        Walk::Intersection { a, b, ends } => intersection(alloc, sets, *a, *b, ends.as_slice()),
+        Walk::Difference { a, b, ends } => difference(alloc, sets, *a, *b, ends.as_slice()),
         Walk::SymmetricDifference { a, b, ends } => {
-            check_sets(sets, *a, *b)?;
-            let items = call_all(
-                alloc,
-                sets[*a].symmetric_difference(&sets[*b]),
-                ends.as_slice(),
-            )?;
-            Ok(Reply::Items(items))
+            symmetric_difference(alloc, sets, *a, *b, ends.as_slice())
         }
     }
+}
+
+fn ones(alloc: Global, sets: &[FixedBitSet], set: usize, ends: &[End]) -> Result<Reply, Refusal>
+    ensures { AnswersAlways sets.now (action.ones set ends.now) result sets.now }
+{
+    check_set(sets, set)?;
+    let items = call_all(alloc, sets[set].ones(), ends)?;
+    Ok(Reply::Items(items))
+}
+
+fn into_ones(
+    alloc: Global,
+    sets: &mut [FixedBitSet],
+    set: usize,
+    ends: &[End],
+) -> Result<Reply, Refusal>
+    ensures { AnswersAlways sets.old (action.into_ones set ends.now) result sets.new }
+{
+    check_set(sets, set)?;
+    let places = Vec::with_capacity(alloc, ends.len())?;
+    let taken = mem::replace(&mut sets[set], FixedBitSet::new(alloc));
+    let items = call_each(taken.into_ones(), ends, places);
+    Ok(Reply::Items(items))
+}
+
+fn zeroes(alloc: Global, sets: &[FixedBitSet], set: usize, ends: &[End]) -> Result<Reply, Refusal>
+    ensures { AnswersAlways sets.now (action.zeroes set ends.now) result sets.now }
+{
+    check_set(sets, set)?;
+    let items = call_all(alloc, sets[set].zeroes(), ends)?;
+    Ok(Reply::Items(items))
+}
+
+fn union(
+    alloc: Global,
+    sets: &[FixedBitSet],
+    a: usize,
+    b: usize,
+    ends: &[End],
+) -> Result<Reply, Refusal>
+    ensures { AnswersAlways sets.now (action.union a b ends.now) result sets.now }
+{
+    check_sets(sets, a, b)?;
+    let items = call_all(alloc, sets[a].union(&sets[b]), ends)?;
+    Ok(Reply::Items(items))
+}
+
+fn intersection(
+    alloc: Global,
+    sets: &[FixedBitSet],
+    a: usize,
+    b: usize,
+    ends: &[End],
+) -> Result<Reply, Refusal>
+    ensures { AnswersAlways sets.now (action.intersection a b ends.now) result sets.now }
+{
+    check_sets(sets, a, b)?;
+    let items = call_all(alloc, sets[a].intersection(&sets[b]), ends)?;
+    Ok(Reply::Items(items))
+}
+
+fn difference(
+    alloc: Global,
+    sets: &[FixedBitSet],
+    a: usize,
+    b: usize,
+    ends: &[End],
+) -> Result<Reply, Refusal>
+    ensures { AnswersAlways sets.now (action.difference a b ends.now) result sets.now }
+{
+    check_sets(sets, a, b)?;
+    let items = call_all(alloc, sets[a].difference(&sets[b]), ends)?;
+    Ok(Reply::Items(items))
+}
+
+fn symmetric_difference(
+    alloc: Global,
+    sets: &[FixedBitSet],
+    a: usize,
+    b: usize,
+    ends: &[End],
+) -> Result<Reply, Refusal>
+    ensures { AnswersAlways sets.now (action.symmetric_difference a b ends.now) result sets.now }
+{
+    check_sets(sets, a, b)?;
+    let items = call_all(alloc, sets[a].symmetric_difference(&sets[b]), ends)?;
+    Ok(Reply::Items(items))
 }

@@ -2,7 +2,7 @@ use Rattle.std.proofs.Common.{sym, ap, ◌∙◌}
 use Rattle.std.proofs.lemmas.Iterator.{YieldsList-from_slice}
 use Rattle.std.proofs.lemmas.Iterator.Consumers.{YieldsList-from_copied, YieldsList-at}
 use Rattle.bitcommands.proofs.TakenIn.{took, took_answer, extend_step, guard_passed, fault_answered}
-use Rattle.bitcommands.proofs.commands.changing.apply_extend.Goals as goal
+use Rattle.bitcommands.proofs.commands.changing.extend.Goals as goal
 
 pub returns-in_err-extend : goal.returns-in_err-extend
 returns-in_err-extend c =

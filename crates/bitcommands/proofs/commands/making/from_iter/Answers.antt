@@ -1,7 +1,7 @@
 use Rattle.std.proofs.lemmas.Iterator.{YieldsList-from_slice}
 use Rattle.std.proofs.lemmas.Iterator.Consumers.{YieldsList-from_copied, YieldsList-at}
 use Rattle.bitcommands.proofs.TakenIn.{took, from_step_ok, from_step_err, guard_passed, fault_answered}
-use Rattle.bitcommands.proofs.commands.making.make_of_items.Goals as goal
+use Rattle.bitcommands.proofs.commands.making.from_iter.Goals as goal
 
 pub returns-in_err-sets : goal.returns-in_err-sets
 returns-in_err-sets c =
