@@ -3,6 +3,7 @@
 //! processor.
 
 mod kernels;
+mod large;
 mod memory;
 mod sets;
 mod table;
@@ -29,9 +30,13 @@ unsafe extern "C" {
     static shift_end: u8;
 }
 
-/// Prints the times alone, or with a file of such times the tables of the least of both.
+/// Prints the times alone, or with a file of such times the tables of the least of both, or with `large` the times at a
+/// billion positions.
 fn main() {
     black_box(&raw const shift_end);
+    if std::env::args().nth(1).is_some_and(|word| word == "large") {
+        return large::print();
+    }
     memory::keep_freed();
     let mut sets = sets::rows();
     let mut walks = walks::rows();

@@ -21,7 +21,7 @@ const BATCH_WORDS: usize = 480_000;
 
 /// Makes sets of so many positions, and a call so many times.
 /// It answers how many positions are left, or what the last call answered.
-type Rounds = fn(usize, usize) -> usize;
+pub type Rounds = fn(usize, usize) -> usize;
 
 /// One call on each side that has it.
 struct Call {
@@ -53,7 +53,7 @@ impl Calls {
 /// The calls of a set: the static library of crates/bench_abi, and the same calls of upstream's crate.
 macro_rules! calls {
     ($($name:ident)*) => {
-        mod ours {
+        pub mod ours {
             $(pub fn $name(bits: usize, rounds: usize) -> usize {
                 unsafe extern "C" {
                     #[link_name = concat!("sets_", stringify!($name))]
@@ -286,6 +286,20 @@ fn row(bits: usize, call: &Call) -> Row {
         upstream,
         loops,
     }
+}
+
+/// Those of the calls that are timed at a billion positions too.
+pub fn large() -> impl Iterator<Item = (&'static str, Rounds, Option<Rounds>)> {
+    let names = [
+        "insert_range(..)",
+        "count_ones(..)",
+        "union_with",
+        "intersection_count",
+        "is_subset",
+        "bitor",
+    ];
+    let calls = WHOLE.iter().filter(move |call| names.contains(&call.name));
+    calls.map(|call| (call.name, call.ours, call.upstream))
 }
 
 pub fn rows() -> Vec<Row> {

@@ -21,7 +21,7 @@ const BATCH_WORK: usize = 6_000_000;
 
 /// Makes a set of so many positions, of those for which a number below a limit is drawn, and a walk so many times.
 /// It answers the sum of the positions that the walks gave.
-type Rounds = fn(usize, u64, usize) -> usize;
+pub type Rounds = fn(usize, u64, usize) -> usize;
 
 /// One walk on each side that has it.
 struct Walk {
@@ -105,6 +105,12 @@ impl Walk {
             loops: f64::NAN,
         }
     }
+}
+
+/// The walk that is timed at a billion positions too, of which one in a hundred is set.
+pub fn large() -> impl Iterator<Item = (&'static str, Rounds, Option<Rounds>)> {
+    let walks = WALKS.iter().filter(|walk| walk.name == "ones");
+    walks.map(|walk| ("ones, 1 %, a whole walk", walk.ours, walk.upstream))
 }
 
 pub fn rows() -> Vec<Row> {
