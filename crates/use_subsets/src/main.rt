@@ -35,12 +35,11 @@ fn print_answers(rt: &impl Print, alloc: Global, rows: &[Vec<usize>]) -> io::Res
     let [states, letters] = *size.as_slice() else {
         return println!(rt; "no number of states and letters");
     };
-    let edges = others.iter().position(|row| row.is_empty());
-    let (edges, words) = others.split_at(edges.unwrap_or(others.len()));
+    let mut parts = others.splitn(2, |row| row.is_empty());
     let nfa = Nfa {
         states,
         letters,
-        edges: edges_of(alloc, edges)?,
+        edges: edges_of(alloc, parts.next().unwrap_or(&[]))?,
         start: set_of(alloc, states, start)?,
         accepting: set_of(alloc, states, accepting)?,
     };
@@ -48,13 +47,13 @@ fn print_answers(rt: &impl Print, alloc: Global, rows: &[Vec<usize>]) -> io::Res
         return println!(rt; "no automaton");
     }
     let dfa = match determinize(alloc, &nfa, LIMIT) {
-        Ok(dfa) => dfa,
-        Err(failure) => return println!(rt; "{failure}"),
+        Ok(Some(dfa)) => dfa,
+        Ok(None) => return println!(rt; "too many states"),
+        Err(_refused) => return println!(rt; "out of memory"),
     };
     println!(rt; "{}", dfa.sets.len())?;
-    for word in words.iter().skip(1) {
-        let answer = if dfa.accepts(word) { "yes" } else { "no" };
-        println!(rt; "{answer}")?;
+    for word in parts.next().unwrap_or(&[]) {
+        println!(rt; "{}", if dfa.accepts(word) { "yes" } else { "no" })?;
     }
     Ok(())
 }
@@ -72,11 +71,10 @@ fn set_of(alloc: Global, length: usize, positions: &[usize]) -> Result<FixedBitS
 
 // The edges of these rows. A row of another number of numbers is left out.
 fn edges_of(alloc: Global, rows: &[Vec<usize>]) -> Result<Vec<(usize, usize, usize)>, AllocError> {
-    let mut edges = Vec::new(alloc);
-    for row in rows {
-        if let [from, letter, to] = *row.as_slice() {
-            edges.push((from, letter, to))?;
-        }
-    }
-    Ok(edges)
+    rows.iter()
+        .filter_map(|row| match *row.as_slice() {
+            [from, letter, to] => Some((from, letter, to)),
+            _ => None,
+        })
+        .collect(alloc)
 }

@@ -5,7 +5,7 @@ ghost use Rattle.use_subsets.specs.Automata.{IsDfa};
 
 use crate::automata::{Dfa, Nfa};
 use crate::set_of;
-use crate::subsets::{Failure, determinize};
+use crate::subsets::determinize;
 use fixedbitset::FixedBitSet;
 use std::alloc::{AllocError, Global};
 use std::process::Abort;
@@ -40,12 +40,12 @@ fn determinized(alloc: Global, nfa: &Nfa, limit: usize) -> Result<Dfa, Fail>
     if !nfa.is_valid() {
         return Err(Fail::from("no automaton"));
     }
-    Ok(determinize(alloc, nfa, limit)?)
+    determinize(alloc, nfa, limit)?.ok_or_else(|| Fail::from("too many states"))
 }
 
 // Whether there would be too many states.
 fn is_too_many(alloc: Global, nfa: &Nfa, limit: usize) -> bool {
-    nfa.is_valid() && matches!(determinize(alloc, nfa, limit), Err(Failure::TooManyStates))
+    nfa.is_valid() && matches!(determinize(alloc, nfa, limit), Ok(None))
 }
 
 fn assert_sets(

@@ -1,46 +1,78 @@
-use Rattle.std.proofs.Common.{◌≡◌, ◌∙◌, ◌*◌, ◌↔◌, ℕ, IsTrue, false, length, get_or, ◌<◌, sym, ap, subst, arith, Err}
-use Rattle.std.specs.Prelude.{Contains}
-use Rattle.std.proofs.lemmas.Result.{err_from_is_err_and}
+use Rattle.std.proofs.Common.{◌≡◌, ◌∙◌, ◌*◌, ◌<◌, List, length, not, sym, ap, subst, arith}
+use Rattle.std.proofs.lemmas.List.{length_push, get_or_read}
+use Rattle.fixedbitset.specs.Bits.{Bits, empty}
+use Rattle.fixedbitset.specs.TwoSets.{is_disjoint}
 use Rattle.use_subsets.specs.Automata.{at, end_from}
-use Rattle.use_subsets.specs.Subsets.{IsPart, IsNumbered, Meets}
-use Rattle.use_subsets.specs.declared.subsets.Failure.TheVariants.{TooManyStates}
-use Rattle.use_subsets.proofs.Parts.{part_start, needs_more_start}
+use Rattle.use_subsets.specs.Subsets.{IsStep}
+use Rattle.use_subsets.proofs.Parts.{part_first, part_numbered, sets_more, needs_more}
+use Rattle.use_subsets.proofs.Sets.{flags_more, flags_kept}
 use Rattle.use_subsets.proofs.Runs.{end_within, end_set, useful, accepted_told, arrows_within}
 use Rattle.use_subsets.proofs.subsets.determinize.Goals as goal
 
-pub returns-in_err-number_of-clause-too_many : goal.returns-in_err-number_of-clause-too_many
-returns-in_err-number_of-clause-too_many c =
-    let p = err_from_is_err_and c.from_residual-in_err-number_of.result c.from_residual-in_err-number_of.ensures.1 in
-    let blank = c.new-sets.ensures.items in
-    rw (p.1, p.2)
-    (λ is.
-    let same : c.in_err-number_of.field-0.0 ≡ TooManyStates = cc in
-    let full = c.in_err-number_of.ensures.too_many (ap Err same) in
-    needs_more_start c.args.nfa.now c.in_ok-clone.field-0 c.args.limit c.requires c.in_ok-clone.ensures.cases (subst (λ sets. ¬ (Contains sets c.in_ok-clone.field-0)) blank full.1) (full.0 ∙ ap length blank))
+pub returns-then-limit-eq0-clause-too_many : goal.returns-then-limit-eq0-clause-too_many
+returns-then-limit-eq0-clause-too_many c = λ _. let none = c.if-limit-eq0.true in needs_more c.args.nfa.now _ _ c.args.limit (part_first c.args.nfa.now c.requires) (omega arith)
 
-pub states-init : goal.states-init
-states-init c =
-    let none = c.new-next.ensures.items in
-    let sets = c.number_of.new.sets.items in
-    let first = c.in_ok-clone.field-0 in
-    let number = subst (λ old. IsNumbered old first sets c.in_ok-number_of.field-0) c.new-sets.ensures.items c.in_ok-number_of.ensures.number in
+pub loop-letter-init : goal.loop-letter-init
+loop-letter-init c =
+    let before = c.states.invariant in
+    let sets : List Bits = c.states.sets.items in
+    let accepting = c.args.nfa.now.accepting in
+    let flagged = before.many in
+    let many = length_push c.states.accepting.items (not c.is_disjoint.result) in
+    let within : c.states.state < length sets = omega arith in
+    let read = get_or_read sets c.states.state c.index.result.now within c.index.ensures (empty 0) in
     record {
-      part = subst (IsPart c.args.nfa.now sets) (sym none) (part_start c.args.nfa.now sets first c.in_ok-number_of.field-0 c.requires c.in_ok-clone.ensures.cases number);
-      place = rw none (omega arith);
+      part = before.part;
+      place = omega arith;
+      flags = rw c.in_ok-push.ensures.items (flags_more sets accepting c.states.accepting.items c.is_disjoint.result before.flags (c.is_disjoint.ensures ∙ ap (λ set. is_disjoint set accepting) (read ∙ ap (at sets) (sym before.many))));
+      many = rw c.in_ok-push.ensures.items (omega arith);
+      within = within;
+      limit = before.limit;
+    }
+
+pub returns-then-len-limit-clause-too_many : goal.returns-then-len-limit-clause-too_many
+returns-then-len-limit-clause-too_many c = λ _.
+    let nfa = c.args.nfa.now in
+    let old : List Bits = c.loop-letter.sets.items in
+    let before = c.loop-letter.invariant in
+    let step = subst (λ set. IsStep nfa.states nfa.edges.items set c.loop-letter.letter c.in_ok-set.set) (get_or_read old c.states.state c.index-in-loop-letter.result.now before.within c.index-in-loop-letter.ensures (empty 0)) c.in_ok-set.ensures in
+    needs_more nfa _ _ c.args.limit
+    (part_numbered nfa old c.number_of.new.sets.items c.loop-letter.next.items c.states.state c.loop-letter.letter c.in_ok-set.set c.in_ok-number_of.field-0 before.part before.within c.loop-letter-test.true before.place step c.in_ok-number_of.ensures)
+    (omega arith)
+
+pub loop-letter-preserved : goal.loop-letter-preserved
+loop-letter-preserved c =
+    let nfa = c.args.nfa.now in
+    let old : List Bits = c.loop-letter.sets.items in
+    let before = c.loop-letter.invariant in
+    let within = before.within in
+    let flagged = before.many in
+    let step = subst (λ set. IsStep nfa.states nfa.edges.items set c.loop-letter.letter c.in_ok-set.set) (get_or_read old c.states.state c.index-in-loop-letter.result.now before.within c.index-in-loop-letter.ensures (empty 0)) c.in_ok-set.ensures in
+    let numbered = c.in_ok-number_of.ensures in
+    let more = sets_more nfa old c.number_of.new.sets.items c.loop-letter.next.items c.states.state c.loop-letter.letter c.in_ok-set.set c.in_ok-number_of.field-0 before.part before.within c.loop-letter-test.true before.place step numbered in
+    let place = before.place in
+    let many = length_push c.loop-letter.next.items c.in_ok-number_of.field-0 in
+    record {
+      part = rw c.in_ok-push-2.ensures.items
+          (part_numbered nfa old c.number_of.new.sets.items c.loop-letter.next.items c.states.state c.loop-letter.letter c.in_ok-set.set c.in_ok-number_of.field-0 before.part before.within c.loop-letter-test.true before.place step numbered);
+      place = rw c.in_ok-push-2.ensures.items (omega arith);
+      flags = flags_kept old c.number_of.new.sets.items nfa.accepting c.push.new.self.items c.in_ok-set.set c.in_ok-number_of.field-0 before.flags (omega arith) numbered;
+      many = before.many;
       within = omega arith;
-      limit = c.in_ok-number_of.ensures.limit;
+      limit = omega arith;
     }
 
 pub returns-clause-dfa : goal.returns-clause-dfa
 returns-clause-dfa c =
-    let part = c.states.invariant.part in
-    let within = c.states.invariant.within in
+    let nfa = c.args.nfa.now in
+    let end = c.states.invariant in
+    let within = end.within in
     let last : c.states.state ≡ length c.states.sets.items = omega arith in
     record {
-      some = part.some;
-      table = c.states.invariant.place ∙ ap (λ n. n * c.args.nfa.now.letters) last;
-      arrows = arrows_within c.args.nfa.now c.states.sets.items c.states.next.items part;
-      flags = c.in_ok-accepting.ensures.many ∙ ap length c.deref.ensures.value;
+      some = end.part.some;
+      table = end.place ∙ ap (λ n. n * nfa.letters) last;
+      arrows = arrows_within nfa c.states.sets.items c.states.next.items end.part;
+      flags = end.many ∙ last;
     }
 
 pub returns-clause-accepts : goal.returns-clause-accepts
@@ -48,26 +80,29 @@ returns-clause-accepts c word over =
     let nfa = c.args.nfa.now in
     let sets = c.states.sets.items in
     let next = c.states.next.items in
-    let part = c.states.invariant.part in
-    let within = c.states.invariant.within in
+    let end = c.states.invariant in
+    let within = end.within in
     let last : c.states.state ≡ length sets = omega arith in
-    let full = c.states.invariant.place ∙ ap (λ n. n * nfa.letters) last in
-    let end = end_from nfa.letters next 0 word in
-    let flags = subst (λ ss. (k : ℕ) → k < length ss → IsTrue (get_or c.in_ok-accepting.accepting.items k false) ↔ Meets (at ss k) nfa.accepting) c.deref.ensures.value c.in_ok-accepting.ensures.flags in
-    accepted_told nfa word (at sets end) _ (end_set nfa sets next part full word over) (flags end (end_within nfa sets next part full word over))
+    let full = end.place ∙ ap (λ n. n * nfa.letters) last in
+    let at_end = end_from nfa.letters next 0 word in
+    let inside = end_within nfa sets next end.part full word over in
+    let many = end.many in
+    accepted_told nfa word (at sets at_end) _ (end_set nfa sets next end.part full word over) (end.flags.tell at_end (omega arith))
 
 pub returns-clause-sets : goal.returns-clause-sets
 returns-clause-sets c word over =
     let nfa = c.args.nfa.now in
     let sets = c.states.sets.items in
-    let within = c.states.invariant.within in
+    let end = c.states.invariant in
+    let within = end.within in
     let last : c.states.state ≡ length sets = omega arith in
-    end_set nfa sets c.states.next.items c.states.invariant.part (c.states.invariant.place ∙ ap (λ n. n * nfa.letters) last) word over
+    end_set nfa sets c.states.next.items end.part (end.place ∙ ap (λ n. n * nfa.letters) last) word over
 
 pub returns-clause-useful : goal.returns-clause-useful
 returns-clause-useful c s s_in =
     let nfa = c.args.nfa.now in
     let sets = c.states.sets.items in
-    let within = c.states.invariant.within in
+    let end = c.states.invariant in
+    let within = end.within in
     let last : c.states.state ≡ length sets = omega arith in
-    useful nfa sets c.states.next.items c.states.invariant.part (c.states.invariant.place ∙ ap (λ n. n * nfa.letters) last) s s_in
+    useful nfa sets c.states.next.items end.part (end.place ∙ ap (λ n. n * nfa.letters) last) s s_in
