@@ -120,6 +120,12 @@ fn change_whole<O: WordOp>(words: &mut [Block], first: usize, last: usize, steps
     ensures bits { IsJoined O.truth words.old (in_range (64 * first) (64 * last)) words.new }
     ensures cost { steps.new ≡ steps.old + (last - first) }
 {
+    // Without this, a single word would be set or cleared by a call of `memset`.
+    if last - first == 1 {
+        steps.tick();
+        words[first] = O::word(words[first], Block::MAX);
+        return;
+    }
     for k in first..last {
         steps.tick();
         words[k] = O::word(words[k], Block::MAX);
