@@ -15,6 +15,7 @@ pub mod ExtendFacts
 pub mod RangesFacts
 pub mod TwoSetsFacts
 pub mod WalkFacts
+pub mod FirstFacts
 pub mod SizeFacts
 pub mod MemberFacts
 pub mod WordsFacts
