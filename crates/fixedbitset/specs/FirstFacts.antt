@@ -1,9 +1,10 @@
 -- What one call of a walk tells: the first item is the least, and a walk with no item has none to give.
-use Rattle.std.specs.Prelude.{◌≡◌, ◌≢◌, ℕ, zero, suc, ◌+◌, ◌<◌, ◌≤◌, IsTrue, Bool, true, false, cond, not, List, [], ◌∷◌}
+use Rattle.std.specs.Prelude.{◌≡◌, ◌≢◌, ℕ, zero, suc, ◌+◌, ◌<◌, ◌≤◌, IsTrue, Bool, true, false, cond, not, List, [], ◌∷◌, Option, Some, None, slice_get}
 use Rattle.std.specs.List.{filter, range_with_len}
 use Rattle.std.proofs.Common.{refl, sym, ap, ◌∙◌, arith, ⊎_elim}
 use Rattle.std.proofs.lemmas.Bool.{lt-ltb, ltb-true, and_parts, and_from, cases_eq, cases_Bool, true≢false}
-use Rattle.fixedbitset.specs.Bits.{Bits, contains, asc, complement}
+use Rattle.std.proofs.lemmas.Option.{none-some}
+use Rattle.fixedbitset.specs.Bits.{Bits, contains, asc, complement, minimum}
 use Rattle.fixedbitset.specs.BitsFacts.{contains_below, contains-complement}
 use Rattle.fixedbitset.specs.WalkFacts.{contains_item, item_of}
 
@@ -38,6 +39,26 @@ no_item v same q =
     (λ (one : contains v q ≡ true). absurd (let h = rw same at (item_of v q one).1 in omega arith))
     (λ (clear : contains v q ≡ false). clear)
     (cases_Bool (contains v q))
+
+-- ---- the least position
+
+begins : (xs : List ℕ) (p : ℕ) → slice_get xs 0 ≡ Some p → (others : List ℕ) × (xs ≡ p ∷ others)
+begins [] p e = absurd (none-some p e)
+begins (x ∷ xs) p e = (xs, let same : x ≡ p = cc in ap (λ q. q ∷ xs) same)
+
+is_none : (xs : List ℕ) → slice_get xs 0 ≡ None → xs ≡ []
+is_none [] e = refl
+is_none (x ∷ xs) e = absurd (none-some x (sym e))
+
+-- it is set, and no position that is set is less
+pub minimum_least : (v : Bits) (p : ℕ) → minimum v ≡ Some p → IsTrue (contains v p) × ((q : ℕ) → IsTrue (contains v q) → p ≤ q)
+unfolding minimum
+minimum_least v p e = let found = begins (asc v) p e in first_item v p found.0 found.1
+
+-- where there is none, no position is set
+pub minimum_none : (v : Bits) → minimum v ≡ None → (q : ℕ) → contains v q ≡ false
+unfolding minimum
+minimum_none v e = no_item v (is_none (asc v) e)
 
 -- ---- over the zeros
 
