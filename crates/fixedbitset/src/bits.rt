@@ -12,6 +12,13 @@ use bitlanes::word::BITS;
 
 impl FixedBitSet {
     /// Whether the position is set: `false` at or past the length. Every position may be asked.
+    ///
+    /// ```
+    /// let set = FixedBitSet::from_iter(alloc, [3, 64])?;
+    /// assert!(rt; set.contains(64));
+    /// assert!(rt; !set.contains(63));
+    /// assert!(rt; !set.contains(usize::MAX));
+    /// ```
     #[inline]
     #[tactic(auto, using(crate::proofs::Changes::none_past))]
     pub fn contains(&self, bit: usize) -> bool
@@ -25,6 +32,13 @@ impl FixedBitSet {
     }
 
     /// Whether the position, which has to be below the length, is set. The length is not looked at.
+    ///
+    /// ```
+    /// let mut set = FixedBitSet::with_capacity(alloc, 70)?;
+    /// set.insert(69);
+    /// assert!(rt; set.contains_unchecked(69));
+    /// assert!(rt; !set.contains_unchecked(68));
+    /// ```
     #[inline]
     #[tactic(auto, using(crate::proofs::Changes::viewed_place, crate::proofs::Changes::viewed_mask))]
     pub fn contains_unchecked(&self, bit: usize) -> bool
@@ -35,6 +49,13 @@ impl FixedBitSet {
     }
 
     /// Sets the position, which has to be below the length.
+    ///
+    /// ```
+    /// let mut set = FixedBitSet::with_capacity(alloc, 70)?;
+    /// set.insert(64);
+    /// assert!(rt; set.contains(64));
+    /// assert_eq!(rt; set.as_slice(), [0, 1].as_slice());
+    /// ```
     #[inline]
     pub fn insert(&mut self, bit: usize)
         requires { bit < self.old.length }
@@ -44,6 +65,12 @@ impl FixedBitSet {
     }
 
     /// The same as [`insert`](Self::insert).
+    ///
+    /// ```
+    /// let mut set = FixedBitSet::with_capacity(alloc, 70)?;
+    /// set.insert_unchecked(69);
+    /// assert_eq!(rt; set.maximum(), Some(69));
+    /// ```
     #[inline]
     #[tactic(auto, using(crate::proofs::Changes::viewed_place, crate::proofs::Changes::of_insert))]
     pub fn insert_unchecked(&mut self, bit: usize)
@@ -54,6 +81,14 @@ impl FixedBitSet {
     }
 
     /// Clears the position, which has to be below the length.
+    ///
+    /// ```
+    /// let mut set = FixedBitSet::with_capacity(alloc, 70)?;
+    /// set.insert_range(..);
+    /// set.remove(64);
+    /// assert!(rt; !set.contains(64));
+    /// assert_eq!(rt; set.count_ones(..), 69);
+    /// ```
     #[inline]
     pub fn remove(&mut self, bit: usize)
         requires { bit < self.old.length }
@@ -63,6 +98,13 @@ impl FixedBitSet {
     }
 
     /// The same as [`remove`](Self::remove).
+    ///
+    /// ```
+    /// let mut set = FixedBitSet::with_capacity(alloc, 3)?;
+    /// set.insert_range(..);
+    /// set.remove_unchecked(1);
+    /// assert_eq!(rt; set.as_slice(), [5].as_slice());
+    /// ```
     #[inline]
     #[tactic(auto, using(crate::proofs::Changes::viewed_place, crate::proofs::Changes::of_remove))]
     pub fn remove_unchecked(&mut self, bit: usize)
@@ -73,6 +115,13 @@ impl FixedBitSet {
     }
 
     /// Sets the position, which has to be below the length, and answers whether it was set before.
+    ///
+    /// ```
+    /// let mut set = FixedBitSet::with_capacity(alloc, 70)?;
+    /// assert!(rt; !set.put(64));
+    /// assert!(rt; set.put(64));
+    /// assert_eq!(rt; set.count_ones(..), 1);
+    /// ```
     #[inline]
     pub fn put(&mut self, bit: usize) -> bool
         requires { bit < self.old.length }
@@ -83,6 +132,14 @@ impl FixedBitSet {
     }
 
     /// The same as [`put`](Self::put).
+    ///
+    /// ```
+    /// let mut set = FixedBitSet::with_capacity(alloc, 70)?;
+    /// set.insert(3);
+    /// assert!(rt; set.put_unchecked(3));
+    /// assert!(rt; !set.put_unchecked(69));
+    /// assert_eq!(rt; set.count_ones(..), 2);
+    /// ```
     #[inline]
     #[tactic(auto, using(crate::proofs::Changes::viewed_place, crate::proofs::Changes::of_insert, crate::proofs::Changes::viewed_mask))]
     pub fn put_unchecked(&mut self, bit: usize) -> bool
@@ -97,6 +154,14 @@ impl FixedBitSet {
     }
 
     /// Sets the position if it is clear and clears it if it is set. It has to be below the length.
+    ///
+    /// ```
+    /// let mut set = FixedBitSet::with_capacity(alloc, 70)?;
+    /// set.insert(1);
+    /// set.toggle(1);
+    /// set.toggle(64);
+    /// assert_eq!(rt; set.as_slice(), [0, 1].as_slice());
+    /// ```
     #[inline]
     pub fn toggle(&mut self, bit: usize)
         requires { bit < self.old.length }
@@ -106,6 +171,14 @@ impl FixedBitSet {
     }
 
     /// The same as [`toggle`](Self::toggle).
+    ///
+    /// ```
+    /// let mut set = FixedBitSet::with_capacity(alloc, 70)?;
+    /// set.toggle_unchecked(69);
+    /// assert!(rt; set.contains(69));
+    /// set.toggle_unchecked(69);
+    /// assert!(rt; set.is_clear());
+    /// ```
     #[inline]
     #[tactic(auto, using(crate::proofs::Changes::viewed_place, crate::proofs::Changes::of_toggle))]
     pub fn toggle_unchecked(&mut self, bit: usize)
@@ -116,6 +189,14 @@ impl FixedBitSet {
     }
 
     /// Sets the position, or clears it where `enabled` is false. It has to be below the length.
+    ///
+    /// ```
+    /// let mut set = FixedBitSet::with_capacity(alloc, 70)?;
+    /// set.set(63, true);
+    /// set.set(64, true);
+    /// set.set(63, false);
+    /// assert_eq!(rt; set.as_slice(), [0, 1].as_slice());
+    /// ```
     #[inline]
     pub fn set(&mut self, bit: usize, enabled: bool)
         requires { bit < self.old.length }
@@ -125,6 +206,13 @@ impl FixedBitSet {
     }
 
     /// The same as [`set`](Self::set).
+    ///
+    /// ```
+    /// let mut set = FixedBitSet::with_capacity(alloc, 70)?;
+    /// set.insert_range(..);
+    /// set.set_unchecked(69, false);
+    /// assert_eq!(rt; set.maximum(), Some(68));
+    /// ```
     #[inline]
     #[tactic(auto, unfolding(crate::specs::Bits::set_bit))]
     pub fn set_unchecked(&mut self, bit: usize, enabled: bool)
@@ -140,6 +228,14 @@ impl FixedBitSet {
 
     /// Makes position `to` what position `from` is. `to` has to be below the length; `from` need not be, and past the
     /// length it is clear, so that `to` is cleared.
+    ///
+    /// ```
+    /// let mut set = FixedBitSet::with_capacity(alloc, 70)?;
+    /// set.insert(1);
+    /// set.copy_bit(1, 64);
+    /// set.copy_bit(usize::MAX, 1);
+    /// assert_eq!(rt; set.as_slice(), [0, 1].as_slice());
+    /// ```
     #[inline]
     #[tactic(auto, unfolding(crate::specs::Bits::copy_bit))]
     pub fn copy_bit(&mut self, from: usize, to: usize)
@@ -150,6 +246,13 @@ impl FixedBitSet {
     }
 
     /// The same as [`copy_bit`](Self::copy_bit), for two positions below the length.
+    ///
+    /// ```
+    /// let mut set = FixedBitSet::with_capacity(alloc, 70)?;
+    /// set.insert(1);
+    /// set.copy_bit_unchecked(1, 69);
+    /// assert_eq!(rt; set.as_slice(), [2, 32].as_slice());
+    /// ```
     #[inline]
     #[tactic(auto, unfolding(crate::specs::Bits::copy_bit))]
     pub fn copy_bit_unchecked(&mut self, from: usize, to: usize)

@@ -23,6 +23,12 @@ impl FixedBitSet {
     /// object was refused.
     ///
     /// Upstream has the trait `Serialize` of `serde` in place of this call.
+    ///
+    /// ```
+    /// let set = FixedBitSet::from_iter(alloc, [2, 9])?;
+    /// let text = set.to_value(alloc)?.to_string(alloc)?;
+    /// assert_eq!(rt; text.as_str(), "{\"data\":[4,2,0,0,0,0,0,0],\"length\":10}");
+    /// ```
     pub fn to_value(&self, alloc: Global) -> Result<Value, AllocError>
         ensures { IfOk result (λ value. view value ≡ json.written self.now) }
     {
@@ -35,6 +41,13 @@ impl FixedBitSet {
     /// memory, and never answers `JsonFault::Memory`.
     ///
     /// Upstream has no such call.
+    ///
+    /// ```
+    /// let value = Value::from_str(alloc, "[70,[255]]")?;
+    /// assert_eq!(rt; FixedBitSet::check_value(&value), Ok(70));
+    /// let value = Value::from_str(alloc, "[70,[255,256]]")?;
+    /// assert_eq!(rt; FixedBitSet::check_value(&value), Err(JsonFault::Item(1)));
+    /// ```
     pub fn check_value(value: &Value) -> Result<usize, JsonFault>
         ensures value { result ≡ json.length_of (view value.now) }
         ensures no_memory { IfErr result (λ fault. fault ≢ Memory) }
@@ -55,6 +68,13 @@ impl FixedBitSet {
     /// of the set once.
     ///
     /// Upstream has the trait `Deserialize` of `serde` in place of this call.
+    ///
+    /// ```
+    /// let value = Value::from_str(alloc, "[10,[76,255]]")?;
+    /// let set = FixedBitSet::from_value(alloc, &value)?;
+    /// assert_eq!(rt; set.len(), 10);
+    /// assert_eq!(rt; set.as_slice(), [844].as_slice());
+    /// ```
     pub fn from_value(alloc: Global, value: &Value) -> Result<Self, JsonFault>
         ensures ok { IfOk result (λ set. json.meaning (view value.now) ≡ Ok set) }
         ensures err { IfErr result (λ fault. (json.meaning (view value.now) ≡ Err fault) ⊎ ((fault ≡ Memory) × IsOk (json.meaning (view value.now)))) }

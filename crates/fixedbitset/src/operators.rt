@@ -14,6 +14,13 @@ static FALSE: bool = false;
 
 /// `set &= other` is `set.intersect_with(&other)`: the length stays, and the positions that both have. It takes no
 /// memory.
+///
+/// ```
+/// let mut set = FixedBitSet::from_iter(alloc, [1, 3, 64])?;
+/// set &= FixedBitSet::from_iter(alloc, [3, 5])?;
+/// assert_eq!(rt; set.len(), 65);
+/// assert_eq!(rt; set.as_slice(), [8, 0].as_slice());
+/// ```
 impl BitAndAssign for FixedBitSet {
     ghost bitand_assign_gives = { λ old other new. new ≡ sets.intersection old other };
 
@@ -24,6 +31,14 @@ impl BitAndAssign for FixedBitSet {
 
 /// `set &= &other` is `set.intersect_with(&other)`: the length stays, and the positions that both have. It takes no
 /// memory.
+///
+/// ```
+/// let mut set = FixedBitSet::from_iter(alloc, [3, 5])?;
+/// let other = FixedBitSet::from_iter(alloc, [1, 3, 64])?;
+/// set &= &other;
+/// assert_eq!(rt; set.as_slice(), [8].as_slice());
+/// assert_eq!(rt; other.count_ones(..), 3);
+/// ```
 impl BitAndAssign<&FixedBitSet> for FixedBitSet {
     ghost bitand_assign_gives = { λ old other new. new ≡ sets.intersection old other.now };
 
@@ -33,6 +48,12 @@ impl BitAndAssign<&FixedBitSet> for FixedBitSet {
 }
 
 /// `set[bit]` is `set.contains(bit)`: `false` at or past the length.
+///
+/// ```
+/// let set = FixedBitSet::from_iter(alloc, [3, 64])?;
+/// assert!(rt; set[64] && !set[63]);
+/// assert!(rt; !set[usize::MAX]);
+/// ```
 impl Index<usize> for FixedBitSet {
     type Output = bool;
 

@@ -23,6 +23,14 @@ impl PartialEq for FixedBitSet {
     ///
     /// It compares the lengths, and at equal lengths the words, four at a time, up to the first that differ: at most
     /// `len() / 64` pairs, rounded up.
+    ///
+    /// ```
+    /// let set = FixedBitSet::from_iter(alloc, [3])?;
+    /// let mut other = set.clone()?;
+    /// assert!(rt; set == other);
+    /// other.grow(70)?;
+    /// assert!(rt; set != other);
+    /// ```
     #[inline]
     #[tactic(auto, using(crate::proofs::Equality::equal_of, crate::proofs::Equality::other_length, crate::specs::OrderFacts::facts))]
     fn eq(&self, other: &Self) -> bool
@@ -43,6 +51,13 @@ impl PartialOrd for FixedBitSet {
     ghost laws = { compare_partial };
 
     /// The answer of `cmp`, which there always is.
+    ///
+    /// ```
+    /// let short = FixedBitSet::from_iter(alloc, [3])?;
+    /// let long = FixedBitSet::with_capacity(alloc, 70)?;
+    /// assert!(rt; short < long);
+    /// assert_eq!(rt; long.partial_cmp(&short), Some(Ordering::Greater));
+    /// ```
     #[inline]
     fn partial_cmp(&self, other: &Self) -> Option<Ordering> {
         Some(self.cmp(other))
@@ -64,6 +79,14 @@ impl Ord for FixedBitSet {
     ///
     /// It compares the lengths, and at equal lengths the words as numbers, up to the first pair that differs: at most
     /// `len() / 64` pairs, rounded up. Upstream orders by the length and then by its words as numbers, which is the same.
+    ///
+    /// ```
+    /// let set = FixedBitSet::from_iter(alloc, [4, 69])?;
+    /// let lower = FixedBitSet::from_iter(alloc, [0, 3, 69])?;
+    /// let later = FixedBitSet::from_iter(alloc, [68, 69])?;
+    /// assert_eq!(rt; set.cmp(&lower), Ordering::Greater);
+    /// assert_eq!(rt; set.cmp(&later), Ordering::Greater);
+    /// ```
     #[inline]
     #[tactic(auto, using(crate::specs::OrderFacts::ordered), unfolding(crate::specs::Order::compare, crate::specs::Order::key))]
     fn cmp(&self, other: &Self) -> Ordering
@@ -84,6 +107,13 @@ impl Hash for FixedBitSet {
 
     /// Feeds the hasher the length and then the words, of which there are `len() / 64`, rounded up. So equal sets feed it
     /// the same.
+    ///
+    /// ```
+    /// let mut seen = HashSet::new(alloc);
+    /// seen.insert(FixedBitSet::from_iter(alloc, [64, 3])?)?;
+    /// assert!(rt; seen.contains(&FixedBitSet::from_iter(alloc, [3, 64])?));
+    /// assert!(rt; !seen.contains(&FixedBitSet::from_iter(alloc, [3, 64, 65])?));
+    /// ```
     #[tactic(auto, unfolding(crate::specs::Order::fed_by))]
     fn hash<H: Hasher>(&self, state: &mut H) {
         self.len().hash(state);

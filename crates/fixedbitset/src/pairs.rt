@@ -20,6 +20,13 @@ use bitwalks::pairs::{Difference, Intersection, SymmetricDifference, Union};
 impl FixedBitSet {
     /// The positions that both sets have, in ascending order. It walks over this set, and looks each of its positions up in
     /// the other.
+    ///
+    /// ```
+    /// let set = FixedBitSet::from_iter(alloc, [1, 3, 64])?;
+    /// let other = FixedBitSet::from_iter(alloc, [3, 5, 64, 200])?;
+    /// let items: Vec<usize> = set.intersection(&other).collect(alloc)?;
+    /// assert_eq!(rt; items.as_slice(), [3, 64].as_slice());
+    /// ```
     #[inline]
     pub fn intersection<'a>(&'a self, other: &'a FixedBitSet) -> Intersection<'a>
         ensures items { result.items ≡ model.asc (sets.intersection self.now other.now) }
@@ -36,6 +43,13 @@ impl FixedBitSet {
 
     /// The positions of this set that the other lacks, in ascending order. It walks over this set, and looks each of its
     /// positions up in the other.
+    ///
+    /// ```
+    /// let set = FixedBitSet::from_iter(alloc, [1, 3, 200])?;
+    /// let other = FixedBitSet::from_iter(alloc, [3, 64])?;
+    /// let items: Vec<usize> = set.difference(&other).collect(alloc)?;
+    /// assert_eq!(rt; items.as_slice(), [1, 200].as_slice());
+    /// ```
     #[inline]
     pub fn difference<'a>(&'a self, other: &'a FixedBitSet) -> Difference<'a>
         ensures items { result.items ≡ model.asc (sets.difference self.now other.now) }
@@ -52,6 +66,13 @@ impl FixedBitSet {
 
     /// The positions of this set, and then those of the other that this one lacks, each part in ascending order. Only
     /// positions of the other set are looked up.
+    ///
+    /// ```
+    /// let set = FixedBitSet::from_iter(alloc, [9, 200])?;
+    /// let other = FixedBitSet::from_iter(alloc, [3, 9])?;
+    /// let items: Vec<usize> = set.union(&other).collect(alloc)?;
+    /// assert_eq!(rt; items.as_slice(), [9, 200, 3].as_slice());
+    /// ```
     #[inline]
     pub fn union<'a>(&'a self, other: &'a FixedBitSet) -> Union<'a>
         ensures items { joined_items result ≡ model.asc self.now ++ model.asc (sets.difference other.now self.now) }
@@ -69,6 +90,13 @@ impl FixedBitSet {
 
     /// The positions of this set that the other lacks, and then those of the other that this one lacks, each part in
     /// ascending order.
+    ///
+    /// ```
+    /// let set = FixedBitSet::from_iter(alloc, [9, 200])?;
+    /// let other = FixedBitSet::from_iter(alloc, [3, 9])?;
+    /// let items: Vec<usize> = set.symmetric_difference(&other).collect(alloc)?;
+    /// assert_eq!(rt; items.as_slice(), [200, 3].as_slice());
+    /// ```
     #[inline]
     pub fn symmetric_difference<'a>(&'a self, other: &'a FixedBitSet) -> SymmetricDifference<'a>
         ensures items { split_items result ≡ model.asc (sets.difference self.now other.now) ++ model.asc (sets.difference other.now self.now) }

@@ -11,6 +11,12 @@ use bitwords::positions;
 
 impl FixedBitSet {
     /// Whether the length is 0. A set of another length is not empty, even where no position is set: see `is_clear`.
+    ///
+    /// ```
+    /// assert!(rt; FixedBitSet::new(alloc).is_empty());
+    /// let set = FixedBitSet::with_capacity(alloc, 3)?;
+    /// assert!(rt; set.is_clear() && !set.is_empty());
+    /// ```
     #[inline]
     pub fn is_empty(&self) -> bool
         ensures { result ≡ (self.now.length == 0) }
@@ -20,6 +26,13 @@ impl FixedBitSet {
 
     /// Whether no position is set; so `true` at length 0. It looks at four words at a time, and stops at the first four
     /// that have one.
+    ///
+    /// ```
+    /// let mut set = FixedBitSet::with_capacity(alloc, 70)?;
+    /// assert!(rt; set.is_clear());
+    /// set.insert(69);
+    /// assert!(rt; !set.is_clear());
+    /// ```
     #[inline]
     pub fn is_clear(&self) -> bool
         ensures { result ≡ model.is_clear self.now }
@@ -30,6 +43,13 @@ impl FixedBitSet {
 
     /// The first position that is set, or `None` where none is. It looks at four words at a time from the first on, up to
     /// the one that has this position.
+    ///
+    /// ```
+    /// let mut set = FixedBitSet::with_capacity(alloc, 200)?;
+    /// assert_eq!(rt; set.minimum(), None);
+    /// set.insert_range(64..130);
+    /// assert_eq!(rt; set.minimum(), Some(64));
+    /// ```
     #[inline]
     #[tactic(auto, using(crate::proofs::Positions::row_minimum))]
     pub fn minimum(&self) -> Option<usize>
@@ -40,6 +60,13 @@ impl FixedBitSet {
 
     /// The last position that is set, or `None` where none is. It looks at four words at a time from the last on, down to
     /// the one that has this position.
+    ///
+    /// ```
+    /// let mut set = FixedBitSet::with_capacity(alloc, 200)?;
+    /// assert_eq!(rt; set.maximum(), None);
+    /// set.insert_range(64..130);
+    /// assert_eq!(rt; set.maximum(), Some(129));
+    /// ```
     #[inline]
     #[tactic(auto, using(crate::proofs::Positions::row_maximum))]
     pub fn maximum(&self) -> Option<usize>
@@ -49,6 +76,14 @@ impl FixedBitSet {
     }
 
     /// Whether each position below the length is set; so `true` at length 0.
+    ///
+    /// ```
+    /// let mut set = FixedBitSet::with_capacity(alloc, 70)?;
+    /// set.insert_range(..69);
+    /// assert!(rt; !set.is_full());
+    /// set.insert(69);
+    /// assert!(rt; set.is_full());
+    /// ```
     #[inline]
     #[tactic(auto, using(crate::specs::RangesFacts::is_full_all))]
     pub fn is_full(&self) -> bool

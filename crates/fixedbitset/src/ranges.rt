@@ -21,6 +21,14 @@ impl FixedBitSet {
     /// Whether the range is valid for this set: its start is not past its end, and its end not past `len()`.
     ///
     /// Every range may be asked, and no word is looked at.
+    ///
+    /// ```
+    /// let set = FixedBitSet::with_capacity(alloc, 70)?;
+    /// assert!(rt; set.range_is_valid(&(70..)));
+    /// assert!(rt; set.range_is_valid(&(60..=69)));
+    /// assert!(rt; !set.range_is_valid(&(60..=70)));
+    /// assert!(rt; !set.range_is_valid(&(9..8)));
+    /// ```
     #[inline]
     pub fn range_is_valid<R: IndexRange<usize>>(&self, range: &R) -> bool
         ensures { result ≡ over ranges.is_valid self.now (R.start_of range.now) (R.end_of range.now) }
@@ -31,6 +39,14 @@ impl FixedBitSet {
     }
 
     /// How many positions of the range are set; of an empty range 0. The range must be valid.
+    ///
+    /// ```
+    /// let mut set = FixedBitSet::with_capacity(alloc, 200)?;
+    /// set.insert_range(60..130);
+    /// assert_eq!(rt; set.count_ones(..), 70);
+    /// assert_eq!(rt; set.count_ones(63..=64), 2);
+    /// assert_eq!(rt; set.count_ones(9..9), 0);
+    /// ```
     #[inline]
     pub fn count_ones<R: IndexRange<usize> + Drop>(&self, range: R) -> usize
         requires { IsTrue (over ranges.is_valid self.now (R.start_of range) (R.end_of range)) }
@@ -40,6 +56,13 @@ impl FixedBitSet {
     }
 
     /// How many positions of the range are not set; of an empty range 0. The range must be valid.
+    ///
+    /// ```
+    /// let mut set = FixedBitSet::with_capacity(alloc, 70)?;
+    /// set.insert(64);
+    /// assert_eq!(rt; set.count_zeroes(..), 69);
+    /// assert_eq!(rt; set.count_zeroes(63..66), 2);
+    /// ```
     #[inline]
     pub fn count_zeroes<R: IndexRange<usize> + Drop>(&self, range: R) -> usize
         requires { IsTrue (over ranges.is_valid self.now (R.start_of range) (R.end_of range)) }
@@ -50,6 +73,13 @@ impl FixedBitSet {
 
     /// Sets the positions of the range, or clears them where `enabled` is false; the others stay. The range must be
     /// valid.
+    ///
+    /// ```
+    /// let mut set = FixedBitSet::with_capacity(alloc, 70)?;
+    /// set.set_range(60.., true);
+    /// set.set_range(62..=66, false);
+    /// assert_eq!(rt; set.as_slice(), [3 << 60, 56].as_slice());
+    /// ```
     #[inline]
     #[tactic(auto, unfolding(crate::specs::Ranges::set_range))]
     pub fn set_range<R: IndexRange<usize> + Drop>(&mut self, range: R, enabled: bool)
@@ -64,6 +94,12 @@ impl FixedBitSet {
     }
 
     /// Sets the positions of the range; the others stay. The range must be valid.
+    ///
+    /// ```
+    /// let mut set = FixedBitSet::with_capacity(alloc, 70)?;
+    /// set.insert_range(63..66);
+    /// assert_eq!(rt; set.as_slice(), [1 << 63, 3].as_slice());
+    /// ```
     #[inline]
     pub fn insert_range<R: IndexRange<usize> + Drop>(&mut self, range: R)
         requires { IsTrue (over ranges.is_valid self.old (R.start_of range) (R.end_of range)) }
@@ -76,6 +112,13 @@ impl FixedBitSet {
     ///
     /// `remove_range(..)` clears the whole set. The documentation of upstream says that it makes all ones; its code
     /// clears, as this call does.
+    ///
+    /// ```
+    /// let mut set = FixedBitSet::with_capacity(alloc, 70)?;
+    /// set.insert_range(..);
+    /// set.remove_range(1..=64);
+    /// assert_eq!(rt; set.as_slice(), [1, 62].as_slice());
+    /// ```
     #[inline]
     pub fn remove_range<R: IndexRange<usize> + Drop>(&mut self, range: R)
         requires { IsTrue (over ranges.is_valid self.old (R.start_of range) (R.end_of range)) }
@@ -86,6 +129,13 @@ impl FixedBitSet {
 
     /// Sets each position of the range that is clear, and clears each that is set; the others stay. The range must be
     /// valid.
+    ///
+    /// ```
+    /// let mut set = FixedBitSet::with_capacity(alloc, 70)?;
+    /// set.insert_range(60..66);
+    /// set.toggle_range(62..);
+    /// assert_eq!(rt; set.as_slice(), [3 << 60, 60].as_slice());
+    /// ```
     #[inline]
     pub fn toggle_range<R: IndexRange<usize> + Drop>(&mut self, range: R)
         requires { IsTrue (over ranges.is_valid self.old (R.start_of range) (R.end_of range)) }
@@ -95,6 +145,14 @@ impl FixedBitSet {
     }
 
     /// Whether each position of the range is set; of an empty range `true`. The range must be valid.
+    ///
+    /// ```
+    /// let mut set = FixedBitSet::with_capacity(alloc, 200)?;
+    /// set.insert_range(60..130);
+    /// assert!(rt; set.contains_all_in_range(60..=129));
+    /// assert!(rt; !set.contains_all_in_range(60..=130));
+    /// assert!(rt; set.contains_all_in_range(9..9));
+    /// ```
     #[inline]
     pub fn contains_all_in_range<R: IndexRange<usize> + Drop>(&self, range: R) -> bool
         requires { IsTrue (over ranges.is_valid self.now (R.start_of range) (R.end_of range)) }
@@ -104,6 +162,14 @@ impl FixedBitSet {
     }
 
     /// Whether some position of the range is set; of an empty range `false`. The range must be valid.
+    ///
+    /// ```
+    /// let mut set = FixedBitSet::with_capacity(alloc, 200)?;
+    /// set.insert_range(60..130);
+    /// assert!(rt; set.contains_any_in_range(..=60));
+    /// assert!(rt; !set.contains_any_in_range(130..));
+    /// assert!(rt; !set.contains_any_in_range(64..64));
+    /// ```
     #[inline]
     pub fn contains_any_in_range<R: IndexRange<usize> + Drop>(&self, range: R) -> bool
         requires { IsTrue (over ranges.is_valid self.now (R.start_of range) (R.end_of range)) }

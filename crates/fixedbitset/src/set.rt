@@ -40,6 +40,13 @@ impl FixedBitSet {
     /// A set of length 0. It takes no memory.
     ///
     /// Upstream's `new` is a `const fn` and takes no allocator.
+    ///
+    /// ```
+    /// let mut set = FixedBitSet::new(alloc);
+    /// assert_eq!(rt; set.len(), 0);
+    /// set.grow_and_insert(64)?;
+    /// assert_eq!(rt; set.as_slice(), [0, 1].as_slice());
+    /// ```
     pub fn new(alloc: Global) -> Self
         ensures { result ≡ model.empty 0 }
     {
@@ -53,6 +60,12 @@ impl FixedBitSet {
     /// of four.
     ///
     /// `Err` comes only where memory for the words was refused; upstream aborts there.
+    ///
+    /// ```
+    /// let set = FixedBitSet::with_capacity(alloc, 70)?;
+    /// assert_eq!(rt; set.len(), 70);
+    /// assert_eq!(rt; set.as_slice(), [0, 0].as_slice());
+    /// ```
     pub fn with_capacity(alloc: Global, bits: usize) -> Result<Self, AllocError>
         ensures { IfOk result (λ set. set ≡ model.empty bits) }
     {
@@ -65,6 +78,11 @@ impl FixedBitSet {
     /// A set of length 0, as `new` makes it.
     ///
     /// Upstream implements the trait `Default`, whose call takes no allocator.
+    ///
+    /// ```
+    /// let set = FixedBitSet::default(alloc);
+    /// assert!(rt; set == FixedBitSet::new(alloc));
+    /// ```
     pub fn default(alloc: Global) -> Self
         ensures { result ≡ model.empty 0 }
     {
@@ -78,6 +96,12 @@ impl FixedBitSet {
     ///
     /// `Err` comes only where memory for the words was refused; no item is taken then. It writes each word as 0, then the
     /// items, and then the last word.
+    ///
+    /// ```
+    /// let set = FixedBitSet::with_capacity_and_blocks(alloc, 67, [1, 255])?;
+    /// assert_eq!(rt; set.as_slice(), [1, 7].as_slice());
+    /// assert!(rt; set.contains(66) && !set.contains(67));
+    /// ```
     pub fn with_capacity_and_blocks<I: IntoIterator<Item = Block>>(
         alloc: Global,
         bits: usize,
@@ -102,6 +126,14 @@ impl FixedBitSet {
     /// `Err` comes only where more words are needed than the old length has and memory for them was refused. The set
     /// is then as it was. A call that needs no more words is never refused. It writes the new words alone, and where
     /// memory has to move also the old ones.
+    ///
+    /// ```
+    /// let mut set = FixedBitSet::with_capacity_and_blocks(alloc, 2, [3])?;
+    /// set.grow(70)?;
+    /// set.grow(9)?;
+    /// assert_eq!(rt; set.len(), 70);
+    /// assert_eq!(rt; set.as_slice(), [3, 0].as_slice());
+    /// ```
     #[inline]
     pub fn grow(&mut self, bits: usize) -> Result<(), AllocError>
         ensures ok { OnOk result (self.new ≡ model.grow self.old bits) }
@@ -121,6 +153,14 @@ impl FixedBitSet {
     /// then as it was. It writes the words that are added, and then as many as `source` has.
     ///
     /// Upstream aborts where memory is refused.
+    ///
+    /// ```
+    /// let source = FixedBitSet::with_capacity_and_blocks(alloc, 3, [5])?;
+    /// let mut set = FixedBitSet::with_capacity_and_blocks(alloc, 70, [8, 1])?;
+    /// set.clone_from(&source)?;
+    /// assert_eq!(rt; set.len(), 3);
+    /// assert_eq!(rt; set.as_slice(), [5].as_slice());
+    /// ```
     pub fn clone_from(&mut self, source: &Self) -> Result<(), AllocError>
         ensures ok { OnOk result (self.new ≡ source.now) }
         ensures err { OnErr result (self.new ≡ self.old) }
@@ -136,6 +176,13 @@ impl FixedBitSet {
     ///
     /// The word has to be one of those that `as_slice` has. Upstream has no such call: there a caller writes into
     /// `as_mut_slice`, and bits past the length stay.
+    ///
+    /// ```
+    /// let mut set = FixedBitSet::with_capacity(alloc, 70)?;
+    /// assert_eq!(rt; set.as_slice().len(), 2);
+    /// set.set_block(1, Block::MAX);
+    /// assert_eq!(rt; set.as_slice(), [0, 63].as_slice());
+    /// ```
     #[inline]
     pub fn set_block(&mut self, index: usize, value: Block)
         requires { index < length (model.words self.old) }
@@ -146,6 +193,13 @@ impl FixedBitSet {
     }
 
     /// Clears all positions, and keeps the length. It writes each word once.
+    ///
+    /// ```
+    /// let mut set = FixedBitSet::with_capacity_and_blocks(alloc, 70, [8, 1])?;
+    /// set.clear();
+    /// assert_eq!(rt; set.len(), 70);
+    /// assert_eq!(rt; set.as_slice(), [0, 0].as_slice());
+    /// ```
     pub fn clear(&mut self)
         ensures { self.new ≡ model.empty self.old.length }
     {
@@ -153,6 +207,12 @@ impl FixedBitSet {
     }
 
     /// The length in bits: set positions and others.
+    ///
+    /// ```
+    /// let set = FixedBitSet::from_iter(alloc, [3, 70])?;
+    /// assert_eq!(rt; set.len(), 71);
+    /// assert_eq!(rt; set.count_ones(..), 2);
+    /// ```
     #[inline]
     #[tactic(auto, using(crate::proofs::Words::viewed_length))]
     pub fn len(&self) -> usize
@@ -164,6 +224,11 @@ impl FixedBitSet {
     /// The words, `len() / 64` rounded up: position `p` is bit `p % 64` of word `p / 64`, and bits past the length are 0.
     ///
     /// It is lent from the set and takes no memory.
+    ///
+    /// ```
+    /// let set = FixedBitSet::from_iter(alloc, [63, 64, 65])?;
+    /// assert_eq!(rt; set.as_slice(), [1 << 63, 3].as_slice());
+    /// ```
     #[inline]
     pub fn as_slice(&self) -> &[Block]
         ensures { result.now ≡ model.words self.now }
@@ -189,6 +254,14 @@ impl Clone for FixedBitSet {
     /// A set of the same length and positions, in memory of its own. It writes each word once.
     ///
     /// `Err` comes only where memory for the words was refused; upstream aborts there.
+    ///
+    /// ```
+    /// let set = FixedBitSet::from_iter(alloc, [3, 64])?;
+    /// let mut copy = set.clone()?;
+    /// copy.clear();
+    /// assert_eq!(rt; copy.len(), 65);
+    /// assert!(rt; set.contains(64) && !copy.contains(64));
+    /// ```
     fn clone(&self) -> Result<Self, AllocError> {
         Ok(FixedBitSet {
             words: self.words.clone()?,

@@ -15,6 +15,12 @@ impl Display for FixedBitSet {
     ghost styled_output = { λ v spec. Some (styled_text (spec_alternate spec) v) };
 
     /// Writes what `Binary` writes, in as many calls.
+    ///
+    /// ```
+    /// let set = FixedBitSet::with_capacity_and_blocks(alloc, 4, [2])?;
+    /// assert_eq!(rt; set.to_string(alloc)?.as_str(), "0100");
+    /// assert_eq!(rt; format!(in alloc; "{set:#}")?.as_str(), "0b0100");
+    /// ```
     fn fmt<W: fmt::Write>(&self, f: &mut fmt::Formatter<W>) -> fmt::Result {
         Binary::fmt(self, f)
     }
@@ -26,6 +32,13 @@ impl Binary for FixedBitSet {
     ///
     /// It gives the writer the characters of one word at a time: `len() / 64` calls, rounded up, and one more for `0b`.
     /// `Err` comes only from the writer, which then has what was written before.
+    ///
+    /// ```
+    /// let set = FixedBitSet::with_capacity_and_blocks(alloc, 4, [2])?;
+    /// let mut f = Formatter::new(String::new(alloc));
+    /// Binary::fmt(&set, &mut f)?;
+    /// assert_eq!(rt; f.into_inner().as_str(), "0100");
+    /// ```
     fn fmt<W: fmt::Write>(&self, f: &mut fmt::Formatter<W>) -> fmt::Result
         ensures { WritesStyledOnOk W.write_str_gives f.old result (styled_text (spec_alternate (formatter_spec f.old)) self.now) f.new }
     {

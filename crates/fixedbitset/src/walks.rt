@@ -17,6 +17,12 @@ use bitwalks::walks::{IntoOnes, Ones, Zeroes};
 impl FixedBitSet {
     /// The set positions, in ascending order. It takes no memory, and reads the first and the last word; those between
     /// are not yet taken.
+    ///
+    /// ```
+    /// let set = FixedBitSet::from_iter(alloc, [64, 3])?;
+    /// let items: Vec<usize> = set.ones().collect(alloc)?;
+    /// assert_eq!(rt; items.as_slice(), [3, 64].as_slice());
+    /// ```
     #[inline]
     pub fn ones(&self) -> Ones<'_>
         ensures items { result.items ≡ model.asc self.now }
@@ -32,6 +38,12 @@ impl FixedBitSet {
 
     /// The set positions, in ascending order, from a walk that owns the words of the set. It takes no memory, and reads
     /// the first and the last word; those between are not yet taken.
+    ///
+    /// ```
+    /// let set = FixedBitSet::from_iter(alloc, [64, 3, 9])?;
+    /// let items: Vec<usize> = set.into_ones().rev().collect(alloc)?;
+    /// assert_eq!(rt; items.as_slice(), [64, 9, 3].as_slice());
+    /// ```
     #[inline]
     pub fn into_ones(self) -> IntoOnes
         ensures items { result.items ≡ model.asc self }
@@ -49,6 +61,13 @@ impl FixedBitSet {
 
     /// The positions below the length that are not set, in ascending order. It takes no memory, and reads the first and
     /// the last word; those between are not yet taken.
+    ///
+    /// ```
+    /// let mut set = FixedBitSet::with_capacity(alloc, 66)?;
+    /// set.insert_range(1..65);
+    /// let items: Vec<usize> = set.zeroes().collect(alloc)?;
+    /// assert_eq!(rt; items.as_slice(), [0, 65].as_slice());
+    /// ```
     #[inline]
     #[tactic(auto, using(crate::proofs::Words::viewed_length))]
     pub fn zeroes(&self) -> Zeroes<'_>

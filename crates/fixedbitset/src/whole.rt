@@ -20,6 +20,14 @@ impl FixedBitSet {
     /// `Err` comes only where `other` has more words than this set and memory for them was refused; this set is then as
     /// it was. Where `other` needs no more words, the call takes no memory and is never refused. It takes one step for
     /// each lane of `other`; new words are written once before.
+    ///
+    /// ```
+    /// let mut set = FixedBitSet::from_iter(alloc, [1, 3])?;
+    /// let other = FixedBitSet::from_iter(alloc, [3, 64])?;
+    /// set.union_with(&other)?;
+    /// assert_eq!(rt; set.len(), 65);
+    /// assert_eq!(rt; set.as_slice(), [10, 1].as_slice());
+    /// ```
     pub fn union_with(&mut self, other: &Self) -> Result<(), AllocError>
         ensures ok { OnOk result (self.new ≡ sets.union self.old other.now) }
         ensures err { OnErr result (self.new ≡ self.old) }
@@ -31,6 +39,14 @@ impl FixedBitSet {
     /// Leaves the greater of the two lengths, and the positions of exactly one of the sets.
     ///
     /// Memory, errors and steps are those of [`union_with`](Self::union_with).
+    ///
+    /// ```
+    /// let mut set = FixedBitSet::from_iter(alloc, [1, 3])?;
+    /// let other = FixedBitSet::from_iter(alloc, [3, 64])?;
+    /// set.symmetric_difference_with(&other)?;
+    /// assert_eq!(rt; set.len(), 65);
+    /// assert_eq!(rt; set.as_slice(), [2, 1].as_slice());
+    /// ```
     pub fn symmetric_difference_with(&mut self, other: &Self) -> Result<(), AllocError>
         ensures ok { OnOk result (self.new ≡ sets.symmetric_difference self.old other.now) }
         ensures err { OnErr result (self.new ≡ self.old) }
@@ -42,6 +58,14 @@ impl FixedBitSet {
     /// Leaves this set's length, and the positions of both sets. It takes no memory.
     ///
     /// It takes one step for each lane that both have, and one for each that only this set has, to clear it.
+    ///
+    /// ```
+    /// let mut set = FixedBitSet::from_iter(alloc, [1, 3, 64])?;
+    /// let other = FixedBitSet::from_iter(alloc, [3, 5])?;
+    /// set.intersect_with(&other);
+    /// assert_eq!(rt; set.len(), 65);
+    /// assert_eq!(rt; set.as_slice(), [8, 0].as_slice());
+    /// ```
     pub fn intersect_with(&mut self, other: &Self)
         ensures { self.new ≡ sets.intersection self.old other.now }
     {
@@ -51,6 +75,13 @@ impl FixedBitSet {
     /// Leaves this set's length, and its positions that `other` lacks. It takes no memory.
     ///
     /// It takes one step for each lane that both have.
+    ///
+    /// ```
+    /// let mut set = FixedBitSet::from_iter(alloc, [1, 3, 64])?;
+    /// let other = FixedBitSet::from_iter(alloc, [3, 5])?;
+    /// set.difference_with(&other);
+    /// assert_eq!(rt; set.as_slice(), [2, 1].as_slice());
+    /// ```
     pub fn difference_with(&mut self, other: &Self)
         ensures { self.new ≡ sets.difference self.old other.now }
     {
@@ -58,6 +89,12 @@ impl FixedBitSet {
     }
 
     /// The same as [`union_with`](Self::union_with). Upstream's operator `|=` is this call, as it may be refused memory.
+    ///
+    /// ```
+    /// let mut set = FixedBitSet::from_iter(alloc, [1, 3])?;
+    /// set.bitor_assign(&FixedBitSet::from_iter(alloc, [3, 64])?)?;
+    /// assert_eq!(rt; set.as_slice(), [10, 1].as_slice());
+    /// ```
     pub fn bitor_assign(&mut self, other: &Self) -> Result<(), AllocError>
         ensures ok { OnOk result (self.new ≡ sets.union self.old other.now) }
         ensures err { OnErr result (self.new ≡ self.old) }
@@ -68,6 +105,12 @@ impl FixedBitSet {
 
     /// The same as [`symmetric_difference_with`](Self::symmetric_difference_with). Upstream's operator `^=` is this
     /// call, as it may be refused memory.
+    ///
+    /// ```
+    /// let mut set = FixedBitSet::from_iter(alloc, [1, 3])?;
+    /// set.bitxor_assign(&FixedBitSet::from_iter(alloc, [3, 64])?)?;
+    /// assert_eq!(rt; set.as_slice(), [2, 1].as_slice());
+    /// ```
     pub fn bitxor_assign(&mut self, other: &Self) -> Result<(), AllocError>
         ensures ok { OnOk result (self.new ≡ sets.symmetric_difference self.old other.now) }
         ensures err { OnErr result (self.new ≡ self.old) }
@@ -80,6 +123,14 @@ impl FixedBitSet {
     ///
     /// `Err` comes only where memory for its words was refused. It copies the shorter set's words and takes
     /// one step for each of its lanes. Upstream's operator `&` is this call.
+    ///
+    /// ```
+    /// let set = FixedBitSet::from_iter(alloc, [1, 3, 64])?;
+    /// let other = FixedBitSet::from_iter(alloc, [3, 5])?;
+    /// let both = set.bitand(&other)?;
+    /// assert_eq!(rt; both.len(), 6);
+    /// assert_eq!(rt; both.as_slice(), [8].as_slice());
+    /// ```
     #[tactic(auto, using(crate::proofs::JoinedValues::bitand_shorter, crate::proofs::JoinedValues::bitand_longer, crate::proofs::Words::viewed_length))]
     pub fn bitand(&self, other: &Self) -> Result<Self, AllocError>
         ensures { IfOk result (λ set. set ≡ sets.bitand self.now other.now) }
@@ -95,6 +146,14 @@ impl FixedBitSet {
     ///
     /// `Err` comes only where memory for its words was refused. It copies the longer set's words and takes
     /// one step for each lane of the shorter. Upstream's operator `|` is this call.
+    ///
+    /// ```
+    /// let set = FixedBitSet::from_iter(alloc, [1, 3, 64])?;
+    /// let other = FixedBitSet::from_iter(alloc, [3, 5])?;
+    /// let either = other.bitor(&set)?;
+    /// assert_eq!(rt; either.len(), 65);
+    /// assert_eq!(rt; either.as_slice(), [42, 1].as_slice());
+    /// ```
     #[tactic(auto, using(crate::proofs::JoinedValues::union_longer, crate::proofs::JoinedValues::union_shorter, crate::proofs::Words::viewed_length))]
     pub fn bitor(&self, other: &Self) -> Result<Self, AllocError>
         ensures { IfOk result (λ set. set ≡ sets.union self.now other.now) }
@@ -110,6 +169,14 @@ impl FixedBitSet {
     ///
     /// `Err` comes only where memory for its words was refused. It copies the longer set's words and takes
     /// one step for each lane of the shorter. Upstream's operator `^` is this call.
+    ///
+    /// ```
+    /// let set = FixedBitSet::from_iter(alloc, [1, 3, 64])?;
+    /// let other = FixedBitSet::from_iter(alloc, [3, 5])?;
+    /// let one = other.bitxor(&set)?;
+    /// assert_eq!(rt; one.len(), 65);
+    /// assert_eq!(rt; one.as_slice(), [34, 1].as_slice());
+    /// ```
     #[tactic(auto, using(crate::proofs::JoinedValues::symmetric_difference_longer, crate::proofs::JoinedValues::symmetric_difference_shorter, crate::proofs::Words::viewed_length))]
     pub fn bitxor(&self, other: &Self) -> Result<Self, AllocError>
         ensures { IfOk result (λ set. set ≡ sets.symmetric_difference self.now other.now) }
@@ -124,6 +191,12 @@ impl FixedBitSet {
     /// How many positions are in either set.
     ///
     /// It takes one step for each lane of the longer set.
+    ///
+    /// ```
+    /// let set = FixedBitSet::from_iter(alloc, [1, 3, 64])?;
+    /// let other = FixedBitSet::from_iter(alloc, [3, 5])?;
+    /// assert_eq!(rt; set.union_count(&other), 4);
+    /// ```
     #[inline]
     pub fn union_count(&self, other: &Self) -> usize
         ensures { result ≡ sets.union_count self.now other.now }
@@ -134,6 +207,12 @@ impl FixedBitSet {
     /// How many positions are in both sets.
     ///
     /// It takes one step for each lane that both have.
+    ///
+    /// ```
+    /// let set = FixedBitSet::from_iter(alloc, [1, 3, 64])?;
+    /// let other = FixedBitSet::from_iter(alloc, [3, 5])?;
+    /// assert_eq!(rt; set.intersection_count(&other), 1);
+    /// ```
     #[inline]
     pub fn intersection_count(&self, other: &Self) -> usize
         ensures { result ≡ sets.intersection_count self.now other.now }
@@ -145,6 +224,13 @@ impl FixedBitSet {
     /// word of `other`, against its documentation.
     ///
     /// It takes one step for each lane of this set.
+    ///
+    /// ```
+    /// let set = FixedBitSet::from_iter(alloc, [1, 3, 64])?;
+    /// let other = FixedBitSet::from_iter(alloc, [3, 5])?;
+    /// assert_eq!(rt; set.difference_count(&other), 2);
+    /// assert_eq!(rt; other.difference_count(&set), 1);
+    /// ```
     #[inline]
     pub fn difference_count(&self, other: &Self) -> usize
         ensures { result ≡ sets.difference_count self.now other.now }
@@ -155,6 +241,12 @@ impl FixedBitSet {
     /// How many positions are in exactly one of the sets.
     ///
     /// It takes one step for each lane of the longer set.
+    ///
+    /// ```
+    /// let set = FixedBitSet::from_iter(alloc, [1, 3, 64])?;
+    /// let other = FixedBitSet::from_iter(alloc, [3, 5])?;
+    /// assert_eq!(rt; set.symmetric_difference_count(&other), 3);
+    /// ```
     #[inline]
     pub fn symmetric_difference_count(&self, other: &Self) -> usize
         ensures { result ≡ sets.symmetric_difference_count self.now other.now }
@@ -165,6 +257,13 @@ impl FixedBitSet {
     /// Whether no position is in both sets. The lengths are not compared.
     ///
     /// It stops at the first lane with a position of both, and takes at most one step for each lane that both have.
+    ///
+    /// ```
+    /// let set = FixedBitSet::from_iter(alloc, [1, 64])?;
+    /// let other = FixedBitSet::from_iter(alloc, [3, 64, 65])?;
+    /// assert!(rt; !set.is_disjoint(&other));
+    /// assert!(rt; set.is_disjoint(&FixedBitSet::from_iter(alloc, [0, 65])?));
+    /// ```
     pub fn is_disjoint(&self, other: &Self) -> bool
         ensures { result ≡ sets.is_disjoint self.now other.now }
     {
@@ -175,6 +274,14 @@ impl FixedBitSet {
     ///
     /// It stops at the first lane with a position that `other` lacks, and takes at most one step for each lane of this
     /// set.
+    ///
+    /// ```
+    /// let mut set = FixedBitSet::with_capacity(alloc, 200)?;
+    /// set.insert(3);
+    /// let other = FixedBitSet::from_iter(alloc, [1, 3])?;
+    /// assert!(rt; set.is_subset(&other));
+    /// assert!(rt; !other.is_subset(&set));
+    /// ```
     pub fn is_subset(&self, other: &Self) -> bool
         ensures { result ≡ sets.is_subset self.now other.now }
     {
@@ -182,6 +289,13 @@ impl FixedBitSet {
     }
 
     /// Whether this set has each position of `other`: `other.is_subset(self)`.
+    ///
+    /// ```
+    /// let set = FixedBitSet::from_iter(alloc, [1, 3])?;
+    /// let longer = FixedBitSet::with_capacity(alloc, 200)?;
+    /// assert!(rt; set.is_superset(&longer));
+    /// assert!(rt; !longer.is_superset(&set));
+    /// ```
     pub fn is_superset(&self, other: &Self) -> bool
         ensures { result ≡ sets.is_subset other.now self.now }
     {

@@ -10,6 +10,14 @@ use fixedbitset::FixedBitSet;
 ///
 /// It takes no memory, and looks at each set's length and at each edge once at most. With no nodes and no edges it is
 /// `true`, whatever `facts` is.
+///
+/// ```
+/// let gens = [FixedBitSet::from_iter(alloc, [0, 69])?];
+/// let kills = [FixedBitSet::with_capacity(alloc, 70)?];
+/// assert!(rt; flow::is_problem(70, &[(0, 0)], &gens, &kills));
+/// assert!(rt; !flow::is_problem(70, &[(0, 1)], &gens, &kills));
+/// assert!(rt; !flow::is_problem(69, &[(0, 0)], &gens, &kills));
+/// ```
 pub fn is_problem(
     facts: usize,
     edges: &[(usize, usize)],

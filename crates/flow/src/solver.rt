@@ -27,6 +27,16 @@ pub struct Solution {
 ///
 /// `Err` comes only where memory for the sets of the answer, or for four sets more at most, was refused. It is all taken
 /// before the first round, so no round was ticked then.
+///
+/// ```
+/// let none = FixedBitSet::with_capacity(alloc, 2)?;
+/// let gens = [FixedBitSet::from_iter(alloc, [0, 1])?, none.clone()?];
+/// let kills = [none, FixedBitSet::from_iter(alloc, [1])?];
+/// assert!(rt; flow::is_problem(2, &[(0, 1)], &gens, &kills));
+/// let answer = flow::solve(alloc, 2, &[(0, 1)], &gens, &kills, &mut Steps::new())?;
+/// let last = answer.outs.last().and_then(|facts| facts.maximum());
+/// assert_eq!(rt; last, Some(0));
+/// ```
 pub fn solve(
     alloc: Global,
     facts: usize,

@@ -15,6 +15,13 @@ use bitlanes::ops::{And, AndNot, Or, Xor};
 use bitlanes::{IndexRange, Steps};
 
 /// [`FixedBitSet::insert_range`], with the steps that it takes.
+///
+/// ```
+/// let mut set = FixedBitSet::with_capacity(alloc, 200)?;
+/// let mut steps = Steps::new();
+/// counted::insert_range(&mut set, 63..66, &mut steps);
+/// assert_eq!(rt; counted::count_ones(&set, .., &mut steps), 3);
+/// ```
 #[inline]
 #[tactic(auto, using(crate::proofs::JoinedValues::insert_joined))]
 pub fn insert_range<R: IndexRange<usize> + Drop>(set: &mut FixedBitSet, range: R, steps: &mut Steps)
@@ -28,6 +35,14 @@ pub fn insert_range<R: IndexRange<usize> + Drop>(set: &mut FixedBitSet, range: R
 }
 
 /// [`FixedBitSet::remove_range`], with the steps that it takes.
+///
+/// ```
+/// let mut set = FixedBitSet::with_capacity(alloc, 200)?;
+/// let mut steps = Steps::new();
+/// counted::insert_range(&mut set, .., &mut steps);
+/// counted::remove_range(&mut set, 1..=198, &mut steps);
+/// assert_eq!(rt; set.count_ones(..), 2);
+/// ```
 #[inline]
 #[tactic(auto, using(crate::proofs::JoinedValues::remove_joined))]
 pub fn remove_range<R: IndexRange<usize> + Drop>(set: &mut FixedBitSet, range: R, steps: &mut Steps)
@@ -41,6 +56,14 @@ pub fn remove_range<R: IndexRange<usize> + Drop>(set: &mut FixedBitSet, range: R
 }
 
 /// [`FixedBitSet::toggle_range`], with the steps that it takes.
+///
+/// ```
+/// let mut set = FixedBitSet::with_capacity(alloc, 200)?;
+/// let mut steps = Steps::new();
+/// counted::toggle_range(&mut set, 60..66, &mut steps);
+/// counted::toggle_range(&mut set, 62.., &mut steps);
+/// assert_eq!(rt; set.minimum(), Some(60));
+/// ```
 #[inline]
 #[tactic(auto, using(crate::proofs::JoinedValues::toggle_joined))]
 pub fn toggle_range<R: IndexRange<usize> + Drop>(set: &mut FixedBitSet, range: R, steps: &mut Steps)
@@ -54,6 +77,12 @@ pub fn toggle_range<R: IndexRange<usize> + Drop>(set: &mut FixedBitSet, range: R
 }
 
 /// [`FixedBitSet::count_ones`], with the steps that it takes.
+///
+/// ```
+/// let mut set = FixedBitSet::with_capacity(alloc, 200)?;
+/// set.insert_range(60..130);
+/// assert_eq!(rt; counted::count_ones(&set, 63..=64, &mut Steps::new()), 2);
+/// ```
 #[inline]
 #[tactic(auto, using(crate::proofs::JoinedCounts::count_ones_of))]
 pub fn count_ones<R: IndexRange<usize> + Drop>(
@@ -71,6 +100,12 @@ pub fn count_ones<R: IndexRange<usize> + Drop>(
 }
 
 /// [`FixedBitSet::count_zeroes`], with the steps that it takes.
+///
+/// ```
+/// let mut set = FixedBitSet::with_capacity(alloc, 200)?;
+/// set.insert_range(60..130);
+/// assert_eq!(rt; counted::count_zeroes(&set, 59..=64, &mut Steps::new()), 1);
+/// ```
 #[inline]
 #[tactic(auto, using(crate::proofs::JoinedCounts::count_zeroes_of))]
 pub fn count_zeroes<R: IndexRange<usize> + Drop>(
@@ -88,6 +123,13 @@ pub fn count_zeroes<R: IndexRange<usize> + Drop>(
 }
 
 /// [`FixedBitSet::contains_all_in_range`], with the steps that it takes.
+///
+/// ```
+/// let mut set = FixedBitSet::with_capacity(alloc, 200)?;
+/// set.insert_range(60..130);
+/// assert!(rt; counted::contains_all_in_range(&set, 60..130, &mut Steps::new()));
+/// assert!(rt; !counted::contains_all_in_range(&set, 59..130, &mut Steps::new()));
+/// ```
 #[inline]
 #[tactic(auto, using(crate::proofs::JoinedCounts::contains_all_of))]
 pub fn contains_all_in_range<R: IndexRange<usize> + Drop>(
@@ -106,6 +148,13 @@ pub fn contains_all_in_range<R: IndexRange<usize> + Drop>(
 }
 
 /// [`FixedBitSet::contains_any_in_range`], with the steps that it takes.
+///
+/// ```
+/// let mut set = FixedBitSet::with_capacity(alloc, 200)?;
+/// set.insert_range(60..130);
+/// assert!(rt; counted::contains_any_in_range(&set, ..=60, &mut Steps::new()));
+/// assert!(rt; !counted::contains_any_in_range(&set, ..60, &mut Steps::new()));
+/// ```
 #[inline]
 #[tactic(auto, using(crate::proofs::JoinedCounts::contains_any_of))]
 pub fn contains_any_in_range<R: IndexRange<usize> + Drop>(

@@ -20,6 +20,13 @@ use std::alloc::AllocError;
 /// [`FixedBitSet::union_with`], with the steps that it takes.
 ///
 /// Where memory was refused the set is as it was.
+///
+/// ```
+/// let mut set = FixedBitSet::from_iter(alloc, [1, 3])?;
+/// let other = FixedBitSet::from_iter(alloc, [3, 64])?;
+/// counted::union_with(&mut set, &other, &mut Steps::new())?;
+/// assert_eq!(rt; set.as_slice(), [10, 1].as_slice());
+/// ```
 #[inline]
 #[tactic(auto, using(crate::proofs::JoinedValues::union_grown, crate::proofs::JoinedValues::union_longer))]
 pub fn union_with(
@@ -43,6 +50,13 @@ pub fn union_with(
 /// [`FixedBitSet::symmetric_difference_with`], with the steps that it takes.
 ///
 /// Where memory was refused the set is as it was.
+///
+/// ```
+/// let mut set = FixedBitSet::from_iter(alloc, [1, 3])?;
+/// let other = FixedBitSet::from_iter(alloc, [3, 64])?;
+/// counted::symmetric_difference_with(&mut set, &other, &mut Steps::new())?;
+/// assert_eq!(rt; set.as_slice(), [2, 1].as_slice());
+/// ```
 #[inline]
 #[tactic(auto, using(crate::proofs::JoinedValues::symmetric_difference_grown, crate::proofs::JoinedValues::symmetric_difference_longer))]
 pub fn symmetric_difference_with(
@@ -64,6 +78,13 @@ pub fn symmetric_difference_with(
 }
 
 /// [`FixedBitSet::intersect_with`], with the steps that it takes.
+///
+/// ```
+/// let mut set = FixedBitSet::from_iter(alloc, [1, 3, 64])?;
+/// let other = FixedBitSet::from_iter(alloc, [3, 5])?;
+/// counted::intersect_with(&mut set, &other, &mut Steps::new());
+/// assert_eq!(rt; set.as_slice(), [8, 0].as_slice());
+/// ```
 #[inline]
 #[tactic(auto, using(crate::proofs::JoinedValues::intersection_joined))]
 pub fn intersect_with(set: &mut FixedBitSet, other: &FixedBitSet, steps: &mut Steps)
@@ -75,6 +96,13 @@ pub fn intersect_with(set: &mut FixedBitSet, other: &FixedBitSet, steps: &mut St
 }
 
 /// [`FixedBitSet::difference_with`], with the steps that it takes.
+///
+/// ```
+/// let mut set = FixedBitSet::from_iter(alloc, [1, 3, 64])?;
+/// let other = FixedBitSet::from_iter(alloc, [3, 5])?;
+/// counted::difference_with(&mut set, &other, &mut Steps::new());
+/// assert_eq!(rt; set.as_slice(), [2, 1].as_slice());
+/// ```
 #[inline]
 #[tactic(auto, using(crate::proofs::JoinedValues::difference_joined))]
 pub fn difference_with(set: &mut FixedBitSet, other: &FixedBitSet, steps: &mut Steps)
@@ -86,6 +114,13 @@ pub fn difference_with(set: &mut FixedBitSet, other: &FixedBitSet, steps: &mut S
 }
 
 /// [`FixedBitSet::union_count`], with the steps that it takes.
+///
+/// ```
+/// let set = FixedBitSet::from_iter(alloc, [1, 3, 64])?;
+/// let other = FixedBitSet::from_iter(alloc, [3, 5])?;
+/// let count = counted::union_count(&set, &other, &mut Steps::new());
+/// assert_eq!(rt; count, 4);
+/// ```
 #[inline]
 #[tactic(auto, using(crate::proofs::JoinedCounts::union_count_of))]
 pub fn union_count(set: &FixedBitSet, other: &FixedBitSet, steps: &mut Steps) -> usize
@@ -97,6 +132,13 @@ pub fn union_count(set: &FixedBitSet, other: &FixedBitSet, steps: &mut Steps) ->
 }
 
 /// [`FixedBitSet::intersection_count`], with the steps that it takes.
+///
+/// ```
+/// let set = FixedBitSet::from_iter(alloc, [1, 3, 64])?;
+/// let other = FixedBitSet::from_iter(alloc, [3, 5])?;
+/// let count = counted::intersection_count(&set, &other, &mut Steps::new());
+/// assert_eq!(rt; count, 1);
+/// ```
 #[inline]
 #[tactic(auto, using(crate::proofs::JoinedCounts::intersection_count_of))]
 pub fn intersection_count(set: &FixedBitSet, other: &FixedBitSet, steps: &mut Steps) -> usize
@@ -108,6 +150,13 @@ pub fn intersection_count(set: &FixedBitSet, other: &FixedBitSet, steps: &mut St
 }
 
 /// [`FixedBitSet::difference_count`], with the steps that it takes.
+///
+/// ```
+/// let set = FixedBitSet::from_iter(alloc, [1, 3, 64])?;
+/// let other = FixedBitSet::from_iter(alloc, [3, 5])?;
+/// let count = counted::difference_count(&set, &other, &mut Steps::new());
+/// assert_eq!(rt; count, 2);
+/// ```
 #[inline]
 #[tactic(auto, using(crate::proofs::JoinedCounts::difference_count_of))]
 pub fn difference_count(set: &FixedBitSet, other: &FixedBitSet, steps: &mut Steps) -> usize
@@ -119,6 +168,13 @@ pub fn difference_count(set: &FixedBitSet, other: &FixedBitSet, steps: &mut Step
 }
 
 /// [`FixedBitSet::symmetric_difference_count`], with the steps that it takes.
+///
+/// ```
+/// let set = FixedBitSet::from_iter(alloc, [1, 3, 64])?;
+/// let other = FixedBitSet::from_iter(alloc, [3, 5])?;
+/// let count = counted::symmetric_difference_count(&set, &other, &mut Steps::new());
+/// assert_eq!(rt; count, 3);
+/// ```
 #[inline]
 #[tactic(auto, using(crate::proofs::JoinedCounts::symmetric_difference_count_of))]
 pub fn symmetric_difference_count(
@@ -134,6 +190,12 @@ pub fn symmetric_difference_count(
 }
 
 /// [`FixedBitSet::is_disjoint`], with the steps that it takes.
+///
+/// ```
+/// let set = FixedBitSet::from_iter(alloc, [1, 64])?;
+/// let other = FixedBitSet::from_iter(alloc, [3, 65, 200])?;
+/// assert!(rt; counted::is_disjoint(&set, &other, &mut Steps::new()));
+/// ```
 #[inline]
 #[tactic(auto, using(crate::proofs::JoinedCounts::disjoint_of))]
 pub fn is_disjoint(set: &FixedBitSet, other: &FixedBitSet, steps: &mut Steps) -> bool
@@ -147,6 +209,13 @@ pub fn is_disjoint(set: &FixedBitSet, other: &FixedBitSet, steps: &mut Steps) ->
 }
 
 /// [`FixedBitSet::is_subset`], with the steps that it takes.
+///
+/// ```
+/// let set = FixedBitSet::from_iter(alloc, [3, 64])?;
+/// let other = FixedBitSet::from_iter(alloc, [3, 64, 200])?;
+/// assert!(rt; counted::is_subset(&set, &other, &mut Steps::new()));
+/// assert!(rt; !counted::is_subset(&other, &set, &mut Steps::new()));
+/// ```
 #[inline]
 #[tactic(auto, using(crate::proofs::JoinedCounts::subset_of))]
 pub fn is_subset(set: &FixedBitSet, other: &FixedBitSet, steps: &mut Steps) -> bool

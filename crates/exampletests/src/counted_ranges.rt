@@ -1,0 +1,81 @@
+//! The examples in the docs of `fixedbitset::counted::ranges`. docs/make_examples writes this file.
+
+use fixedbitset::{FixedBitSet, Steps, counted};
+use std::test::Fail;
+
+#[test]
+#[tactic(auto, using(fixedbitset::specs::BitsFacts::facts, fixedbitset::specs::RangesFacts::facts))]
+fn insert_range(rt: HostRuntime) -> Result<(), Fail> {
+    let alloc = rt.alloc();
+    let mut set = FixedBitSet::with_capacity(alloc, 200)?;
+    let mut steps = Steps::new();
+    counted::insert_range(&mut set, 63..66, &mut steps);
+    assert_eq!(rt; counted::count_ones(&set, .., &mut steps), 3);
+    Ok(())
+}
+
+#[test]
+#[tactic(auto, using(fixedbitset::specs::BitsFacts::facts, fixedbitset::specs::RangesFacts::facts))]
+fn remove_range(rt: HostRuntime) -> Result<(), Fail> {
+    let alloc = rt.alloc();
+    let mut set = FixedBitSet::with_capacity(alloc, 200)?;
+    let mut steps = Steps::new();
+    counted::insert_range(&mut set, .., &mut steps);
+    counted::remove_range(&mut set, 1..=198, &mut steps);
+    assert_eq!(rt; set.count_ones(..), 2);
+    Ok(())
+}
+
+#[test]
+#[tactic(auto, using(fixedbitset::specs::BitsFacts::facts, fixedbitset::specs::RangesFacts::facts))]
+fn toggle_range(rt: HostRuntime) -> Result<(), Fail> {
+    let alloc = rt.alloc();
+    let mut set = FixedBitSet::with_capacity(alloc, 200)?;
+    let mut steps = Steps::new();
+    counted::toggle_range(&mut set, 60..66, &mut steps);
+    counted::toggle_range(&mut set, 62.., &mut steps);
+    assert_eq!(rt; set.minimum(), Some(60));
+    Ok(())
+}
+
+#[test]
+#[tactic(auto, using(fixedbitset::specs::BitsFacts::facts, fixedbitset::specs::RangesFacts::facts))]
+fn count_ones(rt: HostRuntime) -> Result<(), Fail> {
+    let alloc = rt.alloc();
+    let mut set = FixedBitSet::with_capacity(alloc, 200)?;
+    set.insert_range(60..130);
+    assert_eq!(rt; counted::count_ones(&set, 63..=64, &mut Steps::new()), 2);
+    Ok(())
+}
+
+#[test]
+#[tactic(auto, using(fixedbitset::specs::BitsFacts::facts, fixedbitset::specs::RangesFacts::facts))]
+fn count_zeroes(rt: HostRuntime) -> Result<(), Fail> {
+    let alloc = rt.alloc();
+    let mut set = FixedBitSet::with_capacity(alloc, 200)?;
+    set.insert_range(60..130);
+    assert_eq!(rt; counted::count_zeroes(&set, 59..=64, &mut Steps::new()), 1);
+    Ok(())
+}
+
+#[test]
+#[tactic(auto, using(fixedbitset::specs::BitsFacts::facts, fixedbitset::specs::RangesFacts::facts))]
+fn contains_all_in_range(rt: HostRuntime) -> Result<(), Fail> {
+    let alloc = rt.alloc();
+    let mut set = FixedBitSet::with_capacity(alloc, 200)?;
+    set.insert_range(60..130);
+    assert!(rt; counted::contains_all_in_range(&set, 60..130, &mut Steps::new()));
+    assert!(rt; !counted::contains_all_in_range(&set, 59..130, &mut Steps::new()));
+    Ok(())
+}
+
+#[test]
+#[tactic(auto, using(fixedbitset::specs::BitsFacts::facts, fixedbitset::specs::RangesFacts::facts))]
+fn contains_any_in_range(rt: HostRuntime) -> Result<(), Fail> {
+    let alloc = rt.alloc();
+    let mut set = FixedBitSet::with_capacity(alloc, 200)?;
+    set.insert_range(60..130);
+    assert!(rt; counted::contains_any_in_range(&set, ..=60, &mut Steps::new()));
+    assert!(rt; !counted::contains_any_in_range(&set, ..60, &mut Steps::new()));
+    Ok(())
+}
