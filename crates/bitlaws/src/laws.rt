@@ -11,22 +11,51 @@ ghost use Rattle.bitwalks.specs.Pairs.{SievesFirst, SievesLast, joined_items, Jo
 
 /// The ascending list of a set's positions is strictly ascending and has them all and no other, and every list that is
 /// so is this one.
+///
+/// ```
+/// let set = FixedBitSet::from_iter(alloc, [64, 3, 9])?;
+/// laws::one_ascending_list();
+/// assert!(rt; set.ones().eq([3, 9, 64]));
+/// ```
 pub fn one_ascending_list()
     ensures { OneAscendingList }
 {}
 
 /// The value of the words of a set is that set.
+///
+/// ```
+/// let set = FixedBitSet::from_iter(alloc, [3, 64])?;
+/// let words = set.as_slice().iter().copied();
+/// laws::words_read_back();
+/// let again = FixedBitSet::with_capacity_and_blocks(alloc, set.len(), words)?;
+/// assert!(rt; again == set);
+/// ```
 pub fn words_read_back()
     ensures { WordsReadBack }
 {}
 
 /// What is written of a set as JSON is in the form and means that set.
+///
+/// ```
+/// let set = FixedBitSet::from_iter(alloc, [3, 64])?;
+/// let value = set.to_value(alloc)?;
+/// laws::reads_back();
+/// let again = FixedBitSet::from_value(alloc, &value)?;
+/// prove!(again == set);
+/// ```
 pub fn reads_back()
     ensures { WrittenReadsBack }
 {}
 
 /// The text of what is written of a set as JSON, without spaces and byte for byte. All its numbers are whole and it nests
 /// twice: with these two facts `to_string` of `serde_json` writes this very text, and it is read as what was written.
+///
+/// ```
+/// let set = FixedBitSet::from_iter(alloc, [2, 9])?;
+/// laws::json_text();
+/// let text = set.to_value(alloc)?.to_string(alloc)?;
+/// assert_eq!(rt; text.as_str(), "{\"data\":[4,2,0,0,0,0,0,0],\"length\":10}");
+/// ```
 pub fn json_text()
     ensures text { TextIsExact }
     ensures whole { HasWholeNumbers }
@@ -34,6 +63,13 @@ pub fn json_text()
 {}
 
 /// A set is clear exactly if it has no position, and full exactly if it has as many as its length.
+///
+/// ```
+/// let set = FixedBitSet::from_iter(alloc, [3, 64])?;
+/// laws::none_and_all();
+/// prove!(set.is_clear() == (set.count_ones(..) == 0));
+/// prove!(set.is_full() == (set.count_ones(..) == set.len()));
+/// ```
 pub fn none_and_all()
     ensures clear { ClearHasNone }
     ensures full { FullHasAll }
@@ -41,6 +77,14 @@ pub fn none_and_all()
 
 /// Setting a position that was not set makes one more, and clearing one that was set makes one fewer. Setting one that is
 /// set, and clearing one that is not, changes nothing.
+///
+/// ```
+/// let mut set = FixedBitSet::with_capacity(alloc, 70)?;
+/// let before = set.count_ones(..);
+/// assert!(rt; !set.put(64));
+/// laws::one_more_or_fewer();
+/// prove!(set.count_ones(..) == before + 1);
+/// ```
 pub fn one_more_or_fewer()
     ensures insert { InsertAddsOne }
     ensures insert_again { InsertKeeps }
@@ -50,28 +94,69 @@ pub fn one_more_or_fewer()
 
 /// The words that hold a position of a range are those from the word of its start up to that of its last position, and
 /// their number is `range_words`, the steps of a change or a count of that range.
+///
+/// ```
+/// let mut set = FixedBitSet::with_capacity(alloc, 200)?;
+/// set.insert_range(63..129);
+/// laws::words_of_range();
+/// let words = set.as_slice().iter().filter(|word| **word != 0).count();
+/// assert_eq!(rt; words, 3);
+/// ```
 pub fn words_of_range()
     ensures between { WordsOfRange }
     ensures number { NumberOfRangeWords }
 {}
 
 /// A change or a count of a range takes at most `(end - start) / 64 + 2` steps, and a search no more than these.
+///
+/// ```
+/// let mut set = FixedBitSet::with_capacity(alloc, 200)?;
+/// set.insert_range(63..129);
+/// laws::steps_of_range();
+/// let words = set.as_slice().iter().filter(|word| **word != 0).count();
+/// assert!(rt; words <= (129 - 63) / 64 + 2);
+/// ```
 pub fn steps_of_range()
     ensures words { RangeWordsBound }
     ensures search { SearchBound }
 {}
 
 /// Toggling one range twice leaves the value as it was.
+///
+/// ```
+/// let mut set = FixedBitSet::from_iter(alloc, [3, 64])?;
+/// let before = set.clone()?;
+/// set.toggle_range(..);
+/// set.toggle_range(..);
+/// laws::toggling_twice();
+/// prove!(set == before);
+/// ```
 pub fn toggling_twice()
     ensures { TogglingTwice }
 {}
 
 /// Of the positions of a range those that are set and those that are not add up to the length of the range.
+///
+/// ```
+/// let mut set = FixedBitSet::with_capacity(alloc, 70)?;
+/// set.insert(64);
+/// assert_eq!(rt; set.count_ones(60..), 1);
+/// laws::counts_of_range_add_up();
+/// prove!(set.count_zeroes(60..) == 9);
+/// ```
 pub fn counts_of_range_add_up()
     ensures { RangeCountsAddUp }
 {}
 
 /// What the tests of a range say of each of its positions.
+///
+/// ```
+/// let mut set = FixedBitSet::with_capacity(alloc, 70)?;
+/// set.insert_range(60..66);
+/// assert!(rt; set.contains_all_in_range(60..66));
+/// laws::tests_of_range();
+/// prove!(set.contains(64));
+/// ```
 pub fn tests_of_range()
     ensures valid { IsValidTells }
     ensures all { ContainsAllTells }
@@ -79,21 +164,54 @@ pub fn tests_of_range()
 {}
 
 /// The positions of either set and those of both, counted, are as many as those of the two sets.
+///
+/// ```
+/// let set = FixedBitSet::from_iter(alloc, [1, 3])?;
+/// let other = FixedBitSet::from_iter(alloc, [3, 64])?;
+/// assert!(rt; set.count_ones(..) == 2 && other.count_ones(..) == 2);
+/// assert_eq!(rt; set.intersection_count(&other), 1);
+/// laws::counts_add_up();
+/// prove_eq!(set.union_count(&other), 3);
+/// ```
 pub fn counts_add_up()
     ensures { CountsAddUp }
 {}
 
 /// The positions of exactly one of two sets are those that the second lacks and those that the first lacks.
+///
+/// ```
+/// let set = FixedBitSet::from_iter(alloc, [1, 3])?;
+/// let other = FixedBitSet::from_iter(alloc, [3, 64])?;
+/// laws::symmetric_difference_count_is_a_sum();
+/// let count = set.symmetric_difference_count(&other);
+/// prove!(count == set.difference_count(&other) + other.difference_count(&set));
+/// ```
 pub fn symmetric_difference_count_is_a_sum()
     ensures { SymmetricDifferenceIsSum }
 {}
 
 /// Each of two sets is a subset of the other exactly if they have the same positions, whatever their lengths.
+///
+/// ```
+/// let set = FixedBitSet::from_iter(alloc, [1, 3])?;
+/// let mut longer = set.clone()?;
+/// longer.grow(200)?;
+/// laws::subset_both_ways();
+/// assert!(rt; set.is_subset(&longer) && longer.is_subset(&set));
+/// ```
 pub fn subset_both_ways()
     ensures { SubsetBothWays }
 {}
 
 /// What the comparisons of two sets say of each position.
+///
+/// ```
+/// let set = FixedBitSet::from_iter(alloc, [3, 64])?;
+/// let other = FixedBitSet::from_iter(alloc, [3, 64, 200])?;
+/// assert!(rt; set.contains(64) && set.is_subset(&other));
+/// laws::tests_of_two_sets();
+/// prove!(other.contains(64));
+/// ```
 pub fn tests_of_two_sets()
     ensures subset { IsSubsetTells }
     ensures disjoint { IsDisjointTells }
@@ -102,6 +220,14 @@ pub fn tests_of_two_sets()
 /// With `m` words that both lengths need and `t` that only the longer needs, a call over two sets takes at most
 /// `m / 4 + 3` steps for the first and `t / 4 + 3` for the second. Over as many words, `m` each, it takes exactly `m / 4`,
 /// rounded up.
+///
+/// ```
+/// let mut set = FixedBitSet::with_capacity(alloc, 448)?;
+/// let other = FixedBitSet::from_iter(alloc, [447])?;
+/// laws::steps_of_two_sets();
+/// counted::union_with(&mut set, &other, &mut Steps::new())?;
+/// assert_eq!(rt; set.as_slice().len().div_ceil(4), 2);
+/// ```
 pub fn steps_of_two_sets()
     ensures bound { StepsBound }
     ensures equal { StepsOfEqual }
@@ -109,6 +235,14 @@ pub fn steps_of_two_sets()
 
 /// Whatever calls were made of a walk from its two ends: the items that came from the front, then those left, then those
 /// that came from the back, reversed, are the items that it had. It holds of each walk over one set and over two.
+///
+/// ```
+/// let set = FixedBitSet::from_iter(alloc, [3, 9, 64, 70])?;
+/// let mut walk = set.ones();
+/// assert!(rt; walk.next() == Some(3) && walk.next_back() == Some(70));
+/// laws::parts_are_the_list();
+/// assert!(rt; walk.eq([9, 64]));
+/// ```
 pub fn parts_are_the_list()
     ensures of_one { PartsAreTheList (λ walk. walk.items) GivesFirst GivesLast }
     ensures of_sieved { PartsAreTheList (λ sieved. sieved.items) SievesFirst SievesLast }
@@ -119,6 +253,13 @@ pub fn parts_are_the_list()
 /// What calls of a walk cost, in any order from its two ends. Calls of a walk over one set make exactly one turn each, and
 /// one more for each word that they take, each word once at most. A walk over two sets looks up each item that a source
 /// gave exactly once; `c` calls of it make its sources take at most `2 c` turns, one for each item and one for each word.
+///
+/// ```
+/// let set = FixedBitSet::from_iter(alloc, [3, 70])?;
+/// let other = FixedBitSet::from_iter(alloc, [70, 200])?;
+/// laws::turns_of_calls();
+/// assert!(rt; set.intersection(&other).eq([70]));
+/// ```
 pub fn turns_of_calls()
     ensures of_one { TurnsOfCalls }
     ensures of_sieved { LooksUpOnce }

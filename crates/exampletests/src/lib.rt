@@ -12,6 +12,8 @@ mod extend;
 #[cfg(test)]
 mod json;
 #[cfg(test)]
+mod laws;
+#[cfg(test)]
 mod operators;
 #[cfg(test)]
 mod order;
