@@ -53,6 +53,15 @@ pub enum Command {
 /// The guards of the command are tested first, in the order of the table (`specs/Table.antt`): the first that refuses is
 /// the reply, and then no set changes. `limit` is the greatest length that a command may ask for. The reply is
 /// `Refusal::Memory` only where the table says that memory may be refused, and then no set changes.
+///
+/// ```
+/// let mut sets = [FixedBitSet::with_capacity(alloc, 70)?];
+/// let insert = Command::Change(Change::Insert { set: 0, bit: 64 });
+/// assert!(rt; matches!(commands::apply(alloc, &mut sets, &insert, 100), Reply::Done));
+/// let past = Command::Change(Change::Insert { set: 0, bit: 70 });
+/// let reply = commands::apply(alloc, &mut sets, &past, 100);
+/// assert!(rt; matches!(reply, Reply::Refused(Refusal::Position)));
+/// ```
 pub fn apply(alloc: Global, sets: &mut [FixedBitSet], command: &Command, limit: usize) -> Reply
     ensures { Step limit sets.old (action_of command.now) (answer_of result) sets.new }
 {
@@ -71,6 +80,18 @@ pub fn apply(alloc: Global, sets: &mut [FixedBitSet], command: &Command, limit: 
 ///
 /// The places of all replies are reserved before the first command: where that is refused, the call answers `Err`, no
 /// command was carried out and no set has changed. A refused command is a reply, and the commands after it go on.
+///
+/// ```
+/// let mut sets = [FixedBitSet::new(alloc)];
+/// let list = [
+///     Command::Change(Change::Insert { set: 0, bit: 3 }),
+///     Command::Change(Change::Grow { set: 0, bits: 70 }),
+///     Command::Look(Look::Len { set: 0 }),
+/// ];
+/// let replies = commands::run(alloc, &mut sets, &list, 100)?;
+/// assert!(rt; matches!(replies.first(), Some(Reply::Refused(Refusal::Position))));
+/// assert!(rt; matches!(replies.last(), Some(Reply::Number(70))));
+/// ```
 pub fn run(
     alloc: Global,
     sets: &mut [FixedBitSet],

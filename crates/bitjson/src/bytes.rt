@@ -16,6 +16,13 @@ use std::alloc::{AllocError, Global};
 ///
 /// It looks at no more than `8 * count` items, each once, and takes the memory of the words at once. `Err` comes only where
 /// that was refused.
+///
+/// ```
+/// let value = Value::from_str(alloc, "[1,2]")?;
+/// let items = value.as_array().ok_or("no list")?;
+/// let words = bytes::words_of_items(alloc, items.as_slice(), 2)?;
+/// assert_eq!(rt; words.as_slice(), [513, 0].as_slice());
+/// ```
 pub fn words_of_items(
     alloc: Global,
     items: &[Value],
@@ -37,6 +44,11 @@ pub fn words_of_items(
 ///
 /// It makes one item for each byte, and takes the memory of the items at once. `Err` comes only where memory for them or for
 /// the object was refused.
+///
+/// ```
+/// let text = bytes::value_of_words(alloc, 10, &[513])?.to_string(alloc)?;
+/// assert_eq!(rt; text.as_str(), "{\"data\":[1,2,0,0,0,0,0,0],\"length\":10}");
+/// ```
 pub fn value_of_words(alloc: Global, bits: usize, words: &[Block]) -> Result<Value, AllocError>
     requires { 8 * length words.now < 2 ^ 64 }
     ensures { IfOk result (λ value. view value ≡ json.object_of bits (bytes.bytes_of words.now)) }

@@ -5,6 +5,10 @@ ghost use Rattle.std.specs.Prelude.{◌≡◌};
 use std::alloc::AllocError;
 
 /// Why a value is not in the form, or gives nothing although it is. It is the first of these that holds, in this order.
+///
+/// ```
+/// assert_eq!(rt; JsonFault::from(AllocError), JsonFault::Memory);
+/// ```
 #[derive(Debug, Clone, Copy, PartialEq, Eq)]
 pub enum JsonFault {
     /// The value is neither an object nor a list.

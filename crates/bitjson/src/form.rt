@@ -15,6 +15,12 @@ use serde_json::Value;
 /// The items are lent from the value. Each item is looked at once, and no memory is taken.
 ///
 /// `Err` says the first fault of the value, and it is never `Memory`.
+///
+/// ```
+/// let value = Value::from_str(alloc, "[10,[76,1]]")?;
+/// let (length, items) = form::read_form(&value)?;
+/// assert_eq!(rt; (length, items.len()), (10, 2));
+/// ```
 #[tactic(auto, unfolding(crate::specs::Form::form))]
 pub fn read_form(value: &Value) -> Result<(usize, &[Value]), JsonFault>
     ensures value { result_map_both (λ read. (read.0, map json.item_byte read.1.now)) (λ fault. fault) result ≡ json.form (view value.now) }

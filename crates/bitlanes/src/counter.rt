@@ -32,6 +32,12 @@ impl Model for Steps {
 
 impl Steps {
     /// No step yet.
+    ///
+    /// ```
+    /// let mut steps = Steps::new();
+    /// lanes::zero(&mut [1; 9], &mut steps);
+    /// assert_eq!(rt; size_of::<Steps>(), 0);
+    /// ```
     #[inline(always)]
     pub fn new() -> Steps
         ensures { result ≡ 0 }
@@ -42,6 +48,13 @@ impl Steps {
     }
 
     /// Counts one step more. It does nothing when the program runs.
+    ///
+    /// ```
+    /// let mut steps = Steps::new();
+    /// steps.tick();
+    /// lanes::zero(&mut [1; 9], &mut steps);
+    /// assert_eq!(rt; size_of_val(&steps), 0);
+    /// ```
     #[inline(always)]
     pub fn tick(&mut self)
         ensures { self.new ≡ self.old + 1 }

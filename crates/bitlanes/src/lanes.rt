@@ -22,6 +22,12 @@ pub const LANE: usize = 4;
 /// Joins each word of `dst` with the word of `src` at its place, by `O`. Words of `dst` past the end of `src` stay.
 ///
 /// It takes exactly `m / 4` steps, rounded up, `m` being the number of words of the shorter slice.
+///
+/// ```
+/// let mut words = [1, 2, 4, 8, 16];
+/// lanes::apply::<Or>(&mut words, &[2, 2], &mut Steps::new());
+/// assert_eq!(rt; words, [3, 2, 4, 8, 16]);
+/// ```
 #[inline(always)]
 #[tactic(auto, using(crate::proofs::Kept::kept_none, crate::proofs::Kept::kept_lane, crate::proofs::Kept::kept_take, crate::proofs::Kept::kept_part))]
 pub fn apply<O: WordOp>(dst: &mut [Block], src: &[Block], steps: &mut Steps)
@@ -45,6 +51,11 @@ pub fn apply<O: WordOp>(dst: &mut [Block], src: &[Block], steps: &mut Steps)
 ///
 /// It asks that this number fits `usize`, and takes exactly `m / 4` steps, rounded up, `m` being the number of words of
 /// the shorter slice.
+///
+/// ```
+/// let count = lanes::count::<And>(&[7, 1, 1, 1, 255], &[2, 0, 1, 1, 15], &mut Steps::new());
+/// assert_eq!(rt; count, 7);
+/// ```
 #[inline(always)]
 #[tactic(auto, using(crate::proofs::Folding::sum_lane, crate::proofs::Folding::sum_lane_le, crate::proofs::Zipping::sum_joined, crate::proofs::Filling::sum_joined_part))]
 pub fn count<O: WordOp>(a: &[Block], b: &[Block], steps: &mut Steps) -> usize
@@ -71,6 +82,11 @@ pub fn count<O: WordOp>(a: &[Block], b: &[Block], steps: &mut Steps) -> usize
 ///
 /// It stops at the first lane with a bit, so it takes at most `m / 4` steps, rounded up, `m` being the number of words
 /// of the shorter slice; where it answers `true` it takes exactly as many.
+///
+/// ```
+/// assert!(rt; lanes::none::<And>(&[1, 2], &[2, 1, 255], &mut Steps::new()));
+/// assert!(rt; !lanes::none::<And>(&[1, 2], &[2, 3, 255], &mut Steps::new()));
+/// ```
 #[inline(always)]
 #[tactic(auto, using(crate::proofs::Folding::all_lane, crate::proofs::Zipping::all_joined, crate::proofs::Filling::all_joined_part))]
 pub fn none<O: WordOp>(a: &[Block], b: &[Block], steps: &mut Steps) -> bool
@@ -97,6 +113,12 @@ pub fn none<O: WordOp>(a: &[Block], b: &[Block], steps: &mut Steps) -> bool
 /// Makes each word 0.
 ///
 /// It takes exactly `m / 4` steps, rounded up, `m` being the number of words.
+///
+/// ```
+/// let mut words = [1; 6];
+/// lanes::zero(&mut words[1..], &mut Steps::new());
+/// assert_eq!(rt; words, [1, 0, 0, 0, 0, 0]);
+/// ```
 #[inline(always)]
 #[tactic(auto, using(crate::proofs::Folding::zeros_lane, crate::proofs::Folding::drop_put, crate::proofs::Folding::zeros_whole))]
 pub fn zero(dst: &mut [Block], steps: &mut Steps)
@@ -119,6 +141,11 @@ pub fn zero(dst: &mut [Block], steps: &mut Steps)
 /// How many bits are set in the words.
 ///
 /// It asks that this number fits `usize`, and takes exactly `m / 4` steps, rounded up, `m` being the number of words.
+///
+/// ```
+/// let count = lanes::count_one(&[7, 0, 1 << 63], &mut Steps::new());
+/// assert_eq!(rt; count, 4);
+/// ```
 #[inline(always)]
 #[tactic(auto, using(crate::proofs::Folding::sum_lane, crate::proofs::Folding::sum_lane_le, crate::proofs::Filling::sum_part))]
 pub fn count_one(a: &[Block], steps: &mut Steps) -> usize
@@ -144,6 +171,11 @@ pub fn count_one(a: &[Block], steps: &mut Steps) -> usize
 ///
 /// It stops at the first lane with a bit, so it takes at most `m / 4` steps, rounded up, `m` being the number of words;
 /// where it answers `true` it takes exactly as many.
+///
+/// ```
+/// assert!(rt; lanes::none_one(&[0; 9], &mut Steps::new()));
+/// assert!(rt; !lanes::none_one(&[0, 0, 0, 0, 1], &mut Steps::new()));
+/// ```
 #[inline(always)]
 #[tactic(auto, using(crate::proofs::Folding::all_lane, crate::proofs::Filling::all_part))]
 pub fn none_one(a: &[Block], steps: &mut Steps) -> bool
@@ -171,6 +203,11 @@ pub fn none_one(a: &[Block], steps: &mut Steps) -> bool
 ///
 /// It stops at the first lane with a bit, so it takes at most `m / 4` steps, rounded up, `m` being the number of words;
 /// where it answers `true` it takes exactly as many.
+///
+/// ```
+/// assert!(rt; lanes::none_masked::<And>(4, &[3, 8, 1], &mut Steps::new()));
+/// assert!(rt; !lanes::none_masked::<AndNot>(4, &[4, 8], &mut Steps::new()));
+/// ```
 #[inline(always)]
 #[tactic(auto, using(crate::proofs::Folding::all_lane, crate::proofs::Filling::all_mapped_part))]
 pub fn none_masked<O: WordOp>(mask: Block, words: &[Block], steps: &mut Steps) -> bool

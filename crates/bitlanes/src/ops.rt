@@ -11,6 +11,12 @@ use std::simd::prelude::*;
 /// A truth function of two bits, applied to each bit of two words.
 ///
 /// The first word is of the set that a call changes or asks, the second of the other set.
+///
+/// ```
+/// assert_eq!(rt; <Xor as WordOp>::word(10, 6), 12);
+/// let lane = <Xor as WordOp>::lane(u64x4::splat(10), u64x4::splat(6));
+/// assert_eq!(rt; lane.to_array(), [12; 4]);
+/// ```
 pub trait WordOp {
     /// Whether a bit stays that only the first word has.
     const KEEP: bool;
@@ -41,6 +47,11 @@ pub trait WordOp {
 }
 
 /// The bits of either word.
+///
+/// ```
+/// assert_eq!(rt; <Or as WordOp>::word(10, 6), 14);
+/// assert!(rt; <Or as WordOp>::KEEP && <Or as WordOp>::TAKE);
+/// ```
 pub struct Or;
 
 impl WordOp for Or {
@@ -70,6 +81,11 @@ impl WordOp for Or {
 }
 
 /// The bits of both words.
+///
+/// ```
+/// assert_eq!(rt; <And as WordOp>::word(10, 6), 2);
+/// assert!(rt; !<And as WordOp>::KEEP && !<And as WordOp>::TAKE);
+/// ```
 pub struct And;
 
 impl WordOp for And {
@@ -99,6 +115,11 @@ impl WordOp for And {
 }
 
 /// The bits of the first word that the second lacks.
+///
+/// ```
+/// assert_eq!(rt; <AndNot as WordOp>::word(10, 6), 8);
+/// assert!(rt; <AndNot as WordOp>::KEEP && !<AndNot as WordOp>::TAKE);
+/// ```
 pub struct AndNot;
 
 impl WordOp for AndNot {
@@ -129,6 +150,11 @@ impl WordOp for AndNot {
 }
 
 /// The bits of exactly one of the words.
+///
+/// ```
+/// assert_eq!(rt; <Xor as WordOp>::word(10, 6), 12);
+/// assert!(rt; <Xor as WordOp>::KEEP && <Xor as WordOp>::TAKE);
+/// ```
 pub struct Xor;
 
 impl WordOp for Xor {

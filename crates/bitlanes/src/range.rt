@@ -10,6 +10,14 @@ use std::ops::{Range, RangeFrom, RangeFull, RangeInclusive, RangeTo, RangeToIncl
 ///
 /// An implementation states which ends it means, and its calls answer them. Upstream's trait has bodies that answer
 /// `None`; here each implementation writes both.
+///
+/// ```
+/// let range = 60..=69;
+/// assert_eq!(rt; IndexRange::start(&range), Some(60));
+/// assert_eq!(rt; IndexRange::end(&range), Some(70));
+/// assert_eq!(rt; IndexRange::end(&(60..)), None);
+/// assert_eq!(rt; IndexRange::end(&(0..=usize::MAX)), Some(usize::MAX));
+/// ```
 pub trait IndexRange<T> {
     /// The start that it means.
     ghost start_of: { Self → Option T };

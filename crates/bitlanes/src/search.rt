@@ -11,6 +11,11 @@ use std::simd::prelude::*;
 /// The place of the first word that is not 0, or `None` where each word is 0.
 ///
 /// It looks at four words at a time up to those that have the word, and then at single words, which are four at most.
+///
+/// ```
+/// assert_eq!(rt; search::first_one(&[0, 0, 8, 1, 0]), Some(2));
+/// assert_eq!(rt; search::first_one(&[0; 9]), None);
+/// ```
 #[inline(always)]
 #[tactic(auto, using(crate::proofs::Folding::zero_in_lane))]
 pub fn first_one(words: &[Block]) -> Option<usize>
@@ -33,6 +38,11 @@ pub fn first_one(words: &[Block]) -> Option<usize>
 ///
 /// It looks at four words at a time from the end on, down to those that have the word, and then at single words, which
 /// are four at most.
+///
+/// ```
+/// assert_eq!(rt; search::last_one(&[0, 0, 8, 1, 0]), Some(3));
+/// assert_eq!(rt; search::last_one(&[0; 9]), None);
+/// ```
 #[inline(always)]
 #[tactic(auto, using(crate::proofs::Folding::zero_in_lane))]
 pub fn last_one(words: &[Block]) -> Option<usize>

@@ -11,6 +11,11 @@ pub type Block = u64;
 pub const BITS: usize = 64;
 
 /// The index of the lowest bit that is set. The word may not be 0.
+///
+/// ```
+/// assert_eq!(rt; word::lowest_bit(12), 2);
+/// assert_eq!(rt; word::lowest_bit(1 << 63), 63);
+/// ```
 #[inline(always)]
 pub fn lowest_bit(word: Block) -> usize
     requires { word ≢ 0 }
@@ -20,6 +25,11 @@ pub fn lowest_bit(word: Block) -> usize
 }
 
 /// The index of the highest bit that is set. The word may not be 0.
+///
+/// ```
+/// assert_eq!(rt; word::highest_bit(12), 3);
+/// assert_eq!(rt; word::highest_bit(Block::MAX), 63);
+/// ```
 #[inline(always)]
 pub fn highest_bit(word: Block) -> usize
     requires { word ≢ 0 }
@@ -29,6 +39,11 @@ pub fn highest_bit(word: Block) -> usize
 }
 
 /// The word with this bit clear, and each other bit as it was. The bit has to be one of the 64.
+///
+/// ```
+/// assert_eq!(rt; word::clear_bit(12, 3), 4);
+/// assert_eq!(rt; word::clear_bit(12, 0), 12);
+/// ```
 #[inline(always)]
 pub fn clear_bit(word: Block, bit: usize) -> Block
     requires { bit < 64 }
@@ -38,6 +53,11 @@ pub fn clear_bit(word: Block, bit: usize) -> Block
 }
 
 /// The word with its lowest bit that is set clear, and each other bit as it was. The word may not be 0.
+///
+/// ```
+/// assert_eq!(rt; word::clear_lowest_bit(12), 8);
+/// assert_eq!(rt; word::clear_lowest_bit(8), 0);
+/// ```
 #[inline(always)]
 pub fn clear_lowest_bit(word: Block) -> Block
     requires { word ≢ 0 }
@@ -47,6 +67,12 @@ pub fn clear_lowest_bit(word: Block) -> Block
 }
 
 /// Clears the lowest bit that is set, and answers its index. The word may not be 0.
+///
+/// ```
+/// let mut bits = 12;
+/// assert_eq!(rt; word::take_lowest_bit(&mut bits), 2);
+/// assert_eq!(rt; bits, 8);
+/// ```
 #[inline(always)]
 pub fn take_lowest_bit(word: &mut Block) -> usize
     requires { word.old ≢ 0 }
@@ -59,6 +85,12 @@ pub fn take_lowest_bit(word: &mut Block) -> usize
 }
 
 /// Clears the highest bit that is set, and answers its index. The word may not be 0.
+///
+/// ```
+/// let mut bits = 12;
+/// assert_eq!(rt; word::take_highest_bit(&mut bits), 3);
+/// assert_eq!(rt; bits, 4);
+/// ```
 #[inline(always)]
 pub fn take_highest_bit(word: &mut Block) -> usize
     requires { word.old ≢ 0 }
@@ -71,6 +103,11 @@ pub fn take_highest_bit(word: &mut Block) -> usize
 }
 
 /// The word whose lowest `count` bits are set, and no other. The count may be 64 at most.
+///
+/// ```
+/// assert_eq!(rt; word::ones_below(3), 7);
+/// assert_eq!(rt; word::ones_below(64), Block::MAX);
+/// ```
 #[inline(always)]
 #[tactic(auto, using(crate::proofs::Stretches::some_ones, crate::proofs::Stretches::all_ones))]
 pub fn ones_below(count: usize) -> Block
@@ -87,6 +124,12 @@ pub fn ones_below(count: usize) -> Block
 /// The word whose bits from `low` up to and without `high` are set, and no other. Neither may be past 64.
 ///
 /// Where `high` is `low` or less, no bit is set.
+///
+/// ```
+/// assert_eq!(rt; word::stretch(2, 5), 28);
+/// assert_eq!(rt; word::stretch(0, 64), Block::MAX);
+/// assert_eq!(rt; word::stretch(5, 2), 0);
+/// ```
 #[inline(always)]
 #[tactic(auto, using(crate::proofs::Stretches::ones_from, crate::proofs::Stretches::no_ones))]
 pub fn stretch(low: usize, high: usize) -> Block

@@ -33,6 +33,13 @@ pub enum LineFault {
 /// `NotACommand` comes only where the line stands for none, and `Memory` only where the first word is that of a command
 /// with a list or with JSON: `with_capacity_and_blocks`, `from_iter`, `from_value`, `extend`, or a walk, which is `ones`,
 /// `into_ones`, `zeroes`, `union`, `intersection`, `difference` or `symmetric_difference`. Any other line takes no memory.
+///
+/// ```
+/// let command = lines::parse_line(alloc, b"insert 0 64")?;
+/// assert!(rt; matches!(command, Command::Change(Change::Insert { set: 0, bit: 64 })));
+/// let fault = lines::parse_line(alloc, b"insert 0  64").err();
+/// assert!(rt; matches!(fault, Some(LineFault::NotACommand)));
+/// ```
 #[tactic(auto, unfolding(crate::specs::Lines::command_of_words, crate::specs::Lines::begins_with_one))]
 #[inline]
 pub fn parse_line(alloc: Global, line: &[u8]) -> Result<Command, LineFault>

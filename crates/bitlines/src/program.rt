@@ -44,6 +44,14 @@ pub enum RunFault {
 ///
 /// It builds the whole output before it writes the first byte, and flushes behind the last one. No failed read or write
 /// is tried again. It is linear in input and output, which it keeps whole.
+///
+/// ```
+/// let mut input = "grow 0 9\nlen 0\nlen\n".as_bytes();
+/// let mut output = Vec::new(alloc);
+/// program::run_text(alloc, &mut input, &mut output)?;
+/// let wanted = "ok\n9\nF8 not a command\n";
+/// assert_eq!(rt; output.as_slice(), wanted.as_bytes());
+/// ```
 pub fn run_text<R: Read, W: Write>(
     alloc: Global,
     reader: &mut R,
@@ -64,6 +72,11 @@ pub fn run_text<R: Read, W: Write>(
 }
 
 /// The exit status: 0 for success, 1 for `Read`, 2 for `Write`, 3 for `Memory`.
+///
+/// ```
+/// assert_eq!(rt; program::status(&Ok(())), 0);
+/// assert_eq!(rt; program::status(&Err(RunFault::Write)), 2);
+/// ```
 pub fn status(outcome: &Result<(), RunFault>) -> u8
     ensures { result ≡ status_of outcome.now }
 {

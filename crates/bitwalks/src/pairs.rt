@@ -21,6 +21,14 @@ use std::iter::FusedIterator;
 use std::marker::Model;
 
 /// The positions that two rows have in common, in ascending order. A set makes it by `intersection`.
+///
+/// ```
+/// let set = FixedBitSet::from_iter(alloc, [1, 3, 64])?;
+/// let other = FixedBitSet::from_iter(alloc, [3, 5, 64, 200])?;
+/// let mut walk = set.intersection(&other);
+/// assert_eq!(rt; walk.next_back(), Some(64));
+/// assert!(rt; walk.eq([3]));
+/// ```
 pub struct Intersection<'a> {
     shared: Sieve<'a, Shared>,
 }
@@ -41,6 +49,14 @@ impl<'a> Drop for Intersection<'a> {
 }
 
 /// The positions of a row that another one lacks, in ascending order. A set makes it by `difference`.
+///
+/// ```
+/// let set = FixedBitSet::from_iter(alloc, [1, 3, 200])?;
+/// let other = FixedBitSet::from_iter(alloc, [3, 64])?;
+/// let mut walk = set.difference(&other);
+/// assert_eq!(rt; walk.next_back(), Some(200));
+/// assert!(rt; walk.eq([1]));
+/// ```
 pub struct Difference<'a> {
     lacked: Sieve<'a, Lacked>,
 }
@@ -61,6 +77,14 @@ impl<'a> Drop for Difference<'a> {
 }
 
 /// The positions of a row, and then those of another one that the first lacks. A set makes it by `union`.
+///
+/// ```
+/// let set = FixedBitSet::from_iter(alloc, [9, 200])?;
+/// let other = FixedBitSet::from_iter(alloc, [3, 9])?;
+/// let mut walk = set.union(&other);
+/// assert_eq!(rt; walk.next_back(), Some(3));
+/// assert!(rt; walk.eq([9, 200]));
+/// ```
 pub struct Union<'a> {
     parts: InTurn<Ones<'a>, Sieve<'a, Lacked>>,
 }
@@ -82,6 +106,14 @@ impl<'a> Drop for Union<'a> {
 
 /// The positions of a row that another one lacks, and then those of the other that the first lacks. A set makes it by
 /// `symmetric_difference`.
+///
+/// ```
+/// let set = FixedBitSet::from_iter(alloc, [9, 200])?;
+/// let other = FixedBitSet::from_iter(alloc, [3, 9])?;
+/// let mut walk = set.symmetric_difference(&other);
+/// assert_eq!(rt; walk.next_back(), Some(3));
+/// assert!(rt; walk.eq([200]));
+/// ```
 pub struct SymmetricDifference<'a> {
     sides: InTurn<Sieve<'a, Lacked>, Sieve<'a, Lacked>>,
 }
@@ -103,6 +135,12 @@ impl<'a> Drop for SymmetricDifference<'a> {
 
 impl<'a> Intersection<'a> {
     /// The walk over the positions of `words` and `other`.
+    ///
+    /// ```
+    /// let (words, other) = ([11, 1], [8]);
+    /// let walk = Intersection::over(&words, &other);
+    /// assert!(rt; walk.eq([3]));
+    /// ```
     #[inline]
     pub fn over(words: &'a [Block], other: &'a [Block]) -> Intersection<'a>
         requires { 64 * length words.now ≤ 2 ^ 64 }
@@ -155,6 +193,12 @@ impl<'a> FusedIterator for Intersection<'a> {}
 
 impl<'a> Difference<'a> {
     /// The walk over the positions of `words` and `other`.
+    ///
+    /// ```
+    /// let (words, other) = ([11, 1], [8]);
+    /// let walk = Difference::over(&words, &other);
+    /// assert!(rt; walk.eq([0, 1, 64]));
+    /// ```
     #[inline]
     pub fn over(words: &'a [Block], other: &'a [Block]) -> Difference<'a>
         requires { 64 * length words.now ≤ 2 ^ 64 }
@@ -207,6 +251,12 @@ impl<'a> FusedIterator for Difference<'a> {}
 
 impl<'a> Union<'a> {
     /// The walk over the positions of `words` and `other`.
+    ///
+    /// ```
+    /// let (words, other) = ([8, 1], [3]);
+    /// let walk = Union::over(&words, &other);
+    /// assert!(rt; walk.eq([3, 64, 0, 1]));
+    /// ```
     #[inline]
     pub fn over(words: &'a [Block], other: &'a [Block]) -> Union<'a>
         requires first { 64 * length words.now ≤ 2 ^ 64 }
@@ -259,6 +309,12 @@ impl<'a> FusedIterator for Union<'a> {}
 
 impl<'a> SymmetricDifference<'a> {
     /// The walk over the positions of `words` and `other`.
+    ///
+    /// ```
+    /// let (words, other) = ([8, 1], [11]);
+    /// let walk = SymmetricDifference::over(&words, &other);
+    /// assert!(rt; walk.eq([64, 0, 1]));
+    /// ```
     #[inline]
     pub fn over(words: &'a [Block], other: &'a [Block]) -> SymmetricDifference<'a>
         requires first { 64 * length words.now ≤ 2 ^ 64 }

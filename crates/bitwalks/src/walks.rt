@@ -25,6 +25,14 @@ use std::vec;
 /// The positions that are set, in ascending order. A set makes it by `ones`.
 ///
 /// It borrows the words and takes no memory.
+///
+/// ```
+/// let set = FixedBitSet::from_iter(alloc, [3, 9, 200])?;
+/// let mut walk = set.ones();
+/// assert_eq!(rt; walk.next_back(), Some(200));
+/// assert_eq!(rt; walk.next(), Some(3));
+/// assert!(rt; walk.eq([9]));
+/// ```
 pub struct Ones<'a> {
     ones: Cursor<Plain<'a>>,
 }
@@ -49,6 +57,14 @@ impl<'a> Drop for Ones<'a> {
 /// The positions that are set, in ascending order. A set becomes it by `into_ones`.
 ///
 /// It owns the words.
+///
+/// ```
+/// let set = FixedBitSet::from_iter(alloc, [3, 9, 200])?;
+/// let mut walk = set.into_ones();
+/// assert_eq!(rt; walk.next_back(), Some(200));
+/// assert_eq!(rt; walk.next(), Some(3));
+/// assert!(rt; walk.eq([9]));
+/// ```
 pub struct IntoOnes {
     owned: Cursor<vec::IntoIter<Block, Global>>,
 }
@@ -73,6 +89,14 @@ impl Drop for IntoOnes {
 /// The positions below a length that are not set, in ascending order. A set makes it by `zeroes`.
 ///
 /// It borrows the words and takes no memory. Proofs see the words with each bit inverted.
+///
+/// ```
+/// let set = FixedBitSet::from_iter(alloc, [1, 4])?;
+/// let mut walk = set.zeroes();
+/// assert_eq!(rt; walk.next_back(), Some(3));
+/// assert_eq!(rt; walk.next(), Some(0));
+/// assert!(rt; walk.eq([2]));
+/// ```
 pub struct Zeroes<'a> {
     zeroes: Cursor<Inverted<'a>>,
 }
@@ -96,6 +120,12 @@ impl<'a> Drop for Zeroes<'a> {
 
 impl<'a> Ones<'a> {
     /// The positions set in the words. It reads the first and the last word; those between are not yet taken.
+    ///
+    /// ```
+    /// let words = [8, 0, 1];
+    /// let walk = Ones::over(&words);
+    /// assert!(rt; walk.eq([3, 128]));
+    /// ```
     #[inline]
     pub fn over(words: &'a [Block]) -> Ones<'a>
         requires { 64 * length words.now ≤ 2 ^ 64 }
@@ -108,6 +138,12 @@ impl<'a> Ones<'a> {
 
     /// The index of the lowest bit of the word that is set, which it clears. The word may not be 0; upstream's
     /// subtraction overflows there.
+    ///
+    /// ```
+    /// let mut bits = 12;
+    /// assert_eq!(rt; Ones::last_positive_bit_and_unset(&mut bits), 2);
+    /// assert_eq!(rt; bits, 8);
+    /// ```
     #[inline]
     pub fn last_positive_bit_and_unset(n: &mut Block) -> usize
         requires { n.old ≢ 0 }
@@ -120,6 +156,12 @@ impl<'a> Ones<'a> {
 
 impl IntoOnes {
     /// The positions set in the words. It reads the first and the last word; those between are not yet taken.
+    ///
+    /// ```
+    /// let words = [8, 0, 1].to_vec(alloc)?;
+    /// let walk = IntoOnes::over(words);
+    /// assert!(rt; walk.eq([3, 128]));
+    /// ```
     #[inline]
     pub fn over(words: Vec<Block>) -> IntoOnes
         requires { 64 * length words.items ≤ 2 ^ 64 }
@@ -132,6 +174,12 @@ impl IntoOnes {
     }
 
     /// The same as `Ones::last_positive_bit_and_unset`.
+    ///
+    /// ```
+    /// let mut bits = 1 << 63;
+    /// assert_eq!(rt; IntoOnes::last_positive_bit_and_unset(&mut bits), 63);
+    /// assert_eq!(rt; bits, 0);
+    /// ```
     #[inline]
     pub fn last_positive_bit_and_unset(n: &mut Block) -> usize
         requires { n.old ≢ 0 }
@@ -221,6 +269,12 @@ impl FusedIterator for IntoOnes {}
 
 impl<'a> Zeroes<'a> {
     /// The positions below `end` that are not set in the words. `end` has to lie in the last word or at its end.
+    ///
+    /// ```
+    /// let words = [Block::MAX, 5];
+    /// let walk = Zeroes::below(&words, 68);
+    /// assert!(rt; walk.eq([65, 67]));
+    /// ```
     #[inline]
     pub fn below(words: &'a [Block], end: usize) -> Zeroes<'a>
         requires fits { 64 * length words.now ≤ 2 ^ 64 }

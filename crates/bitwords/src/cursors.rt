@@ -19,6 +19,13 @@ use std::marker::Model;
 use std::vec;
 
 /// Words that a cursor has still to take, from either end.
+///
+/// ```
+/// let mut middle = Plain { words: &[3, 5, 7] };
+/// assert_eq!(rt; Middle::take_first(&mut middle), Some(3));
+/// assert_eq!(rt; Middle::take_last(&mut middle), Some(7));
+/// assert_eq!(rt; Middle::left(&middle), 1);
+/// ```
 pub trait Middle {
     /// The words, in order.
     ghost words: { Self → List ℕ };
@@ -37,6 +44,12 @@ pub trait Middle {
 }
 
 /// Words of a slice.
+///
+/// ```
+/// let mut cursor = Cursor::over(Plain { words: &[8, 0, 1] });
+/// assert_eq!(rt; cursor.next_back(), Some(128));
+/// assert!(rt; cursor.eq([3]));
+/// ```
 #[derive(Drop)]
 pub struct Plain<'a> {
     pub words: &'a [Block],
@@ -66,6 +79,13 @@ impl<'a> Middle for Plain<'a> {
 }
 
 /// Words of a slice, each bit inverted.
+///
+/// ```
+/// let words = [Block::MAX - 8];
+/// let plain = Plain { words: &words };
+/// let cursor = Cursor::over(Inverted { plain });
+/// assert!(rt; cursor.eq([3]));
+/// ```
 #[derive(Drop)]
 pub struct Inverted<'a> {
     pub plain: Plain<'a>,
@@ -135,6 +155,13 @@ fn ends_of<M: Middle + Drop>(mut words: M) -> Ends<M>
 /// The positions set in a row of words, in ascending order, from both ends.
 ///
 /// A call makes one turn, and one more for each word that it takes. The two counts take no bytes when the program runs.
+///
+/// ```
+/// let words = [8, 0, 1].to_vec(alloc)?;
+/// let mut cursor = Cursor::over(words.into_iter());
+/// assert_eq!(rt; cursor.next_back(), Some(128));
+/// assert!(rt; cursor.eq([3]));
+/// ```
 #[derive(Drop)]
 pub struct Cursor<M: Middle + Drop> {
     // The first and the last word of those left, without the bits that were given.
@@ -168,6 +195,11 @@ impl<M: Middle + Drop> Model for Cursor<M> {
 
 impl<M: Middle + Drop> Cursor<M> {
     /// The positions set in the words. The first and the last word are read; those between are not yet taken.
+    ///
+    /// ```
+    /// let cursor = Cursor::over(Plain { words: &[9, 0, 1] });
+    /// assert!(rt; cursor.eq([0, 3, 128]));
+    /// ```
     #[inline(always)]
     pub fn over(words: M) -> Cursor<M>
         requires { 64 * length (M.words words) ≤ 2 ^ 64 }
@@ -177,6 +209,11 @@ impl<M: Middle + Drop> Cursor<M> {
     }
 
     /// Those of the positions that are below `end`, which lies in the last word or at its end.
+    ///
+    /// ```
+    /// let cursor = Cursor::below(Plain { words: &[8, 255] }, 66);
+    /// assert!(rt; cursor.eq([3, 64, 65]));
+    /// ```
     #[inline(always)]
     pub fn below(words: M, end: usize) -> Cursor<M>
         requires fits { 64 * length (M.words words) ≤ 2 ^ 64 }

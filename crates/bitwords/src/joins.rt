@@ -16,6 +16,12 @@ use bitlanes::{Block, Steps, lanes};
 ///
 /// With `m` words that both have and `t` that only `words` has it takes exactly `m / 4` steps, rounded up, and `t / 4`,
 /// rounded up, more where the rest is cleared.
+///
+/// ```
+/// let mut words = [11, 3, 1];
+/// joins::join::<And>(&mut words, &[9, 6], &mut Steps::new());
+/// assert_eq!(rt; words, [9, 2, 0]);
+/// ```
 #[inline(always)]
 pub fn join<O: WordOp>(words: &mut [Block], other: &[Block], steps: &mut Steps)
     ensures bits { IsJoined O.truth words.old (has_bit other.now) words.new }
@@ -32,6 +38,11 @@ pub fn join<O: WordOp>(words: &mut [Block], other: &[Block], steps: &mut Steps)
 ///
 /// With `m` words that both have and `t` that only the longer has it takes exactly `m / 4` steps, rounded up, and
 /// `t / 4`, rounded up, more where these count.
+///
+/// ```
+/// let count = joins::count::<Xor>(&[11, 3], &[9], &mut Steps::new());
+/// assert_eq!(rt; count, 3);
+/// ```
 #[inline(always)]
 pub fn count<O: WordOp>(a: &[Block], b: &[Block], steps: &mut Steps) -> usize
     requires fits { count_below (bits_test O.truth a.now b.now) (64 * max (length a.now) (length b.now)) < 2 ^ 64 }
@@ -45,6 +56,11 @@ pub fn count<O: WordOp>(a: &[Block], b: &[Block], steps: &mut Steps) -> usize
 ///
 /// It stops at the first lane that decides, so it takes at most the steps of `count`; where it answers `true` it takes
 /// exactly as many.
+///
+/// ```
+/// assert!(rt; joins::none::<AndNot>(&[2], &[3, 1], &mut Steps::new()));
+/// assert!(rt; !joins::none::<AndNot>(&[3, 1], &[3], &mut Steps::new()));
+/// ```
 #[inline(always)]
 pub fn none<O: WordOp>(a: &[Block], b: &[Block], steps: &mut Steps) -> bool
     ensures none { result ≡ (count_below (bits_test O.truth a.now b.now) (64 * max (length a.now) (length b.now)) == 0) }

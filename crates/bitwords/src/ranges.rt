@@ -16,6 +16,12 @@ use bitlanes::{Steps, lanes};
 /// Joins each position of the range, as one that is set, to the words by `O`; the others stay.
 ///
 /// It takes exactly one step for each word that holds a position of the range.
+///
+/// ```
+/// let mut words = [0, 3];
+/// ranges::change::<Xor>(&mut words, 63, 66, &mut Steps::new());
+/// assert_eq!(rt; words, [1 << 63, 0]);
+/// ```
 #[inline(always)]
 pub fn change<O: WordOp>(words: &mut [Block], start: usize, end: usize, steps: &mut Steps)
     requires keeps { O.KEEP ≡ true }
@@ -34,6 +40,11 @@ pub fn change<O: WordOp>(words: &mut [Block], start: usize, end: usize, steps: &
 /// How many positions of the range, each as one that is set joined by `O` with its bit in the words, are set then.
 ///
 /// It takes exactly one step for each word that holds a position of the range.
+///
+/// ```
+/// let count = ranges::count::<And>(&[Block::MAX, 9], 62, 128, &mut Steps::new());
+/// assert_eq!(rt; count, 4);
+/// ```
 #[inline(always)]
 pub fn count<O: WordOp>(words: &[Block], start: usize, end: usize, steps: &mut Steps) -> usize
     requires drops { O.TAKE ≡ false }
@@ -55,6 +66,11 @@ pub fn count<O: WordOp>(words: &[Block], start: usize, end: usize, steps: &mut S
 /// It stops at the first lane or word that decides, so it takes at most `search_steps`: one step for each lane of four of
 /// the words that are wholly in the range, the last of which may have fewer, and one for each other word that holds a
 /// position of it. Where it answers `true` it takes exactly as many.
+///
+/// ```
+/// assert!(rt; ranges::none::<And>(&[0, 8], 0, 67, &mut Steps::new()));
+/// assert!(rt; !ranges::none::<And>(&[0, 8], 0, 68, &mut Steps::new()));
+/// ```
 #[inline(always)]
 pub fn none<O: WordOp>(words: &[Block], start: usize, end: usize, steps: &mut Steps) -> bool
     requires drops { O.TAKE ≡ false }

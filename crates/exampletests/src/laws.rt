@@ -1,5 +1,6 @@
 //! The examples in the docs of `bitlaws::laws`. docs/make_examples writes this file.
 
+use bitlanes::word;
 use bitlaws::laws;
 use fixedbitset::{FixedBitSet, Steps, counted};
 use std::test::Fail;

@@ -8,6 +8,15 @@ use crate::commands::replies::Reply;
 use fixedbitset::{FixedBitSet, IndexRange};
 
 /// A range of positions: from `start`, or 0, up to and without `end`, or the length.
+///
+/// ```
+/// let set = FixedBitSet::with_capacity(alloc, 70)?;
+/// let span = Span {
+///     start: Some(60),
+///     end: None,
+/// };
+/// assert_eq!(rt; set.count_zeroes(span), 10);
+/// ```
 #[derive(Clone, Copy, Debug)]
 pub struct Span {
     pub start: Option<usize>,

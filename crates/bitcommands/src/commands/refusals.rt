@@ -17,6 +17,14 @@ use std::fmt;
 
 /// Why a command was not carried out. No set has changed then, but by `extend`: of its items those stand that were taken
 /// in before the refusal.
+///
+/// ```
+/// let refusal = Refusal::from(ExtendFault::Position);
+/// assert_eq!(rt; refusal.to_string(alloc)?.as_str(), "F4 position too great");
+/// let refusal = Refusal::from(JsonFault::Item(3));
+/// assert_eq!(rt; refusal.to_string(alloc)?.as_str(), "F5 J8 3");
+/// assert!(rt; matches!(Refusal::from(AllocError), Refusal::Memory));
+/// ```
 #[derive(Debug, Drop)]
 pub enum Refusal {
     /// F1: a set number isn't below the number of sets.

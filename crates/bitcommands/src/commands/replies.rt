@@ -13,6 +13,11 @@ use std::cmp::Ordering;
 use std::fmt;
 
 /// The reply to a command.
+///
+/// ```
+/// let reply = Reply::Position(None);
+/// assert_eq!(rt; reply.to_string(alloc)?.as_str(), "none");
+/// ```
 #[derive(Debug, Drop)]
 pub enum Reply {
     /// It was carried out, and has nothing to tell.
@@ -46,6 +51,13 @@ impl Reply {
     /// that has a fraction or an exponent no text is promised.
     ///
     /// `Err` comes only where memory for the text was refused. The output is then as it was.
+    ///
+    /// ```
+    /// let mut output = Vec::new(alloc);
+    /// Reply::Number(70).push_text(&mut output)?;
+    /// Reply::Bool(true).push_text(&mut output)?;
+    /// assert_eq!(rt; output.as_slice(), b"70true".as_slice());
+    /// ```
     #[inline]
     pub fn push_text(&self, output: &mut Vec<u8>) -> Result<(), AllocError>
         ensures ok { OnOk result (IfSome (one_text (answer_of self.now)) (λ text. output.new.items ≡ output.old.items ++ text)) }
