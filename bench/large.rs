@@ -7,9 +7,10 @@ use std::time::Instant;
 
 const BITS: usize = 1_000_000_000;
 
-/// How often a call is made in one run, and how many runs are made.
-const ROUNDS: usize = 4;
-const RUNS: usize = 2;
+/// How often a call is made in one run, and how many runs are made: with few calls, the work of making the sets, which is
+/// taken off, is more than theirs, and the difference says nothing.
+const ROUNDS: usize = 20;
+const RUNS: usize = 3;
 
 /// The least time of a call, in milliseconds.
 fn least_time(side: impl Fn(usize) -> usize) -> f64 {
