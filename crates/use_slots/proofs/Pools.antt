@@ -1,5 +1,5 @@
 -- Which slots are taken and which are free, before and after one is taken or given back.
-use Rattle.std.proofs.Common.{◌≡◌, ◌≢◌, ◌∙◌, ℕ, ◌≤◌, inl, inr, Bool, true, false, Option, Some, None, List, [], ◌∷◌, refl, sym, subst, arith}
+use Rattle.std.proofs.Common.{◌≡◌, ◌≢◌, ◌∙◌, ℕ, ◌≤◌, inl, inr, Option, Some, None, List, [], ◌∷◌, refl, sym, subst, arith}
 use Rattle.std.specs.Prelude.{MatchOption, unwrap_or}
 use Rattle.std.proofs.lemmas.Bool.{true≢false, false_from_ne_true}
 use Rattle.fixedbitset.specs.Bits.{Bits, insert, remove, asc, complement}
@@ -36,8 +36,11 @@ module _ (v : Bits) (first second : ℕ) (is_first : IsFree v first) (is_second 
   pub two_free : IsFree v second
   two_free = (let e = length-insert v first in let h = is_second.0 in omega arith, λ taken. is_second.1 ((in_insert v first second is_first.0).1 (inr taken)))
 
-  pub two_taken : IsTaken (insert (insert v first) second) first × IsTaken (insert (insert v first) second) second
-  two_taken = ((in_insert (insert v first) second first is_second.0).1 (inr taken_first), (in_insert (insert v first) second second is_second.0).1 (inl refl))
+  pub first_stays : (w : Bits) → w ≡ insert (insert v first) second → IsTaken w first
+  first_stays w same = rw same ((in_insert (insert v first) second first is_second.0).1 (inr taken_first))
+
+  pub second_too : (w : Bits) → w ≡ insert (insert v first) second → IsTaken w second
+  second_too w same = rw same ((in_insert (insert v first) second second is_second.0).1 (inl refl))
 
 -- ---- a slot is given back
 

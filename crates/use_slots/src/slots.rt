@@ -91,9 +91,14 @@ impl Slots {
     }
 }
 
-/// Takes two slots, which differ, or none where fewer than two are free.
+/// Takes the least free slot and then the least one that is left, or none where fewer than two are free.
+#[tactic(auto, using(crate::proofs::Pools::two_apart, crate::proofs::Pools::two_free, crate::proofs::Pools::first_stays, crate::proofs::Pools::second_too))]
 pub fn take_two(slots: &mut Slots) -> Option<(usize, usize)>
     ensures few { IfNone result ((free_count slots.old < 2) × (slots.new ≡ slots.old)) }
+    ensures first { IfSome result (λ two. IsLeastFree slots.old two.0) }
+    ensures second { IfSome result (λ two. IsLeastFree (model.insert slots.old two.0) two.1) }
+    ensures after { IfSome result (λ two.
+        slots.new ≡ model.insert (model.insert slots.old two.0) two.1) }
     ensures apart { IfSome result (λ two. two.0 ≢ two.1) }
     ensures were_free { IfSome result (λ two. IsFree slots.old two.0 × IsFree slots.old two.1) }
     ensures are_taken { IfSome result (λ two. IsTaken slots.new two.0 × IsTaken slots.new two.1) }
