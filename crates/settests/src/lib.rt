@@ -1,5 +1,5 @@
-//! Tests of one set: its positions and ranges, by values from outside and by sweeps over lengths beside slow values, and
-//! callers that know public contracts alone.
+//! Tests of one set: its positions and ranges, by values from outside and by sweeps over lengths beside slow values, large
+//! sets, what is left of iterators that were lent, and callers that know public contracts alone.
 #![tactic(auto)]
 
 #[cfg(test)]
@@ -10,6 +10,10 @@ mod extends;
 mod json;
 #[cfg(test)]
 mod keys;
+#[cfg(test)]
+mod large;
+#[cfg(test)]
+mod lent;
 #[cfg(test)]
 mod making;
 #[cfg(test)]
