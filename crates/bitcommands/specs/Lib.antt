@@ -9,3 +9,4 @@ pub mod Texts
 pub mod TextsFacts
 pub mod Outcomes
 pub mod Joints
+pub mod Quoting

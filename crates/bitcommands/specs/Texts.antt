@@ -1,10 +1,12 @@
 -- The texts of replies.
-use Rattle.std.specs.Prelude.{ℕ, Bool, true, false, not, List, [], ◌∷◌, ◌++◌, map, Option, Some, None, codes, if◌then◌else◌}
+use Rattle.std.specs.Prelude.{◌≡◌, ◌≤◌, ℕ, Bool, true, false, not, List, [], ◌∷◌, ◌++◌, map, Option, Some, None, codes, if◌then◌else◌}
 use Rattle.std.specs.List.{join_with_byte}
 use Rattle.std.specs.Fmt.{decimal}
 use Rattle.std.specs.declared.cmp.Ordering.{Ordering}
 use Rattle.std.specs.declared.cmp.Ordering.TheVariants.{Less, Equal, Greater}
-use Rattle.serde_json.specs.Written.{compact_text, has_float}
+use Rattle.serde_json.specs.Data.{Data, depth}
+use Rattle.serde_json.specs.Read.{read, max_depth}
+use Rattle.serde_json.specs.Written.{compact_text, has_float, IsInOrder}
 use Rattle.bitjson.specs.declared.fault.JsonFault.{JsonFault}
 use Rattle.bitjson.specs.declared.fault.JsonFault.TheVariants as fault
 use Rattle.bitcommands.specs.declared.commands.refusals.Refusal.{Refusal}
@@ -85,7 +87,18 @@ has_one_text r = true
 abbrev pub one_text : Answer → Option (List ℕ)
 one_text r = if has_one_text r then Some (answer_text r) else None
 
--- the text that is promised of a formatter: that of a JSON value is not
-abbrev pub shown_text : Answer → Option (List ℕ)
-shown_text (answer.value d) = None
-shown_text r = Some (answer_text r)
+-- the JSON value that is answered, if one is
+abbrev pub value_of : Answer → Option Data
+value_of (answer.value d) = Some d
+value_of r = None
+
+-- the text has the items and members of the JSON value in order and its whole numbers in decimal, and is read as the value
+pub record IsTextOfValue (d : Data) (text : List ℕ) : Type 0 where
+  pub in_order : IsInOrder text d
+  pub read_back : depth d ≤ max_depth → read text ≡ Some d
+
+-- such a text stands behind the output
+pub record PutsValue (old new : List ℕ) (d : Data) : Type 0 where
+  pub text : List ℕ
+  pub behind : new ≡ old ++ text
+  pub is_text : IsTextOfValue d text

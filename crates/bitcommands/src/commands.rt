@@ -15,6 +15,7 @@ mod printing;
 mod ranging;
 mod refusals;
 mod replies;
+mod values;
 mod walking;
 
 pub use changing::Change;

@@ -118,3 +118,39 @@ fn texts_and_values_print_one_text_both_ways(rt: HostRuntime) -> Result<(), Fail
     )?;
     Ok(())
 }
+
+#[test]
+fn numbers_of_json_print_one_text_both_ways(rt: HostRuntime) -> Result<(), Fail> {
+    for (reply, text) in [
+        (Reply::Value(().into()), "null"),
+        (Reply::Value(true.into()), "true"),
+        (Reply::Value(u64::MAX.into()), "18446744073709551615"),
+        (Reply::Value(i64::MIN.into()), "-9223372036854775808"),
+        (Reply::Value(1.5.into()), "1.5"),
+        (Reply::Value(1e300.into()), "1e+300"),
+    ] {
+        assert_text(&rt, rt.alloc(), &reply, text)?;
+    }
+    Ok(())
+}
+
+#[test]
+fn texts_of_json_are_quoted_both_ways(rt: HostRuntime) -> Result<(), Fail> {
+    let alloc = rt.alloc();
+    let text = String::from_str(alloc, "\"a\\/\u{8}\t\n\u{c}\r\0\u{1f}\u{7f}é€😀")?;
+    let quoted = r#""\"a\\/\b\t\n\f\r\u0000\u001f"#;
+    let wanted = format!(in alloc; "{quoted}\u{7f}é€😀\"")?;
+    assert_text(&rt, alloc, &Reply::Value(text.into()), wanted.as_str())?;
+    Ok(())
+}
+
+#[test]
+fn lists_of_json_have_commas_both_ways(rt: HostRuntime) -> Result<(), Fail> {
+    let alloc = rt.alloc();
+    let mut items = Vec::new(alloc);
+    items.push(1.into())?;
+    items.push(Vec::new(alloc).into())?;
+    items.push((-2).into())?;
+    assert_text(&rt, alloc, &Reply::Value(items.into()), "[1,[],-2]")?;
+    Ok(())
+}

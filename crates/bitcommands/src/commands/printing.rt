@@ -3,7 +3,7 @@ ghost use Rattle.std.specs.Prelude.{◌≡◌, ◌++◌, ◌≤◌, false, drop,
 ghost use Rattle.std.specs.Fmt.{decimal};
 ghost use Rattle.serde_json.specs.View.{view};
 ghost use Rattle.serde_json.specs.Written.{has_float, compact_text};
-ghost use Rattle.bitcommands.specs.Texts.{flag_text, spaced_text, words_text, order_text};
+ghost use Rattle.bitcommands.specs.Texts.{flag_text, spaced_text, words_text, order_text, PutsValue};
 ghost use Rattle.bitcommands.specs.Outcomes.{behind};
 
 use fixedbitset::Block;
@@ -37,9 +37,10 @@ pub(super) fn order_name(order: Ordering) -> &'static str
     }
 }
 
-// The value without spaces. Where memory is refused the output is as it was.
+// A text that is read as the value. Where memory is refused the output is as it was.
 pub(super) fn push_value(value: &Value, output: &mut Vec<u8>) -> Result<(), AllocError>
     ensures ok { OnOk result (has_float (view value.now) ≡ false → output.new.items ≡ output.old.items ++ compact_text (view value.now)) }
+    ensures value { OnOk result (PutsValue output.old.items output.new.items (view value.now)) }
     ensures err { OnErr result (output.new.items ≡ output.old.items) }
 {
     let text = value.to_vec(*output.allocator())?;

@@ -6,6 +6,7 @@ use crate::commands::printing::{
     Part, order_name, push_flag, push_number, push_numbered, push_parts, push_value, push_words,
 };
 use crate::commands::refusals::Refusal;
+use crate::commands::values::write_value;
 use fixedbitset::Block;
 use serde_json::Value;
 use std::alloc::AllocError;
@@ -43,12 +44,12 @@ pub enum Reply {
 impl Reply {
     ghost use Rattle.std.specs.Prelude.{◌≡◌, ◌++◌, OnOk, OnErr, IfSome};
     ghost use Rattle.bitcommands.specs.Answers.{answer_of};
-    ghost use Rattle.bitcommands.specs.Texts.{one_text};
+    ghost use Rattle.bitcommands.specs.Texts.{one_text, value_of, PutsValue};
 
     /// Puts the text that `Display` prints behind the output, without a formatter.
     ///
-    /// The text of a value is compact JSON. A value that `apply` answers has but one such text. Of a value with a number
-    /// that has a fraction or an exponent no text is promised.
+    /// The text of a JSON value is read back as the value, unless it nests deeper than 127. A value with no number that has
+    /// a fraction or an exponent has but one text, and that has no spaces. A value that `apply` answers is such a one.
     ///
     /// `Err` comes only where memory for the text was refused. The output is then as it was.
     ///
@@ -61,6 +62,8 @@ impl Reply {
     #[inline]
     pub fn push_text(&self, output: &mut Vec<u8>) -> Result<(), AllocError>
         ensures ok { OnOk result (IfSome (one_text (answer_of self.now)) (λ text. output.new.items ≡ output.old.items ++ text)) }
+        ensures value { OnOk result (IfSome (value_of (answer_of self.now))
+            (PutsValue output.old.items output.new.items)) }
         ensures err { OnErr result (output.new.items ≡ output.old.items) }
     {
         match self {
@@ -81,11 +84,14 @@ impl Reply {
     }
 }
 
+/// It writes the text that `push_text` puts behind an output, and takes no memory.
+///
+/// Of a JSON value with a number that has a fraction or an exponent no text is promised.
 impl fmt::Display for Reply {
     ghost use Rattle.bitcommands.specs.Answers.{answer_of};
-    ghost use Rattle.bitcommands.specs.Texts.{shown_text};
+    ghost use Rattle.bitcommands.specs.Texts.{one_text};
 
-    ghost output = { λ reply. shown_text (answer_of reply) };
+    ghost output = { λ reply. one_text (answer_of reply) };
 
     fn fmt<W: fmt::Write>(&self, f: &mut fmt::Formatter<W>) -> fmt::Result {
         match self {
@@ -98,7 +104,7 @@ impl fmt::Display for Reply {
             Reply::Words(words) => write_words(words.as_slice(), f),
             Reply::Order(order) => f.write_str(order_name(*order)),
             Reply::Text(text) => f.write_str(text),
-            Reply::Value(value) => write!(f, "{value}"),
+            Reply::Value(value) => write_value(value, f),
             Reply::Refused(refusal) => write!(f, "{refusal}"),
         }
     }

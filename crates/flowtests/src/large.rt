@@ -1,0 +1,32 @@
+//! A problem of many nodes: where memory is there, the solver refuses no number of its own choice.
+
+use fixedbitset::{FixedBitSet, Steps};
+use flow::{is_problem, solve};
+use std::test::Fail;
+
+// How many nodes and how many facts there are.
+const NODES: usize = 5_000;
+
+const FACTS: usize = 70;
+
+// A chain: what the first node generates comes to each node behind it.
+#[test]
+fn a_chain_of_many_nodes(rt: HostRuntime) -> Result<(), Fail> {
+    let alloc = rt.alloc();
+    let none = FixedBitSet::with_capacity(alloc, FACTS)?;
+    let mut edges = Vec::new(alloc);
+    let mut gens = vec![in alloc; FixedBitSet::from_iter(alloc, [FACTS - 1])?; 1]?;
+    let mut kills = vec![in alloc; none.clone()?; 1]?;
+    for node in 1..NODES {
+        edges.push((node - 1, node))?;
+        gens.push(none.clone()?)?;
+        kills.push(none.clone()?)?;
+    }
+    assert!(rt; is_problem(FACTS, &edges, &gens, &kills));
+    let answer = solve(alloc, FACTS, &edges, &gens, &kills, &mut Steps::new())?;
+    assert_eq!(rt; answer.ins.len(), NODES);
+    for set in &answer.outs {
+        assert_eq!(rt; set.minimum(), Some(FACTS - 1));
+    }
+    Ok(())
+}
