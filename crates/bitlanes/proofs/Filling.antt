@@ -1,14 +1,12 @@
 -- the last lane: one to three words, and zeros
-use Rattle.std.proofs.Common.{◌≡◌, ℕ, zero, suc, ◌+◌, ◌-◌, ◌*◌, ◌^◌, lit<, ◌<◌, ◌≤◌, ◌==◌, Bool, true, false, ◌&&◌, List, [], ◌∷◌, ◌++◌, length, take, drop, get_or, slice_set, map, replicate, sum_by, refl, ap, sym, ◌∙◌, arith, min}
+use Rattle.std.proofs.Common.{◌≡◌, ℕ, zero, suc, ◌+◌, ◌-◌, ◌*◌, ◌^◌, lit<, ◌<◌, ◌≤◌, ◌==◌, Bool, true, false, ◌&&◌, List, [], ◌∷◌, ◌++◌, length, take, drop, get_or, slice_set, map, replicate, refl, ap, sym, ◌∙◌, arith, min}
 use Rattle.std.specs.List.{list_all}
 use Rattle.std.specs.Simd.Lanes.{zip2, chunk, put_chunk}
 use Rattle.std.specs.Int.{bit_at}
-use Rattle.std.specs.Int.RustNames.{count_ones}
 use Rattle.std.proofs.Math.Bool.{and-true}
 use Rattle.std.proofs.Math.Seq.{take-add, take-append_seam}
 use Rattle.std.proofs.lemmas.List.{take_all, drop_all, take-replicate, length-map, length-replicate}
-use Rattle.std.proofs.lemmas.List.Folds.{list_all-append, sum_by-replicate}
-use Rattle.std.proofs.lemmas.List.Sums.{sum_by-append}
+use Rattle.std.proofs.lemmas.List.Folds.{list_all-append}
 use Rattle.std.proofs.lemmas.Nat.Bits.{same_from_bits, bit_at-zero, bit_at-lt}
 use Rattle.std.proofs.lemmas.Simd.{length-chunk, put_chunk_whole}
 use Rattle.bitlanes.specs.Bits.{bit}
@@ -88,19 +86,6 @@ nothing_joined f t by_bits neither = same_from_bits (f 0 0) 0 (λ i.
 
 split_last : (k n : ℕ) (xs : List ℕ) → 4 * k + n ≡ length xs → take (4 * k) xs ++ chunk (4 * k) n xs ≡ xs
 split_last k n xs e = sym (take-add (4 * k) n xs) ∙ take_all (4 * k + n) xs (omega arith)
-
-ones_of_zeros : (k : ℕ) → sum_by count_ones (replicate k 0) ≡ 0
-unfolding count_ones
-ones_of_zeros k = let none : count_ones 0 ≡ 0 = refl in let product : k * 0 ≡ 0 = omega arith in sum_by-replicate count_ones k 0 ∙ (ap (λ c. k * c) none ∙ product)
-
-pub sum_part : (k n : ℕ) (xs : List ℕ) → 4 * k + n ≡ length xs → sum_by count_ones (take (4 * k) xs) + sum_by count_ones (filled (4 * k) n xs) ≡ sum_by count_ones xs
-sum_part k n xs e =
-    let all : sum_by count_ones (take (4 * k) xs ++ chunk (4 * k) n xs) ≡ sum_by count_ones xs = ap (sum_by count_ones) (split_last k n xs e) in
-    omega (arith, sum_by-append count_ones (take (4 * k) xs) (chunk (4 * k) n xs), sum_by-append count_ones (chunk (4 * k) n xs) (replicate (4 - n) 0), ones_of_zeros (4 - n), all)
-
--- of joined words, as many as both rows have
-pub sum_joined_part : (f : ℕ → ℕ → ℕ) (k n : ℕ) (xs ys : List ℕ) → 4 * k + n ≡ min (length xs) (length ys) → sum_by count_ones (take (4 * k) (zip2 f xs ys)) + sum_by count_ones (filled (4 * k) n (zip2 f xs ys)) ≡ sum_by count_ones (zip2 f xs ys)
-sum_joined_part f k n xs ys e = sum_part k n (zip2 f xs ys) (e ∙ sym (length_joined f xs ys))
 
 are_zeros : (k : ℕ) → list_all (λ w. w == 0) (replicate k 0) ≡ true
 are_zeros zero = refl

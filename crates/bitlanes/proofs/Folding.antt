@@ -1,13 +1,12 @@
--- sums and tests of a list, one lane of four further
-use Rattle.std.proofs.Common.{◌≡◌, ℕ, zero, suc, ◌+◌, ◌-◌, ◌*◌, ◌≤◌, Bool, true, false, ◌==◌, ◌<◌, ◌&&◌, List, slice_index, [], ◌∷◌, ◌++◌, length, take, drop, replicate, sum_by, bit_or, refl, ap, sym, ◌∙◌, arith}
+-- tests of a list, one lane of four further, and lists of zeros
+use Rattle.std.proofs.Common.{◌≡◌, ℕ, zero, suc, ◌+◌, ◌-◌, ◌*◌, ◌≤◌, Bool, true, false, ◌==◌, ◌<◌, ◌&&◌, List, slice_index, [], ◌∷◌, ◌++◌, length, take, drop, replicate, bit_or, refl, ap, sym, ◌∙◌, arith}
 use Rattle.std.specs.List.{list_all}
-use Rattle.std.specs.Simd.Lanes.{fold_l, chunk, put_chunk}
+use Rattle.std.specs.Simd.Lanes.{zip2, fold_l, chunk, put_chunk}
 use Rattle.std.proofs.Math.Bool.{and-true, and-false, and_assoc}
 use Rattle.std.proofs.Math.Seq.{take-add}
 use Rattle.std.proofs.lemmas.Bool.Decides.{nat_tests}
-use Rattle.std.proofs.lemmas.List.{take-append-drop, replicate-append-replicate}
+use Rattle.std.proofs.lemmas.List.{take-append-drop, replicate-append-replicate, drop-drop}
 use Rattle.std.proofs.lemmas.List.Folds.{list_all-append}
-use Rattle.std.proofs.lemmas.List.Sums.{sum_by-append, sum_by-take-le}
 use Rattle.std.proofs.lemmas.Nat.{le_or_l}
 use Rattle.std.proofs.lemmas.Simd.{chunk-drop, get_or-chunk, take_more_put_chunk}
 
@@ -27,13 +26,7 @@ or_of_lane = fold_or 0
 take_lane : (k : ℕ) (xs : List ℕ) → take (4 * (k + 1)) xs ≡ take (4 * k) xs ++ chunk (4 * k) 4 xs
 take_lane k xs = let e : 4 * (k + 1) ≡ 4 * k + 4 = omega arith in rw (e, take-add) refl
 
-pub sum_lane : (f : ℕ → ℕ) (k : ℕ) (xs : List ℕ) → sum_by f (take (4 * (k + 1)) xs) ≡ sum_by f (take (4 * k) xs) + sum_by f (chunk (4 * k) 4 xs)
-sum_lane f k xs = ap (sum_by f) (take_lane k xs) ∙ sum_by-append f (take (4 * k) xs) (chunk (4 * k) 4 xs)
-
--- the sum so far and that of the next lane are within the whole sum
-pub sum_lane_le : (f : ℕ → ℕ) (k : ℕ) (xs : List ℕ) → sum_by f (take (4 * k) xs) + sum_by f (chunk (4 * k) 4 xs) ≤ sum_by f xs
-sum_lane_le f k xs = omega (arith, sum_lane f k xs, sum_by-take-le f xs (4 * (k + 1)))
-
+-- the test of one lane more
 pub all_lane : (p : ℕ → Bool) (k : ℕ) (xs : List ℕ) → list_all p (take (4 * (k + 1)) xs) ≡ (list_all p (take (4 * k) xs) && list_all p (chunk (4 * k) 4 xs))
 all_lane p k xs = ap (list_all p) (take_lane k xs) ∙ list_all-append p (take (4 * k) xs) (chunk (4 * k) 4 xs)
 
@@ -75,8 +68,25 @@ all_zero [] h i = refl
 all_zero (x ∷ xs) h zero = grind (arith, nat_tests)
 all_zero (x ∷ xs) h (suc i) = all_zero xs (grind (arith, nat_tests)) i
 
+-- where each word of two rows joined by `or` is 0, each of both is
+pub or_of_rows : (xs ys : List ℕ) → length xs ≡ length ys → list_all (λ w. w == 0) (zip2 bit_or xs ys) ≡ (list_all (λ w. w == 0) xs && list_all (λ w. w == 0) ys)
+or_of_rows [] [] e = refl
+or_of_rows [] (y ∷ ys) e = absurd (omega arith)
+or_of_rows (x ∷ xs) [] e = absurd (omega arith)
+or_of_rows (x ∷ xs) (y ∷ ys) e = grind (arith, nat_tests, bit_or-is_zero x y, or_of_rows xs ys (omega arith))
+
+-- a stretch is its first m words and the n behind them
+pub all_chunk : (p : ℕ → Bool) (i m n : ℕ) (xs : List ℕ) → list_all p (chunk i (m + n) xs) ≡ (list_all p (chunk i m xs) && list_all p (chunk (i + m) n xs))
+all_chunk p i m n xs =
+    ap (list_all p) (take-add m n (drop i xs) ∙ ap (λ ys. take m (drop i xs) ++ take n ys) (drop-drop m i xs))
+    ∙ list_all-append p (chunk i m xs) (chunk (i + m) n xs)
+
+-- the words of a stretch, as those of the row
+pub zero_in_stretch : (k n : ℕ) (xs : List ℕ) → list_all (λ w. w == 0) (chunk k n xs) ≡ true → (i : ℕ) → k ≤ i → i < k + n → slice_index xs i ≡ 0
+zero_in_stretch k n xs h i from to =
+    let at : k + (i - k) ≡ i = omega arith in
+    ap (slice_index xs) (sym at) ∙ sym (get_or-chunk k n xs (i - k) 0 (omega arith)) ∙ all_zero (chunk k n xs) h (i - k)
+
 -- the words of a lane, as those of the row
 pub zero_in_lane : (k : ℕ) (xs : List ℕ) → list_all (λ w. w == 0) (chunk k 4 xs) ≡ true → (i : ℕ) → k ≤ i → i < k + 4 → slice_index xs i ≡ 0
-zero_in_lane k xs h i from to =
-    let at : k + (i - k) ≡ i = omega arith in
-    ap (slice_index xs) (sym at) ∙ sym (get_or-chunk k 4 xs (i - k) 0 (omega arith)) ∙ all_zero (chunk k 4 xs) h (i - k)
+zero_in_lane k xs = zero_in_stretch k 4 xs

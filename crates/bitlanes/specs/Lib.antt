@@ -1,6 +1,7 @@
 pub mod Bits
 pub mod BitLaws
 pub mod Depth
+pub mod Ones
 pub mod Ops
 pub mod Range
 pub mod RangeFacts

@@ -2,22 +2,27 @@
 //!
 //! A step is one lane in one turn of a kernel, and is counted by one tick. Where the number of words is no multiple of
 //! four, the one to three words that are left are a lane of their own, filled with zeros, of which only these words are
-//! written back. So `m` words take `m / 4` steps, rounded up. The kernels and the searches of module `search` are the
-//! only loops of calls on whole sets.
+//! written back. So `m` words take `m / 4` steps, rounded up. A count of a short row goes word by word, and ticks at the
+//! first word of each lane. The kernels and the searches of module `search` are the only loops of calls on whole sets.
 //!
 //! Of two slices a kernel reads as many words as the shorter one has.
-ghost use Rattle.std.specs.Prelude.{◌≡◌, ◌+◌, ◌-◌, ◌^◌, ◌<◌, ◌≤◌, ◌==◌, length, min, slice_index, sum_by, replicate, take, map, true, false, IsTrue};
+ghost use Rattle.std.specs.Prelude.{◌≡◌, ◌+◌, ◌-◌, ◌*◌, ◌^◌, ◌<◌, ◌≤◌, ◌==◌, length, min, slice_index, sum_by, replicate, take, map, true, false, IsTrue};
 ghost use Rattle.std.specs.List.{list_all};
 ghost use Rattle.std.specs.Int.RustNames.{count_ones};
 ghost use Rattle.std.specs.Simd.Lanes.{zip2, chunk, put_chunk};
+ghost use Rattle.bitlanes.specs.Ones.{ones_up_to};
 ghost use Rattle.bitlanes.specs.Words.{zip_longest, filled, lane_steps};
 
-use crate::ops::WordOp;
+use crate::carries::{EIGHT, count_eights};
+use crate::ops::{And, WordOp};
 use crate::{Block, Steps};
 use std::simd::prelude::*;
 
 /// How many words a lane has.
 pub const LANE: usize = 4;
+
+// From how many words on a count goes by carries. A shorter row is counted word by word, which is as quick there.
+const LONG: usize = 512;
 
 /// Joins each word of `dst` with the word of `src` at its place, by `O`. Words of `dst` past the end of `src` stay.
 ///
@@ -57,25 +62,17 @@ pub fn apply<O: WordOp>(dst: &mut [Block], src: &[Block], steps: &mut Steps)
 /// assert_eq!(rt; count, 7);
 /// ```
 #[inline(always)]
-#[tactic(auto, using(crate::proofs::Folding::sum_lane, crate::proofs::Folding::sum_lane_le, crate::proofs::Zipping::sum_joined, crate::proofs::Filling::sum_joined_part))]
 pub fn count<O: WordOp>(a: &[Block], b: &[Block], steps: &mut Steps) -> usize
     requires fits { sum_by count_ones (zip2 O.joined a.now b.now) < 2 ^ 64 }
     ensures ones { result ≡ sum_by count_ones (zip2 O.joined a.now b.now) }
     ensures cost { steps.new ≡ steps.old + lane_steps (min (length a.now) (length b.now)) }
 {
     let words = a.len().min(b.len());
-    let lanes = words / LANE;
-    let mut total = 0;
-    for lane in 0..lanes {
-        steps.tick();
-        total += ones_at::<O>(a, b, LANE * lane);
+    if words < LONG {
+        count_from::<O>(a, b, 0, 0, words, steps)
+    } else {
+        count_long::<O>(a, b, steps)
     }
-    let rest = words % LANE;
-    if rest > 0 {
-        steps.tick();
-        total += ones_in(joined_part_at::<O>(a, b, LANE * lanes, rest).to_array());
-    }
-    total
 }
 
 /// Whether no bit is set in the words of `a` joined with those of `b` by `O`, as far as both go.
@@ -147,24 +144,13 @@ pub fn zero(dst: &mut [Block], steps: &mut Steps)
 /// assert_eq!(rt; count, 4);
 /// ```
 #[inline(always)]
-#[tactic(auto, using(crate::proofs::Folding::sum_lane, crate::proofs::Folding::sum_lane_le, crate::proofs::Filling::sum_part))]
+#[tactic(auto, using(crate::proofs::Zipping::joined_with_itself))]
 pub fn count_one(a: &[Block], steps: &mut Steps) -> usize
     requires fits { sum_by count_ones a.now < 2 ^ 64 }
     ensures ones { result ≡ sum_by count_ones a.now }
     ensures cost { steps.new ≡ steps.old + lane_steps (length a.now) }
 {
-    let lanes = a.len() / LANE;
-    let mut total = 0;
-    for lane in 0..lanes {
-        steps.tick();
-        total += ones_in(u64x4::from_slice(&a[LANE * lane..]).to_array());
-    }
-    let rest = a.len() % LANE;
-    if rest > 0 {
-        steps.tick();
-        total += ones_in(part_at(a, LANE * lanes, rest).to_array());
-    }
-    total
+    count::<And>(a, a, steps)
 }
 
 /// Whether no bit is set in the words.
@@ -244,7 +230,7 @@ fn join_lane<O: WordOp>(dst: &mut [Block], src: &[Block], at: usize)
 
 // The four joined words from `at` on.
 #[inline(always)]
-fn lane_at<O: WordOp>(a: &[Block], b: &[Block], at: usize) -> u64x4
+pub(crate) fn lane_at<O: WordOp>(a: &[Block], b: &[Block], at: usize) -> u64x4
     requires in_a { at + 4 ≤ length a.now }
     requires in_b { at + 4 ≤ length b.now }
     ensures { result ≡ chunk at 4 (zip2 O.joined a.now b.now) }
@@ -271,25 +257,53 @@ fn word_at<O: WordOp>(a: &[Block], b: &[Block], at: usize) -> Block
     O::word(a[at], b[at])
 }
 
-// How many bits are set in the four joined words from `at` on. The words are joined one by one, since their bits are
-// counted one by one.
+// How many bits are set in the joined words, `total` being those of the first `lanes` lanes. It goes word by word, and
+// takes a step at the first word of each lane.
 #[inline(always)]
-fn ones_at<O: WordOp>(a: &[Block], b: &[Block], at: usize) -> usize
-    requires in_a { at + 4 ≤ length a.now }
-    requires in_b { at + 4 ≤ length b.now }
-    ensures { result ≡ sum_by count_ones (chunk at 4 (zip2 O.joined a.now b.now)) }
+#[tactic(auto, using(crate::proofs::Counting::sum_more, crate::proofs::Counting::sum_more_le))]
+fn count_from<O: WordOp>(
+    a: &[Block],
+    b: &[Block],
+    lanes: usize,
+    total: usize,
+    words: usize,
+    steps: &mut Steps,
+) -> usize
+    requires words { words ≡ min (length a.now) (length b.now) }
+    requires within { 4 * lanes ≤ words }
+    requires total { total ≡ ones_up_to (4 * lanes) O.joined a.now b.now }
+    requires fits { sum_by count_ones (zip2 O.joined a.now b.now) < 2 ^ 64 }
+    ensures ones { result ≡ sum_by count_ones (zip2 O.joined a.now b.now) }
+    ensures cost { steps.new + lanes ≡ steps.old + lane_steps words }
 {
-    ones_in([
-        word_at::<O>(a, b, at),
-        word_at::<O>(a, b, at + 1),
-        word_at::<O>(a, b, at + 2),
-        word_at::<O>(a, b, at + 3),
-    ])
+    let mut total = total;
+    for at in LANE * lanes..words {
+        if at % LANE == 0 {
+            steps.tick();
+        }
+        total += word_at::<O>(a, b, at).count_ones() as usize;
+    }
+    total
+}
+
+// `count`, for long rows: by carries, eight lanes a turn, and then the words left. It is a call of its own, so that
+// short rows save no registers for it.
+#[cold]
+#[inline(never)]
+fn count_long<O: WordOp>(a: &[Block], b: &[Block], steps: &mut Steps) -> usize
+    requires fits { sum_by count_ones (zip2 O.joined a.now b.now) < 2 ^ 64 }
+    ensures ones { result ≡ sum_by count_ones (zip2 O.joined a.now b.now) }
+    ensures cost { steps.new ≡ steps.old + lane_steps (min (length a.now) (length b.now)) }
+{
+    let words = a.len().min(b.len());
+    let blocks = words / EIGHT;
+    let total = count_eights::<O>(a, b, blocks, steps);
+    count_from::<O>(a, b, 8 * blocks, total, words, steps)
 }
 
 // How many bits are set in four words.
 #[inline(always)]
-fn ones_in(words: [Block; LANE]) -> usize
+pub(crate) fn ones_in(words: [Block; LANE]) -> usize
     ensures { result ≡ sum_by count_ones words }
 {
     let [first, second, third, fourth] = words;

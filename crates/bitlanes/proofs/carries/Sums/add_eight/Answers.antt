@@ -1,0 +1,16 @@
+use Rattle.std.proofs.Common.{arith}
+use Rattle.std.specs.Int.RustNames.{count_ones}
+use Rattle.std.specs.Simd.Lanes.{zip2}
+use Rattle.bitlanes.proofs.Counting.{sum_chunk}
+use Rattle.bitlanes.proofs.carries.Sums.add_eight.Goals as goal
+
+pub returns-clause-ones : goal.returns-clause-ones
+returns-clause-ones g c =
+    omega (
+      arith,
+      sum_chunk count_ones c.args.at 16 16 (zip2 g.O.WordOp.joined c.args.a.now c.args.b.now),
+      c.add_four-first.ensures.ones,
+      c.add_four-second.ensures.ones,
+      c.add.ensures,
+      c.self.view_is,
+    )
