@@ -2,15 +2,21 @@
 //!
 //! The words that both rows have are joined by a kernel of `bitlanes`, by lanes of four; the rest of the longer row is
 //! cleared, counted or left, as the operation says.
-ghost use Rattle.std.specs.Prelude.{◌≡◌, ◌<◌, ◌≤◌, ◌+◌, ◌-◌, ◌*◌, ◌^◌, ◌==◌, IsTrue, IfOk, true, length, max, drop, sum_by, if◌then◌else◌};
+ghost use Rattle.std.specs.Prelude.{[], ◌≡◌, ◌<◌, ◌≤◌, ◌+◌, ◌-◌, ◌*◌, ◌^◌, ◌==◌, ◌++◌, IsTrue, IfOk, OnOk, true, false, length, max, drop, sum_by, if◌then◌else◌};
 ghost use Rattle.std.specs.Int.RustNames.{count_ones};
 ghost use Rattle.std.specs.List.{list_all};
+ghost use Rattle.std.specs.Simd.Lanes.{zip2};
 ghost use Rattle.bitlanes.specs.Words.{zip_longest, lane_steps};
 ghost use Rattle.bitwords.specs.Rows.{has_bit, IsJoined, count_below, bits_test};
 ghost use Rattle.bitwords.specs.Steps.{join_steps, both_steps};
 
 use bitlanes::ops::WordOp;
 use bitlanes::{Block, Steps, lanes};
+use std::alloc::{AllocError, Global};
+
+// From how many words on a new row is written as it is joined. A shorter one is copied and then joined, which is quicker
+// while all three rows lie in the first cache.
+const LONG: usize = 2048;
 
 /// Joins each position of `words` with that of `other` by `O`.
 ///
@@ -68,6 +74,82 @@ pub fn none<O: WordOp>(a: &[Block], b: &[Block], steps: &mut Steps) -> bool
     ensures whole { IsTrue result → steps.new ≡ steps.old + both_steps O.KEEP O.TAKE (length a.now) (length b.now) }
 {
     none_words::<O>(a, b, steps)
+}
+
+/// A new row, as long as `words`: each position of `words`, joined with that of `other` by `O`.
+///
+/// `Err` comes only where memory for the row was refused.
+///
+/// ```
+/// let new = joins::joined::<And>(alloc, &[11, 3, 1], &[9, 6])?;
+/// assert_eq!(rt; new, [9, 2, 0]);
+/// ```
+#[inline(always)]
+pub fn joined<O: WordOp>(
+    alloc: Global,
+    words: &[Block],
+    other: &[Block],
+) -> Result<Vec<Block>, AllocError>
+    ensures { IfOk result (λ new. IsJoined O.truth words.now (has_bit other.now) new.items) }
+{
+    if other.len() >= LONG && words.len() >= LONG && (O::KEEP || words.len() <= other.len()) {
+        return joined_long::<O>(alloc, words, other);
+    }
+    let mut new = Vec::with_capacity(alloc, words.len())?;
+    new.extend_from_slice(words)?;
+    join::<O>(&mut new, other, &mut Steps::new());
+    Ok(new)
+}
+
+// `joined`, for long rows: each word is written as it is joined. It is a call of its own, so that short rows save no
+// registers for it.
+#[cold]
+#[inline(never)]
+fn joined_long<O: WordOp>(
+    alloc: Global,
+    words: &[Block],
+    other: &[Block],
+) -> Result<Vec<Block>, AllocError>
+    requires in_words { 8 ≤ length words.now }
+    requires in_other { 8 ≤ length other.now }
+    requires rest { O.KEEP ≡ false → length words.now ≤ length other.now }
+    ensures { IfOk result (λ new. IsJoined O.truth words.now (has_bit other.now) new.items) }
+{
+    let mut new = Vec::with_capacity(alloc, words.len())?;
+    write_joined::<O>(&mut new, words, other)?;
+    Ok(new)
+}
+
+// Writes the words joined as far as both rows go, and then the rest of `words`. The first eight are copied and then
+// joined: into an empty row `extend` writes one word by itself, and all that it writes behind it would be unaligned.
+#[inline(always)]
+fn write_joined<O: WordOp>(
+    to: &mut Vec<Block>,
+    words: &[Block],
+    other: &[Block],
+) -> Result<(), AllocError>
+    requires empty { to.old.items ≡ [] }
+    requires in_words { 8 ≤ length words.now }
+    requires in_other { 8 ≤ length other.now }
+    ensures { OnOk result (to.new.items ≡ zip_longest O.joined true false words.now other.now) }
+{
+    to.extend_from_slice(&words[..8])?;
+    lanes::apply::<O>(to, &other[..8], &mut Steps::new());
+    append_joined::<O>(to, &words[8..], &other[8..])?;
+    to.extend_from_slice(&words[other.len().min(words.len())..])
+}
+
+// Writes the joined words behind those of `to`, as far as both rows go.
+#[inline(always)]
+fn append_joined<O: WordOp>(
+    to: &mut Vec<Block>,
+    words: &[Block],
+    other: &[Block],
+) -> Result<(), AllocError>
+    ensures { OnOk result (to.new.items ≡ to.old.items ++ zip2 O.joined words.now other.now) }
+{
+    let pairs = words.iter().zip(other);
+    to.extend(pairs.map(|(word, other)| O::word(*word, *other)))
 }
 
 // How many bits are set from word `from` on, where these words count.
