@@ -121,8 +121,8 @@ impl FixedBitSet {
 
     /// A new set of the smaller of the two lengths, with the positions of both sets.
     ///
-    /// `Err` comes only where memory for its words was refused. It copies the shorter set's words and takes
-    /// one step for each of its lanes. Upstream's operator `&` is this call.
+    /// `Err` comes only where memory for its words was refused. It writes the shorter set's words, joined with the
+    /// other's: a long set in one pass, a short one in two. Upstream's operator `&` is this call.
     ///
     /// ```
     /// let set = FixedBitSet::from_iter(alloc, [1, 3, 64])?;
@@ -144,8 +144,8 @@ impl FixedBitSet {
 
     /// A new set of the greater of the two lengths, with the positions of either set.
     ///
-    /// `Err` comes only where memory for its words was refused. It copies the longer set's words and takes
-    /// one step for each lane of the shorter. Upstream's operator `|` is this call.
+    /// `Err` comes only where memory for its words was refused. It writes the longer set's words, joined with the
+    /// other's: a long set in one pass, a short one in two. Upstream's operator `|` is this call.
     ///
     /// ```
     /// let set = FixedBitSet::from_iter(alloc, [1, 3, 64])?;
@@ -167,8 +167,8 @@ impl FixedBitSet {
 
     /// A new set of the greater of the two lengths, with the positions of exactly one of the sets.
     ///
-    /// `Err` comes only where memory for its words was refused. It copies the longer set's words and takes
-    /// one step for each lane of the shorter. Upstream's operator `^` is this call.
+    /// `Err` comes only where memory for its words was refused. It writes the longer set's words, joined with the
+    /// other's: a long set in one pass, a short one in two. Upstream's operator `^` is this call.
     ///
     /// ```
     /// let set = FixedBitSet::from_iter(alloc, [1, 3, 64])?;
