@@ -218,6 +218,46 @@ fn exactly_one(rt: HostRuntime) -> Result<(), Fail> {
     Ok(())
 }
 
+// Sets of so many words that a new one is written as it is joined, and that a count goes by carries.
+const MANY: Spanned = Spanned {
+    length: 200_000,
+    spans: &[(0, 70_000), (131_000, 131_100), (199_990, 200_000)],
+};
+
+const FEWER: Spanned = Spanned {
+    length: 140_000,
+    spans: &[(60_000, 139_999)],
+};
+
+#[test]
+fn long_new_sets(rt: HostRuntime) -> Result<(), Fail> {
+    let both = Spanned::new(140_000, &[(60_000, 70_000), (131_000, 131_100)]);
+    let either = Spanned::new(200_000, &[(0, 139_999), (199_990, 200_000)]);
+    let one = Spanned::new(
+        200_000,
+        &[
+            (0, 60_000),
+            (70_000, 131_000),
+            (131_100, 139_999),
+            (199_990, 200_000),
+        ],
+    );
+    for (call, made) in [
+        (Joining::Bitand, both),
+        (Joining::Bitor, either),
+        (Joining::Bitxor, one),
+    ] {
+        let row = Made {
+            first: MANY,
+            call,
+            second: FEWER,
+            made,
+        };
+        assert_made(&rt, rt.alloc(), &[row])?;
+    }
+    Ok(())
+}
+
 #[test]
 fn counts(rt: HostRuntime) -> Result<(), Fail> {
     let a = Spanned::new(83, &[(47, 79)]);
@@ -235,6 +275,11 @@ fn counts(rt: HostRuntime) -> Result<(), Fail> {
             1,
         ),
         (ONE_OF_TWO, Counting::Union, ONE_OF_TWO, 12),
+        (MANY, Counting::Intersection, FEWER, 10_100),
+        (MANY, Counting::Union, FEWER, 140_009),
+        (MANY, Counting::Difference, FEWER, 60_010),
+        (FEWER, Counting::Difference, MANY, 69_899),
+        (MANY, Counting::SymmetricDifference, FEWER, 129_909),
     ] {
         let set = set_of(rt.alloc(), first)?;
         let other = set_of(rt.alloc(), second)?;
