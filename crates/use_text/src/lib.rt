@@ -1,82 +1,104 @@
-//! Rows of numbers in a text: what the programs `use_..` read.
+//! Rows of numbers in a text, and how a program reads its input and ends: what the programs `use_..` share.
 //!
 //! Each line of the text is a row. Its words stand between spaces, and each of them has to be a number: one or more
-//! decimal digits, of a value below 2 ^ 64 (`specs/Rows.antt`). A line without words is a row without numbers.
+//! decimal digits and nothing else, of a value below 2 ^ 64 (`specs/Rows.antt`). A line without words is a row without
+//! numbers. Where some line is not as it should be, there is a fault with the number of the first such line.
 #![tactic(auto)]
 
-ghost use Rattle.std.specs.Prelude.{◌≡◌, ◌==◌, ℕ, IfOk, IfErr, OnOk, All, map};
+ghost use Rattle.std.specs.Prelude.{◌≡◌, ◌+◌, ◌==◌, ℕ, IfOk, IfErr, OnOk, MatchOption, All, EachIndex, map};
 ghost use Rattle.std.specs.List.{slice_split};
-ghost use Rattle.std.specs.Result.{OkIff, IsErrOf};
+ghost use Rattle.std.specs.Option.{SomeIff};
 ghost use Rattle.std.specs.Str.Lines.{lines};
-ghost use Rattle.use_text.specs.Rows.{IsNumber, IsRow, value, row_of};
-ghost use Rattle.use_text.specs.declared.TextFault.TheVariants.{NotANumber};
+ghost use Rattle.use_text.specs.Rows.{IsNumber, IsRow, AreRowsOf, value, row_of};
+ghost use Rattle.use_text.specs.Faults.{IsFaultOfLine};
 
 use std::alloc::{AllocError, AllocFailed, Global};
 use thiserror::Error;
 
+pub mod program;
 #[cfg(test)]
 mod tests;
 
-/// Why there are no rows.
+/// The numbers of a line.
+#[derive(Debug, Drop)]
+pub struct Row {
+    /// The number of the line, from 1 on.
+    pub line: usize,
+    pub numbers: Vec<usize>,
+}
+
+/// Why a text has no answer.
 #[derive(Debug, Drop, Error)]
-pub enum TextFault {
+pub enum Fault {
     /// Memory was refused.
     #[error("out of memory")]
     Memory,
-    /// Some word is not a number.
-    #[error("not a number")]
-    NotANumber,
+    /// The input cannot be read.
+    #[error("the input cannot be read")]
+    Input,
+    /// The line of this number, from 1 on, is not as the sentence says.
+    #[error("line {0}: {1}")]
+    Line(usize, &'static str),
 }
 
-impl From<AllocError> for TextFault {
-    ghost use Rattle.use_text.specs.declared.TextFault.TheVariants.{Memory};
+impl From<AllocError> for Fault {
+    ghost use Rattle.use_text.specs.declared.Fault.TheVariants.{Memory};
 
     ghost from_gives = { λ _ fault. fault ≡ Memory };
 
-    fn from(_refused: AllocError) -> TextFault {
-        TextFault::Memory
+    fn from(_refused: AllocError) -> Fault {
+        Fault::Memory
     }
 }
 
-impl<T: Drop> From<AllocFailed<T>> for TextFault {
-    ghost use Rattle.use_text.specs.declared.TextFault.TheVariants.{Memory};
+impl<T: Drop> From<AllocFailed<T>> for Fault {
+    ghost use Rattle.use_text.specs.declared.Fault.TheVariants.{Memory};
 
     ghost from_gives = { λ _ fault. fault ≡ Memory };
 
-    fn from(_refused: AllocFailed<T>) -> TextFault {
-        TextFault::Memory
+    fn from(_refused: AllocFailed<T>) -> Fault {
+        Fault::Memory
     }
 }
 
-/// The numbers of each line. `NotANumber` comes only where some word is not a number, and `Memory` only where memory was
-/// refused. It looks at each byte a fixed number of times.
-pub fn rows(alloc: Global, text: &str) -> Result<Vec<Vec<usize>>, TextFault>
-    ensures rows { IfOk result (λ rows. map (λ row. row.items) rows.items ≡ map row_of (lines text.now)) }
-    ensures numbers { OnOk result (All IsRow (lines text.now)) }
-    ensures fault { IsErrOf result NotANumber → ¬ (All IsRow (lines text.now)) }
+/// The numbers of each line, with the number of the line. It looks at each byte a fixed number of times.
+///
+/// The fault is that memory was refused, or it has the first line that is not a row of numbers.
+pub fn rows(alloc: Global, text: &str) -> Result<Vec<Row>, Fault>
+    ensures rows { IfOk result (λ rows. AreRowsOf (lines text.now) rows.items) }
+    ensures fault { IfErr result (IsFaultOfLine IsRow (lines text.now)) }
 {
     let lines = lines_of(alloc, text)?;
     let mut rows = Vec::new(alloc);
     for line in &lines {
-        rows.push(row(alloc, line)?)?;
+        let number = rows.len() + 1;
+        let Some(numbers) = numbers_of(alloc, line)? else {
+            return Err(Fault::Line(number, "each word has to be a number below 2^64"));
+        };
+        rows.push(Row {
+            line: number,
+            numbers,
+        })?;
     }
     Ok(rows)
 }
 
-// The numbers of one line.
-fn row(alloc: Global, line: &str) -> Result<Vec<usize>, TextFault>
-    ensures row { IfOk result (λ row. row.items ≡ row_of line.now) }
-    ensures numbers { OnOk result (IsRow line.now) }
-    ensures fault { IsErrOf result NotANumber → ¬ (IsRow line.now) }
+/// The numbers of one line. `None` comes exactly where some word of it is not a number.
+pub fn numbers_of(alloc: Global, line: &str) -> Result<Option<Vec<usize>>, AllocError>
+    ensures { IfOk result (λ read. MatchOption read (¬ (IsRow line.now))
+        (λ numbers. IsRow line.now × (numbers.items ≡ row_of line.now))) }
 {
     let words = pieces_of(alloc, line)?;
     let mut numbers = Vec::new(alloc);
     for word in &words {
         if !word.is_empty() {
-            numbers.push(number(word)?)?;
+            let Some(number) = number(word) else {
+                return Ok(None);
+            };
+            numbers.push(number)?;
         }
     }
-    Ok(numbers)
+    Ok(Some(numbers))
 }
 
 fn lines_of<'a>(alloc: Global, text: &'a str) -> Result<Vec<&'a str>, AllocError>
@@ -92,12 +114,12 @@ fn pieces_of<'a>(alloc: Global, line: &'a str) -> Result<Vec<&'a str>, AllocErro
     line.split(' ').collect(alloc)
 }
 
-fn number(word: &str) -> Result<usize, TextFault>
-    ensures value { OkIff result (IsNumber word.now) (value word.now) }
-    ensures fault { IfErr result (λ fault. fault ≡ NotANumber) }
+// `parse` would take a plus before the digits.
+fn number(word: &str) -> Option<usize>
+    ensures { SomeIff result (IsNumber word.now) (value word.now) }
 {
-    match word.parse() {
-        Ok(number) => Ok(number),
-        Err(_) => Err(TextFault::NotANumber),
+    if word.starts_with('+') {
+        return None;
     }
+    word.parse().ok()
 }
