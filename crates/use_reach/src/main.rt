@@ -1,39 +1,63 @@
 //! Reads a graph from standard input, and prints the nodes that a walk from its start reaches, one a line.
 //!
 //! The first line is the start. The next is the row of node 0: the nodes that an edge from it leads to; and so on, a row
-//! for each node.
+//! for each node. Where some line is not as said here, or names a node that there is not, nothing is answered but one
+//! sentence on standard error with the number of that line, and the status is 1.
 #![tactic(auto)]
 
+ghost use Rattle.std.specs.Prelude.{◌≡◌, IfOk, IfErr, map, length};
+ghost use Rattle.use_text.specs.Faults.{IsFaultOfRow};
+ghost use Rattle.use_reach.specs.Reach.{IsGraph, AreNodes};
+
 use fixedbitset::Steps;
-use reach::{is_graph, reachable};
+use reach::{are_nodes, reachable};
 use std::alloc::Global;
-use std::io;
+use std::fmt::Write;
+use std::process::ExitCode;
+use use_text::program::{finish, read};
+use use_text::{Fault, Row};
 
 mod reach;
 #[cfg(test)]
 mod tests;
 
-fn main(rt: HostRuntime) -> io::Result<()> {
-    let text = io::read_to_string(rt.alloc(), rt.reader())?;
-    match use_text::rows(rt.alloc(), text.as_str()) {
-        Ok(rows) => print_reached(&rt, rt.alloc(), &rows),
-        Err(fault) => println!(rt; "{fault}"),
-    }
+fn main(rt: HostRuntime) -> ExitCode {
+    let alloc = rt.alloc();
+    let answer = read(alloc, &mut rt.stdin()).and_then(|text| answer(alloc, text.as_str()));
+    finish(&rt, &answer, &mut rt.stdout())
 }
 
-fn print_reached(rt: &impl Print, alloc: Global, rows: &[Vec<usize>]) -> io::Result<()> {
-    let Some((first, graph)) = rows.split_first() else {
-        return println!(rt; "no start");
+fn answer(alloc: Global, text: &str) -> Result<String, Fault> {
+    let rows = use_text::rows(alloc, text)?;
+    let Some((first, others)) = rows.split_first() else {
+        return Err(Fault::Line(1, "the start is missing"));
     };
-    let [start] = *first.as_slice() else {
-        return println!(rt; "no start");
+    let start = match *first.numbers.as_slice() {
+        [start] if start < others.len() => start,
+        _ => return Err(Fault::Line(first.line, "the start has to be one node")),
     };
-    if start >= graph.len() || !is_graph(graph) {
-        return println!(rt; "no such node");
+    let graph = graph_of(alloc, others)?;
+    let reached = reachable(alloc, &graph, start, &mut Steps::new(), &mut Steps::new())?;
+    let mut answer = String::new(alloc);
+    for node in reached.ones() {
+        writeln!(answer, "{node}")?;
     }
-    let nodes = reachable(alloc, graph, start, &mut Steps::new(), &mut Steps::new())?;
-    for node in nodes.ones() {
-        println!(rt; "{node}")?;
+    Ok(answer)
+}
+
+// The graph that has these rows. The fault has the first row with an edge to no node.
+fn graph_of(alloc: Global, rows: &[Row]) -> Result<Vec<Vec<usize>>, Fault>
+    ensures graph { IfOk result (λ graph. IsGraph graph.items) }
+    ensures rows { IfOk result (λ graph.
+        map (λ row. row.items) graph.items ≡ map (λ row. row.numbers.items) rows.now) }
+    ensures fault { IfErr result (IsFaultOfRow (AreNodes (length rows.now)) rows.now) }
+{
+    let mut graph = Vec::new(alloc);
+    for row in rows {
+        if !are_nodes(&row.numbers, rows.len()) {
+            return Err(Fault::Line(row.line, "each edge has to lead to a node"));
+        }
+        graph.push(row.numbers.to_vec(alloc)?)?;
     }
-    Ok(())
+    Ok(graph)
 }

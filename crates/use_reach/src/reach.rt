@@ -6,9 +6,9 @@
 //! What [`reachable`] promises: its answer has exactly the nodes that are reachable. It takes each of them once, and looks
 //! once at each edge that leads from one of them.
 
-ghost use Rattle.std.specs.Prelude.{◌≡◌, ◌+◌, ◌<◌, ◌≤◌, ◌↔◌, ℕ, IsTrue, IfOk, All, length};
+ghost use Rattle.std.specs.Prelude.{◌≡◌, ◌+◌, ◌<◌, ◌≤◌, ◌↔◌, ℕ, IsTrue, IfOk, length};
 ghost use Rattle.fixedbitset.specs.Bits.{contains};
-ghost use Rattle.use_reach.specs.Reach.{IsGraph, IsReachable, size, edges_from, edge_count};
+ghost use Rattle.use_reach.specs.Reach.{IsGraph, AreNodes, IsReachable, size, edges_from, edge_count};
 
 use fixedbitset::{FixedBitSet, Steps};
 use std::alloc::{AllocError, Global};
@@ -18,12 +18,12 @@ pub fn is_graph(graph: &[Vec<usize>]) -> bool
     ensures { IsTrue result ↔ IsGraph graph.now }
 {
     let nodes = graph.len();
-    graph.iter().all(|row| are_below(row, nodes))
+    graph.iter().all(|row| are_nodes(row, nodes))
 }
 
-// Whether each of the row is below `nodes`.
-fn are_below(row: &[usize], nodes: usize) -> bool
-    ensures { IsTrue result ↔ All (λ node. node < nodes) row.now }
+/// Whether each of the row is a node, where there are so many.
+pub fn are_nodes(row: &[usize], nodes: usize) -> bool
+    ensures { IsTrue result ↔ AreNodes nodes row.now }
 {
     row.iter().all(|node| *node < nodes)
 }
