@@ -5,7 +5,7 @@ use Rattle.std.proofs.lemmas.List.{get_or-set_other, get_or-set_same, get_or_def
 use Rattle.std.proofs.lemmas.List.Elements.{All-set, All-weaker}
 use Rattle.std.proofs.Math.Seq.{get_or-append_seam}
 use Rattle.fixedbitset.specs.Bits.{Bits, contains, empty, insert, remove}
-use Rattle.fixedbitset.specs.BitsFacts.{length-empty}
+use Rattle.fixedbitset.specs.BitsFacts.{contains_below, length-empty}
 use Rattle.fixedbitset.specs.TwoSets.{bitand}
 use Rattle.use_access.specs.Policies.{Rights, Has}
 use Rattle.fixedbitset.specs.MemberFacts.{in_empty, in_insert, in_remove, in_bitand}
@@ -120,3 +120,11 @@ sized_at_first rights sets blank = All-weaker (λ s. s ≡ empty rights) (λ s. 
 pub sized_after : (rights : ℕ) (sets : List Bits) (role : ℕ) (old new : Bits) → old ≡ get_or sets role old → role < length sets → new.length ≡ old.length → All (λ s. s.length ≡ rights) sets → All (λ s. s.length ≡ rights) (set sets role new)
 sized_after rights sets role old new is within same sized =
     All-set (λ (s : Bits). s.length ≡ rights) sets role new (same ∙ ap (λ (s : Bits). s.length) is ∙ sized role old within) sized
+
+-- no role has another right
+pub right_below : (rights : ℕ) (sets : List Bits) (r x : ℕ) → All (λ s. s.length ≡ rights) sets → In sets r x → x < rights
+right_below rights sets r x sized one =
+    ⊎_elim
+    (λ (within : r < length sets). let below = contains_below (get_or sets r (empty 0)) x one in let long = sized r (empty 0) within in omega arith)
+    (λ (past : length sets ≤ r). absurd (none_past sets r x past one))
+    (cases_lt r (length sets))

@@ -1,80 +1,130 @@
 //! Reads two policies from standard input, and answers by their intersection who may do what.
 //!
-//! The first line is how many roles and how many rights there are. Three parts follow, each with an empty line before it:
-//! what the first policy grants, what the second one grants, and the questions. A line of the first two is a role and a
-//! right. A question is a role and the rights asked for, and the answer is `yes` or `no`.
+//! The first line is how many roles and how many rights there are, at most 10,000 of each. Three parts follow, each with an
+//! empty line before it: what the first policy grants, what the second one grants, and the questions. A line of the first
+//! two is a role and a right that there are. A question is a role and the rights asked for, and the answer is `yes` or
+//! `no`. It is `no` where there is no such role or right.
+//!
+//! Each policy has exactly the grants of its lines. Where some line is not as said here, nothing is answered but one
+//! sentence on standard error with the number of that line, and the status is 1.
 #![tactic(auto)]
+
+ghost use Rattle.std.specs.Prelude.{◌≡◌, ◌<◌, ◌↔◌, [], ◌∷◌, ℕ, MatchOption, IfOk, IfErr, OnOk, IsTrue, Contains, length};
+ghost use Rattle.use_text.specs.Faults.{AreAll, IsFaultOfRow};
+ghost use Rattle.use_access.specs.Policies.{Has};
+ghost use Rattle.use_access.specs.Lines.{IsGrant, IsQuestion, HasGrants};
 
 use fixedbitset::FixedBitSet;
 use policies::Policy;
 use std::alloc::{AllocError, Global};
-use std::io;
+use std::process::ExitCode;
+use use_text::program::{finish, read};
+use use_text::{Fault, Row};
 
 mod policies;
 #[cfg(test)]
 mod tests;
 
-fn main(rt: HostRuntime) -> io::Result<()> {
-    let text = io::read_to_string(rt.alloc(), rt.reader())?;
-    match use_text::rows(rt.alloc(), text.as_str()) {
-        Ok(rows) => print_answers(&rt, rt.alloc(), &rows),
-        Err(fault) => println!(rt; "{fault}"),
-    }
+// How many roles there may be, and how many rights.
+const LIMIT: usize = 10_000;
+
+fn main(rt: HostRuntime) -> ExitCode {
+    let alloc = rt.alloc();
+    let answer = read(alloc, &mut rt.stdin()).and_then(|text| answers(alloc, text.as_str()));
+    finish(&rt, &answer, &mut rt.stdout())
 }
 
-fn print_answers(rt: &impl Print, alloc: Global, rows: &[Vec<usize>]) -> io::Result<()> {
-    let mut parts = rows.split(|row| row.is_empty());
-    let (Some([size]), Some(first), Some(second), Some(questions)) = (
-        parts.next(),
-        parts.next(),
-        parts.next(),
-        parts.next(),
-    ) else {
-        return println!(rt; "a part is missing");
+fn answers(alloc: Global, text: &str) -> Result<String, Fault> {
+    let rows = use_text::rows(alloc, text)?;
+    let Some((size, others)) = rows.split_first() else {
+        return Err(Fault::Line(1, "the numbers of roles and rights are missing"));
     };
-    let [roles, rights] = *size.as_slice() else {
-        return println!(rt; "no number of roles and rights");
+    let [roles @ 0..=LIMIT, rights @ 0..=LIMIT] = *size.numbers.as_slice() else {
+        let wanted = "there have to be two numbers, of roles and of rights, up to 10,000";
+        return Err(Fault::Line(size.line, wanted));
+    };
+    let mut parts = others.splitn(4, |row| row.numbers.is_empty());
+    let (first, second, questions) = match (
+        parts.next(),
+        parts.next(),
+        parts.next(),
+        parts.next(),
+    ) {
+        (Some([]), Some(first), Some(second), Some(questions)) => (first, second, questions),
+        (Some([row, ..]), _, _, _) => {
+            return Err(Fault::Line(row.line, "an empty line has to stand here"));
+        }
+        _ => return Err(Fault::Line(rows.len() + 1, "a part is missing")),
     };
     let first = policy_of(alloc, roles, rights, first)?;
     let second = policy_of(alloc, roles, rights, second)?;
-    let both = first.both(alloc, &second)?;
-    for question in questions {
-        let answer = is_allowed(alloc, &both, question)?;
-        println!(rt; "{}", if answer { "yes" } else { "no" })?;
-    }
-    Ok(())
+    answers_of(alloc, &first.both(alloc, &second)?, questions)
 }
 
-// The policy of these grants. Those of a role or a right that there is not are left out.
-fn policy_of(
-    alloc: Global,
-    roles: usize,
-    rights: usize,
-    grants: &[Vec<usize>],
-) -> Result<Policy, AllocError> {
+// The policy that gives exactly what these rows grant. The fault has the first row that is no grant.
+fn policy_of(alloc: Global, roles: usize, rights: usize, rows: &[Row]) -> Result<Policy, Fault>
+    ensures roles { IfOk result (λ policy. length policy.roles ≡ roles) }
+    ensures rights { IfOk result (λ policy. policy.rights ≡ rights) }
+    ensures grants { IfOk result (λ policy. HasGrants rows.now policy) }
+    ensures each { OnOk result (AreAll (IsGrant roles rights) rows.now) }
+    ensures fault { IfErr result (IsFaultOfRow (IsGrant roles rights) rows.now) }
+{
     let mut policy = Policy::new(alloc, roles, rights)?;
-    for grant in grants {
-        if let [role, right] = *grant.as_slice()
-            && role < policy.roles()
-            && right < policy.rights()
-        {
-            policy.grant(role, right);
-        }
+    for row in rows {
+        let Some((role, right)) = grant_of(&row.numbers, roles, rights) else {
+            return Err(Fault::Line(row.line, "a grant has to be a role and a right"));
+        };
+        policy.grant(role, right);
     }
     Ok(policy)
 }
 
-// Whether the role that the question begins with has each of the rights behind it.
-fn is_allowed(alloc: Global, policy: &Policy, question: &[usize]) -> Result<bool, AllocError> {
-    let Some((role, rights)) = question.split_first() else {
+// The role and the right of a grant. `None` comes exactly where the numbers are none.
+fn grant_of(numbers: &[usize], roles: usize, rights: usize) -> Option<(usize, usize)>
+    ensures { MatchOption result (¬ (IsGrant roles rights numbers.now))
+        (λ grant. IsGrant roles rights numbers.now × (numbers.now ≡ grant.0 ∷ grant.1 ∷ [])) }
+{
+    match *numbers {
+        [role, right] if role < roles && right < rights => Some((role, right)),
+        _ => None,
+    }
+}
+
+// A line for each question. The fault has the first row that has no role.
+fn answers_of(alloc: Global, policy: &Policy, rows: &[Row]) -> Result<String, Fault>
+    ensures each { OnOk result (AreAll IsQuestion rows.now) }
+    ensures fault { IfErr result (IsFaultOfRow IsQuestion rows.now) }
+{
+    let mut answers = String::new(alloc);
+    for row in rows {
+        let Some((role, rights)) = row.numbers.split_first() else {
+            return Err(Fault::Line(row.line, "a question has to begin with a role"));
+        };
+        let answer = is_allowed(alloc, policy, *role, rights)?;
+        answers.push_str(if answer { "yes\n" } else { "no\n" })?;
+    }
+    Ok(answers)
+}
+
+// Whether there is the role, and it has each of these rights.
+fn is_allowed(
+    alloc: Global,
+    policy: &Policy,
+    role: usize,
+    rights: &[usize],
+) -> Result<bool, AllocError>
+    ensures { IfOk result (λ answer. IsTrue answer ↔ ((role < length policy.now.roles)
+        × ((right : ℕ) → Contains rights.now right → Has policy.now role right))) }
+{
+    if role >= policy.roles() {
         return Ok(false);
-    };
+    }
     let mut asked = FixedBitSet::with_capacity(alloc, policy.rights())?;
     for right in rights {
-        if *right >= asked.len() {
+        if *right >= policy.rights() {
             return Ok(false);
         }
         asked.insert(*right);
     }
-    Ok(*role < policy.roles() && policy.allows(*role, &asked))
+    Ok(policy.allows(role, &asked))
 }

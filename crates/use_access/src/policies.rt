@@ -57,9 +57,10 @@ impl Policy {
         self.roles.len()
     }
 
-    /// How many rights there are.
+    /// How many rights there are. No role has another one.
     pub fn rights(&self) -> usize
-        ensures { result ≡ self.now.rights }
+        ensures count { result ≡ self.now.rights }
+        ensures all { (role right : ℕ) → Has self.now role right → right < result }
     {
         self.rights
     }
