@@ -1,80 +1,126 @@
 //! Reads a nondeterministic automaton from standard input, makes it deterministic, and prints which words it accepts.
 //!
-//! The first line is how many states and how many letters there are, the second the start states, and the third the
-//! accepting states. Then come the edges, each as a state, a letter and a state, and an empty line. Each further line is a
-//! word. The first line of the answer is how many states the deterministic automaton has, and the others are `yes` or `no`,
-//! one a word.
+//! The first line is how many states and how many letters there are, at most 1,000 and at most 100. The second line is the
+//! start states, and the third the accepting states. Then come the edges, each as a state, a letter and a state, and an
+//! empty line. Each further line is a word. The first line of the answer is how many states the deterministic automaton
+//! has, 1,000 at most, and the others are `yes` or `no`, one a word.
+//!
+//! The automaton has exactly the states and edges of its lines. Where some line is not as said here, nothing is answered
+//! but one sentence on standard error with the number of that line, and the status is 1. An automaton that would have too
+//! many states is a fault of its first line.
 #![tactic(auto)]
+
+ghost use Rattle.std.specs.Prelude.{◌≡◌, ◌<◌, ◌↔◌, ℕ, [], ◌∷◌, MatchOption, IfOk, IfErr, IsTrue, All, Contains, map};
+ghost use Rattle.fixedbitset.specs.Bits.{contains};
+ghost use Rattle.use_text.specs.Faults.{IsFaultOfRow};
+ghost use Rattle.use_subsets.specs.Lines.{AreStates, IsEdge, IsBetween};
 
 use automata::Nfa;
 use fixedbitset::FixedBitSet;
-use std::alloc::{AllocError, Global};
-use std::io;
+use std::alloc::Global;
+use std::fmt::Write;
+use std::process::ExitCode;
 use subsets::determinize;
+use use_text::program::{finish, read};
+use use_text::{Fault, Row};
 
 mod automata;
 mod subsets;
 #[cfg(test)]
 mod tests;
 
-// How many states the deterministic automaton may have.
-const LIMIT: usize = 1000;
+// How many states either automaton may have, and how many letters there may be.
+const STATES: usize = 1_000;
 
-fn main(rt: HostRuntime) -> io::Result<()> {
-    let text = io::read_to_string(rt.alloc(), rt.reader())?;
-    match use_text::rows(rt.alloc(), text.as_str()) {
-        Ok(rows) => print_answers(&rt, rt.alloc(), &rows),
-        Err(fault) => println!(rt; "{fault}"),
-    }
+const LETTERS: usize = 100;
+
+fn main(rt: HostRuntime) -> ExitCode {
+    let alloc = rt.alloc();
+    let answer = read(alloc, &mut rt.stdin()).and_then(|text| answers(alloc, text.as_str()));
+    finish(&rt, &answer, &mut rt.stdout())
 }
 
-fn print_answers(rt: &impl Print, alloc: Global, rows: &[Vec<usize>]) -> io::Result<()> {
-    let [size, start, accepting, others @ ..] = rows else {
-        return println!(rt; "a line is missing");
+fn answers(alloc: Global, text: &str) -> Result<String, Fault> {
+    let rows = use_text::rows(alloc, text)?;
+    let [size, start, accepting, others @ ..] = rows.as_slice() else {
+        return Err(Fault::Line(rows.len() + 1, "a line is missing"));
     };
-    let [states, letters] = *size.as_slice() else {
-        return println!(rt; "no number of states and letters");
+    let [states @ 0..=STATES, letters @ 0..=LETTERS] = *size.numbers.as_slice() else {
+        let wanted = "there have to be two numbers, of states up to 1,000 and of letters up to 100";
+        return Err(Fault::Line(size.line, wanted));
     };
-    let mut parts = others.splitn(2, |row| row.is_empty());
+    let start = set_of(alloc, states, start)?;
+    let accepting = set_of(alloc, states, accepting)?;
+    let mut parts = others.splitn(2, |row| row.numbers.is_empty());
+    let (Some(edges), Some(words)) = (parts.next(), parts.next()) else {
+        return Err(Fault::Line(rows.len() + 1, "an empty line has to follow the edges"));
+    };
     let nfa = Nfa {
         states,
         letters,
-        edges: edges_of(alloc, parts.next().unwrap_or(&[]))?,
-        start: set_of(alloc, states, start)?,
-        accepting: set_of(alloc, states, accepting)?,
+        edges: edges_of(alloc, states, letters, edges)?,
+        start,
+        accepting,
     };
-    if !nfa.is_valid() {
-        return println!(rt; "no automaton");
-    }
-    let dfa = match determinize(alloc, &nfa, LIMIT) {
-        Ok(Some(dfa)) => dfa,
-        Ok(None) => return println!(rt; "too many states"),
-        Err(_refused) => return println!(rt; "out of memory"),
+    let Some(dfa) = determinize(alloc, &nfa, STATES)? else {
+        return Err(Fault::Line(size.line, "the automaton would have more than 1,000 states"));
     };
-    println!(rt; "{}", dfa.sets.len())?;
-    for word in parts.next().unwrap_or(&[]) {
-        println!(rt; "{}", if dfa.accepts(word) { "yes" } else { "no" })?;
+    let mut answers = String::new(alloc);
+    writeln!(answers, "{}", dfa.sets.len())?;
+    for word in words {
+        let answer = dfa.accepts(&word.numbers);
+        answers.push_str(if answer { "yes\n" } else { "no\n" })?;
     }
-    Ok(())
+    Ok(answers)
 }
 
-// The set of this length that has these positions. Those past its length are left out.
-fn set_of(alloc: Global, length: usize, positions: &[usize]) -> Result<FixedBitSet, AllocError> {
-    let mut set = FixedBitSet::with_capacity(alloc, length)?;
-    for position in positions {
-        if *position < set.len() {
-            set.insert(*position);
+// The set of the states of a row. The fault has the row, which has a number that is no state.
+fn set_of(alloc: Global, states: usize, row: &Row) -> Result<FixedBitSet, Fault>
+    ensures sized { IfOk result (λ set. set.length ≡ states) }
+    ensures members { IfOk result (λ set. (q : ℕ) → IsTrue (contains set q) ↔ Contains row.now.numbers.items q) }
+    ensures fault { IfErr result (IsFaultOfRow (AreStates states) (row.now ∷ [])) }
+{
+    let mut set = FixedBitSet::with_capacity(alloc, states)?;
+    for state in &row.numbers {
+        if *state >= states {
+            return Err(Fault::Line(row.line, "each number has to be a state"));
         }
+        set.insert(*state);
     }
     Ok(set)
 }
 
-// The edges of these rows. A row of another number of numbers is left out.
-fn edges_of(alloc: Global, rows: &[Vec<usize>]) -> Result<Vec<(usize, usize, usize)>, AllocError> {
-    rows.iter()
-        .filter_map(|row| match *row.as_slice() {
-            [from, letter, to] => Some((from, letter, to)),
-            _ => None,
-        })
-        .collect(alloc)
+// The edges of these rows, one each. The fault has the first row that is no edge.
+fn edges_of(
+    alloc: Global,
+    states: usize,
+    letters: usize,
+    rows: &[Row],
+) -> Result<Vec<(usize, usize, usize)>, Fault>
+    ensures edges { IfOk result (λ edges.
+        map (λ edge. edge.0 ∷ edge.1 ∷ edge.2 ∷ []) edges.items ≡ map (λ row. row.numbers.items) rows.now) }
+    ensures between { IfOk result (λ edges. All (IsBetween states letters) edges.items) }
+    ensures fault { IfErr result (IsFaultOfRow (IsEdge states letters) rows.now) }
+{
+    let mut edges = Vec::new(alloc);
+    for row in rows {
+        let Some(edge) = edge_of(&row.numbers, states, letters) else {
+            return Err(Fault::Line(row.line, "an edge has to be a state, a letter and a state"));
+        };
+        edges.push(edge)?;
+    }
+    Ok(edges)
+}
+
+// The numbers of an edge. `None` comes exactly where they are none.
+fn edge_of(numbers: &[usize], states: usize, letters: usize) -> Option<(usize, usize, usize)>
+    ensures { MatchOption result (¬ (IsEdge states letters numbers.now))
+        (λ edge. IsBetween states letters edge × (numbers.now ≡ edge.0 ∷ edge.1 ∷ edge.2 ∷ [])) }
+{
+    match *numbers {
+        [from, letter, to] if from < states && letter < letters && to < states => {
+            Some((from, letter, to))
+        }
+        _ => None,
+    }
 }

@@ -4,12 +4,22 @@ ghost use Rattle.std.specs.Prelude.{IfOk};
 ghost use Rattle.use_subsets.specs.Automata.{IsDfa};
 
 use crate::automata::{Dfa, Nfa};
-use crate::set_of;
 use crate::subsets::determinize;
 use fixedbitset::FixedBitSet;
 use std::alloc::{AllocError, Global};
 use std::process::Abort;
 use std::test::Fail;
+
+// The set of this length that has these positions. Those past its length are left out.
+fn set_of(alloc: Global, length: usize, positions: &[usize]) -> Result<FixedBitSet, AllocError> {
+    let mut set = FixedBitSet::with_capacity(alloc, length)?;
+    for position in positions {
+        if *position < set.len() {
+            set.insert(*position);
+        }
+    }
+    Ok(set)
+}
 
 fn automaton(
     alloc: Global,
