@@ -2,10 +2,14 @@
 //! statement, by its number from 0 on, the variables that are live before it. It looks at no arguments.
 //!
 //! Variables are the letters a to z. A line says what its statement defines, what it uses, and the numbers of those that
-//! may come next, as `x = y z -> 2 3`. What is no such line, or names a statement that is not there, is an error.
+//! may come next, as `x = y z -> 2 3`. Where some line is no such line, or names a statement that there is not, nothing is
+//! answered but one sentence on standard error with the number of that line, from 1 on, and the status is 1.
 #![tactic(auto)]
 
-ghost use Rattle.std.specs.Prelude.{◌≡◌, IfOk};
+ghost use Rattle.std.specs.Prelude.{◌≡◌, ℕ, ◌+◌, ◌<◌, ◌≤◌, ◌⊎◌, ◌↔◌, MatchOption, IfOk, IfSome, IsTrue, All, Contains};
+ghost use Rattle.fixedbitset.specs.Bits.{contains};
+ghost use Rattle.flow.specs.Flow.{IsProblem};
+ghost use Rattle.use_live.specs.Lines.{AreLetters, AreVariables};
 
 mod live;
 #[cfg(test)]
@@ -13,12 +17,23 @@ mod tests;
 
 use crate::live::live_before;
 use fixedbitset::FixedBitSet;
-use flow::is_problem;
-use std::alloc::Global;
-use std::io;
+use std::alloc::{AllocError, Global};
+use std::fmt::Write;
+use std::process::ExitCode;
+use use_text::program::{finish, read};
+use use_text::{Fault, numbers_of};
 
 /// All variables, each at the position that stands for it.
 const LETTERS: &[u8; 26] = b"abcdefghijklmnopqrstuvwxyz";
+
+/// A line that was read.
+#[derive(Drop)]
+struct Statement {
+    defines: FixedBitSet,
+    uses: FixedBitSet,
+    // The numbers of those that may come next.
+    next: Vec<usize>,
+}
 
 /// The statements that were read.
 #[derive(Drop)]
@@ -29,65 +44,102 @@ struct Program {
     next: Vec<(usize, usize)>,
 }
 
-fn main(rt: HostRuntime) -> io::Result<()> {
+fn main(rt: HostRuntime) -> ExitCode {
     let alloc = rt.alloc();
-    let mut program = Program {
-        uses: Vec::new(alloc),
-        defines: Vec::new(alloc),
-        next: Vec::new(alloc),
-    };
-    for line in rt.lines(alloc) {
-        read_statement(alloc, &mut program, line?.as_str())?;
-    }
-    let uses = program.uses.as_slice();
-    let defines = program.defines.as_slice();
-    let next = program.next.as_slice();
-    if !is_problem(LETTERS.len(), next, uses, defines) {
-        return Err(invalid());
-    }
-    let live = live_before(alloc, LETTERS.len(), next, uses, defines)?;
+    let answer = read(alloc, &mut rt.stdin()).and_then(|text| answers(alloc, text.as_str()));
+    finish(&rt, &answer, &mut rt.stdout())
+}
+
+fn answers(alloc: Global, text: &str) -> Result<String, Fault> {
+    let Program {
+        uses,
+        defines,
+        next,
+    } = program_of(alloc, text)?;
+    let live = live_before(alloc, LETTERS.len(), &next, &uses, &defines)?;
+    let mut answers = String::new(alloc);
     for (number, variables) in live.iter().enumerate() {
-        print!(rt; "{number}:")?;
+        write!(answers, "{number}:")?;
         for (variable, letter) in LETTERS.iter().enumerate() {
             if variables.contains(variable) {
                 let letter = char::from(*letter);
-                print!(rt; " {letter}")?;
+                write!(answers, " {letter}")?;
             }
         }
-        println!(rt)?;
+        answers.push('\n')?;
     }
-    Ok(())
+    Ok(answers)
 }
 
-// Adds the statement of a line.
-fn read_statement(alloc: Global, program: &mut Program, line: &str) -> io::Result<()> {
-    let (defined, rest) = line.split_once("=").ok_or(invalid())?;
-    let (used, numbers) = rest.split_once("->").ok_or(invalid())?;
-    for number in numbers.split_whitespace() {
-        let next = number.parse().map_err(|_| invalid())?;
-        program.next.push((program.uses.len(), next))?;
-    }
-    program.uses.push(read_variables(alloc, used)?)?;
-    program.defines.push(read_variables(alloc, defined)?)?;
-    Ok(())
-}
-
-// The set of the variables that a text names.
-#[tactic(auto, using(fixedbitset::specs::BitsFacts::facts))]
-fn read_variables(alloc: Global, text: &str) -> io::Result<FixedBitSet>
-    ensures { IfOk result (λ set. set.length ≡ 26) }
+// The program of these lines. The fault has the first line that is no statement, or else the first with a next statement
+// that there is not.
+fn program_of(alloc: Global, text: &str) -> Result<Program, Fault>
+    ensures { IfOk result (λ program.
+        IsProblem 26 program.next.items program.uses.items program.defines.items) }
 {
-    let mut set = FixedBitSet::with_capacity(alloc, LETTERS.len())?;
-    for byte in text.bytes() {
-        match byte {
-            b' ' => {}
-            b'a'..=b'z' => set.insert(usize::from(byte - b'a')),
-            _ => return Err(invalid()),
+    let mut uses = Vec::new(alloc);
+    let mut defines = Vec::new(alloc);
+    let mut next = Vec::new(alloc);
+    for line in text.lines() {
+        let from = uses.len();
+        let Some(statement) = statement_of(alloc, line)? else {
+            return Err(Fault::Line(from + 1, "a statement has to be as in x = y z -> 2 3"));
+        };
+        for to in &statement.next {
+            next.push((from, *to))?;
+        }
+        uses.push(statement.uses)?;
+        defines.push(statement.defines)?;
+    }
+    for (from, to) in &next {
+        if *to >= uses.len() {
+            return Err(Fault::Line(*from + 1, "each next statement has to be there"));
         }
     }
-    Ok(set)
+    Ok(Program {
+        uses,
+        defines,
+        next,
+    })
 }
 
-fn invalid() -> io::Error {
-    io::Error::from(io::ErrorKind::InvalidData)
+// The statement of a line, if it is one.
+fn statement_of(alloc: Global, line: &str) -> Result<Option<Statement>, AllocError>
+    ensures { IfOk result (λ read. IfSome read (λ statement.
+        (statement.defines.length ≡ 26) × (statement.uses.length ≡ 26))) }
+{
+    let Some((defined, rest)) = line.split_once('=') else {
+        return Ok(None);
+    };
+    let Some((used, numbers)) = rest.split_once("->") else {
+        return Ok(None);
+    };
+    let (Some(defines), Some(uses), Some(next)) = (
+        variables_of(alloc, defined)?,
+        variables_of(alloc, used)?,
+        numbers_of(alloc, numbers)?,
+    ) else {
+        return Ok(None);
+    };
+    Ok(Some(Statement {
+        defines,
+        uses,
+        next,
+    }))
+}
+
+// The set of the variables that a text names. `None` comes exactly where it has more than their letters and spaces.
+fn variables_of(alloc: Global, text: &str) -> Result<Option<FixedBitSet>, AllocError>
+    ensures { IfOk result (λ read. MatchOption read (¬ (AreLetters text.now))
+        (λ set. AreLetters text.now × AreVariables text.now set)) }
+{
+    let mut set = FixedBitSet::with_capacity(alloc, LETTERS.len())?;
+    for byte in text.as_bytes() {
+        match *byte {
+            b' ' => {}
+            b'a'..=b'z' => set.insert(usize::from(*byte - b'a')),
+            _ => return Ok(None),
+        }
+    }
+    Ok(Some(set))
 }
