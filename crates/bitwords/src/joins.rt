@@ -82,7 +82,7 @@ pub fn none<O: WordOp>(a: &[Block], b: &[Block], steps: &mut Steps) -> bool
 ///
 /// ```
 /// let new = joins::joined::<And>(alloc, &[11, 3, 1], &[9, 6])?;
-/// assert_eq!(rt; new, [9, 2, 0]);
+/// assert_eq!(rt; new.as_slice(), [9, 2, 0].as_slice());
 /// ```
 #[inline(always)]
 pub fn joined<O: WordOp>(
