@@ -26,9 +26,6 @@ insert_again v bit there = same_bits _ _ (length-insert v bit) (λ p.
 pub contained_below : (v : Bits) (bit : ℕ) → IsTrue (contains v bit) → bit < v.length
 contained_below v bit there = contains_below v bit there
 
-pub length_blank : (bits : ℕ) → (empty bits).length ≡ bits
-length_blank bits = length-empty bits
-
 -- a position of the range is one of the filled set
 pub contains_filled : (bits end bit : ℕ) → end ≤ bits → bit < end → IsTrue (contains (filled bits 0 end) bit)
 unfolding filled

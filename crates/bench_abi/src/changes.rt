@@ -1,6 +1,6 @@
 //! Calls that change a set, under C names, each made for so many rounds.
 
-ghost use Rattle.std.specs.Prelude.{◌≡◌, ℕ, ◌-◌, ◌/◌, ◌^◌, ◌<◌, IfOk, OnOk};
+ghost use Rattle.std.specs.Prelude.{◌≡◌, ℕ, ◌-◌, ◌/◌, ◌^◌, ◌<◌, ◌≤◌, IfOk, OnOk};
 ghost use Rattle.fixedbitset.specs.Bits.{Bits, insert};
 ghost use Rattle.fixedbitset.specs.Ranges as ranges;
 ghost use Rattle.fixedbitset.specs.TwoSets as sets;
@@ -127,33 +127,32 @@ fn change_for<C: Change>(
     Ok(())
 }
 
-// Changes the lower half of the positions by the upper one, for so many rounds. It answers how many are left.
+// Changes the lower half of the positions, for so many rounds, by a set of `other_bits` positions that has those from
+// `start` on. It answers how many are left.
 #[inline(always)]
 #[tactic(auto, unfolding(crate::specs::Rounds::size))]
-fn changed<C: Change>(alloc: Global, bits: usize, rounds: usize) -> Result<usize, AllocError>
-    ensures { IfOk result (λ left. left ≡ size (after (λ v. C.gives v (upper bits)) rounds (lower bits))) }
+fn changed<C: Change>(
+    alloc: Global,
+    bits: usize,
+    other_bits: usize,
+    start: usize,
+    rounds: usize,
+) -> Result<usize, AllocError>
+    requires { start ≤ other_bits }
+    ensures { IfOk result (λ left. left ≡ size (after (λ v. C.gives v (filled other_bits start other_bits)) rounds (lower bits))) }
 {
     let mut set = filled(alloc, bits, 0, bits / 2)?;
-    let other = filled(alloc, bits, bits / 2, bits)?;
+    let other = filled(alloc, other_bits, start, other_bits)?;
     change_for::<C>(&mut set, &other, rounds)?;
     Ok(set.count_ones(..))
 }
 
-// Changes the lower half of the positions by another set's, for so many rounds. It answers how many are left.
+// Changes the lower half of the positions by the upper one.
 #[inline(always)]
-#[tactic(auto, unfolding(crate::specs::Rounds::size))]
-fn changed_beside<C: Change>(
-    alloc: Global,
-    bits: usize,
-    other_bits: usize,
-    rounds: usize,
-) -> Result<usize, AllocError>
-    ensures { IfOk result (λ left. left ≡ size (after (λ v. C.gives v (full other_bits)) rounds (lower bits))) }
+fn halves<C: Change>(alloc: Global, bits: usize, rounds: usize) -> usize
+    ensures { result < 2 ^ 64 - 1 → result ≡ size (after (λ v. C.gives v (upper bits)) rounds (lower bits)) }
 {
-    let mut set = filled(alloc, bits, 0, bits / 2)?;
-    let other = filled(alloc, other_bits, 0, other_bits)?;
-    change_for::<C>(&mut set, &other, rounds)?;
-    Ok(set.count_ones(..))
+    changed::<C>(alloc, bits, bits, bits / 2, rounds).unwrap_or(REFUSED)
 }
 
 /// `insert_range(..)`, of the lower half of the positions: how many are left.
@@ -161,7 +160,7 @@ fn changed_beside<C: Change>(
 pub extern "C" fn sets_insert_range(alloc: Global, bits: usize, rounds: usize) -> usize
     ensures { result < 2 ^ 64 - 1 → result ≡ size (after (λ v. ranges.insert_range v 0 v.length) rounds (lower bits)) }
 {
-    changed::<InsertRange>(alloc, bits, rounds).unwrap_or(REFUSED)
+    halves::<InsertRange>(alloc, bits, rounds)
 }
 
 /// `toggle_range(..)`, of the lower half of the positions: how many are left.
@@ -169,7 +168,7 @@ pub extern "C" fn sets_insert_range(alloc: Global, bits: usize, rounds: usize) -
 pub extern "C" fn sets_toggle_range(alloc: Global, bits: usize, rounds: usize) -> usize
     ensures { result < 2 ^ 64 - 1 → result ≡ size (after (λ v. ranges.toggle_range v 0 v.length) rounds (lower bits)) }
 {
-    changed::<ToggleRange>(alloc, bits, rounds).unwrap_or(REFUSED)
+    halves::<ToggleRange>(alloc, bits, rounds)
 }
 
 /// `union_with`, of the lower half of the positions with the upper one: how many are left.
@@ -177,7 +176,7 @@ pub extern "C" fn sets_toggle_range(alloc: Global, bits: usize, rounds: usize) -
 pub extern "C" fn sets_union_with(alloc: Global, bits: usize, rounds: usize) -> usize
     ensures { result < 2 ^ 64 - 1 → result ≡ size (after (λ v. sets.union v (upper bits)) rounds (lower bits)) }
 {
-    changed::<UnionWith>(alloc, bits, rounds).unwrap_or(REFUSED)
+    halves::<UnionWith>(alloc, bits, rounds)
 }
 
 /// `intersect_with`, of the lower half of the positions with the upper one: how many are left.
@@ -185,7 +184,7 @@ pub extern "C" fn sets_union_with(alloc: Global, bits: usize, rounds: usize) -> 
 pub extern "C" fn sets_intersect_with(alloc: Global, bits: usize, rounds: usize) -> usize
     ensures { result < 2 ^ 64 - 1 → result ≡ size (after (λ v. sets.intersection v (upper bits)) rounds (lower bits)) }
 {
-    changed::<IntersectWith>(alloc, bits, rounds).unwrap_or(REFUSED)
+    halves::<IntersectWith>(alloc, bits, rounds)
 }
 
 /// `difference_with`, of the lower half of the positions with the upper one: how many are left.
@@ -193,7 +192,7 @@ pub extern "C" fn sets_intersect_with(alloc: Global, bits: usize, rounds: usize)
 pub extern "C" fn sets_difference_with(alloc: Global, bits: usize, rounds: usize) -> usize
     ensures { result < 2 ^ 64 - 1 → result ≡ size (after (λ v. sets.difference v (upper bits)) rounds (lower bits)) }
 {
-    changed::<DifferenceWith>(alloc, bits, rounds).unwrap_or(REFUSED)
+    halves::<DifferenceWith>(alloc, bits, rounds)
 }
 
 /// `symmetric_difference_with`, of the lower half of the positions with the upper one: how many are left.
@@ -201,7 +200,7 @@ pub extern "C" fn sets_difference_with(alloc: Global, bits: usize, rounds: usize
 pub extern "C" fn sets_symmetric_difference_with(alloc: Global, bits: usize, rounds: usize) -> usize
     ensures { result < 2 ^ 64 - 1 → result ≡ size (after (λ v. sets.symmetric_difference v (upper bits)) rounds (lower bits)) }
 {
-    changed::<SymmetricDifferenceWith>(alloc, bits, rounds).unwrap_or(REFUSED)
+    halves::<SymmetricDifferenceWith>(alloc, bits, rounds)
 }
 
 /// `intersect_with` beside a set of 64 positions, of the lower half of the positions with these: how many are left.
@@ -209,7 +208,7 @@ pub extern "C" fn sets_symmetric_difference_with(alloc: Global, bits: usize, rou
 pub extern "C" fn sets_intersect_with_short(alloc: Global, bits: usize, rounds: usize) -> usize
     ensures { result < 2 ^ 64 - 1 → result ≡ size (after (λ v. sets.intersection v (full 64)) rounds (lower bits)) }
 {
-    changed_beside::<IntersectWith>(alloc, bits, 64, rounds).unwrap_or(REFUSED)
+    changed::<IntersectWith>(alloc, bits, 64, 0, rounds).unwrap_or(REFUSED)
 }
 
 /// `put` of each position in turn, a round being all of them: how many are left.
@@ -217,5 +216,5 @@ pub extern "C" fn sets_intersect_with_short(alloc: Global, bits: usize, rounds: 
 pub extern "C" fn sets_put(alloc: Global, bits: usize, rounds: usize) -> usize
     ensures { result < 2 ^ 64 - 1 → result ≡ size (after (λ v. put_below v v.length) rounds (lower bits)) }
 {
-    changed::<PutEach>(alloc, bits, rounds).unwrap_or(REFUSED)
+    halves::<PutEach>(alloc, bits, rounds)
 }

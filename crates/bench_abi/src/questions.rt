@@ -274,13 +274,40 @@ fn asked<Q: Question>(
     Ok(ask_for::<Q>(&mut set, &other, rounds))
 }
 
+// Asks of the lower half of the positions and the upper one.
+#[inline(always)]
+fn halves<Q: Question>(alloc: Global, bits: usize, rounds: usize) -> usize
+    requires { 128 ≤ bits }
+    ensures { result < 2 ^ 64 - 1 → Q.Answers (lower bits) (upper bits) result }
+{
+    asked::<Q>(alloc, bits, bits / 2, bits / 2, rounds).unwrap_or(REFUSED)
+}
+
+// Asks of all positions and all.
+#[inline(always)]
+fn whole<Q: Question>(alloc: Global, bits: usize, rounds: usize) -> usize
+    requires { 64 ≤ bits }
+    ensures { result < 2 ^ 64 - 1 → Q.Answers (full bits) (full bits) result }
+{
+    asked::<Q>(alloc, bits, bits, 0, rounds).unwrap_or(REFUSED)
+}
+
+// Asks of the first 64 positions and none.
+#[inline(always)]
+fn first_word<Q: Question>(alloc: Global, bits: usize, rounds: usize) -> usize
+    requires { 64 ≤ bits }
+    ensures { result < 2 ^ 64 - 1 → Q.Answers (filled bits 0 64) (filled bits bits bits) result }
+{
+    asked::<Q>(alloc, bits, 64, bits, rounds).unwrap_or(REFUSED)
+}
+
 /// `count_ones(..)`, of the lower half of the positions.
 #[unsafe(no_mangle)]
 pub extern "C" fn sets_count_ones(alloc: Global, bits: usize, rounds: usize) -> usize
     requires { 128 ≤ bits }
     ensures { result < 2 ^ 64 - 1 → result ≡ ranges.count_ones (lower bits) 0 (lower bits).length }
 {
-    asked::<CountOnes>(alloc, bits, bits / 2, bits / 2, rounds).unwrap_or(REFUSED)
+    halves::<CountOnes>(alloc, bits, rounds)
 }
 
 /// `contains_all_in_range(..)`, of all positions: 1 where it answers `true`.
@@ -289,7 +316,7 @@ pub extern "C" fn sets_contains_all_in_range(alloc: Global, bits: usize, rounds:
     requires { 64 ≤ bits }
     ensures { result < 2 ^ 64 - 1 → (result == 1) ≡ ranges.contains_all (full bits) 0 (full bits).length }
 {
-    asked::<ContainsAll>(alloc, bits, bits, 0, rounds).unwrap_or(REFUSED)
+    whole::<ContainsAll>(alloc, bits, rounds)
 }
 
 /// `union_count`, of the lower half of the positions and the upper one.
@@ -298,7 +325,7 @@ pub extern "C" fn sets_union_count(alloc: Global, bits: usize, rounds: usize) ->
     requires { 128 ≤ bits }
     ensures { result < 2 ^ 64 - 1 → result ≡ sets.union_count (lower bits) (upper bits) }
 {
-    asked::<UnionCount>(alloc, bits, bits / 2, bits / 2, rounds).unwrap_or(REFUSED)
+    halves::<UnionCount>(alloc, bits, rounds)
 }
 
 /// `intersection_count`, of the lower half of the positions and the upper one.
@@ -307,7 +334,7 @@ pub extern "C" fn sets_intersection_count(alloc: Global, bits: usize, rounds: us
     requires { 128 ≤ bits }
     ensures { result < 2 ^ 64 - 1 → result ≡ sets.intersection_count (lower bits) (upper bits) }
 {
-    asked::<IntersectionCount>(alloc, bits, bits / 2, bits / 2, rounds).unwrap_or(REFUSED)
+    halves::<IntersectionCount>(alloc, bits, rounds)
 }
 
 /// `difference_count`, of the lower half of the positions and the upper one.
@@ -316,7 +343,7 @@ pub extern "C" fn sets_difference_count(alloc: Global, bits: usize, rounds: usiz
     requires { 128 ≤ bits }
     ensures { result < 2 ^ 64 - 1 → result ≡ sets.difference_count (lower bits) (upper bits) }
 {
-    asked::<DifferenceCount>(alloc, bits, bits / 2, bits / 2, rounds).unwrap_or(REFUSED)
+    halves::<DifferenceCount>(alloc, bits, rounds)
 }
 
 /// `symmetric_difference_count`, of the lower half of the positions and the upper one.
@@ -329,7 +356,7 @@ pub extern "C" fn sets_symmetric_difference_count(
     requires { 128 ≤ bits }
     ensures { result < 2 ^ 64 - 1 → result ≡ sets.symmetric_difference_count (lower bits) (upper bits) }
 {
-    asked::<SymmetricDifferenceCount>(alloc, bits, bits / 2, bits / 2, rounds).unwrap_or(REFUSED)
+    halves::<SymmetricDifferenceCount>(alloc, bits, rounds)
 }
 
 /// `is_disjoint`, of the lower half of the positions and the upper one: 1 where it answers `true`.
@@ -338,7 +365,7 @@ pub extern "C" fn sets_is_disjoint(alloc: Global, bits: usize, rounds: usize) ->
     requires { 128 ≤ bits }
     ensures { result < 2 ^ 64 - 1 → (result == 1) ≡ sets.is_disjoint (lower bits) (upper bits) }
 {
-    asked::<IsDisjoint>(alloc, bits, bits / 2, bits / 2, rounds).unwrap_or(REFUSED)
+    halves::<IsDisjoint>(alloc, bits, rounds)
 }
 
 /// `is_subset`, of all positions and all: 1 where it answers `true`.
@@ -347,7 +374,7 @@ pub extern "C" fn sets_is_subset(alloc: Global, bits: usize, rounds: usize) -> u
     requires { 64 ≤ bits }
     ensures { result < 2 ^ 64 - 1 → (result == 1) ≡ sets.is_subset (full bits) (full bits) }
 {
-    asked::<IsSubset>(alloc, bits, bits, 0, rounds).unwrap_or(REFUSED)
+    whole::<IsSubset>(alloc, bits, rounds)
 }
 
 /// `is_superset`, of all positions and all: 1 where it answers `true`.
@@ -356,7 +383,7 @@ pub extern "C" fn sets_is_superset(alloc: Global, bits: usize, rounds: usize) ->
     requires { 64 ≤ bits }
     ensures { result < 2 ^ 64 - 1 → (result == 1) ≡ sets.is_subset (full bits) (full bits) }
 {
-    asked::<IsSuperset>(alloc, bits, bits, 0, rounds).unwrap_or(REFUSED)
+    whole::<IsSuperset>(alloc, bits, rounds)
 }
 
 /// `maximum`, of the first 64 positions: 0 where there is none.
@@ -365,7 +392,7 @@ pub extern "C" fn sets_maximum(alloc: Global, bits: usize, rounds: usize) -> usi
     requires { 64 ≤ bits }
     ensures { result < 2 ^ 64 - 1 → result ≡ unwrap_or (maximum (filled bits 0 64)) 0 }
 {
-    asked::<Maximum>(alloc, bits, 64, bits, rounds).unwrap_or(REFUSED)
+    first_word::<Maximum>(alloc, bits, rounds)
 }
 
 /// `==`, of all positions and all: 1 where it answers `true`.
@@ -374,7 +401,7 @@ pub extern "C" fn sets_eq(alloc: Global, bits: usize, rounds: usize) -> usize
     requires { 64 ≤ bits }
     ensures { result < 2 ^ 64 - 1 → (result == 1) ≡ equal (full bits) (full bits) }
 {
-    asked::<Equal>(alloc, bits, bits, 0, rounds).unwrap_or(REFUSED)
+    whole::<Equal>(alloc, bits, rounds)
 }
 
 /// `cmp`, of all positions and all: 1 where it answers that they are equal.
@@ -383,7 +410,7 @@ pub extern "C" fn sets_cmp(alloc: Global, bits: usize, rounds: usize) -> usize
     requires { 64 ≤ bits }
     ensures { result < 2 ^ 64 - 1 → (result == 1) ≡ equal (full bits) (full bits) }
 {
-    asked::<Compare>(alloc, bits, bits, 0, rounds).unwrap_or(REFUSED)
+    whole::<Compare>(alloc, bits, rounds)
 }
 
 /// `contains_any_in_range(64..)`, of the first 64 positions: 1 where it answers `true`.
@@ -392,7 +419,7 @@ pub extern "C" fn sets_contains_any_in_range(alloc: Global, bits: usize, rounds:
     requires { 64 ≤ bits }
     ensures { result < 2 ^ 64 - 1 → (result == 1) ≡ ranges.contains_any (filled bits 0 64) (min 64 (filled bits 0 64).length) (filled bits 0 64).length }
 {
-    asked::<ContainsAny>(alloc, bits, 64, bits, rounds).unwrap_or(REFUSED)
+    first_word::<ContainsAny>(alloc, bits, rounds)
 }
 
 /// `contains` of each position in turn, a round being all of them, of the lower half: how many are set.
@@ -401,7 +428,7 @@ pub extern "C" fn sets_contains(alloc: Global, bits: usize, rounds: usize) -> us
     requires { 128 ≤ bits }
     ensures { result < 2 ^ 64 - 1 → result ≡ how_many (lower bits) (lower bits).length }
 {
-    asked::<ContainsEach>(alloc, bits, bits / 2, bits / 2, rounds).unwrap_or(REFUSED)
+    halves::<ContainsEach>(alloc, bits, rounds)
 }
 
 /// `bitand`, a new set, of the lower half of the positions and the upper one: 1 where position 0 is in it.
@@ -410,7 +437,7 @@ pub extern "C" fn sets_bitand(alloc: Global, bits: usize, rounds: usize) -> usiz
     requires { 128 ≤ bits }
     ensures { result < 2 ^ 64 - 1 → result ≡ cond (contains (sets.bitand (lower bits) (upper bits)) 0) 1 0 }
 {
-    asked::<BitAnd>(alloc, bits, bits / 2, bits / 2, rounds).unwrap_or(REFUSED)
+    halves::<BitAnd>(alloc, bits, rounds)
 }
 
 /// `bitor`, a new set, of the lower half of the positions and the upper one: 1 where position 0 is in it.
@@ -419,7 +446,7 @@ pub extern "C" fn sets_bitor(alloc: Global, bits: usize, rounds: usize) -> usize
     requires { 128 ≤ bits }
     ensures { result < 2 ^ 64 - 1 → result ≡ cond (contains (sets.union (lower bits) (upper bits)) 0) 1 0 }
 {
-    asked::<BitOr>(alloc, bits, bits / 2, bits / 2, rounds).unwrap_or(REFUSED)
+    halves::<BitOr>(alloc, bits, rounds)
 }
 
 /// `bitxor`, a new set, of the lower half of the positions and the upper one: 1 where position 0 is in it.
@@ -428,5 +455,5 @@ pub extern "C" fn sets_bitxor(alloc: Global, bits: usize, rounds: usize) -> usiz
     requires { 128 ≤ bits }
     ensures { result < 2 ^ 64 - 1 → result ≡ cond (contains (sets.symmetric_difference (lower bits) (upper bits)) 0) 1 0 }
 {
-    asked::<BitXor>(alloc, bits, bits / 2, bits / 2, rounds).unwrap_or(REFUSED)
+    halves::<BitXor>(alloc, bits, rounds)
 }

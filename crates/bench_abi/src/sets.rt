@@ -16,7 +16,6 @@ use std::alloc::{AllocError, Global};
 pub const REFUSED: usize = usize::MAX;
 
 // A set of so many positions, with those of the range.
-#[tactic(auto, using(crate::proofs::Filled::length_blank), unfolding(crate::specs::Rounds::filled))]
 pub(crate) fn filled(
     alloc: Global,
     bits: usize,
