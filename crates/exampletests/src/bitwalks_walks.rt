@@ -1,79 +1,71 @@
 //! The examples in the docs of `bitwalks::walks`. docs/make_examples writes this file.
 
+use crate::calls::{equal, gives, ok, set_of};
 use bitwalks::{IntoOnes, Ones, Zeroes};
-use fixedbitset::{Block, FixedBitSet};
-use std::test::Fail;
+use fixedbitset::Block;
 
 #[test]
-fn ones(rt: HostRuntime) -> Result<(), Fail> {
+fn ones(rt: HostRuntime) {
     let alloc = rt.alloc();
-    let set = FixedBitSet::from_iter(alloc, [3, 9, 200])?;
+    let set = set_of(&rt, alloc, &[3, 9, 200]);
     let mut walk = set.ones();
-    assert_eq!(rt; walk.next_back(), Some(200));
-    assert_eq!(rt; walk.next(), Some(3));
-    assert!(rt; walk.eq([9]));
-    Ok(())
+    equal(&rt, walk.next_back(), Some(200));
+    equal(&rt, walk.next(), Some(3));
+    gives(&rt, walk, &[9]);
 }
 
 #[test]
-fn into_ones(rt: HostRuntime) -> Result<(), Fail> {
+fn into_ones(rt: HostRuntime) {
     let alloc = rt.alloc();
-    let set = FixedBitSet::from_iter(alloc, [3, 9, 200])?;
+    let set = set_of(&rt, alloc, &[3, 9, 200]);
     let mut walk = set.into_ones();
-    assert_eq!(rt; walk.next_back(), Some(200));
-    assert_eq!(rt; walk.next(), Some(3));
-    assert!(rt; walk.eq([9]));
-    Ok(())
+    equal(&rt, walk.next_back(), Some(200));
+    equal(&rt, walk.next(), Some(3));
+    gives(&rt, walk, &[9]);
 }
 
 #[test]
-fn zeroes(rt: HostRuntime) -> Result<(), Fail> {
+fn zeroes(rt: HostRuntime) {
     let alloc = rt.alloc();
-    let set = FixedBitSet::from_iter(alloc, [1, 4])?;
+    let set = set_of(&rt, alloc, &[1, 4]);
     let mut walk = set.zeroes();
-    assert_eq!(rt; walk.next_back(), Some(3));
-    assert_eq!(rt; walk.next(), Some(0));
-    assert!(rt; walk.eq([2]));
-    Ok(())
+    equal(&rt, walk.next_back(), Some(3));
+    equal(&rt, walk.next(), Some(0));
+    gives(&rt, walk, &[2]);
 }
 
 #[test]
-fn ones_over(rt: HostRuntime) -> Result<(), Fail> {
+fn ones_over(rt: HostRuntime) {
     let words = [8, 0, 1];
     let walk = Ones::over(&words);
-    assert!(rt; walk.eq([3, 128]));
-    Ok(())
+    gives(&rt, walk, &[3, 128]);
 }
 
 #[test]
-fn ones_last_positive_bit_and_unset(rt: HostRuntime) -> Result<(), Fail> {
+fn ones_last_positive_bit_and_unset(rt: HostRuntime) {
     let mut bits = 12;
-    assert_eq!(rt; Ones::last_positive_bit_and_unset(&mut bits), 2);
-    assert_eq!(rt; bits, 8);
-    Ok(())
+    equal(&rt, Ones::last_positive_bit_and_unset(&mut bits), 2);
+    equal(&rt, bits, 8);
 }
 
 #[test]
-fn into_ones_over(rt: HostRuntime) -> Result<(), Fail> {
+fn into_ones_over(rt: HostRuntime) {
     let alloc = rt.alloc();
-    let words = [8, 0, 1].to_vec(alloc)?;
+    let words = ok(&rt, [8, 0, 1].to_vec(alloc));
     let walk = IntoOnes::over(words);
-    assert!(rt; walk.eq([3, 128]));
-    Ok(())
+    gives(&rt, walk, &[3, 128]);
 }
 
 #[test]
-fn into_ones_last_positive_bit_and_unset(rt: HostRuntime) -> Result<(), Fail> {
+fn into_ones_last_positive_bit_and_unset(rt: HostRuntime) {
     let mut bits = 1 << 63;
-    assert_eq!(rt; IntoOnes::last_positive_bit_and_unset(&mut bits), 63);
-    assert_eq!(rt; bits, 0);
-    Ok(())
+    equal(&rt, IntoOnes::last_positive_bit_and_unset(&mut bits), 63);
+    equal(&rt, bits, 0);
 }
 
 #[test]
-fn below(rt: HostRuntime) -> Result<(), Fail> {
+fn below(rt: HostRuntime) {
     let words = [Block::MAX, 5];
     let walk = Zeroes::below(&words, 68);
-    assert!(rt; walk.eq([65, 67]));
-    Ok(())
+    gives(&rt, walk, &[65, 67]);
 }

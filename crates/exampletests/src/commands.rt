@@ -1,25 +1,27 @@
 //! The examples in the docs of `bitcommands::commands`. docs/make_examples writes this file.
 
+use crate::calls::{cleared, holds, ok};
 use bitcommands::commands;
 use bitcommands::commands::{Change, Command, Look, Refusal, Reply};
 use fixedbitset::FixedBitSet;
-use std::test::Fail;
 
 #[test]
 #[tactic(auto, using(fixedbitset::specs::BitsFacts::facts))]
-fn apply(rt: HostRuntime) -> Result<(), Fail> {
+fn apply(rt: HostRuntime) {
     let alloc = rt.alloc();
-    let mut sets = [FixedBitSet::with_capacity(alloc, 70)?];
+    let mut sets = [cleared(&rt, alloc, 70)];
     let insert = Command::Change(Change::Insert { set: 0, bit: 64 });
-    assert!(rt; matches!(commands::apply(alloc, &mut sets, &insert, 100), Reply::Done));
+    holds(
+        &rt,
+        matches!(commands::apply(alloc, &mut sets, &insert, 100), Reply::Done),
+    );
     let past = Command::Change(Change::Insert { set: 0, bit: 70 });
     let reply = commands::apply(alloc, &mut sets, &past, 100);
-    assert!(rt; matches!(reply, Reply::Refused(Refusal::Position)));
-    Ok(())
+    holds(&rt, matches!(reply, Reply::Refused(Refusal::Position)));
 }
 
 #[test]
-fn run(rt: HostRuntime) -> Result<(), Fail> {
+fn run(rt: HostRuntime) {
     let alloc = rt.alloc();
     let mut sets = [FixedBitSet::new(alloc)];
     let list = [
@@ -27,8 +29,10 @@ fn run(rt: HostRuntime) -> Result<(), Fail> {
         Command::Change(Change::Grow { set: 0, bits: 70 }),
         Command::Look(Look::Len { set: 0 }),
     ];
-    let replies = commands::run(alloc, &mut sets, &list, 100)?;
-    assert!(rt; matches!(replies.first(), Some(Reply::Refused(Refusal::Position))));
-    assert!(rt; matches!(replies.last(), Some(Reply::Number(70))));
-    Ok(())
+    let replies = ok(&rt, commands::run(alloc, &mut sets, &list, 100));
+    holds(
+        &rt,
+        matches!(replies.first(), Some(Reply::Refused(Refusal::Position))),
+    );
+    holds(&rt, matches!(replies.last(), Some(Reply::Number(70))));
 }

@@ -1,22 +1,20 @@
 //! The examples in the docs of `bitcommands::commands::replies`. docs/make_examples writes this file.
 
+use crate::calls::{equal, ok};
 use bitcommands::commands::Reply;
-use std::test::Fail;
 
 #[test]
-fn reply(rt: HostRuntime) -> Result<(), Fail> {
+fn reply(rt: HostRuntime) {
     let alloc = rt.alloc();
     let reply = Reply::Position(None);
-    assert_eq!(rt; reply.to_string(alloc)?.as_str(), "none");
-    Ok(())
+    equal(&rt, ok(&rt, reply.to_string(alloc)).as_str(), "none");
 }
 
 #[test]
-fn push_text(rt: HostRuntime) -> Result<(), Fail> {
+fn push_text(rt: HostRuntime) {
     let alloc = rt.alloc();
     let mut output = Vec::new(alloc);
-    Reply::Number(70).push_text(&mut output)?;
-    Reply::Bool(true).push_text(&mut output)?;
-    assert_eq!(rt; output.as_slice(), b"70true".as_slice());
-    Ok(())
+    ok(&rt, Reply::Number(70).push_text(&mut output));
+    ok(&rt, Reply::Bool(true).push_text(&mut output));
+    equal(&rt, output.as_slice(), b"70true".as_slice());
 }

@@ -1,22 +1,20 @@
 //! The examples in the docs of `bitlanes::counter`. docs/make_examples writes this file.
 
+use crate::calls::equal;
 use bitlanes::lanes;
 use fixedbitset::Steps;
-use std::test::Fail;
 
 #[test]
-fn new(rt: HostRuntime) -> Result<(), Fail> {
+fn new(rt: HostRuntime) {
     let mut steps = Steps::new();
     lanes::zero(&mut [1; 9], &mut steps);
-    assert_eq!(rt; size_of::<Steps>(), 0);
-    Ok(())
+    equal(&rt, size_of::<Steps>(), 0);
 }
 
 #[test]
-fn tick(rt: HostRuntime) -> Result<(), Fail> {
+fn tick(rt: HostRuntime) {
     let mut steps = Steps::new();
     steps.tick();
     lanes::zero(&mut [1; 9], &mut steps);
-    assert_eq!(rt; size_of_val(&steps), 0);
-    Ok(())
+    equal(&rt, size_of_val(&steps), 0);
 }

@@ -1,55 +1,49 @@
 //! The examples in the docs of `bitwords::cursors`. docs/make_examples writes this file.
 
+use crate::calls::{equal, gives, ok};
 use bitwords::cursors::{Cursor, Inverted, Middle, Plain};
 use fixedbitset::Block;
-use std::test::Fail;
 
 #[test]
-fn middle(rt: HostRuntime) -> Result<(), Fail> {
+fn middle(rt: HostRuntime) {
     let mut middle = Plain { words: &[3, 5, 7] };
-    assert_eq!(rt; Middle::take_first(&mut middle), Some(3));
-    assert_eq!(rt; Middle::take_last(&mut middle), Some(7));
-    assert_eq!(rt; Middle::left(&middle), 1);
-    Ok(())
+    equal(&rt, Middle::take_first(&mut middle), Some(3));
+    equal(&rt, Middle::take_last(&mut middle), Some(7));
+    equal(&rt, Middle::left(&middle), 1);
 }
 
 #[test]
-fn plain(rt: HostRuntime) -> Result<(), Fail> {
+fn plain(rt: HostRuntime) {
     let mut cursor = Cursor::over(Plain { words: &[8, 0, 1] });
-    assert_eq!(rt; cursor.next_back(), Some(128));
-    assert!(rt; cursor.eq([3]));
-    Ok(())
+    equal(&rt, cursor.next_back(), Some(128));
+    gives(&rt, cursor, &[3]);
 }
 
 #[test]
-fn inverted(rt: HostRuntime) -> Result<(), Fail> {
+fn inverted(rt: HostRuntime) {
     let words = [Block::MAX - 8];
     let plain = Plain { words: &words };
     let cursor = Cursor::over(Inverted { plain });
-    assert!(rt; cursor.eq([3]));
-    Ok(())
+    gives(&rt, cursor, &[3]);
 }
 
 #[test]
-fn cursor(rt: HostRuntime) -> Result<(), Fail> {
+fn cursor(rt: HostRuntime) {
     let alloc = rt.alloc();
-    let words = [8, 0, 1].to_vec(alloc)?;
+    let words = ok(&rt, [8, 0, 1].to_vec(alloc));
     let mut cursor = Cursor::over(words.into_iter());
-    assert_eq!(rt; cursor.next_back(), Some(128));
-    assert!(rt; cursor.eq([3]));
-    Ok(())
+    equal(&rt, cursor.next_back(), Some(128));
+    gives(&rt, cursor, &[3]);
 }
 
 #[test]
-fn over(rt: HostRuntime) -> Result<(), Fail> {
+fn over(rt: HostRuntime) {
     let cursor = Cursor::over(Plain { words: &[9, 0, 1] });
-    assert!(rt; cursor.eq([0, 3, 128]));
-    Ok(())
+    gives(&rt, cursor, &[0, 3, 128]);
 }
 
 #[test]
-fn below(rt: HostRuntime) -> Result<(), Fail> {
+fn below(rt: HostRuntime) {
     let cursor = Cursor::below(Plain { words: &[8, 255] }, 66);
-    assert!(rt; cursor.eq([3, 64, 65]));
-    Ok(())
+    gives(&rt, cursor, &[3, 64, 65]);
 }

@@ -1,28 +1,32 @@
 //! The examples in the docs of `bitwords::joins`. docs/make_examples writes this file.
 
+use crate::calls::{equal, holds, ok};
 use bitlanes::ops::{And, AndNot, Xor};
 use bitwords::joins;
 use fixedbitset::Steps;
-use std::test::Fail;
 
 #[test]
-fn join(rt: HostRuntime) -> Result<(), Fail> {
+fn join(rt: HostRuntime) {
     let mut words = [11, 3, 1];
     joins::join::<And>(&mut words, &[9, 6], &mut Steps::new());
-    assert_eq!(rt; words, [9, 2, 0]);
-    Ok(())
+    equal(&rt, words, [9, 2, 0]);
 }
 
 #[test]
-fn count(rt: HostRuntime) -> Result<(), Fail> {
+fn count(rt: HostRuntime) {
     let count = joins::count::<Xor>(&[11, 3], &[9], &mut Steps::new());
-    assert_eq!(rt; count, 3);
-    Ok(())
+    equal(&rt, count, 3);
 }
 
 #[test]
-fn none(rt: HostRuntime) -> Result<(), Fail> {
-    assert!(rt; joins::none::<AndNot>(&[2], &[3, 1], &mut Steps::new()));
-    assert!(rt; !joins::none::<AndNot>(&[3, 1], &[3], &mut Steps::new()));
-    Ok(())
+fn none(rt: HostRuntime) {
+    holds(&rt, joins::none::<AndNot>(&[2], &[3, 1], &mut Steps::new()));
+    holds(&rt, !joins::none::<AndNot>(&[3, 1], &[3], &mut Steps::new()));
+}
+
+#[test]
+fn joined(rt: HostRuntime) {
+    let alloc = rt.alloc();
+    let new = joins::joined::<And>ok(&rt, (alloc, &[11, 3, 1], &[9, 6]));
+    equal(&rt, new.as_slice(), [9, 2, 0].as_slice());
 }

@@ -1,4 +1,5 @@
-//! The examples in the docs of the public calls, as tests. docs/make_examples writes the files of this crate.
+//! The examples in the docs of the public calls, as tests, and the blocks of the documents. docs/make_examples writes the
+//! files of this crate, but for what its tests share.
 #![tactic(auto)]
 
 #[cfg(test)]
@@ -13,6 +14,8 @@ mod bitwalks_walks;
 mod bitwords_ranges;
 #[cfg(test)]
 mod bytes;
+#[cfg(test)]
+mod calls;
 #[cfg(test)]
 mod commands;
 #[cfg(test)]
@@ -65,6 +68,8 @@ mod questions;
 mod range;
 #[cfg(test)]
 mod ranges;
+#[cfg(test)]
+mod readme_1;
 #[cfg(test)]
 mod search;
 #[cfg(test)]

@@ -1,34 +1,30 @@
 //! The examples in the docs of `fixedbitset::operators`. docs/make_examples writes this file.
 
-use fixedbitset::FixedBitSet;
-use std::test::Fail;
+use crate::calls::{equal, holds, set_of};
 
 #[test]
-fn bitand_assign(rt: HostRuntime) -> Result<(), Fail> {
+fn bitand_assign(rt: HostRuntime) {
     let alloc = rt.alloc();
-    let mut set = FixedBitSet::from_iter(alloc, [1, 3, 64])?;
-    set &= FixedBitSet::from_iter(alloc, [3, 5])?;
-    assert_eq!(rt; set.len(), 65);
-    assert_eq!(rt; set.as_slice(), [8, 0].as_slice());
-    Ok(())
+    let mut set = set_of(&rt, alloc, &[1, 3, 64]);
+    set &= set_of(&rt, alloc, &[3, 5]);
+    equal(&rt, set.len(), 65);
+    equal(&rt, set.as_slice(), [8, 0].as_slice());
 }
 
 #[test]
-fn bitand_assign_2(rt: HostRuntime) -> Result<(), Fail> {
+fn bitand_assign_2(rt: HostRuntime) {
     let alloc = rt.alloc();
-    let mut set = FixedBitSet::from_iter(alloc, [3, 5])?;
-    let other = FixedBitSet::from_iter(alloc, [1, 3, 64])?;
+    let mut set = set_of(&rt, alloc, &[3, 5]);
+    let other = set_of(&rt, alloc, &[1, 3, 64]);
     set &= &other;
-    assert_eq!(rt; set.as_slice(), [8].as_slice());
-    assert_eq!(rt; other.count_ones(..), 3);
-    Ok(())
+    equal(&rt, set.as_slice(), [8].as_slice());
+    equal(&rt, other.count_ones(..), 3);
 }
 
 #[test]
-fn index(rt: HostRuntime) -> Result<(), Fail> {
+fn index(rt: HostRuntime) {
     let alloc = rt.alloc();
-    let set = FixedBitSet::from_iter(alloc, [3, 64])?;
-    assert!(rt; set[64] && !set[63]);
-    assert!(rt; !set[usize::MAX]);
-    Ok(())
+    let set = set_of(&rt, alloc, &[3, 64]);
+    holds(&rt, set[64] && !set[63]);
+    holds(&rt, !set[usize::MAX]);
 }

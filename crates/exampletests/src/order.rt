@@ -1,49 +1,44 @@
 //! The examples in the docs of `fixedbitset::order`. docs/make_examples writes this file.
 
-use fixedbitset::FixedBitSet;
+use crate::calls::{cleared, equal, holds, ok, set_of};
 use std::cmp::Ordering;
 use std::collections::HashSet;
-use std::test::Fail;
 
 #[test]
-fn eq(rt: HostRuntime) -> Result<(), Fail> {
+fn eq(rt: HostRuntime) {
     let alloc = rt.alloc();
-    let set = FixedBitSet::from_iter(alloc, [3])?;
-    let mut other = set.clone()?;
-    assert!(rt; set == other);
-    other.grow(70)?;
-    assert!(rt; set != other);
-    Ok(())
+    let set = set_of(&rt, alloc, &[3]);
+    let mut other = ok(&rt, set.clone());
+    holds(&rt, set == other);
+    ok(&rt, other.grow(70));
+    holds(&rt, set != other);
 }
 
 #[test]
 #[tactic(auto, using(fixedbitset::specs::BitsFacts::facts))]
-fn partial_cmp(rt: HostRuntime) -> Result<(), Fail> {
+fn partial_cmp(rt: HostRuntime) {
     let alloc = rt.alloc();
-    let short = FixedBitSet::from_iter(alloc, [3])?;
-    let long = FixedBitSet::with_capacity(alloc, 70)?;
-    assert!(rt; short < long);
-    assert_eq!(rt; long.partial_cmp(&short), Some(Ordering::Greater));
-    Ok(())
+    let short = set_of(&rt, alloc, &[3]);
+    let long = cleared(&rt, alloc, 70);
+    holds(&rt, short < long);
+    equal(&rt, long.partial_cmp(&short), Some(Ordering::Greater));
 }
 
 #[test]
-fn cmp(rt: HostRuntime) -> Result<(), Fail> {
+fn cmp(rt: HostRuntime) {
     let alloc = rt.alloc();
-    let set = FixedBitSet::from_iter(alloc, [4, 69])?;
-    let lower = FixedBitSet::from_iter(alloc, [0, 3, 69])?;
-    let later = FixedBitSet::from_iter(alloc, [68, 69])?;
-    assert_eq!(rt; set.cmp(&lower), Ordering::Greater);
-    assert_eq!(rt; set.cmp(&later), Ordering::Greater);
-    Ok(())
+    let set = set_of(&rt, alloc, &[4, 69]);
+    let lower = set_of(&rt, alloc, &[0, 3, 69]);
+    let later = set_of(&rt, alloc, &[68, 69]);
+    equal(&rt, set.cmp(&lower), Ordering::Greater);
+    equal(&rt, set.cmp(&later), Ordering::Greater);
 }
 
 #[test]
-fn hash(rt: HostRuntime) -> Result<(), Fail> {
+fn hash(rt: HostRuntime) {
     let alloc = rt.alloc();
     let mut seen = HashSet::new(alloc);
-    seen.insert(FixedBitSet::from_iter(alloc, [64, 3])?)?;
-    assert!(rt; seen.contains(&FixedBitSet::from_iter(alloc, [3, 64])?));
-    assert!(rt; !seen.contains(&FixedBitSet::from_iter(alloc, [3, 64, 65])?));
-    Ok(())
+    ok(&rt, seen.insert(set_of(&rt, alloc, &[64, 3])));
+    holds(&rt, seen.contains(&set_of(&rt, alloc, &[3, 64])));
+    holds(&rt, !seen.contains(&set_of(&rt, alloc, &[3, 64, 65])));
 }

@@ -1,35 +1,31 @@
 //! The examples in the docs of `bitwords::positions`. docs/make_examples writes this file.
 
+use crate::calls::{equal, holds};
 use bitwords::positions;
 use fixedbitset::Block;
-use std::test::Fail;
 
 #[test]
-fn contains(rt: HostRuntime) -> Result<(), Fail> {
-    assert!(rt; positions::contains(&[8, 1], 64));
-    assert!(rt; !positions::contains(&[8, 1], 65));
-    assert!(rt; !positions::contains(&[8, 1], 128));
-    Ok(())
+fn contains(rt: HostRuntime) {
+    holds(&rt, positions::contains(&[8, 1], 64));
+    holds(&rt, !positions::contains(&[8, 1], 65));
+    holds(&rt, !positions::contains(&[8, 1], 128));
 }
 
 #[test]
-fn first(rt: HostRuntime) -> Result<(), Fail> {
-    assert_eq!(rt; positions::first(&[0, 12]), Some(66));
-    assert_eq!(rt; positions::first(&[0; 5]), None);
-    Ok(())
+fn first(rt: HostRuntime) {
+    equal(&rt, positions::first(&[0, 12]), Some(66));
+    equal(&rt, positions::first(&[0; 5]), None);
 }
 
 #[test]
-fn last(rt: HostRuntime) -> Result<(), Fail> {
-    assert_eq!(rt; positions::last(&[12, 12, 0]), Some(67));
-    assert_eq!(rt; positions::last(&[0; 5]), None);
-    Ok(())
+fn last(rt: HostRuntime) {
+    equal(&rt, positions::last(&[12, 12, 0]), Some(67));
+    equal(&rt, positions::last(&[0; 5]), None);
 }
 
 #[test]
-fn clear_from(rt: HostRuntime) -> Result<(), Fail> {
+fn clear_from(rt: HostRuntime) {
     let mut words = [Block::MAX; 3];
     positions::clear_from(&mut words, 67);
-    assert_eq!(rt; words, [Block::MAX, 7, 0]);
-    Ok(())
+    equal(&rt, words, [Block::MAX, 7, 0]);
 }

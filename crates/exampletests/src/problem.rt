@@ -1,16 +1,14 @@
 //! The examples in the docs of `flow::problem`. docs/make_examples writes this file.
 
-use fixedbitset::FixedBitSet;
-use std::test::Fail;
+use crate::calls::{cleared, holds, set_of};
 
 #[test]
 #[tactic(auto, using(fixedbitset::specs::BitsFacts::facts))]
-fn is_problem(rt: HostRuntime) -> Result<(), Fail> {
+fn is_problem(rt: HostRuntime) {
     let alloc = rt.alloc();
-    let gens = [FixedBitSet::from_iter(alloc, [0, 69])?];
-    let kills = [FixedBitSet::with_capacity(alloc, 70)?];
-    assert!(rt; flow::is_problem(70, &[(0, 0)], &gens, &kills));
-    assert!(rt; !flow::is_problem(70, &[(0, 1)], &gens, &kills));
-    assert!(rt; !flow::is_problem(69, &[(0, 0)], &gens, &kills));
-    Ok(())
+    let gens = [set_of(&rt, alloc, &[0, 69])];
+    let kills = [cleared(&rt, alloc, 70)];
+    holds(&rt, flow::is_problem(70, &[(0, 0)], &gens, &kills));
+    holds(&rt, !flow::is_problem(70, &[(0, 1)], &gens, &kills));
+    holds(&rt, !flow::is_problem(69, &[(0, 0)], &gens, &kills));
 }

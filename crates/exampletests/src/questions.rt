@@ -1,59 +1,54 @@
 //! The examples in the docs of `fixedbitset::questions`. docs/make_examples writes this file.
 
+use crate::calls::{cleared, equal, holds};
 use fixedbitset::FixedBitSet;
-use std::test::Fail;
 
 #[test]
 #[tactic(auto, using(fixedbitset::specs::BitsFacts::facts))]
-fn is_empty(rt: HostRuntime) -> Result<(), Fail> {
+fn is_empty(rt: HostRuntime) {
     let alloc = rt.alloc();
-    assert!(rt; FixedBitSet::new(alloc).is_empty());
-    let set = FixedBitSet::with_capacity(alloc, 3)?;
-    assert!(rt; set.is_clear() && !set.is_empty());
-    Ok(())
+    holds(&rt, FixedBitSet::new(alloc).is_empty());
+    let set = cleared(&rt, alloc, 3);
+    holds(&rt, set.is_clear() && !set.is_empty());
 }
 
 #[test]
 #[tactic(auto, using(fixedbitset::specs::BitsFacts::facts))]
-fn is_clear(rt: HostRuntime) -> Result<(), Fail> {
+fn is_clear(rt: HostRuntime) {
     let alloc = rt.alloc();
-    let mut set = FixedBitSet::with_capacity(alloc, 70)?;
-    assert!(rt; set.is_clear());
+    let mut set = cleared(&rt, alloc, 70);
+    holds(&rt, set.is_clear());
     set.insert(69);
-    assert!(rt; !set.is_clear());
-    Ok(())
+    holds(&rt, !set.is_clear());
 }
 
 #[test]
 #[tactic(auto, using(fixedbitset::specs::BitsFacts::facts, fixedbitset::specs::RangesFacts::facts))]
-fn minimum(rt: HostRuntime) -> Result<(), Fail> {
+fn minimum(rt: HostRuntime) {
     let alloc = rt.alloc();
-    let mut set = FixedBitSet::with_capacity(alloc, 200)?;
-    assert_eq!(rt; set.minimum(), None);
+    let mut set = cleared(&rt, alloc, 200);
+    equal(&rt, set.minimum(), None);
     set.insert_range(64..130);
-    assert_eq!(rt; set.minimum(), Some(64));
-    Ok(())
+    equal(&rt, set.minimum(), Some(64));
 }
 
 #[test]
 #[tactic(auto, using(fixedbitset::specs::BitsFacts::facts, fixedbitset::specs::RangesFacts::facts))]
-fn maximum(rt: HostRuntime) -> Result<(), Fail> {
+fn maximum(rt: HostRuntime) {
     let alloc = rt.alloc();
-    let mut set = FixedBitSet::with_capacity(alloc, 200)?;
-    assert_eq!(rt; set.maximum(), None);
+    let mut set = cleared(&rt, alloc, 200);
+    equal(&rt, set.maximum(), None);
     set.insert_range(64..130);
-    assert_eq!(rt; set.maximum(), Some(129));
-    Ok(())
+    equal(&rt, set.maximum(), Some(129));
 }
 
 #[test]
 #[tactic(auto, using(fixedbitset::specs::BitsFacts::facts, fixedbitset::specs::RangesFacts::facts))]
-fn is_full(rt: HostRuntime) -> Result<(), Fail> {
+fn is_full(rt: HostRuntime) {
     let alloc = rt.alloc();
-    let mut set = FixedBitSet::with_capacity(alloc, 70)?;
+    let mut set = cleared(&rt, alloc, 70);
     set.insert_range(..69);
-    assert!(rt; !set.is_full());
+    holds(&rt, !set.is_full());
     set.insert(69);
-    assert!(rt; set.is_full());
-    Ok(())
+    holds(&rt, set.is_full());
 }

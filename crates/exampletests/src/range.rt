@@ -1,14 +1,13 @@
 //! The examples in the docs of `bitlanes::range`. docs/make_examples writes this file.
 
+use crate::calls::equal;
 use fixedbitset::IndexRange;
-use std::test::Fail;
 
 #[test]
-fn index_range(rt: HostRuntime) -> Result<(), Fail> {
+fn index_range(rt: HostRuntime) {
     let range = 60..=69;
-    assert_eq!(rt; IndexRange::start(&range), Some(60));
-    assert_eq!(rt; IndexRange::end(&range), Some(70));
-    assert_eq!(rt; IndexRange::end(&(60..)), None);
-    assert_eq!(rt; IndexRange::end(&(0..=usize::MAX)), Some(usize::MAX));
-    Ok(())
+    equal(&rt, IndexRange::start(&range), Some(60));
+    equal(&rt, IndexRange::end(&range), Some(70));
+    equal(&rt, IndexRange::end(&(60..)), None);
+    equal(&rt, IndexRange::end(&(0..=usize::MAX)), Some(usize::MAX));
 }

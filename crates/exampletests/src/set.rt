@@ -1,112 +1,110 @@
 //! The examples in the docs of `fixedbitset::set`. docs/make_examples writes this file.
 
+use crate::calls::{cleared, equal, holds, ok, set_of};
 use fixedbitset::{Block, FixedBitSet};
-use std::test::Fail;
 
 #[test]
-fn new(rt: HostRuntime) -> Result<(), Fail> {
+fn new(rt: HostRuntime) {
     let alloc = rt.alloc();
     let mut set = FixedBitSet::new(alloc);
-    assert_eq!(rt; set.len(), 0);
-    set.grow_and_insert(64)?;
-    assert_eq!(rt; set.as_slice(), [0, 1].as_slice());
-    Ok(())
+    equal(&rt, set.len(), 0);
+    ok(&rt, set.grow_and_insert(64));
+    equal(&rt, set.as_slice(), [0, 1].as_slice());
 }
 
 #[test]
 #[tactic(auto, using(fixedbitset::specs::BitsFacts::facts))]
-fn with_capacity(rt: HostRuntime) -> Result<(), Fail> {
+fn with_capacity(rt: HostRuntime) {
     let alloc = rt.alloc();
-    let set = FixedBitSet::with_capacity(alloc, 70)?;
-    assert_eq!(rt; set.len(), 70);
-    assert_eq!(rt; set.as_slice(), [0, 0].as_slice());
-    Ok(())
+    let set = ok(&rt, FixedBitSet::with_capacity(alloc, 70));
+    equal(&rt, set.len(), 70);
+    equal(&rt, set.as_slice(), [0, 0].as_slice());
 }
 
 #[test]
-fn default(rt: HostRuntime) -> Result<(), Fail> {
+fn default(rt: HostRuntime) {
     let alloc = rt.alloc();
     let set = FixedBitSet::default(alloc);
-    assert!(rt; set == FixedBitSet::new(alloc));
-    Ok(())
+    holds(&rt, set == FixedBitSet::new(alloc));
 }
 
 #[test]
-fn with_capacity_and_blocks(rt: HostRuntime) -> Result<(), Fail> {
+fn with_capacity_and_blocks(rt: HostRuntime) {
     let alloc = rt.alloc();
-    let set = FixedBitSet::with_capacity_and_blocks(alloc, 67, [1, 255])?;
-    assert_eq!(rt; set.as_slice(), [1, 7].as_slice());
-    assert!(rt; set.contains(66) && !set.contains(67));
-    Ok(())
+    let set = ok(
+        &rt,
+        FixedBitSet::with_capacity_and_blocks(alloc, 67, [1, 255]),
+    );
+    equal(&rt, set.as_slice(), [1, 7].as_slice());
+    holds(&rt, set.contains(66) && !set.contains(67));
 }
 
 #[test]
-fn grow(rt: HostRuntime) -> Result<(), Fail> {
+fn grow(rt: HostRuntime) {
     let alloc = rt.alloc();
-    let mut set = FixedBitSet::with_capacity_and_blocks(alloc, 2, [3])?;
-    set.grow(70)?;
-    set.grow(9)?;
-    assert_eq!(rt; set.len(), 70);
-    assert_eq!(rt; set.as_slice(), [3, 0].as_slice());
-    Ok(())
+    let mut set = ok(&rt, FixedBitSet::with_capacity_and_blocks(alloc, 2, [3]));
+    ok(&rt, set.grow(70));
+    ok(&rt, set.grow(9));
+    equal(&rt, set.len(), 70);
+    equal(&rt, set.as_slice(), [3, 0].as_slice());
 }
 
 #[test]
-fn clone_from(rt: HostRuntime) -> Result<(), Fail> {
+fn clone_from(rt: HostRuntime) {
     let alloc = rt.alloc();
-    let source = FixedBitSet::with_capacity_and_blocks(alloc, 3, [5])?;
-    let mut set = FixedBitSet::with_capacity_and_blocks(alloc, 70, [8, 1])?;
-    set.clone_from(&source)?;
-    assert_eq!(rt; set.len(), 3);
-    assert_eq!(rt; set.as_slice(), [5].as_slice());
-    Ok(())
+    let source = ok(&rt, FixedBitSet::with_capacity_and_blocks(alloc, 3, [5]));
+    let mut set = ok(
+        &rt,
+        FixedBitSet::with_capacity_and_blocks(alloc, 70, [8, 1]),
+    );
+    ok(&rt, set.clone_from(&source));
+    equal(&rt, set.len(), 3);
+    equal(&rt, set.as_slice(), [5].as_slice());
 }
 
 #[test]
 #[tactic(auto, using(fixedbitset::specs::BitsFacts::facts))]
-fn set_block(rt: HostRuntime) -> Result<(), Fail> {
+fn set_block(rt: HostRuntime) {
     let alloc = rt.alloc();
-    let mut set = FixedBitSet::with_capacity(alloc, 70)?;
-    assert_eq!(rt; set.as_slice().len(), 2);
+    let mut set = cleared(&rt, alloc, 70);
+    equal(&rt, set.as_slice().len(), 2);
     set.set_block(1, Block::MAX);
-    assert_eq!(rt; set.as_slice(), [0, 63].as_slice());
-    Ok(())
+    equal(&rt, set.as_slice(), [0, 63].as_slice());
 }
 
 #[test]
-fn clear(rt: HostRuntime) -> Result<(), Fail> {
+fn clear(rt: HostRuntime) {
     let alloc = rt.alloc();
-    let mut set = FixedBitSet::with_capacity_and_blocks(alloc, 70, [8, 1])?;
+    let mut set = ok(
+        &rt,
+        FixedBitSet::with_capacity_and_blocks(alloc, 70, [8, 1]),
+    );
     set.clear();
-    assert_eq!(rt; set.len(), 70);
-    assert_eq!(rt; set.as_slice(), [0, 0].as_slice());
-    Ok(())
+    equal(&rt, set.len(), 70);
+    equal(&rt, set.as_slice(), [0, 0].as_slice());
 }
 
 #[test]
-fn len(rt: HostRuntime) -> Result<(), Fail> {
+fn len(rt: HostRuntime) {
     let alloc = rt.alloc();
-    let set = FixedBitSet::from_iter(alloc, [3, 70])?;
-    assert_eq!(rt; set.len(), 71);
-    assert_eq!(rt; set.count_ones(..), 2);
-    Ok(())
+    let set = set_of(&rt, alloc, &[3, 70]);
+    equal(&rt, set.len(), 71);
+    equal(&rt, set.count_ones(..), 2);
 }
 
 #[test]
-fn as_slice(rt: HostRuntime) -> Result<(), Fail> {
+fn as_slice(rt: HostRuntime) {
     let alloc = rt.alloc();
-    let set = FixedBitSet::from_iter(alloc, [63, 64, 65])?;
-    assert_eq!(rt; set.as_slice(), [1 << 63, 3].as_slice());
-    Ok(())
+    let set = set_of(&rt, alloc, &[63, 64, 65]);
+    equal(&rt, set.as_slice(), [1 << 63, 3].as_slice());
 }
 
 #[test]
-fn clone(rt: HostRuntime) -> Result<(), Fail> {
+fn clone(rt: HostRuntime) {
     let alloc = rt.alloc();
-    let set = FixedBitSet::from_iter(alloc, [3, 64])?;
-    let mut copy = set.clone()?;
+    let set = set_of(&rt, alloc, &[3, 64]);
+    let mut copy = ok(&rt, set.clone());
     copy.clear();
-    assert_eq!(rt; copy.len(), 65);
-    assert!(rt; set.contains(64) && !copy.contains(64));
-    Ok(())
+    equal(&rt, copy.len(), 65);
+    holds(&rt, set.contains(64) && !copy.contains(64));
 }

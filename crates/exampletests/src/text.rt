@@ -1,24 +1,26 @@
 //! The examples in the docs of `fixedbitset::text`. docs/make_examples writes this file.
 
+use crate::calls::{equal, ok};
 use fixedbitset::FixedBitSet;
 use std::fmt::{Binary, Formatter};
-use std::test::Fail;
 
 #[test]
-fn display_fmt(rt: HostRuntime) -> Result<(), Fail> {
+fn display_fmt(rt: HostRuntime) {
     let alloc = rt.alloc();
-    let set = FixedBitSet::with_capacity_and_blocks(alloc, 4, [2])?;
-    assert_eq!(rt; set.to_string(alloc)?.as_str(), "0100");
-    assert_eq!(rt; format!(in alloc; "{set:#}")?.as_str(), "0b0100");
-    Ok(())
+    let set = ok(&rt, FixedBitSet::with_capacity_and_blocks(alloc, 4, [2]));
+    equal(&rt, ok(&rt, set.to_string(alloc)).as_str(), "0100");
+    equal(
+        &rt,
+        ok(&rt, format!(in alloc; "{set:#}")).as_str(),
+        "0b0100",
+    );
 }
 
 #[test]
-fn binary_fmt(rt: HostRuntime) -> Result<(), Fail> {
+fn binary_fmt(rt: HostRuntime) {
     let alloc = rt.alloc();
-    let set = FixedBitSet::with_capacity_and_blocks(alloc, 4, [2])?;
+    let set = ok(&rt, FixedBitSet::with_capacity_and_blocks(alloc, 4, [2]));
     let mut f = Formatter::new(String::new(alloc));
-    Binary::fmt(&set, &mut f)?;
-    assert_eq!(rt; f.into_inner().as_str(), "0100");
-    Ok(())
+    ok(&rt, Binary::fmt(&set, &mut f));
+    equal(&rt, f.into_inner().as_str(), "0100");
 }
