@@ -14,11 +14,11 @@ ghost use Rattle.use_text.specs.Faults.{AreAll, IsFaultOfRow};
 ghost use Rattle.use_access.specs.Policies.{Has};
 ghost use Rattle.use_access.specs.Lines.{IsGrant, IsQuestion, HasGrants};
 
-use fixedbitset::FixedBitSet;
 use policies::Policy;
 use std::alloc::{AllocError, Global};
 use std::process::ExitCode;
 use use_text::program::{finish, read};
+use use_text::sets::set_of;
 use use_text::{Fault, Row};
 
 mod policies;
@@ -119,12 +119,8 @@ fn is_allowed(
     if role >= policy.roles() {
         return Ok(false);
     }
-    let mut asked = FixedBitSet::with_capacity(alloc, policy.rights())?;
-    for right in rights {
-        if *right >= policy.rights() {
-            return Ok(false);
-        }
-        asked.insert(*right);
-    }
+    let Some(asked) = set_of(alloc, policy.rights(), rights)? else {
+        return Ok(false);
+    };
     Ok(policy.allows(role, &asked))
 }

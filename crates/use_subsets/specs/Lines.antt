@@ -1,9 +1,5 @@
--- What the lines of an automaton say.
-use Rattle.std.specs.Prelude.{◌≡◌, ℕ, ◌<◌, List, All, length, slice_index}
-
--- each of these is a state
-abbrev pub AreStates : ℕ → List ℕ → Type 0
-AreStates states numbers = All (λ state. state < states) numbers
+-- The edges of an automaton.
+use Rattle.std.specs.Prelude.{◌≡◌, ℕ, ◌<◌, List, length, slice_index}
 
 -- an edge's two ends are states, and between them it bears a letter
 abbrev pub IsBetween : ℕ → ℕ → ℕ × ℕ × ℕ → Type 0

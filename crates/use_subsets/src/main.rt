@@ -10,18 +10,19 @@
 //! many states is a fault of its first line.
 #![tactic(auto)]
 
-ghost use Rattle.std.specs.Prelude.{◌≡◌, ◌<◌, ◌↔◌, ℕ, [], ◌∷◌, MatchOption, IfOk, IfErr, IsTrue, All, Contains, map};
-ghost use Rattle.fixedbitset.specs.Bits.{contains};
+ghost use Rattle.std.specs.Prelude.{◌≡◌, [], ◌∷◌, MatchOption, IfOk, IfErr, All, map};
 ghost use Rattle.use_text.specs.Faults.{IsFaultOfRow};
-ghost use Rattle.use_subsets.specs.Lines.{AreStates, IsEdge, IsBetween};
+ghost use Rattle.use_text.specs.Sets.{AreBelow, IsSetOf};
+ghost use Rattle.use_subsets.specs.Lines.{IsEdge, IsBetween};
 
-use automata::Nfa;
+use automata::{Edge, Nfa};
 use fixedbitset::FixedBitSet;
 use std::alloc::Global;
 use std::fmt::Write;
 use std::process::ExitCode;
 use subsets::determinize;
 use use_text::program::{finish, read};
+use use_text::sets::set_of;
 use use_text::{Fault, Row};
 
 mod automata;
@@ -49,8 +50,8 @@ fn answers(alloc: Global, text: &str) -> Result<String, Fault> {
         let wanted = "there have to be two numbers, of states up to 1,000 and of letters up to 100";
         return Err(Fault::Line(size.line, wanted));
     };
-    let start = set_of(alloc, states, start)?;
-    let accepting = set_of(alloc, states, accepting)?;
+    let start = states_of(alloc, states, start)?;
+    let accepting = states_of(alloc, states, accepting)?;
     let mut parts = others.splitn(2, |row| row.numbers.is_empty());
     let (Some(edges), Some(words)) = (parts.next(), parts.next()) else {
         return Err(Fault::Line(rows.len() + 1, "an empty line has to follow the edges"));
@@ -74,29 +75,19 @@ fn answers(alloc: Global, text: &str) -> Result<String, Fault> {
     Ok(answers)
 }
 
-// The set of the states of a row. The fault has the row, which has a number that is no state.
-fn set_of(alloc: Global, states: usize, row: &Row) -> Result<FixedBitSet, Fault>
-    ensures sized { IfOk result (λ set. set.length ≡ states) }
-    ensures members { IfOk result (λ set. (q : ℕ) → IsTrue (contains set q) ↔ Contains row.now.numbers.items q) }
-    ensures fault { IfErr result (IsFaultOfRow (AreStates states) (row.now ∷ [])) }
+// The set of the states of a row. The fault has the row, some number of which is no state.
+fn states_of(alloc: Global, states: usize, row: &Row) -> Result<FixedBitSet, Fault>
+    ensures set { IfOk result (IsSetOf states row.now.numbers.items) }
+    ensures fault { IfErr result (IsFaultOfRow (AreBelow states) (row.now ∷ [])) }
 {
-    let mut set = FixedBitSet::with_capacity(alloc, states)?;
-    for state in &row.numbers {
-        if *state >= states {
-            return Err(Fault::Line(row.line, "each number has to be a state"));
-        }
-        set.insert(*state);
-    }
+    let Some(set) = set_of(alloc, states, &row.numbers)? else {
+        return Err(Fault::Line(row.line, "each number has to be a state"));
+    };
     Ok(set)
 }
 
 // The edges of these rows, one each. The fault has the first row that is no edge.
-fn edges_of(
-    alloc: Global,
-    states: usize,
-    letters: usize,
-    rows: &[Row],
-) -> Result<Vec<(usize, usize, usize)>, Fault>
+fn edges_of(alloc: Global, states: usize, letters: usize, rows: &[Row]) -> Result<Vec<Edge>, Fault>
     ensures edges { IfOk result (λ edges.
         map (λ edge. edge.0 ∷ edge.1 ∷ edge.2 ∷ []) edges.items ≡ map (λ row. row.numbers.items) rows.now) }
     ensures between { IfOk result (λ edges. All (IsBetween states letters) edges.items) }
@@ -113,14 +104,12 @@ fn edges_of(
 }
 
 // The numbers of an edge. `None` comes exactly where they are none.
-fn edge_of(numbers: &[usize], states: usize, letters: usize) -> Option<(usize, usize, usize)>
+fn edge_of(numbers: &[usize], states: usize, letters: usize) -> Option<Edge>
     ensures { MatchOption result (¬ (IsEdge states letters numbers.now))
         (λ edge. IsBetween states letters edge × (numbers.now ≡ edge.0 ∷ edge.1 ∷ edge.2 ∷ [])) }
 {
     match *numbers {
-        [from, letter, to] if from < states && letter < letters && to < states => {
-            Some((from, letter, to))
-        }
+        [from, by, to] if from < states && by < letters && to < states => Some((from, by, to)),
         _ => None,
     }
 }

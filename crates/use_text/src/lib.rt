@@ -16,6 +16,7 @@ use std::alloc::{AllocError, AllocFailed, Global};
 use thiserror::Error;
 
 pub mod program;
+pub mod sets;
 #[cfg(test)]
 mod tests;
 

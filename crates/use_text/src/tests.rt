@@ -1,6 +1,7 @@
 //! Texts with their rows.
 
 use crate::program::{finish, read};
+use crate::sets::set_of;
 use crate::{Fault, rows};
 use std::test::Fail;
 
@@ -42,5 +43,16 @@ fn bytes_as_a_text(rt: HostRuntime) -> Result<(), Fail> {
     assert!(rt; matches!(answer, Err(Fault::Line(2, _))));
     finish(&rt, &answer, &mut written);
     assert_eq!(rt; written.len(), 3);
+    Ok(())
+}
+
+#[test]
+fn a_set_of_positions(rt: HostRuntime) -> Result<(), Fail> {
+    let Some(set) = set_of(rt.alloc(), 71, &[70, 0, 70])? else {
+        return Err(Fail::from("no set"));
+    };
+    assert_eq!(rt; set.len(), 71);
+    assert_eq!(rt; set.as_slice(), [1, 1 << 6].as_slice());
+    assert!(rt; set_of(rt.alloc(), 71, &[0, 71])?.is_none());
     Ok(())
 }
