@@ -21,12 +21,15 @@ fn count(rt: HostRuntime) {
 #[test]
 fn none(rt: HostRuntime) {
     holds(&rt, joins::none::<AndNot>(&[2], &[3, 1], &mut Steps::new()));
-    holds(&rt, !joins::none::<AndNot>(&[3, 1], &[3], &mut Steps::new()));
+    holds(
+        &rt,
+        !joins::none::<AndNot>(&[3, 1], &[3], &mut Steps::new()),
+    );
 }
 
 #[test]
 fn joined(rt: HostRuntime) {
     let alloc = rt.alloc();
-    let new = joins::joined::<And>ok(&rt, (alloc, &[11, 3, 1], &[9, 6]));
+    let new = ok(&rt, joins::joined::<And>(alloc, &[11, 3, 1], &[9, 6]));
     equal(&rt, new.as_slice(), [9, 2, 0].as_slice());
 }

@@ -1,5 +1,5 @@
-//! The examples in the docs of the public calls, as tests, and the blocks of the documents. docs/make_examples writes the
-//! files of this crate, but for what its tests share.
+//! The examples in the docs of the public calls, as tests, and the blocks of the documents. docs/make_examples writes
+//! each file of this crate but `calls.rt`.
 #![tactic(auto)]
 
 #[cfg(test)]
