@@ -11,30 +11,30 @@ use Rattle.fixedbitset.specs.Bits.{Bits, contains, asc}
 use Rattle.fixedbitset.specs.BitsFacts.{contains_below}
 use Rattle.bitlaws.specs.AscendingLaws.{IsAscendingListOf, OneAscendingList}
 
-abbrev Ascends : List ℕ → Type 0
+abbrev pub Ascends : List ℕ → Type 0
 Ascends xs = AllPairs (λ x y. x < y) xs
 
 -- a member is the head, or a member of the others
-Contains-cases : (x : ℕ) (xs : List ℕ) (p : ℕ) → Contains (x ∷ xs) p → (x ≡ p) ⊎ Contains xs p
+pub Contains-cases : (x : ℕ) (xs : List ℕ) (p : ℕ) → Contains (x ∷ xs) p → (x ≡ p) ⊎ Contains xs p
 Contains-cases x xs p member = by_index member.0 member.1 member.2
   where
     by_index : (k : ℕ) → k < length (x ∷ xs) → slice_index_or (x ∷ xs) k p ≡ p → (x ≡ p) ⊎ Contains xs p
     by_index zero within is = inl is
     by_index (suc k) within is = inr (k, omega arith, is)
 
-Contains-head : (x : ℕ) (xs : List ℕ) → Contains (x ∷ xs) x
+pub Contains-head : (x : ℕ) (xs : List ℕ) → Contains (x ∷ xs) x
 Contains-head x xs = (0, omega arith, refl)
 
-Contains-later : (x : ℕ) (xs : List ℕ) (p : ℕ) → Contains xs p → Contains (x ∷ xs) p
+pub Contains-later : (x : ℕ) (xs : List ℕ) (p : ℕ) → Contains xs p → Contains (x ∷ xs) p
 Contains-later x xs p member = Contains-append_right (x ∷ []) xs p member
 
 -- the head of an ascending list is below the others
-head_below : (x : ℕ) (xs : List ℕ) (p : ℕ) → Ascends (x ∷ xs) → Contains xs p → x < p
+pub head_below : (x : ℕ) (xs : List ℕ) (p : ℕ) → Ascends (x ∷ xs) → Contains xs p → x < p
 head_below x xs p ascends member =
     let below : x < get_or xs member.0 p = ascends 0 (suc member.0) p (omega arith) (omega (arith, member.1)) in
     omega (arith, below, member.2)
 
-Ascends-tail : (x : ℕ) (xs : List ℕ) → Ascends (x ∷ xs) → Ascends xs
+pub Ascends-tail : (x : ℕ) (xs : List ℕ) → Ascends (x ∷ xs) → Ascends xs
 Ascends-tail x xs ascends = λ i j d before within. ascends (suc i) (suc j) d (omega arith) (omega arith)
 
 -- two ascending lists with the same members are one list
@@ -77,7 +77,7 @@ IsStrictlyIncreasing-asc v = IsStrictlyIncreasing-filter (contains v) (range_wit
     let next : get_or (range_with_len 0 v.length) (k + 1) 0 ≡ 0 + (k + 1) = get_or-range_with_len 0 v.length (k + 1) 0 (omega arith) in
     omega arith)
 
-asc_is_one : (v : Bits) → IsAscendingListOf v (asc v)
+pub asc_is_one : (v : Bits) → IsAscendingListOf v (asc v)
 unfolding asc
 asc_is_one v = record {
   ascends = IsStrictlyIncreasing-asc v;

@@ -1,12 +1,17 @@
 //! Each function here does nothing: its contract is a law, which holds for all values.
 
 ghost use Rattle.bitlaws.specs.AscendingLaws.{OneAscendingList};
+ghost use Rattle.bitlaws.specs.JoinLaws.{Commutes, Associates, IsIdempotent, Absorbs, Distributes, IntersectionIsBitand};
+ghost use Rattle.bitlaws.specs.JoinLaws.{SubsetOfItself, SubsetThrough, SameSubsets, UnionIsLeast, IntersectionIsGreatest};
+ghost use Rattle.bitlaws.specs.JoinLaws.{ComplementTwice, ComplementOfUnion, ComplementOfIntersection, DifferenceByComplement};
 ghost use Rattle.bitlaws.specs.JsonLaws.{WrittenReadsBack, TextIsExact, HasWholeNumbers, NestsTwice};
+ghost use Rattle.bitlaws.specs.OrderLaws.{EqualTells, CompareTells, MinimumIsLeast, MaximumIsGreatest};
 ghost use Rattle.bitlaws.specs.RangeLaws.{WordsOfRange, NumberOfRangeWords, RangeWordsBound, SearchBound, TogglingTwice, RangeCountsAddUp, IsValidTells, ContainsAllTells, ContainsAnyTells};
 ghost use Rattle.bitlaws.specs.SetLaws.{ClearHasNone, FullHasAll, InsertAddsOne, InsertKeeps, RemoveTakesOne, RemoveKeeps, WordsReadBack};
 ghost use Rattle.bitlaws.specs.TwoSetLaws.{CountsAddUp, SymmetricDifferenceIsSum, SubsetBothWays, IsSubsetTells, IsDisjointTells, StepsBound, StepsOfEqual};
 ghost use Rattle.bitlaws.specs.WalkLaws.{PartsAreTheList, TurnsOfCalls, LooksUpOnce, JoinsOnce, SplitsOnce};
 ghost use Rattle.bitwords.specs.Walk.{GivesFirst, GivesLast};
+ghost use Rattle.fixedbitset.specs.TwoSets.{union, symmetric_difference, intersection, bitand};
 ghost use Rattle.bitwalks.specs.Pairs.{SievesFirst, SievesLast, joined_items, JoinsFirst, JoinsLast, split_items, SplitsFirst, SplitsLast};
 
 /// The ascending list of a set's positions is strictly ascending and has them all and no other, and every list that is
@@ -265,4 +270,106 @@ pub fn turns_of_calls()
     ensures of_sieved { LooksUpOnce }
     ensures of_joined { JoinsOnce }
     ensures of_split { SplitsOnce }
+{}
+
+/// Joins of sets of any lengths: which set stands first plays no part, nor which two of three sets are joined first, and a
+/// set joined with itself is that set. `intersection` keeps the length of its first set, so it is `bitand` only where that
+/// is the shorter one.
+///
+/// ```
+/// let set = FixedBitSet::from_iter(alloc, [3, 64])?;
+/// let other = FixedBitSet::from_iter(alloc, [3, 64, 200])?;
+/// laws::joins_in_any_order();
+/// let (one, same) = (set.bitor(alloc, &other)?, other.bitor(alloc, &set)?);
+/// prove!(one == same);
+/// ```
+pub fn joins_in_any_order()
+    ensures union_commutes { Commutes union }
+    ensures symmetric_difference_commutes { Commutes symmetric_difference }
+    ensures bitand_commutes { Commutes bitand }
+    ensures union_associates { Associates union }
+    ensures symmetric_difference_associates { Associates symmetric_difference }
+    ensures intersection_associates { Associates intersection }
+    ensures bitand_associates { Associates bitand }
+    ensures union_idempotent { IsIdempotent union }
+    ensures intersection_idempotent { IsIdempotent intersection }
+    ensures bitand_idempotent { IsIdempotent bitand }
+    ensures is_bitand { IntersectionIsBitand }
+{}
+
+/// Union and intersection of sets of any lengths: what one adds the other takes away, and each goes into the two sides of
+/// the other.
+///
+/// ```
+/// let mut set = FixedBitSet::from_iter(alloc, [3, 64])?;
+/// let other = FixedBitSet::from_iter(alloc, [9])?;
+/// let joined = set.bitor(alloc, &other)?;
+/// laws::joins_of_joins();
+/// set.intersect_with(&joined);
+/// assert!(rt; set.ones().eq([3, 64]));
+/// ```
+pub fn joins_of_joins()
+    ensures intersection_absorbs { Absorbs intersection union }
+    ensures union_absorbs { Absorbs union intersection }
+    ensures intersection_distributes { Distributes intersection union }
+    ensures union_distributes { Distributes union intersection }
+{}
+
+/// Subsets are ordered, and two sets of one length are equal if each is a subset of the other. The union is the least set
+/// that has both, and the intersection the greatest that both have.
+///
+/// ```
+/// let set = FixedBitSet::from_iter(alloc, [3, 64])?;
+/// let other = FixedBitSet::from_iter(alloc, [9])?;
+/// laws::subsets_are_ordered();
+/// let joined = set.bitor(alloc, &other)?;
+/// prove!(set.is_subset(&joined));
+/// ```
+pub fn subsets_are_ordered()
+    ensures of_itself { SubsetOfItself }
+    ensures through { SubsetThrough }
+    ensures same { SameSubsets }
+    ensures union_is_least { UnionIsLeast }
+    ensures intersection_is_greatest { IntersectionIsGreatest }
+{}
+
+/// The complement of a set has the positions below its length that are not set. Twice it is the set. De Morgan's laws hold
+/// of two sets of one length, and the difference is what is in the first set and in the complement of a second that is no
+/// shorter.
+///
+/// ```
+/// let set = FixedBitSet::from_iter(alloc, [3, 5])?;
+/// laws::complements();
+/// assert!(rt; set.zeroes().eq([0, 1, 2, 4]));
+/// ```
+pub fn complements()
+    ensures twice { ComplementTwice }
+    ensures of_union { ComplementOfUnion }
+    ensures of_intersection { ComplementOfIntersection }
+    ensures difference { DifferenceByComplement }
+{}
+
+/// `==` is true exactly if lengths and positions are the same, and `cmp` answers by them which of two sets comes first.
+///
+/// ```
+/// let set = FixedBitSet::from_iter(alloc, [3, 64])?;
+/// let other = FixedBitSet::from_iter(alloc, [9, 64])?;
+/// laws::order_tells();
+/// assert!(rt; set != other && set < other);
+/// ```
+pub fn order_tells()
+    ensures equal { EqualTells }
+    ensures compare { CompareTells }
+{}
+
+/// `minimum` and `maximum` answer a position exactly if it is set and no other is less, or greater.
+///
+/// ```
+/// let set = FixedBitSet::from_iter(alloc, [3, 9, 64])?;
+/// laws::ends_of_a_set();
+/// assert!(rt; set.minimum() == Some(3) && set.maximum() == Some(64));
+/// ```
+pub fn ends_of_a_set()
+    ensures minimum { MinimumIsLeast }
+    ensures maximum { MaximumIsGreatest }
 {}
