@@ -1,6 +1,6 @@
 -- Texts of arguments are read back.
-use Rattle.std.proofs.Common.{◌≡◌, ℕ, suc, ◌+◌, ◌^◌, ◌<◌, Bool, true, false, ◌&&◌, not, eqb, List, [], ◌∷◌, ◌++◌, length, map, Option, Some, None, true≢false, refl, sym, ap, ◌∙◌, arith, decimal}
-use Rattle.std.specs.Prelude.{codes, slice_index_or, position}
+use Rattle.std.proofs.Common.{◌≡◌, ℕ, suc, ◌+◌, ◌^◌, ◌<◌, Bool, true, false, ◌&&◌, not, eqb, List, [], ◌∷◌, ◌++◌, length, map, Some, true≢false, refl, sym, ap, ◌∙◌, arith, decimal}
+use Rattle.std.specs.Prelude.{slice_index_or, position}
 use Rattle.std.specs.Char.{is_ascii_digit}
 use Rattle.std.specs.Str.{all_ascii_digits}
 use Rattle.std.specs.Str.Parse.{digits_value}
@@ -11,14 +11,12 @@ use Rattle.std.proofs.lemmas.Str.Parse.{IsNumeralModel, numerals_by_value, tells
 use Rattle.std.proofs.lemmas.Grind.{common_steps}
 use Rattle.std.proofs.lemmas.Fmt.{digits_decimal, digits_value-decimal, decimal_nonempty}
 use Rattle.std.proofs.lemmas.List.Splits.{slice_split-cons_yes, slice_split-cons_no}
-use Rattle.std.proofs.Math.Seq.{take-append_seam, drop-append-add}
-use Rattle.bitcommands.specs.Actions.{Range}
 use Rattle.bitcommands.specs.declared.commands.walking.End.{End}
 use Rattle.bitcommands.specs.declared.commands.walking.End.TheVariants.{Front, Back}
 use Rattle.bitcommands.specs.Texts.{flag_text}
 use Rattle.bitlines.specs.Words.{number_of}
-use Rattle.bitlines.specs.Arguments.{flag_of, bound_of, end_bound_of, bounds_of, range_of, end_of, ends_from, ends_of}
-use Rattle.bitlines.specs.Written.{bound_text, letter, FitsBound}
+use Rattle.bitlines.specs.Arguments.{flag_of, end_of, ends_from, ends_of}
+use Rattle.bitlines.specs.Written.{letter}
 
 -- ---- bytes that a text lacks
 
@@ -84,7 +82,7 @@ position_or_len_cut b (x ∷ xs) ys e =
     let more : 1 + length xs ≡ suc (length xs) = omega arith in
     rw (not_true (eqb x b) (left_of (not (eqb x b)) (lacks b xs) e)) (ap (λ n. 1 + n) (position_or_len_cut b xs ys (right_of _ _ e)) ∙ more)
 
-found_at : (b : ℕ) (xs ys : List ℕ) → lacks b xs ≡ true → position (λ x. eqb x b) (xs ++ b ∷ ys) ≡ Some (length xs)
+pub found_at : (b : ℕ) (xs ys : List ℕ) → lacks b xs ≡ true → position (λ x. eqb x b) (xs ++ b ∷ ys) ≡ Some (length xs)
 found_at b xs ys e =
     let inside : length xs < length (xs ++ b ∷ ys) = grind (arith, common_steps) in
     rw (position_or_len_cut b xs ys e, lt-ltb (length xs) (length (xs ++ b ∷ ys)) inside) refl
@@ -93,41 +91,14 @@ second_at : (xs ys : List ℕ) → slice_index_or (xs ++ 46 ∷ 46 ∷ ys) (suc 
 second_at [] ys = refl
 second_at (x ∷ xs) ys = second_at xs ys
 
-second_dot : (xs ys : List ℕ) → slice_index_or (xs ++ 46 ∷ 46 ∷ ys) (length xs + 1) 0 ≡ 46
+pub second_dot : (xs ys : List ℕ) → slice_index_or (xs ++ 46 ∷ 46 ∷ ys) (length xs + 1) 0 ≡ 46
 second_dot xs ys =
     let next : length xs + 1 ≡ suc (length xs) = omega arith in
     ap (λ k. slice_index_or (xs ++ 46 ∷ 46 ∷ ys) k 0) next ∙ second_at xs ys
 
-pub bound_lacks : (b : ℕ) (o : Option ℕ) → is_ascii_digit b ≡ false → FitsBound o → lacks b (bound_text o) ≡ true
-bound_lacks b None none h = refl
-bound_lacks b (Some n) none h = decimal_lacks b n none h
-
-bound_read : (o : Option ℕ) → FitsBound o → bound_of (bound_text o) ≡ Some o
-unfolding bound_of
-bound_read None h = refl
-bound_read (Some n) h =
-    let some : eqb (length (decimal n)) 0 ≡ false = grind (arith, nat_tests, decimal_nonempty n h) in
-    rw (some, number_read n h) refl
-
-not_first : (xs : List ℕ) → lacks 61 xs ≡ true → eqb (slice_index_or xs 0 0) 61 ≡ false
+pub not_first : (xs : List ℕ) → lacks 61 xs ≡ true → eqb (slice_index_or xs 0 0) 61 ≡ false
 not_first [] e = refl
 not_first (x ∷ xs) e = not_true _ (left_of _ _ e)
-
-end_bound_read : (o : Option ℕ) → FitsBound o → end_bound_of (bound_text o) ≡ Some o
-unfolding end_bound_of
-end_bound_read o h = rw (not_first (bound_text o) (bound_lacks 61 o refl h)) (bound_read o h)
-
-pub range_read : (r : Range) → FitsBound r.0 → FitsBound r.1 → range_of (bound_text r.0 ++ (codes ".." ++ bound_text r.1)) ≡ Some r
-unfolding range_of bounds_of
-range_read r h k =
-    rw (
-      found_at 46 (bound_text r.0) (46 ∷ bound_text r.1) (bound_lacks 46 r.0 refl h),
-      second_dot (bound_text r.0) (bound_text r.1),
-      take-append_seam (bound_text r.0) (46 ∷ 46 ∷ bound_text r.1),
-      drop-append-add (bound_text r.0) (46 ∷ 46 ∷ bound_text r.1) 2,
-      bound_read r.0 h,
-      end_bound_read r.1 k,
-    ) refl
 
 -- ---- flags and letters
 

@@ -8,3 +8,10 @@ pub mod OneOutput
 pub mod JsonTexts
 pub mod ArgumentTexts
 pub mod ReadBack
+pub mod GrammarNumbers
+pub mod GrammarRanges
+pub mod GrammarArguments
+pub mod GrammarShapes
+pub mod GrammarNames
+pub mod GrammarLines
+pub mod StepsOfTargets

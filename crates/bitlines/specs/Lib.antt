@@ -5,6 +5,9 @@ pub mod Names
 pub mod Lines
 pub mod Written
 pub mod LineLaws
+pub mod Grammar
+pub mod GrammarLaws
+pub mod StepLaws
 pub mod Output
 pub mod OutputLaws
 pub mod Program

@@ -199,3 +199,62 @@ fn turns_of_calls(rt: HostRuntime) {
     laws::turns_of_calls();
     gives(&rt, set.intersection(&other), &[70]);
 }
+
+#[test]
+fn joins_in_any_order(rt: HostRuntime) {
+    let alloc = rt.alloc();
+    let set = set_of(&rt, alloc, &[3, 64]);
+    let other = set_of(&rt, alloc, &[3, 64, 200]);
+    laws::joins_in_any_order();
+    let (one, same) = (
+        ok(&rt, set.bitor(alloc, &other)),
+        ok(&rt, other.bitor(alloc, &set)),
+    );
+    prove!(one == same);
+}
+
+#[test]
+fn joins_of_joins(rt: HostRuntime) {
+    let alloc = rt.alloc();
+    let mut set = set_of(&rt, alloc, &[3, 64]);
+    let other = set_of(&rt, alloc, &[9]);
+    let joined = ok(&rt, set.bitor(alloc, &other));
+    laws::joins_of_joins();
+    set.intersect_with(&joined);
+    gives(&rt, set.ones(), &[3, 64]);
+}
+
+#[test]
+fn subsets_are_ordered(rt: HostRuntime) {
+    let alloc = rt.alloc();
+    let set = set_of(&rt, alloc, &[3, 64]);
+    let other = set_of(&rt, alloc, &[9]);
+    laws::subsets_are_ordered();
+    let joined = ok(&rt, set.bitor(alloc, &other));
+    prove!(set.is_subset(&joined));
+}
+
+#[test]
+fn complements(rt: HostRuntime) {
+    let alloc = rt.alloc();
+    let set = set_of(&rt, alloc, &[3, 5]);
+    laws::complements();
+    gives(&rt, set.zeroes(), &[0, 1, 2, 4]);
+}
+
+#[test]
+fn order_tells(rt: HostRuntime) {
+    let alloc = rt.alloc();
+    let set = set_of(&rt, alloc, &[3, 64]);
+    let other = set_of(&rt, alloc, &[9, 64]);
+    laws::order_tells();
+    holds(&rt, set != other && set < other);
+}
+
+#[test]
+fn ends_of_a_set(rt: HostRuntime) {
+    let alloc = rt.alloc();
+    let set = set_of(&rt, alloc, &[3, 9, 64]);
+    laws::ends_of_a_set();
+    holds(&rt, set.minimum() == Some(3) && set.maximum() == Some(64));
+}

@@ -1,0 +1,143 @@
+-- A command leaves each set but its target as it was, and a refused one every set.
+use Rattle.std.proofs.Common.{◌≡◌, ◌≢◌, ℕ, Bool, true, false, List, Option, Some, None, MatchOption, IsTrue, if◌then◌else◌, ◌⊎◌, inl, inr, refl, sym, ap, ◌∙◌}
+use Rattle.std.proofs.lemmas.Bool.{true≢false}
+use Rattle.std.proofs.lemmas.List.{length-set, get_or-set_other}
+use Rattle.fixedbitset.specs.Bits as model
+use Rattle.fixedbitset.specs.Bits.{Bits}
+use Rattle.bitcommands.specs.declared.commands.refusals.Refusal.{Refusal}
+use Rattle.bitcommands.specs.declared.commands.refusals.Refusal.TheVariants.{Memory, Greatest}
+use Rattle.bitcommands.specs.Actions as action
+use Rattle.bitcommands.specs.Actions.{Action}
+use Rattle.bitcommands.specs.Answers as answer
+use Rattle.bitcommands.specs.Answers.{Answer, refused}
+use Rattle.bitcommands.specs.Guards.{has_greatest}
+use Rattle.bitcommands.specs.Sets.{Sets, place}
+use Rattle.bitcommands.specs.Steps.{Step}
+use Rattle.bitlines.specs.StepLaws.{LeavesOthers, target, OnlyTargetChanges, RefusedChangesNothing}
+
+-- ---- the forms of rows
+
+unchanged : (k : ℕ) (old new : Sets) → new ≡ old → LeavesOthers k old new
+unchanged k old new is = rw is (refl, λ j apart. refl)
+
+changed : (k : ℕ) (old new : Sets) (v : Bits) → new ≡ place old k v → LeavesOthers k old new
+changed k old new v is = rw is (length-set old k v, λ j apart. get_or-set_other old k j v (model.empty 0) apart)
+
+abbrev is_refused : Answer → Bool
+is_refused (refused f) = true
+is_refused r = false
+
+-- what a command on set k leaves
+abbrev Keeps : ℕ → Action → Answer → Sets → Sets → Type 0
+Keeps k c r old new = LeavesOthers k old new
+    × ((f : Refusal) → r ≡ refused f → ((n : ℕ) (items : List ℕ) → c ≢ action.extend n items) → new ≡ old)
+
+keeps_all : (k : ℕ) (c : Action) (r : Answer) (old new : Sets) → new ≡ old → Keeps k c r old new
+keeps_all k c r old new is = (unchanged k old new is, λ f refusal other. is)
+
+-- a row answers, or memory is refused, where `Kept` holds then
+abbrev Stepped : Option Refusal → Answer → Answer → Sets → Sets → Sets → Type 0 → Type 0
+Stepped test answer r left old new Kept =
+    MatchOption test (((r ≡ answer) × (new ≡ left)) ⊎ ((r ≡ refused Memory) × Kept)) (λ f. (r ≡ refused f) × (new ≡ old))
+
+asked : (k : ℕ) (c : Action) (r : Answer) (old new : Sets) (test : Option Refusal) (answer : Answer) (may : Bool)
+    → Stepped test answer r old old new (IsTrue may × (new ≡ old)) → Keeps k c r old new
+asked k c r old new (Some f) answer may s = keeps_all k c r old new s.1
+asked k c r old new None answer may (inl s) = keeps_all k c r old new s.1
+asked k c r old new None answer may (inr s) = keeps_all k c r old new s.1.1
+
+placed : (k : ℕ) (c : Action) (r : Answer) (old new : Sets) (test : Option Refusal) (answer : Answer) (v : Bits) (may : Bool)
+    → is_refused answer ≡ false → Stepped test answer r (place old k v) old new (IsTrue may × (new ≡ old)) → Keeps k c r old new
+placed k c r old new (Some f) answer v may plain s = keeps_all k c r old new s.1
+placed k c r old new None answer v may plain (inl s) =
+    (changed k old new v s.1, λ f is other. absurd (true≢false (ap is_refused (sym is ∙ s.0) ∙ plain)))
+placed k c r old new None answer v may plain (inr s) = keeps_all k c r old new s.1.1
+
+-- `from_iter` leaves the sets where it meets the greatest number
+made_of : (k : ℕ) (c : Action) (met : Bool) (r : Answer) (old new : Sets) (test : Option Refusal) (v : Bits) (may : Bool)
+    → Stepped test (if met then refused Greatest else answer.done) r (if met then old else place old k v) old new (IsTrue may × (new ≡ old))
+    → Keeps k c r old new
+made_of k c true r old new test v may s = asked k c r old new test (refused Greatest) may s
+made_of k c false r old new test v may s = placed k c r old new test answer.done v may refl s
+
+-- `extend` keeps the items before the one that memory was refused for
+taken_in : (k : ℕ) (r : Answer) (old new : Sets) (test : Option Refusal) (answer : Answer) (v : Bits) (Taken : Bits → Type 0)
+    → Stepped test answer r (place old k v) old new ((w : Bits) × Taken w × (new ≡ place old k w)) → LeavesOthers k old new
+taken_in k r old new (Some f) answer v Taken s = unchanged k old new s.1
+taken_in k r old new None answer v Taken (inl s) = changed k old new v s.1
+taken_in k r old new None answer v Taken (inr s) = changed k old new s.1.0 s.1.2
+
+-- ---- the rows
+
+of_row : (m : ℕ) (c : Action) (r : Answer) (old new : Sets) → Step m old c r new → Keeps (target c) c r old new
+of_row m (action.new a) r old new s = placed a _ r old new _ _ _ _ refl s
+of_row m (action.default a) r old new s = placed a _ r old new _ _ _ _ refl s
+of_row m (action.with_capacity a b) r old new s = placed a _ r old new _ _ _ _ refl s
+of_row m (action.with_capacity_and_blocks a b c) r old new s = placed a _ r old new _ _ _ _ refl s
+of_row m (action.clone a b) r old new s = placed a _ r old new _ _ _ _ refl s
+of_row m (action.clone_from a b) r old new s = placed a _ r old new _ _ _ _ refl s
+of_row m (action.from_iter a b) r old new s = made_of a _ (has_greatest b) r old new _ _ _ s
+of_row m (action.from_value a b) r old new s = placed a _ r old new _ _ _ _ refl s
+of_row m (action.bitand a b c) r old new s = placed a _ r old new _ _ _ _ refl s
+of_row m (action.bitor a b c) r old new s = placed a _ r old new _ _ _ _ refl s
+of_row m (action.bitxor a b c) r old new s = placed a _ r old new _ _ _ _ refl s
+of_row m (action.len a) r old new s = asked a _ r old new _ _ _ s
+of_row m (action.is_empty a) r old new s = asked a _ r old new _ _ _ s
+of_row m (action.is_clear a) r old new s = asked a _ r old new _ _ _ s
+of_row m (action.is_full a) r old new s = asked a _ r old new _ _ _ s
+of_row m (action.minimum a) r old new s = asked a _ r old new _ _ _ s
+of_row m (action.maximum a) r old new s = asked a _ r old new _ _ _ s
+of_row m (action.as_slice a) r old new s = asked a _ r old new _ _ _ s
+of_row m (action.contains a b) r old new s = asked a _ r old new _ _ _ s
+of_row m (action.index a b) r old new s = asked a _ r old new _ _ _ s
+of_row m (action.text a) r old new s = asked a _ r old new _ _ _ s
+of_row m (action.to_value a) r old new s = asked a _ r old new _ _ _ s
+of_row m (action.clear a) r old new s = placed a _ r old new _ _ _ _ refl s
+of_row m (action.grow a b) r old new s = placed a _ r old new _ _ _ _ refl s
+of_row m (action.grow_and_insert a b) r old new s = placed a _ r old new _ _ _ _ refl s
+of_row m (action.insert a b) r old new s = placed a _ r old new _ _ _ _ refl s
+of_row m (action.remove a b) r old new s = placed a _ r old new _ _ _ _ refl s
+of_row m (action.toggle a b) r old new s = placed a _ r old new _ _ _ _ refl s
+of_row m (action.put a b) r old new s = placed a _ r old new _ _ _ _ refl s
+of_row m (action.set a b c) r old new s = placed a _ r old new _ _ _ _ refl s
+of_row m (action.copy_bit a b c) r old new s = placed a _ r old new _ _ _ _ refl s
+of_row m (action.set_block a b c) r old new s = placed a _ r old new _ _ _ _ refl s
+of_row m (action.extend a b) r old new s = (taken_in a r old new _ _ _ _ s, λ f is other. absurd (other a b refl))
+of_row m (action.count_ones a b) r old new s = asked a _ r old new _ _ _ s
+of_row m (action.count_zeroes a b) r old new s = asked a _ r old new _ _ _ s
+of_row m (action.set_range a b c) r old new s = placed a _ r old new _ _ _ _ refl s
+of_row m (action.insert_range a b) r old new s = placed a _ r old new _ _ _ _ refl s
+of_row m (action.remove_range a b) r old new s = placed a _ r old new _ _ _ _ refl s
+of_row m (action.toggle_range a b) r old new s = placed a _ r old new _ _ _ _ refl s
+of_row m (action.contains_all_in_range a b) r old new s = asked a _ r old new _ _ _ s
+of_row m (action.contains_any_in_range a b) r old new s = asked a _ r old new _ _ _ s
+of_row m (action.range_is_valid a b) r old new s = asked a _ r old new _ _ _ s
+of_row m (action.union_with a b) r old new s = placed a _ r old new _ _ _ _ refl s
+of_row m (action.symmetric_difference_with a b) r old new s = placed a _ r old new _ _ _ _ refl s
+of_row m (action.bitor_assign a b) r old new s = placed a _ r old new _ _ _ _ refl s
+of_row m (action.bitxor_assign a b) r old new s = placed a _ r old new _ _ _ _ refl s
+of_row m (action.intersect_with a b) r old new s = placed a _ r old new _ _ _ _ refl s
+of_row m (action.difference_with a b) r old new s = placed a _ r old new _ _ _ _ refl s
+of_row m (action.bitand_assign a b) r old new s = placed a _ r old new _ _ _ _ refl s
+of_row m (action.union_count a b) r old new s = asked a _ r old new _ _ _ s
+of_row m (action.intersection_count a b) r old new s = asked a _ r old new _ _ _ s
+of_row m (action.difference_count a b) r old new s = asked a _ r old new _ _ _ s
+of_row m (action.symmetric_difference_count a b) r old new s = asked a _ r old new _ _ _ s
+of_row m (action.is_disjoint a b) r old new s = asked a _ r old new _ _ _ s
+of_row m (action.is_subset a b) r old new s = asked a _ r old new _ _ _ s
+of_row m (action.is_superset a b) r old new s = asked a _ r old new _ _ _ s
+of_row m (action.eq a b) r old new s = asked a _ r old new _ _ _ s
+of_row m (action.cmp a b) r old new s = asked a _ r old new _ _ _ s
+of_row m (action.ones a b) r old new s = asked a _ r old new _ _ _ s
+of_row m (action.into_ones a b) r old new s = placed a _ r old new _ _ _ _ refl s
+of_row m (action.zeroes a b) r old new s = asked a _ r old new _ _ _ s
+of_row m (action.union a b c) r old new s = asked a _ r old new _ _ _ s
+of_row m (action.intersection a b c) r old new s = asked a _ r old new _ _ _ s
+of_row m (action.difference a b c) r old new s = asked a _ r old new _ _ _ s
+of_row m (action.symmetric_difference a b c) r old new s = asked a _ r old new _ _ _ s
+
+pub only_target_changes : OnlyTargetChanges
+only_target_changes m c r old new s = (of_row m c r old new s).0
+
+pub refused_changes_nothing : RefusedChangesNothing
+refused_changes_nothing m c f old new s other = (of_row m c (refused f) old new s).1 f refl other
