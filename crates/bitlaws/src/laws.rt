@@ -280,7 +280,7 @@ pub fn turns_of_calls()
 /// let set = FixedBitSet::from_iter(alloc, [3, 64])?;
 /// let other = FixedBitSet::from_iter(alloc, [3, 64, 200])?;
 /// laws::joins_in_any_order();
-/// let (one, same) = (set.bitor(alloc, &other)?, other.bitor(alloc, &set)?);
+/// let (one, same) = (set.bitor(&other)?, other.bitor(&set)?);
 /// prove!(one == same);
 /// ```
 pub fn joins_in_any_order()
@@ -303,7 +303,7 @@ pub fn joins_in_any_order()
 /// ```
 /// let mut set = FixedBitSet::from_iter(alloc, [3, 64])?;
 /// let other = FixedBitSet::from_iter(alloc, [9])?;
-/// let joined = set.bitor(alloc, &other)?;
+/// let joined = set.bitor(&other)?;
 /// laws::joins_of_joins();
 /// set.intersect_with(&joined);
 /// assert!(rt; set.ones().eq([3, 64]));
@@ -322,7 +322,7 @@ pub fn joins_of_joins()
 /// let set = FixedBitSet::from_iter(alloc, [3, 64])?;
 /// let other = FixedBitSet::from_iter(alloc, [9])?;
 /// laws::subsets_are_ordered();
-/// let joined = set.bitor(alloc, &other)?;
+/// let joined = set.bitor(&other)?;
 /// prove!(set.is_subset(&joined));
 /// ```
 pub fn subsets_are_ordered()

@@ -206,10 +206,7 @@ fn joins_in_any_order(rt: HostRuntime) {
     let set = set_of(&rt, alloc, &[3, 64]);
     let other = set_of(&rt, alloc, &[3, 64, 200]);
     laws::joins_in_any_order();
-    let (one, same) = (
-        ok(&rt, set.bitor(alloc, &other)),
-        ok(&rt, other.bitor(alloc, &set)),
-    );
+    let (one, same) = (ok(&rt, set.bitor(&other)), ok(&rt, other.bitor(&set)));
     prove!(one == same);
 }
 
@@ -218,7 +215,7 @@ fn joins_of_joins(rt: HostRuntime) {
     let alloc = rt.alloc();
     let mut set = set_of(&rt, alloc, &[3, 64]);
     let other = set_of(&rt, alloc, &[9]);
-    let joined = ok(&rt, set.bitor(alloc, &other));
+    let joined = ok(&rt, set.bitor(&other));
     laws::joins_of_joins();
     set.intersect_with(&joined);
     gives(&rt, set.ones(), &[3, 64]);
@@ -230,7 +227,7 @@ fn subsets_are_ordered(rt: HostRuntime) {
     let set = set_of(&rt, alloc, &[3, 64]);
     let other = set_of(&rt, alloc, &[9]);
     laws::subsets_are_ordered();
-    let joined = ok(&rt, set.bitor(alloc, &other));
+    let joined = ok(&rt, set.bitor(&other));
     prove!(set.is_subset(&joined));
 }
 
