@@ -287,3 +287,26 @@ fn counts(rt: HostRuntime) -> Result<(), Fail> {
     }
     Ok(())
 }
+
+#[test]
+fn walks(rt: HostRuntime) -> Result<(), Fail> {
+    let set = set_of(rt.alloc(), Spanned::new(173, &[(139, 173)]))?;
+    let other = set_of(rt.alloc(), Spanned::new(137, &[(0, 107)]))?;
+    assert_eq!(rt; set.union(&other).count(), 141);
+    assert!(rt; set.union(&other).next_back() == Some(106));
+
+    let set = set_of(rt.alloc(), Spanned::new(109, &[(0, 59)]))?;
+    let other = set_of(rt.alloc(), Spanned::new(109, &[(23, 109)]))?;
+    assert_eq!(rt; set.intersection(&other).count(), 36);
+    assert!(rt; set.intersection(&other).next_back() == Some(58));
+
+    let set = set_of(rt.alloc(), Spanned::new(83, &[(0, 79)]))?;
+    let other = set_of(rt.alloc(), Spanned::new(151, &[(53, 151)]))?;
+    assert_eq!(rt; set.difference(&other).count(), 53);
+    assert!(rt; set.difference(&other).next_back() == Some(52));
+
+    let set = set_of(rt.alloc(), Spanned::new(83, &[(47, 79)]))?;
+    assert_eq!(rt; set.symmetric_difference(&other).count(), 78);
+    assert!(rt; set.symmetric_difference(&other).next_back() == Some(150));
+    Ok(())
+}

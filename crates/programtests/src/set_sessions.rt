@@ -36,7 +36,7 @@ pub const MADE: [(&str, &str); 31] = [
 ];
 
 /// Words past those that the length needs are not looked at, and bits past the length are dropped.
-pub const BLOCKS: [(&str, &str); 30] = [
+pub const BLOCKS: [(&str, &str); 32] = [
     ("with_capacity_and_blocks 0 4 4 9", "ok"),
     ("ones 0 ff", "2 none"),
     ("as_slice 0", "4"),
@@ -70,6 +70,8 @@ pub const BLOCKS: [(&str, &str); 30] = [
     ("is_clear 3", "true"),
     ("with_capacity_and_blocks 3 0 1", "ok"),
     ("as_slice 3", "-"),
+    ("with_capacity 0 70", "ok"),
+    ("set_block 0 2 1", "F2 position not below the length"),
 ];
 
 /// A set of length 0 is full and clear; `index` is `contains` by another name.

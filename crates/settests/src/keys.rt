@@ -6,6 +6,7 @@ use fixedbitset::FixedBitSet;
 use std::alloc::Global;
 use std::cmp::Ordering;
 use std::collections::{BTreeMap, BTreeSet, HashMap, HashSet};
+use std::fmt::{Binary, Formatter};
 use std::process::Abort;
 use std::test::Fail;
 use testvalues::slow::filled;
@@ -257,6 +258,12 @@ fn a_text_has_a_character_for_each_position(rt: HostRuntime) -> Result<(), Fail>
         FixedBitSet::new(rt.alloc()).to_string(rt.alloc())?.as_str(),
         ""
     );
+    let two = set_of(rt.alloc(), 8, &[2, 4])?;
+    assert_eq!(rt; two.to_string(rt.alloc())?.as_str(), "00101000");
+    assert_eq!(rt; format!(in rt.alloc(); "{two:#}")?.as_str(), "0b00101000");
+    let mut binary = Formatter::new(String::new(rt.alloc()));
+    Binary::fmt(&two, &mut binary)?;
+    assert_eq!(rt; binary.into_inner().as_str(), "00101000");
     let items = FixedBitSet::from_iter(rt.alloc(), [1, 5, 7, 10, 14, 15]).expect(&rt, "one word");
     assert_eq!(rt; items.to_string(rt.alloc())?.as_str(), "0100010100100011");
     Ok(())

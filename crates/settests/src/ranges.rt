@@ -103,6 +103,17 @@ fn whole_words(rt: HostRuntime) -> Result<(), Fail> {
 }
 
 #[test]
+fn grown_behind_the_last_position(rt: HostRuntime) -> Result<(), Fail> {
+    let mut set = FixedBitSet::with_capacity(rt.alloc(), 70)?;
+    assert!(rt; set.len() == 70);
+    set.insert(69);
+    set.grow(256)?;
+    assert!(rt; set.len() == 256);
+    assert!(rt; !set.contains_any_in_range(70..256));
+    Ok(())
+}
+
+#[test]
 fn length_zero(rt: HostRuntime) {
     let facts = [
         (Span::Full, Fact::Ones(0)),
