@@ -42,6 +42,9 @@ module _ (v : Bits) (first second : ℕ) (is_first : IsFree v first) (is_second 
   pub second_too : (w : Bits) → w ≡ insert (insert v first) second → IsTaken w second
   second_too w same = rw same ((in_insert (insert v first) second second is_second.0).1 (inl refl))
 
+-- what holds of them
+pub ruleset two_taken = (two_apart, two_free, first_stays, second_too)
+
 -- ---- a slot is given back
 
 free_again : (v : Bits) (slot : ℕ) → IsTaken v slot → IsFree (remove v slot) slot

@@ -92,7 +92,7 @@ impl Slots {
 }
 
 /// Takes the least free slot and then the least one that is left, or none where fewer than two are free.
-#[tactic(auto, using(crate::proofs::Pools::two_apart, crate::proofs::Pools::two_free, crate::proofs::Pools::first_stays, crate::proofs::Pools::second_too))]
+#[tactic(auto, using(crate::proofs::Pools::two_taken))]
 pub fn take_two(slots: &mut Slots) -> Option<(usize, usize)>
     ensures few { IfNone result ((free_count slots.old < 2) × (slots.new ≡ slots.old)) }
     ensures first { IfSome result (λ two. IsLeastFree slots.old two.0) }

@@ -88,8 +88,8 @@ fn states_of(alloc: Global, states: usize, row: &Row) -> Result<FixedBitSet, Fau
 
 // The edges of these rows, one each. The fault has the first row that is no edge.
 fn edges_of(alloc: Global, states: usize, letters: usize, rows: &[Row]) -> Result<Vec<Edge>, Fault>
-    ensures edges { IfOk result (λ edges.
-        map (λ edge. edge.0 ∷ edge.1 ∷ edge.2 ∷ []) edges.items ≡ map (λ row. row.numbers.items) rows.now) }
+    ensures edges { IfOk result (λ edges. map (λ edge. edge.0 ∷ edge.1 ∷ edge.2 ∷ []) edges.items
+        ≡ map (λ row. row.numbers.items) rows.now) }
     ensures between { IfOk result (λ edges. All (IsBetween states letters) edges.items) }
     ensures fault { IfErr result (IsFaultOfRow (IsEdge states letters) rows.now) }
 {

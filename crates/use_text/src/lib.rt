@@ -1,4 +1,5 @@
-//! Rows of numbers in a text, and how a program reads its input and ends: what the programs `use_..` share.
+//! Rows of numbers in a text, sets of such numbers, and how a program reads its input and ends: what the programs `use_..`
+//! share.
 //!
 //! Each line of the text is a row. Its words stand between spaces, and each of them has to be a number: one or more
 //! decimal digits and nothing else, of a value below 2 ^ 64 (`specs/Rows.antt`). A line without words is a row without
@@ -110,7 +111,8 @@ fn lines_of<'a>(alloc: Global, text: &'a str) -> Result<Vec<&'a str>, AllocError
 
 // What stands between the spaces of a line, empty pieces among them.
 fn pieces_of<'a>(alloc: Global, line: &'a str) -> Result<Vec<&'a str>, AllocError>
-    ensures { IfOk result (λ list. map (λ piece. piece.now) list.items ≡ slice_split (λ b. b == 32) line.now) }
+    ensures { IfOk result (λ list.
+        map (λ piece. piece.now) list.items ≡ slice_split (λ b. b == 32) line.now) }
 {
     line.split(' ').collect(alloc)
 }

@@ -16,7 +16,8 @@ use std::process::ExitCode;
 ///
 /// The fault is that the input cannot be read, that memory was refused, or the first line that is not UTF-8.
 pub fn read<R: Read>(alloc: Global, reader: &mut R) -> Result<String, Fault>
-    ensures { IfOk result (λ text. IfSome (R.remaining reader.old) (λ bytes. string_bytes text ≡ bytes)) }
+    ensures { IfOk result (λ text.
+        IfSome (R.remaining reader.old) (λ bytes. string_bytes text ≡ bytes)) }
 {
     let mut bytes = Vec::new(alloc);
     match reader.read_to_end(&mut bytes) {
@@ -31,7 +32,8 @@ pub fn read<R: Read>(alloc: Global, reader: &mut R) -> Result<String, Fault>
 fn text_of(bytes: Vec<u8>) -> Result<String, Fault>
     ensures text { IfOk result (λ text. string_bytes text ≡ bytes.items) }
     ensures fault { OnErr result (¬ (IsUtf8 bytes.items)) }
-    ensures line { IfErr result (λ fault. HasLine fault (line_of (utf8_valid_len bytes.items) bytes.items)) }
+    ensures line { IfErr result (λ fault.
+        HasLine fault (line_of (utf8_valid_len bytes.items) bytes.items)) }
 {
     match String::from_utf8(bytes) {
         Ok(text) => Ok(text),
