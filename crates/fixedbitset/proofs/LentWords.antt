@@ -1,20 +1,30 @@
 -- Words that someone else keeps: the lemmas of a set's fields, at the value of the words themselves.
-use Rattle.std.proofs.Common.{◌≡◌, ℕ, ◌*◌, ◌/◌, ◌%◌, ◌^◌, ◌<◌, ◌≤◌, max, not, ◌&&◌, ◌==◌, nat_lt, List, length, get_or, set, refl, sym, ap, ◌∙◌, arith, ⊎_elim, bit_or, bit_and, bit_xor}
+use Rattle.std.proofs.Common.{◌≡◌, ℕ, ◌*◌, ◌/◌, ◌%◌, ◌^◌, ◌<◌, ◌≤◌, max, not, ◌&&◌, ◌==◌, nat_lt, List, length, get_or, set, slice_get, None, refl, sym, ap, ◌∙◌, arith, ⊎_elim, bit_or, bit_and, bit_xor}
 use Rattle.std.specs.Int.{bit_not, w64}
+use Rattle.std.specs.List.{last_or}
 use Rattle.std.proofs.lemmas.Bool.{cases_lt, le-ltb, and_right}
 use Rattle.std.proofs.lemmas.List.{get_or_default}
+use Rattle.bitwords.specs.Ascending.{ascending}
 use Rattle.bitwords.specs.Rows.{has_bit, IsJoined}
 use Rattle.bitwords.specs.RowFacts.{has_bit-past}
-use Rattle.fixedbitset.specs.Bits.{contains, of_words, insert, remove, toggle, grow, storage_words}
+use Rattle.fixedbitset.specs.Bits.{contains, of_words, insert, remove, toggle, grow, minimum, maximum, storage_words}
 use Rattle.fixedbitset.specs.BitsFacts.{same_bits, length-grow, contains-grow}
 use Rattle.fixedbitset.specs.Stored.{IsClean}
 use Rattle.fixedbitset.proofs.Values.{length-of_words, contains-of_words}
 use Rattle.fixedbitset.proofs.Words.{contains-of_clean}
 use Rattle.fixedbitset.proofs.Changes.{of_insert, IsClean_insert, of_remove, IsClean_remove, of_toggle, IsClean_toggle, viewed_mask, place_within}
+use Rattle.fixedbitset.proofs.Positions.{row_minimum, row_maximum}
 
 -- the value is as long as the words are said to be
 pub of_length : (n : ℕ) (ws : List ℕ) → (of_words n ws).length ≡ n
 of_length n ws = length-of_words n ws
+
+-- the first and the last position of the words
+pub least : (n : ℕ) (ws : List ℕ) → IsClean n ws → slice_get (ascending (has_bit ws) 0 (64 * length ws)) 0 ≡ minimum (of_words n ws)
+least n ws clean = row_minimum n ws _ refl clean
+
+pub greatest : (n : ℕ) (ws : List ℕ) → IsClean n ws → last_or None (ascending (has_bit ws) 0 (64 * length ws)) ≡ maximum (of_words n ws)
+greatest n ws clean = row_maximum n ws _ refl clean
 
 -- ---- one bit
 

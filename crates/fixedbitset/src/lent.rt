@@ -232,6 +232,7 @@ pub fn is_clear(words: &[Block], length: usize) -> bool
 /// assert_eq!(rt; lent::minimum(&words, 70), Some(65));
 /// ```
 #[inline(always)]
+#[tactic(auto, using(crate::proofs::LentWords::least))]
 pub fn minimum(words: &[Block], length: usize) -> Option<usize>
     requires { IsClean length words.now }
     ensures { result ≡ model.minimum (of_words length words.now) }
@@ -247,6 +248,7 @@ pub fn minimum(words: &[Block], length: usize) -> Option<usize>
 /// assert_eq!(rt; lent::maximum(&words, 70), Some(69));
 /// ```
 #[inline(always)]
+#[tactic(auto, using(crate::proofs::LentWords::greatest))]
 pub fn maximum(words: &[Block], length: usize) -> Option<usize>
     requires { IsClean length words.now }
     ensures { result ≡ model.maximum (of_words length words.now) }
