@@ -1,4 +1,4 @@
--- The words that a cursor holds. No public clause cites this module.
+-- The words that a cursor holds. Of the public clauses those of its parts alone, `into_held` and `of_held`, cite this module.
 use Rattle.std.specs.Prelude.{◌≡◌, ℕ, ◌+◌, ◌-◌, ◌*◌, ◌^◌, ◌<◌, ◌≤◌, List, [], ◌∷◌, ◌++◌, length}
 use Rattle.bitwords.specs.Rows.{has_bit}
 use Rattle.bitwords.specs.Ascending.{ascending}
@@ -8,6 +8,10 @@ use Rattle.bitwords.specs.Walk.{Walk}
 unfoldable pub ones_from : ℕ → List ℕ → List ℕ
 ones_from start words = ascending (λ p. has_bit words (p - start)) start (64 * length words)
 
+-- the positions left of these two words and of those between them, where bit 0 of the first stands at `front_at`
+abbrev pub held_items : (front_at front : ℕ) → List ℕ → (back : ℕ) → List ℕ
+held_items front_at front middle back = ones_from front_at (front ∷ (middle ++ back ∷ []))
+
 -- the words at these positions have so many words between them, and end within a usize; a last word that is 0 and has no
 -- word before it may stand anywhere from the first one on
 pub record IsSpaced (front_at back_at between back : ℕ) : Type 0 where
@@ -15,6 +19,6 @@ pub record IsSpaced (front_at back_at between back : ℕ) : Type 0 where
   pub order : front_at ≤ back_at
   pub fits : back_at + 64 ≤ 2 ^ 64
 
--- the walk over the positions of these two words and those between them, before its first call
-abbrev pub held_ends : ℕ → List ℕ → ℕ → Walk
-held_ends front middle back = record { items = ones_from 0 (front ∷ (middle ++ back ∷ [])); words = middle; turns = 0; taken = 0 }
+-- the walk that holds these, before its first call
+abbrev pub held_walk : (front_at front : ℕ) → List ℕ → (back : ℕ) → Walk
+held_walk front_at front middle back = record { items = held_items front_at front middle back; words = middle; turns = 0; taken = 0 }

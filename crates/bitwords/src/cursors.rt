@@ -10,7 +10,7 @@ ghost use Rattle.std.specs.Iterator.SizeHint.{IsWithinCount};
 ghost use Rattle.std.specs.Vec.Iter.{into_iter_items};
 ghost use Rattle.bitwords.specs.Rows.{has_bit};
 ghost use Rattle.bitwords.specs.Walk.{GivesFirst, GivesLast, between_ends, over_row};
-ghost use Rattle.bitwords.specs.WalkedWords.{held_ends};
+ghost use Rattle.bitwords.specs.WalkedWords.{held_items, held_walk, IsSpaced};
 
 use bitlanes::counter::Steps;
 use bitlanes::word::{BITS, Block, ones_below, take_highest_bit, take_lowest_bit};
@@ -152,6 +152,17 @@ fn ends_of<M: Middle + Drop>(mut words: M) -> Ends<M>
     }
 }
 
+/// What a cursor holds, for a caller that keeps its fields and no cursor: the first and the last word of those left
+/// without the bits that were given, the positions of their bits 0, and the words between them.
+#[derive(Drop)]
+pub struct Held<M> {
+    pub front: Block,
+    pub back: Block,
+    pub front_at: usize,
+    pub back_at: usize,
+    pub middle: M,
+}
+
 /// The positions set in a row of words, in ascending order, from both ends.
 ///
 /// A call makes one turn, and one more for each word that it takes. The two counts take no bytes when the program runs.
@@ -228,11 +239,75 @@ impl<M: Middle + Drop> Cursor<M> {
         Cursor::between(ends)
     }
 
+    /// What the cursor holds. `of_held` makes a cursor of it again, which has the same items left.
+    ///
+    /// ```
+    /// let mut cursor = Cursor::over(Plain { words: &[9, 0, 1] });
+    /// assert_eq!(rt; cursor.next(), Some(0));
+    /// assert_eq!(rt; cursor.into_held().front, 8);
+    /// ```
+    #[inline(always)]
+    pub fn into_held(self) -> Held<M>
+        ensures items { held_items result.front_at result.front (M.words result.middle) result.back
+            ≡ self.items }
+        ensures words { M.words result.middle ≡ self.words }
+        ensures spaced { IsSpaced result.front_at result.back_at
+            (length (M.words result.middle)) result.back }
+    {
+        let Cursor {
+            front,
+            back,
+            front_at,
+            back_at,
+            middle,
+            turns: _,
+            taken: _,
+        } = self;
+        Held {
+            front,
+            back,
+            front_at,
+            back_at,
+            middle,
+        }
+    }
+
+    /// The cursor that holds this. Its counts begin at 0.
+    ///
+    /// ```
+    /// let cursor = Cursor::over(Plain { words: &[9, 0, 1] });
+    /// let held = cursor.into_held();
+    /// assert!(rt; Cursor::of_held(held).eq([0, 3, 128]));
+    /// ```
+    #[inline(always)]
+    pub fn of_held(held: Held<M>) -> Cursor<M>
+        requires { IsSpaced held.front_at held.back_at (length (M.words held.middle)) held.back }
+        ensures { result
+            ≡ held_walk held.front_at held.front (M.words held.middle) held.back }
+    {
+        let Held {
+            front,
+            back,
+            front_at,
+            back_at,
+            middle,
+        } = held;
+        Cursor {
+            front,
+            back,
+            front_at,
+            back_at,
+            middle,
+            turns: Steps::new(),
+            taken: Steps::new(),
+        }
+    }
+
     // The words lie one behind the other from position 0 on.
     #[inline(always)]
     fn between(ends: Ends<M>) -> Cursor<M>
         requires { 64 * (length (M.words ends.middle) + 2) ≤ 2 ^ 64 }
-        ensures { result ≡ held_ends ends.front (M.words ends.middle) ends.back }
+        ensures { result ≡ held_walk 0 ends.front (M.words ends.middle) ends.back }
     {
         let back_at = BITS * (ends.middle.left() + 1);
         Cursor {

@@ -12,3 +12,4 @@ pub mod Blocks
 pub mod Equality
 pub mod Characters
 pub mod JsonBytes
+pub mod LentWords

@@ -9,6 +9,7 @@ pub mod counted;
 pub mod extend;
 mod joined;
 pub mod json;
+pub mod lent;
 pub mod operators;
 pub mod order;
 pub mod pairs;

@@ -1,6 +1,6 @@
 use Rattle.std.proofs.Common.{ap, sym, ◌∙◌, ◌+◌, arith, length, length-append, [], ◌∷◌}
 use Rattle.bitwords.specs.CallFacts.{takes_back}
-use Rattle.bitwalks.proofs.Sieved.{last_passes, last_fails, nothing_left}
+use Rattle.bitwalks.specs.SieveFacts.{last_passes, last_fails, nothing_left}
 use Rattle.bitwalks.proofs.sieve.SieveDoubleEndedIterator.next_back.Goals as goal
 
 pub returns-then-passes-clause-steps : goal.returns-then-passes-clause-steps

@@ -1,6 +1,6 @@
 use Rattle.std.proofs.Common.{ap, sym, ◌∙◌, ◌+◌, arith, length}
 use Rattle.bitwords.specs.CallFacts.{takes_front}
-use Rattle.bitwalks.proofs.Sieved.{first_passes, first_fails, nothing_left}
+use Rattle.bitwalks.specs.SieveFacts.{first_passes, first_fails, nothing_left}
 use Rattle.bitwalks.proofs.sieve.SieveIterator.next.Goals as goal
 
 pub returns-then-passes-clause-steps : goal.returns-then-passes-clause-steps

@@ -1,6 +1,6 @@
 use Rattle.std.proofs.Common.{ap}
 use Rattle.bitwords.specs.Rows.{has_bit}
-use Rattle.bitwalks.proofs.Sieved.{hint_sieved}
+use Rattle.bitwalks.specs.SieveFacts.{hint_sieved}
 use Rattle.bitwalks.proofs.sieve.SieveIterator.size_hint.Goals as goal
 
 pub returns-clause-upper : goal.returns-clause-upper

@@ -1,4 +1,4 @@
--- What a sieve lets through of the items of its source.
+-- What a sieve lets through of the items of its source, for those who take the items one by one.
 use Rattle.std.proofs.Common.{◌≡◌, ℕ, Bool, true, false, cond, filter, List, [], ◌∷◌, ◌++◌, length, Option, Some, None, sym, ap, ◌∙◌, arith, append-nil}
 use Rattle.std.specs.Iterator.{UpTo, at_most}
 use Rattle.std.specs.Option.{IfSome}

@@ -1,0 +1,45 @@
+-- What a contract sees of a walk that a caller keeps: the positions left.
+use Rattle.std.specs.Prelude.{ℕ, Bool, true, false, not, if◌then◌else◌, Option, Some, None, List, ◌++◌, map, filter}
+use Rattle.std.specs.Int.{bit_not, w64}
+use Rattle.bitwords.specs.Rows.{has_bit}
+use Rattle.bitwords.specs.WalkedWords.{held_items}
+use Rattle.bits_c.specs.declared.structs.Ones.{Ones}
+use Rattle.bits_c.specs.declared.structs.Zeroes.{Zeroes}
+use Rattle.bits_c.specs.declared.structs.Sieve.{Sieve}
+use Rattle.bits_c.specs.declared.structs.Pair.{Pair}
+
+-- the position that a call gave, if it says that it gave one
+abbrev pub given : Bool → ℕ → Option ℕ
+given found position = if found then Some position else None
+
+-- the positions of the words left
+abbrev pub ones_left : Ones → List ℕ
+ones_left walk = held_items walk.front_at walk.front walk.words.now walk.back
+
+-- the same, where the words between the first and the last are inverted
+abbrev pub zeroes_left : Zeroes → List ℕ
+zeroes_left walk = held_items walk.front_at walk.front (map (bit_not w64) walk.words.now) walk.back
+
+-- whether a position passes that the other set has or not
+abbrev pub passes : (shared has : Bool) → Bool
+passes shared has = if shared then has else not has
+
+-- the positions left that pass
+abbrev pub sieved : Bool → Sieve → List ℕ
+sieved shared sieve = filter (λ p. passes shared (has_bit sieve.other.now p)) (ones_left sieve.walk)
+
+-- the positions left that the other set has
+abbrev pub shared_left : Sieve → List ℕ
+shared_left = sieved true
+
+-- the positions left that the other set lacks
+abbrev pub lacked_left : Sieve → List ℕ
+lacked_left = sieved false
+
+-- the positions left of the first set, and then those of the second that the first lacks
+abbrev pub joined_left : Pair → List ℕ
+joined_left walk = ones_left walk.first.walk ++ lacked_left walk.second
+
+-- the positions left of the first set that the second lacks, and then those of the second that the first lacks
+abbrev pub split_left : Pair → List ℕ
+split_left walk = lacked_left walk.first ++ lacked_left walk.second

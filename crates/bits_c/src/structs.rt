@@ -1,0 +1,59 @@
+//! The structs that a caller keeps. `front/c/bits.h` declares them as `bits`, `bits_walk`, `bits_sieve` and `bits_pair`.
+//!
+//! They stand in a file of their own, since the definitions of `specs/` name them.
+
+ghost use Rattle.std.specs.Prelude.{length};
+ghost use Rattle.bitwords.specs.WalkedWords.{IsSpaced};
+ghost use Rattle.fixedbitset.specs.Stored.{IsClean};
+
+use bitlanes::Block;
+
+/// A set that is lent: its words, and its length in bits.
+#[repr(C)]
+#[derive(Drop)]
+pub struct Set<'a> {
+    pub words: &'a mut [Block],
+    pub length: usize,
+    pub ghost clean: { IsClean length words.now },
+}
+
+/// A walk over the positions that are set: the first and the last word of those left, without the bits that were given,
+/// the positions of their bits 0, and the words between them.
+#[repr(C)]
+#[derive(Drop)]
+pub struct Ones<'a> {
+    pub front: Block,
+    pub back: Block,
+    pub front_at: usize,
+    pub back_at: usize,
+    pub words: &'a [Block],
+    pub ghost spaced: { IsSpaced front_at back_at (length words.now) back },
+}
+
+/// A walk over the positions that are not set. Its first and its last word are inverted, and those between are not.
+#[repr(C)]
+#[derive(Drop)]
+pub struct Zeroes<'a> {
+    pub front: Block,
+    pub back: Block,
+    pub front_at: usize,
+    pub back_at: usize,
+    pub words: &'a [Block],
+    pub ghost spaced: { IsSpaced front_at back_at (length words.now) back },
+}
+
+/// A walk over the positions of one set, and the words of another one in which each of them is looked up.
+#[repr(C)]
+#[derive(Drop)]
+pub struct Sieve<'a> {
+    pub walk: Ones<'a>,
+    pub other: &'a [Block],
+}
+
+/// A walk over each of two sets, and the words of the other one.
+#[repr(C)]
+#[derive(Drop)]
+pub struct Pair<'a> {
+    pub first: Sieve<'a>,
+    pub second: Sieve<'a>,
+}

@@ -1,0 +1,173 @@
+//! Walks over the positions of a set, kept in a struct of the caller's.
+//!
+//! A walk is begun by one call, which writes the whole struct from any walk before. Each further call gives one position,
+//! from either end, and answers whether it did: once none is left, no call gives one. A call that gives none leaves what
+//! `position` points to. While a walk is used, the words that it walks over may not change.
+
+ghost use Rattle.std.specs.Prelude.{◌≡◌, false};
+ghost use Rattle.std.specs.Iterator.{YieldsFirst, YieldsLast};
+ghost use Rattle.bits_c.specs.Sets.{value};
+ghost use Rattle.bits_c.specs.Walks.{given, ones_left, zeroes_left};
+ghost use Rattle.fixedbitset.specs.Bits as model;
+
+use crate::structs::{Ones, Set, Zeroes};
+use bitwords::cursors::{Cursor, Held, Inverted, Plain};
+use fixedbitset::lent;
+
+impl<'a> Ones<'a> {
+    #[inline(always)]
+    pub(crate) fn of(cursor: Cursor<Plain<'a>>) -> Ones<'a>
+        ensures { ones_left result ≡ cursor.entry.items }
+    {
+        let held = cursor.into_held();
+        Ones {
+            front: held.front,
+            back: held.back,
+            front_at: held.front_at,
+            back_at: held.back_at,
+            words: held.middle.words,
+        }
+    }
+
+    #[inline(always)]
+    pub(crate) fn cursor(&self) -> Cursor<Plain<'a>>
+        ensures { result.items ≡ ones_left self.now }
+    {
+        Cursor::of_held(Held {
+            front: self.front,
+            back: self.back,
+            front_at: self.front_at,
+            back_at: self.back_at,
+            middle: Plain { words: self.words },
+        })
+    }
+
+    // The first position left.
+    #[inline(always)]
+    pub(crate) fn take_first(&mut self) -> Option<usize>
+        ensures { YieldsFirst ones_left self.old result self.new }
+    {
+        let mut cursor = self.cursor();
+        let item = cursor.next();
+        *self = Ones::of(cursor);
+        item
+    }
+
+    // The last position left.
+    #[inline(always)]
+    pub(crate) fn take_last(&mut self) -> Option<usize>
+        ensures { YieldsLast ones_left self.old result self.new }
+    {
+        let mut cursor = self.cursor();
+        let item = cursor.next_back();
+        *self = Ones::of(cursor);
+        item
+    }
+}
+
+impl<'a> Zeroes<'a> {
+    #[inline(always)]
+    fn of(cursor: Cursor<Inverted<'a>>) -> Zeroes<'a>
+        ensures { zeroes_left result ≡ cursor.entry.items }
+    {
+        let held = cursor.into_held();
+        Zeroes {
+            front: held.front,
+            back: held.back,
+            front_at: held.front_at,
+            back_at: held.back_at,
+            words: held.middle.plain.words,
+        }
+    }
+
+    #[inline(always)]
+    fn cursor(&self) -> Cursor<Inverted<'a>>
+        ensures { result.items ≡ zeroes_left self.now }
+    {
+        let plain = Plain { words: self.words };
+        Cursor::of_held(Held {
+            front: self.front,
+            back: self.back,
+            front_at: self.front_at,
+            back_at: self.back_at,
+            middle: Inverted { plain },
+        })
+    }
+}
+
+// Writes the item to `position`, and answers whether there is one.
+#[inline(always)]
+pub(crate) fn hand_out(item: Option<usize>, position: &mut usize) -> bool
+    ensures given { given result position.new ≡ item }
+    ensures stays { result ≡ false → position.new ≡ position.old }
+{
+    match item {
+        Some(found) => {
+            *position = found;
+            true
+        }
+        None => false,
+    }
+}
+
+/// Begins the walk over the positions that are set, in ascending order.
+#[unsafe(no_mangle)]
+pub extern "C" fn bits_ones<'a>(walk: &mut Ones<'a>, set: &'a Set<'_>)
+    ensures { ones_left walk.new ≡ model.asc (value set.now) }
+{
+    *walk = Ones::of(lent::ones(set.words, set.length));
+}
+
+/// Gives the least position left.
+#[tactic(auto, using(crate::proofs::Given::first_given))]
+#[unsafe(no_mangle)]
+pub extern "C" fn bits_ones_next(walk: &mut Ones<'_>, position: &mut usize) -> bool
+    ensures gives { YieldsFirst ones_left walk.old (given result position.new) walk.new }
+    ensures stays { result ≡ false → position.new ≡ position.old }
+{
+    hand_out(walk.take_first(), position)
+}
+
+/// Gives the greatest position left.
+#[tactic(auto, using(crate::proofs::Given::last_given))]
+#[unsafe(no_mangle)]
+pub extern "C" fn bits_ones_next_back(walk: &mut Ones<'_>, position: &mut usize) -> bool
+    ensures gives { YieldsLast ones_left walk.old (given result position.new) walk.new }
+    ensures stays { result ≡ false → position.new ≡ position.old }
+{
+    hand_out(walk.take_last(), position)
+}
+
+/// Begins the walk over the positions below the length that are not set, in ascending order.
+#[unsafe(no_mangle)]
+pub extern "C" fn bits_zeroes<'a>(walk: &mut Zeroes<'a>, set: &'a Set<'_>)
+    ensures { zeroes_left walk.new ≡ model.asc (model.complement (value set.now)) }
+{
+    *walk = Zeroes::of(lent::zeroes(set.words, set.length));
+}
+
+/// Gives the least position left.
+#[tactic(auto, using(crate::proofs::Given::first_given))]
+#[unsafe(no_mangle)]
+pub extern "C" fn bits_zeroes_next(walk: &mut Zeroes<'_>, position: &mut usize) -> bool
+    ensures gives { YieldsFirst zeroes_left walk.old (given result position.new) walk.new }
+    ensures stays { result ≡ false → position.new ≡ position.old }
+{
+    let mut cursor = walk.cursor();
+    let item = cursor.next();
+    *walk = Zeroes::of(cursor);
+    hand_out(item, position)
+}
+
+/// Gives the greatest position left.
+#[tactic(auto, using(crate::proofs::Given::last_given))]
+#[unsafe(no_mangle)]
+pub extern "C" fn bits_zeroes_next_back(walk: &mut Zeroes<'_>, position: &mut usize) -> bool
+    ensures gives { YieldsLast zeroes_left walk.old (given result position.new) walk.new }
+    ensures stays { result ≡ false → position.new ≡ position.old }
+{
+    let mut cursor = walk.cursor();
+    let item = cursor.next_back();
+    *walk = Zeroes::of(cursor);
+    hand_out(item, position)
+}

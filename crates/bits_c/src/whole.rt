@@ -1,0 +1,127 @@
+//! Two whole sets, of any two lengths. The words of a set that is changed may not be those of the other.
+
+ghost use Rattle.std.specs.Prelude.{◌≡◌, nat_le, if◌then◌else◌};
+ghost use Rattle.bits_c.specs.Sets.{value, sign};
+ghost use Rattle.fixedbitset.specs.Order as order;
+ghost use Rattle.fixedbitset.specs.TwoSets as sets;
+
+use crate::structs::Set;
+use fixedbitset::lent;
+use std::cmp::Ordering;
+
+/// Leaves the positions of either set, and answers whether the second is no longer than the first; else nothing is
+/// changed.
+#[unsafe(no_mangle)]
+pub extern "C" fn bits_union_with(set: &mut Set<'_>, other: &Set<'_>) -> bool
+    ensures told { result ≡ nat_le other.now.length set.old.length }
+    ensures value { value set.new
+        ≡ (if result then sets.union (value set.old) (value other.now) else value set.old) }
+{
+    if other.length <= set.length {
+        lent::union_with(set.words, set.length, other.words, other.length);
+        true
+    } else {
+        false
+    }
+}
+
+/// Leaves the positions of exactly one of the sets, and answers whether the second is no longer than the first; else
+/// nothing is changed.
+#[unsafe(no_mangle)]
+pub extern "C" fn bits_symmetric_difference_with(set: &mut Set<'_>, other: &Set<'_>) -> bool
+    ensures told { result ≡ nat_le other.now.length set.old.length }
+    ensures value { value set.new ≡ (if result
+        then sets.symmetric_difference (value set.old) (value other.now) else value set.old) }
+{
+    if other.length <= set.length {
+        lent::symmetric_difference_with(set.words, set.length, other.words, other.length);
+        true
+    } else {
+        false
+    }
+}
+
+/// Leaves the positions of both sets, and the length.
+#[unsafe(no_mangle)]
+pub extern "C" fn bits_intersect_with(set: &mut Set<'_>, other: &Set<'_>)
+    ensures { value set.new ≡ sets.intersection (value set.old) (value other.now) }
+{
+    lent::intersect_with(set.words, set.length, other.words, other.length);
+}
+
+/// Leaves the positions of the first set that the second lacks, and the length.
+#[unsafe(no_mangle)]
+pub extern "C" fn bits_difference_with(set: &mut Set<'_>, other: &Set<'_>)
+    ensures { value set.new ≡ sets.difference (value set.old) (value other.now) }
+{
+    lent::difference_with(set.words, set.length, other.words, other.length);
+}
+
+/// How many positions are in either set.
+#[unsafe(no_mangle)]
+pub extern "C" fn bits_union_count(set: &Set<'_>, other: &Set<'_>) -> usize
+    ensures { result ≡ sets.union_count (value set.now) (value other.now) }
+{
+    lent::union_count(set.words, set.length, other.words, other.length)
+}
+
+/// How many positions are in both sets.
+#[unsafe(no_mangle)]
+pub extern "C" fn bits_intersection_count(set: &Set<'_>, other: &Set<'_>) -> usize
+    ensures { result ≡ sets.intersection_count (value set.now) (value other.now) }
+{
+    lent::intersection_count(set.words, set.length, other.words, other.length)
+}
+
+/// How many positions of the first set the second lacks.
+#[unsafe(no_mangle)]
+pub extern "C" fn bits_difference_count(set: &Set<'_>, other: &Set<'_>) -> usize
+    ensures { result ≡ sets.difference_count (value set.now) (value other.now) }
+{
+    lent::difference_count(set.words, set.length, other.words, other.length)
+}
+
+/// How many positions are in exactly one of the sets.
+#[unsafe(no_mangle)]
+pub extern "C" fn bits_symmetric_difference_count(set: &Set<'_>, other: &Set<'_>) -> usize
+    ensures { result ≡ sets.symmetric_difference_count (value set.now) (value other.now) }
+{
+    lent::symmetric_difference_count(set.words, set.length, other.words, other.length)
+}
+
+/// Whether no position is in both sets.
+#[unsafe(no_mangle)]
+pub extern "C" fn bits_is_disjoint(set: &Set<'_>, other: &Set<'_>) -> bool
+    ensures { result ≡ sets.is_disjoint (value set.now) (value other.now) }
+{
+    lent::is_disjoint(set.words, set.length, other.words, other.length)
+}
+
+/// Whether each position of the first set is one of the second.
+#[unsafe(no_mangle)]
+pub extern "C" fn bits_is_subset(set: &Set<'_>, other: &Set<'_>) -> bool
+    ensures { result ≡ sets.is_subset (value set.now) (value other.now) }
+{
+    lent::is_subset(set.words, set.length, other.words, other.length)
+}
+
+/// Whether the lengths and the positions are equal.
+#[unsafe(no_mangle)]
+pub extern "C" fn bits_equal(set: &Set<'_>, other: &Set<'_>) -> bool
+    ensures { result ≡ order.equal (value set.now) (value other.now) }
+{
+    lent::equal(set.words, set.length, other.words, other.length)
+}
+
+/// Which set comes first, in the order of `FixedBitSet`: -1 where the first does, 1 where the second does, and 0 where
+/// the two are equal.
+#[unsafe(no_mangle)]
+pub extern "C" fn bits_compare(set: &Set<'_>, other: &Set<'_>) -> isize
+    ensures { result ≡ sign (order.compare (value set.now) (value other.now)) }
+{
+    match lent::compare(set.words, set.length, other.words, other.length) {
+        Ordering::Less => -1,
+        Ordering::Equal => 0,
+        Ordering::Greater => 1,
+    }
+}

@@ -1,0 +1,266 @@
+//! The calls of a set over words that someone else keeps, with the length beside them.
+//!
+//! The words mean the value `of_words length words`, as those of a `FixedBitSet` do. They have to be those of a set
+//! (`IsClean`): whole lanes of four words, as many as the length needs, and no bit past the length. Each change leaves
+//! them so, and `settle` makes any words so. Positions and ranges are those that the calls of `FixedBitSet` with the
+//! same names take, and what a call looks at is the same too. No call takes memory. The static library `bits_c` lends
+//! the words of a caller in C or in Rust to these calls.
+
+ghost use Rattle.std.specs.Prelude.{◌≡◌, ◌<◌, ◌≤◌};
+ghost use Rattle.std.specs.Prelude as prelude;
+ghost use Rattle.fixedbitset.specs.Bits as model;
+ghost use Rattle.fixedbitset.specs.Bits.{of_words};
+ghost use Rattle.fixedbitset.specs.Stored.{IsClean};
+
+mod ranges;
+mod walks;
+mod whole;
+
+use bitlanes::word::{BITS, Block, ones_below};
+use bitlanes::{Steps, lanes};
+use bitwords::positions;
+pub use ranges::{
+    contains_all_in_range, contains_any_in_range, count_ones, count_zeroes, insert_range,
+    range_is_valid, remove_range, toggle_range,
+};
+pub use walks::{ones, ones_beside, zeroes};
+pub use whole::{
+    compare, difference_count, difference_with, equal, intersect_with, intersection_count,
+    is_disjoint, is_subset, symmetric_difference_count, symmetric_difference_with, union_count,
+    union_with,
+};
+
+/// Makes any words those of a set of `length` positions: of the positions that they have those below `kept` stay.
+///
+/// So with `kept` 0 no position is set, with `kept` the length none below it is lost, and with the length of before the
+/// set has grown. There have to be as many words as a set of this length keeps. It writes the word of `kept` and those
+/// behind it.
+///
+/// ```
+/// let mut words = [8, Block::MAX, 1, 0];
+/// lent::settle(&mut words, 70, 66);
+/// assert_eq!(rt; words, [8, 3, 0, 0]);
+/// ```
+#[inline(always)]
+pub fn settle(words: &mut [Block], length: usize, kept: usize)
+    requires count { prelude.length words.old ≡ model.storage_words length }
+    requires fewer { kept ≤ length }
+    ensures value { of_words length words.new ≡ model.grow (of_words kept words.old) length }
+    ensures clean { IsClean length words.new }
+{
+    positions::clear_from(words, kept);
+}
+
+/// Whether the position is set: `false` at or past the length.
+///
+/// ```
+/// let mut words = [8, 1, 0, 0];
+/// lent::settle(&mut words, 70, 70);
+/// assert!(rt; lent::contains(&words, 70, 64));
+/// assert!(rt; !lent::contains(&words, 70, 500));
+/// ```
+#[inline(always)]
+#[tactic(auto, using(crate::proofs::LentWords::looked_up))]
+pub fn contains(words: &[Block], length: usize, bit: usize) -> bool
+    requires { IsClean length words.now }
+    ensures { result ≡ model.contains (of_words length words.now) bit }
+{
+    positions::contains(words, bit)
+}
+
+/// Sets the position, which has to be below the length.
+///
+/// ```
+/// let mut words = [8, 0, 0, 0];
+/// lent::settle(&mut words, 70, 70);
+/// lent::insert(&mut words, 70, 64);
+/// assert_eq!(rt; words, [8, 1, 0, 0]);
+/// ```
+#[inline(always)]
+#[tactic(auto, using(crate::proofs::Changes::place_within, crate::proofs::LentWords::insert_of))]
+pub fn insert(words: &mut [Block], length: usize, bit: usize)
+    requires lent { IsClean length words.old }
+    requires below { bit < length }
+    ensures value { of_words length words.new ≡ model.insert (of_words length words.old) bit }
+    ensures clean { IsClean length words.new }
+{
+    words[bit / BITS] |= 1 << (bit % BITS);
+}
+
+/// Clears the position, which has to be below the length.
+///
+/// ```
+/// let mut words = [9, 1, 0, 0];
+/// lent::settle(&mut words, 70, 70);
+/// lent::remove(&mut words, 70, 64);
+/// assert_eq!(rt; words, [9, 0, 0, 0]);
+/// ```
+#[inline(always)]
+#[tactic(auto, using(crate::proofs::Changes::place_within, crate::proofs::LentWords::remove_of))]
+pub fn remove(words: &mut [Block], length: usize, bit: usize)
+    requires lent { IsClean length words.old }
+    requires below { bit < length }
+    ensures value { of_words length words.new ≡ model.remove (of_words length words.old) bit }
+    ensures clean { IsClean length words.new }
+{
+    words[bit / BITS] &= !(1 << (bit % BITS));
+}
+
+/// Sets the position if it is clear and clears it if it is set. It has to be below the length.
+///
+/// ```
+/// let mut words = [9, 0, 0, 0];
+/// lent::settle(&mut words, 70, 70);
+/// lent::toggle(&mut words, 70, 0);
+/// assert_eq!(rt; words, [8, 0, 0, 0]);
+/// ```
+#[inline(always)]
+#[tactic(auto, using(crate::proofs::Changes::place_within, crate::proofs::LentWords::toggle_of))]
+pub fn toggle(words: &mut [Block], length: usize, bit: usize)
+    requires lent { IsClean length words.old }
+    requires below { bit < length }
+    ensures value { of_words length words.new ≡ model.toggle (of_words length words.old) bit }
+    ensures clean { IsClean length words.new }
+{
+    words[bit / BITS] ^= 1 << (bit % BITS);
+}
+
+/// Sets the position, which has to be below the length, and answers whether it was set before.
+///
+/// ```
+/// let mut words = [8, 0, 0, 0];
+/// lent::settle(&mut words, 70, 70);
+/// assert!(rt; !lent::put(&mut words, 70, 0));
+/// assert_eq!(rt; words, [9, 0, 0, 0]);
+/// ```
+#[inline(always)]
+#[tactic(auto, using(crate::proofs::Changes::place_within, crate::proofs::LentWords::insert_of, crate::proofs::LentWords::read_bit))]
+pub fn put(words: &mut [Block], length: usize, bit: usize) -> bool
+    requires lent { IsClean length words.old }
+    requires below { bit < length }
+    ensures before { result ≡ model.contains (of_words length words.old) bit }
+    ensures value { of_words length words.new ≡ model.insert (of_words length words.old) bit }
+    ensures clean { IsClean length words.new }
+{
+    let word = words[bit / BITS];
+    let mask = 1 << (bit % BITS);
+    words[bit / BITS] = word | mask;
+    word & mask != 0
+}
+
+/// Sets the position, or clears it where `enabled` is false. It has to be below the length.
+///
+/// ```
+/// let mut words = [9, 0, 0, 0];
+/// lent::settle(&mut words, 70, 70);
+/// lent::set(&mut words, 70, 0, false);
+/// assert_eq!(rt; words, [8, 0, 0, 0]);
+/// ```
+#[inline(always)]
+#[tactic(auto, unfolding(crate::specs::Bits::set_bit))]
+pub fn set(words: &mut [Block], length: usize, bit: usize, enabled: bool)
+    requires lent { IsClean length words.old }
+    requires below { bit < length }
+    ensures value { of_words length words.new
+        ≡ model.set_bit (of_words length words.old) bit enabled }
+    ensures clean { IsClean length words.new }
+{
+    if enabled {
+        insert(words, length, bit);
+    } else {
+        remove(words, length, bit);
+    }
+}
+
+/// Makes word `index` the given one. Bits past the length are dropped. The word has to be one that the length needs.
+///
+/// ```
+/// let mut words = [9, 0, 0, 0];
+/// lent::settle(&mut words, 70, 70);
+/// lent::set_block(&mut words, 70, 1, Block::MAX);
+/// assert_eq!(rt; words, [9, 63, 0, 0]);
+/// ```
+#[inline(always)]
+pub fn set_block(words: &mut [Block], length: usize, index: usize, value: Block)
+    requires lent { IsClean length words.old }
+    requires within { index < model.words_needed length }
+    ensures value { of_words length words.new
+        ≡ model.set_block (of_words length words.old) index value }
+    ensures clean { IsClean length words.new }
+{
+    let used = (length - BITS * index).min(BITS);
+    words[index] = value & ones_below(used);
+}
+
+/// Clears all positions.
+///
+/// ```
+/// let mut words = [9, 1, 0, 0];
+/// lent::settle(&mut words, 70, 70);
+/// lent::clear(&mut words, 70);
+/// assert_eq!(rt; words, [0, 0, 0, 0]);
+/// ```
+#[inline(always)]
+pub fn clear(words: &mut [Block], length: usize)
+    requires lent { IsClean length words.old }
+    ensures value { of_words length words.new ≡ model.empty length }
+    ensures clean { IsClean length words.new }
+{
+    lanes::zero(words, &mut Steps::new());
+}
+
+/// Whether no position is set.
+///
+/// ```
+/// let mut words = [0, 64, 0, 0];
+/// lent::settle(&mut words, 70, 70);
+/// assert!(rt; lent::is_clear(&words, 70));
+/// ```
+#[inline(always)]
+pub fn is_clear(words: &[Block], length: usize) -> bool
+    requires { IsClean length words.now }
+    ensures { result ≡ model.is_clear (of_words length words.now) }
+{
+    lanes::none_one(words, &mut Steps::new())
+}
+
+/// The first position that is set, or `None` where none is.
+///
+/// ```
+/// let mut words = [0, 6, 0, 0];
+/// lent::settle(&mut words, 70, 70);
+/// assert_eq!(rt; lent::minimum(&words, 70), Some(65));
+/// ```
+#[inline(always)]
+#[tactic(auto, using(crate::proofs::LentWords::least))]
+pub fn minimum(words: &[Block], length: usize) -> Option<usize>
+    requires { IsClean length words.now }
+    ensures { result ≡ model.minimum (of_words length words.now) }
+{
+    positions::first(words)
+}
+
+/// The last position that is set, or `None` where none is.
+///
+/// ```
+/// let mut words = [9, Block::MAX, 0, 0];
+/// lent::settle(&mut words, 70, 70);
+/// assert_eq!(rt; lent::maximum(&words, 70), Some(69));
+/// ```
+#[inline(always)]
+#[tactic(auto, using(crate::proofs::LentWords::greatest))]
+pub fn maximum(words: &[Block], length: usize) -> Option<usize>
+    requires { IsClean length words.now }
+    ensures { result ≡ model.maximum (of_words length words.now) }
+{
+    positions::last(words)
+}
+
+// The words that the length needs, without those behind them that make up a whole lane.
+#[inline(always)]
+fn used_words<'a>(words: &'a [Block], length: usize) -> &'a [Block]
+    requires { IsClean length words.now }
+    ensures { result.now ≡ model.words (of_words length words.now) }
+{
+    &words[..length.div_ceil(BITS)]
+}
