@@ -1,7 +1,7 @@
 //! Finds the static library, or has it proved and built.
 //!
-//! `BITS_C_LIB` names a folder that holds `libbits_c.a`, and then no kit is needed. Without it `rt lib` proves and builds
-//! the library of the repository that this crate lies in, which takes some minutes at the first time.
+//! `BITS_C_LIB` names a folder that holds `libbits_c.a`, and then no kit is needed. Without it `front/archive` proves and
+//! builds the library of the repository that this crate lies in, which takes some minutes at the first time.
 use std::env;
 use std::path::{Path, PathBuf};
 use std::process::Command;
@@ -10,12 +10,12 @@ fn main() {
     println!("cargo:rerun-if-env-changed=BITS_C_LIB");
     let folder = match env::var_os("BITS_C_LIB") {
         Some(folder) => PathBuf::from(folder),
-        None => proved(&Path::new(env!("CARGO_MANIFEST_DIR")).join("../../crates")),
+        None => built(&Path::new(env!("CARGO_MANIFEST_DIR")).join("../..")),
     };
     let archive = folder.join("libbits_c.a");
     assert!(
         archive.is_file(),
-        "BITS_C_LIB has to name a folder with libbits_c.a, and {} is none",
+        "there is no {}: BITS_C_LIB has to name the folder of libbits_c.a",
         archive.display()
     );
     println!("cargo:rerun-if-changed={}", archive.display());
@@ -23,11 +23,12 @@ fn main() {
     println!("cargo:rustc-link-lib=static=bits_c");
 }
 
-/// The folder of the library that `rt lib` leaves. A change of any crate's sources has it run again.
-fn proved(crates: &Path) -> PathBuf {
+/// The folder of the library that is built from the repository. A change of a crate's sources has it built again.
+fn built(top: &Path) -> PathBuf {
+    let crates = top.join("crates");
     for name in crates
         .read_dir()
-        .expect("the repository's folder crates is missing")
+        .expect("the repository has no folder crates")
         .flatten()
     {
         for part in ["src", "specs", "proofs"].map(|part| name.path().join(part)) {
@@ -36,16 +37,14 @@ fn proved(crates: &Path) -> PathBuf {
             }
         }
     }
-    let library = crates.join("bits_c");
-    let run = Command::new("rt").arg("lib").current_dir(&library).output();
-    let run = run.expect(
-        "neither BITS_C_LIB names a built library, nor is the kit's command rt on the path",
-    );
+    let folder = PathBuf::from(env::var_os("OUT_DIR").expect("cargo sets OUT_DIR"));
+    let script = top.join("front/archive");
+    let run = Command::new(&script).arg(&folder).output();
+    let run = run.unwrap_or_else(|error| panic!("{} does not start: {error}", script.display()));
+    let said = String::from_utf8_lossy(&run.stdout) + String::from_utf8_lossy(&run.stderr);
     assert!(
         run.status.success(),
-        "rt lib did not build {}:\n{}",
-        library.display(),
-        String::from_utf8_lossy(&run.stdout)
+        "neither is BITS_C_LIB set, nor was the library built:\n{said}"
     );
-    library.join("out")
+    folder
 }
