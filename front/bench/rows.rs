@@ -85,7 +85,9 @@ fn walk(
     sum: impl Fn(&Set, &Set) -> Sum + 'static,
 ) -> Row {
     Row::new(name, sum(&set, &other).items, move |rounds| {
-        (0..rounds).for_each(|_| drop(black_box(sum(black_box(&set), black_box(&other)).sum)))
+        for _ in 0..rounds {
+            black_box(sum(black_box(&set), black_box(&other)).sum);
+        }
     })
 }
 

@@ -8,6 +8,7 @@ use alloc::vec::Vec;
 use core::marker::PhantomData;
 use core::ops::Deref;
 use core::ptr::NonNull;
+use core::slice;
 
 /// A set that is lent, the struct `bits` of bits.h.
 #[repr(C)]
@@ -58,11 +59,12 @@ unsafe impl Send for Sieve<'_> {}
 unsafe impl Sync for Sieve<'_> {}
 
 // SAFETY: names and types are those of crates/bits_c, which front/declarations.py compares. Each call that is `safe` is so
-// for every set that is lent, every walk and all numbers, by its contract. The others keep words past the call.
+// for every set that is lent, every walk and all numbers, by its contract. The others are lent words by themselves, or keep them past the call.
 unsafe extern "C" {
     pub safe fn bits_words(length: usize) -> usize;
     pub safe fn bits_blocks(length: usize) -> usize;
     pub safe fn bits_take_lowest_bit(word: &mut usize) -> usize;
+    fn bits_settle(words: NonNull<usize>, count: usize, length: usize, kept: usize) -> bool;
 
     pub safe fn bits_contains(set: &Lent<'_>, bit: usize) -> bool;
     pub safe fn bits_insert(set: &mut Lent<'_>, bit: usize) -> bool;
@@ -166,6 +168,20 @@ impl Words {
         Words { lanes, length }
     }
 
+    /// With the positions of these words that are below the length. Words that are missing are 0.
+    pub fn of_blocks(length: usize, blocks: impl IntoIterator<Item = usize>) -> Self {
+        let mut words = Self::with_length(length);
+        let (lent, count) = (words.lent_mut().words, LANE * words.lanes.len());
+        // SAFETY: so many words are lent, and nothing else reads or writes them until the call has made them a set.
+        let row = unsafe { slice::from_raw_parts_mut(lent.as_ptr(), count) };
+        let row = row.iter_mut().take(bits_blocks(length));
+        row.zip(blocks).for_each(|(word, block)| *word = block);
+        // SAFETY: as above. The call takes any words, and does its work for this count of them.
+        let done = unsafe { bits_settle(lent, count, length, length) };
+        assert!(done);
+        words
+    }
+
     /// Makes the length greater by zeros, and leaves the positions.
     #[cold]
     #[inline(never)]
@@ -193,7 +209,7 @@ impl Words {
     #[inline]
     pub fn blocks(&self) -> &[usize] {
         // SAFETY: lanes are words, and the length needs no more of them than its lanes have.
-        unsafe { core::slice::from_raw_parts(self.lanes.as_ptr().cast(), bits_blocks(self.length)) }
+        unsafe { slice::from_raw_parts(self.lanes.as_ptr().cast(), bits_blocks(self.length)) }
     }
 
     #[inline(always)]
