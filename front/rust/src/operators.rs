@@ -1,5 +1,7 @@
 //! Operators, and sets from positions, put together from the calls.
-use crate::FixedBitSet;
+//!
+//! `|` and `^` join a copy of the longer set with the shorter one. So nothing has to grow, and the call refuses nothing.
+use crate::{FixedBitSet, raw};
 use core::ops::{BitAnd, BitAndAssign, BitOr, BitOrAssign, BitXor, BitXorAssign, Index};
 
 impl BitAnd for &FixedBitSet {
@@ -21,7 +23,7 @@ impl BitOr for &FixedBitSet {
     fn bitor(self, other: &FixedBitSet) -> FixedBitSet {
         let (shorter, longer) = by_length(self, other);
         let mut set = longer.clone();
-        set.union_with(shorter);
+        raw::bits_union_with(&mut set.words.lent_mut(), &shorter.words.lent());
         set
     }
 }
@@ -33,7 +35,7 @@ impl BitXor for &FixedBitSet {
     fn bitxor(self, other: &FixedBitSet) -> FixedBitSet {
         let (shorter, longer) = by_length(self, other);
         let mut set = longer.clone();
-        set.symmetric_difference_with(shorter);
+        raw::bits_symmetric_difference_with(&mut set.words.lent_mut(), &shorter.words.lent());
         set
     }
 }

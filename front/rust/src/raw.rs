@@ -174,7 +174,7 @@ impl Words {
         let (lent, count) = (words.lent_mut().words, LANE * words.lanes.len());
         // SAFETY: so many words are lent, and nothing else reads or writes them until the call has made them a set.
         let row = unsafe { slice::from_raw_parts_mut(lent.as_ptr(), count) };
-        let row = row.iter_mut().take(bits_blocks(length));
+        let row = row[..bits_blocks(length)].iter_mut();
         row.zip(blocks).for_each(|(word, block)| *word = block);
         // SAFETY: as above. The call takes any words, and does its work for this count of them.
         let done = unsafe { bits_settle(lent, count, length, length) };
