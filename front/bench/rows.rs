@@ -1,0 +1,318 @@
+//! What is timed, for the sets of the module above.
+use super::Set;
+use crate::Row;
+use std::hash::{DefaultHasher, Hash, Hasher};
+use std::hint::black_box;
+
+/// All rows at a length.
+pub fn rows(bits: usize) -> Vec<Row> {
+    [
+        making(bits),
+        positions(bits),
+        ranges(bits),
+        whole(bits),
+        pairs(bits),
+        walks(bits),
+    ]
+    .into_iter()
+    .flatten()
+    .collect()
+}
+
+/// The lower half of the positions.
+fn lower(bits: usize) -> Set {
+    let mut set = Set::with_capacity(bits);
+    set.insert_range(..bits / 2);
+    set
+}
+
+/// The upper half of the positions.
+fn upper(bits: usize) -> Set {
+    let mut set = Set::with_capacity(bits);
+    set.insert_range(bits / 2..);
+    set
+}
+
+/// About one of so many positions, by chance.
+fn one_of(bits: usize, many: u64) -> Set {
+    let mut set = Set::with_capacity(bits);
+    let mut random = 88_172_645_463_325_252 + many;
+    for bit in 0..bits {
+        random ^= random << 13;
+        random ^= random >> 7;
+        random ^= random << 17;
+        set.set(bit, random % many == 0);
+    }
+    set
+}
+
+/// A change of a set, many times.
+fn change(name: &'static str, mut set: Set, change: impl Fn(&mut Set) + 'static) -> Row {
+    Row::new(name, 1, move |rounds| {
+        (0..rounds).for_each(|_| change(black_box(&mut set)))
+    })
+}
+
+/// A question about two sets, many times.
+fn ask<T>(
+    name: &'static str,
+    set: Set,
+    other: Set,
+    ask: impl Fn(&Set, &Set) -> T + 'static,
+) -> Row {
+    Row::new(name, 1, move |rounds| {
+        (0..rounds).for_each(|_| drop(black_box(ask(black_box(&set), black_box(&other)))))
+    })
+}
+
+/// A loop over positions of a set, in an order without pattern.
+fn at(name: &'static str, mut set: Set, call: impl Fn(&mut Set, usize) -> usize + 'static) -> Row {
+    let mask = set.len().next_power_of_two() / 2 - 1;
+    Row::new(name, 1, move |rounds| {
+        let set = black_box(&mut set);
+        let sum = (0..rounds)
+            .map(|round| call(set, round.wrapping_mul(7919) & mask))
+            .fold(0, usize::wrapping_add);
+        black_box(sum);
+    })
+}
+
+/// A walk over two sets, for each item.
+fn walk(
+    name: &'static str,
+    set: Set,
+    other: Set,
+    sum: impl Fn(&Set, &Set) -> Sum + 'static,
+) -> Row {
+    Row::new(name, sum(&set, &other).items, move |rounds| {
+        for _ in 0..rounds {
+            black_box(sum(black_box(&set), black_box(&other)).sum);
+        }
+    })
+}
+
+/// How many positions a walk gave, and their sum.
+struct Sum {
+    items: usize,
+    sum: usize,
+}
+
+fn sum_of(walk: impl Iterator<Item = usize>) -> Sum {
+    let mut sum = Sum { items: 0, sum: 0 };
+    for position in walk {
+        sum.items += 1;
+        sum.sum = sum.sum.wrapping_add(position);
+    }
+    sum
+}
+
+fn making(bits: usize) -> Vec<Row> {
+    let (none, half) = (Set::new(), lower(bits));
+    let blocks = half.as_slice().to_vec();
+    vec![
+        ask(
+            "with_capacity and drop",
+            none.clone(),
+            none.clone(),
+            move |_, _| Set::with_capacity(black_box(bits)),
+        ),
+        ask(
+            "with_capacity_and_blocks and drop",
+            none.clone(),
+            none.clone(),
+            move |_, _| Set::with_capacity_and_blocks(bits, blocks.iter().copied()),
+        ),
+        ask("clone and drop", half.clone(), none.clone(), |set, _| {
+            set.clone()
+        }),
+        change("clone_from", none.clone(), move |set| {
+            set.clone_from(black_box(&half))
+        }),
+        Row::new("grow by 64", bits.div_ceil(64), move |rounds| {
+            for _ in 0..rounds {
+                let mut set = Set::new();
+                (1..=bits.div_ceil(64)).for_each(|words| set.grow(black_box(64 * words)));
+                black_box(&set);
+            }
+        }),
+        ask(
+            "extend by a walk and drop",
+            one_of(bits, 3),
+            none,
+            |set, _| set.ones().collect::<Set>(),
+        ),
+    ]
+}
+
+fn positions(bits: usize) -> Vec<Row> {
+    vec![
+        at("contains", one_of(bits, 3), |set, bit| {
+            usize::from(set.contains(bit))
+        }),
+        at("insert", lower(bits), |set, bit| {
+            set.insert(bit);
+            0
+        }),
+        at("remove", lower(bits), |set, bit| {
+            set.remove(bit);
+            0
+        }),
+        at("put", lower(bits), |set, bit| usize::from(set.put(bit))),
+        at("toggle", lower(bits), |set, bit| {
+            set.toggle(bit);
+            0
+        }),
+        at("set", lower(bits), |set, bit| {
+            set.set(bit, bit & 8 == 0);
+            0
+        }),
+        at("grow_and_insert", lower(bits), |set, bit| {
+            set.grow_and_insert(bit);
+            0
+        }),
+    ]
+}
+
+fn ranges(bits: usize) -> Vec<Row> {
+    let none = Set::new();
+    let (start, end) = (bits / 4, 3 * bits / 4);
+    let mut full = Set::with_capacity(bits);
+    full.insert_range(..);
+    vec![
+        change("insert_range(..)", lower(bits), |set| set.insert_range(..)),
+        change("insert_range(n/4..3n/4)", lower(bits), move |set| {
+            set.insert_range(start..end)
+        }),
+        change("remove_range(n/4..3n/4)", lower(bits), move |set| {
+            set.remove_range(start..end)
+        }),
+        change("toggle_range(n/4..3n/4)", lower(bits), move |set| {
+            set.toggle_range(start..end)
+        }),
+        ask("count_ones(..)", lower(bits), none.clone(), |set, _| {
+            set.count_ones(..)
+        }),
+        ask(
+            "count_ones(n/4..3n/4)",
+            lower(bits),
+            none.clone(),
+            move |set, _| set.count_ones(start..end),
+        ),
+        ask("count_zeroes(..)", lower(bits), none.clone(), |set, _| {
+            set.count_zeroes(..)
+        }),
+        ask("contains_all_in_range(..)", full, none.clone(), |set, _| {
+            set.contains_all_in_range(..)
+        }),
+        ask(
+            "contains_any_in_range(..)",
+            Set::with_capacity(bits),
+            none,
+            |set, _| set.contains_any_in_range(..),
+        ),
+    ]
+}
+
+fn whole(bits: usize) -> Vec<Row> {
+    let none = Set::new();
+    let mut first = Set::with_capacity(bits);
+    first.insert(0);
+    let mut last = Set::with_capacity(bits);
+    last.insert(bits - 1);
+    vec![
+        change("clear", lower(bits), Set::clear),
+        ask(
+            "is_clear",
+            Set::with_capacity(bits),
+            none.clone(),
+            |set, _| set.is_clear(),
+        ),
+        ask("minimum", last, none.clone(), |set, _| set.minimum()),
+        ask("maximum", first, none.clone(), |set, _| set.maximum()),
+        ask("hash", lower(bits), none, |set, _| {
+            let mut hasher = DefaultHasher::new();
+            set.hash(&mut hasher);
+            hasher.finish()
+        }),
+        ask("==", lower(bits), lower(bits), |set, other| set == other),
+        ask("cmp", lower(bits), lower(bits), |set, other| set.cmp(other)),
+    ]
+}
+
+fn pairs(bits: usize) -> Vec<Row> {
+    let (low, high) = (lower(bits), upper(bits));
+    let with = |name, call: fn(&mut Set, &Set)| {
+        let high = high.clone();
+        change(name, low.clone(), move |set| call(set, black_box(&high)))
+    };
+    let count = |name, call: fn(&Set, &Set) -> usize| ask(name, low.clone(), high.clone(), call);
+    vec![
+        with("union_with", |set, other| set.union_with(other)),
+        with("intersect_with", |set, other| set.intersect_with(other)),
+        with("difference_with", |set, other| set.difference_with(other)),
+        with("symmetric_difference_with", |set, other| {
+            set.symmetric_difference_with(other)
+        }),
+        count("union_count", |set, other| set.union_count(other)),
+        count("intersection_count", |set, other| {
+            set.intersection_count(other)
+        }),
+        count("difference_count", |set, other| set.difference_count(other)),
+        count("symmetric_difference_count", |set, other| {
+            set.symmetric_difference_count(other)
+        }),
+        ask("is_disjoint", low.clone(), high.clone(), |set, other| {
+            set.is_disjoint(other)
+        }),
+        ask("is_subset", low.clone(), low.clone(), |set, other| {
+            set.is_subset(other)
+        }),
+        ask(
+            "&a & &b and drop",
+            low.clone(),
+            high.clone(),
+            |set, other| set & other,
+        ),
+        ask(
+            "&a | &b and drop",
+            low.clone(),
+            high.clone(),
+            |set, other| set | other,
+        ),
+    ]
+}
+
+fn walks(bits: usize) -> Vec<Row> {
+    let none = Set::new();
+    let one = |name, many, sum: fn(&Set) -> Sum| {
+        walk(name, one_of(bits, many), none.clone(), move |set, _| {
+            sum(set)
+        })
+    };
+    let two = |name, sum: fn(&Set, &Set) -> Sum| walk(name, one_of(bits, 2), one_of(bits, 3), sum);
+    vec![
+        one("ones, an item, 1 %", 100, |set| sum_of(set.ones())),
+        one("ones from the back, 1 %", 100, |set| {
+            sum_of(set.ones().rev())
+        }),
+        one("ones, an item, 10 %", 10, |set| sum_of(set.ones())),
+        one("ones from the back, 10 %", 10, |set| {
+            sum_of(set.ones().rev())
+        }),
+        one("ones, an item, 50 %", 2, |set| sum_of(set.ones())),
+        one("ones from the back, 50 %", 2, |set| {
+            sum_of(set.ones().rev())
+        }),
+        one("zeroes, an item, 50 %", 2, |set| sum_of(set.zeroes())),
+        two("intersection, an item", |set, other| {
+            sum_of(set.intersection(other))
+        }),
+        two("difference, an item", |set, other| {
+            sum_of(set.difference(other))
+        }),
+        two("union, an item", |set, other| sum_of(set.union(other))),
+        two("symmetric_difference, an item", |set, other| {
+            sum_of(set.symmetric_difference(other))
+        }),
+    ]
+}

@@ -1,0 +1,97 @@
+#!/usr/bin/env python3
+"""Compares the declarations of rust/src/raw.rs and c/bits.h, and their structs, with the exports of crates/bits_c.
+
+usage: front/declarations.py
+
+Compared are names, parameters, results and the fields of structs. A slice crosses as a pointer and a number. A wrong
+declaration is undefined behaviour, and no compiler sees it. It prints each that is wrong, and what was compared in the
+last line. The status is 0 only where none is wrong.
+"""
+import pathlib
+import re
+import sys
+
+TOP = pathlib.Path(__file__).resolve().parent.parent
+# What a value is where it crosses, by its type in crates/bits_c, in raw.rs and in bits.h.
+KINDS = {
+    "usize": "word", "Block": "word", "size_t": "word", "uint64_t": "word",
+    "isize": "signed", "ptrdiff_t": "signed",
+    "bool": "bool", "": "none", "void": "none",
+    "&mut usize": "word*", "&mut Block": "word*", "uint64_t *": "word*", "size_t *": "word*",
+    "&mut [Block]": "word* word", "&[Block]": "const word* word",
+    "NonNull<usize>": "word*", "const uint64_t *": "const word*",
+    "&Set": "const set*", "&Lent": "const set*", "const bits *": "const set*",
+    "&mut Set": "set*", "&mut Lent": "set*", "bits *": "set*",
+    "&mut Ones": "walk*", "&mut Zeroes": "walk*", "&mut Walk": "walk*", "bits_walk *": "walk*",
+    "&mut Sieve": "sieve*", "bits_sieve *": "sieve*",
+    "&mut Pair": "pair*", "bits_pair *": "pair*",
+}
+# The struct that each of the three has, by its name in bits.h.
+STRUCTS = {
+    "bits": ("Set", "Lent"),
+    "bits_walk": ("Ones", "Walk"),
+    "bits_sieve": ("Sieve", "Sieve"),
+    "bits_pair": ("Pair", "Pair"),
+}
+
+
+def plain(kind):
+    """A type of Rust without lifetimes."""
+    return re.sub(r"<'\w+>|'\w+ ", "", kind).strip()
+
+
+def of_rust(text):
+    """The functions that a text of Rust or Rattle exports or declares: their kinds of parameters and of results."""
+    head = r"^ *(?:pub )?(?:safe )?(?:extern \"C\" )?fn (bits_\w+)(?:<[^>]*>)?\(([^)]*)\)(?: -> (\w+))?(?=;|\s)"
+    found = {}
+    for name, parameters, result in re.findall(head, text, re.M):
+        kinds = [KINDS[plain(it.split(":", 1)[1])] for it in parameters.split(",") if it.strip()]
+        found[name] = (" ".join(kinds), KINDS[result])
+    return found
+
+
+def of_c(text):
+    """The functions that the header declares."""
+    found = {}
+    for result, name, parameters in re.findall(r"^(\w+) (bits_\w+)\(([^)]*)\);", text, re.M):
+        kinds = [KINDS[re.match(r"\s*((?:const )?\w+ \*|\w+)", it)[1]] for it in parameters.split(",")]
+        found[name] = (" ".join(kinds), KINDS[result])
+    return found
+
+
+def fields_of(text, name):
+    """The fields of a struct as words (`w`) and pointers (`p`), with those of the structs in it."""
+    body = re.search(rf"struct {name}\b[^{{;]*\{{(.*?)\n\}}", text, re.S)[1]
+    rust = [kind for field, kind in re.findall(r"^ +(?:pub )?(\w+): ([^{,]+),", body, re.M) if "PhantomData" not in kind]
+    kinds = rust or [kind for kind in re.findall(r"^ +((?:const )?\w+ \*|\w+ )\w+;", body, re.M)]
+    return "".join(letters_of(text, plain(it)) for it in kinds)
+
+
+def letters_of(text, kind):
+    kind = KINDS.get(kind, kind)
+    known = {"word": "w", "word*": "p", "const word*": "p", "word* word": "pw", "const word* word": "pw"}
+    return known.get(kind) or fields_of(text, kind)
+
+
+def main():
+    sources = "\n".join(it.read_text() for it in sorted((TOP / "crates/bits_c/src").rglob("*.rt")))
+    raw, header = (TOP / it for it in ("front/rust/src/raw.rs", "front/c/bits.h"))
+    raw, header = raw.read_text(), header.read_text()
+    exported, wrong = of_rust(sources), []
+    for side, declared in (("raw.rs", of_rust(raw)), ("bits.h", of_c(header))):
+        # (Rust's own crate need not declare all.)
+        names = declared.keys() if side == "raw.rs" else exported.keys() | declared.keys()
+        for it in sorted(names):
+            if exported.get(it) != declared.get(it):
+                wrong.append(f"{side}: {it} is {exported.get(it)}, and declared {declared.get(it)}")
+    for name, (of_sources, of_raw) in STRUCTS.items():
+        fields = [fields_of(sources, of_sources), fields_of(raw, of_raw), fields_of(header, name)]
+        if len(set(fields)) != 1:
+            wrong.append(f"struct {name} is {fields[0]}, in raw.rs {fields[1]}, in bits.h {fields[2]}")
+    if fields_of(sources, "Zeroes") != fields_of(sources, "Ones"):
+        wrong.append("the structs Ones and Zeroes differ, and bits_walk stands for both")
+    print("\n".join([*wrong, f"{len(exported)} exports and {len(STRUCTS)} structs, {len(wrong)} wrong declarations"]))
+    return bool(wrong)
+
+
+sys.exit(main())

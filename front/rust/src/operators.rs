@@ -1,0 +1,117 @@
+//! Operators, and sets from positions, put together from the calls.
+//!
+//! `|` and `^` join a copy of the longer set with the shorter one. So nothing has to grow, and the call refuses nothing.
+use crate::{FixedBitSet, raw};
+use core::ops::{BitAnd, BitAndAssign, BitOr, BitOrAssign, BitXor, BitXorAssign, Index};
+
+impl BitAnd for &FixedBitSet {
+    type Output = FixedBitSet;
+
+    /// The positions of both sets, with the length of the shorter.
+    fn bitand(self, other: &FixedBitSet) -> FixedBitSet {
+        let (shorter, longer) = by_length(self, other);
+        let mut set = shorter.clone();
+        set.intersect_with(longer);
+        set
+    }
+}
+
+impl BitOr for &FixedBitSet {
+    type Output = FixedBitSet;
+
+    /// The positions of either set, with the length of the longer.
+    fn bitor(self, other: &FixedBitSet) -> FixedBitSet {
+        let (shorter, longer) = by_length(self, other);
+        let mut set = longer.clone();
+        raw::bits_union_with(&mut set.words.lent_mut(), &shorter.words.lent());
+        set
+    }
+}
+
+impl BitXor for &FixedBitSet {
+    type Output = FixedBitSet;
+
+    /// The positions of exactly one set, with the length of the longer.
+    fn bitxor(self, other: &FixedBitSet) -> FixedBitSet {
+        let (shorter, longer) = by_length(self, other);
+        let mut set = longer.clone();
+        raw::bits_symmetric_difference_with(&mut set.words.lent_mut(), &shorter.words.lent());
+        set
+    }
+}
+
+/// The shorter set, and the longer one.
+fn by_length<'a>(
+    set: &'a FixedBitSet,
+    other: &'a FixedBitSet,
+) -> (&'a FixedBitSet, &'a FixedBitSet) {
+    if set.len() <= other.len() {
+        (set, other)
+    } else {
+        (other, set)
+    }
+}
+
+impl BitAndAssign for FixedBitSet {
+    fn bitand_assign(&mut self, other: Self) {
+        self.intersect_with(&other);
+    }
+}
+
+impl BitAndAssign<&Self> for FixedBitSet {
+    fn bitand_assign(&mut self, other: &Self) {
+        self.intersect_with(other);
+    }
+}
+
+impl BitOrAssign for FixedBitSet {
+    fn bitor_assign(&mut self, other: Self) {
+        self.union_with(&other);
+    }
+}
+
+impl BitOrAssign<&Self> for FixedBitSet {
+    fn bitor_assign(&mut self, other: &Self) {
+        self.union_with(other);
+    }
+}
+
+impl BitXorAssign for FixedBitSet {
+    fn bitxor_assign(&mut self, other: Self) {
+        self.symmetric_difference_with(&other);
+    }
+}
+
+impl BitXorAssign<&Self> for FixedBitSet {
+    fn bitxor_assign(&mut self, other: &Self) {
+        self.symmetric_difference_with(other);
+    }
+}
+
+impl Index<usize> for FixedBitSet {
+    type Output = bool;
+
+    /// Whether the position is set. At or past the length none is.
+    #[inline]
+    fn index(&self, bit: usize) -> &bool {
+        if self.contains(bit) { &true } else { &false }
+    }
+}
+
+impl Extend<usize> for FixedBitSet {
+    /// Sets each position, and makes the length greater where one needs it. **Panics** at the position `usize::MAX`.
+    fn extend<I: IntoIterator<Item = usize>>(&mut self, positions: I) {
+        positions
+            .into_iter()
+            .for_each(|bit| self.grow_and_insert(bit));
+    }
+}
+
+impl FromIterator<usize> for FixedBitSet {
+    /// The set of these positions, with the least length that has them. **Panics** at the position `usize::MAX`.
+    fn from_iter<I: IntoIterator<Item = usize>>(positions: I) -> Self {
+        let mut set = Self::new();
+        set.extend(positions);
+        set
+    }
+}

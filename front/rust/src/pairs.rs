@@ -1,0 +1,142 @@
+//! Two sets, of any two lengths.
+use crate::{FixedBitSet, raw};
+
+impl FixedBitSet {
+    /// Adds the positions of `other`. The length is then that of the longer.
+    ///
+    /// ```
+    /// # use fixedbitset::FixedBitSet;
+    /// let mut set: FixedBitSet = [1, 2].into_iter().collect();
+    /// set.union_with(&[2, 4].into_iter().collect());
+    /// assert_eq!(set.to_string(), "01101");
+    /// ```
+    #[inline]
+    pub fn union_with(&mut self, other: &FixedBitSet) {
+        self.grow(other.len());
+        raw::bits_union_with(&mut self.words.lent_mut(), &other.words.lent());
+    }
+
+    /// Leaves the positions that `other` has too, and the length.
+    ///
+    /// ```
+    /// # use fixedbitset::FixedBitSet;
+    /// let mut set: FixedBitSet = [1, 2].into_iter().collect();
+    /// set.intersect_with(&[2, 4].into_iter().collect());
+    /// assert_eq!(set.to_string(), "001");
+    /// ```
+    #[inline]
+    pub fn intersect_with(&mut self, other: &FixedBitSet) {
+        raw::bits_intersect_with(&mut self.words.lent_mut(), &other.words.lent());
+    }
+
+    /// Leaves the positions that `other` lacks, and the length.
+    ///
+    /// ```
+    /// # use fixedbitset::FixedBitSet;
+    /// let mut set: FixedBitSet = [1, 2].into_iter().collect();
+    /// set.difference_with(&[2, 4].into_iter().collect());
+    /// assert_eq!(set.to_string(), "010");
+    /// ```
+    #[inline]
+    pub fn difference_with(&mut self, other: &FixedBitSet) {
+        raw::bits_difference_with(&mut self.words.lent_mut(), &other.words.lent());
+    }
+
+    /// Leaves the positions that exactly one of both has. The length is then that of the longer.
+    ///
+    /// ```
+    /// # use fixedbitset::FixedBitSet;
+    /// let mut set: FixedBitSet = [1, 2].into_iter().collect();
+    /// set.symmetric_difference_with(&[2, 4].into_iter().collect());
+    /// assert_eq!(set.to_string(), "01001");
+    /// ```
+    #[inline]
+    pub fn symmetric_difference_with(&mut self, other: &FixedBitSet) {
+        self.grow(other.len());
+        raw::bits_symmetric_difference_with(&mut self.words.lent_mut(), &other.words.lent());
+    }
+
+    /// How many positions are in either set.
+    ///
+    /// ```
+    /// # use fixedbitset::FixedBitSet;
+    /// let (few, more): (FixedBitSet, FixedBitSet) = ([1].into_iter().collect(), [1, 4, 9].into_iter().collect());
+    /// assert_eq!(few.union_count(&more), 3);
+    /// ```
+    #[inline]
+    pub fn union_count(&self, other: &FixedBitSet) -> usize {
+        raw::bits_union_count(&self.words.lent(), &other.words.lent())
+    }
+
+    /// How many positions are in both sets.
+    ///
+    /// ```
+    /// # use fixedbitset::FixedBitSet;
+    /// let (few, more): (FixedBitSet, FixedBitSet) = ([1].into_iter().collect(), [1, 4, 9].into_iter().collect());
+    /// assert_eq!(few.intersection_count(&more), 1);
+    /// ```
+    #[inline]
+    pub fn intersection_count(&self, other: &FixedBitSet) -> usize {
+        raw::bits_intersection_count(&self.words.lent(), &other.words.lent())
+    }
+
+    /// How many positions of this set `other` lacks.
+    ///
+    /// ```
+    /// # use fixedbitset::FixedBitSet;
+    /// let (few, more): (FixedBitSet, FixedBitSet) = ([1].into_iter().collect(), [1, 4, 9].into_iter().collect());
+    /// assert_eq!(more.difference_count(&few), 2);
+    /// ```
+    #[inline]
+    pub fn difference_count(&self, other: &FixedBitSet) -> usize {
+        raw::bits_difference_count(&self.words.lent(), &other.words.lent())
+    }
+
+    /// How many positions are in exactly one of both sets.
+    ///
+    /// ```
+    /// # use fixedbitset::FixedBitSet;
+    /// let (few, more): (FixedBitSet, FixedBitSet) = ([2].into_iter().collect(), [1, 4, 9].into_iter().collect());
+    /// assert_eq!(few.symmetric_difference_count(&more), 4);
+    /// ```
+    #[inline]
+    pub fn symmetric_difference_count(&self, other: &FixedBitSet) -> usize {
+        raw::bits_symmetric_difference_count(&self.words.lent(), &other.words.lent())
+    }
+
+    /// Whether no position is in both sets.
+    ///
+    /// ```
+    /// # use fixedbitset::FixedBitSet;
+    /// let (few, more): (FixedBitSet, FixedBitSet) = ([2].into_iter().collect(), [1, 4, 9].into_iter().collect());
+    /// assert!(few.is_disjoint(&more));
+    /// ```
+    #[inline]
+    pub fn is_disjoint(&self, other: &FixedBitSet) -> bool {
+        raw::bits_is_disjoint(&self.words.lent(), &other.words.lent())
+    }
+
+    /// Whether `other` has each position of this set. The lengths do not matter.
+    ///
+    /// ```
+    /// # use fixedbitset::FixedBitSet;
+    /// let (few, more): (FixedBitSet, FixedBitSet) = ([1].into_iter().collect(), [1, 4, 9].into_iter().collect());
+    /// assert!(few.is_subset(&more) && !more.is_subset(&few));
+    /// ```
+    #[inline]
+    pub fn is_subset(&self, other: &FixedBitSet) -> bool {
+        raw::bits_is_subset(&self.words.lent(), &other.words.lent())
+    }
+
+    /// Whether this set has each position of `other`. The lengths do not matter.
+    ///
+    /// ```
+    /// # use fixedbitset::FixedBitSet;
+    /// let (few, more): (FixedBitSet, FixedBitSet) = ([1].into_iter().collect(), [1, 4, 9].into_iter().collect());
+    /// assert!(more.is_superset(&few) && !few.is_superset(&more));
+    /// ```
+    #[inline]
+    pub fn is_superset(&self, other: &FixedBitSet) -> bool {
+        other.is_subset(self)
+    }
+}

@@ -1,0 +1,171 @@
+//! Ranges of positions. A range is valid where its start is not past its end, and its end not past the length.
+use crate::raw::{self, Shared};
+use crate::{FixedBitSet, IndexRange};
+
+impl FixedBitSet {
+    /// How many positions of the range are set.
+    ///
+    /// **Panics** where the range is not valid.
+    ///
+    /// ```
+    /// # use fixedbitset::FixedBitSet;
+    /// let set: FixedBitSet = [3, 5, 9].into_iter().collect();
+    /// assert_eq!((set.count_ones(..), set.count_ones(4..9)), (3, 1));
+    /// ```
+    #[inline]
+    #[track_caller]
+    pub fn count_ones<T: IndexRange>(&self, range: T) -> usize {
+        let (set, start, end) = self.part(&range);
+        raw::bits_count_ones(&set, start, end)
+    }
+
+    /// How many positions of the range are not set.
+    ///
+    /// **Panics** where the range is not valid.
+    ///
+    /// ```
+    /// # use fixedbitset::FixedBitSet;
+    /// let set: FixedBitSet = [3, 5, 9].into_iter().collect();
+    /// assert_eq!((set.count_zeroes(..), set.count_zeroes(4..9)), (7, 4));
+    /// ```
+    #[inline]
+    #[track_caller]
+    pub fn count_zeroes<T: IndexRange>(&self, range: T) -> usize {
+        let (set, start, end) = self.part(&range);
+        raw::bits_count_zeroes(&set, start, end)
+    }
+
+    /// Whether each position of the range is set.
+    ///
+    /// **Panics** where the range is not valid.
+    ///
+    /// ```
+    /// # use fixedbitset::FixedBitSet;
+    /// let set: FixedBitSet = [3, 4, 9].into_iter().collect();
+    /// assert!(set.contains_all_in_range(3..5) && !set.contains_all_in_range(3..));
+    /// ```
+    #[inline]
+    #[track_caller]
+    pub fn contains_all_in_range<T: IndexRange>(&self, range: T) -> bool {
+        let (set, start, end) = self.part(&range);
+        raw::bits_contains_all_in_range(&set, start, end)
+    }
+
+    /// Whether some position of the range is set.
+    ///
+    /// **Panics** where the range is not valid.
+    ///
+    /// ```
+    /// # use fixedbitset::FixedBitSet;
+    /// let set: FixedBitSet = [3, 4, 9].into_iter().collect();
+    /// assert!(set.contains_any_in_range(5..) && !set.contains_any_in_range(5..9));
+    /// ```
+    #[inline]
+    #[track_caller]
+    pub fn contains_any_in_range<T: IndexRange>(&self, range: T) -> bool {
+        let (set, start, end) = self.part(&range);
+        raw::bits_contains_any_in_range(&set, start, end)
+    }
+
+    /// Sets each position of the range where `enabled` is true, and else clears each.
+    ///
+    /// **Panics** where the range is not valid.
+    ///
+    /// ```
+    /// # use fixedbitset::FixedBitSet;
+    /// let mut set = FixedBitSet::with_capacity(10);
+    /// set.set_range(2..5, true);
+    /// assert_eq!(set.to_string(), "0011100000");
+    /// ```
+    #[inline]
+    #[track_caller]
+    pub fn set_range<T: IndexRange>(&mut self, range: T, enabled: bool) {
+        if enabled {
+            self.insert_range(range);
+        } else {
+            self.remove_range(range);
+        }
+    }
+
+    /// Sets each position of the range.
+    ///
+    /// **Panics** where the range is not valid.
+    ///
+    /// ```
+    /// # use fixedbitset::FixedBitSet;
+    /// let mut set = FixedBitSet::with_capacity(5);
+    /// set.insert_range(2..);
+    /// assert_eq!(set.to_string(), "00111");
+    /// ```
+    #[inline]
+    #[track_caller]
+    pub fn insert_range<T: IndexRange>(&mut self, range: T) {
+        let (start, end) = self.ends(&range);
+        let done = raw::bits_insert_range(&mut self.words.lent_mut(), start, end);
+        self.assert_valid(done, start, end);
+    }
+
+    /// Clears each position of the range.
+    ///
+    /// **Panics** where the range is not valid.
+    ///
+    /// ```
+    /// # use fixedbitset::FixedBitSet;
+    /// let mut set: FixedBitSet = [0, 1, 2, 3].into_iter().collect();
+    /// set.remove_range(1..3);
+    /// assert_eq!(set.to_string(), "1001");
+    /// ```
+    #[inline]
+    #[track_caller]
+    pub fn remove_range<T: IndexRange>(&mut self, range: T) {
+        let (start, end) = self.ends(&range);
+        let done = raw::bits_remove_range(&mut self.words.lent_mut(), start, end);
+        self.assert_valid(done, start, end);
+    }
+
+    /// Turns each position of the range: it is set where it was not, and cleared where it was.
+    ///
+    /// **Panics** where the range is not valid.
+    ///
+    /// ```
+    /// # use fixedbitset::FixedBitSet;
+    /// let mut set: FixedBitSet = [0, 3].into_iter().collect();
+    /// set.toggle_range(..2);
+    /// assert_eq!(set.to_string(), "0101");
+    /// ```
+    #[inline]
+    #[track_caller]
+    pub fn toggle_range<T: IndexRange>(&mut self, range: T) {
+        let (start, end) = self.ends(&range);
+        let done = raw::bits_toggle_range(&mut self.words.lent_mut(), start, end);
+        self.assert_valid(done, start, end);
+    }
+
+    #[inline]
+    fn ends<T: IndexRange>(&self, range: &T) -> (usize, usize) {
+        (
+            range.start().unwrap_or(0),
+            range.end().unwrap_or(self.len()),
+        )
+    }
+
+    /// The set, lent, and the ends of a valid range.
+    #[inline]
+    #[track_caller]
+    fn part<T: IndexRange>(&self, range: &T) -> (Shared<'_>, usize, usize) {
+        let (start, end) = self.ends(range);
+        let set = self.words.lent();
+        self.assert_valid(raw::bits_range_is_valid(&set, start, end), start, end);
+        (set, start, end)
+    }
+
+    #[inline]
+    #[track_caller]
+    fn assert_valid(&self, is_valid: bool, start: usize, end: usize) {
+        let length = self.len();
+        assert!(
+            is_valid,
+            "invalid range {start}..{end} for a fixedbitset of size {length}"
+        );
+    }
+}

@@ -1,0 +1,380 @@
+//! The proved calls, and what is lent to them. This file alone has `unsafe` blocks.
+//!
+//! A call of `libbits_c.a` asks one thing of its caller: that what is lent to it is a set. A set is whole lanes of four
+//! words, as many as its length needs, with no bit past the length. Each call leaves it so, and takes any numbers. So
+//! the declarations are `safe`. They stand on this: [`Words`], [`Lent`] and the walks have private fields, and what
+//! makes or changes them stands here.
+use alloc::vec::Vec;
+use core::marker::PhantomData;
+use core::ops::Deref;
+use core::ptr::NonNull;
+use core::slice;
+
+/// A set that is lent, the struct `bits` of bits.h.
+#[repr(C)]
+pub struct Lent<'a> {
+    words: NonNull<usize>,
+    count: usize,
+    length: usize,
+    lent: PhantomData<&'a mut [usize]>,
+}
+
+/// A walk over one set, the struct `bits_walk` of bits.h.
+#[repr(C)]
+#[derive(Clone)]
+pub struct Walk<'a> {
+    front: usize,
+    back: usize,
+    front_at: usize,
+    back_at: usize,
+    words: NonNull<usize>,
+    count: usize,
+    lent: PhantomData<&'a [usize]>,
+}
+
+/// A walk over one set that is sieved by another, the struct `bits_sieve` of bits.h.
+#[repr(C)]
+#[derive(Clone)]
+pub struct Sieve<'a> {
+    walk: Walk<'a>,
+    other: NonNull<usize>,
+    other_count: usize,
+}
+
+/// Two such walks in turn, the struct `bits_pair` of bits.h.
+#[repr(C)]
+#[derive(Clone)]
+pub struct Pair<'a> {
+    first: Sieve<'a>,
+    second: Sieve<'a>,
+}
+
+// SAFETY: a walk reads words that are lent to it, as a slice does, and changes itself alone.
+unsafe impl Send for Walk<'_> {}
+// SAFETY: as above.
+unsafe impl Sync for Walk<'_> {}
+// SAFETY: as above.
+unsafe impl Send for Sieve<'_> {}
+// SAFETY: as above.
+unsafe impl Sync for Sieve<'_> {}
+
+// SAFETY: names and types are those of crates/bits_c, which front/declarations.py compares. Each call that is `safe` is so
+// for every set that is lent, every walk and all numbers, by its contract. The others are lent words by themselves, or keep them past the call.
+unsafe extern "C" {
+    pub safe fn bits_words(length: usize) -> usize;
+    pub safe fn bits_blocks(length: usize) -> usize;
+    pub safe fn bits_take_lowest_bit(word: &mut usize) -> usize;
+    fn bits_settle(words: NonNull<usize>, count: usize, length: usize, kept: usize) -> bool;
+
+    pub safe fn bits_contains(set: &Lent<'_>, bit: usize) -> bool;
+    pub safe fn bits_insert(set: &mut Lent<'_>, bit: usize) -> bool;
+    pub safe fn bits_remove(set: &mut Lent<'_>, bit: usize) -> bool;
+    pub safe fn bits_toggle(set: &mut Lent<'_>, bit: usize) -> bool;
+    pub safe fn bits_put(set: &mut Lent<'_>, bit: usize) -> bool;
+    pub safe fn bits_set(set: &mut Lent<'_>, bit: usize, enabled: bool) -> bool;
+    pub safe fn bits_set_block(set: &mut Lent<'_>, index: usize, value: usize) -> bool;
+    pub safe fn bits_clear(set: &mut Lent<'_>);
+    pub safe fn bits_minimum(set: &Lent<'_>) -> usize;
+    pub safe fn bits_maximum(set: &Lent<'_>) -> usize;
+    pub safe fn bits_is_clear(set: &Lent<'_>) -> bool;
+    pub safe fn bits_is_full(set: &Lent<'_>) -> bool;
+
+    pub safe fn bits_range_is_valid(set: &Lent<'_>, start: usize, end: usize) -> bool;
+    pub safe fn bits_insert_range(set: &mut Lent<'_>, start: usize, end: usize) -> bool;
+    pub safe fn bits_remove_range(set: &mut Lent<'_>, start: usize, end: usize) -> bool;
+    pub safe fn bits_toggle_range(set: &mut Lent<'_>, start: usize, end: usize) -> bool;
+    pub safe fn bits_count_ones(set: &Lent<'_>, start: usize, end: usize) -> usize;
+    pub safe fn bits_count_zeroes(set: &Lent<'_>, start: usize, end: usize) -> usize;
+    pub safe fn bits_contains_all_in_range(set: &Lent<'_>, start: usize, end: usize) -> bool;
+    pub safe fn bits_contains_any_in_range(set: &Lent<'_>, start: usize, end: usize) -> bool;
+
+    pub safe fn bits_union_with(set: &mut Lent<'_>, other: &Lent<'_>) -> bool;
+    pub safe fn bits_symmetric_difference_with(set: &mut Lent<'_>, other: &Lent<'_>) -> bool;
+    pub safe fn bits_intersect_with(set: &mut Lent<'_>, other: &Lent<'_>);
+    pub safe fn bits_difference_with(set: &mut Lent<'_>, other: &Lent<'_>);
+    pub safe fn bits_union_count(set: &Lent<'_>, other: &Lent<'_>) -> usize;
+    pub safe fn bits_intersection_count(set: &Lent<'_>, other: &Lent<'_>) -> usize;
+    pub safe fn bits_difference_count(set: &Lent<'_>, other: &Lent<'_>) -> usize;
+    pub safe fn bits_symmetric_difference_count(set: &Lent<'_>, other: &Lent<'_>) -> usize;
+    pub safe fn bits_is_disjoint(set: &Lent<'_>, other: &Lent<'_>) -> bool;
+    pub safe fn bits_is_subset(set: &Lent<'_>, other: &Lent<'_>) -> bool;
+    pub safe fn bits_equal(set: &Lent<'_>, other: &Lent<'_>) -> bool;
+    pub safe fn bits_compare(set: &Lent<'_>, other: &Lent<'_>) -> isize;
+
+    fn bits_ones(walk: &mut Walk<'_>, set: &Lent<'_>);
+    pub safe fn bits_ones_next(walk: &mut Walk<'_>, position: &mut usize) -> bool;
+    pub safe fn bits_ones_next_back(walk: &mut Walk<'_>, position: &mut usize) -> bool;
+    fn bits_zeroes(walk: &mut Walk<'_>, set: &Lent<'_>);
+    pub safe fn bits_zeroes_next(walk: &mut Walk<'_>, position: &mut usize) -> bool;
+    pub safe fn bits_zeroes_next_back(walk: &mut Walk<'_>, position: &mut usize) -> bool;
+    fn bits_intersection(walk: &mut Sieve<'_>, set: &Lent<'_>, other: &Lent<'_>);
+    pub safe fn bits_intersection_next(walk: &mut Sieve<'_>, position: &mut usize) -> bool;
+    pub safe fn bits_intersection_next_back(walk: &mut Sieve<'_>, position: &mut usize) -> bool;
+    fn bits_difference(walk: &mut Sieve<'_>, set: &Lent<'_>, other: &Lent<'_>);
+    pub safe fn bits_difference_next(walk: &mut Sieve<'_>, position: &mut usize) -> bool;
+    pub safe fn bits_difference_next_back(walk: &mut Sieve<'_>, position: &mut usize) -> bool;
+    fn bits_union(walk: &mut Pair<'_>, set: &Lent<'_>, other: &Lent<'_>);
+    pub safe fn bits_union_next(walk: &mut Pair<'_>, position: &mut usize) -> bool;
+    pub safe fn bits_union_next_back(walk: &mut Pair<'_>, position: &mut usize) -> bool;
+    fn bits_symmetric_difference(walk: &mut Pair<'_>, set: &Lent<'_>, other: &Lent<'_>);
+    pub safe fn bits_symmetric_difference_next(walk: &mut Pair<'_>, position: &mut usize) -> bool;
+    pub safe fn bits_symmetric_difference_next_back(
+        walk: &mut Pair<'_>,
+        position: &mut usize,
+    ) -> bool;
+}
+
+/// The position that a call answered, where `usize::MAX` is none.
+#[inline]
+pub fn position(answer: usize) -> Option<usize> {
+    (answer != usize::MAX).then_some(answer)
+}
+
+/// The position that a call of a walk gave, if it gave one.
+#[inline(always)]
+pub fn given(next: impl FnOnce(&mut usize) -> bool) -> Option<usize> {
+    let mut position = 0;
+    next(&mut position).then_some(position)
+}
+
+/// A lane: four words. With AVX they are aligned as its vectors are.
+#[repr(C)]
+#[cfg_attr(target_feature = "avx", repr(align(32)))]
+#[derive(Clone, Copy)]
+struct Lane([usize; LANE]);
+
+const LANE: usize = 4;
+
+/// The words of a set, and its length: as many lanes as the length needs, with no bit past it.
+#[derive(Clone)]
+pub struct Words {
+    lanes: Vec<Lane>,
+    length: usize,
+}
+
+impl Words {
+    pub const fn new() -> Self {
+        Words {
+            lanes: Vec::new(),
+            length: 0,
+        }
+    }
+
+    /// With no position: zeros have no bit past any length. (`vec![..]` takes longer for short sets.)
+    #[inline]
+    pub fn with_length(length: usize) -> Self {
+        let mut lanes = Vec::with_capacity(lanes_of(length));
+        lanes.resize(lanes_of(length), Lane([0; LANE]));
+        Words { lanes, length }
+    }
+
+    /// With the positions of these words that are below the length. Words that are missing are 0.
+    pub fn of_blocks(length: usize, blocks: impl IntoIterator<Item = usize>) -> Self {
+        let mut words = Self::with_length(length);
+        let (lent, count) = (words.lent_mut().words, LANE * words.lanes.len());
+        // SAFETY: so many words are lent, and nothing else reads or writes them until the call has made them a set.
+        let row = unsafe { slice::from_raw_parts_mut(lent.as_ptr(), count) };
+        let row = row[..bits_blocks(length)].iter_mut();
+        row.zip(blocks).for_each(|(word, block)| *word = block);
+        // SAFETY: as above. The call takes any words, and does its work for this count of them.
+        let done = unsafe { bits_settle(lent, count, length, length) };
+        assert!(done);
+        words
+    }
+
+    /// Makes the length greater by zeros, and leaves the positions.
+    #[cold]
+    #[inline(never)]
+    pub fn lengthen(&mut self, length: usize) {
+        assert!(length >= self.length);
+        self.lanes.resize(lanes_of(length), Lane([0; LANE]));
+        self.length = length;
+    }
+
+    /// Becomes what `source` is, in the memory that is there. In between it is empty.
+    #[inline]
+    pub fn copy(&mut self, source: &Self) {
+        self.length = 0;
+        self.lanes.clear();
+        self.lanes.extend_from_slice(&source.lanes);
+        self.length = source.length;
+    }
+
+    #[inline]
+    pub fn length(&self) -> usize {
+        self.length
+    }
+
+    /// The words that hold positions below the length.
+    #[inline]
+    pub fn blocks(&self) -> &[usize] {
+        // SAFETY: lanes are words, and the length needs no more of them than its lanes have.
+        unsafe { slice::from_raw_parts(self.lanes.as_ptr().cast(), bits_blocks(self.length)) }
+    }
+
+    #[inline(always)]
+    pub fn lent(&self) -> Shared<'_> {
+        let words = NonNull::from(&self.lanes[..]).cast();
+        Shared(Lent {
+            words,
+            count: LANE * self.lanes.len(),
+            length: self.length,
+            lent: PhantomData,
+        })
+    }
+
+    #[inline(always)]
+    pub fn lent_mut(&mut self) -> Lent<'_> {
+        let words = NonNull::from(&mut self.lanes[..]).cast();
+        Lent {
+            words,
+            count: LANE * self.lanes.len(),
+            length: self.length,
+            lent: PhantomData,
+        }
+    }
+
+    #[inline(always)]
+    pub fn ones(&self) -> Walk<'_> {
+        let mut walk = Walk::NONE;
+        // SAFETY: the walk keeps the words, which are lent as long as it lives.
+        unsafe { bits_ones(&mut walk, &self.lent()) };
+        walk
+    }
+
+    #[inline(always)]
+    pub fn zeroes(&self) -> Walk<'_> {
+        let mut walk = Walk::NONE;
+        // SAFETY: as above.
+        unsafe { bits_zeroes(&mut walk, &self.lent()) };
+        walk
+    }
+
+    #[inline(always)]
+    pub fn intersection<'a>(&'a self, other: &'a Words) -> Sieve<'a> {
+        let mut walk = Sieve::NONE;
+        // SAFETY: the walk keeps the words of both sets, which are lent as long as it lives.
+        unsafe { bits_intersection(&mut walk, &self.lent(), &other.lent()) };
+        walk
+    }
+
+    #[inline(always)]
+    pub fn difference<'a>(&'a self, other: &'a Words) -> Sieve<'a> {
+        let mut walk = Sieve::NONE;
+        // SAFETY: as above.
+        unsafe { bits_difference(&mut walk, &self.lent(), &other.lent()) };
+        walk
+    }
+
+    #[inline(always)]
+    pub fn union<'a>(&'a self, other: &'a Words) -> Pair<'a> {
+        let mut walk = Pair::NONE;
+        // SAFETY: as above.
+        unsafe { bits_union(&mut walk, &self.lent(), &other.lent()) };
+        walk
+    }
+
+    #[inline(always)]
+    pub fn symmetric_difference<'a>(&'a self, other: &'a Words) -> Pair<'a> {
+        let mut walk = Pair::NONE;
+        // SAFETY: as above.
+        unsafe { bits_symmetric_difference(&mut walk, &self.lent(), &other.lent()) };
+        walk
+    }
+
+    #[inline(always)]
+    pub fn into_ones(self) -> Owned {
+        let mut walk = Walk::NONE;
+        // SAFETY: the walk keeps the words, which stay where they are, unchanged, as long as the `Owned` lives.
+        unsafe { bits_ones(&mut walk, &self.lent()) };
+        Owned { walk, _words: self }
+    }
+}
+
+/// How many lanes a set of this length has.
+#[inline]
+fn lanes_of(length: usize) -> usize {
+    bits_words(length) / LANE
+}
+
+/// A set that is lent for reading.
+pub struct Shared<'a>(Lent<'a>);
+
+impl<'a> Deref for Shared<'a> {
+    type Target = Lent<'a>;
+
+    #[inline(always)]
+    fn deref(&self) -> &Lent<'a> {
+        &self.0
+    }
+}
+
+/// A walk, and the words that it reads.
+pub struct Owned {
+    walk: Walk<'static>,
+    _words: Words,
+}
+
+impl Owned {
+    #[inline]
+    pub fn next(&mut self) -> Option<usize> {
+        given(|position| bits_ones_next(&mut self.walk, position))
+    }
+
+    #[inline]
+    pub fn next_back(&mut self) -> Option<usize> {
+        given(|position| bits_ones_next_back(&mut self.walk, position))
+    }
+
+    /// The walk as it stands, lent.
+    #[inline]
+    pub fn walk(&self) -> &Walk<'_> {
+        &self.walk
+    }
+}
+
+impl Walk<'_> {
+    /// Over no words.
+    const NONE: Self = Walk {
+        front: 0,
+        back: 0,
+        front_at: 0,
+        back_at: 0,
+        words: NonNull::dangling(),
+        count: 0,
+        lent: PhantomData,
+    };
+
+    /// Not less than how many positions are left: those of the words between, and of the first and the last.
+    #[inline]
+    pub fn most(&self) -> Option<usize> {
+        self.count.checked_add(2)?.checked_mul(usize::BITS as usize)
+    }
+}
+
+impl Sieve<'_> {
+    const NONE: Self = Sieve {
+        walk: Walk::NONE,
+        other: NonNull::dangling(),
+        other_count: 0,
+    };
+
+    /// Not less than how many positions are left.
+    #[inline]
+    pub fn most(&self) -> Option<usize> {
+        self.walk.most()
+    }
+}
+
+impl Pair<'_> {
+    const NONE: Self = Pair {
+        first: Sieve::NONE,
+        second: Sieve::NONE,
+    };
+
+    /// Not less than how many positions are left.
+    #[inline]
+    pub fn most(&self) -> Option<usize> {
+        self.first.most()?.checked_add(self.second.most()?)
+    }
+}

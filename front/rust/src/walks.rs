@@ -1,0 +1,297 @@
+//! The walks over positions. Each call of one is a proved call.
+use crate::raw::{self, Owned, Pair, Sieve, Walk};
+use crate::{Block, FixedBitSet};
+use core::fmt::{Debug, Formatter, Result};
+use core::iter::FusedIterator;
+
+impl FixedBitSet {
+    /// The positions that are set, in ascending order.
+    ///
+    /// ```
+    /// # use fixedbitset::FixedBitSet;
+    /// let set: FixedBitSet = [9, 3, 70].into_iter().collect();
+    /// assert_eq!(set.ones().collect::<Vec<_>>(), [3, 9, 70]);
+    /// ```
+    #[inline]
+    pub fn ones(&self) -> Ones<'_> {
+        Ones {
+            walk: self.words.ones(),
+        }
+    }
+
+    /// The positions that are set, in ascending order. The walk owns the set.
+    ///
+    /// ```
+    /// # use fixedbitset::FixedBitSet;
+    /// let set: FixedBitSet = [9, 3, 70].into_iter().collect();
+    /// assert_eq!(set.into_ones().rev().collect::<Vec<_>>(), [70, 9, 3]);
+    /// ```
+    #[inline]
+    pub fn into_ones(self) -> IntoOnes {
+        IntoOnes {
+            owned: self.words.into_ones(),
+        }
+    }
+
+    /// The positions below the length that are not set, in ascending order.
+    ///
+    /// ```
+    /// # use fixedbitset::FixedBitSet;
+    /// let set: FixedBitSet = [1, 3].into_iter().collect();
+    /// assert_eq!(set.zeroes().collect::<Vec<_>>(), [0, 2]);
+    /// ```
+    #[inline]
+    pub fn zeroes(&self) -> Zeroes<'_> {
+        Zeroes {
+            walk: self.words.zeroes(),
+        }
+    }
+
+    /// The positions of both sets, in ascending order.
+    ///
+    /// ```
+    /// # use fixedbitset::FixedBitSet;
+    /// let (set, other): (FixedBitSet, FixedBitSet) = ([1, 3].into_iter().collect(), [2, 3].into_iter().collect());
+    /// assert_eq!(set.intersection(&other).collect::<Vec<_>>(), [3]);
+    /// ```
+    #[inline]
+    pub fn intersection<'a>(&'a self, other: &'a FixedBitSet) -> Intersection<'a> {
+        Intersection {
+            walk: self.words.intersection(&other.words),
+        }
+    }
+
+    /// The positions of this set in ascending order, and then those that `other` alone has.
+    ///
+    /// ```
+    /// # use fixedbitset::FixedBitSet;
+    /// let (set, other): (FixedBitSet, FixedBitSet) = ([1, 3].into_iter().collect(), [2, 3].into_iter().collect());
+    /// assert_eq!(set.union(&other).collect::<Vec<_>>(), [1, 3, 2]);
+    /// ```
+    #[inline]
+    pub fn union<'a>(&'a self, other: &'a FixedBitSet) -> Union<'a> {
+        Union {
+            walk: self.words.union(&other.words),
+        }
+    }
+
+    /// The positions of this set that `other` lacks, in ascending order.
+    ///
+    /// ```
+    /// # use fixedbitset::FixedBitSet;
+    /// let (set, other): (FixedBitSet, FixedBitSet) = ([1, 3].into_iter().collect(), [2, 3].into_iter().collect());
+    /// assert_eq!(set.difference(&other).collect::<Vec<_>>(), [1]);
+    /// ```
+    #[inline]
+    pub fn difference<'a>(&'a self, other: &'a FixedBitSet) -> Difference<'a> {
+        Difference {
+            walk: self.words.difference(&other.words),
+        }
+    }
+
+    /// The positions that this set alone has in ascending order, and then those that `other` alone has.
+    ///
+    /// ```
+    /// # use fixedbitset::FixedBitSet;
+    /// let (set, other): (FixedBitSet, FixedBitSet) = ([1, 3].into_iter().collect(), [2, 3].into_iter().collect());
+    /// assert_eq!(set.symmetric_difference(&other).rev().collect::<Vec<_>>(), [2, 1]);
+    /// ```
+    #[inline]
+    pub fn symmetric_difference<'a>(&'a self, other: &'a FixedBitSet) -> SymmetricDifference<'a> {
+        SymmetricDifference {
+            walk: self.words.symmetric_difference(&other.words),
+        }
+    }
+}
+
+/// The walk of [`FixedBitSet::ones`].
+///
+/// ```
+/// # use fixedbitset::FixedBitSet;
+/// let set: FixedBitSet = [9, 3, 70].into_iter().collect();
+/// let mut walk = set.ones();
+/// assert_eq!((walk.next_back(), format!("{walk:?}")), (Some(70), "{3, 9}".to_string()));
+/// ```
+#[derive(Clone)]
+pub struct Ones<'a> {
+    walk: Walk<'a>,
+}
+
+/// The walk of [`FixedBitSet::into_ones`].
+///
+/// ```
+/// # use fixedbitset::{FixedBitSet, IntoOnes};
+/// let walk: IntoOnes = FixedBitSet::with_capacity(10).into_ones();
+/// assert_eq!(walk.count(), 0);
+/// ```
+pub struct IntoOnes {
+    owned: Owned,
+}
+
+/// The walk of [`FixedBitSet::zeroes`].
+///
+/// ```
+/// # use fixedbitset::FixedBitSet;
+/// let mut walk = FixedBitSet::with_capacity(10);
+/// assert_eq!(walk.zeroes().next_back(), Some(9));
+/// ```
+#[derive(Clone)]
+pub struct Zeroes<'a> {
+    walk: Walk<'a>,
+}
+
+/// The walk of [`FixedBitSet::intersection`].
+///
+/// ```
+/// # use fixedbitset::FixedBitSet;
+/// let set: FixedBitSet = [1, 3].into_iter().collect();
+/// assert_eq!(set.intersection(&set).next_back(), Some(3));
+/// ```
+#[derive(Clone)]
+pub struct Intersection<'a> {
+    walk: Sieve<'a>,
+}
+
+/// The walk of [`FixedBitSet::difference`].
+///
+/// ```
+/// # use fixedbitset::FixedBitSet;
+/// let set: FixedBitSet = [1, 3].into_iter().collect();
+/// assert_eq!(set.difference(&FixedBitSet::new()).next_back(), Some(3));
+/// ```
+#[derive(Clone)]
+pub struct Difference<'a> {
+    walk: Sieve<'a>,
+}
+
+/// The walk of [`FixedBitSet::union`]. From the back it begins with what the second set alone has.
+///
+/// ```
+/// # use fixedbitset::FixedBitSet;
+/// let (set, other): (FixedBitSet, FixedBitSet) = ([1, 3].into_iter().collect(), [2, 3].into_iter().collect());
+/// assert_eq!(set.union(&other).next_back(), Some(2));
+/// ```
+#[derive(Clone)]
+pub struct Union<'a> {
+    walk: Pair<'a>,
+}
+
+/// The walk of [`FixedBitSet::symmetric_difference`]. From the back it begins with what the second set alone has.
+///
+/// ```
+/// # use fixedbitset::FixedBitSet;
+/// let (set, other): (FixedBitSet, FixedBitSet) = ([1, 3].into_iter().collect(), [2, 3].into_iter().collect());
+/// assert_eq!(set.symmetric_difference(&other).next_back(), Some(2));
+/// ```
+#[derive(Clone)]
+pub struct SymmetricDifference<'a> {
+    walk: Pair<'a>,
+}
+
+/// The traits of a walk by its two calls.
+macro_rules! walks {
+    ($($name:ident by $next:ident, $next_back:ident;)*) => { $(
+        impl Iterator for $name<'_> {
+            type Item = usize;
+
+            #[inline]
+            fn next(&mut self) -> Option<usize> {
+                raw::given(|position| raw::$next(&mut self.walk, position))
+            }
+
+            #[inline]
+            fn size_hint(&self) -> (usize, Option<usize>) {
+                (0, self.walk.most())
+            }
+        }
+
+        impl DoubleEndedIterator for $name<'_> {
+            #[inline]
+            fn next_back(&mut self) -> Option<usize> {
+                raw::given(|position| raw::$next_back(&mut self.walk, position))
+            }
+        }
+
+        impl FusedIterator for $name<'_> {}
+
+        impl Debug for $name<'_> {
+            /// The positions that are left.
+            fn fmt(&self, f: &mut Formatter<'_>) -> Result {
+                f.debug_set().entries(self.clone()).finish()
+            }
+        }
+    )* };
+}
+walks! {
+    Ones by bits_ones_next, bits_ones_next_back;
+    Zeroes by bits_zeroes_next, bits_zeroes_next_back;
+    Intersection by bits_intersection_next, bits_intersection_next_back;
+    Difference by bits_difference_next, bits_difference_next_back;
+    Union by bits_union_next, bits_union_next_back;
+    SymmetricDifference by bits_symmetric_difference_next, bits_symmetric_difference_next_back;
+}
+
+impl Iterator for IntoOnes {
+    type Item = usize;
+
+    #[inline]
+    fn next(&mut self) -> Option<usize> {
+        self.owned.next()
+    }
+
+    #[inline]
+    fn size_hint(&self) -> (usize, Option<usize>) {
+        (0, self.owned.walk().most())
+    }
+}
+
+impl DoubleEndedIterator for IntoOnes {
+    #[inline]
+    fn next_back(&mut self) -> Option<usize> {
+        self.owned.next_back()
+    }
+}
+
+impl FusedIterator for IntoOnes {}
+
+impl Debug for IntoOnes {
+    /// The positions that are left.
+    fn fmt(&self, f: &mut Formatter<'_>) -> Result {
+        Ones {
+            walk: self.owned.walk().clone(),
+        }
+        .fmt(f)
+    }
+}
+
+impl Ones<'_> {
+    /// Clears the lowest bit of the word that is set, and answers its index.
+    ///
+    /// **Panics** where the word is 0.
+    ///
+    /// ```
+    /// # use fixedbitset::Ones;
+    /// let mut word = 0b1100;
+    /// assert_eq!((Ones::last_positive_bit_and_unset(&mut word), word), (2, 0b1000));
+    /// ```
+    #[inline]
+    #[track_caller]
+    pub fn last_positive_bit_and_unset(n: &mut Block) -> usize {
+        raw::position(raw::bits_take_lowest_bit(n)).expect("the word is 0")
+    }
+}
+
+impl IntoOnes {
+    /// The same as [`Ones::last_positive_bit_and_unset`].
+    ///
+    /// ```
+    /// # use fixedbitset::IntoOnes;
+    /// let mut word = 0b1100;
+    /// assert_eq!((IntoOnes::last_positive_bit_and_unset(&mut word), word), (2, 0b1000));
+    /// ```
+    #[inline]
+    #[track_caller]
+    pub fn last_positive_bit_and_unset(n: &mut Block) -> usize {
+        Ones::last_positive_bit_and_unset(n)
+    }
+}
