@@ -9,7 +9,7 @@ use Rattle.bitlanes.specs.BitLaws.{test_of_and}
 use Rattle.bitwords.specs.CountFacts.{indicator}
 use Rattle.bitwords.specs.Rows.{has_bit}
 use Rattle.fixedbitset.specs.Bits.{Bits, contains, insert, remove, set_bit, toggle, empty, of_words}
-use Rattle.fixedbitset.specs.BitsFacts.{same_bits, length-set_bit, contains-set_bit, length-empty, contains-empty}
+use Rattle.fixedbitset.specs.BitsFacts.{same_bits, length-set_bit, contains-set_bit, length-empty, contains-empty, contains-past}
 use Rattle.fixedbitset.specs.Stored.{IsClean}
 use Rattle.fixedbitset.proofs.Values.{length-of_words}
 use Rattle.fixedbitset.proofs.Words.{contains-of_clean, viewed_length}
@@ -137,3 +137,7 @@ module _ (n : ℕ) (ws : List ℕ) (v : Bits) (bit x : ℕ) where
   -- the test `word & (1 << k) != 0`, of a position below the length of the value
   pub viewed_mask : of_words n ws ≡ v → IsClean n ws → bit < v.length → x ≡ get_or ws (bit / 64) x → not (bit_and x (1 * 2 ^ (bit % 64) % 2 ^ 64) == 0) ≡ contains v bit
   viewed_mask view clean inside read = test_of_and x (bit % 64) (omega arith) ∙ viewed_bit view clean inside read
+
+-- no position past the length is set
+pub none_past : (v : Bits) (bit : ℕ) → v.length ≤ bit → false ≡ contains v bit
+none_past v bit past = sym (contains-past v bit past)

@@ -9,7 +9,6 @@ ghost use Rattle.fixedbitset.specs.Bits as model;
 
 use crate::set::FixedBitSet;
 use bitlanes::word::BITS;
-use bitwords::positions;
 
 impl FixedBitSet {
     /// Whether the position is set: `false` at or past the length. Every position may be asked.
@@ -21,10 +20,15 @@ impl FixedBitSet {
     /// assert!(rt; !set.contains(usize::MAX));
     /// ```
     #[inline]
+    #[tactic(auto, using(crate::proofs::Changes::none_past))]
     pub fn contains(&self, bit: usize) -> bool
         ensures { result ≡ model.contains self.now bit }
     {
-        positions::contains(self.words.as_slice(), bit)
+        if bit < self.len() {
+            self.contains_unchecked(bit)
+        } else {
+            false
+        }
     }
 
     /// Whether the position, which has to be below the length, is set. The length is not looked at.
