@@ -10,9 +10,14 @@ use Rattle.bitwords.specs.CountFacts.{indicator}
 use Rattle.bitwords.specs.Rows.{has_bit}
 use Rattle.fixedbitset.specs.Bits.{Bits, contains, insert, remove, set_bit, toggle, empty, of_words}
 use Rattle.fixedbitset.specs.BitsFacts.{same_bits, length-set_bit, contains-set_bit, length-empty, contains-empty, contains-past}
-use Rattle.fixedbitset.specs.Stored.{IsClean, ChangesBit}
+use Rattle.fixedbitset.specs.Stored.{IsClean}
 use Rattle.fixedbitset.proofs.Values.{length-of_words}
 use Rattle.fixedbitset.proofs.Words.{contains-of_clean, viewed_length}
+
+-- the word has b at bit j, and else the bits of the old one
+pub record ChangesBit (old new j : ℕ) (b : Bool) : Type 0 where
+  pub same : bit_at new j ≡ indicator b
+  pub others : (i : ℕ) → i < 64 → i ≢ j → bit_at new i ≡ bit_at old i
 
 pub ChangesBit-set : (x j : ℕ) → j < 64 → ChangesBit x (bit_or x (1 * 2 ^ j % 2 ^ 64)) j true
 ChangesBit-set x j h = record { same = bit_at_set_same w64 x j h; others = λ i _ ne. bit_at_set_other w64 x j h i ne }

@@ -1,8 +1,6 @@
 -- A value and the words in which a set keeps it. No public clause cites this module.
-use Rattle.std.specs.Prelude.{◌≡◌, ◌≢◌, ℕ, ◌^◌, ◌<◌, ◌≤◌, Bool, false, List, length}
+use Rattle.std.specs.Prelude.{◌≡◌, ℕ, ◌^◌, ◌<◌, ◌≤◌, Bool, false, List, length}
 use Rattle.std.specs.FinSet as set
-use Rattle.std.specs.Int.{bit_at}
-use Rattle.bitwords.specs.CountFacts.{indicator}
 use Rattle.bitwords.specs.Rows.{has_bit}
 use Rattle.fixedbitset.specs.Numbers.{numbers_between}
 use Rattle.fixedbitset.specs.Bits.{Bits, pair, having, contains, storage_words}
@@ -12,11 +10,6 @@ pub record IsClean (n : ℕ) (ws : List ℕ) : Type 0 where
   pub fits : n < 2 ^ 64
   pub count : length ws ≡ storage_words n
   pub tail : (p : ℕ) → n ≤ p → has_bit ws p ≡ false
-
--- the word has b at bit j, and else the bits of the old one
-pub record ChangesBit (old new j : ℕ) (b : Bool) : Type 0 where
-  pub same : bit_at new j ≡ indicator b
-  pub others : (i : ℕ) → i < 64 → i ≢ j → bit_at new i ≡ bit_at old i
 
 -- ---- what all changes share, and all questions: a second value, which may be that of a range
 

@@ -6,10 +6,9 @@
 
 ghost use Rattle.std.specs.Prelude.{◌≡◌, ◌<◌};
 ghost use Rattle.fixedbitset.specs.Bits as model;
-ghost use Rattle.fixedbitset.specs.Stored.{ChangesBit};
 
 use crate::set::FixedBitSet;
-use bitlanes::word::{BITS, Block};
+use bitlanes::word::BITS;
 
 impl FixedBitSet {
     /// Whether the position is set: `false` at or past the length. Every position may be asked.
@@ -215,13 +214,16 @@ impl FixedBitSet {
     /// assert_eq!(rt; set.maximum(), Some(68));
     /// ```
     #[inline]
-    #[tactic(auto, using(crate::proofs::Changes::viewed_place))]
+    #[tactic(auto, unfolding(crate::specs::Bits::set_bit))]
     pub fn set_unchecked(&mut self, bit: usize, enabled: bool)
         requires { bit < self.old.length }
         ensures { self.new ≡ model.set_bit self.old bit enabled }
     {
-        let word = self.words[bit / BITS];
-        self.words[bit / BITS] = with_bit(word, bit % BITS, enabled);
+        if enabled {
+            self.insert(bit);
+        } else {
+            self.remove(bit);
+        }
     }
 
     /// Makes position `to` what position `from` is. `to` has to be below the length; `from` need not be, and past the
@@ -259,18 +261,5 @@ impl FixedBitSet {
         ensures { self.new ≡ model.copy_bit self.old from to }
     {
         self.set(to, self.contains_unchecked(from));
-    }
-}
-
-// The word with this bit set, or clear where `enabled` is false. The bit has to be one of the 64.
-#[inline(always)]
-fn with_bit(word: Block, bit: usize, enabled: bool) -> Block
-    requires { bit < 64 }
-    ensures { ChangesBit word result bit enabled }
-{
-    if enabled {
-        word | 1 << bit
-    } else {
-        word & !(1 << bit)
     }
 }
