@@ -12,6 +12,9 @@ use bitwords::positions;
 use std::alloc::{AllocError, Global};
 use std::marker::Model;
 
+// From how many words on a set is copied by one call of `memcpy`. A shorter one is copied by a loop, with no call.
+const LONG: usize = 64;
+
 /// A set of bits: a length in bits, and a set of positions below it.
 ///
 /// It keeps the words that the length needs, and up to three more, so that they make whole lanes of four. Bits past the
@@ -264,7 +267,7 @@ impl Clone for FixedBitSet {
     /// ```
     fn clone(&self) -> Result<Self, AllocError> {
         Ok(FixedBitSet {
-            words: Vec::from_slice(*self.words.allocator(), self.words.as_slice())?,
+            words: copied(*self.words.allocator(), self.words.as_slice())?,
             length: self.length,
         })
     }
@@ -276,6 +279,17 @@ pub(crate) fn storage_words(bits: usize) -> usize
     ensures { result ≡ model.storage_words bits }
 {
     LANE * bits.div_ceil(BITS).div_ceil(LANE)
+}
+
+// A row of words in memory of its own.
+fn copied(alloc: Global, words: &[Block]) -> Result<Vec<Block>, AllocError>
+    ensures { IfOk result (λ copy. copy.items ≡ words.now) }
+{
+    if words.len() < LONG {
+        Vec::from_clones(alloc, words)
+    } else {
+        Vec::from_slice(alloc, words)
+    }
 }
 
 // How many positions of word `index` are below the length.
