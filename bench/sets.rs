@@ -37,6 +37,7 @@ struct Call {
 enum Calls {
     One,
     EachPosition,
+    EachOfHalf,
     EachWord,
 }
 
@@ -45,6 +46,7 @@ impl Calls {
         match self {
             Calls::One => 1,
             Calls::EachPosition => bits,
+            Calls::EachOfHalf => bits / 2,
             Calls::EachWord => bits / 64,
         }
     }
@@ -82,6 +84,8 @@ calls! {
     union_with intersect_with intersect_with_short difference_with symmetric_difference_with
     union_count intersection_count difference_count symmetric_difference_count
     is_disjoint is_subset is_superset maximum eq cmp bitand bitor bitxor contains put grow
+    insert_middle count_zeroes is_clear hash clone clone_from extend contains_in_loop remove
+    grow_and_insert set_block
 }
 
 /// The words of a set of so many positions, with those from `start` up to and without `end`.
@@ -177,7 +181,7 @@ macro_rules! full {
     };
 }
 
-const WHOLE: [Call; 23] = [
+const WHOLE: [Call; 29] = [
     change!("insert_range(..)", insert_range, |bits, set, _| {
         loops::insert_range(set, 0, bits)
     }),
@@ -237,12 +241,23 @@ const WHOLE: [Call; 23] = [
     call!("bitand", bitand, One),
     call!("bitor", bitor, One),
     call!("bitxor", bitxor, One),
+    call!("insert_range(n/4..3n/4)", insert_middle, One),
+    call!("count_zeroes(..)", count_zeroes, One),
+    call!("is_clear, of no position", is_clear, One),
+    call!("hash", hash, One),
+    call!("clone", clone, One),
+    call!("clone_from", clone_from, One),
 ];
 
 /// Calls of one position or one word, which are timed at the first length alone.
-const SINGLE: [Call; 3] = [
+const SINGLE: [Call; 8] = [
     call!("contains", contains, EachPosition),
+    call!("contains, in the caller's loop", contains_in_loop, EachPosition),
     call!("put", put, EachPosition),
+    call!("remove", remove, EachPosition),
+    call!("grow_and_insert", grow_and_insert, EachPosition),
+    call!("set_block", set_block, EachPosition),
+    call!("extend, by ones", extend, EachOfHalf),
     call!("grow by 64", grow, EachWord),
 ];
 

@@ -1,6 +1,7 @@
 //! The calls of upstream's crate, each made for so many rounds on sets of its own, as crates/bench_abi makes ours.
 
 use fixedbitset::FixedBitSet;
+use std::hash::{DefaultHasher, Hash, Hasher};
 
 /// The set of so many positions, with those from `start` up to and without `end`.
 fn filled(bits: usize, start: usize, end: usize) -> FixedBitSet {
@@ -79,6 +80,12 @@ change!(difference_with, bits => filled(bits, bits / 2, bits), |set, other| set.
 change!(symmetric_difference_with, bits => filled(bits, bits / 2, bits), |set, other| {
     set.symmetric_difference_with(other)
 });
+change!(insert_middle, bits => filled(bits, bits / 2, bits), |set, _other| {
+    let quarter = set.len() / 4;
+    set.insert_range(quarter..set.len() - quarter)
+});
+change!(clone_from, bits => filled(bits, bits / 2, bits), |set, other| set.clone_from(other));
+change!(extend, bits => filled(bits, bits / 2, bits), |set, other| set.extend(other.ones()));
 question!(count_ones, bits => bits / 2, bits / 2, |set, _other| set.count_ones(..));
 question!(contains_all_in_range, bits => bits, 0, |set, _other| set.contains_all_in_range(..));
 question!(contains_any_in_range, bits => 64, bits, |set, _other| {
@@ -97,6 +104,14 @@ question!(is_superset, bits => bits, 0, |set, other| other.is_superset(set));
 question!(maximum, bits => 64, bits, |set, _other| set.maximum().unwrap_or(0));
 question!(eq, bits => bits, 0, |set, other| set == other);
 question!(cmp, bits => bits, 0, |set, other| set.cmp(other).is_eq());
+question!(count_zeroes, bits => bits / 2, bits / 2, |set, _other| set.count_zeroes(..));
+question!(is_clear, bits => 64, bits, |_set, other| other.is_clear());
+question!(hash, bits => bits / 2, bits / 2, |set, _other| {
+    let mut hasher = DefaultHasher::new();
+    set.hash(&mut hasher);
+    hasher.finish() == 0
+});
+question!(clone, bits => bits / 2, bits / 2, |set, _other| set.clone().contains(0));
 question!(bitand, bits => bits / 2, bits / 2, |set, other| (set & other).contains(0));
 question!(bitor, bits => bits / 2, bits / 2, |set, other| (set | other).contains(0));
 question!(bitxor, bits => bits / 2, bits / 2, |set, other| (set ^ other).contains(0));
@@ -114,18 +129,33 @@ pub fn contains(bits: usize, rounds: usize) -> usize {
     })
 }
 
-#[inline(never)]
-fn put_one(set: &mut FixedBitSet, bit: usize) -> bool {
-    set.put(bit)
+question!(contains_in_loop, bits => bits / 2, bits / 2, |set, _other| {
+    (0..set.len())
+        .map(|bit| usize::from(set.contains(bit)))
+        .sum::<usize>()
+});
+
+/// A call that changes a set at each position in turn.
+macro_rules! each {
+    ($name:ident, |$set:ident, $bit:ident| $call:expr) => {
+        pub fn $name(bits: usize, rounds: usize) -> usize {
+            #[inline(never)]
+            fn call($set: &mut FixedBitSet, $bit: usize) {
+                $call
+            }
+            changed(bits, FixedBitSet::new(), rounds, |set, _other| {
+                for bit in 0..set.len() {
+                    call(set, bit);
+                }
+            })
+        }
+    };
 }
 
-pub fn put(bits: usize, rounds: usize) -> usize {
-    changed(bits, FixedBitSet::new(), rounds, |set, _other| {
-        for bit in 0..set.len() {
-            put_one(set, bit);
-        }
-    })
-}
+each!(put, |set, bit| _ = set.put(bit));
+each!(remove, |set, bit| set.remove(bit));
+each!(grow_and_insert, |set, bit| set.grow_and_insert(bit));
+each!(set_block, |set, bit| set.as_mut_slice()[bit / 64] = 1);
 
 #[inline(never)]
 fn grow_to(set: &mut FixedBitSet, bits: usize) {

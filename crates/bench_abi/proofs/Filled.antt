@@ -5,7 +5,7 @@ use Rattle.fixedbitset.specs.Bits.{Bits, contains, empty, insert, grow}
 use Rattle.fixedbitset.specs.BitsFacts.{same_bits, length-insert, contains-insert, contains_below, length-empty}
 use Rattle.bitwords.specs.Rows.{in_range}
 use Rattle.fixedbitset.specs.RangesFacts.{contains-insert_range}
-use Rattle.bench_abi.specs.Rounds.{filled, after, put_below, how_many, grown}
+use Rattle.bench_abi.specs.Rounds.{filled, after, each_below, how_many, grown}
 
 kept : (e c l : Bool) → (c ≡ true → l ≡ true) → (e ≡ true → c ≡ true) → ((e || c) && l) ≡ c
 kept true true l h k = h refl
@@ -39,12 +39,8 @@ after_next step n v = let one_more : n + 1 ≡ suc n = omega arith in ap (λ k. 
 
 -- ---- one position or one word more
 
-pub put_next : (v : Bits) (n : ℕ) → put_below v (n + 1) ≡ insert (put_below v n) n
-put_next v n = let one_more : n + 1 ≡ suc n = omega arith in ap (put_below v) one_more
-
-pub length_put : (v : Bits) (n : ℕ) → (put_below v n).length ≡ v.length
-length_put v zero = refl
-length_put v (suc n) = length-insert (put_below v n) n ∙ length_put v n
+pub each_next : (step : Bits → ℕ → Bits) (n : ℕ) (v : Bits) → each_below step (n + 1) v ≡ step (each_below step n v) n
+each_next step n v = let one_more : n + 1 ≡ suc n = omega arith in ap (λ k. each_below step k v) one_more
 
 pub many_next : (v : Bits) (n : ℕ) → how_many v (n + 1) ≡ how_many v n + (if contains v n then 1 else 0)
 many_next v n = let one_more : n + 1 ≡ suc n = omega arith in ap (how_many v) one_more

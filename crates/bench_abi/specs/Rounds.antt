@@ -1,6 +1,6 @@
 -- What so many rounds of one call make of a set.
 use Rattle.std.specs.Prelude.{ℕ, zero, suc, ◌+◌, ◌*◌, ◌/◌, if◌then◌else◌}
-use Rattle.fixedbitset.specs.Bits.{Bits, empty, contains, insert, grow}
+use Rattle.fixedbitset.specs.Bits.{Bits, empty, contains, grow}
 use Rattle.fixedbitset.specs.Ranges.{insert_range, count_ones}
 
 -- length `bits`, and the positions from start up to and without end
@@ -28,10 +28,10 @@ abbrev pub after : (Bits → Bits) → ℕ → Bits → Bits
 after step zero v = v
 after step (suc n) v = step (after step n v)
 
--- what is left after each position below n is put
-abbrev pub put_below : Bits → ℕ → Bits
-put_below v zero = v
-put_below v (suc n) = insert (put_below v n) n
+-- what is left after a call at each position below n, which makes `step v p` of v
+abbrev pub each_below : (Bits → ℕ → Bits) → ℕ → Bits → Bits
+each_below step zero v = v
+each_below step (suc n) v = step (each_below step n v) n
 
 -- how many positions below n are set
 abbrev pub how_many : Bits → ℕ → ℕ

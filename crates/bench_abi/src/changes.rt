@@ -1,14 +1,16 @@
 //! Calls that change a set, under C names, each made for so many rounds.
 
 ghost use Rattle.std.specs.Prelude.{◌≡◌, ℕ, ◌-◌, ◌/◌, ◌^◌, ◌<◌, ◌≤◌, IfOk, OnOk};
-ghost use Rattle.fixedbitset.specs.Bits.{Bits, insert};
+ghost use Rattle.fixedbitset.specs.Bits.{Bits, add, add_all, asc, insert, remove, set_block};
 ghost use Rattle.fixedbitset.specs.Ranges as ranges;
 ghost use Rattle.fixedbitset.specs.TwoSets as sets;
-ghost use Rattle.bench_abi.specs.Rounds.{filled, lower, upper, full, size, after, put_below};
+ghost use Rattle.bench_abi.specs.Rounds.{filled, lower, upper, full, size, after, each_below};
 
 use crate::sets::{REFUSED, filled};
+use bitlanes::word::BITS;
 use fixedbitset::FixedBitSet;
 use std::alloc::{AllocError, Global};
+use std::marker::PhantomData;
 
 /// A call that changes a set.
 trait Change {
@@ -89,27 +91,124 @@ impl Change for SymmetricDifferenceWith {
     }
 }
 
-/// `put` of each position.
-struct PutEach;
+/// `insert_range` of the middle half of the positions.
+struct InsertMiddle;
 
-impl Change for PutEach {
-    ghost gives = { λ v w. put_below v v.length };
+impl Change for InsertMiddle {
+    ghost gives = { λ v w. ranges.insert_range v (v.length / 4) (v.length - v.length / 4) };
 
-    #[tactic(auto, using(crate::proofs::Filled::put_next, crate::proofs::Filled::length_put))]
+    #[inline(never)]
     fn change(set: &mut FixedBitSet, _other: &FixedBitSet) -> Result<(), AllocError> {
-        for bit in 0..set.len() {
-            put(set, bit);
-        }
+        let quarter = set.len() / 4;
+        set.insert_range(quarter..set.len() - quarter);
         Ok(())
     }
 }
 
-#[inline(never)]
-fn put(set: &mut FixedBitSet, bit: usize) -> bool
-    requires { bit < set.old.length }
-    ensures { set.new ≡ insert set.old bit }
-{
-    set.put(bit)
+struct CloneFrom;
+
+impl Change for CloneFrom {
+    ghost gives = { λ v w. w };
+
+    #[inline(never)]
+    fn change(set: &mut FixedBitSet, other: &FixedBitSet) -> Result<(), AllocError> {
+        set.clone_from(other)
+    }
+}
+
+/// `extend` by the positions of the other set.
+struct Extend;
+
+impl Change for Extend {
+    ghost gives = { λ v w. add_all v (asc w) };
+
+    #[inline(never)]
+    fn change(set: &mut FixedBitSet, other: &FixedBitSet) -> Result<(), AllocError> {
+        match set.extend(other.ones()) {
+            Ok(()) => Ok(()),
+            Err(_) => Err(AllocError),
+        }
+    }
+}
+
+/// A call that changes a set at one position.
+trait Single {
+    /// What it makes of the set.
+    ghost gives: { Bits → ℕ → Bits };
+
+    fn change(set: &mut FixedBitSet, bit: usize) -> Result<(), AllocError>
+        requires inside { bit < set.old.length }
+        requires fits { bit < 2 ^ 64 - 1 }
+        ensures value { OnOk result (set.new ≡ gives set.old bit) }
+        ensures length { OnOk result (set.new.length ≡ set.old.length) };
+}
+
+struct Put;
+
+impl Single for Put {
+    ghost gives = { insert };
+
+    #[inline(never)]
+    #[tactic(auto, using(fixedbitset::specs::BitsFacts::facts))]
+    fn change(set: &mut FixedBitSet, bit: usize) -> Result<(), AllocError> {
+        set.put(bit);
+        Ok(())
+    }
+}
+
+struct Remove;
+
+impl Single for Remove {
+    ghost gives = { remove };
+
+    #[inline(never)]
+    #[tactic(auto, using(fixedbitset::specs::BitsFacts::facts))]
+    fn change(set: &mut FixedBitSet, bit: usize) -> Result<(), AllocError> {
+        set.remove(bit);
+        Ok(())
+    }
+}
+
+struct GrowAndInsert;
+
+impl Single for GrowAndInsert {
+    ghost gives = { add };
+
+    #[inline(never)]
+    #[tactic(auto, using(fixedbitset::specs::AddFacts::additions))]
+    fn change(set: &mut FixedBitSet, bit: usize) -> Result<(), AllocError> {
+        set.grow_and_insert(bit)
+    }
+}
+
+/// `set_block` of the word that the position stands in.
+struct SetBlock;
+
+impl Single for SetBlock {
+    ghost gives = { λ v bit. set_block v (bit / 64) 1 };
+
+    #[inline(never)]
+    #[tactic(auto, using(fixedbitset::specs::WordsFacts::facts))]
+    fn change(set: &mut FixedBitSet, bit: usize) -> Result<(), AllocError> {
+        set.set_block(bit / BITS, 1);
+        Ok(())
+    }
+}
+
+/// A call at each position in turn.
+struct Each<S> {
+    _call: PhantomData<S>,
+}
+
+impl<S: Single> Change for Each<S> {
+    ghost gives = { λ v w. each_below S.gives v.length v };
+
+    fn change(set: &mut FixedBitSet, _other: &FixedBitSet) -> Result<(), AllocError> {
+        for bit in 0..set.len() {
+            S::change(set, bit)?;
+        }
+        Ok(())
+    }
 }
 
 // Makes the call for so many rounds.
@@ -211,10 +310,58 @@ pub extern "C" fn sets_intersect_with_short(alloc: Global, bits: usize, rounds: 
     changed::<IntersectWith>(alloc, bits, 64, 0, rounds).unwrap_or(REFUSED)
 }
 
+/// `insert_range` of the middle half, of the lower half of the positions: how many are left.
+#[unsafe(no_mangle)]
+pub extern "C" fn sets_insert_middle(alloc: Global, bits: usize, rounds: usize) -> usize
+    ensures { result < 2 ^ 64 - 1 → result ≡ size (after (λ v. ranges.insert_range v (v.length / 4) (v.length - v.length / 4)) rounds (lower bits)) }
+{
+    halves::<InsertMiddle>(alloc, bits, rounds)
+}
+
+/// `clone_from`, of the lower half of the positions from the upper one: how many are left.
+#[unsafe(no_mangle)]
+pub extern "C" fn sets_clone_from(alloc: Global, bits: usize, rounds: usize) -> usize
+    ensures { result < 2 ^ 64 - 1 → result ≡ size (after (λ v. upper bits) rounds (lower bits)) }
+{
+    halves::<CloneFrom>(alloc, bits, rounds)
+}
+
+/// `extend` by `ones`, of the lower half of the positions by the upper one: how many are left.
+#[unsafe(no_mangle)]
+pub extern "C" fn sets_extend(alloc: Global, bits: usize, rounds: usize) -> usize
+    ensures { result < 2 ^ 64 - 1 → result ≡ size (after (λ v. add_all v (asc (upper bits))) rounds (lower bits)) }
+{
+    halves::<Extend>(alloc, bits, rounds)
+}
+
 /// `put` of each position in turn, a round being all of them: how many are left.
 #[unsafe(no_mangle)]
 pub extern "C" fn sets_put(alloc: Global, bits: usize, rounds: usize) -> usize
-    ensures { result < 2 ^ 64 - 1 → result ≡ size (after (λ v. put_below v v.length) rounds (lower bits)) }
+    ensures { result < 2 ^ 64 - 1 → result ≡ size (after (λ v. each_below insert v.length v) rounds (lower bits)) }
 {
-    halves::<PutEach>(alloc, bits, rounds)
+    halves::<Each<Put>>(alloc, bits, rounds)
+}
+
+/// `remove` of each position in turn, a round being all of them: how many are left.
+#[unsafe(no_mangle)]
+pub extern "C" fn sets_remove(alloc: Global, bits: usize, rounds: usize) -> usize
+    ensures { result < 2 ^ 64 - 1 → result ≡ size (after (λ v. each_below remove v.length v) rounds (lower bits)) }
+{
+    halves::<Each<Remove>>(alloc, bits, rounds)
+}
+
+/// `grow_and_insert` of each position in turn, a round being all of them: how many are left.
+#[unsafe(no_mangle)]
+pub extern "C" fn sets_grow_and_insert(alloc: Global, bits: usize, rounds: usize) -> usize
+    ensures { result < 2 ^ 64 - 1 → result ≡ size (after (λ v. each_below add v.length v) rounds (lower bits)) }
+{
+    halves::<Each<GrowAndInsert>>(alloc, bits, rounds)
+}
+
+/// `set_block` of the word of each position in turn, a round being all of them: how many are left.
+#[unsafe(no_mangle)]
+pub extern "C" fn sets_set_block(alloc: Global, bits: usize, rounds: usize) -> usize
+    ensures { result < 2 ^ 64 - 1 → result ≡ size (after (λ v. each_below (λ u bit. set_block u (bit / 64) 1) v.length v) rounds (lower bits)) }
+{
+    halves::<Each<SetBlock>>(alloc, bits, rounds)
 }

@@ -1,8 +1,10 @@
 //! Calls that ask a set or make a new one, under C names, each made for so many rounds.
 
 ghost use Rattle.std.specs.Prelude.{◌≡◌, ℕ, ◌-◌, ◌/◌, ◌^◌, ◌<◌, ◌≤◌, ◌==◌, cond, min, unwrap_or, IsTrue, IfOk};
-ghost use Rattle.fixedbitset.specs.Bits.{Bits, contains, maximum};
-ghost use Rattle.fixedbitset.specs.Order.{equal};
+ghost use Rattle.std.specs.Hash.DefaultHasher as sip;
+ghost use Rattle.std.specs.List.{fold};
+ghost use Rattle.fixedbitset.specs.Bits.{Bits, contains, is_clear, maximum};
+ghost use Rattle.fixedbitset.specs.Order.{equal, fed_by};
 ghost use Rattle.fixedbitset.specs.Ranges as ranges;
 ghost use Rattle.fixedbitset.specs.TwoSets as sets;
 ghost use Rattle.bench_abi.specs.Rounds.{filled, lower, upper, full, how_many};
@@ -11,6 +13,7 @@ use crate::sets::{REFUSED, filled};
 use fixedbitset::FixedBitSet;
 use std::alloc::{AllocError, Global};
 use std::cmp::Ordering;
+use std::hash::{DefaultHasher, Hash, Hasher};
 
 /// A call that asks a set.
 trait Question {
@@ -193,6 +196,74 @@ fn contains(set: &FixedBitSet, bit: usize) -> bool
     ensures { result ≡ contains set.now bit }
 {
     set.contains(bit)
+}
+
+/// `contains` of each position in a loop of the caller: how many are set.
+struct ContainsInLoop;
+
+impl Question for ContainsInLoop {
+    ghost Answers = { λ v w answer. answer ≡ how_many v v.length };
+
+    #[inline(never)]
+    #[tactic(auto, using(crate::proofs::Filled::many_next, crate::proofs::Filled::many_most))]
+    fn ask(set: &FixedBitSet, _other: &FixedBitSet) -> usize {
+        let mut total = 0;
+        for bit in 0..set.len() {
+            total += usize::from(set.contains(bit));
+        }
+        total
+    }
+}
+
+struct CountZeroes;
+
+impl Question for CountZeroes {
+    ghost Answers = { λ v w answer. answer ≡ ranges.count_zeroes v 0 v.length };
+
+    #[inline(never)]
+    fn ask(set: &FixedBitSet, _other: &FixedBitSet) -> usize {
+        set.count_zeroes(..)
+    }
+}
+
+/// `is_clear` of the other set.
+struct IsClear;
+
+impl Question for IsClear {
+    ghost Answers = { λ v w answer. (answer == 1) ≡ is_clear w };
+
+    #[inline(never)]
+    fn ask(_set: &FixedBitSet, other: &FixedBitSet) -> usize {
+        usize::from(other.is_clear())
+    }
+}
+
+/// `hash`, by std's hasher: 1 where the number is 0.
+struct Hashed;
+
+impl Question for Hashed {
+    ghost Answers = { λ v w answer. (answer == 1) ≡ (sip.finish (fold sip.write sip.initial (fed_by v)) == 0) };
+
+    #[inline(never)]
+    fn ask(set: &FixedBitSet, _other: &FixedBitSet) -> usize {
+        let mut hasher = DefaultHasher::new();
+        set.hash(&mut hasher);
+        usize::from(hasher.finish() == 0)
+    }
+}
+
+struct CloneOf;
+
+impl Question for CloneOf {
+    ghost Answers = { λ v w answer. answer < 2 ^ 64 - 1 → answer ≡ cond (contains v 0) 1 0 };
+
+    #[inline(never)]
+    fn ask(set: &FixedBitSet, _other: &FixedBitSet) -> usize {
+        match set.clone() {
+            Ok(made) => usize::from(made.contains(0)),
+            Err(_) => REFUSED,
+        }
+    }
 }
 
 struct BitAnd;
@@ -429,6 +500,51 @@ pub extern "C" fn sets_contains(alloc: Global, bits: usize, rounds: usize) -> us
     ensures { result < 2 ^ 64 - 1 → result ≡ how_many (lower bits) (lower bits).length }
 {
     halves::<ContainsEach>(alloc, bits, rounds)
+}
+
+/// `contains` of each position in turn, in a loop of the caller, of the lower half: how many are set.
+#[unsafe(no_mangle)]
+pub extern "C" fn sets_contains_in_loop(alloc: Global, bits: usize, rounds: usize) -> usize
+    requires { 128 ≤ bits }
+    ensures { result < 2 ^ 64 - 1 → result ≡ how_many (lower bits) (lower bits).length }
+{
+    halves::<ContainsInLoop>(alloc, bits, rounds)
+}
+
+/// `count_zeroes(..)`, of the lower half of the positions.
+#[unsafe(no_mangle)]
+pub extern "C" fn sets_count_zeroes(alloc: Global, bits: usize, rounds: usize) -> usize
+    requires { 128 ≤ bits }
+    ensures { result < 2 ^ 64 - 1 → result ≡ ranges.count_zeroes (lower bits) 0 (lower bits).length }
+{
+    halves::<CountZeroes>(alloc, bits, rounds)
+}
+
+/// `is_clear`, of no positions: 1 where it answers `true`.
+#[unsafe(no_mangle)]
+pub extern "C" fn sets_is_clear(alloc: Global, bits: usize, rounds: usize) -> usize
+    requires { 64 ≤ bits }
+    ensures { result < 2 ^ 64 - 1 → (result == 1) ≡ is_clear (filled bits bits bits) }
+{
+    first_word::<IsClear>(alloc, bits, rounds)
+}
+
+/// `hash`, by std's hasher, of the lower half of the positions: 1 where the number is 0.
+#[unsafe(no_mangle)]
+pub extern "C" fn sets_hash(alloc: Global, bits: usize, rounds: usize) -> usize
+    requires { 128 ≤ bits }
+    ensures { result < 2 ^ 64 - 1 → (result == 1) ≡ (sip.finish (fold sip.write sip.initial (fed_by (lower bits))) == 0) }
+{
+    halves::<Hashed>(alloc, bits, rounds)
+}
+
+/// `clone`, a new set, of the lower half of the positions: 1 where position 0 is in it.
+#[unsafe(no_mangle)]
+pub extern "C" fn sets_clone(alloc: Global, bits: usize, rounds: usize) -> usize
+    requires { 128 ≤ bits }
+    ensures { result < 2 ^ 64 - 1 → result ≡ cond (contains (lower bits) 0) 1 0 }
+{
+    halves::<CloneOf>(alloc, bits, rounds)
 }
 
 /// `bitand`, a new set, of the lower half of the positions and the upper one: 1 where position 0 is in it.

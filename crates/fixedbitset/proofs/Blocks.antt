@@ -1,21 +1,16 @@
--- Words written anew: from an iterator, one alone, or cut at a length; and words that are all 0.
-use Rattle.std.proofs.Common.{◌≡◌, ◌≢◌, ℕ, zero, suc, ◌+◌, ◌-◌, ◌*◌, ◌/◌, ◌%◌, ◌^◌, ◌<◌, ◌≤◌, min, Bool, true, false, cond, ◌&&◌, ◌==◌, nat_lt, List, [], ◌∷◌, ◌++◌, drop, replicate, length, get_or, set, bit_and, refl, sym, ap, ◌∙◌, arith, ⊎_elim}
-use Rattle.std.specs.List.{list_all}
-use Rattle.std.proofs.lemmas.Bool.{cases_lt, cases_eq, lt-ltb, le-ltb, eq-eqb, eqb-true, ne_eqb, and_left, and_right, and_from, and_parts}
+-- Words written anew: from an iterator, one alone, or cut at a length; and words that are made 0.
+use Rattle.std.proofs.Common.{◌≡◌, ◌≢◌, ℕ, zero, suc, ◌+◌, ◌-◌, ◌*◌, ◌/◌, ◌%◌, ◌^◌, ◌<◌, ◌≤◌, min, Bool, true, false, cond, ◌&&◌, ◌==◌, nat_lt, List, [], ◌∷◌, ◌++◌, drop, replicate, length, set, bit_and, refl, sym, ap, ◌∙◌, arith, ⊎_elim}
+use Rattle.std.proofs.lemmas.Bool.{cases_lt, cases_eq, lt-ltb, le-ltb, eq-eqb, ne_eqb, and_left, and_right}
 use Rattle.std.proofs.lemmas.Bool.Decides.{nat_tests}
 use Rattle.std.proofs.lemmas.List.{length-set}
-use Rattle.std.proofs.lemmas.Nat.Bits.{same_from_bits_below, bit_at-zero}
 use Rattle.bitlanes.specs.Bits.{bit}
 use Rattle.bitlanes.specs.BitLaws.{bit-and}
-use Rattle.bitwords.specs.CountFacts.{indicator}
 use Rattle.bitwords.specs.Rows.{has_bit, IsJoined}
-use Rattle.bitwords.specs.RowFacts.{AreWords, bit-zero, has_bit-past, has_bit-same}
-use Rattle.fixedbitset.specs.Bits.{Bits, contains, empty, is_clear, set_block, storage_words, words, of_words}
+use Rattle.bitwords.specs.RowFacts.{has_bit-past, has_bit-same}
+use Rattle.fixedbitset.specs.Bits.{Bits, contains, empty, set_block, words_needed, storage_words, words, of_words}
 use Rattle.fixedbitset.specs.BitsFacts.{same_bits, last_holds}
-use Rattle.fixedbitset.specs.NumbersFacts.{same_truth}
 use Rattle.fixedbitset.specs.Stored.{IsClean}
-use Rattle.fixedbitset.specs.MemberFacts.{is_clear-tells}
-use Rattle.fixedbitset.specs.WordsFacts.{length-of_words, contains-of_words, length-words, indicator-has_bit, has_bit-written, length-set_block, contains-set_block}
+use Rattle.fixedbitset.specs.WordsFacts.{length-of_words, contains-of_words, length-words, has_bit-written, length-set_block, contains-set_block}
 use Rattle.fixedbitset.proofs.Growth.{zeros, get_or-zeros, IsClean_replicate, of_replicate}
 use Rattle.fixedbitset.proofs.Words.{contains-of_clean, viewed_length}
 
@@ -71,8 +66,8 @@ module _ (n : ℕ) (fits : n < 2 ^ 64) (old new : List ℕ) (long : length old �
 pub viewed_index : (n : ℕ) (ws : List ℕ) (v : Bits) (index : ℕ) → of_words n ws ≡ v → IsClean n ws → index < length (words v) → index < length ws
 viewed_index n ws v index view clean within = omega (arith, clean.count, length-words v, viewed_length n ws v view)
 
-pub viewed_start : (n : ℕ) (ws : List ℕ) (v : Bits) (index : ℕ) → of_words n ws ≡ v → IsClean n ws → index < length (words v) → 64 * index ≤ n
-viewed_start n ws v index view clean within = omega (arith, length-words v, viewed_length n ws v view)
+pub viewed_needed : (n : ℕ) (ws : List ℕ) (v : Bits) (index : ℕ) → of_words n ws ≡ v → index < length (words v) → index < words_needed n
+viewed_needed n ws v index view within = omega (arith, length-words v, viewed_length n ws v view)
 
 -- the word is written with the bits alone that stand below the length
 module _ (n : ℕ) (ws : List ℕ) (v : Bits) (index value mask : ℕ) (view : of_words n ws ≡ v) (clean : IsClean n ws) (within : index < length (words v)) (masked : (i : ℕ) → bit mask i ≡ nat_lt i (min (n - 64 * index) 64)) where
@@ -126,25 +121,3 @@ module _ (n : ℕ) (ws old new : List ℕ) (clean : IsClean n ws) (read : old �
 
   pub of_zeroed : (v : Bits) → of_words n ws ≡ v → of_words n new ≡ empty v.length
   of_zeroed v view = rw are_zeros (of_replicate n clean.fits ∙ ap empty (viewed_length n ws v view))
-
-zero_at : (ws : List ℕ) → list_all (λ w. w == 0) ws ≡ true → (k : ℕ) → get_or ws k 0 ≡ 0
-zero_at [] all k = refl
-zero_at (w ∷ ws) all zero = eqb-true w 0 (and_parts _ _ all).0
-zero_at (w ∷ ws) all (suc k) = zero_at ws (and_parts (w == 0) _ all).1 k
-
-all_zero : (ws : List ℕ) → ((k : ℕ) → get_or ws k 0 ≡ 0) → list_all (λ w. w == 0) ws ≡ true
-all_zero [] each = refl
-all_zero (w ∷ ws) each = and_from _ _ (eq-eqb w 0 (each 0)) (all_zero ws (λ k. each (suc k)))
-
-no_bit : (ws : List ℕ) (p : ℕ) → get_or ws (p / 64) 0 ≡ 0 → has_bit ws p ≡ false
-unfolding has_bit
-no_bit ws p none = ap (λ w. bit w (p % 64)) none ∙ bit-zero (p % 64)
-
--- no position is set exactly if each word is 0
-pub zero_words : (n : ℕ) (ws : List ℕ) (v : Bits) → of_words n ws ≡ v → IsClean n ws → AreWords ws → list_all (λ w. w == 0) ws ≡ is_clear v
-zero_words n ws v view clean are =
-    let member : (p : ℕ) → contains v p ≡ has_bit ws p = λ p. ap (λ u. contains u p) (sym view) ∙ contains-of_clean n ws clean p in
-    same_truth _ _
-    (λ all. (is_clear-tells v).1 (λ p. member p ∙ no_bit ws p (zero_at ws all (p / 64))))
-    (λ none. all_zero ws (λ k. same_from_bits_below 64 _ 0 (are k) (omega arith) (λ i l.
-    sym (indicator-has_bit ws k i l) ∙ ap indicator (sym (member (64 * k + i)) ∙ (is_clear-tells v).0 none (64 * k + i)) ∙ sym (bit_at-zero i))))

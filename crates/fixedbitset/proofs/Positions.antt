@@ -1,8 +1,8 @@
 -- The positions of a value, as those of its words and of the words in which a set keeps it.
-use Rattle.std.proofs.Common.{◌≡◌, ℕ, Bool, filter, ◌+◌, ◌-◌, ◌*◌, ◌/◌, ◌%◌, ◌^◌, ◌<◌, ◌≤◌, not, ◌&&◌, List, length, map, get_or, slice_get, None, sym, ap, ◌∙◌, arith}
+use Rattle.std.proofs.Common.{◌≡◌, ℕ, Bool, filter, ◌+◌, ◌-◌, ◌*◌, ◌/◌, ◌%◌, ◌^◌, ◌<◌, ◌≤◌, not, ◌&&◌, List, length, map, get_or, slice_get, Option, Some, None, is_some, true, false, sym, ap, ◌∙◌, arith, ⊎_elim}
 use Rattle.std.specs.Int.{bit_not, w64}
 use Rattle.std.specs.List.{last_or}
-use Rattle.std.proofs.lemmas.Bool.{lt-ltb}
+use Rattle.std.proofs.lemmas.Bool.{lt-ltb, cases_Bool, true≢false}
 use Rattle.std.proofs.lemmas.List.{get_or-map}
 use Rattle.bitlanes.specs.Bits.{bit}
 use Rattle.bitlanes.specs.BitLaws.{bit-not}
@@ -13,8 +13,10 @@ use Rattle.bitwords.specs.RowFacts.{AreWords}
 use Rattle.bitwords.specs.Walk.{between_ends, over_row}
 use Rattle.bitwalks.specs.Pairs.{sieve_over}
 use Rattle.fixedbitset.specs.Walks.{begun}
-use Rattle.fixedbitset.specs.Bits.{Bits, contains, asc, minimum, maximum, complement, words, of_words}
+use Rattle.fixedbitset.specs.Bits.{Bits, contains, asc, minimum, maximum, complement, is_clear, words, of_words}
 use Rattle.fixedbitset.specs.BitsFacts.{length-complement, contains-complement, contains-past}
+use Rattle.fixedbitset.specs.FirstFacts.{minimum_least, minimum_none}
+use Rattle.fixedbitset.specs.MemberFacts.{is_clear-tells}
 use Rattle.fixedbitset.specs.Stored.{IsClean}
 use Rattle.fixedbitset.specs.WalkFacts.{length-asc}
 use Rattle.fixedbitset.specs.WordsFacts.{length-words, has_bit-words, are_words}
@@ -81,3 +83,14 @@ module _ (v : Bits) where
 -- the walk over the words of one value, sieved by those of another
 pub sieved_items : (passes : Bool → Bool) (v w : Bits) → (sieve_over passes (words v) (words w)).items ≡ filter (λ p. passes (contains w p)) (asc v)
 sieved_items passes v w = let all = words-asc v in let other = has_bit-words w in λ i. filter (λ p. passes (other p i)) (all i)
+
+-- there is no first position exactly where none is set
+pub none_is_clear : (v : Bits) (first : Option ℕ) (none : Bool) → first ≡ minimum v → is_some first ≡ not none → none ≡ is_clear v
+none_is_clear v None true same is = sym ((is_clear-tells v).1 (minimum_none v (sym same)))
+none_is_clear v None false same is = absurd (true≢false (sym is))
+none_is_clear v (Some p) true same is = absurd (true≢false is)
+none_is_clear v (Some p) false same is =
+    ⊎_elim
+    (λ (clear : is_clear v ≡ true). absurd (true≢false (sym (minimum_least v p (sym same)).0 ∙ (is_clear-tells v).0 clear p)))
+    (λ (some : is_clear v ≡ false). sym some)
+    (cases_Bool (is_clear v))

@@ -6,7 +6,6 @@ ghost use Rattle.std.specs.Prelude.{◌≡◌, ◌==◌};
 ghost use Rattle.fixedbitset.specs.Bits as model;
 
 use crate::set::FixedBitSet;
-use bitlanes::{Steps, lanes};
 use bitwords::positions;
 
 impl FixedBitSet {
@@ -24,7 +23,7 @@ impl FixedBitSet {
         self.len() == 0
     }
 
-    /// Whether no position is set; so `true` at length 0. It looks at four words at a time, and stops at the first four
+    /// Whether no position is set; so `true` at length 0. It looks at sixteen words at a time and then at four, up to those
     /// that have one.
     ///
     /// ```
@@ -37,8 +36,7 @@ impl FixedBitSet {
     pub fn is_clear(&self) -> bool
         ensures { result ≡ model.is_clear self.now }
     {
-        let row = self.words.as_slice();
-        lanes::none_one(row, &mut Steps::new())
+        self.minimum().is_none()
     }
 
     /// The first position that is set, or `None` where none is. It looks at four words at a time from the first on, up to

@@ -1,6 +1,6 @@
 //! The set itself: making one, growing it, its length and its words.
 
-ghost use Rattle.std.specs.Prelude.{◌≡◌, ◌<◌, ◌≤◌, ◌-◌, ◌^◌, ◌++◌, drop, length, replicate, vec_len, IsOk, IfOk, OnOk, OnErr};
+ghost use Rattle.std.specs.Prelude.{◌≡◌, ◌<◌, ◌≤◌, ◌-◌, ◌*◌, ◌^◌, ◌++◌, min, drop, length, replicate, vec_len, IsOk, IfOk, OnOk, OnErr};
 ghost use Rattle.std.specs.Vec.{vec_capacity};
 ghost use Rattle.fixedbitset.specs.Bits as model;
 ghost use Rattle.fixedbitset.specs.Blocks.{FirstItems};
@@ -11,6 +11,9 @@ use bitlanes::word::{BITS, Block, ones_below};
 use bitwords::positions;
 use std::alloc::{AllocError, Global};
 use std::marker::Model;
+
+// From how many words on a set is copied by one call of `memcpy`. A shorter one is copied by a loop, with no call.
+const LONG: usize = 64;
 
 /// A set of bits: a length in bits, and a set of positions below it.
 ///
@@ -188,7 +191,7 @@ impl FixedBitSet {
         requires { index < length (model.words self.old) }
         ensures { self.new ≡ model.set_block self.old index value }
     {
-        let used = (self.length - BITS * index).min(BITS);
+        let used = used_bits(self.length, index);
         self.words[index] = value & ones_below(used);
     }
 
@@ -264,7 +267,7 @@ impl Clone for FixedBitSet {
     /// ```
     fn clone(&self) -> Result<Self, AllocError> {
         Ok(FixedBitSet {
-            words: self.words.clone()?,
+            words: copied(*self.words.allocator(), self.words.as_slice())?,
             length: self.length,
         })
     }
@@ -276,6 +279,30 @@ pub(crate) fn storage_words(bits: usize) -> usize
     ensures { result ≡ model.storage_words bits }
 {
     LANE * bits.div_ceil(BITS).div_ceil(LANE)
+}
+
+// A row of words in memory of its own.
+fn copied(alloc: Global, words: &[Block]) -> Result<Vec<Block>, AllocError>
+    ensures { IfOk result (λ copy. copy.items ≡ words.now) }
+{
+    if words.len() < LONG {
+        Vec::from_clones(alloc, words)
+    } else {
+        Vec::from_slice(alloc, words)
+    }
+}
+
+// How many positions of word `index` are below the length.
+#[inline]
+fn used_bits(length: usize, index: usize) -> usize
+    requires { index < model.words_needed length }
+    ensures { result ≡ min (length - 64 * index) 64 }
+{
+    if index == length / BITS {
+        length % BITS
+    } else {
+        BITS
+    }
 }
 
 // Writes the items that come over the words from the first on, `count` at most.
