@@ -110,7 +110,7 @@ pub extern "C" fn bits_is_subset(set: &Set<'_>, other: &Set<'_>) -> bool
 pub extern "C" fn bits_equal(set: &Set<'_>, other: &Set<'_>) -> bool
     ensures { result ≡ order.equal (value set.now) (value other.now) }
 {
-    lent::equal(set.words, set.length, other.words, other.length)
+    lent::is_equal(set.words, set.length, other.words, other.length)
 }
 
 /// Which set comes first, in the order of `FixedBitSet`: -1 where the first does, 1 where the second does, and 0 where

@@ -47,3 +47,17 @@ fn below(rt: HostRuntime) {
     let cursor = Cursor::below(Plain { words: &[8, 255] }, 66);
     gives(&rt, cursor, &[3, 64, 65]);
 }
+
+#[test]
+fn into_held(rt: HostRuntime) {
+    let mut cursor = Cursor::over(Plain { words: &[9, 0, 1] });
+    equal(&rt, cursor.next(), Some(0));
+    equal(&rt, cursor.into_held().front, 8);
+}
+
+#[test]
+fn of_held(rt: HostRuntime) {
+    let cursor = Cursor::over(Plain { words: &[9, 0, 1] });
+    let held = cursor.into_held();
+    gives(&rt, Cursor::of_held(held), &[0, 3, 128]);
+}

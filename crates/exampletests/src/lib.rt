@@ -47,6 +47,14 @@ mod lanes;
 #[cfg(test)]
 mod laws;
 #[cfg(test)]
+mod lent;
+#[cfg(test)]
+mod lent_ranges;
+#[cfg(test)]
+mod lent_walks;
+#[cfg(test)]
+mod lent_whole;
+#[cfg(test)]
 mod lines;
 #[cfg(test)]
 mod operators;

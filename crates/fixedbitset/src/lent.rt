@@ -25,8 +25,8 @@ pub use ranges::{
 };
 pub use walks::{ones, ones_beside, zeroes};
 pub use whole::{
-    compare, difference_count, difference_with, equal, intersect_with, intersection_count,
-    is_disjoint, is_subset, symmetric_difference_count, symmetric_difference_with, union_count,
+    compare, difference_count, difference_with, intersect_with, intersection_count, is_disjoint,
+    is_equal, is_subset, symmetric_difference_count, symmetric_difference_with, union_count,
     union_with,
 };
 

@@ -238,10 +238,10 @@ pub fn is_subset(words: &[Block], length: usize, other: &[Block], other_length: 
 /// let (mut words, mut other) = ([9, 0, 0, 0], [9, 0, 0, 0]);
 /// lent::settle(&mut words, 70, 70);
 /// lent::settle(&mut other, 9, 9);
-/// assert!(rt; !lent::equal(&words, 70, &other, 9));
+/// assert!(rt; !lent::is_equal(&words, 70, &other, 9));
 /// ```
 #[inline(always)]
-pub fn equal(words: &[Block], length: usize, other: &[Block], other_length: usize) -> bool
+pub fn is_equal(words: &[Block], length: usize, other: &[Block], other_length: usize) -> bool
     requires lent { IsClean length words.now }
     requires lent_other { IsClean other_length other.now }
     ensures { result

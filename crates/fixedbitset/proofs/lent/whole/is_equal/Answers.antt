@@ -2,7 +2,7 @@ use Rattle.std.proofs.Common.{sym, ◌∙◌}
 use Rattle.std.proofs.lemmas.Bool.{ne_eqb}
 use Rattle.fixedbitset.proofs.Equality.{equal_of, other_length}
 use Rattle.fixedbitset.proofs.Values.{length-of_words}
-use Rattle.fixedbitset.proofs.lent.whole.equal.Goals as goal
+use Rattle.fixedbitset.proofs.lent.whole.is_equal.Goals as goal
 
 pub returns-then-length-other_length : goal.returns-then-length-other_length
 returns-then-length-other_length c =

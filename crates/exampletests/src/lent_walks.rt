@@ -1,0 +1,26 @@
+//! The examples in the docs of `fixedbitset::lent::walks`. docs/make_examples writes this file.
+
+use crate::calls::gives;
+use fixedbitset::{Block, lent};
+
+#[test]
+fn ones(rt: HostRuntime) {
+    let mut words = [9, 2, 0, 0];
+    lent::settle(&mut words, 70, 70);
+    gives(&rt, lent::ones(&words, 70), &[0, 3, 65]);
+}
+
+#[test]
+fn ones_beside(rt: HostRuntime) {
+    let (mut words, mut other) = ([9, 2, 0, 0], [1, 2, 0, 0]);
+    lent::settle(&mut words, 70, 70);
+    lent::settle(&mut other, 66, 66);
+    gives(&rt, lent::ones_beside(&words, 70, &other, 66), &[0, 3, 65]);
+}
+
+#[test]
+fn zeroes(rt: HostRuntime) {
+    let mut words = [Block::MAX - 8, 60, 0, 0];
+    lent::settle(&mut words, 70, 70);
+    gives(&rt, lent::zeroes(&words, 70), &[3, 64, 65]);
+}
