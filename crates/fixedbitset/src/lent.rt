@@ -16,6 +16,7 @@ mod ranges;
 mod walks;
 mod whole;
 
+use crate::set::used_bits;
 use bitlanes::word::{BITS, Block, ones_below};
 use bitlanes::{Steps, lanes};
 use bitwords::positions;
@@ -188,7 +189,7 @@ pub fn set_block(words: &mut [Block], length: usize, index: usize, value: Block)
         ≡ model.set_block (of_words length words.old) index value }
     ensures clean { IsClean length words.new }
 {
-    let used = (length - BITS * index).min(BITS);
+    let used = used_bits(length, index);
     words[index] = value & ones_below(used);
 }
 
@@ -221,7 +222,7 @@ pub fn is_clear(words: &[Block], length: usize) -> bool
     requires { IsClean length words.now }
     ensures { result ≡ model.is_clear (of_words length words.now) }
 {
-    lanes::none_one(words, &mut Steps::new())
+    minimum(words, length).is_none()
 }
 
 /// The first position that is set, or `None` where none is.

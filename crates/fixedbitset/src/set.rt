@@ -294,7 +294,7 @@ fn copied(alloc: Global, words: &[Block]) -> Result<Vec<Block>, AllocError>
 
 // How many positions of word `index` are below the length.
 #[inline]
-fn used_bits(length: usize, index: usize) -> usize
+pub(crate) fn used_bits(length: usize, index: usize) -> usize
     requires { index < model.words_needed length }
     ensures { result ≡ min (length - 64 * index) 64 }
 {
