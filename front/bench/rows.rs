@@ -268,17 +268,14 @@ fn pairs(bits: usize) -> Vec<Row> {
             set.is_subset(other)
         }),
         ask(
-            "&a & &b and drop",
+            "bitand and drop",
             low.clone(),
             high.clone(),
             |set, other| set & other,
         ),
-        ask(
-            "&a | &b and drop",
-            low.clone(),
-            high.clone(),
-            |set, other| set | other,
-        ),
+        ask("bitor and drop", low.clone(), high.clone(), |set, other| {
+            set | other
+        }),
     ]
 }
 
