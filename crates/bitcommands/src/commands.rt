@@ -63,6 +63,7 @@ pub enum Command {
 /// let reply = commands::apply(alloc, &mut sets, &past, 100);
 /// assert!(rt; matches!(reply, Reply::Refused(Refusal::Position)));
 /// ```
+#[inline(always)]
 pub fn apply(alloc: Global, sets: &mut [FixedBitSet], command: &Command, limit: usize) -> Reply
     ensures { Step limit sets.old (action_of command.now) (answer_of result) sets.new }
 {
@@ -110,6 +111,7 @@ pub fn run(
     Ok(replies)
 }
 
+#[inline(always)]
 fn reply_of(outcome: Result<Reply, Refusal>) -> Reply
     ensures { answer_of result ≡ replied outcome }
 {

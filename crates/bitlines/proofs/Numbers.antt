@@ -1,12 +1,15 @@
 -- A number read digit by digit.
-use Rattle.std.proofs.Common.{◌≡◌, ℕ, ◌+◌, ◌-◌, ◌*◌, ◌^◌, ◌<◌, ◌≤◌, Bool, true, false, ◌&&◌, cond, nat_lt, List, [], ◌∷◌, length, get_or, drop, Option, Some, None, sym, ◌∙◌, refl, arith}
+use Rattle.std.proofs.Common.{◌≡◌, ℕ, ◌+◌, ◌-◌, ◌*◌, ◌^◌, ◌<◌, ◌≤◌, Bool, true, false, ◌&&◌, cond, nat_lt, eqb, List, [], ◌∷◌, length, get_or, drop, Option, Some, None, sym, ap, ◌∙◌, refl, arith}
+use Rattle.std.specs.List.{onto_first}
+use Rattle.std.proofs.lemmas.List.Splits.{slice_split-cons_no}
+use Rattle.std.specs.Bool.{IsTrue}
 use Rattle.std.specs.Char.{is_ascii_digit, digit_value}
 use Rattle.std.specs.Str.{all_ascii_digits}
 use Rattle.std.specs.Str.Parse.{digits_value_after}
 use Rattle.std.proofs.lemmas.Bool.{lt-ltb}
 use Rattle.std.proofs.lemmas.Bool.Decides.{nat_tests}
 use Rattle.std.proofs.lemmas.List.{at_drop_more, at_drop_all}
-use Rattle.bitlines.specs.Words.{number_of}
+use Rattle.bitlines.specs.Words.{◌>>=◌, words, number_of, number_at}
 
 -- the number that digits write behind those of n, if it fits
 pub number_after : ℕ → List ℕ → Option ℕ
@@ -57,12 +60,96 @@ pub number_digit : (all : Option ℕ) (n : ℕ) (w : List ℕ) (i : ℕ) → all
     → all ≡ number_after (n * 10 + (get_or w i 0 - 48)) (drop (i + 1) w)
 number_digit all n w i so_far lt digit = so_far ∙ at_drop_more (number_after n) w i 0 lt ∙ after_digit n _ _ digit
 
-pub number_other : (all : Option ℕ) (n : ℕ) (w : List ℕ) (i : ℕ) → all ≡ number_after n (drop i w) → i < length w → is_ascii_digit (get_or w i 0) ≡ false → None ≡ all
+number_other : (all : Option ℕ) (n : ℕ) (w : List ℕ) (i : ℕ) → all ≡ number_after n (drop i w) → i < length w → is_ascii_digit (get_or w i 0) ≡ false → None ≡ all
 number_other all n w i so_far lt other = sym (so_far ∙ at_drop_more (number_after n) w i 0 lt ∙ after_other n _ _ other)
 
-pub number_large : (all : Option ℕ) (n : ℕ) (w : List ℕ) (i : ℕ) → all ≡ number_after n (drop i w) → i < length w → is_ascii_digit (get_or w i 0) ≡ true
+number_large : (all : Option ℕ) (n : ℕ) (w : List ℕ) (i : ℕ) → all ≡ number_after n (drop i w) → i < length w → is_ascii_digit (get_or w i 0) ≡ true
     → 2 ^ 64 ≤ n * 10 + (get_or w i 0 - 48) → None ≡ all
 number_large all n w i so_far lt digit large = sym (number_digit all n w i so_far lt digit ∙ after_large _ _ large)
 
+-- a digit that makes the number too large, or another byte
+pub number_refused : (all : Option ℕ) (n : ℕ) (w : List ℕ) (i : ℕ) → all ≡ number_after n (drop i w) → i < length w → (IsTrue (is_ascii_digit (get_or w i 0)) → 2 ^ 64 ≤ n * 10 + (get_or w i 0 - 48)) → None ≡ all
+number_refused all n w i so_far lt large = by_digit (is_ascii_digit (get_or w i 0)) refl
+  where
+    by_digit : (t : Bool) → is_ascii_digit (get_or w i 0) ≡ t → None ≡ all
+    by_digit true digit = number_large all n w i so_far lt digit (large digit)
+    by_digit false other = number_other all n w i so_far lt other
+
 pub number_end : (all : Option ℕ) (n : ℕ) (w : List ℕ) (i : ℕ) → all ≡ number_after n (drop i w) → length w ≤ i → n < 2 ^ 64 → Some n ≡ all
 number_end all n w i so_far past fits = sym (so_far ∙ at_drop_all (number_after n) w i past ∙ after_end n fits)
+
+-- ---- up to the first space
+
+-- the number that digits write behind those of n, up to the end of the first word, and the words behind it
+abbrev pub number_on : ℕ → List (List ℕ) → Option (ℕ × List (List ℕ))
+number_on n [] = number_after n [] >>= λ m. Some (m, [])
+number_on n (w ∷ ws) = number_after n w >>= λ m. Some (m, ws)
+
+on_digit : (n c : ℕ) (ws : List (List ℕ)) → is_ascii_digit c ≡ true → number_on n (onto_first c ws) ≡ number_on (n * 10 + (c - 48)) ws
+on_digit n c [] digit = rw (after_digit n c [] digit) refl
+on_digit n c (w ∷ ws) digit = rw (after_digit n c w digit) refl
+
+on_other : (n c : ℕ) (ws : List (List ℕ)) → is_ascii_digit c ≡ false → number_on n (onto_first c ws) ≡ None
+on_other n c [] other = rw (after_other n c [] other) refl
+on_other n c (w ∷ ws) other = rw (after_other n c w other) refl
+
+on_large : (n : ℕ) (ws : List (List ℕ)) → 2 ^ 64 ≤ n → number_on n ws ≡ None
+on_large n [] large = rw (after_large n [] large) refl
+on_large n (w ∷ ws) large = rw (after_large n w large) refl
+
+-- a first word that begins with a digit
+first_word : (c : ℕ) (ws : List (List ℕ)) → number_at (onto_first c ws) ≡ number_on 0 (onto_first c ws)
+unfolding number_at
+first_word c [] = rw (number_start (c ∷ []) (omega arith)) refl
+first_word c (w ∷ ws) = rw (number_start (c ∷ w) (omega arith)) refl
+
+no_space : (c : ℕ) → is_ascii_digit c ≡ true → eqb c 32 ≡ false
+no_space c digit = grind (arith, nat_tests)
+
+words_digit : (n c : ℕ) (cs : List ℕ) → is_ascii_digit c ≡ true → number_on n (words (c ∷ cs)) ≡ number_on (n * 10 + (c - 48)) (words cs)
+words_digit n c cs digit = ap (number_on n) (slice_split-cons_no (λ b. eqb b 32) c cs (no_space c digit)) ∙ on_digit n c (words cs) digit
+
+words_space : (n c : ℕ) (cs : List ℕ) → eqb c 32 ≡ true → n < 2 ^ 64 → number_on n (words (c ∷ cs)) ≡ Some (n, words cs)
+words_space n c cs space fits = rw space (rw (after_end n fits) refl)
+
+words_other : (n c : ℕ) (cs : List ℕ) → is_ascii_digit c ≡ false → eqb c 32 ≡ false → number_on n (words (c ∷ cs)) ≡ None
+words_other n c cs other full = ap (number_on n) (slice_split-cons_no (λ b. eqb b 32) c cs full) ∙ on_other n c (words cs) other
+
+pub words_start : (w : List ℕ) → 0 < length w → is_ascii_digit (get_or w 0 0) ≡ true → number_at (words w) ≡ number_on 0 (words (drop 0 w))
+words_start [] some digit = absurd (omega arith)
+words_start (c ∷ cs) some digit = rw (slice_split-cons_no (λ b. eqb b 32) c cs (no_space c digit)) (first_word c (words cs))
+
+none_at_first : (c : ℕ) (cs : List ℕ) (t : Bool) → eqb c 32 ≡ t → is_ascii_digit c ≡ false → number_at (words (c ∷ cs)) ≡ None
+unfolding number_at number_of
+none_at_first c cs true space other = rw space refl
+none_at_first c cs false full other = rw (slice_split-cons_no (λ b. eqb b 32) c cs full) (first_word c (words cs) ∙ on_other 0 c (words cs) other)
+
+pub words_empty : (w : List ℕ) → length w ≡ 0 → number_at (words w) ≡ None
+unfolding number_at number_of
+words_empty [] e = refl
+words_empty (c ∷ cs) e = absurd (omega arith)
+
+pub words_no_digit : (w : List ℕ) → 0 < length w → is_ascii_digit (get_or w 0 0) ≡ false → number_at (words w) ≡ None
+words_no_digit [] some other = absurd (omega arith)
+words_no_digit (c ∷ cs) some other = none_at_first c cs (eqb c 32) refl other
+
+-- ---- the same, at a place of a text
+
+pub on_at_digit : (all : Option (ℕ × List (List ℕ))) (n : ℕ) (w : List ℕ) (i : ℕ) → all ≡ number_on n (words (drop i w)) → i < length w → is_ascii_digit (get_or w i 0) ≡ true
+    → all ≡ number_on (n * 10 + (get_or w i 0 - 48)) (words (drop (i + 1) w))
+on_at_digit all n w i so_far lt digit = so_far ∙ at_drop_more (λ u. number_on n (words u)) w i 0 lt ∙ words_digit n (get_or w i 0) (drop (i + 1) w) digit
+
+pub on_at_space : (all : Option (ℕ × List (List ℕ))) (n : ℕ) (w : List ℕ) (i : ℕ) → all ≡ number_on n (words (drop i w)) → i < length w → eqb (get_or w i 0) 32 ≡ true → n < 2 ^ 64
+    → all ≡ Some (n, words (drop (i + 1) w))
+on_at_space all n w i so_far lt space fits = so_far ∙ at_drop_more (λ u. number_on n (words u)) w i 0 lt ∙ words_space n (get_or w i 0) (drop (i + 1) w) space fits
+
+refused_by : (n : ℕ) (c : ℕ) (cs : List ℕ) (t : Bool) → is_ascii_digit c ≡ t → (IsTrue (is_ascii_digit c) → 2 ^ 64 ≤ n * 10 + (c - 48)) → eqb c 32 ≡ false → number_on n (words (c ∷ cs)) ≡ None
+refused_by n c cs true digit large full = words_digit n c cs digit ∙ on_large _ (words cs) (large digit)
+refused_by n c cs false other large full = words_other n c cs other full
+
+pub on_at_refused : (all : Option (ℕ × List (List ℕ))) (n : ℕ) (w : List ℕ) (i : ℕ) → all ≡ number_on n (words (drop i w)) → i < length w
+    → (IsTrue (is_ascii_digit (get_or w i 0)) → 2 ^ 64 ≤ n * 10 + (get_or w i 0 - 48)) → eqb (get_or w i 0) 32 ≡ false → all ≡ None
+on_at_refused all n w i so_far lt large full = so_far ∙ at_drop_more (λ u. number_on n (words u)) w i 0 lt ∙ refused_by n (get_or w i 0) (drop (i + 1) w) (is_ascii_digit (get_or w i 0)) refl large full
+
+pub on_at_end : (all : Option (ℕ × List (List ℕ))) (n : ℕ) (w : List ℕ) (i : ℕ) → all ≡ number_on n (words (drop i w)) → length w ≤ i → n < 2 ^ 64 → all ≡ Some (n, [])
+on_at_end all n w i so_far past fits = so_far ∙ at_drop_all (λ u. number_on n (words u)) w i past ∙ rw (after_end n fits) refl

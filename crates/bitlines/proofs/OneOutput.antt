@@ -14,7 +14,7 @@ use Rattle.bitcommands.specs.Steps.{Step, Run}
 use Rattle.bitlines.specs.Lines.{command_of}
 use Rattle.bitlines.specs.Output.{IsOutputFrom, commands_of, is_command, lines_of, without_empty_last, texts, fault_text}
 use Rattle.bitlines.specs.OutputLaws.{LacksNothing, OneOutput}
-use Rattle.bitlines.proofs.Outputs.{parts}
+use Rattle.bitlines.proofs.LineSplits.{parts}
 
 -- ---- a text cut at a byte 10
 

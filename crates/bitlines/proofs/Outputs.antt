@@ -1,5 +1,5 @@
 -- Lines and texts from the front.
-use Rattle.std.proofs.Common.{◌≡◌, ℕ, ◌+◌, ◌<◌, List, [], ◌∷◌, ◌++◌, length, take, drop, Some, None, true, false, cond, eqb, IfSome, refl, ap, subst, ◌∙◌, arith, append_assoc}
+use Rattle.std.proofs.Common.{◌≡◌, ℕ, ◌+◌, ◌<◌, List, [], ◌∷◌, ◌++◌, length, take, drop, Option, Some, None, Bool, Result, Ok, Err, OnOk, is_ok, true, false, cond, eqb, IfSome, refl, ap, subst, ◌∙◌, arith, append_assoc}
 use Rattle.std.specs.List.{slice_split, onto_first, position}
 use Rattle.std.proofs.lemmas.Bool.Decides.{nat_tests}
 use Rattle.std.proofs.lemmas.Grind.{common_steps}
@@ -11,17 +11,11 @@ use Rattle.bitcommands.specs.Sets.{Sets}
 use Rattle.bitcommands.specs.Steps.{Step}
 use Rattle.bitlines.specs.Lines.{command_of}
 use Rattle.bitlines.specs.Output.{fault_text, IsOutputFrom, lines_of, without_empty_last, texts}
-use Rattle.bitlines.specs.OneLine.{AnswersLine}
-use Rattle.bitlines.proofs.LineSplits.{cut_found, cut_none}
-
--- a split text has a first part
-pub parts : (b : ℕ) (xs : List ℕ) → (p : List ℕ) × (ps : List (List ℕ)) × (slice_split (λ x. eqb x b) xs ≡ p ∷ ps)
-parts b [] = ([], [], refl)
-parts b (x ∷ xs) =
-    elim (eqb x b) as (λ t. (p : List ℕ) × (ps : List (List ℕ)) × (cond t ([] ∷ slice_split (λ y. eqb y b) xs) (onto_first x (slice_split (λ y. eqb y b) xs)) ≡ p ∷ ps)) [
-      | true ↦ ([], slice_split (λ y. eqb y b) xs, refl)
-      | false ↦ (let r = parts b xs in (x ∷ r.0, r.1, ap (onto_first x) r.2))
-    ]
+use Rattle.bitlines.specs.Reads.{Reads}
+use Rattle.bitlines.specs.declared.lines.LineFault.{LineFault}
+use Rattle.bitlines.specs.declared.lines.LineFault.TheVariants.{NotACommand}
+use Rattle.bitlines.specs.OneLine.{AnswersLine, AnswersCommand}
+use Rattle.bitlines.proofs.LineSplits.{parts, cut_found, cut_none}
 
 without_empty_last-cons : (t p : List ℕ) (ps qs : List (List ℕ)) → ps ≡ p ∷ qs → without_empty_last (t ∷ ps) ≡ t ∷ without_empty_last ps
 without_empty_last-cons t p ps qs e = rw e refl
@@ -58,14 +52,14 @@ line_answered line old new c r is step lines output rest =
     (r ∷ rest.0, rest.1, rw is (new, step, rest.2), rw is (line_then _ (answer_text r) output _ refl rest.3))
 
 -- its text and a line end are put behind an output
-pub command_answered : (line before mid after : List ℕ) (old new : Sets) (c : Action) (r : Answer) → command_of line ≡ Some c → Step 1000000 old c r new
-    → IfSome (one_text r) (λ text. mid ≡ before ++ text) → after ≡ mid ++ 10 ∷ [] → (out : List ℕ) × (after ≡ before ++ out) × AnswersLine line old new out
-command_answered line before mid after old new c r is step put ended =
+pub command_answered : (before mid after : List ℕ) (old new : Sets) (c : Action) (r : Answer) → Step 1000000 old c r new
+    → IfSome (one_text r) (λ text. mid ≡ before ++ text) → after ≡ mid ++ 10 ∷ [] → (out : List ℕ) × (after ≡ before ++ out) × AnswersCommand c old new out
+command_answered before mid after old new c r step put ended =
     let text = answer_text r in
     let pushed : mid ≡ before ++ text = subst (λ o. IfSome o (λ t. mid ≡ before ++ t)) (step_one_text 1000000 old new c r step) put in (
       text ++ 10 ∷ [],
       ended ∙ ap (λ u. u ++ 10 ∷ []) pushed ∙ append_assoc before text (10 ∷ []),
-      line_answered line old new c r is step,
+      λ line is. line_answered line old new c r is step,
     )
 
 -- a line that is none leaves the sets
@@ -73,6 +67,16 @@ pub line_refused : (line : List ℕ) (sets : Sets) → command_of line ≡ None 
 unfolding texts
 line_refused line sets none lines output rest =
     (rest.0, rest.1, rw none rest.2, rw none (line_then _ fault_text output _ refl rest.3))
+
+-- what a reader answers for a line that is no command
+pub not_read : {X Y : Type 0} (may_lack_memory : Bool) (view : X → Y) (fault : LineFault) (read : Option Y) → fault ≡ NotACommand → Reads may_lack_memory view (Err fault) read → read ≡ None
+not_read may_lack_memory view fault read is answered = subst (λ f. Reads may_lack_memory view (Err f) read) is answered
+
+-- the text of a fault is put behind an output, or memory for it is refused
+pub fault_answered : {E : Type 0} (r : Result (Unit {0}) E) (line before after : List ℕ) (sets : Sets) → command_of line ≡ None
+    → after ≡ cond (is_ok r) (before ++ (fault_text ++ 10 ∷ [])) before → OnOk r ((out : List ℕ) × (after ≡ before ++ out) × AnswersLine line sets sets out)
+fault_answered (Ok u) line before after sets none put = (fault_text ++ 10 ∷ [], put, line_refused line sets none)
+fault_answered (Err e) line before after sets none put = tt
 
 -- no lines put out nothing
 pub no_lines : (sets : Sets) (lines : List (List ℕ)) → lines ≡ [] → IsOutputFrom sets lines []

@@ -218,13 +218,13 @@ pub(crate) fn two_and_list(
 }
 
 // A number for each word that is left.
-#[tactic(auto, using(crate::proofs::Lists::numbers_start, crate::proofs::Lists::numbers_more, crate::proofs::Lists::numbers_none, crate::proofs::Lists::numbers_end))]
+#[tactic(auto, using(crate::proofs::Lists::numbers_start, crate::proofs::Lists::numbers_more, crate::proofs::Lists::numbers_none, crate::proofs::Lists::numbers_end, crate::proofs::Lists::fewer_words))]
 fn numbers(alloc: Global, mut args: Words<'_>) -> Result<Vec<usize>, LineFault>
     ensures { Reads true (λ list. list.items) result (numbers_of args.entry) }
 {
     let mut list = Vec::new(alloc);
-    while let Some(word) = args.next() {
-        let Some(number) = number(word) else {
+    while !args.is_empty() {
+        let Ok(number) = args.number() else {
             return Err(LineFault::NotACommand);
         };
         if list.push(number).is_err() {

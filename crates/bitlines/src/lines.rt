@@ -41,7 +41,7 @@ pub enum LineFault {
 /// assert!(rt; matches!(fault, Some(LineFault::NotACommand)));
 /// ```
 #[tactic(auto, unfolding(crate::specs::Lines::command_of_words, crate::specs::Lines::begins_with_one))]
-#[inline]
+#[inline(always)]
 pub fn parse_line(alloc: Global, line: &[u8]) -> Result<Command, LineFault>
     ensures { Reads (may_lack line.now) action_of result (command_of line.now) }
 {
@@ -53,6 +53,7 @@ pub fn parse_line(alloc: Global, line: &[u8]) -> Result<Command, LineFault>
 
 // The name decides which arguments are read.
 #[tactic(auto, unfolding(crate::specs::Lines::command_by))]
+#[inline(always)]
 fn command_by(alloc: Global, name: Name, args: Words<'_>) -> Result<Command, LineFault>
     ensures { Reads (takes_memory name) action_of result (command_by name args.entry) }
 {

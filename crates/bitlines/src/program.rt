@@ -4,12 +4,13 @@ ghost use Rattle.std.specs.Io.{StartsWith};
 ghost use Rattle.std.specs.Io.KnownBytes.{Keeps, Appends};
 ghost use Rattle.fixedbitset.specs.Bits.{empty};
 ghost use Rattle.bitlines.specs.Output.{IsOutput, lines_of};
-ghost use Rattle.bitlines.specs.OneLine.{AnswersLine};
+ghost use Rattle.bitcommands.specs.Actions.{action_of};
+ghost use Rattle.bitlines.specs.OneLine.{AnswersLine, AnswersCommand};
 ghost use Rattle.bitlines.specs.Program.{IsRead, status_of};
 
 use crate::lines::{LineFault, parse_line};
 use crate::near::find_near;
-use bitcommands::commands::apply;
+use bitcommands::commands::{Command, apply};
 use fixedbitset::FixedBitSet;
 use std::alloc::{AllocError, Global};
 use std::io::{Read, Write};
@@ -114,15 +115,25 @@ fn answer_line(
     ensures { OnOk result ((out : List ℕ) × (output.new.items ≡ output.old.items ++ out)
         × AnswersLine line.now sets.old sets.new out) }
 {
-    match parse_line(alloc, line) {
-        Ok(command) => {
-            let reply = apply(alloc, sets, &command, LIMIT);
-            reply.push_text(output)?;
-            output.push(b'\n')?;
-        }
-        Err(LineFault::NotACommand) => output.extend_from_slice(b"F8 not a command\n")?,
-        Err(LineFault::Memory) => return Err(AllocError),
+    match &parse_line(alloc, line) {
+        Ok(command) => answer_command(alloc, sets, command, output),
+        Err(LineFault::NotACommand) => output.extend_from_slice(b"F8 not a command\n"),
+        Err(LineFault::Memory) => Err(AllocError),
     }
+}
+
+// Carries out a command, and puts its reply and a line end behind the output.
+fn answer_command(
+    alloc: Global,
+    sets: &mut [FixedBitSet],
+    command: &Command,
+    output: &mut Vec<u8>,
+) -> Result<(), AllocError>
+    ensures { OnOk result ((out : List ℕ) × (output.new.items ≡ output.old.items ++ out)
+        × AnswersCommand (action_of command.now) sets.old sets.new out) }
+{
+    apply(alloc, sets, command, LIMIT).push_text(output)?;
+    output.push(b'\n')?;
     Ok(())
 }
 

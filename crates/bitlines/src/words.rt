@@ -1,8 +1,10 @@
 //! The words of a line.
-ghost use Rattle.std.specs.Prelude.{◌≡◌, ◌==◌, ℕ, false, true, ◌∷◌, [], position, MatchOption};
+ghost use Rattle.std.specs.Prelude.{◌≡◌, ◌≤◌, ◌+◌, ◌-◌, ◌*◌, ◌^◌, ◌==◌, ℕ, false, true, ◌∷◌, [], length, position, IsTrue, MatchOption};
+ghost use Rattle.std.specs.Char.{is_ascii_digit};
 ghost use Rattle.serde_json.specs.View.{view};
 ghost use Rattle.bitlines.specs.Words.{words, number_of, number_at, at_end};
 ghost use Rattle.bitlines.specs.Arguments.{is, flag_of, flag_at, json_of, json_at};
+ghost use Rattle.bitlines.specs.Cursor.{words_left};
 ghost use Rattle.bitlines.specs.Reads.{Reads};
 
 use crate::lines::LineFault;
@@ -57,8 +59,10 @@ impl<'a> Words<'a> {
     pub(crate) fn number(&mut self) -> Result<usize, LineFault>
         ensures { Reads false (λ n. (n, self.new)) result (number_at self.old) }
     {
-        let word = self.next().ok_or(LineFault::NotACommand)?;
-        number(word).ok_or(LineFault::NotACommand)
+        let line = self.rest.ok_or(LineFault::NotACommand)?;
+        let (number, rest) = first_number(line)?;
+        self.rest = rest;
+        Ok(number)
     }
 
     /// The next word as `true` or `false`.
@@ -79,13 +83,22 @@ impl<'a> Words<'a> {
         json(alloc, text)
     }
 
-    /// No word is left.
-    #[tactic(auto, unfolding(crate::specs::Words::at_end))]
+    /// Whether no word is left.
+    #[tactic(auto, using(crate::proofs::LineSplits::some_words))]
     #[inline]
-    pub(crate) fn end(&mut self) -> Result<(), LineFault>
-        ensures { Reads false (λ u. u) result (at_end self.old) }
+    pub(crate) fn is_empty(&self) -> bool
+        ensures { result ≡ (length self.now == 0) }
     {
-        match self.next() {
+        self.rest.is_none()
+    }
+
+    /// No word is left.
+    #[tactic(auto, using(crate::proofs::LineSplits::not_at_end), unfolding(crate::specs::Words::at_end))]
+    #[inline]
+    pub(crate) fn end(&self) -> Result<(), LineFault>
+        ensures { Reads false (λ u. u) result (at_end self.now) }
+    {
+        match self.rest {
             Some(_) => Err(LineFault::NotACommand),
             None => Ok(()),
         }
@@ -136,6 +149,28 @@ fn json(alloc: Global, text: &[u8]) -> Result<Value, LineFault>
     }
 }
 
+/// The first word of a text as a number, and the text behind the space after it, if there is one. Each byte is looked at
+/// once.
+#[inline]
+fn first_number(text: &[u8]) -> Result<(usize, Option<&[u8]>), LineFault>
+    ensures { Reads false (λ x. (x.0, words_left x.1)) result (number_at (words text.now)) }
+{
+    if text.is_empty() || !text[0].is_ascii_digit() {
+        return Err(LineFault::NotACommand);
+    }
+    let mut value = 0;
+    let mut at = 0;
+    while at < text.len() {
+        match with_digit(value, text[at]) {
+            Some(more) => value = more,
+            None if text[at] == b' ' => return Ok((value, Some(&text[at + 1..]))),
+            None => return Err(LineFault::NotACommand),
+        }
+        at += 1;
+    }
+    Ok((value, None))
+}
+
 /// One or more decimal digits as a number, where it is below 2 ^ 64.
 #[inline]
 pub(crate) fn number(word: &[u8]) -> Option<usize>
@@ -144,18 +179,22 @@ pub(crate) fn number(word: &[u8]) -> Option<usize>
     if word.is_empty() {
         return None;
     }
-    let mut value: usize = 0;
+    let mut value = 0;
     for byte in word {
-        if !byte.is_ascii_digit() {
-            return None;
-        }
-        let Some(tens) = value.checked_mul(10) else {
-            return None;
-        };
-        let Some(sum) = tens.checked_add(usize::from(*byte - b'0')) else {
-            return None;
-        };
-        value = sum;
+        value = with_digit(value, *byte)?;
     }
     Some(value)
+}
+
+// A number with one more digit, where it is one, and below 2 ^ 64.
+#[inline(always)]
+fn with_digit(value: usize, byte: u8) -> Option<usize>
+    ensures { MatchOption result (IsTrue (is_ascii_digit byte) → 2 ^ 64 ≤ value * 10 + (byte - 48))
+        (λ n. IsTrue (is_ascii_digit byte) × (n ≡ value * 10 + (byte - 48))) }
+{
+    if !byte.is_ascii_digit() {
+        return None;
+    }
+    let tens = value.checked_mul(10)?;
+    tens.checked_add(usize::from(byte - b'0'))
 }

@@ -169,7 +169,8 @@ pub(super) fn push_number(number: usize, output: &mut Vec<u8>) -> Result<(), All
     output.extend_from_slice(&digits[start..])
 }
 
-// Writes the digits at the end of the buffer, and answers where they start.
+// Writes the digits at the end of the buffer, and answers where they start. Two digits a turn halve the divisions that
+// wait for one another.
 #[inline]
 fn write_digits(number: usize, digits: &mut [u8; DIGITS]) -> usize
     ensures inside { result ≤ 20 }
@@ -177,10 +178,19 @@ fn write_digits(number: usize, digits: &mut [u8; DIGITS]) -> usize
 {
     let mut start = DIGITS;
     let mut rest = number;
-    while rest > 9 {
+    while rest > 99 {
         start -= 1;
         digits[start] = b'0' + (rest % 10) as u8;
-        rest /= 10;
+        start -= 1;
+        digits[start] = b'0' + (rest / 10 % 10) as u8;
+        rest /= 100;
+    }
+    if rest > 9 {
+        start -= 1;
+        digits[start] = b'0' + (rest % 10) as u8;
+        start -= 1;
+        digits[start] = b'0' + (rest / 10) as u8;
+        return start;
     }
     start -= 1;
     digits[start] = b'0' + rest as u8;

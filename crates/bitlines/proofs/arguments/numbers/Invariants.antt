@@ -4,8 +4,8 @@ use Rattle.bitlines.proofs.Lists.{onto}
 use Rattle.bitlines.proofs.arguments.numbers.Given as goal
 
 -- the numbers so far, before those of the words that are left
-abbrev pub invariant-loop-word : goal.invariant-loop-word
-invariant-loop-word l = numbers_of l.fn.args ≡ onto l.list.items (numbers_of l.args)
+abbrev pub invariant-loop-args : goal.invariant-loop-args
+invariant-loop-args l = numbers_of l.fn.args ≡ onto l.list.items (numbers_of l.args)
 
-abbrev pub decreases-loop-word : goal.decreases-loop-word
-decreases-loop-word l = length l.args
+abbrev pub decreases-loop-args : goal.decreases-loop-args
+decreases-loop-args l = length l.args
