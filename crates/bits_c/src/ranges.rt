@@ -66,8 +66,8 @@ pub extern "C" fn bits_toggle_range(set: &mut Set<'_>, start: usize, end: usize)
 /// How many positions of the range are set; 0 where it is not valid.
 #[unsafe(no_mangle)]
 pub extern "C" fn bits_count_ones(set: &Set<'_>, start: usize, end: usize) -> usize
-    ensures { result
-        ≡ (if is_valid (value set.now) start end then model.count_ones (value set.now) start end else 0) }
+    ensures { result ≡ (if is_valid (value set.now) start end
+        then model.count_ones (value set.now) start end else 0) }
 {
     if bits_range_is_valid(set, start, end) {
         lent::count_ones(set.words, set.length, start, end)
@@ -79,8 +79,8 @@ pub extern "C" fn bits_count_ones(set: &Set<'_>, start: usize, end: usize) -> us
 /// How many positions of the range are not set; 0 where it is not valid.
 #[unsafe(no_mangle)]
 pub extern "C" fn bits_count_zeroes(set: &Set<'_>, start: usize, end: usize) -> usize
-    ensures { result
-        ≡ (if is_valid (value set.now) start end then model.count_zeroes (value set.now) start end else 0) }
+    ensures { result ≡ (if is_valid (value set.now) start end
+        then model.count_zeroes (value set.now) start end else 0) }
 {
     if bits_range_is_valid(set, start, end) {
         lent::count_zeroes(set.words, set.length, start, end)

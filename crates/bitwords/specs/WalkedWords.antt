@@ -1,4 +1,4 @@
--- The words that a cursor holds. Of the public clauses those of its parts alone, `into_held` and `of_held`, cite this module.
+-- The words that a cursor holds. Public clauses cite this module only where a caller keeps a cursor's parts.
 use Rattle.std.specs.Prelude.{◌≡◌, ℕ, ◌+◌, ◌-◌, ◌*◌, ◌^◌, ◌<◌, ◌≤◌, List, [], ◌∷◌, ◌++◌, length}
 use Rattle.bitwords.specs.Rows.{has_bit}
 use Rattle.bitwords.specs.Ascending.{ascending}

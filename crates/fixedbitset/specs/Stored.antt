@@ -1,4 +1,4 @@
--- A value and the words in which a set keeps it. Of the public clauses those of `lent` alone cite this module.
+-- A value and the words in which a set keeps it. Public clauses cite this module only where a caller keeps the words.
 use Rattle.std.specs.Prelude.{◌≡◌, ℕ, ◌^◌, ◌<◌, ◌≤◌, Bool, false, List, length}
 use Rattle.std.specs.FinSet as set
 use Rattle.bitwords.specs.Rows.{has_bit}

@@ -46,10 +46,10 @@ pub fn ones_beside<'a>(
     requires lent { IsClean length words.now }
     requires lent_other { IsClean other_length other.now }
     ensures items { result.items ≡ model.asc (of_words length words.now) }
-    ensures shared { filter (λ p. has_bit other.now p) result.items
-        ≡ model.asc (sets.intersection (of_words length words.now) (of_words other_length other.now)) }
-    ensures lacked { filter (λ p. not (has_bit other.now p)) result.items
-        ≡ model.asc (sets.difference (of_words length words.now) (of_words other_length other.now)) }
+    ensures shared { filter (λ p. has_bit other.now p) result.items ≡ model.asc
+        (sets.intersection (of_words length words.now) (of_words other_length other.now)) }
+    ensures lacked { filter (λ p. not (has_bit other.now p)) result.items ≡ model.asc
+        (sets.difference (of_words length words.now) (of_words other_length other.now)) }
 {
     ones(words, length)
 }

@@ -301,8 +301,8 @@ fn count<O: WordOp>(words: &[Block], length: usize, other: &[Block], other_lengt
 fn none<O: WordOp>(words: &[Block], length: usize, other: &[Block], other_length: usize) -> bool
     requires lent { IsClean length words.now }
     requires lent_other { IsClean other_length other.now }
-    ensures { result
-        ≡ (count_joined O.truth (of_words length words.now) (of_words other_length other.now) == 0) }
+    ensures { result ≡ (count_joined O.truth
+        (of_words length words.now) (of_words other_length other.now) == 0) }
 {
     joins::none::<O>(words, other, &mut Steps::new())
 }
