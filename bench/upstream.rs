@@ -155,7 +155,7 @@ macro_rules! each {
 each!(put, |set, bit| _ = set.put(bit));
 each!(remove, |set, bit| set.remove(bit));
 each!(grow_and_insert, |set, bit| set.grow_and_insert(bit));
-each!(set_block, |set, bit| set.as_mut_slice()[bit / 64] = 1);
+each!(set_block, |set, bit| set.as_mut_slice()[bit / 64] = bit);
 
 #[inline(never)]
 fn grow_to(set: &mut FixedBitSet, bits: usize) {

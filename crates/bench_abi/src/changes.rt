@@ -7,7 +7,7 @@ ghost use Rattle.fixedbitset.specs.TwoSets as sets;
 ghost use Rattle.bench_abi.specs.Rounds.{filled, lower, upper, full, size, after, each_below};
 
 use crate::sets::{REFUSED, filled};
-use bitlanes::word::BITS;
+use bitlanes::word::{BITS, Block};
 use fixedbitset::FixedBitSet;
 use std::alloc::{AllocError, Global};
 use std::marker::PhantomData;
@@ -181,16 +181,16 @@ impl Single for GrowAndInsert {
     }
 }
 
-/// `set_block` of the word that the position stands in.
+/// `set_block` of the word that the position stands in, with the position as the word.
 struct SetBlock;
 
 impl Single for SetBlock {
-    ghost gives = { λ v bit. set_block v (bit / 64) 1 };
+    ghost gives = { λ v bit. set_block v (bit / 64) bit };
 
     #[inline(never)]
     #[tactic(auto, using(fixedbitset::specs::WordsFacts::facts))]
     fn change(set: &mut FixedBitSet, bit: usize) -> Result<(), AllocError> {
-        set.set_block(bit / BITS, 1);
+        set.set_block(bit / BITS, bit as Block);
         Ok(())
     }
 }
@@ -361,7 +361,7 @@ pub extern "C" fn sets_grow_and_insert(alloc: Global, bits: usize, rounds: usize
 /// `set_block` of the word of each position in turn, a round being all of them: how many are left.
 #[unsafe(no_mangle)]
 pub extern "C" fn sets_set_block(alloc: Global, bits: usize, rounds: usize) -> usize
-    ensures { result < 2 ^ 64 - 1 → result ≡ size (after (λ v. each_below (λ u bit. set_block u (bit / 64) 1) v.length v) rounds (lower bits)) }
+    ensures { result < 2 ^ 64 - 1 → result ≡ size (after (λ v. each_below (λ u bit. set_block u (bit / 64) bit) v.length v) rounds (lower bits)) }
 {
     halves::<Each<SetBlock>>(alloc, bits, rounds)
 }
