@@ -1,6 +1,6 @@
 -- Lines and texts from the front.
-use Rattle.std.proofs.Common.{◌≡◌, ℕ, ◌+◌, ◌<◌, List, [], ◌∷◌, ◌++◌, length, take, drop, Option, Some, None, Bool, Result, Ok, Err, OnOk, is_ok, true, false, cond, eqb, IfSome, refl, ap, subst, ◌∙◌, arith, append_assoc}
-use Rattle.std.specs.List.{slice_split, onto_first, position}
+use Rattle.std.proofs.Common.{◌≡◌, ℕ, ◌+◌, ◌<◌, List, [], ◌∷◌, ◌++◌, length, take, drop, Option, Some, None, Bool, Result, Ok, Err, OnOk, is_ok, cond, eqb, IfSome, refl, ap, subst, ◌∙◌, arith, append_assoc}
+use Rattle.std.specs.List.{position}
 use Rattle.std.proofs.lemmas.Bool.Decides.{nat_tests}
 use Rattle.std.proofs.lemmas.Grind.{common_steps}
 use Rattle.bitcommands.specs.Actions.{Action}

@@ -1,4 +1,4 @@
-use Rattle.std.proofs.Common.{◌≡◌, ℕ, ◌+◌, ◌-◌, ◌*◌, length, take, drop, get_or, ap, ◌∙◌, arith, Some, sym, eqb, true, false}
+use Rattle.std.proofs.Common.{◌≡◌, ◌+◌, ◌-◌, length, take, drop, ap, ◌∙◌, arith, sym}
 use Rattle.std.proofs.lemmas.Grind.{common_steps}
 use Rattle.bitlines.specs.Words.{words}
 use Rattle.bitlines.proofs.Numbers.{number_on, words_empty, words_start, words_no_digit, on_at_digit, on_at_space, on_at_refused, on_at_end}
