@@ -100,7 +100,9 @@ pub fn run(
     commands: &[Command],
     limit: usize,
 ) -> Result<Vec<Reply>, AllocError>
-    ensures run { IfOk result (λ replies. Run limit sets.old (map action_of commands.now) (map answer_of replies.items) sets.new) }
+    ensures run { IfOk result
+        (λ replies. Run limit sets.old (map action_of commands.now)
+        (map answer_of replies.items) sets.new) }
     ensures err { OnErr result (sets.new ≡ sets.old) }
 {
     let mut replies = Vec::with_capacity(alloc, commands.len())?;

@@ -29,7 +29,9 @@ pub fn words_of_items(
     count: usize,
 ) -> Result<Vec<Block>, AllocError>
     requires { 8 * count ≤ 2 ^ 64 }
-    ensures words { IfOk result (λ words. words.items ≡ map (bytes.word_of (map json.item_byte items.now)) (range_with_len 0 count)) }
+    ensures words { IfOk result
+        (λ words. words.items
+        ≡ map (bytes.word_of (map json.item_byte items.now)) (range_with_len 0 count)) }
     ensures len { IfOk result (λ words. vec_len words ≡ count) }
 {
     let mut words = Vec::with_capacity(alloc, count)?;

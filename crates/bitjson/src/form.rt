@@ -23,7 +23,8 @@ use serde_json::Value;
 /// ```
 #[tactic(auto, unfolding(crate::specs::Form::form))]
 pub fn read_form(value: &Value) -> Result<(usize, &[Value]), JsonFault>
-    ensures value { result_map_both (λ read. (read.0, map json.item_byte read.1.now)) (λ fault. fault) result ≡ json.form (view value.now) }
+    ensures value { result_map_both (λ read. (read.0, map json.item_byte read.1.now))
+        (λ fault. fault) result ≡ json.form (view value.now) }
     ensures no_memory { IfErr result (λ fault. fault ≢ Memory) }
 {
     let (length, data) = parts_of(value)?;
@@ -35,7 +36,8 @@ pub fn read_form(value: &Value) -> Result<(usize, &[Value]), JsonFault>
 // The length and the data, whatever they are.
 #[tactic(auto, unfolding(crate::specs::Form::parts))]
 fn parts_of(value: &Value) -> Result<(&Value, &Value), JsonFault>
-    ensures value { result_map_both (λ parts. (view parts.0.now, view parts.1.now)) (λ fault. fault) result ≡ json.parts (view value.now) }
+    ensures value { result_map_both (λ parts. (view parts.0.now, view parts.1.now))
+        (λ fault. fault) result ≡ json.parts (view value.now) }
     ensures no_memory { IfErr result (λ fault. fault ≢ Memory) }
 {
     match value {
@@ -64,7 +66,8 @@ fn parts_of(value: &Value) -> Result<(&Value, &Value), JsonFault>
 // The items of a list of bytes.
 #[tactic(auto, unfolding(crate::specs::Form::bytes))]
 fn items_of(list: &Value) -> Result<&[Value], JsonFault>
-    ensures value { result_map_both (λ items. map json.item_byte items.now) (λ fault. fault) result ≡ json.bytes (view list.now) }
+    ensures value { result_map_both (λ items. map json.item_byte items.now) (λ fault. fault) result
+        ≡ json.bytes (view list.now) }
     ensures no_memory { IfErr result (λ fault. fault ≢ Memory) }
 {
     let items = list.as_array().ok_or(JsonFault::Data)?;

@@ -89,7 +89,8 @@ pub fn count<O: WordOp>(a: &[Block], b: &[Block], steps: &mut Steps) -> usize
 pub fn none<O: WordOp>(a: &[Block], b: &[Block], steps: &mut Steps) -> bool
     ensures zero { result ≡ list_all (λ word. word == 0) (zip2 O.joined a.now b.now) }
     ensures cost { steps.new ≤ steps.old + lane_steps (min (length a.now) (length b.now)) }
-    ensures whole { IsTrue result → steps.new ≡ steps.old + lane_steps (min (length a.now) (length b.now)) }
+    ensures whole { IsTrue result
+        → steps.new ≡ steps.old + lane_steps (min (length a.now) (length b.now)) }
 {
     let common = a.len().min(b.len());
     let lanes = common / LANE;
@@ -222,7 +223,8 @@ pub fn none_masked<O: WordOp>(mask: Block, words: &[Block], steps: &mut Steps) -
 fn join_lane<O: WordOp>(dst: &mut [Block], src: &[Block], at: usize)
     requires in_dst { at + 4 ≤ length dst.old }
     requires in_src { at + 4 ≤ length src.now }
-    ensures { dst.new ≡ put_chunk at dst.old (zip2 O.joined (chunk at 4 dst.old) (chunk at 4 src.now)) }
+    ensures { dst.new ≡ put_chunk at dst.old
+        (zip2 O.joined (chunk at 4 dst.old) (chunk at 4 src.now)) }
 {
     let lane = O::lane(u64x4::from_slice(&dst[at..]), u64x4::from_slice(&src[at..]));
     lane.copy_to_slice(&mut dst[at..]);
@@ -358,7 +360,8 @@ fn join_part<O: WordOp>(dst: &mut [Block], src: &[Block], at: usize, rest: usize
     requires few { rest < 4 }
     requires in_dst { at + rest ≤ length dst.old }
     requires in_src { at + rest ≤ length src.now }
-    ensures { dst.new ≡ put_chunk at dst.old (zip2 O.joined (chunk at rest dst.old) (chunk at rest src.now)) }
+    ensures { dst.new ≡ put_chunk at dst.old
+        (zip2 O.joined (chunk at rest dst.old) (chunk at rest src.now)) }
 {
     let lane = joined_part_at::<O>(dst, src, at, rest);
     put_part(dst, at, rest, lane);

@@ -58,12 +58,16 @@ pub fn run_text<R: Read, W: Write>(
     reader: &mut R,
     writer: &mut W,
 ) -> Result<(), RunFault>
-    ensures ok { OnOk result ((input output : List ℕ) × IsRead R.remaining reader.old reader.new input
+    ensures ok { OnOk result ((input output : List ℕ)
+        × IsRead R.remaining reader.old reader.new input
         × IsOutput input output × Appends (W.contents writer.old) (W.contents writer.new) output) }
-    ensures write { result ≡ Err RunFault.Write → (input output sent : List ℕ) × IsRead R.remaining reader.old reader.new input
+    ensures write { result ≡ Err RunFault.Write
+        → (input output sent : List ℕ) × IsRead R.remaining reader.old reader.new input
         × IsOutput input output × StartsWith output sent × Appends (W.contents writer.old) (W.contents writer.new) sent }
-    ensures read { result ≡ Err RunFault.Read → Keeps (W.contents writer.old) (W.contents writer.new) }
-    ensures memory { result ≡ Err RunFault.Memory → Keeps (W.contents writer.old) (W.contents writer.new) }
+    ensures read { result ≡ Err RunFault.Read
+        → Keeps (W.contents writer.old) (W.contents writer.new) }
+    ensures memory { result ≡ Err RunFault.Memory
+        → Keeps (W.contents writer.old) (W.contents writer.new) }
 {
     let input = read_all(alloc, reader)?;
     let Ok(output) = output_of(alloc, input.as_slice()) else {
@@ -184,7 +188,8 @@ fn read_all<R: Read>(alloc: Global, reader: &mut R) -> Result<Vec<u8>, RunFault>
 // Writes all the bytes, and flushes.
 fn send<W: Write>(writer: &mut W, bytes: &[u8]) -> Result<(), RunFault>
     ensures ok { OnOk result (Appends (W.contents writer.old) (W.contents writer.new) bytes.now) }
-    ensures err { IfErr result (λ fault. (fault ≡ RunFault.Write) × ((sent : List ℕ) × StartsWith bytes.now sent
+    ensures err { IfErr result
+        (λ fault. (fault ≡ RunFault.Write) × ((sent : List ℕ) × StartsWith bytes.now sent
         × Appends (W.contents writer.old) (W.contents writer.new) sent)) }
 {
     let mut done = 0;

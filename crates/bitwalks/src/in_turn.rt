@@ -140,7 +140,8 @@ impl<A: Part + Drop, B: Part + Drop> InTurn<A, B> {
     /// The first item that the first walk has left, and once it has none, the first of the second.
     #[inline]
     pub fn take_first(&mut self) -> Option<usize>
-        ensures gives { YieldsFirst (λ walk. A.items walk.first ++ B.items walk.second) self.old result self.new }
+        ensures gives { YieldsFirst
+            (λ walk. A.items walk.first ++ B.items walk.second) self.old result self.new }
         ensures first { A.front self.old.first self.new.first }
         ensures second { B.front self.old.second self.new.second }
     {
@@ -156,7 +157,8 @@ impl<A: Part + Drop, B: Part + Drop> InTurn<A, B> {
     /// The last item that the second walk has left, and where it has none, the last of the first.
     #[inline]
     pub fn take_last(&mut self) -> Option<usize>
-        ensures gives { YieldsLast (λ walk. A.items walk.first ++ B.items walk.second) self.old result self.new }
+        ensures gives { YieldsLast
+            (λ walk. A.items walk.first ++ B.items walk.second) self.old result self.new }
         ensures first { A.back self.old.first self.new.first }
         ensures second { B.back self.old.second self.new.second }
     {
@@ -173,8 +175,10 @@ impl<A: Part + Drop, B: Part + Drop> InTurn<A, B> {
     /// The sum of what both have, which is not below the number of items left, where it is a `usize`.
     #[inline]
     pub fn most(&self) -> Option<usize>
-        ensures upper { IfSome result (UpTo (at_most (length (A.items self.now.first ++ B.items self.now.second)))) }
-        ensures known { A.room self.now.first + B.room self.now.second < 2 ^ 64 → result ≡ Some (A.room self.now.first + B.room self.now.second) }
+        ensures upper { IfSome result
+            (UpTo (at_most (length (A.items self.now.first ++ B.items self.now.second)))) }
+        ensures known { A.room self.now.first + B.room self.now.second < 2 ^ 64
+            → result ≡ Some (A.room self.now.first + B.room self.now.second) }
     {
         self.first.most()?.checked_add(self.second.most()?)
     }

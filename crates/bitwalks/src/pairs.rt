@@ -173,7 +173,8 @@ impl<'a> Iterator for Intersection<'a> {
         ensures zero { result.0 ≡ 0 }
         ensures lower { IsWithinCount result.0 (item_count (λ sieved. sieved.items) self.now) }
         ensures upper { IfSome result.1 (UpTo (item_count (λ sieved. sieved.items) self.now)) }
-        ensures known { 64 * (length self.now.source.words + 2) < 2 ^ 64 → result.1 ≡ Some (64 * (length self.now.source.words + 2)) }
+        ensures known { 64 * (length self.now.source.words + 2) < 2 ^ 64
+            → result.1 ≡ Some (64 * (length self.now.source.words + 2)) }
     {
         self.shared.size_hint()
     }
@@ -231,7 +232,8 @@ impl<'a> Iterator for Difference<'a> {
         ensures zero { result.0 ≡ 0 }
         ensures lower { IsWithinCount result.0 (item_count (λ sieved. sieved.items) self.now) }
         ensures upper { IfSome result.1 (UpTo (item_count (λ sieved. sieved.items) self.now)) }
-        ensures known { 64 * (length self.now.source.words + 2) < 2 ^ 64 → result.1 ≡ Some (64 * (length self.now.source.words + 2)) }
+        ensures known { 64 * (length self.now.source.words + 2) < 2 ^ 64
+            → result.1 ≡ Some (64 * (length self.now.source.words + 2)) }
     {
         self.lacked.size_hint()
     }
@@ -261,7 +263,10 @@ impl<'a> Union<'a> {
     pub fn over(words: &'a [Block], other: &'a [Block]) -> Union<'a>
         requires first { 64 * length words.now ≤ 2 ^ 64 }
         requires second { 64 * length other.now ≤ 2 ^ 64 }
-        ensures { result ≡ record { first = over_row words.now (64 * length words.now); second = sieve_over not other.now words.now } }
+        ensures { result ≡ record {
+          first = over_row words.now (64 * length words.now);
+          second = sieve_over not other.now words.now;
+        } }
     {
         Union {
             parts: InTurn::of(Ones::over(words), Sieve::over(other, words)),
@@ -289,7 +294,11 @@ impl<'a> Iterator for Union<'a> {
         ensures zero { result.0 ≡ 0 }
         ensures lower { IsWithinCount result.0 (item_count joined_items self.now) }
         ensures upper { IfSome result.1 (UpTo (item_count joined_items self.now)) }
-        ensures known { 64 * (length self.now.first.words + 2) + 64 * (length self.now.second.source.words + 2) < 2 ^ 64 → result.1 ≡ Some (64 * (length self.now.first.words + 2) + 64 * (length self.now.second.source.words + 2)) }
+        ensures known { 64 * (length self.now.first.words + 2)
+            + 64 * (length self.now.second.source.words + 2) < 2 ^ 64
+            → result.1 ≡ Some
+            (64 * (length self.now.first.words + 2)
+            + 64 * (length self.now.second.source.words + 2)) }
     {
         (0, self.parts.most())
     }
@@ -319,7 +328,10 @@ impl<'a> SymmetricDifference<'a> {
     pub fn over(words: &'a [Block], other: &'a [Block]) -> SymmetricDifference<'a>
         requires first { 64 * length words.now ≤ 2 ^ 64 }
         requires second { 64 * length other.now ≤ 2 ^ 64 }
-        ensures { result ≡ record { first = sieve_over not words.now other.now; second = sieve_over not other.now words.now } }
+        ensures { result ≡ record {
+          first = sieve_over not words.now other.now;
+          second = sieve_over not other.now words.now;
+        } }
     {
         SymmetricDifference {
             sides: InTurn::of(Sieve::over(words, other), Sieve::over(other, words)),
@@ -347,7 +359,11 @@ impl<'a> Iterator for SymmetricDifference<'a> {
         ensures zero { result.0 ≡ 0 }
         ensures lower { IsWithinCount result.0 (item_count split_items self.now) }
         ensures upper { IfSome result.1 (UpTo (item_count split_items self.now)) }
-        ensures known { 64 * (length self.now.first.source.words + 2) + 64 * (length self.now.second.source.words + 2) < 2 ^ 64 → result.1 ≡ Some (64 * (length self.now.first.source.words + 2) + 64 * (length self.now.second.source.words + 2)) }
+        ensures known { 64 * (length self.now.first.source.words + 2)
+            + 64 * (length self.now.second.source.words + 2) < 2 ^ 64
+            → result.1 ≡ Some
+            (64 * (length self.now.first.source.words + 2)
+            + 64 * (length self.now.second.source.words + 2)) }
     {
         (0, self.sides.most())
     }

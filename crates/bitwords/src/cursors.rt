@@ -140,7 +140,8 @@ struct Ends<M> {
 
 #[inline(always)]
 fn ends_of<M: Middle + Drop>(mut words: M) -> Ends<M>
-    ensures bits { (p : ℕ) → has_bit (result.front ∷ (M.words result.middle ++ result.back ∷ [])) p ≡ has_bit (M.words words) p }
+    ensures bits { (p : ℕ) → has_bit (result.front ∷ (M.words result.middle ++ result.back ∷ [])) p
+        ≡ has_bit (M.words words) p }
     ensures middle { M.words result.middle ≡ between_ends (M.words words) }
 {
     let front = words.take_first().unwrap_or(0);
@@ -364,7 +365,8 @@ impl<M: Middle + Drop> Iterator for Cursor<M> {
         ensures zero { result.0 ≡ 0 }
         ensures lower { IsWithinCount result.0 (item_count (λ walk. walk.items) self.now) }
         ensures upper { IfSome result.1 (UpTo (item_count (λ walk. walk.items) self.now)) }
-        ensures known { 64 * (length self.now.words + 2) < 2 ^ 64 → result.1 ≡ Some (64 * (length self.now.words + 2)) }
+        ensures known { 64 * (length self.now.words + 2) < 2 ^ 64
+            → result.1 ≡ Some (64 * (length self.now.words + 2)) }
     {
         (0, (self.middle.left() + 2).checked_mul(BITS))
     }

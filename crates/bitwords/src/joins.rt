@@ -51,8 +51,10 @@ pub fn join<O: WordOp>(words: &mut [Block], other: &[Block], steps: &mut Steps)
 /// ```
 #[inline(always)]
 pub fn count<O: WordOp>(a: &[Block], b: &[Block], steps: &mut Steps) -> usize
-    requires fits { count_below (bits_test O.truth a.now b.now) (64 * max (length a.now) (length b.now)) < 2 ^ 64 }
-    ensures count { result ≡ count_below (bits_test O.truth a.now b.now) (64 * max (length a.now) (length b.now)) }
+    requires fits { count_below (bits_test O.truth a.now b.now)
+        (64 * max (length a.now) (length b.now)) < 2 ^ 64 }
+    ensures count { result ≡ count_below (bits_test O.truth a.now b.now)
+        (64 * max (length a.now) (length b.now)) }
     ensures cost { steps.new ≡ steps.old + both_steps O.KEEP O.TAKE (length a.now) (length b.now) }
 {
     count_words::<O>(a, b, steps)
@@ -69,9 +71,11 @@ pub fn count<O: WordOp>(a: &[Block], b: &[Block], steps: &mut Steps) -> usize
 /// ```
 #[inline(always)]
 pub fn none<O: WordOp>(a: &[Block], b: &[Block], steps: &mut Steps) -> bool
-    ensures none { result ≡ (count_below (bits_test O.truth a.now b.now) (64 * max (length a.now) (length b.now)) == 0) }
+    ensures none { result ≡ (count_below (bits_test O.truth a.now b.now)
+        (64 * max (length a.now) (length b.now)) == 0) }
     ensures cost { steps.new ≤ steps.old + both_steps O.KEEP O.TAKE (length a.now) (length b.now) }
-    ensures whole { IsTrue result → steps.new ≡ steps.old + both_steps O.KEEP O.TAKE (length a.now) (length b.now) }
+    ensures whole { IsTrue result
+        → steps.new ≡ steps.old + both_steps O.KEEP O.TAKE (length a.now) (length b.now) }
 {
     none_words::<O>(a, b, steps)
 }
@@ -157,7 +161,8 @@ fn append_joined<O: WordOp>(
 fn count_rest(words: &[Block], from: usize, counts: bool, steps: &mut Steps) -> usize
     requires { (if counts then sum_by count_ones (drop from words.now) else 0) < 2 ^ 64 }
     ensures ones { result ≡ (if counts then sum_by count_ones (drop from words.now) else 0) }
-    ensures cost { steps.new ≡ steps.old + (if counts then lane_steps (length words.now - from) else 0) }
+    ensures cost { steps.new ≡ steps.old
+        + (if counts then lane_steps (length words.now - from) else 0) }
 {
     if counts && from < words.len() {
         lanes::count_one(&words[from..], steps)
@@ -199,9 +204,12 @@ fn count_unlike<O: WordOp>(a: &[Block], b: &[Block], steps: &mut Steps) -> usize
 // Whether no bit is set from word `from` on, where these words count.
 #[inline(always)]
 fn none_rest(words: &[Block], from: usize, counts: bool, steps: &mut Steps) -> bool
-    ensures zero { result ≡ (if counts then list_all (λ word. word == 0) (drop from words.now) else true) }
-    ensures cost { steps.new ≤ steps.old + (if counts then lane_steps (length words.now - from) else 0) }
-    ensures whole { IsTrue result → steps.new ≡ steps.old + (if counts then lane_steps (length words.now - from) else 0) }
+    ensures zero { result ≡ (if counts then list_all (λ word. word == 0)
+        (drop from words.now) else true) }
+    ensures cost { steps.new ≤ steps.old
+        + (if counts then lane_steps (length words.now - from) else 0) }
+    ensures whole { IsTrue result
+        → steps.new ≡ steps.old + (if counts then lane_steps (length words.now - from) else 0) }
 {
     if counts && from < words.len() {
         lanes::none_one(&words[from..], steps)
@@ -214,9 +222,11 @@ fn none_rest(words: &[Block], from: usize, counts: bool, steps: &mut Steps) -> b
 #[inline(always)]
 #[tactic(auto, using(crate::proofs::TwoRows::all_like))]
 fn none_words<O: WordOp>(a: &[Block], b: &[Block], steps: &mut Steps) -> bool
-    ensures zero { result ≡ list_all (λ word. word == 0) (zip_longest O.joined O.KEEP O.TAKE a.now b.now) }
+    ensures zero { result ≡ list_all (λ word. word == 0)
+        (zip_longest O.joined O.KEEP O.TAKE a.now b.now) }
     ensures cost { steps.new ≤ steps.old + both_steps O.KEEP O.TAKE (length a.now) (length b.now) }
-    ensures whole { IsTrue result → steps.new ≡ steps.old + both_steps O.KEEP O.TAKE (length a.now) (length b.now) }
+    ensures whole { IsTrue result
+        → steps.new ≡ steps.old + both_steps O.KEEP O.TAKE (length a.now) (length b.now) }
 {
     if a.len() == b.len() {
         lanes::none::<O>(a, b, steps)
@@ -230,9 +240,11 @@ fn none_words<O: WordOp>(a: &[Block], b: &[Block], steps: &mut Steps) -> bool
 #[inline(never)]
 #[tactic(auto, using(crate::proofs::TwoRows::all_longest))]
 fn none_unlike<O: WordOp>(a: &[Block], b: &[Block], steps: &mut Steps) -> bool
-    ensures zero { result ≡ list_all (λ word. word == 0) (zip_longest O.joined O.KEEP O.TAKE a.now b.now) }
+    ensures zero { result ≡ list_all (λ word. word == 0)
+        (zip_longest O.joined O.KEEP O.TAKE a.now b.now) }
     ensures cost { steps.new ≤ steps.old + both_steps O.KEEP O.TAKE (length a.now) (length b.now) }
-    ensures whole { IsTrue result → steps.new ≡ steps.old + both_steps O.KEEP O.TAKE (length a.now) (length b.now) }
+    ensures whole { IsTrue result
+        → steps.new ≡ steps.old + both_steps O.KEEP O.TAKE (length a.now) (length b.now) }
 {
     lanes::none::<O>(a, b, steps)
         && none_rest(a, b.len(), O::KEEP, steps)

@@ -77,7 +77,9 @@ impl FixedBitSet {
     /// ```
     pub fn from_value(alloc: Global, value: &Value) -> Result<Self, JsonFault>
         ensures ok { IfOk result (λ set. json.meaning (view value.now) ≡ Ok set) }
-        ensures err { IfErr result (λ fault. (json.meaning (view value.now) ≡ Err fault) ⊎ ((fault ≡ Memory) × IsOk (json.meaning (view value.now)))) }
+        ensures err { IfErr result
+            (λ fault. (json.meaning (view value.now) ≡ Err fault)
+            ⊎ ((fault ≡ Memory) × IsOk (json.meaning (view value.now)))) }
     {
         let (length, items) = read_form(value)?;
         let mut words = words_of_items(alloc, items, storage_words(length))?;

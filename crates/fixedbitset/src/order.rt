@@ -91,7 +91,8 @@ impl Ord for FixedBitSet {
     #[tactic(auto, using(crate::specs::OrderFacts::ordered), unfolding(crate::specs::Order::compare, crate::specs::Order::key))]
     fn cmp(&self, other: &Self) -> Ordering
         ensures value { result ≡ compare self.now other.now }
-        ensures order { MatchOrdering result (IsBelow self.now other.now) (self.now ≡ other.now) (IsBelow other.now self.now) }
+        ensures order { MatchOrdering result (IsBelow self.now other.now) (self.now ≡ other.now)
+            (IsBelow other.now self.now) }
     {
         match self.len().cmp(&other.len()) {
             Ordering::Equal => self.as_slice().cmp(other.as_slice()),

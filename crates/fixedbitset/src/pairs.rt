@@ -31,8 +31,10 @@ impl FixedBitSet {
     pub fn intersection<'a>(&'a self, other: &'a FixedBitSet) -> Intersection<'a>
         ensures items { result.items ≡ model.asc (sets.intersection self.now other.now) }
         ensures fits { length result.items < 2 ^ 64 }
-        ensures runs { EachRunFrom SievesFirst result (λ run. ItemsAre run (model.asc (sets.intersection self.now other.now))) }
-        ensures runs_back { EachRunFrom SievesLast result (λ run. ItemsAreReversed run (model.asc (sets.intersection self.now other.now))) }
+        ensures runs { EachRunFrom SievesFirst result
+            (λ run. ItemsAre run (model.asc (sets.intersection self.now other.now))) }
+        ensures runs_back { EachRunFrom SievesLast result
+            (λ run. ItemsAreReversed run (model.asc (sets.intersection self.now other.now))) }
         ensures asked { result.asked ≡ 0 }
         ensures source { result.source ≡ begun self.now }
     {
@@ -54,8 +56,10 @@ impl FixedBitSet {
     pub fn difference<'a>(&'a self, other: &'a FixedBitSet) -> Difference<'a>
         ensures items { result.items ≡ model.asc (sets.difference self.now other.now) }
         ensures fits { length result.items < 2 ^ 64 }
-        ensures runs { EachRunFrom SievesFirst result (λ run. ItemsAre run (model.asc (sets.difference self.now other.now))) }
-        ensures runs_back { EachRunFrom SievesLast result (λ run. ItemsAreReversed run (model.asc (sets.difference self.now other.now))) }
+        ensures runs { EachRunFrom SievesFirst result
+            (λ run. ItemsAre run (model.asc (sets.difference self.now other.now))) }
+        ensures runs_back { EachRunFrom SievesLast result
+            (λ run. ItemsAreReversed run (model.asc (sets.difference self.now other.now))) }
         ensures asked { result.asked ≡ 0 }
         ensures source { result.source ≡ begun self.now }
     {
@@ -75,10 +79,15 @@ impl FixedBitSet {
     /// ```
     #[inline]
     pub fn union<'a>(&'a self, other: &'a FixedBitSet) -> Union<'a>
-        ensures items { joined_items result ≡ model.asc self.now ++ model.asc (sets.difference other.now self.now) }
+        ensures items { joined_items result
+            ≡ model.asc self.now ++ model.asc (sets.difference other.now self.now) }
         ensures fits { length (joined_items result) < 2 ^ 64 }
-        ensures runs { EachRunFrom JoinsFirst result (λ run. ItemsAre run (model.asc self.now ++ model.asc (sets.difference other.now self.now))) }
-        ensures runs_back { EachRunFrom JoinsLast result (λ run. ItemsAreReversed run (model.asc self.now ++ model.asc (sets.difference other.now self.now))) }
+        ensures runs { EachRunFrom JoinsFirst result
+            (λ run. ItemsAre run
+            (model.asc self.now ++ model.asc (sets.difference other.now self.now))) }
+        ensures runs_back { EachRunFrom JoinsLast result
+            (λ run. ItemsAreReversed run
+            (model.asc self.now ++ model.asc (sets.difference other.now self.now))) }
         ensures first { result.first ≡ begun self.now }
         ensures asked { result.second.asked ≡ 0 }
         ensures source { result.second.source ≡ begun other.now }
@@ -99,10 +108,18 @@ impl FixedBitSet {
     /// ```
     #[inline]
     pub fn symmetric_difference<'a>(&'a self, other: &'a FixedBitSet) -> SymmetricDifference<'a>
-        ensures items { split_items result ≡ model.asc (sets.difference self.now other.now) ++ model.asc (sets.difference other.now self.now) }
+        ensures items { split_items result
+            ≡ model.asc (sets.difference self.now other.now)
+            ++ model.asc (sets.difference other.now self.now) }
         ensures fits { length (split_items result) < 2 ^ 64 }
-        ensures runs { EachRunFrom SplitsFirst result (λ run. ItemsAre run (model.asc (sets.difference self.now other.now) ++ model.asc (sets.difference other.now self.now))) }
-        ensures runs_back { EachRunFrom SplitsLast result (λ run. ItemsAreReversed run (model.asc (sets.difference self.now other.now) ++ model.asc (sets.difference other.now self.now))) }
+        ensures runs { EachRunFrom SplitsFirst result
+            (λ run. ItemsAre run
+            (model.asc (sets.difference self.now other.now)
+            ++ model.asc (sets.difference other.now self.now))) }
+        ensures runs_back { EachRunFrom SplitsLast result
+            (λ run. ItemsAreReversed run
+            (model.asc (sets.difference self.now other.now)
+            ++ model.asc (sets.difference other.now self.now))) }
         ensures asked_first { result.first.asked ≡ 0 }
         ensures asked_second { result.second.asked ≡ 0 }
         ensures source_first { result.first.source ≡ begun self.now }

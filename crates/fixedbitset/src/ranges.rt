@@ -31,7 +31,8 @@ impl FixedBitSet {
     /// ```
     #[inline]
     pub fn range_is_valid<R: IndexRange<usize>>(&self, range: &R) -> bool
-        ensures { result ≡ over ranges.is_valid self.now (R.start_of range.now) (R.end_of range.now) }
+        ensures { result ≡ over ranges.is_valid self.now (R.start_of range.now)
+            (R.end_of range.now) }
     {
         let start = range.start().unwrap_or(0);
         let end = range.end().unwrap_or(self.len());
@@ -84,7 +85,8 @@ impl FixedBitSet {
     #[tactic(auto, unfolding(crate::specs::Ranges::set_range))]
     pub fn set_range<R: IndexRange<usize> + Drop>(&mut self, range: R, enabled: bool)
         requires { IsTrue (over ranges.is_valid self.old (R.start_of range) (R.end_of range)) }
-        ensures { self.new ≡ over ranges.set_range self.old (R.start_of range) (R.end_of range) enabled }
+        ensures { self.new ≡ over ranges.set_range self.old (R.start_of range)
+            (R.end_of range) enabled }
     {
         if enabled {
             self.insert_range(range);

@@ -141,7 +141,8 @@ impl FixedBitSet {
     pub fn grow(&mut self, bits: usize) -> Result<(), AllocError>
         ensures ok { OnOk result (self.new ≡ model.grow self.old bits) }
         ensures err { OnErr result (self.new ≡ self.old) }
-        ensures succeeds { model.words_needed bits ≤ model.words_needed self.old.length → IsOk result }
+        ensures succeeds { model.words_needed bits ≤ model.words_needed self.old.length
+            → IsOk result }
     {
         if bits > self.length {
             lengthen(&mut self.words, storage_words(bits))?;
@@ -167,7 +168,8 @@ impl FixedBitSet {
     pub fn clone_from(&mut self, source: &Self) -> Result<(), AllocError>
         ensures ok { OnOk result (self.new ≡ source.now) }
         ensures err { OnErr result (self.new ≡ self.old) }
-        ensures succeeds { model.words_needed source.now.length ≤ model.words_needed self.old.length → IsOk result }
+        ensures succeeds { model.words_needed source.now.length
+            ≤ model.words_needed self.old.length → IsOk result }
     {
         self.words.resize(source.words.len(), 0)?;
         self.words.copy_from_slice(&source.words);
@@ -309,7 +311,8 @@ pub(crate) fn used_bits(length: usize, index: usize) -> usize
 fn fill<I: Iterator<Item = Block>>(words: &mut [Block], count: usize, blocks: I)
     requires items { I.can_next blocks }
     requires within { count ≤ length words.old }
-    ensures { FirstItems I.next_gives blocks count (λ items. words.new ≡ items ++ drop (length items) words.old) }
+    ensures { FirstItems I.next_gives blocks count
+        (λ items. words.new ≡ items ++ drop (length items) words.old) }
 {
     for (at, block) in blocks.take(count).enumerate() {
         words[at] = block;
@@ -321,7 +324,8 @@ fn fill<I: Iterator<Item = Block>>(words: &mut [Block], count: usize, blocks: I)
 #[tactic(auto, using(crate::proofs::Growth::none_added))]
 fn lengthen(words: &mut Vec<Block>, count: usize) -> Result<(), AllocError>
     requires { vec_len words.old ≤ count }
-    ensures ok { OnOk result (words.new.items ≡ words.old.items ++ replicate (count - vec_len words.old) 0) }
+    ensures ok { OnOk result (words.new.items
+        ≡ words.old.items ++ replicate (count - vec_len words.old) 0) }
     ensures err { OnErr result (words.new.items ≡ words.old.items) }
     ensures succeeds { count ≤ vec_capacity words.old → IsOk result }
 {
@@ -335,7 +339,8 @@ fn lengthen(words: &mut Vec<Block>, count: usize) -> Result<(), AllocError>
 #[inline(never)]
 fn add_words(words: &mut Vec<Block>, count: usize) -> Result<(), AllocError>
     requires { vec_len words.old ≤ count }
-    ensures ok { OnOk result (words.new.items ≡ words.old.items ++ replicate (count - vec_len words.old) 0) }
+    ensures ok { OnOk result (words.new.items
+        ≡ words.old.items ++ replicate (count - vec_len words.old) 0) }
     ensures err { OnErr result (words.new.items ≡ words.old.items) }
     ensures succeeds { count ≤ vec_capacity words.old → IsOk result }
 {

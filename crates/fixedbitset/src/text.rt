@@ -40,7 +40,8 @@ impl Binary for FixedBitSet {
     /// assert_eq!(rt; f.into_inner().as_str(), "0100");
     /// ```
     fn fmt<W: fmt::Write>(&self, f: &mut fmt::Formatter<W>) -> fmt::Result
-        ensures { WritesStyledOnOk W.write_str_gives f.old result (styled_text (spec_alternate (formatter_spec f.old)) self.now) f.new }
+        ensures { WritesStyledOnOk W.write_str_gives f.old result
+            (styled_text (spec_alternate (formatter_spec f.old)) self.now) f.new }
     {
         write_prefix(f)?;
         self.write_digits(f)
@@ -49,7 +50,8 @@ impl Binary for FixedBitSet {
 
 // Writes what stands in front of the characters.
 fn write_prefix<W: fmt::Write>(f: &mut fmt::Formatter<W>) -> fmt::Result
-    ensures { WritesStyledOnOk W.write_str_gives f.old result (prefix (spec_alternate (formatter_spec f.old))) f.new }
+    ensures { WritesStyledOnOk W.write_str_gives f.old result
+        (prefix (spec_alternate (formatter_spec f.old))) f.new }
 {
     if f.alternate() {
         f.write_str("0b")

@@ -28,7 +28,8 @@ impl FixedBitSet {
         ensures items { result.items ≡ model.asc self.now }
         ensures fits { length result.items < 2 ^ 64 }
         ensures runs { EachRunFrom GivesFirst result (λ run. ItemsAre run (model.asc self.now)) }
-        ensures runs_back { EachRunFrom GivesLast result (λ run. ItemsAreReversed run (model.asc self.now)) }
+        ensures runs_back { EachRunFrom GivesLast result
+            (λ run. ItemsAreReversed run (model.asc self.now)) }
         ensures words { result.words ≡ between_ends (model.words self.now) }
         ensures turns { result.turns ≡ 0 }
         ensures taken { result.taken ≡ 0 }
@@ -49,7 +50,8 @@ impl FixedBitSet {
         ensures items { result.items ≡ model.asc self }
         ensures fits { length result.items < 2 ^ 64 }
         ensures runs { EachRunFrom GivesFirst result (λ run. ItemsAre run (model.asc self)) }
-        ensures runs_back { EachRunFrom GivesLast result (λ run. ItemsAreReversed run (model.asc self)) }
+        ensures runs_back { EachRunFrom GivesLast result
+            (λ run. ItemsAreReversed run (model.asc self)) }
         ensures words { result.words ≡ between_ends (model.words self) }
         ensures turns { result.turns ≡ 0 }
         ensures taken { result.taken ≡ 0 }
@@ -73,8 +75,10 @@ impl FixedBitSet {
     pub fn zeroes(&self) -> Zeroes<'_>
         ensures items { result.items ≡ model.asc (model.complement self.now) }
         ensures fits { length result.items < 2 ^ 64 }
-        ensures runs { EachRunFrom GivesFirst result (λ run. ItemsAre run (model.asc (model.complement self.now))) }
-        ensures runs_back { EachRunFrom GivesLast result (λ run. ItemsAreReversed run (model.asc (model.complement self.now))) }
+        ensures runs { EachRunFrom GivesFirst result
+            (λ run. ItemsAre run (model.asc (model.complement self.now))) }
+        ensures runs_back { EachRunFrom GivesLast result
+            (λ run. ItemsAreReversed run (model.asc (model.complement self.now))) }
         ensures words { result.words ≡ between_ends (map (bit_not w64) (model.words self.now)) }
         ensures turns { result.turns ≡ 0 }
         ensures taken { result.taken ≡ 0 }

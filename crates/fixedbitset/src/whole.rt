@@ -31,7 +31,8 @@ impl FixedBitSet {
     pub fn union_with(&mut self, other: &Self) -> Result<(), AllocError>
         ensures ok { OnOk result (self.new ≡ sets.union self.old other.now) }
         ensures err { OnErr result (self.new ≡ self.old) }
-        ensures succeeds { model.words_needed other.now.length ≤ model.words_needed self.old.length → IsOk result }
+        ensures succeeds { model.words_needed other.now.length ≤ model.words_needed self.old.length
+            → IsOk result }
     {
         counted::union_with(self, other, &mut Steps::new())
     }
@@ -50,7 +51,8 @@ impl FixedBitSet {
     pub fn symmetric_difference_with(&mut self, other: &Self) -> Result<(), AllocError>
         ensures ok { OnOk result (self.new ≡ sets.symmetric_difference self.old other.now) }
         ensures err { OnErr result (self.new ≡ self.old) }
-        ensures succeeds { model.words_needed other.now.length ≤ model.words_needed self.old.length → IsOk result }
+        ensures succeeds { model.words_needed other.now.length ≤ model.words_needed self.old.length
+            → IsOk result }
     {
         counted::symmetric_difference_with(self, other, &mut Steps::new())
     }
@@ -98,7 +100,8 @@ impl FixedBitSet {
     pub fn bitor_assign(&mut self, other: &Self) -> Result<(), AllocError>
         ensures ok { OnOk result (self.new ≡ sets.union self.old other.now) }
         ensures err { OnErr result (self.new ≡ self.old) }
-        ensures succeeds { model.words_needed other.now.length ≤ model.words_needed self.old.length → IsOk result }
+        ensures succeeds { model.words_needed other.now.length ≤ model.words_needed self.old.length
+            → IsOk result }
     {
         self.union_with(other)
     }
@@ -114,7 +117,8 @@ impl FixedBitSet {
     pub fn bitxor_assign(&mut self, other: &Self) -> Result<(), AllocError>
         ensures ok { OnOk result (self.new ≡ sets.symmetric_difference self.old other.now) }
         ensures err { OnErr result (self.new ≡ self.old) }
-        ensures succeeds { model.words_needed other.now.length ≤ model.words_needed self.old.length → IsOk result }
+        ensures succeeds { model.words_needed other.now.length ≤ model.words_needed self.old.length
+            → IsOk result }
     {
         self.symmetric_difference_with(other)
     }

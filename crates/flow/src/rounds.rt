@@ -88,7 +88,8 @@ fn turn(
     ensures reached { (gens : Sets) → length gens ≡ length ins.old
         → IsReached edges.now gens kills.now ins.old outs.old → IsReached edges.now gens kills.now ins.new outs.new }
     ensures settled { result ≡ false → AreSettled edges.now ins.new outs.new }
-    ensures grows { result ≡ true → total room.old.passed.length ins.old < total room.old.passed.length ins.new }
+    ensures grows { result ≡ true
+        → total room.old.passed.length ins.old < total room.old.passed.length ins.new }
 {
     let mut changed = false;
     for (from, to) in edges {
@@ -113,7 +114,8 @@ fn has_more(
     requires from { from < length outs.now }
     requires to { to < length ins.now }
     ensures more { result ≡ true → ¬ (IsPassed ins.now outs.now (from, to)) }
-    ensures none { result ≡ false → IsTrue (model.contains due.now from) → IsPassed ins.now outs.now (from, to) }
+    ensures none { result ≡ false → IsTrue (model.contains due.now from)
+        → IsPassed ins.now outs.now (from, to) }
 {
     due.contains(from) && !outs[from].is_subset(&ins[to])
 }

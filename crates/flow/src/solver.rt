@@ -46,10 +46,14 @@ pub fn solve(
     rounds: &mut Steps,
 ) -> Result<Solution, AllocError>
     requires { IsProblem facts edges.now gens.now kills.now }
-    ensures sized { IfOk result (λ answer. IsFor gens.now facts answer.ins.items × IsFor gens.now facts answer.outs.items) }
-    ensures solves { IfOk result (λ answer. IsSolution edges.now gens.now kills.now answer.ins.items answer.outs.items) }
-    ensures least { IfOk result (λ answer. IsLeast edges.now gens.now kills.now answer.ins.items answer.outs.items) }
-    ensures paths { IfOk result (λ answer. ArePaths edges.now gens.now kills.now answer.outs.items) }
+    ensures sized { IfOk result
+        (λ answer. IsFor gens.now facts answer.ins.items × IsFor gens.now facts answer.outs.items) }
+    ensures solves { IfOk result
+        (λ answer. IsSolution edges.now gens.now kills.now answer.ins.items answer.outs.items) }
+    ensures least { IfOk result
+        (λ answer. IsLeast edges.now gens.now kills.now answer.ins.items answer.outs.items) }
+    ensures paths { IfOk result
+        (λ answer. ArePaths edges.now gens.now kills.now answer.outs.items) }
     ensures once { OnOk result (rounds.old < rounds.new) }
     ensures bound { OnOk result (rounds.new ≤ rounds.old + (length gens.now * facts + 1)) }
     ensures err { OnErr result (rounds.new ≡ rounds.old) }

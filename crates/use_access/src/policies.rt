@@ -88,14 +88,16 @@ impl Policy {
     /// Whether the role has each of the rights asked for. Where none is asked for, it is `true`.
     pub fn allows(&self, role: usize, asked: &FixedBitSet) -> bool
         requires { role < length self.now.roles }
-        ensures { IsTrue result ↔ ((right : ℕ) → IsTrue (contains asked.now right) → Has self.now role right) }
+        ensures { IsTrue result
+            ↔ ((right : ℕ) → IsTrue (contains asked.now right) → Has self.now role right) }
     {
         asked.is_subset(&self.roles[role])
     }
 
     /// The policy by which a role has a right if both policies give it.
     pub fn both(&self, alloc: Global, other: &Policy) -> Result<Policy, AllocError>
-        ensures roles { IfOk result (λ both. length both.roles ≡ min (length self.now.roles) (length other.now.roles)) }
+        ensures roles { IfOk result
+            (λ both. length both.roles ≡ min (length self.now.roles) (length other.now.roles)) }
         ensures rights { IfOk result (λ both. both.rights ≡ min self.now.rights other.now.rights) }
         ensures both { IfOk result (λ both. (role right : ℕ)
             → Has both role right ↔ (Has self.now role right × Has other.now role right)) }

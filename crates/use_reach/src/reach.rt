@@ -43,7 +43,8 @@ pub fn reachable(
     requires graph { IsGraph graph.now }
     requires start { start < length graph.now }
     ensures nodes { IfOk result (λ set. set.length ≡ length graph.now) }
-    ensures reached { IfOk result (λ set. (node : ℕ) → IsTrue (contains set node) ↔ IsReachable graph.now start node) }
+    ensures reached { IfOk result
+        (λ set. (node : ℕ) → IsTrue (contains set node) ↔ IsReachable graph.now start node) }
     ensures once { IfOk result (λ set. turns.new ≡ turns.old + size set) }
     ensures looked { IfOk result (λ set. looks.new ≡ looks.old + edges_from set 0 graph.now) }
     ensures bound { turns.new ≤ turns.old + length graph.now }

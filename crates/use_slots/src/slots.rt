@@ -47,7 +47,8 @@ impl Slots {
     pub fn take(&mut self) -> Option<usize>
         ensures slot { IsAnswer self.old result }
         ensures after { IsLeft self.old result self.new }
-        ensures left { MatchOption result (free_count self.old ≡ 0) (λ _. free_count self.new + 1 ≡ free_count self.old) }
+        ensures left { MatchOption result (free_count self.old ≡ 0)
+            (λ _. free_count self.new + 1 ≡ free_count self.old) }
     {
         let slot = self.taken.zeroes().next()?;
         self.taken.insert(slot);

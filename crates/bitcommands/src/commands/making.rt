@@ -145,7 +145,8 @@ fn with_capacity_and_blocks(
     blocks: &[usize],
     limit: usize,
 ) -> Result<Reply, Refusal>
-    ensures { Answers limit sets.old (action.with_capacity_and_blocks target bits blocks.now) result sets.new }
+    ensures { Answers limit sets.old
+        (action.with_capacity_and_blocks target bits blocks.now) result sets.new }
 {
     check_set(sets, target)?;
     check_limit(limit, bits)?;

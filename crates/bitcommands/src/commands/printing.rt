@@ -146,7 +146,8 @@ pub(super) fn push_parts<P: Part>(parts: &[P], output: &mut Vec<u8>) -> Result<(
 
 // The same. Where memory is refused, a part of the text may stand behind the output.
 fn push_spaced<P: Part>(parts: &[P], output: &mut Vec<u8>) -> Result<(), AllocError>
-    ensures ok { OnOk result (output.new.items ≡ output.old.items ++ spaced_text P.text_of parts.now) }
+    ensures ok { OnOk result (output.new.items
+        ≡ output.old.items ++ spaced_text P.text_of parts.now) }
     ensures err { OnErr result (take (vec_len output.old) output.new.items ≡ output.old.items) }
 {
     let Some((first, rest)) = parts.split_first() else {

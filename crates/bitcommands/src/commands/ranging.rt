@@ -109,14 +109,16 @@ pub(super) fn apply_ranged(
 }
 
 fn count_ones(sets: &[FixedBitSet], set: usize, range: Span) -> Result<Reply, Refusal>
-    ensures { AnswersAlways sets.now (action.count_ones set (range.start, range.end)) result sets.now }
+    ensures { AnswersAlways sets.now
+        (action.count_ones set (range.start, range.end)) result sets.now }
 {
     check_range(sets, set, range)?;
     Ok(Reply::Number(sets[set].count_ones(range)))
 }
 
 fn count_zeroes(sets: &[FixedBitSet], set: usize, range: Span) -> Result<Reply, Refusal>
-    ensures { AnswersAlways sets.now (action.count_zeroes set (range.start, range.end)) result sets.now }
+    ensures { AnswersAlways sets.now
+        (action.count_zeroes set (range.start, range.end)) result sets.now }
 {
     check_range(sets, set, range)?;
     Ok(Reply::Number(sets[set].count_zeroes(range)))
@@ -128,7 +130,8 @@ fn set_range(
     range: Span,
     value: bool,
 ) -> Result<Reply, Refusal>
-    ensures { AnswersAlways sets.old (action.set_range set (range.start, range.end) value) result sets.new }
+    ensures { AnswersAlways sets.old
+        (action.set_range set (range.start, range.end) value) result sets.new }
 {
     check_range(sets, set, range)?;
     sets[set].set_range(range, value);
@@ -136,7 +139,8 @@ fn set_range(
 }
 
 fn insert_range(sets: &mut [FixedBitSet], set: usize, range: Span) -> Result<Reply, Refusal>
-    ensures { AnswersAlways sets.old (action.insert_range set (range.start, range.end)) result sets.new }
+    ensures { AnswersAlways sets.old
+        (action.insert_range set (range.start, range.end)) result sets.new }
 {
     check_range(sets, set, range)?;
     sets[set].insert_range(range);
@@ -144,7 +148,8 @@ fn insert_range(sets: &mut [FixedBitSet], set: usize, range: Span) -> Result<Rep
 }
 
 fn remove_range(sets: &mut [FixedBitSet], set: usize, range: Span) -> Result<Reply, Refusal>
-    ensures { AnswersAlways sets.old (action.remove_range set (range.start, range.end)) result sets.new }
+    ensures { AnswersAlways sets.old
+        (action.remove_range set (range.start, range.end)) result sets.new }
 {
     check_range(sets, set, range)?;
     sets[set].remove_range(range);
@@ -152,7 +157,8 @@ fn remove_range(sets: &mut [FixedBitSet], set: usize, range: Span) -> Result<Rep
 }
 
 fn toggle_range(sets: &mut [FixedBitSet], set: usize, range: Span) -> Result<Reply, Refusal>
-    ensures { AnswersAlways sets.old (action.toggle_range set (range.start, range.end)) result sets.new }
+    ensures { AnswersAlways sets.old
+        (action.toggle_range set (range.start, range.end)) result sets.new }
 {
     check_range(sets, set, range)?;
     sets[set].toggle_range(range);
@@ -160,21 +166,24 @@ fn toggle_range(sets: &mut [FixedBitSet], set: usize, range: Span) -> Result<Rep
 }
 
 fn contains_all_in_range(sets: &[FixedBitSet], set: usize, range: Span) -> Result<Reply, Refusal>
-    ensures { AnswersAlways sets.now (action.contains_all_in_range set (range.start, range.end)) result sets.now }
+    ensures { AnswersAlways sets.now
+        (action.contains_all_in_range set (range.start, range.end)) result sets.now }
 {
     check_range(sets, set, range)?;
     Ok(Reply::Bool(sets[set].contains_all_in_range(range)))
 }
 
 fn contains_any_in_range(sets: &[FixedBitSet], set: usize, range: Span) -> Result<Reply, Refusal>
-    ensures { AnswersAlways sets.now (action.contains_any_in_range set (range.start, range.end)) result sets.now }
+    ensures { AnswersAlways sets.now
+        (action.contains_any_in_range set (range.start, range.end)) result sets.now }
 {
     check_range(sets, set, range)?;
     Ok(Reply::Bool(sets[set].contains_any_in_range(range)))
 }
 
 fn range_is_valid(sets: &[FixedBitSet], set: usize, range: Span) -> Result<Reply, Refusal>
-    ensures { AnswersAlways sets.now (action.range_is_valid set (range.start, range.end)) result sets.now }
+    ensures { AnswersAlways sets.now
+        (action.range_is_valid set (range.start, range.end)) result sets.now }
 {
     check_set(sets, set)?;
     Ok(Reply::Bool(sets[set].range_is_valid(&range)))

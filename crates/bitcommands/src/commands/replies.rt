@@ -61,7 +61,9 @@ impl Reply {
     /// ```
     #[inline]
     pub fn push_text(&self, output: &mut Vec<u8>) -> Result<(), AllocError>
-        ensures ok { OnOk result (IfSome (one_text (answer_of self.now)) (λ text. output.new.items ≡ output.old.items ++ text)) }
+        ensures ok { OnOk result
+            (IfSome (one_text (answer_of self.now))
+            (λ text. output.new.items ≡ output.old.items ++ text)) }
         ensures value { OnOk result (IfSome (value_of (answer_of self.now))
             (PutsValue output.old.items output.new.items)) }
         ensures err { OnErr result (output.new.items ≡ output.old.items) }

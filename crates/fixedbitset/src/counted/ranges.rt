@@ -27,7 +27,8 @@ use bitlanes::{IndexRange, Steps};
 pub fn insert_range<R: IndexRange<usize> + Drop>(set: &mut FixedBitSet, range: R, steps: &mut Steps)
     requires { IsTrue (over ranges.is_valid set.old (R.start_of range) (R.end_of range)) }
     ensures value { set.new ≡ over ranges.insert_range set.old (R.start_of range) (R.end_of range) }
-    ensures cost { steps.new ≡ steps.old + over (λ _. range_words) set.old (R.start_of range) (R.end_of range) }
+    ensures cost { steps.new ≡ steps.old
+        + over (λ _. range_words) set.old (R.start_of range) (R.end_of range) }
 {
     let start = range.start().unwrap_or(0);
     let end = range.end().unwrap_or(set.len());
@@ -48,7 +49,8 @@ pub fn insert_range<R: IndexRange<usize> + Drop>(set: &mut FixedBitSet, range: R
 pub fn remove_range<R: IndexRange<usize> + Drop>(set: &mut FixedBitSet, range: R, steps: &mut Steps)
     requires { IsTrue (over ranges.is_valid set.old (R.start_of range) (R.end_of range)) }
     ensures value { set.new ≡ over ranges.remove_range set.old (R.start_of range) (R.end_of range) }
-    ensures cost { steps.new ≡ steps.old + over (λ _. range_words) set.old (R.start_of range) (R.end_of range) }
+    ensures cost { steps.new ≡ steps.old
+        + over (λ _. range_words) set.old (R.start_of range) (R.end_of range) }
 {
     let start = range.start().unwrap_or(0);
     let end = range.end().unwrap_or(set.len());
@@ -69,7 +71,8 @@ pub fn remove_range<R: IndexRange<usize> + Drop>(set: &mut FixedBitSet, range: R
 pub fn toggle_range<R: IndexRange<usize> + Drop>(set: &mut FixedBitSet, range: R, steps: &mut Steps)
     requires { IsTrue (over ranges.is_valid set.old (R.start_of range) (R.end_of range)) }
     ensures value { set.new ≡ over ranges.toggle_range set.old (R.start_of range) (R.end_of range) }
-    ensures cost { steps.new ≡ steps.old + over (λ _. range_words) set.old (R.start_of range) (R.end_of range) }
+    ensures cost { steps.new ≡ steps.old
+        + over (λ _. range_words) set.old (R.start_of range) (R.end_of range) }
 {
     let start = range.start().unwrap_or(0);
     let end = range.end().unwrap_or(set.len());
@@ -92,7 +95,8 @@ pub fn count_ones<R: IndexRange<usize> + Drop>(
 ) -> usize
     requires { IsTrue (over ranges.is_valid set.now (R.start_of range) (R.end_of range)) }
     ensures count { result ≡ over ranges.count_ones set.now (R.start_of range) (R.end_of range) }
-    ensures cost { steps.new ≡ steps.old + over (λ _. range_words) set.now (R.start_of range) (R.end_of range) }
+    ensures cost { steps.new ≡ steps.old
+        + over (λ _. range_words) set.now (R.start_of range) (R.end_of range) }
 {
     let start = range.start().unwrap_or(0);
     let end = range.end().unwrap_or(set.len());
@@ -115,7 +119,8 @@ pub fn count_zeroes<R: IndexRange<usize> + Drop>(
 ) -> usize
     requires { IsTrue (over ranges.is_valid set.now (R.start_of range) (R.end_of range)) }
     ensures count { result ≡ over ranges.count_zeroes set.now (R.start_of range) (R.end_of range) }
-    ensures cost { steps.new ≡ steps.old + over (λ _. range_words) set.now (R.start_of range) (R.end_of range) }
+    ensures cost { steps.new ≡ steps.old
+        + over (λ _. range_words) set.now (R.start_of range) (R.end_of range) }
 {
     let start = range.start().unwrap_or(0);
     let end = range.end().unwrap_or(set.len());
@@ -139,8 +144,11 @@ pub fn contains_all_in_range<R: IndexRange<usize> + Drop>(
 ) -> bool
     requires { IsTrue (over ranges.is_valid set.now (R.start_of range) (R.end_of range)) }
     ensures told { result ≡ over ranges.contains_all set.now (R.start_of range) (R.end_of range) }
-    ensures cost { steps.new ≤ steps.old + over (λ _. search_steps) set.now (R.start_of range) (R.end_of range) }
-    ensures whole { IsTrue result → steps.new ≡ steps.old + over (λ _. search_steps) set.now (R.start_of range) (R.end_of range) }
+    ensures cost { steps.new ≤ steps.old
+        + over (λ _. search_steps) set.now (R.start_of range) (R.end_of range) }
+    ensures whole { IsTrue result
+        → steps.new ≡ steps.old
+        + over (λ _. search_steps) set.now (R.start_of range) (R.end_of range) }
 {
     let start = range.start().unwrap_or(0);
     let end = range.end().unwrap_or(set.len());
@@ -164,8 +172,11 @@ pub fn contains_any_in_range<R: IndexRange<usize> + Drop>(
 ) -> bool
     requires { IsTrue (over ranges.is_valid set.now (R.start_of range) (R.end_of range)) }
     ensures told { result ≡ over ranges.contains_any set.now (R.start_of range) (R.end_of range) }
-    ensures cost { steps.new ≤ steps.old + over (λ _. search_steps) set.now (R.start_of range) (R.end_of range) }
-    ensures whole { IsTrue (not result) → steps.new ≡ steps.old + over (λ _. search_steps) set.now (R.start_of range) (R.end_of range) }
+    ensures cost { steps.new ≤ steps.old
+        + over (λ _. search_steps) set.now (R.start_of range) (R.end_of range) }
+    ensures whole { IsTrue (not result)
+        → steps.new ≡ steps.old
+        + over (λ _. search_steps) set.now (R.start_of range) (R.end_of range) }
 {
     let start = range.start().unwrap_or(0);
     let end = range.end().unwrap_or(set.len());

@@ -36,8 +36,10 @@ pub fn union_with(
 ) -> Result<(), AllocError>
     ensures ok { OnOk result (set.new ≡ sets.union set.old other.now) }
     ensures err { OnErr result (set.new ≡ set.old) }
-    ensures succeeds { model.words_needed other.now.length ≤ model.words_needed set.old.length → IsOk result }
-    ensures cost { OnOk result (steps.new ≡ steps.old + lane_steps (model.words_needed other.now.length)) }
+    ensures succeeds { model.words_needed other.now.length ≤ model.words_needed set.old.length
+        → IsOk result }
+    ensures cost { OnOk result
+        (steps.new ≡ steps.old + lane_steps (model.words_needed other.now.length)) }
     ensures refused { OnErr result (steps.new ≡ steps.old) }
 {
     if set.len() < other.len() {
@@ -66,8 +68,10 @@ pub fn symmetric_difference_with(
 ) -> Result<(), AllocError>
     ensures ok { OnOk result (set.new ≡ sets.symmetric_difference set.old other.now) }
     ensures err { OnErr result (set.new ≡ set.old) }
-    ensures succeeds { model.words_needed other.now.length ≤ model.words_needed set.old.length → IsOk result }
-    ensures cost { OnOk result (steps.new ≡ steps.old + lane_steps (model.words_needed other.now.length)) }
+    ensures succeeds { model.words_needed other.now.length ≤ model.words_needed set.old.length
+        → IsOk result }
+    ensures cost { OnOk result
+        (steps.new ≡ steps.old + lane_steps (model.words_needed other.now.length)) }
     ensures refused { OnErr result (steps.new ≡ steps.old) }
 {
     if set.len() < other.len() {
@@ -90,7 +94,8 @@ pub fn symmetric_difference_with(
 pub fn intersect_with(set: &mut FixedBitSet, other: &FixedBitSet, steps: &mut Steps)
     ensures value { set.new ≡ sets.intersection set.old other.now }
     ensures cost { steps.new ≡ steps.old
-        + join_steps false (model.storage_words set.old.length) (model.storage_words other.now.length) }
+        + join_steps false (model.storage_words set.old.length)
+        (model.storage_words other.now.length) }
 {
     set.join::<And>(other, steps);
 }
@@ -108,7 +113,8 @@ pub fn intersect_with(set: &mut FixedBitSet, other: &FixedBitSet, steps: &mut St
 pub fn difference_with(set: &mut FixedBitSet, other: &FixedBitSet, steps: &mut Steps)
     ensures value { set.new ≡ sets.difference set.old other.now }
     ensures cost { steps.new ≡ steps.old
-        + join_steps true (model.storage_words set.old.length) (model.storage_words other.now.length) }
+        + join_steps true (model.storage_words set.old.length)
+        (model.storage_words other.now.length) }
 {
     set.join::<AndNot>(other, steps);
 }
@@ -126,7 +132,8 @@ pub fn difference_with(set: &mut FixedBitSet, other: &FixedBitSet, steps: &mut S
 pub fn union_count(set: &FixedBitSet, other: &FixedBitSet, steps: &mut Steps) -> usize
     ensures count { result ≡ sets.union_count set.now other.now }
     ensures cost { steps.new ≡ steps.old
-        + both_steps true true (model.storage_words set.now.length) (model.storage_words other.now.length) }
+        + both_steps true true (model.storage_words set.now.length)
+        (model.storage_words other.now.length) }
 {
     set.count_joined::<Or>(other, steps)
 }
@@ -144,7 +151,8 @@ pub fn union_count(set: &FixedBitSet, other: &FixedBitSet, steps: &mut Steps) ->
 pub fn intersection_count(set: &FixedBitSet, other: &FixedBitSet, steps: &mut Steps) -> usize
     ensures count { result ≡ sets.intersection_count set.now other.now }
     ensures cost { steps.new ≡ steps.old
-        + both_steps false false (model.storage_words set.now.length) (model.storage_words other.now.length) }
+        + both_steps false false (model.storage_words set.now.length)
+        (model.storage_words other.now.length) }
 {
     set.count_joined::<And>(other, steps)
 }
@@ -162,7 +170,8 @@ pub fn intersection_count(set: &FixedBitSet, other: &FixedBitSet, steps: &mut St
 pub fn difference_count(set: &FixedBitSet, other: &FixedBitSet, steps: &mut Steps) -> usize
     ensures count { result ≡ sets.difference_count set.now other.now }
     ensures cost { steps.new ≡ steps.old
-        + both_steps true false (model.storage_words set.now.length) (model.storage_words other.now.length) }
+        + both_steps true false (model.storage_words set.now.length)
+        (model.storage_words other.now.length) }
 {
     set.count_joined::<AndNot>(other, steps)
 }
@@ -184,7 +193,8 @@ pub fn symmetric_difference_count(
 ) -> usize
     ensures count { result ≡ sets.symmetric_difference_count set.now other.now }
     ensures cost { steps.new ≡ steps.old
-        + both_steps true true (model.storage_words set.now.length) (model.storage_words other.now.length) }
+        + both_steps true true (model.storage_words set.now.length)
+        (model.storage_words other.now.length) }
 {
     set.count_joined::<Xor>(other, steps)
 }
@@ -201,9 +211,11 @@ pub fn symmetric_difference_count(
 pub fn is_disjoint(set: &FixedBitSet, other: &FixedBitSet, steps: &mut Steps) -> bool
     ensures told { result ≡ sets.is_disjoint set.now other.now }
     ensures cost { steps.new ≤ steps.old
-        + both_steps false false (model.storage_words set.now.length) (model.storage_words other.now.length) }
+        + both_steps false false (model.storage_words set.now.length)
+        (model.storage_words other.now.length) }
     ensures whole { IsTrue result → steps.new ≡ steps.old
-        + both_steps false false (model.storage_words set.now.length) (model.storage_words other.now.length) }
+        + both_steps false false (model.storage_words set.now.length)
+        (model.storage_words other.now.length) }
 {
     set.none_joined::<And>(other, steps)
 }
@@ -221,9 +233,11 @@ pub fn is_disjoint(set: &FixedBitSet, other: &FixedBitSet, steps: &mut Steps) ->
 pub fn is_subset(set: &FixedBitSet, other: &FixedBitSet, steps: &mut Steps) -> bool
     ensures told { result ≡ sets.is_subset set.now other.now }
     ensures cost { steps.new ≤ steps.old
-        + both_steps true false (model.storage_words set.now.length) (model.storage_words other.now.length) }
+        + both_steps true false (model.storage_words set.now.length)
+        (model.storage_words other.now.length) }
     ensures whole { IsTrue result → steps.new ≡ steps.old
-        + both_steps true false (model.storage_words set.now.length) (model.storage_words other.now.length) }
+        + both_steps true false (model.storage_words set.now.length)
+        (model.storage_words other.now.length) }
 {
     set.none_joined::<AndNot>(other, steps)
 }
@@ -240,10 +254,13 @@ fn grow_and_join<O: WordOp>(
 ) -> Result<(), AllocError>
     requires keeps { O.KEEP ≡ true }
     requires longer { set.old.length < other.now.length }
-    ensures ok { OnOk result (set.new ≡ joined O.truth (model.grow set.old other.now.length) other.now) }
+    ensures ok { OnOk result (set.new
+        ≡ joined O.truth (model.grow set.old other.now.length) other.now) }
     ensures err { OnErr result (set.new ≡ set.old) }
-    ensures succeeds { model.words_needed other.now.length ≤ model.words_needed set.old.length → IsOk result }
-    ensures cost { OnOk result (steps.new ≡ steps.old + lane_steps (model.words_needed other.now.length)) }
+    ensures succeeds { model.words_needed other.now.length ≤ model.words_needed set.old.length
+        → IsOk result }
+    ensures cost { OnOk result
+        (steps.new ≡ steps.old + lane_steps (model.words_needed other.now.length)) }
     ensures refused { OnErr result (steps.new ≡ steps.old) }
 {
     set.grow(other.len())?;
