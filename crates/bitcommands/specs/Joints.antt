@@ -1,4 +1,5 @@
--- No public clause cites this module. What a command makes of a set and another one.
+-- No public clause cites this module.
+-- What a command makes of a set and another one.
 use Rattle.std.specs.Prelude.{Bool, false}
 use Rattle.fixedbitset.specs.Bits.{Bits}
 use Rattle.fixedbitset.specs.TwoSets as sets

@@ -1,3 +1,4 @@
+-- to believe
 pub mod Actions
 pub mod Answers
 pub mod Sets
@@ -6,7 +7,11 @@ pub mod Calls
 pub mod Table
 pub mod Steps
 pub mod Texts
-pub mod TextsFacts
 pub mod Outcomes
+
+-- facts for callers
+pub mod TextsFacts
+
+-- private
 pub mod Joints
 pub mod Quoting

@@ -1,4 +1,4 @@
--- No public clause cites this module. What the functions of a group answer, and what a check of a guard answers.
+-- What the functions of a group answer, and what a check of a guard answers.
 use Rattle.std.specs.Prelude.{◌≡◌, ℕ, List, [], Option, Some, None, Result, Ok, Err, MatchOption, IsOk, decimal}
 use Rattle.fixedbitset.specs.declared.extend.ExtendFault.{ExtendFault}
 use Rattle.fixedbitset.specs.declared.extend.ExtendFault.TheVariants as fault

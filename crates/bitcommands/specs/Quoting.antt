@@ -1,4 +1,5 @@
--- No public clause cites this module. What stands in the quotes of JSON for each byte of a text.
+-- No public clause cites this module.
+-- What stands in the quotes of JSON for each byte of a text.
 use Rattle.std.specs.Prelude.{◌≡◌, ℕ, List, [], ◌∷◌, ◌++◌, refl}
 use Rattle.std.specs.Char.{encode_utf8}
 use Rattle.std.specs.List.{flat_map}

@@ -1,10 +1,13 @@
+-- to believe
 pub mod Bits
-pub mod BitLaws
 pub mod Depth
 pub mod Ones
 pub mod Ops
 pub mod Range
-pub mod RangeFacts
 pub mod Search
 pub mod Word
 pub mod Words
+
+-- facts for callers
+pub mod BitLaws
+pub mod RangeFacts

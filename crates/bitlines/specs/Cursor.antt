@@ -1,4 +1,5 @@
--- No public clause cites this module. The words that are left of a text, where one is left.
+-- No public clause cites this module.
+-- The words that are left of a text, where one is left.
 use Rattle.std.specs.Prelude.{ℕ, List, [], Option, Some, None}
 use Rattle.std.specs.Borrow.{Bor}
 use Rattle.bitlines.specs.Words.{words}

@@ -1,3 +1,4 @@
+-- to believe
 pub mod Words
 pub mod Reads
 pub mod Arguments
@@ -11,5 +12,7 @@ pub mod StepLaws
 pub mod Output
 pub mod OutputLaws
 pub mod Program
+
+-- private
 pub mod Cursor
 pub mod OneLine

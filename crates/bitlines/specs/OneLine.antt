@@ -1,4 +1,5 @@
--- No public clause cites this module. What one line puts out.
+-- No public clause cites this module.
+-- What one line puts out.
 use Rattle.std.specs.Prelude.{◌≡◌, ℕ, List, ◌∷◌, ◌++◌, Some}
 use Rattle.bitcommands.specs.Actions.{Action}
 use Rattle.bitcommands.specs.Sets.{Sets}

@@ -1,3 +1,6 @@
+-- to believe
 pub mod Pairs
+
+-- facts for callers
 pub mod PairsFacts
 pub mod SieveFacts

@@ -1,4 +1,5 @@
--- Where a range is cut at the edges of words. No public clause cites this module.
+-- No public clause cites this module.
+-- Where a range is cut at the edges of words.
 use Rattle.std.specs.Prelude.{◌≡◌, ℕ, ◌*◌, ◌/◌, ◌%◌, ◌≤◌, ◌⊎◌}
 use Rattle.std.specs.Int.{div_ceil}
 

@@ -1,3 +1,4 @@
+-- No public clause cites this module.
 -- Values of `Bits` are told apart by their lengths and their positions.
 use Rattle.std.specs.Prelude.{◌≡◌, ℕ}
 use Rattle.std.specs.Ordering.{nat_cmp}

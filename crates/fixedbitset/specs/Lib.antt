@@ -1,3 +1,4 @@
+-- to believe
 pub mod Numbers
 pub mod Bits
 pub mod Ranges
@@ -8,6 +9,8 @@ pub mod Extended
 pub mod Order
 pub mod Text
 pub mod Json
+
+-- facts for callers
 pub mod NumbersFacts
 pub mod BitsFacts
 pub mod AddFacts
@@ -21,7 +24,9 @@ pub mod MemberFacts
 pub mod WordsFacts
 pub mod OrderFacts
 pub mod TextFacts
-pub mod BitsCode
-pub mod Stored
 pub mod BlocksFacts
 pub mod JsonFacts
+
+-- private, but Stored for callers who keep the words of a set
+pub mod BitsCode
+pub mod Stored

@@ -1,4 +1,5 @@
--- What holds of the sets of facts before and after each round. No public clause cites it.
+-- No public clause cites this module.
+-- What holds of the sets of facts before and after each round.
 use Rattle.std.specs.Prelude.{ℕ, ◌<◌, ◌↔◌, ◌⊎◌, IsTrue, length, slice_set, All, Contains, sum_by, count_by}
 use Rattle.std.specs.List.{range_with_len}
 use Rattle.fixedbitset.specs.Bits.{Bits, contains, empty}
