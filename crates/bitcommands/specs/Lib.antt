@@ -8,10 +8,8 @@ pub mod Table
 pub mod Steps
 pub mod Texts
 pub mod Outcomes
-
 -- facts for callers
 pub mod TextsFacts
-
 -- private
 pub mod Joints
 pub mod Quoting

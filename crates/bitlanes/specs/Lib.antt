@@ -7,7 +7,6 @@ pub mod Range
 pub mod Search
 pub mod Word
 pub mod Words
-
 -- facts for callers
 pub mod BitLaws
 pub mod RangeFacts

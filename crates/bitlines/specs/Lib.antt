@@ -12,7 +12,6 @@ pub mod StepLaws
 pub mod Output
 pub mod OutputLaws
 pub mod Program
-
 -- private
 pub mod Cursor
 pub mod OneLine

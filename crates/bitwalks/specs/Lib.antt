@@ -1,6 +1,5 @@
 -- to believe
 pub mod Pairs
-
 -- facts for callers
 pub mod PairsFacts
 pub mod SieveFacts

@@ -3,14 +3,12 @@ pub mod Rows
 pub mod Steps
 pub mod Ascending
 pub mod Walk
-
 -- facts for callers
 pub mod AscendingFacts
 pub mod CountFacts
 pub mod RowFacts
 pub mod CallFacts
 pub mod WalkFacts
-
 -- private, but WalkedWords for callers who keep the parts of a cursor
 pub mod Cuts
 pub mod WalkedWords

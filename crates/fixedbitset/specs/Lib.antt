@@ -9,7 +9,6 @@ pub mod Extended
 pub mod Order
 pub mod Text
 pub mod Json
-
 -- facts for callers
 pub mod NumbersFacts
 pub mod BitsFacts
@@ -26,7 +25,6 @@ pub mod OrderFacts
 pub mod TextFacts
 pub mod BlocksFacts
 pub mod JsonFacts
-
 -- private, but Stored for callers who keep the words of a set
 pub mod BitsCode
 pub mod Stored

@@ -1,0 +1,288 @@
+//! Sets that are compared, sorted, hashed and printed: as keys of maps as a user has them, beside a slow order, and by
+//! their texts.
+ghost use Rattle.std.specs.Prelude.{◌≡◌, ◌≢◌, ◌↔◌, IsTrue, IfOk, None, Some};
+
+use fixedbitset::FixedBitSet;
+use std::alloc::Global;
+use std::cmp::Ordering;
+use std::collections::{BTreeMap, BTreeSet, HashMap, HashSet};
+use std::fmt::{Binary, Formatter};
+use std::process::Abort;
+use std::test::Fail;
+use test_values::slow::filled;
+
+// ---- callers, proved by the public contracts alone
+
+/// Whether two sets are the same value.
+#[tactic(auto, using(fixedbitset::specs::OrderFacts::facts))]
+fn alike(a: &FixedBitSet, b: &FixedBitSet) -> bool
+    ensures { IsTrue result ↔ (a.now ≡ b.now) }
+{
+    a == b
+}
+
+/// What a tree that has the first set finds at the second.
+#[tactic(auto, using(fixedbitset::specs::OrderFacts::facts))]
+fn found_in_tree(
+    alloc: Global,
+    first: FixedBitSet,
+    second: &FixedBitSet,
+) -> Result<Option<usize>, Fail>
+    ensures same { IfOk result (λ found. first ≡ second.now → found ≡ Some 7) }
+    ensures other { IfOk result (λ found. first ≢ second.now → found ≡ None) }
+{
+    let mut map = BTreeMap::new(alloc);
+    map.insert(first, 7)?;
+    Ok(map.get(second).copied())
+}
+
+/// What a table that has the first set finds at the second.
+#[tactic(auto, using(fixedbitset::specs::OrderFacts::facts))]
+fn found_in_table(
+    alloc: Global,
+    first: FixedBitSet,
+    second: &FixedBitSet,
+) -> Result<Option<usize>, Fail>
+    ensures same { IfOk result (λ found. first ≡ second.now → found ≡ Some 7) }
+    ensures other { IfOk result (λ found. first ≢ second.now → found ≡ None) }
+{
+    let mut map: HashMap<FixedBitSet, usize> = HashMap::new(alloc);
+    map.insert(first, 7)?;
+    Ok(map.get(second).copied())
+}
+
+#[test]
+fn a_key_is_found(rt: HostRuntime) -> Result<(), Fail> {
+    let one = set_of(rt.alloc(), 70, &[3, 69])?;
+    let two = set_of(rt.alloc(), 70, &[69, 3])?;
+    let other = set_of(rt.alloc(), 71, &[3, 69])?;
+    assert!(rt; alike(&one, &two));
+    assert!(rt; !alike(&one, &other));
+    assert_eq!(rt; found_in_tree(rt.alloc(), one.clone()?, &two)?, Some(7));
+    assert_eq!(rt; found_in_tree(rt.alloc(), one.clone()?, &other)?, None);
+    assert_eq!(rt; found_in_table(rt.alloc(), one.clone()?, &two)?, Some(7));
+    assert_eq!(rt; found_in_table(rt.alloc(), one, &other)?, None);
+    Ok(())
+}
+
+// ---- worked values
+
+// The set of this length and these positions, as far as they are below it.
+fn set_of(alloc: Global, length: usize, positions: &[usize]) -> Result<FixedBitSet, Fail> {
+    let mut set = FixedBitSet::with_capacity(alloc, length)?;
+    for position in positions {
+        if *position < set.len() {
+            set.insert(*position);
+        }
+    }
+    Ok(set)
+}
+
+// Seven sets, each less than the next.
+const ASCENDING: [(usize, &[usize]); 7] = [
+    (0, &[]),
+    (3, &[0]),
+    (3, &[1]),
+    (3, &[0, 1]),
+    (4, &[]),
+    (128, &[64]),
+    (128, &[1]),
+];
+
+fn ascending(alloc: Global) -> Result<Vec<FixedBitSet>, Fail> {
+    let mut sets = Vec::new(alloc);
+    for (length, positions) in ASCENDING {
+        sets.push(set_of(alloc, length, positions)?)?;
+    }
+    Ok(sets)
+}
+
+#[test]
+fn maps_keep_each_key_once(rt: HostRuntime) -> Result<(), Fail> {
+    let mut tree = BTreeSet::new(rt.alloc());
+    let mut tree_map = BTreeMap::new(rt.alloc());
+    let mut table = HashSet::new(rt.alloc());
+    let mut table_map = HashMap::new(rt.alloc());
+    for _ in 0..2 {
+        for (place, set) in ascending(rt.alloc())?.into_iter().enumerate() {
+            tree.insert(set.clone()?)?;
+            tree_map.insert(set.clone()?, place)?;
+            table.insert(set.clone()?)?;
+            table_map.insert(set, place)?;
+        }
+    }
+    assert_eq!(rt; (tree.len(), tree_map.len()), (7, 7));
+    assert_eq!(rt; (table.len(), table_map.len()), (7, 7));
+    for (place, set) in ascending(rt.alloc())?.iter().enumerate() {
+        assert!(rt; tree.contains(set) && table.contains(set));
+        assert_eq!(rt; tree_map.get(set), Some(&place));
+        assert_eq!(rt; table_map.get(set), Some(&place));
+    }
+    assert!(rt; tree.iter().eq(ascending(rt.alloc())?.iter()));
+    assert!(rt; tree_map.values().copied().eq(0..7));
+    Ok(())
+}
+
+#[test]
+fn a_list_of_sets_is_sorted_and_searched(rt: HostRuntime) -> Result<(), Fail> {
+    let mut sets = ascending(rt.alloc())?;
+    for set in ascending(rt.alloc())? {
+        sets.push(set)?;
+    }
+    sets.reverse();
+    sets.sort()?;
+    sets.dedup();
+    let wanted = ascending(rt.alloc())?;
+    assert!(rt; sets == wanted);
+    assert!(rt; sets.iter().max() == wanted.last());
+    assert!(rt; sets.iter().min() == wanted.first());
+    for (place, set) in wanted.iter().enumerate() {
+        assert!(rt; sets.binary_search(set) == Ok(place));
+    }
+    let between = set_of(rt.alloc(), 3, &[2])?;
+    assert!(rt; sets.binary_search(&between) == Err(4));
+    Ok(())
+}
+
+#[test]
+fn the_greatest_position_of_the_first_stretch_decides(rt: HostRuntime) -> Result<(), Fail> {
+    let late = set_of(rt.alloc(), 128, &[64])?;
+    let early = set_of(rt.alloc(), 128, &[1])?;
+    assert!(rt; late < early);
+    let spread = set_of(rt.alloc(), 128, &[0, 3])?;
+    let single = set_of(rt.alloc(), 128, &[4])?;
+    assert!(rt; spread < single);
+    assert!(rt; spread.max(single.clone()?) == single);
+    Ok(())
+}
+
+#[test]
+fn the_shorter_set_is_less(rt: HostRuntime) -> Result<(), Fail> {
+    let short = set_of(rt.alloc(), 3, &[1])?;
+    let long = set_of(rt.alloc(), 4, &[1])?;
+    assert!(rt; short != long);
+    assert!(rt; short < long);
+    assert!(rt; short.is_subset(&long) && long.is_subset(&short));
+    Ok(())
+}
+
+// ---- beside a slow order
+
+// The order of two slow values: the shorter is less, and then the last flag that differs in the first 64 that do.
+fn slow_order(a: &[bool], b: &[bool]) -> Ordering {
+    if a.len() != b.len() {
+        return a.len().cmp(&b.len());
+    }
+    for (first, second) in a.chunks(64).zip(b.chunks(64)) {
+        for (has, wants) in first.iter().zip(second.iter()).rev() {
+            if has != wants {
+                return has.cmp(wants);
+            }
+        }
+    }
+    Ordering::Equal
+}
+
+// Each pair of the slow values compares as their sets do.
+fn assert_compares(rt: &impl Abort, all: &[Vec<bool>], sets: &[FixedBitSet]) {
+    for (flags, set) in all.iter().zip(sets.iter()) {
+        for (other_flags, other) in all.iter().zip(sets.iter()) {
+            let wanted = slow_order(flags, other_flags);
+            assert_eq!(rt; set.cmp(other), wanted);
+            assert_eq!(rt; set.partial_cmp(other), Some(wanted));
+            assert_eq!(rt; set == other, wanted == Ordering::Equal);
+            assert_eq!(rt; set < other, wanted == Ordering::Less);
+        }
+    }
+}
+
+// The flags of this length in which `chosen[i]` is set where `number` has bit `i`.
+fn flags_of(
+    alloc: Global,
+    length: usize,
+    chosen: &[usize],
+    number: usize,
+) -> Result<Vec<bool>, Fail> {
+    let mut flags = vec![in alloc; false; length]?;
+    for (bit, position) in chosen.iter().enumerate() {
+        if *position < flags.len() && bit < 64 {
+            flags[*position] = number >> bit & 1 == 1;
+        }
+    }
+    Ok(flags)
+}
+
+fn sets_of(alloc: Global, all: &[Vec<bool>]) -> Result<Vec<FixedBitSet>, Fail> {
+    let mut sets = Vec::new(alloc);
+    for flags in all {
+        sets.push(filled(alloc, flags)?)?;
+    }
+    Ok(sets)
+}
+
+#[test]
+fn every_pair_of_small_sets_compares(rt: HostRuntime) -> Result<(), Fail> {
+    let mut all = Vec::new(rt.alloc());
+    for length in 0..7 {
+        for number in 0..1 << length {
+            all.push(flags_of(rt.alloc(), length, &[0, 1, 2, 3, 4, 5], number)?)?;
+        }
+    }
+    assert_eq!(rt; all.len(), 127);
+    assert_compares(&rt, &all, &sets_of(rt.alloc(), &all)?);
+    Ok(())
+}
+
+#[test]
+fn pairs_of_three_stretches_compare(rt: HostRuntime) -> Result<(), Fail> {
+    let mut all = Vec::new(rt.alloc());
+    for length in [129, 191] {
+        for number in 0..128 {
+            all.push(flags_of(rt.alloc(), length, &[0, 1, 63, 64, 65, 127, 128], number)?)?;
+        }
+    }
+    assert_compares(&rt, &all, &sets_of(rt.alloc(), &all)?);
+    Ok(())
+}
+
+// ---- texts
+
+#[test]
+fn a_text_has_a_character_for_each_position(rt: HostRuntime) -> Result<(), Fail> {
+    let set = set_of(rt.alloc(), 4, &[2])?;
+    assert_eq!(rt; set.to_string(rt.alloc())?.as_str(), "0010");
+    assert_eq!(rt; format!(in rt.alloc(); "{set:>20}")?.as_str(), "0010");
+    assert_eq!(rt; format!(in rt.alloc(); "{set:#}")?.as_str(), "0b0010");
+    assert_eq!(rt; format!(in rt.alloc(); "{set:020}")?.as_str(), "0010");
+    assert_eq!(rt;
+        FixedBitSet::new(rt.alloc()).to_string(rt.alloc())?.as_str(),
+        ""
+    );
+    let two = set_of(rt.alloc(), 8, &[2, 4])?;
+    assert_eq!(rt; two.to_string(rt.alloc())?.as_str(), "00101000");
+    assert_eq!(rt; format!(in rt.alloc(); "{two:#}")?.as_str(), "0b00101000");
+    let mut binary = Formatter::new(String::new(rt.alloc()));
+    Binary::fmt(&two, &mut binary)?;
+    assert_eq!(rt; binary.into_inner().as_str(), "00101000");
+    let items = FixedBitSet::from_iter(rt.alloc(), [1, 5, 7, 10, 14, 15]).expect(&rt, "one word");
+    assert_eq!(rt; items.to_string(rt.alloc())?.as_str(), "0100010100100011");
+    Ok(())
+}
+
+#[test]
+fn a_text_crosses_words(rt: HostRuntime) -> Result<(), Fail> {
+    for length in 0..200 {
+        let flags = flags_of(
+            rt.alloc(),
+            length,
+            &[0, 1, 63, 64, 65, 127, 128, 191, 192],
+            511,
+        )?;
+        let text = filled(rt.alloc(), &flags)?.to_string(rt.alloc())?;
+        assert_eq!(rt; text.len(), length);
+        for (digit, flag) in text.bytes().zip(flags.iter()) {
+            assert_eq!(rt; digit, if *flag { b'1' } else { b'0' });
+        }
+    }
+    Ok(())
+}

@@ -1,0 +1,119 @@
+//! The calls of a set against the slow value, at every length up to 130.
+
+use fixedbitset::FixedBitSet;
+use std::process::Abort;
+use std::test::Fail;
+use test_values::slow::{filled, is_same, multiples};
+
+#[test]
+fn a_new_set_has_length_zero(rt: HostRuntime) {
+    let set = FixedBitSet::new(rt.alloc());
+    assert!(rt; is_same(&set, &[]));
+}
+
+// ---- single positions
+
+// A call on one position. `Put` has the answer that is wanted.
+#[derive(Clone, Copy)]
+enum Call {
+    Put(bool),
+    Toggle,
+    Remove,
+    Insert,
+    Set(bool),
+}
+
+fn call_at(rt: &impl Abort, set: &mut FixedBitSet, position: usize, call: Call) {
+    assert!(rt; position < set.len());
+    match call {
+        Call::Put(before) => assert!(rt; set.put(position) == before),
+        Call::Toggle => set.toggle(position),
+        Call::Remove => set.remove(position),
+        Call::Insert => set.insert(position),
+        Call::Set(enabled) => set.set(position, enabled),
+    }
+}
+
+// The calls in order change this position alone, and leave it as the row says.
+fn assert_changes(
+    rt: &impl Abort,
+    set: &mut FixedBitSet,
+    flags: &mut [bool],
+    position: usize,
+    rows: &[(Call, bool)],
+) {
+    assert!(rt; position < flags.len());
+    for (call, is_set) in rows {
+        call_at(rt, set, position, *call);
+        flags[position] = *is_set;
+        assert!(rt;
+            is_same(set, flags),
+            "position {position} of {}",
+            flags.len()
+        );
+    }
+}
+
+// Changes one position by each call, and leaves every third position set.
+fn assert_each_changes(
+    rt: &impl Abort,
+    set: &mut FixedBitSet,
+    flags: &mut [bool],
+    position: usize,
+) {
+    for enabled in [true, false] {
+        let rows = [
+            (Call::Put(!enabled), true),
+            (Call::Toggle, false),
+            (Call::Toggle, true),
+            (Call::Remove, false),
+            (Call::Set(enabled), enabled),
+        ];
+        assert_changes(rt, set, flags, position, &rows);
+    }
+    if position % 3 == 0 {
+        assert_changes(rt, set, flags, position, &[(Call::Insert, true)]);
+    }
+}
+
+#[test]
+fn each_call_changes_its_position_alone(rt: HostRuntime) -> Result<(), Fail> {
+    for length in 0..131 {
+        let mut set = FixedBitSet::with_capacity(rt.alloc(), length)?;
+        let mut flags = vec![in rt.alloc(); false; length]?;
+        assert!(rt; is_same(&set, &flags));
+        for position in 0..length {
+            assert_each_changes(&rt, &mut set, flags.as_mut_slice(), position);
+        }
+    }
+    Ok(())
+}
+
+// ---- growth
+
+#[test]
+fn growing_keeps_the_positions(rt: HostRuntime) -> Result<(), Fail> {
+    for length in 0..131 {
+        for bits in 0..131 {
+            let mut flags = multiples(rt.alloc(), length, 5)?;
+            let mut set = filled(rt.alloc(), &flags)?;
+            set.grow(bits)?;
+            flags.resize(length.max(bits), false)?;
+            assert!(rt; is_same(&set, &flags), "{length} grown to {bits}");
+        }
+    }
+    Ok(())
+}
+
+// A length that no memory holds: the refused call leaves the set as it was.
+#[test]
+fn refused_growth_changes_nothing(rt: HostRuntime) -> Result<(), Fail> {
+    let mut set = FixedBitSet::with_capacity(rt.alloc(), 70)?;
+    assert!(rt; set.len() == 70);
+    set.insert(69);
+    assert!(rt; set.grow(usize::MAX).is_err());
+    assert_eq!(rt; set.len(), 70);
+    assert_eq!(rt; set.as_slice(), [0, 32].as_slice());
+    assert!(rt; FixedBitSet::with_capacity(rt.alloc(), usize::MAX).is_err());
+    Ok(())
+}

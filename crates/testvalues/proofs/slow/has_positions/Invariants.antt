@@ -1,6 +1,0 @@
-use Rattle.testvalues.specs.Slow.{HasPositionsTo}
-use Rattle.testvalues.proofs.slow.has_positions.Given as goal
-
--- the positions so far are set as the flags are
-abbrev pub invariant-loop-position : goal.invariant-loop-position
-invariant-loop-position l = HasPositionsTo l.position l.set l.flags
