@@ -16,7 +16,7 @@ TOP = pathlib.Path(__file__).resolve().parent.parent
 KINDS = {
     "usize": "word", "Block": "word", "size_t": "word", "uint64_t": "word",
     "isize": "signed", "ptrdiff_t": "signed",
-    "bool": "bool", "": "none", "void": "none",
+    "bool": "bool", "&mut bool": "bool*", "bool *": "bool*", "": "none", "void": "none",
     "&mut usize": "word*", "&mut Block": "word*", "uint64_t *": "word*", "size_t *": "word*",
     "&mut [Block]": "word* word", "&[Block]": "const word* word",
     "NonNull<usize>": "word*", "const uint64_t *": "const word*",

@@ -160,6 +160,12 @@ bool bits_symmetric_difference_with(bits *set, const bits *other);
 void bits_intersect_with(bits *set, const bits *other);
 /* Leaves the positions that the second lacks, and the length. */
 void bits_difference_with(bits *set, const bits *other);
+/* As bits_union_with, and answers at `changed` whether a position came in; nothing is written there if none is changed. */
+bool bits_union_with_change(bits *set, const bits *other, bool *changed);
+/* As bits_intersect_with, and answers whether a position went. */
+bool bits_intersect_with_change(bits *set, const bits *other);
+/* As bits_difference_with, and answers whether a position went. */
+bool bits_difference_with_change(bits *set, const bits *other);
 /* How many positions are in either. */
 size_t bits_union_count(const bits *set, const bits *other);
 /* How many positions are in both. */

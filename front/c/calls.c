@@ -70,6 +70,12 @@ static void pairs(void) {
     assert(bits_count_ones(&c, 0, 70) == 2 && bits_maximum(&c) == 69);
     bits_difference_with(&b, &c);
     assert(bits_count_ones(&b, 0, 70) == 1 && bits_minimum(&b) == 3);
+    bool changed = true;
+    assert(!bits_union_with_change(&a, &b, &changed) && changed && bits_count_ones(&a, 0, 10) == 2);
+    assert(bits_union_with_change(&c, &b, &changed) && changed && bits_count_ones(&c, 0, 70) == 3);
+    assert(bits_union_with_change(&c, &b, &changed) && !changed && bits_count_ones(&c, 0, 70) == 3);
+    assert(bits_intersect_with_change(&c, &b) && !bits_intersect_with_change(&c, &b) && bits_equal(&c, &b));
+    assert(bits_difference_with_change(&c, &b) && !bits_difference_with_change(&c, &b) && bits_is_clear(&c));
     free(a.words);
     free(b.words);
     free(c.words);

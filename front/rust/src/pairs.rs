@@ -56,6 +56,56 @@ impl FixedBitSet {
         raw::bits_symmetric_difference_with(&mut self.words.lent_mut(), &other.words.lent());
     }
 
+    /// [`union_with`](Self::union_with), with the answer whether a position came in. The length may become greater even where
+    /// none came in. Upstream has no such call.
+    ///
+    /// ```
+    /// # use fixedbitset::FixedBitSet;
+    /// let mut set: FixedBitSet = [1, 2].into_iter().collect();
+    /// let other = [2, 4].into_iter().collect();
+    /// assert!(set.union_with_change(&other) && !set.union_with_change(&other));
+    /// assert_eq!(set.to_string(), "01101");
+    /// ```
+    #[inline]
+    pub fn union_with_change(&mut self, other: &FixedBitSet) -> bool {
+        self.grow(other.len());
+        let mut changed = false;
+        raw::bits_union_with_change(
+            &mut self.words.lent_mut(),
+            &other.words.lent(),
+            &mut changed,
+        );
+        changed
+    }
+
+    /// [`intersect_with`](Self::intersect_with), with the answer whether a position went. Upstream has no such call.
+    ///
+    /// ```
+    /// # use fixedbitset::FixedBitSet;
+    /// let mut set: FixedBitSet = [1, 2].into_iter().collect();
+    /// let other = [2, 4].into_iter().collect();
+    /// assert!(set.intersect_with_change(&other) && !set.intersect_with_change(&other));
+    /// assert_eq!(set.to_string(), "001");
+    /// ```
+    #[inline]
+    pub fn intersect_with_change(&mut self, other: &FixedBitSet) -> bool {
+        raw::bits_intersect_with_change(&mut self.words.lent_mut(), &other.words.lent())
+    }
+
+    /// [`difference_with`](Self::difference_with), with the answer whether a position went. Upstream has no such call.
+    ///
+    /// ```
+    /// # use fixedbitset::FixedBitSet;
+    /// let mut set: FixedBitSet = [1, 2].into_iter().collect();
+    /// let other = [2, 4].into_iter().collect();
+    /// assert!(set.difference_with_change(&other) && !set.difference_with_change(&other));
+    /// assert_eq!(set.to_string(), "010");
+    /// ```
+    #[inline]
+    pub fn difference_with_change(&mut self, other: &FixedBitSet) -> bool {
+        raw::bits_difference_with_change(&mut self.words.lent_mut(), &other.words.lent())
+    }
+
     /// How many positions are in either set.
     ///
     /// ```

@@ -92,6 +92,13 @@ unsafe extern "C" {
     pub safe fn bits_symmetric_difference_with(set: &mut Lent<'_>, other: &Lent<'_>) -> bool;
     pub safe fn bits_intersect_with(set: &mut Lent<'_>, other: &Lent<'_>);
     pub safe fn bits_difference_with(set: &mut Lent<'_>, other: &Lent<'_>);
+    pub safe fn bits_union_with_change(
+        set: &mut Lent<'_>,
+        other: &Lent<'_>,
+        changed: &mut bool,
+    ) -> bool;
+    pub safe fn bits_intersect_with_change(set: &mut Lent<'_>, other: &Lent<'_>) -> bool;
+    pub safe fn bits_difference_with_change(set: &mut Lent<'_>, other: &Lent<'_>) -> bool;
     pub safe fn bits_union_count(set: &Lent<'_>, other: &Lent<'_>) -> usize;
     pub safe fn bits_intersection_count(set: &Lent<'_>, other: &Lent<'_>) -> usize;
     pub safe fn bits_difference_count(set: &Lent<'_>, other: &Lent<'_>) -> usize;
