@@ -1,7 +1,7 @@
 -- The text of a list, from the front.
-use Rattle.std.proofs.Common.{◌≡◌, ℕ, ◌+◌, ◌<◌, ◌≤◌, List, [], ◌∷◌, ◌++◌, length, take, get_or, sym, ap, ◌∙◌, append-nil, append_assoc}
+use Rattle.std.proofs.Common.{◌≡◌, ℕ, ◌≤◌, List, [], ◌∷◌, ◌++◌, length, take, sym, ap, ◌∙◌, append-nil, append_assoc}
 use Rattle.std.specs.List.{flat_map}
-use Rattle.std.proofs.lemmas.List.{flat_map_more, take_more, take_all}
+use Rattle.std.proofs.lemmas.List.{take_all}
 use Rattle.bitcommands.specs.Texts.{spaced_text}
 
 module _ {A : Type 0} (text : A → List ℕ) where
@@ -13,9 +13,6 @@ module _ {A : Type 0} (text : A → List ℕ) where
   spaced_text-cons : (x : A) (xs : List A) → spaced_text text (x ∷ xs) ≡ text x ++ flat_map spaced xs
   spaced_text-cons x [] = sym (append-nil (text x))
   spaced_text-cons x (y ∷ ys) = ap (λ t. text x ++ 32 ∷ t) (spaced_text-cons y ys)
-
-  pub spaced_more : (xs : List A) (i : ℕ) (d : A) → i < length xs → flat_map spaced (take i xs) ++ spaced (get_or xs i d) ≡ flat_map spaced (take (i + 1) xs)
-  spaced_more xs i d lt = flat_map_more spaced [] (take i xs) (get_or xs i d) ∙ ap (flat_map spaced) (sym (take_more xs i d lt))
 
   pub spaced_text-from : (list : List A) (x : A) (xs : List A) (i : ℕ) → list ≡ x ∷ xs → length xs ≤ i → text x ++ flat_map spaced (take i xs) ≡ spaced_text text list
   spaced_text-from list x xs i e past = ap (λ t. text x ++ flat_map spaced t) (take_all i xs past) ∙ sym (ap (spaced_text text) e ∙ spaced_text-cons x xs)

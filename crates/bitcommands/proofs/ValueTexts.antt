@@ -14,9 +14,6 @@ module _ {W : Type 0} (took : W → List ℕ → W → Type 0) where
     pub no_float : items_have_float left ≡ false
     pub begun : HasBegun took f (items_text later left) (items_text false whole) g
 
-  pub all_items : (f : Formatter W) (ds : Items) → items_have_float ds ≡ false → IsPlainFormatter f → ItemsLeft f false ds ds f
-  all_items f ds none plain = record { no_float = none; begun = nothing_yet took f (items_text false ds) plain }
-
   pub next_item : (f g h k : Formatter W) (later : Bool) (left : Items) (d : Data) (ds whole : Items) → ItemsLeft f later left whole g → left ≡ item d ds → HasWritten took g (comma_if later) h
       → (has_float d ≡ false → HasWritten took h (compact_text d) k) → ItemsLeft f true ds whole k
   next_item f g h k later left d ds whole l is first second =

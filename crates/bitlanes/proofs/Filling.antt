@@ -91,16 +91,23 @@ are_zeros : (k : ℕ) → list_all (λ w. w == 0) (replicate k 0) ≡ true
 are_zeros zero = refl
 are_zeros (suc k) = are_zeros k
 
--- where each word of the whole lanes is 0, the last lane tells of all
-pub all_part : (k n : ℕ) (xs : List ℕ) → 4 * k + n ≡ length xs → list_all (λ w. w == 0) (take (4 * k) xs) ≡ true → list_all (λ w. w == 0) (filled (4 * k) n xs) ≡ list_all (λ w. w == 0) xs
-all_part k n xs e zeros =
+-- each word is 0 exactly if those of the whole lanes are and those of the last lane
+pub all_with_part : (k n : ℕ) (xs : List ℕ) → 4 * k + n ≡ length xs → (list_all (λ w. w == 0) (take (4 * k) xs) && list_all (λ w. w == 0) (filled (4 * k) n xs)) ≡ list_all (λ w. w == 0) xs
+all_with_part k n xs e =
     let p = λ (w : ℕ). w == 0 in
+    ap (λ b. list_all p (take (4 * k) xs) && b) (
     list_all-append p (chunk (4 * k) n xs) (replicate (4 - n) 0)
     ∙ ap (λ b. list_all p (chunk (4 * k) n xs) && b) (are_zeros (4 - n))
-    ∙ and-true (list_all p (chunk (4 * k) n xs))
-    ∙ ap (λ b. b && list_all p (chunk (4 * k) n xs)) (sym zeros)
+    ∙ and-true (list_all p (chunk (4 * k) n xs)))
     ∙ sym (list_all-append p (take (4 * k) xs) (chunk (4 * k) n xs))
     ∙ ap (list_all p) (split_last k n xs e)
+
+pub all_joined_with_part : (f : ℕ → ℕ → ℕ) (k n : ℕ) (xs ys : List ℕ) → 4 * k + n ≡ min (length xs) (length ys) → (list_all (λ w. w == 0) (take (4 * k) (zip2 f xs ys)) && list_all (λ w. w == 0) (filled (4 * k) n (zip2 f xs ys))) ≡ list_all (λ w. w == 0) (zip2 f xs ys)
+all_joined_with_part f k n xs ys e = all_with_part k n (zip2 f xs ys) (e ∙ sym (length_joined f xs ys))
+
+-- where each word of the whole lanes is 0, the last lane tells of all
+pub all_part : (k n : ℕ) (xs : List ℕ) → 4 * k + n ≡ length xs → list_all (λ w. w == 0) (take (4 * k) xs) ≡ true → list_all (λ w. w == 0) (filled (4 * k) n xs) ≡ list_all (λ w. w == 0) xs
+all_part k n xs e zeros = ap (λ b. b && list_all (λ w. w == 0) (filled (4 * k) n xs)) (sym zeros) ∙ all_with_part k n xs e
 
 pub all_joined_part : (f : ℕ → ℕ → ℕ) (k n : ℕ) (xs ys : List ℕ) → 4 * k + n ≡ min (length xs) (length ys) → list_all (λ w. w == 0) (take (4 * k) (zip2 f xs ys)) ≡ true → list_all (λ w. w == 0) (filled (4 * k) n (zip2 f xs ys)) ≡ list_all (λ w. w == 0) (zip2 f xs ys)
 all_joined_part f k n xs ys e zeros = all_part k n (zip2 f xs ys) (e ∙ sym (length_joined f xs ys)) zeros

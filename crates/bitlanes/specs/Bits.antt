@@ -1,3 +1,4 @@
+-- A bit of a word, what two bits make, and the bits of one word that another lacks.
 use Rattle.std.specs.Prelude.{ℕ, Bool, true, false, ◌==◌, not, bit_and}
 use Rattle.std.specs.Int.{bit_at, bit_not, w64}
 

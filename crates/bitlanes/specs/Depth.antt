@@ -1,3 +1,4 @@
+-- The depth of a tally: how many steps it has counted.
 use Rattle.std.specs.Prelude.{ℕ, ◌+◌}
 use Rattle.bitlanes.specs.declared.counter.Tally.{Tally}
 use Rattle.bitlanes.specs.declared.counter.Tally.TheVariants.{Zero, Next'}

@@ -1,5 +1,6 @@
 -- to believe
 pub mod Bits
+pub mod Changes
 pub mod Depth
 pub mod Ones
 pub mod Ops
@@ -9,4 +10,5 @@ pub mod Word
 pub mod Words
 -- facts for callers
 pub mod BitLaws
+pub mod ChangeFacts
 pub mod RangeFacts

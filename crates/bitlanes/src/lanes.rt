@@ -324,7 +324,7 @@ pub(crate) fn is_zero(lane: u64x4) -> bool
 // The last one to three words, from `at` on, and zeros. They are read by tests, for a copy of as many words as are left
 // would be a call of `memcpy`.
 #[inline(always)]
-fn part_at(words: &[Block], at: usize, rest: usize) -> u64x4
+pub(crate) fn part_at(words: &[Block], at: usize, rest: usize) -> u64x4
     requires some { 0 < rest }
     requires few { rest < 4 }
     requires within { at + rest ≤ length words.now }
@@ -337,7 +337,7 @@ fn part_at(words: &[Block], at: usize, rest: usize) -> u64x4
 
 // Writes the first one to three words of the lane, from `at` on, by tests as `part_at` reads them.
 #[inline(always)]
-fn put_part(words: &mut [Block], at: usize, rest: usize, lane: u64x4)
+pub(crate) fn put_part(words: &mut [Block], at: usize, rest: usize, lane: u64x4)
     requires some { 0 < rest }
     requires few { rest < 4 }
     requires within { at + rest ≤ length words.old }

@@ -1,5 +1,5 @@
 -- The algebra of joins is proved, member by member.
-use Rattle.std.proofs.Common.{◌≡◌, ℕ, ◌<◌, ◌≤◌, Bool, true, false, not, ◌&&◌, ◌||◌, nat_lt, inl, inr, refl, sym, ap, ◌∙◌, arith, ⊎_elim}
+use Rattle.std.proofs.Common.{◌≡◌, ℕ, ◌<◌, ◌≤◌, Bool, true, not, ◌&&◌, ◌||◌, nat_lt, inl, inr, sym, ap, ◌∙◌, arith, ⊎_elim}
 use Rattle.std.proofs.Math.Bool.{or_comm, or_assoc, and_comm, and_assoc, and_self, and-or_distrib_left, or-and_distrib_left}
 use Rattle.std.proofs.lemmas.Bool.{lt-ltb}
 use Rattle.bitlanes.specs.Bits.{either}
@@ -13,47 +13,30 @@ use Rattle.bitlaws.specs.JoinLaws.{Commutes, Associates, IsIdempotent, Absorbs, 
 -- ---- truth tables
 
 either_comm : (a b : Bool) → either a b ≡ either b a
-either_comm true true = refl
-either_comm true false = refl
-either_comm false true = refl
-either_comm false false = refl
+either_comm a b = grind arith
 
 either_assoc : (a b c : Bool) → either (either a b) c ≡ either a (either b c)
-either_assoc true true true = refl
-either_assoc true true false = refl
-either_assoc true false true = refl
-either_assoc true false false = refl
-either_assoc false b c = refl
+either_assoc a b c = grind arith
 
 absorbed : (a b : Bool) → (a && (a || b)) ≡ a
-absorbed true b = refl
-absorbed false b = refl
+absorbed a b = grind arith
 
 absorbing : (a b : Bool) → (a || (a && b)) ≡ a
-absorbing true b = refl
-absorbing false b = refl
+absorbing a b = grind arith
 
 -- what is within, and not in either, is within and not in the one, and within and not in the other
 none_within : (b a c : Bool) → (b && not (a || c)) ≡ ((b && not a) && (b && not c))
-none_within true true c = refl
-none_within true false c = refl
-none_within false a c = refl
+none_within b a c = grind arith
 
 -- what is within, and not in both, is within and not in the one, or within and not in the other
 some_within : (b a c : Bool) → (b && not (a && c)) ≡ ((b && not a) || (b && not c))
-some_within true true c = refl
-some_within true false c = refl
-some_within false a c = refl
+some_within b a c = grind arith
 
 not_twice : (b c : Bool) → (c ≡ true → b ≡ true) → (b && not (b && not c)) ≡ c
-not_twice true true within = refl
-not_twice true false within = refl
-not_twice false true within = within refl
-not_twice false false within = refl
+not_twice b c f = grind arith
 
 lacking : (b a c : Bool) → (a ≡ true → b ≡ true) → (a && not c) ≡ (a && (b && not c))
-lacking b true c within = rw (within refl) refl
-lacking b false c within = refl
+lacking b a c f = grind arith
 
 -- ---- joins
 

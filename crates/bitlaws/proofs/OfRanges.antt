@@ -1,5 +1,5 @@
 -- The laws of ranges are proved.
-use Rattle.std.proofs.Common.{◌≡◌, ℕ, ◌-◌, ◌*◌, ◌/◌, ◌<◌, ◌≤◌, max, Bool, true, false, cond, ◌&&◌, nat_lt, nat_le, refl, sym, ap, ◌∙◌, arith, ⊎_elim}
+use Rattle.std.proofs.Common.{◌≡◌, ℕ, ◌-◌, ◌*◌, ◌/◌, ◌<◌, ◌≤◌, max, Bool, true, cond, ◌&&◌, nat_lt, nat_le, sym, ap, ◌∙◌, arith, ⊎_elim}
 use Rattle.std.specs.FinSet as set
 use Rattle.std.proofs.lemmas.Bool.{cases_lt, lt-ltb, le-ltb, le-leb, ltb-true, leb-true, and_from, and_parts}
 use Rattle.std.proofs.lemmas.Bool.Decides.{nat_tests}
@@ -43,12 +43,7 @@ number_of_range_words start end words same =
 -- ---- a change undone
 
 twice : (a r l : Bool) → (a ≡ true → l ≡ true) → (either (either a r && l) r && l) ≡ a
-twice true true l h = let e : l ≡ true = h refl in rw e
-twice true false l h = let e : l ≡ true = h refl in rw e
-twice false true true h = refl
-twice false true false h = refl
-twice false false true h = refl
-twice false false false h = refl
+twice a r l f = grind arith
 
 pub toggling_twice : TogglingTwice
 toggling_twice v start end = same_bits _ _ (length-toggle_range _ start end ∙ length-toggle_range v start end) (λ p.

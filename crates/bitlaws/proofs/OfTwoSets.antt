@@ -1,5 +1,5 @@
 -- The counts of two sets against one another, and sets that are within one another.
-use Rattle.std.proofs.Common.{◌≡◌, ℕ, ◌+◌, ◌<◌, max, ⊎_elim, Bool, true, false, not, ◌&&◌, ◌||◌, refl, sym, ap, ◌∙◌, arith}
+use Rattle.std.proofs.Common.{◌≡◌, ℕ, ◌+◌, ◌<◌, max, ⊎_elim, Bool, true, false, not, ◌&&◌, ◌||◌, sym, ap, ◌∙◌, arith}
 use Rattle.std.specs.Ordering.{nat_cmp}
 use Rattle.std.specs.Cmp.{nat_cmp_total}
 use Rattle.std.specs.FinSet as set
@@ -19,14 +19,10 @@ use Rattle.bitlaws.specs.TwoSetLaws.{SubsetBothWays, StepsBound, StepsOfEqual}
 -- the parts of a union and of a symmetric difference
 module _ (n : ℕ) (s t : FinSet nat_cmp) (below_s : (p : ℕ) → set.contains s p ≡ true → p < n) (below_t : (p : ℕ) → set.contains t p ≡ true → p < n) where
   in_second : (a b : Bool) → ((a || b) && b) ≡ b
-  in_second true b = refl
-  in_second false true = refl
-  in_second false false = refl
+  in_second a b = grind arith
 
   in_first_alone : (a b : Bool) → ((a || b) && not b) ≡ (a && not b)
-  in_first_alone true b = refl
-  in_first_alone false true = refl
-  in_first_alone false false = refl
+  in_first_alone a b = grind arith
 
   union-inside : set.intersection (set.union s t) t ≡ t
   union-inside = same_set _ _ (λ p.
@@ -46,16 +42,10 @@ module _ (n : ℕ) (s t : FinSet nat_cmp) (below_s : (p : ℕ) → set.contains 
       omega (arith, whole, len-split n s t below_s)
 
   one_inside : (a b : Bool) → (either a b && a) ≡ (a && not b)
-  one_inside true true = refl
-  one_inside true false = refl
-  one_inside false true = refl
-  one_inside false false = refl
+  one_inside a b = grind arith
 
   one_outside : (a b : Bool) → (either a b && not a) ≡ (b && not a)
-  one_outside true true = refl
-  one_outside true false = refl
-  one_outside false true = refl
-  one_outside false false = refl
+  one_outside a b = grind arith
 
   symmetric_difference-inside : set.intersection (symmetric_difference s t) s ≡ set.difference s t
   symmetric_difference-inside = same_set _ _ (λ p.
@@ -72,8 +62,7 @@ module _ (n : ℕ) (s t : FinSet nat_cmp) (below_s : (p : ℕ) → set.contains 
       ∙ sym (set.contains-difference nat_cmp_total t s p))
 
   in_some : (a b : Bool) → either a b ≡ true → (a || b) ≡ true
-  in_some true b one = refl
-  in_some false b one = one
+  in_some a b f = grind arith
 
   pub symmetric_difference-sizes : set.len (symmetric_difference s t) ≡ set.len (set.difference s t) + set.len (set.difference t s)
   symmetric_difference-sizes = len-split n (symmetric_difference s t) s (λ p one. ⊎_elim (below_s p) (below_t p) (or_cases _ _ (in_some (set.contains s p) _ (sym (contains-symmetric_difference s t p) ∙ one)))) ∙ (λ i. set.len (symmetric_difference-inside i) + set.len (symmetric_difference-outside i))

@@ -1,6 +1,6 @@
 //! Two whole sets, of any two lengths. The words of a set that is changed may not be those of the other.
 
-ghost use Rattle.std.specs.Prelude.{◌≡◌, nat_le, if◌then◌else◌};
+ghost use Rattle.std.specs.Prelude.{◌≡◌, nat_le, not, if◌then◌else◌};
 ghost use Rattle.bits_c.specs.Sets.{value, sign};
 ghost use Rattle.fixedbitset.specs.Order as order;
 ghost use Rattle.fixedbitset.specs.TwoSets as sets;
@@ -55,6 +55,46 @@ pub extern "C" fn bits_difference_with(set: &mut Set<'_>, other: &Set<'_>)
     ensures { value set.new ≡ sets.difference (value set.old) (value other.now) }
 {
     lent::difference_with(set.words, set.length, other.words, other.length);
+}
+
+/// As `bits_union_with`, and answers at `changed` whether a position came in. Where the second is longer, nothing is
+/// written there.
+#[unsafe(no_mangle)]
+pub extern "C" fn bits_union_with_change(
+    set: &mut Set<'_>,
+    other: &Set<'_>,
+    changed: &mut bool,
+) -> bool
+    ensures told { result ≡ nat_le other.now.length set.old.length }
+    ensures value { value set.new
+        ≡ (if result then sets.union (value set.old) (value other.now) else value set.old) }
+    ensures changed { changed.new ≡ (if result
+        then not (sets.is_subset (value other.now) (value set.old)) else changed.old) }
+{
+    if other.length <= set.length {
+        *changed = lent::union_with_change(set.words, set.length, other.words, other.length);
+        true
+    } else {
+        false
+    }
+}
+
+/// Leaves the positions of both sets, and the length, and answers whether a position went.
+#[unsafe(no_mangle)]
+pub extern "C" fn bits_intersect_with_change(set: &mut Set<'_>, other: &Set<'_>) -> bool
+    ensures value { value set.new ≡ sets.intersection (value set.old) (value other.now) }
+    ensures changed { result ≡ not (sets.is_subset (value set.old) (value other.now)) }
+{
+    lent::intersect_with_change(set.words, set.length, other.words, other.length)
+}
+
+/// Leaves the positions of the first set that the second lacks, and the length, and answers whether a position went.
+#[unsafe(no_mangle)]
+pub extern "C" fn bits_difference_with_change(set: &mut Set<'_>, other: &Set<'_>) -> bool
+    ensures value { value set.new ≡ sets.difference (value set.old) (value other.now) }
+    ensures changed { result ≡ not (sets.is_disjoint (value set.old) (value other.now)) }
+{
+    lent::difference_with_change(set.words, set.length, other.words, other.length)
 }
 
 /// How many positions are in either set.

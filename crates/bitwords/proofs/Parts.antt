@@ -4,10 +4,9 @@ use Rattle.std.proofs.lemmas.Bool.{cases_lt, lt-ltb, le-ltb, le-leb, and_left, a
 use Rattle.std.proofs.lemmas.Bool.Decides.{nat_tests}
 use Rattle.std.proofs.lemmas.Nat.Bits.{bit_at_ones, bit_at_ones_above}
 use Rattle.bitlanes.specs.Bits.{bit}
-use Rattle.bitlanes.specs.Words.{lane_steps}
 use Rattle.bitwords.specs.Cuts.{IsCut}
 use Rattle.bitwords.specs.Rows.{in_range}
-use Rattle.bitwords.specs.Steps.{range_words, whole_words, search_steps}
+use Rattle.bitwords.specs.Steps.{range_words}
 
 in_word : (start end i : ℕ) → start < end → end ≤ 64 * (start / 64) + 64 → (nat_le (start % 64) i && nat_lt i (start % 64 + (end - start))) ≡ (nat_lt i 64 && in_range start end (64 * (start / 64) + i))
 in_word start end i some one_word = grind (arith, nat_tests)
@@ -25,15 +24,6 @@ masked_whole k i =
     (cases_lt i 64)
 
 module _ (start end low high : ℕ) (is : IsCut start end low high) where
-  pub first_part : low ≤ 64 * (start / 64) + 64
-  first_part = omega (arith, is.first_word)
-
-  pub last_part : end ≤ 64 * (high / 64) + 64
-  last_part = ⊎_elim (λ e. omega (arith, e, is.middle, is.last)) (λ e. omega (arith, e.1, is.last_word, is.last)) is.whole
-
-  pub whole_part : low / 64 ≤ high / 64
-  whole_part = omega (arith, is.middle)
-
   -- the words between have the positions between
   pub between : (p : ℕ) → in_range (64 * (low / 64)) (64 * (high / 64)) p ≡ in_range low high p
   between p =
@@ -49,15 +39,3 @@ module _ (start end low high : ℕ) (is : IsCut start end low high) where
       (λ e. let a : low ≡ end = e in let b : high ≡ end = omega (arith, is.middle, is.last) in grind (arith, nat_tests, is.first_word))
       (λ e. let a = e.0 in let b = e.1 in grind (arith, nat_tests, is.first, is.middle, is.last, is.first_word, is.last_word))
       is.whole
-
-  -- the steps of a search over the three parts
-  pub parts_steps : range_words start low + lane_steps (high / 64 - low / 64) + range_words high end ≡ search_steps start end
-  parts_steps =
-      let wholes : whole_words start end ≡ high / 64 - low / 64 =
-      ⊎_elim
-      (λ e. let a : low ≡ end = e in let b : high ≡ end = omega (arith, is.middle, is.last) in omega (arith, is.first_word))
-      (λ e. omega (arith, e.0, e.1, is.first, is.last, is.first_word, is.last_word))
-      is.whole
-      in
-      ap (λ n. range_words start low + lane_steps n + range_words high end) (sym wholes)
-      ∙ (let sum = parts_words in omega (arith, wholes))

@@ -2,16 +2,17 @@
 //!
 //! The words that both rows have are joined by a kernel of `bitlanes`, by lanes of four; the rest of the longer row is
 //! cleared, counted or left, as the operation says.
-ghost use Rattle.std.specs.Prelude.{[], ◌≡◌, ◌<◌, ◌≤◌, ◌+◌, ◌-◌, ◌*◌, ◌^◌, ◌==◌, ◌++◌, IsTrue, IfOk, OnOk, true, false, length, max, drop, sum_by, if◌then◌else◌};
+ghost use Rattle.std.specs.Prelude.{[], ◌≡◌, ◌<◌, ◌≤◌, ◌+◌, ◌-◌, ◌*◌, ◌^◌, ◌==◌, ◌++◌, not, IsTrue, IfOk, OnOk, true, false, length, max, drop, sum_by, if◌then◌else◌};
 ghost use Rattle.std.specs.Int.RustNames.{count_ones};
 ghost use Rattle.std.specs.List.{list_all};
 ghost use Rattle.std.specs.Simd.Lanes.{zip2};
+ghost use Rattle.bitlanes.specs.Changes.{changes};
 ghost use Rattle.bitlanes.specs.Words.{zip_longest, lane_steps};
 ghost use Rattle.bitwords.specs.Rows.{has_bit, IsJoined, count_below, bits_test};
 ghost use Rattle.bitwords.specs.Steps.{join_steps, both_steps};
 
 use bitlanes::ops::WordOp;
-use bitlanes::{Block, Steps, lanes};
+use bitlanes::{Block, Steps, changes, lanes};
 use std::alloc::{AllocError, Global};
 
 // From how many words on a new row is written as it is joined. A shorter one is copied and then joined, which is quicker
@@ -38,6 +39,33 @@ pub fn join<O: WordOp>(words: &mut [Block], other: &[Block], steps: &mut Steps)
     if !O::KEEP && common < words.len() {
         lanes::zero(&mut words[common..], steps);
     }
+}
+
+/// Joins each position of `words` with that of `other` by `O`, and answers whether one changed. Where the operation takes
+/// positions that only `other` has, `other` may not be longer.
+///
+/// It takes exactly the steps of [`join`]: each word is read once.
+///
+/// ```
+/// let mut words = [11, 3, 1];
+/// assert!(rt; joins::join_with_change::<And>(&mut words, &[9, 6], &mut Steps::new()));
+/// assert_eq!(rt; words, [9, 2, 0]);
+/// ```
+#[inline(always)]
+pub fn join_with_change<O: WordOp>(words: &mut [Block], other: &[Block], steps: &mut Steps) -> bool
+    requires shorter { O.TAKE ≡ true → length other.now ≤ length words.old }
+    ensures bits { IsJoined O.truth words.old (has_bit other.now) words.new }
+    ensures changed { result ≡ not (count_below (bits_test (changes O.truth) words.old other.now)
+        (64 * max (length words.old) (length other.now)) == 0) }
+    ensures cost { steps.new ≡ steps.old + join_steps O.KEEP (length words.old) (length other.now) }
+{
+    let joined = changes::apply::<O>(words, other, steps);
+    let common = other.len();
+    if !O::KEEP && common < words.len() {
+        let cleared = changes::zero(&mut words[common..], steps);
+        return joined || cleared;
+    }
+    joined
 }
 
 /// How many positions are set in `a` joined with `b` by `O`. It asks that this number fits `usize`.

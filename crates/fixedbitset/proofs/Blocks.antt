@@ -1,5 +1,5 @@
 -- Words written anew: from an iterator, one alone, or cut at a length; and words that are made 0.
-use Rattle.std.proofs.Common.{◌≡◌, ◌≢◌, ℕ, zero, suc, ◌-◌, ◌*◌, ◌/◌, ◌%◌, ◌^◌, ◌<◌, ◌≤◌, min, Bool, true, false, cond, ◌&&◌, ◌==◌, nat_lt, List, [], ◌∷◌, ◌++◌, drop, replicate, length, set, bit_and, refl, sym, ap, ◌∙◌, arith, ⊎_elim}
+use Rattle.std.proofs.Common.{◌≡◌, ◌≢◌, ℕ, zero, suc, ◌-◌, ◌*◌, ◌/◌, ◌%◌, ◌^◌, ◌<◌, ◌≤◌, min, max, Bool, true, false, cond, ◌&&◌, ◌==◌, nat_lt, List, [], ◌∷◌, ◌++◌, drop, replicate, length, set, bit_and, refl, sym, ap, ◌∙◌, arith, ⊎_elim}
 use Rattle.std.proofs.lemmas.Bool.{cases_lt, cases_eq, lt-ltb, le-ltb, eq-eqb, ne_eqb, and_left, and_right}
 use Rattle.std.proofs.lemmas.Bool.Decides.{nat_tests}
 use Rattle.std.proofs.lemmas.List.{length-set}
@@ -7,12 +7,12 @@ use Rattle.bitlanes.specs.Bits.{bit}
 use Rattle.bitlanes.specs.BitLaws.{bit-and}
 use Rattle.bitwords.specs.Rows.{has_bit, IsJoined}
 use Rattle.bitwords.specs.RowFacts.{has_bit-past, has_bit-same}
-use Rattle.fixedbitset.specs.Bits.{Bits, contains, empty, set_block, words_needed, storage_words, words, of_words}
-use Rattle.fixedbitset.specs.BitsFacts.{same_bits, last_holds}
+use Rattle.fixedbitset.specs.Bits.{Bits, empty, grow, set_block, words_needed, storage_words, words, of_words}
+use Rattle.fixedbitset.specs.BitsFacts.{same_bits, length-grow, contains-grow}
 use Rattle.fixedbitset.specs.Stored.{IsClean}
 use Rattle.fixedbitset.specs.WordsFacts.{length-of_words, contains-of_words, length-words, has_bit-written, length-set_block, contains-set_block}
-use Rattle.fixedbitset.proofs.Growth.{zeros, get_or-zeros, IsClean_replicate, of_replicate}
-use Rattle.fixedbitset.proofs.Words.{contains-of_clean, viewed_length}
+use Rattle.fixedbitset.proofs.Growth.{grow_same, zeros, get_or-zeros, IsClean_replicate, of_replicate}
+use Rattle.fixedbitset.proofs.Words.{contains_word, contains-of_clean, viewed_length}
 
 -- ---- from an iterator
 
@@ -29,27 +29,32 @@ drop-zeros (suc k) zero = let e : 0 ≡ 0 - suc k = omega arith in ap zeros e
 drop-zeros (suc k) (suc m) = drop-zeros k m ∙ (let e : m - k ≡ suc m - suc k = omega arith in ap zeros e)
 
 stays : (a b : Bool) → b ≡ true → a ≡ (a && b)
-stays true b e = sym e
-stays false b e = refl
+stays a b f = grind arith
 
--- words with no bit past the length, of which the old ones may have some
-module _ (n : ℕ) (fits : n < 2 ^ 64) (old new : List ℕ) (long : length old ≡ storage_words n) (done : IsJoined (λ x y. x && y) old (λ p. nat_lt p n) new) where
-  has_bit-cut : (p : ℕ) → has_bit new p ≡ (has_bit old p && nat_lt p n)
-  has_bit-cut p =
+-- the bits from `kept` on are cleared
+module _ (n kept : ℕ) (fits : n < 2 ^ 64) (fewer : kept ≤ n) (old new : List ℕ) (long : length old ≡ storage_words n) (done : IsJoined (λ x y. x && y) old (λ p. nat_lt p kept) new) where
+  has_bit-settled : (p : ℕ) → has_bit new p ≡ (has_bit old p && nat_lt p kept)
+  has_bit-settled p =
       ⊎_elim
       (λ (lt : p < 64 * length old). done.bits p lt)
-      (λ (ge : 64 * length old ≤ p). has_bit-past new p (omega (arith, done.long)) ∙ sym (and_right _ _ (le-ltb p n (omega arith))))
+      (λ (ge : 64 * length old ≤ p). has_bit-past new p (omega (arith, done.long)) ∙ sym (and_right _ _ (le-ltb p kept (omega (arith, long)))))
       (cases_lt p (64 * length old))
 
+  pub IsClean_settled : IsClean n new
+  IsClean_settled = record { fits = fits; count = done.long ∙ long; tail = λ p past. has_bit-settled p ∙ and_right _ _ (le-ltb p kept (omega arith)) }
+
+  pub of_settled : of_words n new ≡ grow (of_words kept old) n
+  of_settled = same_bits _ _
+      (length-of_words n new ∙ (let e : n ≡ max kept n = omega arith in e) ∙ ap (λ k. max k n) (sym (length-of_words kept old)) ∙ sym (length-grow (of_words kept old) n))
+      (λ p. contains-of_clean n new IsClean_settled p ∙ has_bit-settled p ∙ sym (contains-of_words kept old p) ∙ sym (contains-grow (of_words kept old) n p))
+
+-- words whose bits past the length are cleared
+module _ (n : ℕ) (fits : n < 2 ^ 64) (old new : List ℕ) (long : length old ≡ storage_words n) (done : IsJoined (λ x y. x && y) old (λ p. nat_lt p n) new) where
   pub IsClean_cut : IsClean n new
-  IsClean_cut = record { fits = fits; count = done.long ∙ long; tail = λ p past. has_bit-cut p ∙ and_right _ _ (le-ltb p n past) }
+  IsClean_cut = IsClean_settled n n fits (omega arith) old new long done
 
   of-cut : of_words n new ≡ of_words n old
-  of-cut = same_bits _ _ (length-of_words n new ∙ sym (length-of_words n old)) (λ p.
-      contains-of_words n new p
-      ∙ ap (λ b. b && nat_lt p n) (has_bit-cut p)
-      ∙ last_holds (has_bit old p) (nat_lt p n) (nat_lt p n) (λ e. e)
-      ∙ sym (contains-of_words n old p))
+  of-cut = of_settled n n fits (omega arith) old new long done ∙ sym (grow_same n n old _ refl (omega arith))
 
   -- the items, and 0 for each word that none came for
   pub of_filled : (items : List ℕ) → old ≡ items ++ drop (length items) (replicate (storage_words n) 0) → of_words n new ≡ of_words n items
@@ -63,16 +68,13 @@ module _ (n : ℕ) (fits : n < 2 ^ 64) (old new : List ℕ) (long : length old �
 
 -- ---- one word alone
 
-pub viewed_index : (n : ℕ) (ws : List ℕ) (v : Bits) (index : ℕ) → of_words n ws ≡ v → IsClean n ws → index < length (words v) → index < length ws
-viewed_index n ws v index view clean within = omega (arith, clean.count, length-words v, viewed_length n ws v view)
-
-pub viewed_needed : (n : ℕ) (ws : List ℕ) (v : Bits) (index : ℕ) → of_words n ws ≡ v → index < length (words v) → index < words_needed n
-viewed_needed n ws v index view within = omega (arith, length-words v, viewed_length n ws v view)
+pub index_needed : (n : ℕ) (ws : List ℕ) (v : Bits) (index : ℕ) → of_words n ws ≡ v → index < length (words v) → index < words_needed n
+index_needed n ws v index view within = omega (arith, length-words v, viewed_length n ws v view)
 
 -- the word is written with the bits alone that stand below the length
-module _ (n : ℕ) (ws : List ℕ) (v : Bits) (index value mask : ℕ) (view : of_words n ws ≡ v) (clean : IsClean n ws) (within : index < length (words v)) (masked : (i : ℕ) → bit mask i ≡ nat_lt i (min (n - 64 * index) 64)) where
-  inside : index < length ws
-  inside = viewed_index n ws v index view clean within
+module _ (n : ℕ) (ws : List ℕ) (index value mask : ℕ) (clean : IsClean n ws) (within : index < words_needed n) (masked : (i : ℕ) → bit mask i ≡ nat_lt i (min (n - 64 * index) 64)) where
+  pub block_inside : index < length ws
+  block_inside = omega (arith, clean.count)
 
   word_at : (p : ℕ) → p / 64 ≡ index → bit (bit_and value mask) (p % 64) ≡ (bit value (p % 64) && nat_lt p n)
   word_at p at =
@@ -87,7 +89,7 @@ module _ (n : ℕ) (ws : List ℕ) (v : Bits) (index value mask : ℕ) (view : o
 
   has_bit-block : (p : ℕ) → has_bit (set ws index (bit_and value mask)) p ≡ (cond (p / 64 == index) (bit value (p % 64)) (has_bit ws p) && nat_lt p n)
   has_bit-block p =
-      has_bit-written ws index (bit_and value mask) p inside
+      has_bit-written ws index (bit_and value mask) p block_inside
       ∙ ⊎_elim
       (λ (at : p / 64 ≡ index). let t : (p / 64 == index) ≡ true = eq-eqb _ _ at in rw t (word_at p at))
       (λ (other : p / 64 ≢ index). let t : (p / 64 == index) ≡ false = ne_eqb _ _ other in rw t (kept_at p))
@@ -100,24 +102,21 @@ module _ (n : ℕ) (ws : List ℕ) (v : Bits) (index value mask : ℕ) (view : o
     tail = λ p past. has_bit-block p ∙ and_right _ _ (le-ltb p n past);
   }
 
-  pub of_block : of_words n (set ws index (bit_and value mask)) ≡ set_block v index value
-  of_block =
-      let long : n ≡ v.length = viewed_length n ws v view in
-      same_bits _ _ (length-of_words n _ ∙ long ∙ sym (length-set_block v index value)) (λ p.
+  pub of_block : of_words n (set ws index (bit_and value mask)) ≡ set_block (of_words n ws) index value
+  of_block = same_bits _ _ (length-of_words n _ ∙ sym (length-set_block (of_words n ws) index value ∙ length-of_words n ws)) (λ p.
       contains-of_clean n _ IsClean_block p
       ∙ has_bit-block p
-      ∙ (let a = sym (contains-of_clean n ws clean p) ∙ ap (λ u. contains u p) view in λ i. cond (p / 64 == index) (bit value (p % 64)) (a i) && nat_lt p (long i))
-      ∙ sym (contains-set_block v index value p (omega (arith, within, length-words v))))
+      ∙ (let a = contains_word n ws p clean in let long = sym (length-of_words n ws) in λ i. cond (p / 64 == index) (bit value (p % 64)) (a i) && nat_lt p (long i))
+      ∙ sym (contains-set_block (of_words n ws) index value p (rw (length-of_words n ws) within)))
 
 -- ---- words that are all 0
 
--- each word is made 0
-module _ (n : ℕ) (ws old new : List ℕ) (clean : IsClean n ws) (read : old ≡ ws) (zeroed : new ≡ replicate (length old) 0) where
+module _ (n : ℕ) (ws new : List ℕ) (clean : IsClean n ws) (zeroed : new ≡ replicate (length ws) 0) where
   are_zeros : new ≡ zeros (storage_words n)
-  are_zeros = zeroed ∙ ap zeros (ap length read ∙ clean.count)
+  are_zeros = zeroed ∙ ap zeros clean.count
 
   pub IsClean_zeroed : IsClean n new
   IsClean_zeroed = rw are_zeros (IsClean_replicate n clean.fits)
 
-  pub of_zeroed : (v : Bits) → of_words n ws ≡ v → of_words n new ≡ empty v.length
-  of_zeroed v view = rw are_zeros (of_replicate n clean.fits ∙ ap empty (viewed_length n ws v view))
+  pub of_zeroed : of_words n new ≡ empty n
+  of_zeroed = rw are_zeros (of_replicate n clean.fits)

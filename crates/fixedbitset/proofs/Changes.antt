@@ -2,7 +2,7 @@
 use Rattle.std.proofs.Common.{◌≡◌, ◌≢◌, ℕ, zero, suc, ◌+◌, ◌*◌, ◌/◌, ◌%◌, ◌^◌, ◌<◌, ◌≤◌, Bool, true, false, cond, not, ◌==◌, List, [], length, get_or, set, refl, sym, ap, ◌∙◌, arith, ⊎_elim, bit_or, bit_and, bit_xor, lit<}
 use Rattle.std.specs.Int.{bit_at, bit_not, w64}
 use Rattle.std.proofs.lemmas.Bool.{cases_eq, eq-eqb, ne_eqb}
-use Rattle.std.proofs.lemmas.List.{get_or-set_same, get_or-set_other, length-set, get_or_default}
+use Rattle.std.proofs.lemmas.List.{get_or-set_same, get_or-set_other, length-set}
 use Rattle.std.proofs.lemmas.Nat.{one_shl}
 use Rattle.std.proofs.lemmas.Nat.Bits.{bit_at_set_same, bit_at_set_other, bit_at_clear_same, bit_at_clear_other, bit_at_xor, bit_at-pow_same, bit_at-pow_other, bit_at-lt, bit_at-zero}
 use Rattle.bitlanes.specs.BitLaws.{test_of_and}
@@ -12,7 +12,7 @@ use Rattle.fixedbitset.specs.Bits.{Bits, contains, insert, remove, set_bit, togg
 use Rattle.fixedbitset.specs.BitsFacts.{same_bits, length-set_bit, contains-set_bit, length-empty, contains-empty, contains-past}
 use Rattle.fixedbitset.specs.Stored.{IsClean}
 use Rattle.fixedbitset.proofs.Values.{length-of_words}
-use Rattle.fixedbitset.proofs.Words.{contains-of_clean, viewed_length}
+use Rattle.fixedbitset.proofs.Words.{contains-of_clean}
 
 -- the word has b at bit j, and else the bits of the old one
 pub record ChangesBit (old new j : ℕ) (b : Bool) : Type 0 where
@@ -37,8 +37,7 @@ ChangesBit-flip x j h = record {
 }
 
 indicator_is_one : (b : Bool) → (indicator b == 1) ≡ b
-indicator_is_one true = refl
-indicator_is_one false = refl
+indicator_is_one b = grind arith
 
 -- the words with word bit / 64 replaced by one that has b at bit mod 64
 pub has_bit-set : (ws : List ℕ) (bit new : ℕ) (b : Bool) → bit / 64 < length ws → ChangesBit (get_or ws (bit / 64) 0) new (bit % 64) b → (p : ℕ) → has_bit (set ws (bit / 64) new) p ≡ cond (p == bit) b (has_bit ws p)
@@ -92,51 +91,40 @@ IsClean-nil = record { fits = lit< tt; count = refl; tail = λ p _. no_bits p }
 pub of-nil : of_words 0 [] ≡ empty 0
 of-nil = same_bits _ _ (length-of_words 0 [] ∙ sym (length-empty 0)) (λ p. contains-of_clean 0 [] IsClean-nil p ∙ no_bits p ∙ sym (contains-empty 0 p))
 
--- ---- one bit of a value that is seen by its fields: x is the word that is read
-module _ (n : ℕ) (ws : List ℕ) (v : Bits) (bit x : ℕ) where
-  pub viewed_place : of_words n ws ≡ v → IsClean n ws → bit < v.length → bit / 64 < length ws
-  viewed_place view clean inside = place_within n bit ws clean (rw (viewed_length n ws v view) inside)
+-- ---- one bit of words, of which x is the one that has it
+module _ (n : ℕ) (ws : List ℕ) (bit : ℕ) (clean : IsClean n ws) (inside : bit < n) where
+  abbrev x : ℕ
+  x = get_or ws (bit / 64) 0
 
-  pub of-set_bit : (new : ℕ) (b : Bool) → of_words n ws ≡ v → IsClean n ws → bit < v.length → x ≡ get_or ws (bit / 64) x → ChangesBit x new (bit % 64) b → (of_words n (set ws (bit / 64) new) ≡ set_bit v bit b) × IsClean n (set ws (bit / 64) new)
-  of-set_bit new b view clean inside read changes =
-      let below : bit < n = rw (viewed_length n ws v view) inside in
-      let word : x ≡ get_or ws (bit / 64) 0 = read ∙ get_or_default ws (bit / 64) x 0 (place_within n bit ws clean below) in
-      let at : ChangesBit (get_or ws (bit / 64) 0) new (bit % 64) b = rw (← word) changes in
-      (of-set n bit ws new b below clean at ∙ ap (λ w. set_bit w bit b) view, IsClean-set n bit ws new b below clean at)
-
-  pub of_insert : of_words n ws ≡ v → IsClean n ws → bit < v.length → x ≡ get_or ws (bit / 64) x → of_words n (set ws (bit / 64) (bit_or x (1 * 2 ^ (bit % 64) % 2 ^ 64))) ≡ insert v bit
+  pub insert_of : of_words n (set ws (bit / 64) (bit_or x (1 * 2 ^ (bit % 64) % 2 ^ 64))) ≡ insert (of_words n ws) bit
   unfolding set_bit
-  of_insert view clean inside read = (of-set_bit _ true view clean inside read (ChangesBit-set x (bit % 64) (omega arith))).0
+  insert_of = of-set n bit ws _ true inside clean (ChangesBit-set x (bit % 64) (omega arith))
 
-  pub IsClean_insert : of_words n ws ≡ v → IsClean n ws → bit < v.length → x ≡ get_or ws (bit / 64) x → IsClean n (set ws (bit / 64) (bit_or x (1 * 2 ^ (bit % 64) % 2 ^ 64)))
-  IsClean_insert view clean inside read = (of-set_bit _ true view clean inside read (ChangesBit-set x (bit % 64) (omega arith))).1
+  pub insert_clean : IsClean n (set ws (bit / 64) (bit_or x (1 * 2 ^ (bit % 64) % 2 ^ 64)))
+  insert_clean = IsClean-set n bit ws _ true inside clean (ChangesBit-set x (bit % 64) (omega arith))
 
-  pub of_remove : of_words n ws ≡ v → IsClean n ws → bit < v.length → x ≡ get_or ws (bit / 64) x → of_words n (set ws (bit / 64) (bit_and x (bit_not w64 (1 * 2 ^ (bit % 64) % 2 ^ 64)))) ≡ remove v bit
+  pub remove_of : of_words n (set ws (bit / 64) (bit_and x (bit_not w64 (1 * 2 ^ (bit % 64) % 2 ^ 64)))) ≡ remove (of_words n ws) bit
   unfolding set_bit
-  of_remove view clean inside read = (of-set_bit _ false view clean inside read (ChangesBit-clear x (bit % 64) (omega arith))).0
+  remove_of = of-set n bit ws _ false inside clean (ChangesBit-clear x (bit % 64) (omega arith))
 
-  pub IsClean_remove : of_words n ws ≡ v → IsClean n ws → bit < v.length → x ≡ get_or ws (bit / 64) x → IsClean n (set ws (bit / 64) (bit_and x (bit_not w64 (1 * 2 ^ (bit % 64) % 2 ^ 64))))
-  IsClean_remove view clean inside read = (of-set_bit _ false view clean inside read (ChangesBit-clear x (bit % 64) (omega arith))).1
+  pub remove_clean : IsClean n (set ws (bit / 64) (bit_and x (bit_not w64 (1 * 2 ^ (bit % 64) % 2 ^ 64))))
+  remove_clean = IsClean-set n bit ws _ false inside clean (ChangesBit-clear x (bit % 64) (omega arith))
 
-  -- whether the word that is read has the bit
-  pub viewed_bit : of_words n ws ≡ v → IsClean n ws → bit < v.length → x ≡ get_or ws (bit / 64) x → (bit_at x (bit % 64) == 1) ≡ contains v bit
+  -- whether the word has the bit
+  word_bit : (bit_at x (bit % 64) == 1) ≡ contains (of_words n ws) bit
   unfolding has_bit
-  viewed_bit view clean inside read =
-      let below : bit < n = rw (viewed_length n ws v view) inside in
-      let word : x ≡ get_or ws (bit / 64) 0 = read ∙ get_or_default ws (bit / 64) x 0 (place_within n bit ws clean below) in
-      ap (λ w. bit_at w (bit % 64) == 1) word ∙ sym (contains-of_clean n ws clean bit) ∙ ap (λ w. contains w bit) view
+  word_bit = sym (contains-of_clean n ws clean bit)
 
-  pub of_toggle : of_words n ws ≡ v → IsClean n ws → bit < v.length → x ≡ get_or ws (bit / 64) x → of_words n (set ws (bit / 64) (bit_xor x (1 * 2 ^ (bit % 64) % 2 ^ 64))) ≡ toggle v bit
+  pub toggle_of : of_words n (set ws (bit / 64) (bit_xor x (1 * 2 ^ (bit % 64) % 2 ^ 64))) ≡ toggle (of_words n ws) bit
   unfolding toggle
-  of_toggle view clean inside read =
-      (of-set_bit _ _ view clean inside read (ChangesBit-flip x (bit % 64) (omega arith))).0 ∙ ap (λ b. set_bit v bit (not b)) (viewed_bit view clean inside read)
+  toggle_of = of-set n bit ws _ _ inside clean (ChangesBit-flip x (bit % 64) (omega arith)) ∙ ap (λ b. set_bit (of_words n ws) bit (not b)) word_bit
 
-  pub IsClean_toggle : of_words n ws ≡ v → IsClean n ws → bit < v.length → x ≡ get_or ws (bit / 64) x → IsClean n (set ws (bit / 64) (bit_xor x (1 * 2 ^ (bit % 64) % 2 ^ 64)))
-  IsClean_toggle view clean inside read = (of-set_bit _ _ view clean inside read (ChangesBit-flip x (bit % 64) (omega arith))).1
+  pub toggle_clean : IsClean n (set ws (bit / 64) (bit_xor x (1 * 2 ^ (bit % 64) % 2 ^ 64)))
+  toggle_clean = IsClean-set n bit ws _ _ inside clean (ChangesBit-flip x (bit % 64) (omega arith))
 
-  -- the test `word & (1 << k) != 0`, of a position below the length of the value
-  pub viewed_mask : of_words n ws ≡ v → IsClean n ws → bit < v.length → x ≡ get_or ws (bit / 64) x → not (bit_and x (1 * 2 ^ (bit % 64) % 2 ^ 64) == 0) ≡ contains v bit
-  viewed_mask view clean inside read = test_of_and x (bit % 64) (omega arith) ∙ viewed_bit view clean inside read
+  -- the test `word & (1 << k) != 0`
+  pub read_bit : not (bit_and x (1 * 2 ^ (bit % 64) % 2 ^ 64) == 0) ≡ contains (of_words n ws) bit
+  read_bit = test_of_and x (bit % 64) (omega arith) ∙ word_bit
 
 -- no position past the length is set
 pub none_past : (v : Bits) (bit : ℕ) → v.length ≤ bit → false ≡ contains v bit

@@ -1,5 +1,5 @@
 -- The characters of a set, those of one word after the other.
-use Rattle.std.proofs.Common.{◌≡◌, ℕ, ◌+◌, ◌*◌, ◌<◌, ◌≤◌, Bool, true, false, if◌then◌else◌, List, ◌++◌, map, length, take, get_or, refl, sym, ap, ◌∙◌, arith}
+use Rattle.std.proofs.Common.{◌≡◌, ℕ, ◌+◌, ◌*◌, ◌<◌, ◌≤◌, Bool, if◌then◌else◌, List, ◌++◌, map, length, take, get_or, refl, sym, ap, ◌∙◌, arith}
 use Rattle.std.specs.List.{range_with_len}
 use Rattle.std.specs.Int.{bit_at}
 use Rattle.std.specs.Str.{IsUtf8}
@@ -32,8 +32,7 @@ digits_are_text word count digits h d =
     omega arith))
 
 digit_is : (b : Bool) → 48 + indicator b ≡ (if b then 49 else 48)
-digit_is true = refl
-digit_is false = refl
+digit_is b = grind arith
 
 -- the digits of a word are the characters of its positions
 pub characters_of_word : (v : Bits) (k count : ℕ) (digits : List ℕ) → count ≤ 64 → AreDigits (word v k) digits → take count digits ≡ characters v (64 * k) count

@@ -1,5 +1,5 @@
 -- Two values of one length are equal exactly if no position is in one of them alone.
-use Rattle.std.proofs.Common.{◌≡◌, ◌≢◌, Bool, true, false, ◌==◌, refl, sym, ap, ◌∙◌}
+use Rattle.std.proofs.Common.{arith, ◌≡◌, ◌≢◌, Bool, false, ◌==◌, sym, ap, ◌∙◌}
 use Rattle.std.proofs.lemmas.Bool.{false_from_ne_true}
 use Rattle.bitlanes.specs.Bits.{either}
 use Rattle.fixedbitset.specs.Numbers.{symmetric_difference}
@@ -14,14 +14,10 @@ use Rattle.fixedbitset.specs.TwoSets.{symmetric_difference_count}
 use Rattle.fixedbitset.proofs.JoinedCounts.{symmetric_difference_count_of}
 
 not_one : (a b : Bool) → either a b ≡ false → a ≡ b
-not_one true true e = refl
-not_one true false e = e
-not_one false true e = sym e
-not_one false false e = refl
+not_one a b f = grind arith
 
 not_alone : (a : Bool) → either a a ≡ false
-not_alone true = refl
-not_alone false = refl
+not_alone a = grind arith
 
 -- no position is in one of the two alone exactly if they are equal
 none_alone : (v w : Bits) → v.length ≡ w.length → (symmetric_difference_count v w == 0) ≡ equal v w

@@ -4,7 +4,7 @@ use Rattle.std.specs.Ordering.{nat_cmp}
 use Rattle.std.specs.Cmp.{nat_cmp_total}
 use Rattle.std.specs.FinSet as set
 use Rattle.std.specs.FinSet.{FinSet}
-use Rattle.std.proofs.lemmas.Bool.{or_cases, and_parts, true≢false}
+use Rattle.std.proofs.lemmas.Bool.{or_cases, and_parts}
 use Rattle.std.proofs.lemmas.Bool.Decides.{nat_tests}
 use Rattle.bitlanes.specs.Bits.{either}
 use Rattle.bitlanes.specs.Ops.{IsWordOp}
@@ -19,6 +19,7 @@ use Rattle.fixedbitset.specs.BitsFacts.{contains_below}
 use Rattle.fixedbitset.specs.Ranges.{count_ones, count_zeroes, contains_all, contains_any}
 use Rattle.fixedbitset.specs.Stored.{count_joined, range_set}
 use Rattle.fixedbitset.specs.TwoSets.{union_count, intersection_count, difference_count, symmetric_difference_count, is_disjoint, is_subset}
+use Rattle.fixedbitset.proofs.JoinedValues.{same_range}
 use Rattle.fixedbitset.proofs.Values.{contains-range_set, length-range_set}
 
 -- ---- a count of what two values share, by positions
@@ -120,9 +121,6 @@ pub symmetric_difference_count_of : (v w : Bits) → count_joined either v w ≡
 unfolding symmetric_difference_count contains
 symmetric_difference_count_of v w = count_joined-size either refl v w _ (numbers.contains-symmetric_difference v.positions w.positions)
 
-same_range : (start end p : ℕ) → set.contains (numbers_between start end) p ≡ contains (range_set start end) p
-same_range start end p = numbers.contains-numbers_between start end p ∙ sym (contains-range_set start end p)
-
 pub count_ones_of : (v : Bits) (start end : ℕ) → count_joined (λ x y. x && y) (range_set start end) v ≡ count_ones v start end
 unfolding count_ones contains
 count_ones_of v start end = count_joined-size (λ x y. x && y) refl (range_set start end) v _ (λ p.
@@ -142,17 +140,13 @@ unfolding contains_any
 contains_any_of v start end = ap (λ n. not (n == 0)) (count_ones_of v start end)
 
 held_too : (a b : Bool) → (a && not b) ≡ false → a ≡ true → b ≡ true
-held_too true true e h = refl
-held_too true false e h = absurd (true≢false e)
-held_too false b e h = absurd (true≢false (sym h))
+held_too a b f g = grind arith
 
 no_other : (a b : Bool) → (a ≡ true → b ≡ true) → (a && not b) ≡ false
-no_other true true h = refl
-no_other true false h = sym (h refl)
-no_other false b h = refl
+no_other a b f = grind arith
 
 -- nothing is left of a set without another one exactly if it is a subset of that
-none_left : (s t : FinSet nat_cmp) → (set.len (set.difference s t) == 0) ≡ set.is_subset s t
+pub none_left : (s t : FinSet nat_cmp) → (set.len (set.difference s t) == 0) ≡ set.is_subset s t
 none_left s t =
     let member = set.contains-difference nat_cmp_total s t in
     let none = none_len (set.difference s t) in

@@ -1,5 +1,5 @@
 -- The changes by another set or by a range are joins, and so are the new sets.
-use Rattle.std.proofs.Common.{◌≡◌, ℕ, ◌≤◌, max, Bool, true, false, not, ◌&&◌, ◌||◌, refl, sym, ap, ◌∙◌, arith}
+use Rattle.std.proofs.Common.{◌≡◌, ℕ, ◌≤◌, max, Bool, not, ◌&&◌, ◌||◌, refl, sym, ap, ◌∙◌, arith}
 use Rattle.std.proofs.Math.Bool.{and_comm, or_comm}
 use Rattle.std.specs.Cmp.{nat_cmp_total}
 use Rattle.std.specs.FinSet as set
@@ -41,7 +41,7 @@ difference_joined v w = pair_joined (λ x y. x && not y) v w _ _ refl (set.conta
 
 -- ---- changes by a range
 
-same_range : (start end p : ℕ) → set.contains (numbers_between start end) p ≡ contains (range_set start end) p
+pub same_range : (start end p : ℕ) → set.contains (numbers_between start end) p ≡ contains (range_set start end) p
 same_range start end p = numbers.contains-numbers_between start end p ∙ sym (contains-range_set start end p)
 
 pub insert_joined : (v : Bits) (start end : ℕ) → joined (λ x y. x || y) v (range_set start end) ≡ insert_range v start end
@@ -62,10 +62,7 @@ toggle_joined v start end = pair_joined either v (range_set start end) _ _ refl 
 -- ---- new sets, of which the first stays as long as it is
 
 either_comm : (a b : Bool) → either a b ≡ either b a
-either_comm true true = refl
-either_comm true false = refl
-either_comm false true = refl
-either_comm false false = refl
+either_comm a b = grind arith
 
 pub bitand_shorter : (v w : Bits) → v.length ≤ w.length → joined (λ x y. x && y) v w ≡ bitand v w
 unfolding bitand contains

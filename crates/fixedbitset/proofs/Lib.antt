@@ -4,6 +4,7 @@ pub mod Changes
 pub mod Growth
 pub mod JoinedWords
 pub mod JoinedValues
+pub mod JoinedChanges
 pub mod JoinedCounts
 pub mod Positions
 pub mod PairItems
@@ -12,4 +13,3 @@ pub mod Blocks
 pub mod Equality
 pub mod Characters
 pub mod JsonBytes
-pub mod LentWords

@@ -1,6 +1,5 @@
 -- The items of the walks over two sets.
-use Rattle.std.proofs.Common.{◌≡◌, ℕ, zero, suc, ◌+◌, ◌≤◌, max, Bool, true, false, not, ◌&&◌, filter, length, ◌++◌, refl, sym, ap, ◌∙◌, arith}
-use Rattle.std.proofs.lemmas.Bool.{true≢false}
+use Rattle.std.proofs.Common.{◌≡◌, ℕ, zero, suc, ◌+◌, ◌≤◌, max, Bool, false, not, ◌&&◌, filter, length, ◌++◌, sym, ap, ◌∙◌, arith}
 use Rattle.std.proofs.lemmas.List.{length-append}
 use Rattle.bitwords.specs.Ascending.{ascending}
 use Rattle.bitwords.specs.AscendingFacts.{ascending-same, filter-ascending, length-count}
@@ -33,10 +32,7 @@ both_counts p q zero apart = omega (arith, count-zero p, count-zero q)
 both_counts p q (suc n) apart = omega (arith, count-suc p n, count-suc q n, both_counts p q n apart, one (p n) (q n) (apart n))
   where
     one : (a b : Bool) → (a && b) ≡ false → indicator a + indicator b ≤ 1
-    one true true e = absurd (true≢false e)
-    one true false e = omega arith
-    one false true e = omega arith
-    one false false e = omega arith
+    one a b f = grind arith
 
 -- the positions of a value, counted up to any bound that is not below its length
 length-upto : (v : Bits) (n : ℕ) → v.length ≤ n → length (asc v) ≡ count_below (contains v) n
@@ -54,9 +50,7 @@ length-union_items v w =
     omega (arith, length-apart v (difference w v) (λ p. ap (λ b. contains v p && b) (contains-difference w v p) ∙ apart (contains v p) (contains w p)), length-difference w v)
   where
     apart : (a b : Bool) → (a && (b && not a)) ≡ false
-    apart true true = refl
-    apart true false = refl
-    apart false b = refl
+    apart a b = grind arith
 
 pub length-split_items : (v w : Bits) → length (asc (difference v w) ++ asc (difference w v)) ≤ max v.length w.length
 length-split_items v w =
@@ -68,6 +62,4 @@ length-split_items v w =
     )
   where
     apart : (a b : Bool) → ((a && not b) && (b && not a)) ≡ false
-    apart true true = refl
-    apart true false = refl
-    apart false b = refl
+    apart a b = grind arith

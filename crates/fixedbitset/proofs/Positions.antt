@@ -19,8 +19,8 @@ use Rattle.fixedbitset.specs.FirstFacts.{minimum_least, minimum_none}
 use Rattle.fixedbitset.specs.MemberFacts.{is_clear-tells}
 use Rattle.fixedbitset.specs.Stored.{IsClean}
 use Rattle.fixedbitset.specs.WalkFacts.{length-asc}
-use Rattle.fixedbitset.specs.WordsFacts.{length-words, has_bit-words, are_words}
-use Rattle.fixedbitset.proofs.JoinedWords.{has_bit-of, holds_all}
+use Rattle.fixedbitset.specs.WordsFacts.{length-of_words, length-words, has_bit-words, are_words}
+use Rattle.fixedbitset.proofs.Words.{contains_word}
 
 -- a bit of an inverted word
 has_bit-inverted : (ws : List ℕ) (p : ℕ) → AreWords ws → p < 64 * length ws → has_bit (map (bit_not w64) ws) p ≡ not (has_bit ws p)
@@ -38,15 +38,15 @@ row-asc v row room same =
     ∙ ascending-cut _ (contains v) 0 v.length (64 * length row - v.length) (λ i above below. same i) (λ i above below. same i ∙ contains-past v i (omega arith))
 
 -- the first and the last position of the words that a set keeps
-module _ (n : ℕ) (ws : List ℕ) (v : Bits) (view : of_words n ws ≡ v) (clean : IsClean n ws) where
-  stored-asc : ascending (has_bit ws) 0 (64 * length ws) ≡ asc v
-  stored-asc = row-asc v ws (holds_all n ws v view clean) (has_bit-of n ws v view clean)
+module _ (n : ℕ) (ws : List ℕ) (clean : IsClean n ws) where
+  stored-asc : ascending (has_bit ws) 0 (64 * length ws) ≡ asc (of_words n ws)
+  stored-asc = row-asc (of_words n ws) ws (omega (arith, length-of_words n ws, clean.count)) (λ p. contains_word n ws p clean)
 
-  pub row_minimum : slice_get (ascending (has_bit ws) 0 (64 * length ws)) 0 ≡ minimum v
+  pub row_minimum : slice_get (ascending (has_bit ws) 0 (64 * length ws)) 0 ≡ minimum (of_words n ws)
   unfolding minimum
   row_minimum = ap (λ xs. slice_get xs 0) stored-asc
 
-  pub row_maximum : last_or None (ascending (has_bit ws) 0 (64 * length ws)) ≡ maximum v
+  pub row_maximum : last_or None (ascending (has_bit ws) 0 (64 * length ws)) ≡ maximum (of_words n ws)
   unfolding maximum
   row_maximum = ap (last_or None) stored-asc
 

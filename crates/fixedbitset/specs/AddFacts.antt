@@ -18,9 +18,7 @@ length-add v bit = length-pair _ _
 
 -- a test that two others imply
 either_holds : (a b c : Bool) → (a ≡ true → c ≡ true) → (b ≡ true → c ≡ true) → ((a || b) && c) ≡ (a || b)
-either_holds true b c h k = h refl
-either_holds false true c h k = k refl
-either_holds false false c h k = refl
+either_holds a b c f g = grind arith
 
 pub contains-add : (v : Bits) (bit p : ℕ) → contains (add v bit) p ≡ (p == bit || contains v p)
 unfolding add contains
@@ -95,16 +93,10 @@ length_for-last n [] item = omega arith
 length_for-last n (x ∷ items) item = let e : length_for n (items ++ item ∷ []) ≡ max (length_for n items) (item + 1) = length_for-last n items item in omega arith
 
 or-none : (a : Bool) → (a || false) ≡ a
-or-none true = refl
-or-none false = refl
+or-none a = grind arith
 
 last_first : (a b c : Bool) → (a || (b || (c || false))) ≡ (c || (a || b))
-last_first true b true = refl
-last_first true b false = refl
-last_first false true true = refl
-last_first false true false = refl
-last_first false false true = refl
-last_first false false false = refl
+last_first a b c = grind arith
 
 -- no item adds nothing
 pub add_all-nil : (v : Bits) → add_all v [] ≡ v

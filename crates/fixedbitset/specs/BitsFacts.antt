@@ -13,9 +13,7 @@ use Rattle.fixedbitset.specs.Bits.{Bits, pair, contains, empty, insert, remove, 
 
 -- a last test that the one before it implies
 pub last_holds : (a b c : Bool) → (b ≡ true → c ≡ true) → ((a && b) && c) ≡ (a && b)
-last_holds true true c h = h refl
-last_holds true false c h = refl
-last_holds false b c h = refl
+last_holds a b c f = grind arith
 
 pub length-pair : (n : ℕ) (s : FinSet nat_cmp) → (pair n s).length ≡ n
 unfolding pair
@@ -79,13 +77,10 @@ length-set_bit v bit true = length-insert v bit
 length-set_bit v bit false = length-remove v bit
 
 inserted : (e c l : Bool) → (c ≡ true → l ≡ true) → (e ≡ true → l ≡ true) → ((e || c) && l) ≡ cond e true c
-inserted true c l h k = k refl
-inserted false true l h k = h refl
-inserted false false l h k = refl
+inserted e c l f g = grind arith
 
 removed : (e c : Bool) → (not e && c) ≡ cond e false c
-removed true c = refl
-removed false c = refl
+removed e c = grind arith
 
 pub contains-set_bit : (v : Bits) (bit : ℕ) (b : Bool) (p : ℕ) → bit < v.length → contains (set_bit v bit b) p ≡ cond (p == bit) b (contains v p)
 unfolding set_bit
@@ -132,9 +127,7 @@ contains-complement v p =
     ∙ first_again (nat_lt p v.length) (not (contains v p))
   where
     first_again : (a b : Bool) → ((a && b) && a) ≡ (a && b)
-    first_again true true = refl
-    first_again true false = refl
-    first_again false b = refl
+    first_again a b = grind arith
 
 -- what a caller needs of each change
 pub ruleset facts = (length-empty, length-insert, length-remove, length-set_bit, length-toggle, length-copy_bit, length-grow, contains-empty, contains-insert, contains-remove, contains-set_bit, contains-toggle, contains-copy_bit, contains-grow)

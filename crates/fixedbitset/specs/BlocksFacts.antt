@@ -1,5 +1,5 @@
 -- The value of the words that come from an iterator, for those who call a set.
-use Rattle.std.proofs.Common.{◌≡◌, ℕ, ◌/◌, ◌%◌, ◌<◌, ◌≤◌, Bool, true, false, ◌&&◌, nat_lt, List, length, take, Option, sym, ap, ◌∙◌, arith, refl, None, ⊎_elim}
+use Rattle.std.proofs.Common.{◌≡◌, ℕ, ◌/◌, ◌%◌, ◌<◌, ◌≤◌, Bool, true, ◌&&◌, nat_lt, List, length, take, Option, sym, ap, ◌∙◌, arith, refl, None, ⊎_elim}
 use Rattle.std.specs.Iterator.Runs.{YieldsRun}
 use Rattle.std.proofs.lemmas.Bool.{cases_lt, ltb-true}
 use Rattle.std.proofs.lemmas.Iterator.{YieldsList}
@@ -13,11 +13,7 @@ use Rattle.fixedbitset.specs.WordsFacts.{length-of_words, contains-of_words}
 use Rattle.fixedbitset.specs.Blocks.{FirstItems}
 
 same_where : (a b c : Bool) → (c ≡ true → a ≡ b) → (a && c) ≡ (b && c)
-same_where a b true h = ap (λ x. x && true) (h refl)
-same_where true true false h = refl
-same_where true false false h = refl
-same_where false true false h = refl
-same_where false false false h = refl
+same_where a b c f = grind arith
 
 has_bit-take : (n k p : ℕ) (ws : List ℕ) → words_needed n ≤ k → p < n → has_bit (take k ws) p ≡ has_bit ws p
 unfolding has_bit

@@ -74,8 +74,7 @@ first_zero v p others same =
     )
   where
     not_from_true : (b : Bool) → not b ≡ true → b ≡ false
-    not_from_true false e = refl
-    not_from_true true e = sym e
+    not_from_true b f = grind arith
 
 -- where there is no item, each position below the length is set
 pub no_zero : (v : Bits) → asc (complement v) ≡ [] → (q : ℕ) → q < v.length → IsTrue (contains v q)

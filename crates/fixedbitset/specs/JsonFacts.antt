@@ -33,8 +33,7 @@ bytes-lt v j =
     (cases_lt j (8 * words_needed v.length))
 
 digit_is_one : (b : Bool) → (indicator b == 1) ≡ b
-digit_is_one true = refl
-digit_is_one false = refl
+digit_is_one b = grind arith
 
 -- the bytes of a value mean that value
 pub of_bytes-bytes : (v : Bits) → of_bytes v.length (bytes v) ≡ v

@@ -1,6 +1,6 @@
 -- The members of finite sets of numbers, and their sizes as counts.
 use Rattle.std.specs.Prelude.{IsTrue, ◌↔◌}
-use Rattle.std.proofs.Common.{◌≡◌, ◌≢◌, ℕ, zero, suc, ◌+◌, ◌<◌, Bool, true, false, cond, not, ◌&&◌, ◌||◌, ◌==◌, nat_lt, refl, sym, ap, ◌∙◌, arith, ⊎_elim}
+use Rattle.std.proofs.Common.{◌≡◌, ◌≢◌, ℕ, zero, suc, ◌+◌, ◌<◌, Bool, true, false, cond, not, ◌&&◌, ◌||◌, ◌==◌, nat_lt, sym, ap, ◌∙◌, arith, ⊎_elim}
 use Rattle.std.specs.Ordering.{nat_cmp}
 use Rattle.std.specs.Cmp.{nat_cmp_total, unsigned_tied}
 use Rattle.std.specs.FinSet as set
@@ -23,10 +23,7 @@ contains-numbers_between start end p =
     ∙ grind (arith, nat_tests)
 
 one_of : (a b : Bool) → ((a && not b) || (b && not a)) ≡ either a b
-one_of true true = refl
-one_of true false = refl
-one_of false true = refl
-one_of false false = refl
+one_of a b = grind arith
 
 pub contains-symmetric_difference : (s t : FinSet nat_cmp) (p : ℕ) → set.contains (symmetric_difference s t) p ≡ either (set.contains s p) (set.contains t p)
 unfolding symmetric_difference
@@ -126,6 +123,4 @@ member_of n s below some = let found = passing (set.contains s) n (λ e. some (e
 
 -- two truths that imply one another
 pub same_truth : (a b : Bool) → (a ≡ true → b ≡ true) → (b ≡ true → a ≡ true) → a ≡ b
-same_truth true b to from = sym (to refl)
-same_truth false true to from = from refl
-same_truth false false to from = refl
+same_truth a b f g = grind arith

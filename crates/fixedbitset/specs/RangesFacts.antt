@@ -2,7 +2,7 @@
 use Rattle.std.specs.Prelude.{IsTrue, ◌↔◌, ◌≡◌, ℕ, ◌<◌, ◌≤◌, Bool, true, false, cond, not, ◌&&◌, ◌||◌, nat_lt, nat_le}
 use Rattle.std.specs.Cmp.{nat_cmp_total}
 use Rattle.std.specs.FinSet as set
-use Rattle.std.proofs.Common.{refl, sym, ap, ◌∙◌, arith}
+use Rattle.std.proofs.Common.{sym, ap, ◌∙◌, arith}
 use Rattle.std.proofs.lemmas.Bool.{lt-ltb, le-leb, ltb-true, leb-true, and_parts, and_from, true≢false, false_from_ne_true}
 use Rattle.bitlanes.specs.Bits.{either}
 use Rattle.fixedbitset.specs.Numbers.{numbers_between, contains-numbers_below}
@@ -14,9 +14,7 @@ use Rattle.fixedbitset.specs.Ranges.{insert_range, remove_range, toggle_range, s
 
 -- a last test that the first one implies
 first_holds : (a b c : Bool) → (a ≡ true → c ≡ true) → ((a && b) && c) ≡ (a && b)
-first_holds true true c h = h refl
-first_holds true false c h = refl
-first_holds false b c h = refl
+first_holds a b c f = grind arith
 
 pub length-insert_range : (v : Bits) (start end : ℕ) → (insert_range v start end).length ≡ v.length
 unfolding insert_range
@@ -55,16 +53,10 @@ length-set_range v start end true = length-insert_range v start end
 length-set_range v start end false = length-remove_range v start end
 
 inserted : (c r l : Bool) → (c ≡ true → l ≡ true) → (r ≡ true → l ≡ true) → ((c || r) && l) ≡ cond r true c
-inserted true true l h k = h refl
-inserted true false l h k = h refl
-inserted false true l h k = k refl
-inserted false false l h k = refl
+inserted c r l f g = grind arith
 
 removed : (c r : Bool) → (c && not r) ≡ cond r false c
-removed true true = refl
-removed true false = refl
-removed false true = refl
-removed false false = refl
+removed c r = grind arith
 
 pub contains-set_range : (v : Bits) (start end : ℕ) (b : Bool) (p : ℕ) → end ≤ v.length → contains (set_range v start end b) p ≡ cond (in_range start end p) b (contains v p)
 unfolding set_range
@@ -74,8 +66,7 @@ contains-set_range v start end true p within =
 contains-set_range v start end false p within = contains-remove_range v start end p ∙ removed (contains v p) (in_range start end p)
 
 gone : (a r : Bool) → (a ≡ true → r ≡ true) → (a && not r) ≡ false
-gone true r h = ap not (h refl)
-gone false r h = refl
+gone a r f = grind arith
 
 -- without the positions of the whole range nothing is set
 pub remove_range-all : (v : Bits) → remove_range v 0 v.length ≡ empty v.length

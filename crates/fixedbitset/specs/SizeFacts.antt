@@ -18,9 +18,7 @@ use Rattle.fixedbitset.specs.Ranges.{count_ones, count_zeroes}
 -- ---- a set split in two by another one
 
 one_of_two : (r c : Bool) → indicator (r && c) + indicator (r && not c) ≡ indicator r
-one_of_two true true = refl
-one_of_two true false = refl
-one_of_two false c = refl
+one_of_two r c = grind arith
 
 count-parts : (r c : ℕ → Bool) (n : ℕ) → count_below (λ p. r p && c p) n + count_below (λ p. r p && not (c p)) n ≡ count_below r n
 count-parts r c zero = omega (arith, count-zero (λ p. r p && c p), count-zero (λ p. r p && not (c p)), count-zero r)
@@ -94,10 +92,7 @@ count_ones-all v =
     ∙ inside (nat_le 0 p) (nat_lt p v.length) (contains v p) (le-leb 0 p (omega arith)) (λ one. lt-ltb _ _ (contains_below v p one))))
   where
     inside : (low high one : Bool) → low ≡ true → (one ≡ true → high ≡ true) → ((low && high) && one) ≡ one
-    inside true true one l h = refl
-    inside true false true l h = h refl
-    inside true false false l h = refl
-    inside false high one l h = absurd (true≢false (sym l))
+    inside low high one f g = grind arith
 
 -- no more positions are set than there are
 pub count_ones-most : (v : Bits) → count_ones v 0 v.length ≤ v.length
@@ -133,8 +128,7 @@ positions-insert v bit below = same_set _ _ (λ p.
     ∙ sym (set.contains-insert nat_cmp_total v.positions bit p ∙ ap (λ b. b || contains v p) (unsigned_tied p bit)))
   where
     low : (a l : Bool) → (a ≡ true → l ≡ true) → (a && l) ≡ a
-    low true l h = h refl
-    low false l h = refl
+    low a l f = grind arith
 
     inside : (p : ℕ) → ((p == bit || contains v p) && nat_lt p v.length) ≡ (p == bit || contains v p)
     inside p = low _ _ (λ one. ⊎_elim
@@ -199,8 +193,7 @@ insert-set v bit on = same_bits _ _ (length-insert v bit) (λ p. contains-insert
     (cases_eq p bit))
   where
     first_true : (c l : Bool) → (c ≡ true → l ≡ true) → (c && l) ≡ c
-    first_true true l h = h refl
-    first_true false l h = refl
+    first_true c l f = grind arith
 
 -- one that was not set before is not set after
 pub remove-clear : (v : Bits) (bit : ℕ) → contains v bit ≡ false → remove v bit ≡ v

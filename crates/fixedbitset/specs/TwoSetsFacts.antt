@@ -1,12 +1,12 @@
 -- The length and the members of each join of two sets, for those who call it, and the joins of a set with itself.
-use Rattle.std.specs.Prelude.{IsTrue, ◌↔◌, ◌≡◌, ℕ, ◌<◌, ◌≤◌, max, min, Bool, true, false, not, ◌&&◌, ◌||◌, nat_lt}
+use Rattle.std.specs.Prelude.{IsTrue, ◌↔◌, ◌≡◌, ℕ, ◌<◌, max, min, Bool, true, false, not, ◌&&◌, ◌||◌, nat_lt}
 use Rattle.std.specs.Cmp.{nat_cmp_total}
 use Rattle.std.specs.FinSet as set
-use Rattle.std.proofs.Common.{refl, sym, ap, ◌∙◌, arith, ⊎_elim}
+use Rattle.std.proofs.Common.{sym, ap, ◌∙◌, arith, ⊎_elim}
 use Rattle.std.proofs.Math.Bool.{or_self, and_self, and-not_self}
 use Rattle.std.proofs.lemmas.Bool.{lt-ltb, or_cases, and_parts, and_from, true≢false, false_from_ne_true}
 use Rattle.bitlanes.specs.Bits.{either}
-use Rattle.fixedbitset.specs.Bits.{Bits, contains, empty, words_needed}
+use Rattle.fixedbitset.specs.Bits.{Bits, contains, empty}
 use Rattle.fixedbitset.specs.BitsFacts.{length-pair, contains-pair, contains_below, last_holds, same_bits, length-empty, contains-empty}
 use Rattle.fixedbitset.specs.NumbersFacts as numbers
 use Rattle.fixedbitset.specs.NumbersFacts.{none_len}
@@ -33,8 +33,7 @@ contains-union v w p =
     ∙ below_greater v w _ p (λ one. one)
 
 in_some : (a b : Bool) → either a b ≡ true → (a || b) ≡ true
-in_some true b one = refl
-in_some false b one = one
+in_some a b f = grind arith
 
 pub length-symmetric_difference : (v w : Bits) → (symmetric_difference v w).length ≡ max v.length w.length
 unfolding symmetric_difference
@@ -104,8 +103,7 @@ pub ruleset facts = (length-union, length-symmetric_difference, length-intersect
 -- ---- a set joined with itself
 
 either_same : (b : Bool) → either b b ≡ false
-either_same true = refl
-either_same false = refl
+either_same b = grind arith
 
 pub union-same : (v : Bits) → union v v ≡ v
 union-same v = same_bits _ _ (length-union v v ∙ omega arith) (λ p. contains-union v v p ∙ or_self _)
@@ -122,7 +120,3 @@ symmetric_difference-same v =
     same_bits _ _
     (length-symmetric_difference v v ∙ (let e : max v.length v.length ≡ v.length = omega arith in e) ∙ sym (length-empty v.length))
     (λ p. contains-symmetric_difference v v p ∙ either_same (contains v p) ∙ sym (contains-empty v.length p))
-
--- two equal lengths need no more words
-pub words_needed-same : (n m : ℕ) → n ≡ m → words_needed m ≤ words_needed n
-words_needed-same n m same = omega arith

@@ -1,7 +1,7 @@
 -- What the walks over the positions give, for those who call them.
 use Rattle.std.specs.Prelude.{◌≡◌, ℕ, zero, suc, ◌+◌, ◌<◌, ◌≤◌, Bool, true, false, cond, not, nat_lt, List, ◌∷◌, [], length}
 use Rattle.std.specs.List.{range_with_len, Contains}
-use Rattle.std.proofs.Common.{inl, inr, arith, get_or, sym, ap, ◌∙◌, refl}
+use Rattle.std.proofs.Common.{inl, inr, arith, get_or, sym, ap, ◌∙◌}
 use Rattle.std.proofs.lemmas.Bool.{cases_eq, lt-ltb, and_parts, and_from}
 use Rattle.std.proofs.lemmas.List.Elements.{All-get_or, filter_passes, Contains-append_right}
 use Rattle.std.proofs.lemmas.List.Sums.{length-filter, count_by-le-length}
@@ -62,8 +62,7 @@ pub clear_item : (v : Bits) (k d : ℕ) → k < length (asc (complement v)) → 
 clear_item v k d within = turned _ ((and_parts (nat_lt _ v.length) _ (sym (contains-complement v _) ∙ contains_item (complement v) k d within)).1)
   where
     turned : (b : Bool) → not b ≡ true → b ≡ false
-    turned false e = refl
-    turned true e = sym e
+    turned b f = grind arith
 
 -- each such position is an item
 pub zero_item_of : (v : Bits) (p : ℕ) → p < v.length → contains v p ≡ false → (k : ℕ) × (k < length (asc (complement v))) × (get_or (asc (complement v)) k p ≡ p)

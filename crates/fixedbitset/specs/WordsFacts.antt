@@ -2,7 +2,7 @@
 use Rattle.std.proofs.Common.{◌≡◌, ◌≢◌, ℕ, zero, suc, ◌+◌, ◌-◌, ◌*◌, ◌/◌, ◌%◌, ◌^◌, ◌<◌, ◌≤◌, Bool, true, false, cond, ◌&&◌, ◌==◌, nat_lt, nat_le, List, [], ◌∷◌, ◌++◌, filter, sum_by, length, get_or, set, refl, sym, ap, ◌∙◌, arith, ⊎_elim, lit<}
 use Rattle.std.specs.List.{range_with_len}
 use Rattle.std.specs.Int.{bit_at}
-use Rattle.std.proofs.lemmas.Bool.{cases_lt, cases_eq, cases_Bool, true≢false, lt-ltb, le-ltb, eq-eqb, ne_eqb, and_right, and_from, and_parts, ltb-true, leb-true}
+use Rattle.std.proofs.lemmas.Bool.{cases_lt, cases_eq, cases_Bool, lt-ltb, le-ltb, eq-eqb, ne_eqb, and_right, and_from, and_parts, ltb-true, leb-true}
 use Rattle.std.proofs.lemmas.Bool.Decides.{nat_tests}
 use Rattle.std.proofs.lemmas.List.Elements.{filter-append}
 use Rattle.std.proofs.lemmas.List.{get_or-set_same, get_or-set_other, get_or_past}
@@ -23,10 +23,7 @@ use Rattle.fixedbitset.specs.BitsFacts.{length-pair, contains-pair, contains_bel
 -- ---- the values of words
 
 both_last : (a b : Bool) → ((b && a) && b) ≡ (a && b)
-both_last true true = refl
-both_last true false = refl
-both_last false true = refl
-both_last false false = refl
+both_last a b = grind arith
 
 pub length-having : (n : ℕ) (test : ℕ → Bool) → (having n test).length ≡ n
 unfolding having
@@ -78,8 +75,7 @@ record IsPart (c : ℕ → Bool) (start width n x : ℕ) : Type 0 where
   bits : (i : ℕ) → i < width → bit_at x i ≡ indicator (c (start + i) && nat_lt (start + i) n)
 
 first_false : (a b : Bool) → (a && b) ≡ false → b ≡ true → a ≡ false
-first_false true b h e = absurd (true≢false (sym e ∙ h))
-first_false false b h e = refl
+first_false a b f g = grind arith
 
 -- the test at a number that n is not, or that does not pass
 same_next : (c : ℕ → Bool) (p n : ℕ) → (p ≡ n → c n ≡ false) → indicator (c p && nat_lt p n) ≡ indicator (c p && nat_lt p (suc n))
@@ -181,10 +177,7 @@ indicator-has_bit ws k i h =
     digit_at _ _ ∙ ap (λ q. bit_at (get_or ws q 0) ((64 * k + i) % 64)) quotient ∙ ap (bit_at (get_or ws k 0)) rest
 
 pub same_digits : (a b : Bool) → indicator a ≡ indicator b → a ≡ b
-same_digits true true e = refl
-same_digits true false e = absurd (omega arith)
-same_digits false true e = absurd (omega arith)
-same_digits false false e = refl
+same_digits a b f = grind arith
 
 has_bit-words_in : (v : Bits) (p : ℕ) → p / 64 < words_needed v.length → has_bit (words v) p ≡ contains v p
 has_bit-words_in v p h =

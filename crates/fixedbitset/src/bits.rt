@@ -7,8 +7,8 @@
 ghost use Rattle.std.specs.Prelude.{◌≡◌, ◌<◌};
 ghost use Rattle.fixedbitset.specs.Bits as model;
 
+use crate::lent;
 use crate::set::FixedBitSet;
-use bitlanes::word::BITS;
 
 impl FixedBitSet {
     /// Whether the position is set: `false` at or past the length. Every position may be asked.
@@ -40,12 +40,12 @@ impl FixedBitSet {
     /// assert!(rt; !set.contains_unchecked(68));
     /// ```
     #[inline]
-    #[tactic(auto, using(crate::proofs::Changes::viewed_place, crate::proofs::Changes::viewed_mask))]
+    #[tactic(auto, using(crate::proofs::Words::given_back, crate::proofs::Words::viewed_length))]
     pub fn contains_unchecked(&self, bit: usize) -> bool
         requires { bit < self.now.length }
         ensures { result ≡ model.contains self.now bit }
     {
-        self.words[bit / BITS] & (1 << (bit % BITS)) != 0
+        lent::holds(&self.words, self.length, bit)
     }
 
     /// Sets the position, which has to be below the length.
@@ -72,12 +72,12 @@ impl FixedBitSet {
     /// assert_eq!(rt; set.maximum(), Some(69));
     /// ```
     #[inline]
-    #[tactic(auto, using(crate::proofs::Changes::viewed_place, crate::proofs::Changes::of_insert))]
+    #[tactic(auto, using(crate::proofs::Words::given_back, crate::proofs::Words::viewed_length))]
     pub fn insert_unchecked(&mut self, bit: usize)
         requires { bit < self.old.length }
         ensures { self.new ≡ model.insert self.old bit }
     {
-        self.words[bit / BITS] |= 1 << (bit % BITS);
+        lent::insert(&mut self.words, self.length, bit);
     }
 
     /// Clears the position, which has to be below the length.
@@ -106,12 +106,12 @@ impl FixedBitSet {
     /// assert_eq!(rt; set.as_slice(), [5].as_slice());
     /// ```
     #[inline]
-    #[tactic(auto, using(crate::proofs::Changes::viewed_place, crate::proofs::Changes::of_remove))]
+    #[tactic(auto, using(crate::proofs::Words::given_back, crate::proofs::Words::viewed_length))]
     pub fn remove_unchecked(&mut self, bit: usize)
         requires { bit < self.old.length }
         ensures { self.new ≡ model.remove self.old bit }
     {
-        self.words[bit / BITS] &= !(1 << (bit % BITS));
+        lent::remove(&mut self.words, self.length, bit);
     }
 
     /// Sets the position, which has to be below the length, and answers whether it was set before.
@@ -141,16 +141,13 @@ impl FixedBitSet {
     /// assert_eq!(rt; set.count_ones(..), 2);
     /// ```
     #[inline]
-    #[tactic(auto, using(crate::proofs::Changes::viewed_place, crate::proofs::Changes::of_insert, crate::proofs::Changes::viewed_mask))]
+    #[tactic(auto, using(crate::proofs::Words::given_back, crate::proofs::Words::viewed_length))]
     pub fn put_unchecked(&mut self, bit: usize) -> bool
         requires { bit < self.old.length }
         ensures before { result ≡ model.contains self.old bit }
         ensures after { self.new ≡ model.insert self.old bit }
     {
-        let word = self.words[bit / BITS];
-        let mask = 1 << (bit % BITS);
-        self.words[bit / BITS] = word | mask;
-        word & mask != 0
+        lent::put(&mut self.words, self.length, bit)
     }
 
     /// Sets the position if it is clear and clears it if it is set. It has to be below the length.
@@ -180,12 +177,12 @@ impl FixedBitSet {
     /// assert!(rt; set.is_clear());
     /// ```
     #[inline]
-    #[tactic(auto, using(crate::proofs::Changes::viewed_place, crate::proofs::Changes::of_toggle))]
+    #[tactic(auto, using(crate::proofs::Words::given_back, crate::proofs::Words::viewed_length))]
     pub fn toggle_unchecked(&mut self, bit: usize)
         requires { bit < self.old.length }
         ensures { self.new ≡ model.toggle self.old bit }
     {
-        self.words[bit / BITS] ^= 1 << (bit % BITS);
+        lent::toggle(&mut self.words, self.length, bit);
     }
 
     /// Sets the position, or clears it where `enabled` is false. It has to be below the length.

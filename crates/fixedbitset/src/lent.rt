@@ -3,23 +3,24 @@
 //! The words mean the value `of_words length words`, as those of a `FixedBitSet` do. They have to be those of a set
 //! (`IsClean`): whole lanes of four words, as many as the length needs, and no bit past the length. Each change leaves
 //! them so, and `settle` makes any words so. Positions and ranges are those that the calls of `FixedBitSet` with the
-//! same names take, and what a call looks at is the same too. No call takes memory. The static library `bits_c` lends
-//! the words of a caller in C or in Rust to these calls.
+//! same names take, and what a call looks at is the same too. No call takes memory. The calls of `FixedBitSet`
+//! that take none hand its words over to these, and the static library `bits_c` lends those of a caller in C or in Rust.
 
-ghost use Rattle.std.specs.Prelude.{◌≡◌, ◌<◌, ◌≤◌};
+ghost use Rattle.std.specs.Prelude.{◌≡◌, ◌<◌, ◌≤◌, ◌-◌, ◌*◌, min};
 ghost use Rattle.std.specs.Prelude as prelude;
 ghost use Rattle.fixedbitset.specs.Bits as model;
 ghost use Rattle.fixedbitset.specs.Bits.{of_words};
 ghost use Rattle.fixedbitset.specs.Stored.{IsClean};
 
-mod ranges;
+pub(crate) mod changes;
+pub(crate) mod ranges;
 mod walks;
-mod whole;
+pub(crate) mod whole;
 
-use crate::set::used_bits;
 use bitlanes::word::{BITS, Block, ones_below};
 use bitlanes::{Steps, lanes};
 use bitwords::positions;
+pub use changes::{difference_with_change, intersect_with_change, union_with_change};
 pub use ranges::{
     contains_all_in_range, contains_any_in_range, count_ones, count_zeroes, insert_range,
     range_is_valid, remove_range, toggle_range,
@@ -61,7 +62,7 @@ pub fn settle(words: &mut [Block], length: usize, kept: usize)
 /// assert!(rt; !lent::contains(&words, 70, 500));
 /// ```
 #[inline(always)]
-#[tactic(auto, using(crate::proofs::LentWords::looked_up))]
+#[tactic(auto, using(crate::proofs::Words::contains_word))]
 pub fn contains(words: &[Block], length: usize, bit: usize) -> bool
     requires { IsClean length words.now }
     ensures { result ≡ model.contains (of_words length words.now) bit }
@@ -78,7 +79,7 @@ pub fn contains(words: &[Block], length: usize, bit: usize) -> bool
 /// assert_eq!(rt; words, [8, 1, 0, 0]);
 /// ```
 #[inline(always)]
-#[tactic(auto, using(crate::proofs::Changes::place_within, crate::proofs::LentWords::insert_of))]
+#[tactic(auto, using(crate::proofs::Changes::place_within, crate::proofs::Changes::insert_of))]
 pub fn insert(words: &mut [Block], length: usize, bit: usize)
     requires lent { IsClean length words.old }
     requires below { bit < length }
@@ -97,7 +98,7 @@ pub fn insert(words: &mut [Block], length: usize, bit: usize)
 /// assert_eq!(rt; words, [9, 0, 0, 0]);
 /// ```
 #[inline(always)]
-#[tactic(auto, using(crate::proofs::Changes::place_within, crate::proofs::LentWords::remove_of))]
+#[tactic(auto, using(crate::proofs::Changes::place_within, crate::proofs::Changes::remove_of))]
 pub fn remove(words: &mut [Block], length: usize, bit: usize)
     requires lent { IsClean length words.old }
     requires below { bit < length }
@@ -116,7 +117,7 @@ pub fn remove(words: &mut [Block], length: usize, bit: usize)
 /// assert_eq!(rt; words, [8, 0, 0, 0]);
 /// ```
 #[inline(always)]
-#[tactic(auto, using(crate::proofs::Changes::place_within, crate::proofs::LentWords::toggle_of))]
+#[tactic(auto, using(crate::proofs::Changes::place_within, crate::proofs::Changes::toggle_of))]
 pub fn toggle(words: &mut [Block], length: usize, bit: usize)
     requires lent { IsClean length words.old }
     requires below { bit < length }
@@ -135,7 +136,6 @@ pub fn toggle(words: &mut [Block], length: usize, bit: usize)
 /// assert_eq!(rt; words, [9, 0, 0, 0]);
 /// ```
 #[inline(always)]
-#[tactic(auto, using(crate::proofs::Changes::place_within, crate::proofs::LentWords::insert_of, crate::proofs::LentWords::read_bit))]
 pub fn put(words: &mut [Block], length: usize, bit: usize) -> bool
     requires lent { IsClean length words.old }
     requires below { bit < length }
@@ -143,10 +143,9 @@ pub fn put(words: &mut [Block], length: usize, bit: usize) -> bool
     ensures value { of_words length words.new ≡ model.insert (of_words length words.old) bit }
     ensures clean { IsClean length words.new }
 {
-    let word = words[bit / BITS];
-    let mask = 1 << (bit % BITS);
-    words[bit / BITS] = word | mask;
-    word & mask != 0
+    let was_set = holds(words, length, bit);
+    insert(words, length, bit);
+    was_set
 }
 
 /// Sets the position, or clears it where `enabled` is false. It has to be below the length.
@@ -233,7 +232,7 @@ pub fn is_clear(words: &[Block], length: usize) -> bool
 /// assert_eq!(rt; lent::minimum(&words, 70), Some(65));
 /// ```
 #[inline(always)]
-#[tactic(auto, using(crate::proofs::LentWords::least))]
+#[tactic(auto, using(crate::proofs::Positions::row_minimum))]
 pub fn minimum(words: &[Block], length: usize) -> Option<usize>
     requires { IsClean length words.now }
     ensures { result ≡ model.minimum (of_words length words.now) }
@@ -249,7 +248,7 @@ pub fn minimum(words: &[Block], length: usize) -> Option<usize>
 /// assert_eq!(rt; lent::maximum(&words, 70), Some(69));
 /// ```
 #[inline(always)]
-#[tactic(auto, using(crate::proofs::LentWords::greatest))]
+#[tactic(auto, using(crate::proofs::Positions::row_maximum))]
 pub fn maximum(words: &[Block], length: usize) -> Option<usize>
     requires { IsClean length words.now }
     ensures { result ≡ model.maximum (of_words length words.now) }
@@ -257,11 +256,36 @@ pub fn maximum(words: &[Block], length: usize) -> Option<usize>
     positions::last(words)
 }
 
+// Whether the position, which has to be below the length, is set.
+#[inline(always)]
+#[tactic(auto, using(crate::proofs::Changes::place_within, crate::proofs::Changes::read_bit))]
+pub(crate) fn holds(words: &[Block], length: usize, bit: usize) -> bool
+    requires lent { IsClean length words.now }
+    requires below { bit < length }
+    ensures { result ≡ model.contains (of_words length words.now) bit }
+{
+    words[bit / BITS] & (1 << (bit % BITS)) != 0
+}
+
 // The words that the length needs, without those behind them that make up a whole lane.
 #[inline(always)]
-fn used_words<'a>(words: &'a [Block], length: usize) -> &'a [Block]
+pub(crate) fn used_words<'a>(words: &'a [Block], length: usize) -> &'a [Block]
     requires { IsClean length words.now }
-    ensures { result.now ≡ model.words (of_words length words.now) }
+    ensures value { result.now ≡ model.words (of_words length words.now) }
+    ensures count { prelude.length result.now ≡ model.words_needed length }
 {
     &words[..length.div_ceil(BITS)]
+}
+
+// How many positions of word `index` are below the length.
+#[inline(always)]
+fn used_bits(length: usize, index: usize) -> usize
+    requires { index < model.words_needed length }
+    ensures { result ≡ min (length - 64 * index) 64 }
+{
+    if index == length / BITS {
+        length % BITS
+    } else {
+        BITS
+    }
 }

@@ -7,7 +7,6 @@
 pub mod bits;
 pub mod counted;
 pub mod extend;
-mod joined;
 pub mod json;
 pub mod lent;
 pub mod operators;

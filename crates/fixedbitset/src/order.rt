@@ -8,9 +8,8 @@ ghost use Rattle.std.specs.Cmp.{partial_equiv_from_equiv};
 ghost use Rattle.fixedbitset.specs.Order.{equal, compare, fed_by, IsBelow};
 ghost use Rattle.fixedbitset.specs.OrderFacts.{equal_laws, compare_partial, compare_total, compare_ties, fed_alike};
 
+use crate::lent;
 use crate::set::FixedBitSet;
-use bitlanes::Steps;
-use bitlanes::ops::Xor;
 use std::cmp::Ordering;
 use std::hash::{Hash, Hasher};
 
@@ -32,12 +31,12 @@ impl PartialEq for FixedBitSet {
     /// assert!(rt; set != other);
     /// ```
     #[inline]
-    #[tactic(auto, using(crate::proofs::Equality::equal_of, crate::proofs::Equality::other_length, crate::specs::OrderFacts::facts))]
+    #[tactic(auto, using(crate::specs::OrderFacts::facts))]
     fn eq(&self, other: &Self) -> bool
         ensures value { result ≡ equal self.now other.now }
         ensures same { IsTrue result ↔ (self.now ≡ other.now) }
     {
-        self.len() == other.len() && self.none_joined::<Xor>(other, &mut Steps::new())
+        lent::is_equal(&self.words, self.length, &other.words, other.length)
     }
 }
 
@@ -88,16 +87,13 @@ impl Ord for FixedBitSet {
     /// assert_eq!(rt; set.cmp(&later), Ordering::Greater);
     /// ```
     #[inline]
-    #[tactic(auto, using(crate::specs::OrderFacts::ordered), unfolding(crate::specs::Order::compare, crate::specs::Order::key))]
+    #[tactic(auto, using(crate::specs::OrderFacts::ordered))]
     fn cmp(&self, other: &Self) -> Ordering
         ensures value { result ≡ compare self.now other.now }
         ensures order { MatchOrdering result (IsBelow self.now other.now) (self.now ≡ other.now)
             (IsBelow other.now self.now) }
     {
-        match self.len().cmp(&other.len()) {
-            Ordering::Equal => self.as_slice().cmp(other.as_slice()),
-            unequal => unequal,
-        }
+        lent::compare(&self.words, self.length, &other.words, other.length)
     }
 }
 

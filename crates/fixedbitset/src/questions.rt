@@ -5,8 +5,8 @@
 ghost use Rattle.std.specs.Prelude.{◌≡◌, ◌==◌};
 ghost use Rattle.fixedbitset.specs.Bits as model;
 
+use crate::lent;
 use crate::set::FixedBitSet;
-use bitwords::positions;
 
 impl FixedBitSet {
     /// Whether the length is 0. A set of another length is not empty, even where no position is set: see `is_clear`.
@@ -36,7 +36,7 @@ impl FixedBitSet {
     pub fn is_clear(&self) -> bool
         ensures { result ≡ model.is_clear self.now }
     {
-        self.minimum().is_none()
+        lent::is_clear(&self.words, self.length)
     }
 
     /// The first position that is set, or `None` where none is. It looks at four words at a time from the first on, up to
@@ -49,11 +49,10 @@ impl FixedBitSet {
     /// assert_eq!(rt; set.minimum(), Some(64));
     /// ```
     #[inline]
-    #[tactic(auto, using(crate::proofs::Positions::row_minimum))]
     pub fn minimum(&self) -> Option<usize>
         ensures { result ≡ model.minimum self.now }
     {
-        positions::first(self.words.as_slice())
+        lent::minimum(&self.words, self.length)
     }
 
     /// The last position that is set, or `None` where none is. It looks at four words at a time from the last on, down to
@@ -66,11 +65,10 @@ impl FixedBitSet {
     /// assert_eq!(rt; set.maximum(), Some(129));
     /// ```
     #[inline]
-    #[tactic(auto, using(crate::proofs::Positions::row_maximum))]
     pub fn maximum(&self) -> Option<usize>
         ensures { result ≡ model.maximum self.now }
     {
-        positions::last(self.words.as_slice())
+        lent::maximum(&self.words, self.length)
     }
 
     /// Whether each position below the length is set; so `true` at length 0.

@@ -5,9 +5,9 @@ ghost use Rattle.std.specs.Vec.{vec_capacity};
 ghost use Rattle.fixedbitset.specs.Bits as model;
 ghost use Rattle.fixedbitset.specs.Blocks.{FirstItems};
 
-use bitlanes::Steps;
-use bitlanes::lanes::{self, LANE};
-use bitlanes::word::{BITS, Block, ones_below};
+use crate::lent;
+use bitlanes::lanes::LANE;
+use bitlanes::word::{BITS, Block};
 use bitwords::positions;
 use std::alloc::{AllocError, Global};
 use std::marker::Model;
@@ -189,12 +189,12 @@ impl FixedBitSet {
     /// assert_eq!(rt; set.as_slice(), [0, 63].as_slice());
     /// ```
     #[inline]
+    #[tactic(auto, using(crate::proofs::Blocks::index_needed, crate::proofs::Words::given_back))]
     pub fn set_block(&mut self, index: usize, value: Block)
         requires { index < length (model.words self.old) }
         ensures { self.new ≡ model.set_block self.old index value }
     {
-        let used = used_bits(self.length, index);
-        self.words[index] = value & ones_below(used);
+        lent::set_block(&mut self.words, self.length, index, value);
     }
 
     /// Clears all positions, and keeps the length. It writes each word once.
@@ -205,10 +205,11 @@ impl FixedBitSet {
     /// assert_eq!(rt; set.len(), 70);
     /// assert_eq!(rt; set.as_slice(), [0, 0].as_slice());
     /// ```
+    #[tactic(auto, using(crate::proofs::Words::given_back, crate::proofs::Words::viewed_length))]
     pub fn clear(&mut self)
         ensures { self.new ≡ model.empty self.old.length }
     {
-        lanes::zero(&mut self.words, &mut Steps::new());
+        lent::clear(&mut self.words, self.length);
     }
 
     /// The length in bits: set positions and others.
@@ -243,13 +244,13 @@ impl FixedBitSet {
 
     // The words that the length needs, without those behind them that make up a whole lane.
     #[inline]
+    #[tactic(auto, using(crate::proofs::Words::viewed_length))]
     pub(crate) fn used_words(&self) -> &[Block]
         ensures value { result.now ≡ model.words self.now }
         ensures count { length result.now ≡ model.words_needed self.now.length }
         ensures fits { self.now.length < 2 ^ 64 }
     {
-        let words = self.words.as_slice();
-        &words[..self.length.div_ceil(BITS)]
+        lent::used_words(&self.words, self.length)
     }
 }
 
@@ -291,19 +292,6 @@ fn copied(alloc: Global, words: &[Block]) -> Result<Vec<Block>, AllocError>
         Vec::from_clones(alloc, words)
     } else {
         Vec::from_slice(alloc, words)
-    }
-}
-
-// How many positions of word `index` are below the length.
-#[inline]
-pub(crate) fn used_bits(length: usize, index: usize) -> usize
-    requires { index < model.words_needed length }
-    ensures { result ≡ min (length - 64 * index) 64 }
-{
-    if index == length / BITS {
-        length % BITS
-    } else {
-        BITS
     }
 }
 

@@ -4,14 +4,16 @@
 //! joined; the rest of the longer set is copied, cleared or left, as the operation says. Module `counted` has the same
 //! calls with a counter.
 
-ghost use Rattle.std.specs.Prelude.{◌≡◌, ◌≤◌, IsOk, IfOk, OnOk, OnErr};
+ghost use Rattle.std.specs.Prelude.{◌≡◌, ◌≤◌, IsOk, IfOk, OnOk, OnErr, not, true};
 ghost use Rattle.fixedbitset.specs.Bits as model;
+ghost use Rattle.fixedbitset.specs.Stored.{joined};
 ghost use Rattle.fixedbitset.specs.TwoSets as sets;
 
 use crate::counted;
 use crate::set::FixedBitSet;
 use bitlanes::Steps;
-use bitlanes::ops::{And, Or, Xor};
+use bitlanes::ops::{And, Or, WordOp, Xor};
+use bitwords::joins;
 use std::alloc::AllocError;
 
 impl FixedBitSet {
@@ -88,6 +90,58 @@ impl FixedBitSet {
         ensures { self.new ≡ sets.difference self.old other.now }
     {
         counted::difference_with(self, other, &mut Steps::new());
+    }
+
+    /// [`union_with`](Self::union_with), with the answer whether a position came in: whether `other` has one that this set
+    /// lacked. The length may become greater even where none came in; two calls of [`len`](Self::len) tell that.
+    ///
+    /// ```
+    /// let mut set = FixedBitSet::from_iter(alloc, [1, 3])?;
+    /// let other = FixedBitSet::from_iter(alloc, [3, 64])?;
+    /// assert!(rt; set.union_with_change(&other)?);
+    /// assert!(rt; !set.union_with_change(&other)?);
+    /// ```
+    pub fn union_with_change(&mut self, other: &Self) -> Result<bool, AllocError>
+        ensures ok { OnOk result (self.new ≡ sets.union self.old other.now) }
+        ensures changed { IfOk result
+            (λ changed. changed ≡ not (sets.is_subset other.now self.old)) }
+        ensures err { OnErr result (self.new ≡ self.old) }
+        ensures succeeds { model.words_needed other.now.length ≤ model.words_needed self.old.length
+            → IsOk result }
+    {
+        counted::union_with_change(self, other, &mut Steps::new())
+    }
+
+    /// [`intersect_with`](Self::intersect_with), with the answer whether a position went: whether `other` lacked one of
+    /// this set. It takes no memory.
+    ///
+    /// ```
+    /// let mut set = FixedBitSet::from_iter(alloc, [1, 3, 64])?;
+    /// let other = FixedBitSet::from_iter(alloc, [3, 5])?;
+    /// assert!(rt; set.intersect_with_change(&other));
+    /// assert!(rt; !set.intersect_with_change(&other));
+    /// ```
+    pub fn intersect_with_change(&mut self, other: &Self) -> bool
+        ensures value { self.new ≡ sets.intersection self.old other.now }
+        ensures changed { result ≡ not (sets.is_subset self.old other.now) }
+    {
+        counted::intersect_with_change(self, other, &mut Steps::new())
+    }
+
+    /// [`difference_with`](Self::difference_with), with the answer whether a position went: whether both sets had one. It
+    /// takes no memory.
+    ///
+    /// ```
+    /// let mut set = FixedBitSet::from_iter(alloc, [1, 3, 64])?;
+    /// let other = FixedBitSet::from_iter(alloc, [3, 5])?;
+    /// assert!(rt; set.difference_with_change(&other));
+    /// assert!(rt; !set.difference_with_change(&other));
+    /// ```
+    pub fn difference_with_change(&mut self, other: &Self) -> bool
+        ensures value { self.new ≡ sets.difference self.old other.now }
+        ensures changed { result ≡ not (sets.is_disjoint self.old other.now) }
+    {
+        counted::difference_with_change(self, other, &mut Steps::new())
     }
 
     /// The same as [`union_with`](Self::union_with). Upstream's operator `|=` is this call, as it may be refused memory.
@@ -304,5 +358,19 @@ impl FixedBitSet {
         ensures { result ≡ sets.is_subset other.now self.now }
     {
         other.is_subset(self)
+    }
+
+    // A new set: this one, joined with `other`.
+    #[inline(always)]
+    fn joined_copy<O: WordOp>(&self, other: &Self) -> Result<Self, AllocError>
+        requires { O.TAKE ≡ true → other.now.length ≤ self.now.length }
+        ensures { IfOk result (λ set. set ≡ joined O.truth self.now other.now) }
+    {
+        let alloc = *self.words.allocator();
+        let words = joins::joined::<O>(alloc, self.words.as_slice(), other.words.as_slice())?;
+        Ok(FixedBitSet {
+            words,
+            length: self.length,
+        })
     }
 }

@@ -13,6 +13,16 @@ fn join(rt: HostRuntime) {
 }
 
 #[test]
+fn join_with_change(rt: HostRuntime) {
+    let mut words = [11, 3, 1];
+    holds(
+        &rt,
+        joins::join_with_change::<And>(&mut words, &[9, 6], &mut Steps::new()),
+    );
+    equal(&rt, words, [9, 2, 0]);
+}
+
+#[test]
 fn count(rt: HostRuntime) {
     let count = joins::count::<Xor>(&[11, 3], &[9], &mut Steps::new());
     equal(&rt, count, 3);

@@ -17,6 +17,8 @@ mod bytes;
 #[cfg(test)]
 mod calls;
 #[cfg(test)]
+mod changes;
+#[cfg(test)]
 mod commands;
 #[cfg(test)]
 mod commands_ranging;
@@ -24,6 +26,8 @@ mod commands_ranging;
 mod commands_refusals;
 #[cfg(test)]
 mod commands_replies;
+#[cfg(test)]
+mod counted_changes;
 #[cfg(test)]
 mod counted_ranges;
 #[cfg(test)]
@@ -48,6 +52,8 @@ mod lanes;
 mod laws;
 #[cfg(test)]
 mod lent;
+#[cfg(test)]
+mod lent_changes;
 #[cfg(test)]
 mod lent_ranges;
 #[cfg(test)]

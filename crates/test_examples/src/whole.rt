@@ -42,6 +42,33 @@ fn difference_with(rt: HostRuntime) {
 }
 
 #[test]
+fn union_with_change(rt: HostRuntime) {
+    let alloc = rt.alloc();
+    let mut set = set_of(&rt, alloc, &[1, 3]);
+    let other = set_of(&rt, alloc, &[3, 64]);
+    holds(&rt, ok(&rt, set.union_with_change(&other)));
+    holds(&rt, !ok(&rt, set.union_with_change(&other)));
+}
+
+#[test]
+fn intersect_with_change(rt: HostRuntime) {
+    let alloc = rt.alloc();
+    let mut set = set_of(&rt, alloc, &[1, 3, 64]);
+    let other = set_of(&rt, alloc, &[3, 5]);
+    holds(&rt, set.intersect_with_change(&other));
+    holds(&rt, !set.intersect_with_change(&other));
+}
+
+#[test]
+fn difference_with_change(rt: HostRuntime) {
+    let alloc = rt.alloc();
+    let mut set = set_of(&rt, alloc, &[1, 3, 64]);
+    let other = set_of(&rt, alloc, &[3, 5]);
+    holds(&rt, set.difference_with_change(&other));
+    holds(&rt, !set.difference_with_change(&other));
+}
+
+#[test]
 fn bitor_assign(rt: HostRuntime) {
     let alloc = rt.alloc();
     let mut set = set_of(&rt, alloc, &[1, 3]);

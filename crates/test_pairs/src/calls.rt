@@ -41,6 +41,26 @@ pub fn join(
     Ok(set)
 }
 
+/// A call that joins two sets and answers whether a position of the first one changed.
+#[derive(Clone, Copy, Debug)]
+pub enum Changing {
+    UnionWith,
+    IntersectWith,
+    DifferenceWith,
+}
+
+pub fn change(
+    set: &mut FixedBitSet,
+    other: &FixedBitSet,
+    call: Changing,
+) -> Result<bool, AllocError> {
+    match call {
+        Changing::UnionWith => set.union_with_change(other),
+        Changing::IntersectWith => Ok(set.intersect_with_change(other)),
+        Changing::DifferenceWith => Ok(set.difference_with_change(other)),
+    }
+}
+
 /// A call that counts positions of two sets.
 #[derive(Clone, Copy, Debug)]
 pub enum Counting {

@@ -1,6 +1,6 @@
 //! Every call on every pair of fifteen lengths, beside slow values.
 
-use crate::calls::{Counting, Joining, Question, count, is_so, join};
+use crate::calls::{Changing, Counting, Joining, Question, change, count, is_so, join};
 use std::alloc::{AllocError, Global};
 use std::process::Abort;
 use std::test::Fail;
@@ -89,6 +89,50 @@ fn every_pair_joined_anew(rt: HostRuntime) -> Result<(), Fail> {
         (Joining::Bitxor, Join::One, Length::Longer),
     ];
     assert_joins(&rt, rt.alloc(), &calls)?;
+    Ok(())
+}
+
+// What each call makes of a pair, and the positions of which it changes some.
+const CHANGES: [(Changing, Join, Length, Join); 3] = [
+    (
+        Changing::UnionWith,
+        Join::Either,
+        Length::Longer,
+        Join::SecondAlone,
+    ),
+    (
+        Changing::IntersectWith,
+        Join::Both,
+        Length::First,
+        Join::FirstAlone,
+    ),
+    (
+        Changing::DifferenceWith,
+        Join::FirstAlone,
+        Length::First,
+        Join::Both,
+    ),
+];
+
+// At the second time nothing changes.
+fn assert_changes(rt: &impl Abort, alloc: Global, pair: &Pair) -> Result<(), AllocError> {
+    let other = filled(alloc, &pair.b)?;
+    for (call, positions, length, changed) in CHANGES {
+        let expected = joined(alloc, length_of(pair, length), &pair.a, &pair.b, positions)?;
+        let changes = count_joined(&pair.a, &pair.b, changed) > 0;
+        let mut set = filled(alloc, &pair.a)?;
+        assert!(rt; change(&mut set, &other, call)? == changes, "{call:?}");
+        assert!(rt; is_same(&set, &expected), "{call:?}");
+        assert!(rt; !change(&mut set, &other, call)?, "{call:?}");
+    }
+    Ok(())
+}
+
+#[test]
+fn every_pair_changed_with_answer(rt: HostRuntime) -> Result<(), Fail> {
+    for pair in &every_pair(rt.alloc())? {
+        assert_changes(&rt, rt.alloc(), pair)?;
+    }
     Ok(())
 }
 

@@ -18,11 +18,13 @@ pub enum Growing {
     SymmetricDifferenceWith,
     BitorAssign,
     BitxorAssign,
+    UnionWithChange,
     CountedUnionWith,
     CountedSymmetricDifferenceWith,
+    CountedUnionWithChange,
 }
 
-pub const CALLS: [(&str, Growing); 10] = [
+pub const CALLS: [(&str, Growing); 12] = [
     ("grow", Growing::Grow),
     ("grow_and_insert", Growing::GrowAndInsert),
     ("extend", Growing::Extend),
@@ -34,10 +36,15 @@ pub const CALLS: [(&str, Growing); 10] = [
     ),
     ("bitor_assign", Growing::BitorAssign),
     ("bitxor_assign", Growing::BitxorAssign),
+    ("union_with_change", Growing::UnionWithChange),
     ("counted::union_with", Growing::CountedUnionWith),
     (
         "counted::symmetric_difference_with",
         Growing::CountedSymmetricDifferenceWith,
+    ),
+    (
+        "counted::union_with_change",
+        Growing::CountedUnionWithChange,
     ),
 ];
 
@@ -85,9 +92,13 @@ fn joined(set: &mut FixedBitSet, long: &FixedBitSet, call: Growing) -> Result<()
         Growing::SymmetricDifferenceWith => set.symmetric_difference_with(long),
         Growing::BitorAssign => set.bitor_assign(long),
         Growing::BitxorAssign => set.bitxor_assign(long),
+        Growing::UnionWithChange => set.union_with_change(long).map(|_| ()),
         Growing::CountedUnionWith => counted::union_with(set, long, &mut Steps::new()),
         Growing::CountedSymmetricDifferenceWith => {
             counted::symmetric_difference_with(set, long, &mut Steps::new())
+        }
+        Growing::CountedUnionWithChange => {
+            counted::union_with_change(set, long, &mut Steps::new()).map(|_| ())
         }
     }
 }

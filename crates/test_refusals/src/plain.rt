@@ -272,7 +272,10 @@ fn counted_calls(starts: &mut Starts) -> Result<bool, Fault> {
     counted::union_with(&mut wide, short, steps)?;
     let is_joined = is_value(&wide, LONG, &[3, LONG - 1]);
     counted::symmetric_difference_with(&mut wide, short, steps)?;
-    Ok(is_counted && is_joined && is_short(&set) && is_long(&wide))
+    let has_changed = counted::union_with_change(&mut wide, short, steps)?
+        && !counted::intersect_with_change(&mut set, short, steps)
+        && counted::difference_with_change(&mut wide, short, steps);
+    Ok(is_counted && is_joined && has_changed && is_short(&set) && is_long(&wide))
 }
 
 fn hash_of(set: &FixedBitSet) -> u64 {
@@ -319,6 +322,16 @@ fn joins_in_place(starts: &mut Starts) -> Result<bool, Fault> {
     let is_joined_again = is_value(&set, LONG, &[3, LONG - 1]);
     set.bitxor_assign(short)?;
     let is_back_again = is_long(&set);
+    let has_changed = set.union_with_change(short)? && set.difference_with_change(short);
+    let is_back_at_last = is_long(&set) && !set.intersect_with_change(&starts.long);
     set.clone_from(short)?;
-    Ok(is_joined && is_back && is_joined_again && is_back_again && is_short(&set))
+    Ok(
+        is_joined
+            && is_back
+            && is_joined_again
+            && is_back_again
+            && has_changed
+            && is_back_at_last
+            && is_short(&set),
+    )
 }

@@ -10,6 +10,7 @@ ghost use Rattle.bitwords.specs.Steps.{range_words, search_steps};
 ghost use Rattle.fixedbitset.specs.Ranges as ranges;
 ghost use Rattle.fixedbitset.specs.Ranges.{over};
 
+use crate::lent::ranges::{change, count, none};
 use crate::set::FixedBitSet;
 use bitlanes::ops::{And, AndNot, Or, Xor};
 use bitlanes::{IndexRange, Steps};
@@ -23,7 +24,7 @@ use bitlanes::{IndexRange, Steps};
 /// assert_eq!(rt; counted::count_ones(&set, .., &mut steps), 3);
 /// ```
 #[inline]
-#[tactic(auto, using(crate::proofs::JoinedValues::insert_joined))]
+#[tactic(auto, using(crate::proofs::JoinedValues::insert_joined, crate::proofs::Words::given_back))]
 pub fn insert_range<R: IndexRange<usize> + Drop>(set: &mut FixedBitSet, range: R, steps: &mut Steps)
     requires { IsTrue (over ranges.is_valid set.old (R.start_of range) (R.end_of range)) }
     ensures value { set.new ≡ over ranges.insert_range set.old (R.start_of range) (R.end_of range) }
@@ -32,7 +33,7 @@ pub fn insert_range<R: IndexRange<usize> + Drop>(set: &mut FixedBitSet, range: R
 {
     let start = range.start().unwrap_or(0);
     let end = range.end().unwrap_or(set.len());
-    set.change_range::<Or>(start, end, steps);
+    change::<Or>(&mut set.words, set.length, start, end, steps);
 }
 
 /// [`FixedBitSet::remove_range`], with the steps that it takes.
@@ -45,7 +46,7 @@ pub fn insert_range<R: IndexRange<usize> + Drop>(set: &mut FixedBitSet, range: R
 /// assert_eq!(rt; set.count_ones(..), 2);
 /// ```
 #[inline]
-#[tactic(auto, using(crate::proofs::JoinedValues::remove_joined))]
+#[tactic(auto, using(crate::proofs::JoinedValues::remove_joined, crate::proofs::Words::given_back))]
 pub fn remove_range<R: IndexRange<usize> + Drop>(set: &mut FixedBitSet, range: R, steps: &mut Steps)
     requires { IsTrue (over ranges.is_valid set.old (R.start_of range) (R.end_of range)) }
     ensures value { set.new ≡ over ranges.remove_range set.old (R.start_of range) (R.end_of range) }
@@ -54,7 +55,7 @@ pub fn remove_range<R: IndexRange<usize> + Drop>(set: &mut FixedBitSet, range: R
 {
     let start = range.start().unwrap_or(0);
     let end = range.end().unwrap_or(set.len());
-    set.change_range::<AndNot>(start, end, steps);
+    change::<AndNot>(&mut set.words, set.length, start, end, steps);
 }
 
 /// [`FixedBitSet::toggle_range`], with the steps that it takes.
@@ -67,7 +68,7 @@ pub fn remove_range<R: IndexRange<usize> + Drop>(set: &mut FixedBitSet, range: R
 /// assert_eq!(rt; set.minimum(), Some(60));
 /// ```
 #[inline]
-#[tactic(auto, using(crate::proofs::JoinedValues::toggle_joined))]
+#[tactic(auto, using(crate::proofs::JoinedValues::toggle_joined, crate::proofs::Words::given_back))]
 pub fn toggle_range<R: IndexRange<usize> + Drop>(set: &mut FixedBitSet, range: R, steps: &mut Steps)
     requires { IsTrue (over ranges.is_valid set.old (R.start_of range) (R.end_of range)) }
     ensures value { set.new ≡ over ranges.toggle_range set.old (R.start_of range) (R.end_of range) }
@@ -76,7 +77,7 @@ pub fn toggle_range<R: IndexRange<usize> + Drop>(set: &mut FixedBitSet, range: R
 {
     let start = range.start().unwrap_or(0);
     let end = range.end().unwrap_or(set.len());
-    set.change_range::<Xor>(start, end, steps);
+    change::<Xor>(&mut set.words, set.length, start, end, steps);
 }
 
 /// [`FixedBitSet::count_ones`], with the steps that it takes.
@@ -100,7 +101,7 @@ pub fn count_ones<R: IndexRange<usize> + Drop>(
 {
     let start = range.start().unwrap_or(0);
     let end = range.end().unwrap_or(set.len());
-    set.count_range::<And>(start, end, steps)
+    count::<And>(&set.words, set.length, start, end, steps)
 }
 
 /// [`FixedBitSet::count_zeroes`], with the steps that it takes.
@@ -124,7 +125,7 @@ pub fn count_zeroes<R: IndexRange<usize> + Drop>(
 {
     let start = range.start().unwrap_or(0);
     let end = range.end().unwrap_or(set.len());
-    set.count_range::<AndNot>(start, end, steps)
+    count::<AndNot>(&set.words, set.length, start, end, steps)
 }
 
 /// [`FixedBitSet::contains_all_in_range`], with the steps that it takes.
@@ -152,7 +153,7 @@ pub fn contains_all_in_range<R: IndexRange<usize> + Drop>(
 {
     let start = range.start().unwrap_or(0);
     let end = range.end().unwrap_or(set.len());
-    set.none_range::<AndNot>(start, end, steps)
+    none::<AndNot>(&set.words, set.length, start, end, steps)
 }
 
 /// [`FixedBitSet::contains_any_in_range`], with the steps that it takes.
@@ -180,5 +181,5 @@ pub fn contains_any_in_range<R: IndexRange<usize> + Drop>(
 {
     let start = range.start().unwrap_or(0);
     let end = range.end().unwrap_or(set.len());
-    !set.none_range::<And>(start, end, steps)
+    !none::<And>(&set.words, set.length, start, end, steps)
 }

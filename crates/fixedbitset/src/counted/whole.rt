@@ -12,6 +12,7 @@ ghost use Rattle.fixedbitset.specs.Bits as model;
 ghost use Rattle.fixedbitset.specs.Stored.{joined};
 ghost use Rattle.fixedbitset.specs.TwoSets as sets;
 
+use crate::lent::whole::{count, join, none};
 use crate::set::FixedBitSet;
 use bitlanes::Steps;
 use bitlanes::ops::{And, AndNot, Or, WordOp, Xor};
@@ -28,7 +29,7 @@ use std::alloc::AllocError;
 /// assert_eq!(rt; set.as_slice(), [10, 1].as_slice());
 /// ```
 #[inline]
-#[tactic(auto, using(crate::proofs::JoinedValues::union_grown, crate::proofs::JoinedValues::union_longer))]
+#[tactic(auto, using(crate::proofs::JoinedValues::union_grown, crate::proofs::JoinedValues::union_longer, crate::proofs::Words::given_back, crate::proofs::Words::viewed_length))]
 pub fn union_with(
     set: &mut FixedBitSet,
     other: &FixedBitSet,
@@ -45,7 +46,13 @@ pub fn union_with(
     if set.len() < other.len() {
         return grow_and_join::<Or>(set, other, steps);
     }
-    set.join::<Or>(other, steps);
+    join::<Or>(
+        &mut set.words,
+        set.length,
+        &other.words,
+        other.length,
+        steps,
+    );
     Ok(())
 }
 
@@ -60,7 +67,7 @@ pub fn union_with(
 /// assert_eq!(rt; set.as_slice(), [2, 1].as_slice());
 /// ```
 #[inline]
-#[tactic(auto, using(crate::proofs::JoinedValues::symmetric_difference_grown, crate::proofs::JoinedValues::symmetric_difference_longer))]
+#[tactic(auto, using(crate::proofs::JoinedValues::symmetric_difference_grown, crate::proofs::JoinedValues::symmetric_difference_longer, crate::proofs::Words::given_back, crate::proofs::Words::viewed_length))]
 pub fn symmetric_difference_with(
     set: &mut FixedBitSet,
     other: &FixedBitSet,
@@ -77,7 +84,13 @@ pub fn symmetric_difference_with(
     if set.len() < other.len() {
         return grow_and_join::<Xor>(set, other, steps);
     }
-    set.join::<Xor>(other, steps);
+    join::<Xor>(
+        &mut set.words,
+        set.length,
+        &other.words,
+        other.length,
+        steps,
+    );
     Ok(())
 }
 
@@ -90,14 +103,20 @@ pub fn symmetric_difference_with(
 /// assert_eq!(rt; set.as_slice(), [8, 0].as_slice());
 /// ```
 #[inline]
-#[tactic(auto, using(crate::proofs::JoinedValues::intersection_joined))]
+#[tactic(auto, using(crate::proofs::JoinedValues::intersection_joined, crate::proofs::Words::given_back))]
 pub fn intersect_with(set: &mut FixedBitSet, other: &FixedBitSet, steps: &mut Steps)
     ensures value { set.new ≡ sets.intersection set.old other.now }
     ensures cost { steps.new ≡ steps.old
         + join_steps false (model.storage_words set.old.length)
         (model.storage_words other.now.length) }
 {
-    set.join::<And>(other, steps);
+    join::<And>(
+        &mut set.words,
+        set.length,
+        &other.words,
+        other.length,
+        steps,
+    );
 }
 
 /// [`FixedBitSet::difference_with`], with the steps that it takes.
@@ -109,14 +128,20 @@ pub fn intersect_with(set: &mut FixedBitSet, other: &FixedBitSet, steps: &mut St
 /// assert_eq!(rt; set.as_slice(), [2, 1].as_slice());
 /// ```
 #[inline]
-#[tactic(auto, using(crate::proofs::JoinedValues::difference_joined))]
+#[tactic(auto, using(crate::proofs::JoinedValues::difference_joined, crate::proofs::Words::given_back, crate::proofs::Words::viewed_length))]
 pub fn difference_with(set: &mut FixedBitSet, other: &FixedBitSet, steps: &mut Steps)
     ensures value { set.new ≡ sets.difference set.old other.now }
     ensures cost { steps.new ≡ steps.old
         + join_steps true (model.storage_words set.old.length)
         (model.storage_words other.now.length) }
 {
-    set.join::<AndNot>(other, steps);
+    join::<AndNot>(
+        &mut set.words,
+        set.length,
+        &other.words,
+        other.length,
+        steps,
+    );
 }
 
 /// [`FixedBitSet::union_count`], with the steps that it takes.
@@ -128,14 +153,14 @@ pub fn difference_with(set: &mut FixedBitSet, other: &FixedBitSet, steps: &mut S
 /// assert_eq!(rt; count, 4);
 /// ```
 #[inline]
-#[tactic(auto, using(crate::proofs::JoinedCounts::union_count_of))]
+#[tactic(auto, using(crate::proofs::JoinedCounts::union_count_of, crate::proofs::Words::viewed_length))]
 pub fn union_count(set: &FixedBitSet, other: &FixedBitSet, steps: &mut Steps) -> usize
     ensures count { result ≡ sets.union_count set.now other.now }
     ensures cost { steps.new ≡ steps.old
         + both_steps true true (model.storage_words set.now.length)
         (model.storage_words other.now.length) }
 {
-    set.count_joined::<Or>(other, steps)
+    count::<Or>(&set.words, set.length, &other.words, other.length, steps)
 }
 
 /// [`FixedBitSet::intersection_count`], with the steps that it takes.
@@ -147,14 +172,14 @@ pub fn union_count(set: &FixedBitSet, other: &FixedBitSet, steps: &mut Steps) ->
 /// assert_eq!(rt; count, 1);
 /// ```
 #[inline]
-#[tactic(auto, using(crate::proofs::JoinedCounts::intersection_count_of))]
+#[tactic(auto, using(crate::proofs::JoinedCounts::intersection_count_of, crate::proofs::Words::viewed_length))]
 pub fn intersection_count(set: &FixedBitSet, other: &FixedBitSet, steps: &mut Steps) -> usize
     ensures count { result ≡ sets.intersection_count set.now other.now }
     ensures cost { steps.new ≡ steps.old
         + both_steps false false (model.storage_words set.now.length)
         (model.storage_words other.now.length) }
 {
-    set.count_joined::<And>(other, steps)
+    count::<And>(&set.words, set.length, &other.words, other.length, steps)
 }
 
 /// [`FixedBitSet::difference_count`], with the steps that it takes.
@@ -166,14 +191,14 @@ pub fn intersection_count(set: &FixedBitSet, other: &FixedBitSet, steps: &mut St
 /// assert_eq!(rt; count, 2);
 /// ```
 #[inline]
-#[tactic(auto, using(crate::proofs::JoinedCounts::difference_count_of))]
+#[tactic(auto, using(crate::proofs::JoinedCounts::difference_count_of, crate::proofs::Words::viewed_length))]
 pub fn difference_count(set: &FixedBitSet, other: &FixedBitSet, steps: &mut Steps) -> usize
     ensures count { result ≡ sets.difference_count set.now other.now }
     ensures cost { steps.new ≡ steps.old
         + both_steps true false (model.storage_words set.now.length)
         (model.storage_words other.now.length) }
 {
-    set.count_joined::<AndNot>(other, steps)
+    count::<AndNot>(&set.words, set.length, &other.words, other.length, steps)
 }
 
 /// [`FixedBitSet::symmetric_difference_count`], with the steps that it takes.
@@ -185,7 +210,7 @@ pub fn difference_count(set: &FixedBitSet, other: &FixedBitSet, steps: &mut Step
 /// assert_eq!(rt; count, 3);
 /// ```
 #[inline]
-#[tactic(auto, using(crate::proofs::JoinedCounts::symmetric_difference_count_of))]
+#[tactic(auto, using(crate::proofs::JoinedCounts::symmetric_difference_count_of, crate::proofs::Words::viewed_length))]
 pub fn symmetric_difference_count(
     set: &FixedBitSet,
     other: &FixedBitSet,
@@ -196,7 +221,7 @@ pub fn symmetric_difference_count(
         + both_steps true true (model.storage_words set.now.length)
         (model.storage_words other.now.length) }
 {
-    set.count_joined::<Xor>(other, steps)
+    count::<Xor>(&set.words, set.length, &other.words, other.length, steps)
 }
 
 /// [`FixedBitSet::is_disjoint`], with the steps that it takes.
@@ -207,7 +232,7 @@ pub fn symmetric_difference_count(
 /// assert!(rt; counted::is_disjoint(&set, &other, &mut Steps::new()));
 /// ```
 #[inline]
-#[tactic(auto, using(crate::proofs::JoinedCounts::disjoint_of))]
+#[tactic(auto, using(crate::proofs::JoinedCounts::disjoint_of, crate::proofs::Words::viewed_length))]
 pub fn is_disjoint(set: &FixedBitSet, other: &FixedBitSet, steps: &mut Steps) -> bool
     ensures told { result ≡ sets.is_disjoint set.now other.now }
     ensures cost { steps.new ≤ steps.old
@@ -217,7 +242,7 @@ pub fn is_disjoint(set: &FixedBitSet, other: &FixedBitSet, steps: &mut Steps) ->
         + both_steps false false (model.storage_words set.now.length)
         (model.storage_words other.now.length) }
 {
-    set.none_joined::<And>(other, steps)
+    none::<And>(&set.words, set.length, &other.words, other.length, steps)
 }
 
 /// [`FixedBitSet::is_subset`], with the steps that it takes.
@@ -229,7 +254,7 @@ pub fn is_disjoint(set: &FixedBitSet, other: &FixedBitSet, steps: &mut Steps) ->
 /// assert!(rt; !counted::is_subset(&other, &set, &mut Steps::new()));
 /// ```
 #[inline]
-#[tactic(auto, using(crate::proofs::JoinedCounts::subset_of))]
+#[tactic(auto, using(crate::proofs::JoinedCounts::subset_of, crate::proofs::Words::viewed_length))]
 pub fn is_subset(set: &FixedBitSet, other: &FixedBitSet, steps: &mut Steps) -> bool
     ensures told { result ≡ sets.is_subset set.now other.now }
     ensures cost { steps.new ≤ steps.old
@@ -239,14 +264,14 @@ pub fn is_subset(set: &FixedBitSet, other: &FixedBitSet, steps: &mut Steps) -> b
         + both_steps true false (model.storage_words set.now.length)
         (model.storage_words other.now.length) }
 {
-    set.none_joined::<AndNot>(other, steps)
+    none::<AndNot>(&set.words, set.length, &other.words, other.length, steps)
 }
 
 // Joins the longer set `other` to `set`, which grows before. It is a call of its own, so that a set which is as long
 // saves nothing for it.
 #[cold]
 #[inline(never)]
-#[tactic(auto, using(crate::proofs::JoinedValues::grown_over, crate::proofs::JoinedValues::grown_length))]
+#[tactic(auto, using(crate::proofs::JoinedValues::grown_over, crate::proofs::JoinedValues::grown_length, crate::proofs::Words::given_back, crate::proofs::Words::viewed_length))]
 fn grow_and_join<O: WordOp>(
     set: &mut FixedBitSet,
     other: &FixedBitSet,
@@ -264,6 +289,12 @@ fn grow_and_join<O: WordOp>(
     ensures refused { OnErr result (steps.new ≡ steps.old) }
 {
     set.grow(other.len())?;
-    set.join::<O>(other, steps);
+    join::<O>(
+        &mut set.words,
+        set.length,
+        &other.words,
+        other.length,
+        steps,
+    );
     Ok(())
 }

@@ -1,6 +1,7 @@
 //! Ranges of positions, from `start` up to and without `end`. But for `range_is_valid` the range has to be valid.
 
-ghost use Rattle.std.specs.Prelude.{◌≡◌, ◌==◌, IsTrue, true, false};
+ghost use Rattle.std.specs.Prelude.{◌≡◌, ◌≤◌, ◌+◌, ◌==◌, IsTrue, true, false};
+ghost use Rattle.bitwords.specs.Steps.{range_words, search_steps};
 ghost use Rattle.fixedbitset.specs.Bits.{of_words};
 ghost use Rattle.fixedbitset.specs.Ranges as ranges;
 ghost use Rattle.fixedbitset.specs.Ranges.{is_valid};
@@ -18,7 +19,7 @@ use bitlanes::{Block, Steps};
 /// assert!(rt; !lent::range_is_valid(&words, 70, 60, 71));
 /// ```
 #[inline(always)]
-#[tactic(auto, using(crate::proofs::LentWords::of_length))]
+#[tactic(auto, using(crate::proofs::Words::of_length))]
 pub fn range_is_valid(words: &[Block], length: usize, start: usize, end: usize) -> bool
     ensures { result ≡ is_valid (of_words length words.now) start end }
 {
@@ -42,7 +43,7 @@ pub fn insert_range(words: &mut [Block], length: usize, start: usize, end: usize
         ≡ ranges.insert_range (of_words length words.old) start end }
     ensures clean { IsClean length words.new }
 {
-    change::<Or>(words, length, start, end);
+    change::<Or>(words, length, start, end, &mut Steps::new());
 }
 
 /// Clears the positions of the range.
@@ -62,7 +63,7 @@ pub fn remove_range(words: &mut [Block], length: usize, start: usize, end: usize
         ≡ ranges.remove_range (of_words length words.old) start end }
     ensures clean { IsClean length words.new }
 {
-    change::<AndNot>(words, length, start, end);
+    change::<AndNot>(words, length, start, end, &mut Steps::new());
 }
 
 /// Sets each position of the range that is clear and clears each that is set.
@@ -82,7 +83,7 @@ pub fn toggle_range(words: &mut [Block], length: usize, start: usize, end: usize
         ≡ ranges.toggle_range (of_words length words.old) start end }
     ensures clean { IsClean length words.new }
 {
-    change::<Xor>(words, length, start, end);
+    change::<Xor>(words, length, start, end, &mut Steps::new());
 }
 
 /// How many positions of the range are set.
@@ -99,7 +100,7 @@ pub fn count_ones(words: &[Block], length: usize, start: usize, end: usize) -> u
     requires valid { IsTrue (is_valid (of_words length words.now) start end) }
     ensures { result ≡ ranges.count_ones (of_words length words.now) start end }
 {
-    count::<And>(words, length, start, end)
+    count::<And>(words, length, start, end, &mut Steps::new())
 }
 
 /// How many positions of the range are not set.
@@ -116,7 +117,7 @@ pub fn count_zeroes(words: &[Block], length: usize, start: usize, end: usize) ->
     requires valid { IsTrue (is_valid (of_words length words.now) start end) }
     ensures { result ≡ ranges.count_zeroes (of_words length words.now) start end }
 {
-    count::<AndNot>(words, length, start, end)
+    count::<AndNot>(words, length, start, end, &mut Steps::new())
 }
 
 /// Whether each position of the range is set.
@@ -133,7 +134,7 @@ pub fn contains_all_in_range(words: &[Block], length: usize, start: usize, end: 
     requires valid { IsTrue (is_valid (of_words length words.now) start end) }
     ensures { result ≡ ranges.contains_all (of_words length words.now) start end }
 {
-    none::<AndNot>(words, length, start, end)
+    none::<AndNot>(words, length, start, end, &mut Steps::new())
 }
 
 /// Whether some position of the range is set.
@@ -150,41 +151,63 @@ pub fn contains_any_in_range(words: &[Block], length: usize, start: usize, end: 
     requires valid { IsTrue (is_valid (of_words length words.now) start end) }
     ensures { result ≡ ranges.contains_any (of_words length words.now) start end }
 {
-    !none::<And>(words, length, start, end)
+    !none::<And>(words, length, start, end, &mut Steps::new())
 }
 
 // Joins the range, as the positions of a second set, to the words.
 #[inline(always)]
-fn change<O: WordOp>(words: &mut [Block], length: usize, start: usize, end: usize)
+pub(crate) fn change<O: WordOp>(
+    words: &mut [Block],
+    length: usize,
+    start: usize,
+    end: usize,
+    steps: &mut Steps,
+)
     requires lent { IsClean length words.old }
     requires keeps { O.KEEP ≡ true }
     requires valid { IsTrue (is_valid (of_words length words.old) start end) }
     ensures value { of_words length words.new
         ≡ joined O.truth (of_words length words.old) (range_set start end) }
     ensures clean { IsClean length words.new }
+    ensures cost { steps.new ≡ steps.old + range_words start end }
 {
-    bitwords::ranges::change::<O>(words, start, end, &mut Steps::new());
+    bitwords::ranges::change::<O>(words, start, end, steps);
 }
 
 // How many positions of the range are in it joined with the words.
 #[inline(always)]
-fn count<O: WordOp>(words: &[Block], length: usize, start: usize, end: usize) -> usize
+pub(crate) fn count<O: WordOp>(
+    words: &[Block],
+    length: usize,
+    start: usize,
+    end: usize,
+    steps: &mut Steps,
+) -> usize
     requires lent { IsClean length words.now }
     requires drops { O.TAKE ≡ false }
     requires valid { IsTrue (is_valid (of_words length words.now) start end) }
-    ensures { result ≡ count_joined O.truth (range_set start end) (of_words length words.now) }
+    ensures count { result ≡ count_joined O.truth (range_set start end) (of_words length words.now) }
+    ensures cost { steps.new ≡ steps.old + range_words start end }
 {
-    bitwords::ranges::count::<O>(words, start, end, &mut Steps::new())
+    bitwords::ranges::count::<O>(words, start, end, steps)
 }
 
 // Whether no position of the range is in it joined with the words.
 #[inline(always)]
-fn none<O: WordOp>(words: &[Block], length: usize, start: usize, end: usize) -> bool
+pub(crate) fn none<O: WordOp>(
+    words: &[Block],
+    length: usize,
+    start: usize,
+    end: usize,
+    steps: &mut Steps,
+) -> bool
     requires lent { IsClean length words.now }
     requires drops { O.TAKE ≡ false }
     requires valid { IsTrue (is_valid (of_words length words.now) start end) }
-    ensures { result
+    ensures none { result
         ≡ (count_joined O.truth (range_set start end) (of_words length words.now) == 0) }
+    ensures cost { steps.new ≤ steps.old + search_steps start end }
+    ensures whole { IsTrue result → steps.new ≡ steps.old + search_steps start end }
 {
-    bitwords::ranges::none::<O>(words, start, end, &mut Steps::new())
+    bitwords::ranges::none::<O>(words, start, end, steps)
 }

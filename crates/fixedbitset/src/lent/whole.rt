@@ -1,6 +1,8 @@
 //! Two whole sets, of any two lengths.
 
-ghost use Rattle.std.specs.Prelude.{◌≡◌, ◌≤◌, ◌==◌, true};
+ghost use Rattle.std.specs.Prelude.{◌≡◌, ◌≤◌, ◌+◌, ◌==◌, IsTrue, true};
+ghost use Rattle.bitwords.specs.Steps.{join_steps, both_steps};
+ghost use Rattle.fixedbitset.specs.Bits as model;
 ghost use Rattle.fixedbitset.specs.Bits.{of_words};
 ghost use Rattle.fixedbitset.specs.Order as order;
 ghost use Rattle.fixedbitset.specs.Stored.{IsClean, joined, count_joined};
@@ -22,7 +24,7 @@ use std::cmp::Ordering;
 /// assert_eq!(rt; words, [11, 0, 0, 0]);
 /// ```
 #[inline(always)]
-#[tactic(auto, using(crate::proofs::LentWords::of_length, crate::proofs::JoinedValues::union_longer))]
+#[tactic(auto, using(crate::proofs::Words::of_length, crate::proofs::JoinedValues::union_longer))]
 pub fn union_with(words: &mut [Block], length: usize, other: &[Block], other_length: usize)
     requires lent { IsClean length words.old }
     requires lent_other { IsClean other_length other.now }
@@ -31,7 +33,7 @@ pub fn union_with(words: &mut [Block], length: usize, other: &[Block], other_len
         ≡ sets.union (of_words length words.old) (of_words other_length other.now) }
     ensures clean { IsClean length words.new }
 {
-    join::<Or>(words, length, other, other_length);
+    join::<Or>(words, length, other, other_length, &mut Steps::new());
 }
 
 /// Leaves the positions of exactly one of the sets. The second may not be longer.
@@ -44,7 +46,7 @@ pub fn union_with(words: &mut [Block], length: usize, other: &[Block], other_len
 /// assert_eq!(rt; words, [10, 0, 0, 0]);
 /// ```
 #[inline(always)]
-#[tactic(auto, using(crate::proofs::LentWords::of_length, crate::proofs::JoinedValues::symmetric_difference_longer))]
+#[tactic(auto, using(crate::proofs::Words::of_length, crate::proofs::JoinedValues::symmetric_difference_longer))]
 pub fn symmetric_difference_with(
     words: &mut [Block],
     length: usize,
@@ -58,7 +60,7 @@ pub fn symmetric_difference_with(
         ≡ sets.symmetric_difference (of_words length words.old) (of_words other_length other.now) }
     ensures clean { IsClean length words.new }
 {
-    join::<Xor>(words, length, other, other_length);
+    join::<Xor>(words, length, other, other_length, &mut Steps::new());
 }
 
 /// Leaves the positions of both sets, and the length.
@@ -79,7 +81,7 @@ pub fn intersect_with(words: &mut [Block], length: usize, other: &[Block], other
         ≡ sets.intersection (of_words length words.old) (of_words other_length other.now) }
     ensures clean { IsClean length words.new }
 {
-    join::<And>(words, length, other, other_length);
+    join::<And>(words, length, other, other_length, &mut Steps::new());
 }
 
 /// Leaves the positions of the first set that the second lacks, and the length.
@@ -100,7 +102,7 @@ pub fn difference_with(words: &mut [Block], length: usize, other: &[Block], othe
         ≡ sets.difference (of_words length words.old) (of_words other_length other.now) }
     ensures clean { IsClean length words.new }
 {
-    join::<AndNot>(words, length, other, other_length);
+    join::<AndNot>(words, length, other, other_length, &mut Steps::new());
 }
 
 /// How many positions are in either set.
@@ -119,7 +121,7 @@ pub fn union_count(words: &[Block], length: usize, other: &[Block], other_length
     ensures { result
         ≡ sets.union_count (of_words length words.now) (of_words other_length other.now) }
 {
-    count::<Or>(words, length, other, other_length)
+    count::<Or>(words, length, other, other_length, &mut Steps::new())
 }
 
 /// How many positions are in both sets.
@@ -143,7 +145,7 @@ pub fn intersection_count(
     ensures { result
         ≡ sets.intersection_count (of_words length words.now) (of_words other_length other.now) }
 {
-    count::<And>(words, length, other, other_length)
+    count::<And>(words, length, other, other_length, &mut Steps::new())
 }
 
 /// How many positions of the first set the second lacks.
@@ -167,7 +169,7 @@ pub fn difference_count(
     ensures { result
         ≡ sets.difference_count (of_words length words.now) (of_words other_length other.now) }
 {
-    count::<AndNot>(words, length, other, other_length)
+    count::<AndNot>(words, length, other, other_length, &mut Steps::new())
 }
 
 /// How many positions are in exactly one of the sets.
@@ -191,7 +193,7 @@ pub fn symmetric_difference_count(
     ensures { result ≡ sets.symmetric_difference_count
         (of_words length words.now) (of_words other_length other.now) }
 {
-    count::<Xor>(words, length, other, other_length)
+    count::<Xor>(words, length, other, other_length, &mut Steps::new())
 }
 
 /// Whether no position is in both sets.
@@ -210,7 +212,7 @@ pub fn is_disjoint(words: &[Block], length: usize, other: &[Block], other_length
     ensures { result
         ≡ sets.is_disjoint (of_words length words.now) (of_words other_length other.now) }
 {
-    none::<And>(words, length, other, other_length)
+    none::<And>(words, length, other, other_length, &mut Steps::new())
 }
 
 /// Whether each position of the first set is one of the second.
@@ -229,7 +231,7 @@ pub fn is_subset(words: &[Block], length: usize, other: &[Block], other_length: 
     ensures { result
         ≡ sets.is_subset (of_words length words.now) (of_words other_length other.now) }
 {
-    none::<AndNot>(words, length, other, other_length)
+    none::<AndNot>(words, length, other, other_length, &mut Steps::new())
 }
 
 /// Whether the lengths and the positions are equal.
@@ -247,7 +249,7 @@ pub fn is_equal(words: &[Block], length: usize, other: &[Block], other_length: u
     ensures { result
         ≡ order.equal (of_words length words.now) (of_words other_length other.now) }
 {
-    length == other_length && none::<Xor>(words, length, other, other_length)
+    length == other_length && none::<Xor>(words, length, other, other_length, &mut Steps::new())
 }
 
 /// Which of the sets comes first, in the order of `FixedBitSet`.
@@ -259,7 +261,7 @@ pub fn is_equal(words: &[Block], length: usize, other: &[Block], other_length: u
 /// assert_eq!(rt; lent::compare(&words, 70, &other, 9), Ordering::Greater);
 /// ```
 #[inline(always)]
-#[tactic(auto, using(crate::proofs::LentWords::of_length), unfolding(crate::specs::Order::compare, crate::specs::Order::key))]
+#[tactic(auto, using(crate::proofs::Words::of_length), unfolding(crate::specs::Order::compare, crate::specs::Order::key))]
 pub fn compare(words: &[Block], length: usize, other: &[Block], other_length: usize) -> Ordering
     requires lent { IsClean length words.now }
     requires lent_other { IsClean other_length other.now }
@@ -274,35 +276,64 @@ pub fn compare(words: &[Block], length: usize, other: &[Block], other_length: us
 
 // Joins the second words to the first.
 #[inline(always)]
-fn join<O: WordOp>(words: &mut [Block], length: usize, other: &[Block], other_length: usize)
+pub(crate) fn join<O: WordOp>(
+    words: &mut [Block],
+    length: usize,
+    other: &[Block],
+    other_length: usize,
+    steps: &mut Steps,
+)
     requires lent { IsClean length words.old }
     requires lent_other { IsClean other_length other.now }
     requires shorter { O.TAKE ≡ true → other_length ≤ length }
     ensures value { of_words length words.new
         ≡ joined O.truth (of_words length words.old) (of_words other_length other.now) }
     ensures clean { IsClean length words.new }
+    ensures cost { steps.new ≡ steps.old
+        + join_steps O.KEEP (model.storage_words length) (model.storage_words other_length) }
 {
-    joins::join::<O>(words, other, &mut Steps::new());
+    joins::join::<O>(words, other, steps);
 }
 
 // How many positions of either set pass the operation's truth function.
 #[inline(always)]
-fn count<O: WordOp>(words: &[Block], length: usize, other: &[Block], other_length: usize) -> usize
+pub(crate) fn count<O: WordOp>(
+    words: &[Block],
+    length: usize,
+    other: &[Block],
+    other_length: usize,
+    steps: &mut Steps,
+) -> usize
     requires lent { IsClean length words.now }
     requires lent_other { IsClean other_length other.now }
-    ensures { result
+    ensures count { result
         ≡ count_joined O.truth (of_words length words.now) (of_words other_length other.now) }
+    ensures cost { steps.new ≡ steps.old
+        + both_steps O.KEEP O.TAKE (model.storage_words length)
+        (model.storage_words other_length) }
 {
-    joins::count::<O>(words, other, &mut Steps::new())
+    joins::count::<O>(words, other, steps)
 }
 
 // Whether no position of either set passes the operation's truth function.
 #[inline(always)]
-fn none<O: WordOp>(words: &[Block], length: usize, other: &[Block], other_length: usize) -> bool
+pub(crate) fn none<O: WordOp>(
+    words: &[Block],
+    length: usize,
+    other: &[Block],
+    other_length: usize,
+    steps: &mut Steps,
+) -> bool
     requires lent { IsClean length words.now }
     requires lent_other { IsClean other_length other.now }
-    ensures { result ≡ (count_joined O.truth
+    ensures none { result ≡ (count_joined O.truth
         (of_words length words.now) (of_words other_length other.now) == 0) }
+    ensures cost { steps.new ≤ steps.old
+        + both_steps O.KEEP O.TAKE (model.storage_words length)
+        (model.storage_words other_length) }
+    ensures whole { IsTrue result → steps.new ≡ steps.old
+        + both_steps O.KEEP O.TAKE (model.storage_words length)
+        (model.storage_words other_length) }
 {
-    joins::none::<O>(words, other, &mut Steps::new())
+    joins::none::<O>(words, other, steps)
 }

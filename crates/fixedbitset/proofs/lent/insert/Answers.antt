@@ -1,4 +1,4 @@
-use Rattle.fixedbitset.proofs.LentWords.{insert_clean}
+use Rattle.fixedbitset.proofs.Changes.{insert_clean}
 use Rattle.fixedbitset.proofs.lent.insert.Goals as goal
 
 pub returns-clause-clean : goal.returns-clause-clean

@@ -1,4 +1,4 @@
-use Rattle.fixedbitset.proofs.LentWords.{remove_clean}
+use Rattle.fixedbitset.proofs.Changes.{remove_clean}
 use Rattle.fixedbitset.proofs.lent.remove.Goals as goal
 
 pub returns-clause-clean : goal.returns-clause-clean

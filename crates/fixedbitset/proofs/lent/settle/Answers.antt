@@ -1,4 +1,4 @@
-use Rattle.fixedbitset.proofs.LentWords.{IsClean_settled, of_settled}
+use Rattle.fixedbitset.proofs.Blocks.{IsClean_settled, of_settled}
 use Rattle.fixedbitset.proofs.lent.settle.Goals as goal
 
 pub returns-clause-value : goal.returns-clause-value

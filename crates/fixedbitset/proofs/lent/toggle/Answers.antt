@@ -1,4 +1,4 @@
-use Rattle.fixedbitset.proofs.LentWords.{toggle_clean}
+use Rattle.fixedbitset.proofs.Changes.{toggle_clean}
 use Rattle.fixedbitset.proofs.lent.toggle.Goals as goal
 
 pub returns-clause-clean : goal.returns-clause-clean

@@ -10,8 +10,8 @@ count-requires-clause-order g c = valid_order (of_words c.args.length c.args.wor
 pub count-requires-clause-within : goal.count-requires-clause-within
 count-requires-clause-within g c = reaches _ _ (of_words c.args.length c.args.words.now) _ _ refl c.requires.lent c.requires.valid
 
-pub returns : goal.returns
-returns g c =
+pub returns-clause-count : goal.returns-clause-count
+returns-clause-count g c =
     let v = of_words c.args.length c.args.words.now in
     omega (
       arith,

@@ -10,8 +10,8 @@ none-requires-clause-order g c = valid_order (of_words c.args.length c.args.word
 pub none-requires-clause-within : goal.none-requires-clause-within
 none-requires-clause-within g c = reaches _ _ (of_words c.args.length c.args.words.now) _ _ refl c.requires.lent c.requires.valid
 
-pub returns : goal.returns
-returns g c =
+pub returns-clause-none : goal.returns-clause-none
+returns-clause-none g c =
     let v = of_words c.args.length c.args.words.now in
     c.none.ensures.none
     ∙ part_is_none _ _ _ (count_range-is g.met.O.WordOp.laws c.requires.drops v c.args.words.now c.args.start c.args.end (has_bit-of _ _ v refl c.requires.lent) (valid_order v _ _ c.requires.valid) (valid_within v _ _ c.requires.valid))

@@ -15,8 +15,8 @@ count-requires g c =
     let bound = count_rows-le g.O.WordOp.truth g.met.O.WordOp.laws.of_neither v w in
     omega (arith, size, bound, length-of_words c.args.length c.args.words.now, length-of_words c.args.other_length c.args.other.now, a.fits, b.fits)
 
-pub returns : goal.returns
-returns g c =
+pub returns-clause-count : goal.returns-clause-count
+returns-clause-count g c =
     let v = of_words c.args.length c.args.words.now in
     let w = of_words c.args.other_length c.args.other.now in
     let a = c.requires.lent in

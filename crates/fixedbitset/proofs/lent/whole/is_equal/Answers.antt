@@ -6,7 +6,7 @@ use Rattle.fixedbitset.proofs.lent.whole.is_equal.Goals as goal
 
 pub returns-then-length-other_length : goal.returns-then-length-other_length
 returns-then-length-other_length c =
-    c.none.ensures ∙ equal_of _ _ (length-of_words c.args.length c.args.words.now ∙ c.if-length-other_length.true ∙ sym (length-of_words c.args.other_length c.args.other.now))
+    c.none.ensures.none ∙ equal_of _ _ (length-of_words c.args.length c.args.words.now ∙ c.if-length-other_length.true ∙ sym (length-of_words c.args.other_length c.args.other.now))
 
 pub returns-else-length-other_length : goal.returns-else-length-other_length
 returns-else-length-other_length c =

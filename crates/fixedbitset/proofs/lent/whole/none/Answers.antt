@@ -4,8 +4,8 @@ use Rattle.fixedbitset.proofs.JoinedCounts.{count_rows}
 use Rattle.fixedbitset.proofs.JoinedWords.{has_bit-of, holds_all}
 use Rattle.fixedbitset.proofs.lent.whole.none.Goals as goal
 
-pub returns : goal.returns
-returns g c =
+pub returns-clause-none : goal.returns-clause-none
+returns-clause-none g c =
     let v = of_words c.args.length c.args.words.now in
     let w = of_words c.args.other_length c.args.other.now in
     let a = c.requires.lent in

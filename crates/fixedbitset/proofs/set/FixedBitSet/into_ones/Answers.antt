@@ -1,15 +1,16 @@
 use Rattle.std.proofs.Common.{◌≡◌, length, ap, ◌∙◌, arith, ◌*◌}
 use Rattle.bitwords.specs.Walk.{over_row}
 use Rattle.bitwords.specs.WalkFacts.{walk_forwards, walk_backwards}
+use Rattle.fixedbitset.specs.Bits.{words}
 use Rattle.fixedbitset.specs.Walks.{begun}
-use Rattle.fixedbitset.proofs.Words.{viewed_words, viewed_fits}
+use Rattle.fixedbitset.proofs.Words.{words_of, viewed_fits}
 use Rattle.fixedbitset.proofs.Positions.{over_row-begun, fits-asc}
 use Rattle.fixedbitset.proofs.set.FixedBitSet.into_ones.Goals as goal
 
 whole : (c : goal.After-over) → c.over.result ≡ begun c.args.self
 whole c =
     let items = c.truncate.ensures.items in
-    let words = items ∙ viewed_words _ _ _ c.self.view_is c.self.invariant _ c.div_ceil.ensures (λ k. rw items at (c.over.ensures.are_words k)) in
+    let words = items ∙ words_of _ _ c.self.invariant _ c.div_ceil.ensures (λ k. rw items at (c.over.ensures.are_words k)) ∙ ap words c.self.view_is in
     c.over.ensures.walk ∙ ap (λ ws. over_row ws (64 * length ws)) words ∙ over_row-begun c.args.self
 
 pub returns-clause-items : goal.returns-clause-items

@@ -1,0 +1,124 @@
+//! The kernels that change words and answer whether a bit changed. Each word is read once.
+//!
+//! A step is one lane, as in module `lanes`.
+ghost use Rattle.std.specs.Prelude.{◌≡◌, ◌+◌, ◌≤◌, ◌<◌, ◌==◌, ◌&&◌, not, length, min, replicate, true, false};
+ghost use Rattle.std.specs.List.{list_all};
+ghost use Rattle.std.specs.Simd.Lanes.{zip2, chunk, put_chunk};
+ghost use Rattle.bitlanes.specs.Changes.{changed_bits};
+ghost use Rattle.bitlanes.specs.Words.{zip_longest, filled, lane_steps};
+
+use crate::lanes::{LANE, is_zero, part_at, put_part};
+use crate::ops::WordOp;
+use crate::{Block, Steps};
+use std::simd::prelude::*;
+
+/// Joins each word of `dst` with the word of `src` at its place, by `O`, and answers whether a bit of `dst` changed. Words
+/// of `dst` past the end of `src` stay.
+///
+/// It takes exactly `m / 4` steps, rounded up, `m` being the number of words of the shorter slice.
+///
+/// ```
+/// let mut words = [1, 2, 4, 8, 16];
+/// assert!(rt; changes::apply::<Or>(&mut words, &[2, 2], &mut Steps::new()));
+/// assert!(rt; !changes::apply::<Or>(&mut words, &[3, 2], &mut Steps::new()));
+/// assert_eq!(rt; words, [3, 2, 4, 8, 16]);
+/// ```
+#[inline(always)]
+pub fn apply<O: WordOp>(dst: &mut [Block], src: &[Block], steps: &mut Steps) -> bool
+    ensures words { dst.new ≡ zip_longest O.joined true false dst.old src.now }
+    ensures changed { result ≡ not (list_all (λ word. word == 0)
+        (zip2 (changed_bits O.joined) dst.old src.now)) }
+    ensures cost { steps.new ≡ steps.old + lane_steps (min (length dst.old) (length src.now)) }
+{
+    let words = dst.len().min(src.len());
+    let lanes = words / LANE;
+    let mut changed = u64x4::splat(0);
+    for lane in 0..lanes {
+        steps.tick();
+        changed = gathered(changed, change_lane::<O>(dst, src, LANE * lane));
+    }
+    let rest = words % LANE;
+    if rest > 0 {
+        steps.tick();
+        changed = gathered(changed, change_part::<O>(dst, src, LANE * lanes, rest));
+    }
+    !is_zero(changed)
+}
+
+/// Makes each word 0, and answers whether one was not.
+///
+/// It takes exactly `m / 4` steps, rounded up, `m` being the number of words.
+///
+/// ```
+/// let mut words = [1; 6];
+/// assert!(rt; changes::zero(&mut words[1..], &mut Steps::new()));
+/// assert!(rt; !changes::zero(&mut words[1..], &mut Steps::new()));
+/// assert_eq!(rt; words, [1, 0, 0, 0, 0, 0]);
+/// ```
+#[inline(always)]
+pub fn zero(dst: &mut [Block], steps: &mut Steps) -> bool
+    ensures words { dst.new ≡ replicate (length dst.old) 0 }
+    ensures changed { result ≡ not (list_all (λ word. word == 0) dst.old) }
+    ensures cost { steps.new ≡ steps.old + lane_steps (length dst.old) }
+{
+    let words = dst.len();
+    let lanes = words / LANE;
+    let mut changed = u64x4::splat(0);
+    for lane in 0..lanes {
+        steps.tick();
+        changed = gathered(changed, u64x4::from_slice(&dst[LANE * lane..]));
+        u64x4::splat(0).copy_to_slice(&mut dst[LANE * lane..]);
+    }
+    let rest = words % LANE;
+    if rest > 0 {
+        steps.tick();
+        changed = gathered(changed, part_at(dst, LANE * lanes, rest));
+        put_part(dst, LANE * lanes, rest, u64x4::splat(0));
+    }
+    !is_zero(changed)
+}
+
+// The bits of either lane.
+#[inline(always)]
+#[tactic(auto, using(crate::proofs::Folding::or_of_rows))]
+fn gathered(before: u64x4, lane: u64x4) -> u64x4
+    ensures { list_all (λ word. word == 0) result
+        ≡ (list_all (λ word. word == 0) before && list_all (λ word. word == 0) lane) }
+{
+    before | lane
+}
+
+// Joins the four words of `dst` from `at` on with those of `src`, and answers the bits that changed.
+#[inline(always)]
+#[tactic(auto, using(crate::proofs::Changing::against_joined))]
+fn change_lane<O: WordOp>(dst: &mut [Block], src: &[Block], at: usize) -> u64x4
+    requires in_dst { at + 4 ≤ length dst.old }
+    requires in_src { at + 4 ≤ length src.now }
+    ensures words { dst.new ≡ put_chunk at dst.old
+        (zip2 O.joined (chunk at 4 dst.old) (chunk at 4 src.now)) }
+    ensures changed { result
+        ≡ zip2 (changed_bits O.joined) (chunk at 4 dst.old) (chunk at 4 src.now) }
+{
+    let old = u64x4::from_slice(&dst[at..]);
+    let new = O::lane(old, u64x4::from_slice(&src[at..]));
+    new.copy_to_slice(&mut dst[at..]);
+    old ^ new
+}
+
+// Joins the last one to three words of `dst`, from `at` on, with those of `src`, and answers the bits that changed.
+#[inline(always)]
+#[tactic(auto, using(crate::proofs::Changing::against_joined))]
+fn change_part<O: WordOp>(dst: &mut [Block], src: &[Block], at: usize, rest: usize) -> u64x4
+    requires some { 0 < rest }
+    requires few { rest < 4 }
+    requires in_dst { at + rest ≤ length dst.old }
+    requires in_src { at + rest ≤ length src.now }
+    ensures words { dst.new ≡ put_chunk at dst.old
+        (zip2 O.joined (chunk at rest dst.old) (chunk at rest src.now)) }
+    ensures changed { result ≡ filled at rest (zip2 (changed_bits O.joined) dst.old src.now) }
+{
+    let old = part_at(dst, at, rest);
+    let new = O::lane(old, part_at(src, at, rest));
+    put_part(dst, at, rest, new);
+    old ^ new
+}

@@ -1,0 +1,133 @@
+//! The changes by another set that answer whether a position changed, with a counter of steps. Each takes the steps of the
+//! call without the answer.
+
+ghost use Rattle.std.specs.Prelude.{◌≡◌, ◌<◌, ◌≤◌, ◌+◌, IsOk, IfOk, OnOk, OnErr, not, true, false};
+ghost use Rattle.bitlanes.specs.Words.{lane_steps};
+ghost use Rattle.bitwords.specs.Steps.{join_steps};
+ghost use Rattle.fixedbitset.specs.Bits as model;
+ghost use Rattle.fixedbitset.specs.TwoSets as sets;
+
+use crate::lent::changes::join;
+use crate::set::FixedBitSet;
+use bitlanes::Steps;
+use bitlanes::ops::{And, AndNot, Or};
+use std::alloc::AllocError;
+
+/// [`FixedBitSet::union_with_change`], with the steps that it takes.
+///
+/// Where memory was refused the set is as it was.
+///
+/// ```
+/// let mut set = FixedBitSet::from_iter(alloc, [1, 3])?;
+/// let other = FixedBitSet::from_iter(alloc, [3, 64])?;
+/// assert!(rt; counted::union_with_change(&mut set, &other, &mut Steps::new())?);
+/// assert_eq!(rt; set.as_slice(), [10, 1].as_slice());
+/// ```
+#[inline]
+#[tactic(auto, using(crate::proofs::JoinedValues::union_longer, crate::proofs::JoinedChanges::union_changes, crate::proofs::Words::given_back, crate::proofs::Words::viewed_length))]
+pub fn union_with_change(
+    set: &mut FixedBitSet,
+    other: &FixedBitSet,
+    steps: &mut Steps,
+) -> Result<bool, AllocError>
+    ensures ok { OnOk result (set.new ≡ sets.union set.old other.now) }
+    ensures changed { IfOk result (λ changed. changed ≡ not (sets.is_subset other.now set.old)) }
+    ensures err { OnErr result (set.new ≡ set.old) }
+    ensures succeeds { model.words_needed other.now.length ≤ model.words_needed set.old.length
+        → IsOk result }
+    ensures cost { OnOk result
+        (steps.new ≡ steps.old + lane_steps (model.words_needed other.now.length)) }
+    ensures refused { OnErr result (steps.new ≡ steps.old) }
+{
+    if set.len() < other.len() {
+        return grow_and_unite(set, other, steps);
+    }
+    Ok(join::<Or>(
+        &mut set.words,
+        set.length,
+        &other.words,
+        other.length,
+        steps,
+    ))
+}
+
+/// [`FixedBitSet::intersect_with_change`], with the steps that it takes.
+///
+/// ```
+/// let mut set = FixedBitSet::from_iter(alloc, [1, 3, 64])?;
+/// let other = FixedBitSet::from_iter(alloc, [3, 5])?;
+/// assert!(rt; counted::intersect_with_change(&mut set, &other, &mut Steps::new()));
+/// assert_eq!(rt; set.as_slice(), [8, 0].as_slice());
+/// ```
+#[inline]
+#[tactic(auto, using(crate::proofs::JoinedValues::intersection_joined, crate::proofs::JoinedChanges::intersection_changes, crate::proofs::Words::given_back))]
+pub fn intersect_with_change(set: &mut FixedBitSet, other: &FixedBitSet, steps: &mut Steps) -> bool
+    ensures value { set.new ≡ sets.intersection set.old other.now }
+    ensures changed { result ≡ not (sets.is_subset set.old other.now) }
+    ensures cost { steps.new ≡ steps.old
+        + join_steps false (model.storage_words set.old.length)
+        (model.storage_words other.now.length) }
+{
+    join::<And>(
+        &mut set.words,
+        set.length,
+        &other.words,
+        other.length,
+        steps,
+    )
+}
+
+/// [`FixedBitSet::difference_with_change`], with the steps that it takes.
+///
+/// ```
+/// let mut set = FixedBitSet::from_iter(alloc, [1, 3, 64])?;
+/// let other = FixedBitSet::from_iter(alloc, [3, 5])?;
+/// assert!(rt; counted::difference_with_change(&mut set, &other, &mut Steps::new()));
+/// assert_eq!(rt; set.as_slice(), [2, 1].as_slice());
+/// ```
+#[inline]
+#[tactic(auto, using(crate::proofs::JoinedValues::difference_joined, crate::proofs::JoinedChanges::difference_changes, crate::proofs::Words::given_back))]
+pub fn difference_with_change(set: &mut FixedBitSet, other: &FixedBitSet, steps: &mut Steps) -> bool
+    ensures value { set.new ≡ sets.difference set.old other.now }
+    ensures changed { result ≡ not (sets.is_disjoint set.old other.now) }
+    ensures cost { steps.new ≡ steps.old
+        + join_steps true (model.storage_words set.old.length)
+        (model.storage_words other.now.length) }
+{
+    join::<AndNot>(
+        &mut set.words,
+        set.length,
+        &other.words,
+        other.length,
+        steps,
+    )
+}
+
+// Unites `set`, which grows before, with the longer set `other`.
+#[cold]
+#[inline(never)]
+#[tactic(auto, using(crate::proofs::JoinedValues::grown_over, crate::proofs::JoinedValues::grown_length, crate::proofs::JoinedValues::union_grown, crate::proofs::JoinedChanges::union_grown_changes, crate::proofs::Words::given_back, crate::proofs::Words::viewed_length))]
+fn grow_and_unite(
+    set: &mut FixedBitSet,
+    other: &FixedBitSet,
+    steps: &mut Steps,
+) -> Result<bool, AllocError>
+    requires longer { set.old.length < other.now.length }
+    ensures ok { OnOk result (set.new ≡ sets.union set.old other.now) }
+    ensures changed { IfOk result (λ changed. changed ≡ not (sets.is_subset other.now set.old)) }
+    ensures err { OnErr result (set.new ≡ set.old) }
+    ensures succeeds { model.words_needed other.now.length ≤ model.words_needed set.old.length
+        → IsOk result }
+    ensures cost { OnOk result
+        (steps.new ≡ steps.old + lane_steps (model.words_needed other.now.length)) }
+    ensures refused { OnErr result (steps.new ≡ steps.old) }
+{
+    set.grow(other.len())?;
+    Ok(join::<Or>(
+        &mut set.words,
+        set.length,
+        &other.words,
+        other.length,
+        steps,
+    ))
+}

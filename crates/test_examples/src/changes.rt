@@ -1,0 +1,28 @@
+//! The examples in the docs of `bitlanes::changes`. docs/make_examples writes this file.
+
+use crate::calls::{equal, holds};
+use bitlanes::changes;
+use bitlanes::ops::Or;
+use fixedbitset::Steps;
+
+#[test]
+fn apply(rt: HostRuntime) {
+    let mut words = [1, 2, 4, 8, 16];
+    holds(
+        &rt,
+        changes::apply::<Or>(&mut words, &[2, 2], &mut Steps::new()),
+    );
+    holds(
+        &rt,
+        !changes::apply::<Or>(&mut words, &[3, 2], &mut Steps::new()),
+    );
+    equal(&rt, words, [3, 2, 4, 8, 16]);
+}
+
+#[test]
+fn zero(rt: HostRuntime) {
+    let mut words = [1; 6];
+    holds(&rt, changes::zero(&mut words[1..], &mut Steps::new()));
+    holds(&rt, !changes::zero(&mut words[1..], &mut Steps::new()));
+    equal(&rt, words, [1, 0, 0, 0, 0, 0]);
+}
