@@ -242,7 +242,7 @@ pub(crate) fn lane_at<O: WordOp>(a: &[Block], b: &[Block], at: usize) -> u64x4
 
 // The mask joined with each of the four words from `at` on.
 #[inline(always)]
-fn masked_lane_at<O: WordOp>(mask: Block, words: &[Block], at: usize) -> u64x4
+pub(crate) fn masked_lane_at<O: WordOp>(mask: Block, words: &[Block], at: usize) -> u64x4
     requires { at + 4 ≤ length words.now }
     ensures { result ≡ chunk at 4 (map (O.joined mask) words.now) }
 {

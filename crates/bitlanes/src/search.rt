@@ -1,12 +1,18 @@
 //! Searches for a word that is not 0, by sixteen words, then by lanes of four, and then by single words.
-ghost use Rattle.std.specs.Prelude.{◌≡◌, ◌+◌, ◌≤◌, ◌==◌, length, IfSome, IfNone};
+//!
+//! Each word is joined with one mask first, so the same loops find a word that has a bit and a word that lacks one. A
+//! step is one lane of four words from the place on where the search begins: each lane counts once, up to the one that
+//! has the word, though the last sixteen words may be looked at again.
+ghost use Rattle.std.specs.Prelude.{◌≡◌, ◌+◌, ◌-◌, ◌≤◌, ◌==◌, length, map, IfSome, IfNone};
 ghost use Rattle.std.specs.List.{list_all};
 ghost use Rattle.std.specs.Simd.Lanes.{chunk};
 ghost use Rattle.bitlanes.specs.Ones.{has_no_ones};
-ghost use Rattle.bitlanes.specs.Search.{IsFirstOne, IsLastOne, AreZeros};
+ghost use Rattle.bitlanes.specs.Search.{IsNextOne, IsPreviousOne, AreZerosFrom, AreZerosBelow, IsFirstOne, IsLastOne, AreZeros};
+ghost use Rattle.bitlanes.specs.Words.{lane_steps};
 
-use crate::Block;
-use crate::lanes::{LANE, is_zero};
+use crate::lanes::{LANE, is_zero, masked_lane_at};
+use crate::ops::{And, WordOp};
+use crate::{Block, Steps};
 use std::simd::prelude::*;
 
 // How many words four lanes have.
@@ -22,24 +28,11 @@ const FOUR: usize = 4 * LANE;
 /// assert_eq!(rt; search::first_one(&[0; 9]), None);
 /// ```
 #[inline(always)]
-#[tactic(auto, using(crate::proofs::Folding::zero_in_lane))]
 pub fn first_one(words: &[Block]) -> Option<usize>
     ensures found { IfSome result (IsFirstOne words.now) }
     ensures none { IfNone result (AreZeros words.now) }
 {
-    let mut start = 0;
-    while words.len() - start >= 2 * FOUR && are_zero_at(words, start) {
-        start += FOUR;
-    }
-    while words.len() - start >= LANE && is_zero_at(words, start) {
-        start += LANE;
-    }
-    for at in start..words.len() {
-        if words[at] != 0 {
-            return Some(at);
-        }
-    }
-    None
+    next_one::<And>(Block::MAX, words, 0, &mut Steps::new())
 }
 
 /// The place of the last word that is not 0, or `None` where each word is 0.
@@ -52,50 +45,129 @@ pub fn first_one(words: &[Block]) -> Option<usize>
 /// assert_eq!(rt; search::last_one(&[0; 9]), None);
 /// ```
 #[inline(always)]
-#[tactic(auto, using(crate::proofs::Folding::zero_in_lane))]
 pub fn last_one(words: &[Block]) -> Option<usize>
     ensures found { IfSome result (IsLastOne words.now) }
     ensures none { IfNone result (AreZeros words.now) }
 {
-    let mut end = words.len();
-    while end >= 2 * FOUR && are_zero_at(words, end - FOUR) {
-        end -= FOUR;
+    previous_one::<And>(Block::MAX, words, words.len(), &mut Steps::new())
+}
+
+/// The place of the first word, from place `from` on, that is not 0 when `mask` is joined with it by `O`; `None` where
+/// there is none. The place may be the end of the words, and not past it.
+///
+/// ```
+/// let words = [7, 0, 0, 1];
+/// let mut steps = Steps::new();
+/// assert_eq!(rt; search::next_one::<And>(Block::MAX, &words, 1, &mut steps), Some(3));
+/// assert_eq!(rt; search::next_one::<AndNot>(7, &words, 0, &mut steps), Some(1));
+/// assert_eq!(rt; search::next_one::<And>(8, &words, 0, &mut steps), None);
+/// ```
+#[inline(always)]
+#[tactic(auto, using(crate::proofs::Folding::zero_in_lane))]
+pub fn next_one<O: WordOp>(
+    mask: Block,
+    words: &[Block],
+    from: usize,
+    steps: &mut Steps,
+) -> Option<usize>
+    requires { from ≤ length words.now }
+    ensures found { IfSome result (IsNextOne (map (O.joined mask) words.now) from) }
+    ensures none { IfNone result (AreZerosFrom (map (O.joined mask) words.now) from) }
+    ensures cost { IfSome result (λ at. steps.new ≡ steps.old + lane_steps (at + 1 - from)) }
+    ensures whole { IfNone result
+        (steps.new ≡ steps.old + lane_steps (length words.now - from)) }
+{
+    let mut start = from;
+    while words.len() - start >= 2 * FOUR && are_zero_at::<O>(mask, words, start) {
+        tick_four(steps);
+        start += FOUR;
     }
-    while end >= LANE && is_zero_at(words, end - LANE) {
-        end -= LANE;
+    while words.len() - start >= LANE && is_zero(masked_lane_at::<O>(mask, words, start)) {
+        steps.tick();
+        start += LANE;
     }
-    for at in (0..end).rev() {
-        if words[at] != 0 {
+    for at in start..words.len() {
+        if (at - start) % LANE == 0 {
+            steps.tick();
+        }
+        if O::word(mask, words[at]) != 0 {
             return Some(at);
         }
     }
     None
 }
 
-// Whether each of the sixteen words from `at` on is 0.
+/// The place of the last word, below place `below`, that is not 0 when `mask` is joined with it by `O`; `None` where
+/// there is none. The place may be the end of the words, and not past it.
+///
+/// ```
+/// let words = [1, 0, 0, 7];
+/// let mut steps = Steps::new();
+/// assert_eq!(rt; search::previous_one::<And>(Block::MAX, &words, 3, &mut steps), Some(0));
+/// assert_eq!(rt; search::previous_one::<AndNot>(7, &words, 4, &mut steps), Some(2));
+/// assert_eq!(rt; search::previous_one::<And>(8, &words, 4, &mut steps), None);
+/// ```
 #[inline(always)]
-fn are_zero_at(words: &[Block], at: usize) -> bool
-    requires { at + 16 ≤ length words.now }
-    ensures { result ≡ has_no_ones (chunk at 16 words.now) }
+#[tactic(auto, using(crate::proofs::Folding::zero_in_lane))]
+pub fn previous_one<O: WordOp>(
+    mask: Block,
+    words: &[Block],
+    below: usize,
+    steps: &mut Steps,
+) -> Option<usize>
+    requires { below ≤ length words.now }
+    ensures found { IfSome result (IsPreviousOne (map (O.joined mask) words.now) below) }
+    ensures none { IfNone result (AreZerosBelow (map (O.joined mask) words.now) below) }
+    ensures cost { IfSome result (λ at. steps.new ≡ steps.old + lane_steps (below - at)) }
+    ensures whole { IfNone result (steps.new ≡ steps.old + lane_steps below) }
 {
-    is_zero(two_lanes_at(words, at) | two_lanes_at(words, at + 2 * LANE))
+    let mut end = below;
+    while end >= 2 * FOUR && are_zero_at::<O>(mask, words, end - FOUR) {
+        tick_four(steps);
+        end -= FOUR;
+    }
+    while end >= LANE && is_zero(masked_lane_at::<O>(mask, words, end - LANE)) {
+        steps.tick();
+        end -= LANE;
+    }
+    for at in (0..end).rev() {
+        if (end - 1 - at) % LANE == 0 {
+            steps.tick();
+        }
+        if O::word(mask, words[at]) != 0 {
+            return Some(at);
+        }
+    }
+    None
 }
 
-// The two lanes from `at` on, joined by `or`.
+// Counts the four lanes of sixteen words.
 #[inline(always)]
-fn two_lanes_at(words: &[Block], at: usize) -> u64x4
+fn tick_four(steps: &mut Steps)
+    ensures { steps.new ≡ steps.old + 4 }
+{
+    steps.tick();
+    steps.tick();
+    steps.tick();
+    steps.tick();
+}
+
+// Whether the mask joined with each of the sixteen words from `at` on is 0.
+#[inline(always)]
+fn are_zero_at<O: WordOp>(mask: Block, words: &[Block], at: usize) -> bool
+    requires { at + 16 ≤ length words.now }
+    ensures { result ≡ has_no_ones (chunk at 16 (map (O.joined mask) words.now)) }
+{
+    is_zero(two_lanes_at::<O>(mask, words, at) | two_lanes_at::<O>(mask, words, at + 2 * LANE))
+}
+
+// The two lanes from `at` on, each joined with the mask, joined by `or`.
+#[inline(always)]
+fn two_lanes_at<O: WordOp>(mask: Block, words: &[Block], at: usize) -> u64x4
     requires { at + 8 ≤ length words.now }
     ensures long { length result ≡ 4 }
-    ensures zero { has_no_ones result ≡ has_no_ones (chunk at 8 words.now) }
+    ensures zero { has_no_ones result
+        ≡ has_no_ones (chunk at 8 (map (O.joined mask) words.now)) }
 {
-    u64x4::from_slice(&words[at..]) | u64x4::from_slice(&words[at + LANE..])
-}
-
-// Whether each of the four words from `at` on is 0.
-#[inline(always)]
-fn is_zero_at(words: &[Block], at: usize) -> bool
-    requires { at + 4 ≤ length words.now }
-    ensures { result ≡ list_all (λ word. word == 0) (chunk at 4 words.now) }
-{
-    is_zero(u64x4::from_slice(&words[at..]))
+    masked_lane_at::<O>(mask, words, at) | masked_lane_at::<O>(mask, words, at + LANE)
 }

@@ -20,18 +20,23 @@ module _ {f : ℕ → ℕ → ℕ} {t : Bool → Bool → Bool} {keep take_right
   tested true y = refl
   tested false y = law.of_second y ∙ ap (λ b. b && y) drops
 
+  -- the bits of word k, joined with the mask of a range within it: those of the range that pass
+  pub word-bits : (k mask start end : ℕ) → mask < 2 ^ 64 → ((i : ℕ) → bit mask i ≡ (nat_lt i 64 && in_range start end (64 * k + i)))
+      → (i : ℕ) → i < 64 → bit (f mask (get_or ws k 0)) i ≡ (in_range start end (64 * k + i) && bit_test (t true) ws (64 * k + i))
+  unfolding bit_test
+  word-bits k mask start end fits masked i h =
+      law.by_bits mask (get_or ws k 0) i fits (words k)
+      ∙ (let a : bit mask i ≡ in_range start end (64 * k + i) = masked i ∙ ap (λ b. b && in_range start end (64 * k + i)) (lt-ltb i 64 h) in let b = sym (has_bit-at ws k i h) in λ j. t (a j) (b j))
+      ∙ tested _ _
+
   -- of a range within word k, which is joined with the mask of the range
   pub count-word : (k mask start end : ℕ) → mask < 2 ^ 64 → 64 * k ≤ start → start ≤ end → end ≤ 64 * (k + 1) → ((i : ℕ) → bit mask i ≡ (nat_lt i 64 && in_range start end (64 * k + i)))
       → ones (f mask (get_or ws k 0)) + count_below (bit_test (t true) ws) start ≡ count_below (bit_test (t true) ws) end
-  unfolding bit_test
   count-word k mask start end fits from order to masked =
       let c : ℕ → Bool = bit_test (t true) ws in
       let d : ℕ → Bool = λ p. in_range start end p && c p in
       let x : ℕ = f mask (get_or ws k 0) in
-      let bits : (i : ℕ) → i < 64 → bit x i ≡ d (64 * k + i) = λ i h.
-      law.by_bits mask (get_or ws k 0) i fits (words k)
-      ∙ (let a : bit mask i ≡ in_range start end (64 * k + i) = masked i ∙ ap (λ b. b && in_range start end (64 * k + i)) (lt-ltb i 64 h) in let b = sym (has_bit-at ws k i h) in λ j. t (a j) (b j))
-      ∙ tested _ _ in
+      let bits : (i : ℕ) → i < 64 → bit x i ≡ d (64 * k + i) = word-bits k mask start end fits masked in
       let whole : 64 * (k + 1) ≡ 64 * k + 64 = omega arith in
       omega (
         arith,

@@ -1,38 +1,16 @@
 -- The first and the last position of a row of words, found by its first and its last word that is not 0.
 use Rattle.std.specs.Prelude.{slice_get, slice_index}
 use Rattle.std.specs.List.{last_or}
-use Rattle.std.proofs.Common.{◌≡◌, ℕ, ◌+◌, ◌*◌, ◌/◌, ◌%◌, ◌<◌, ◌≤◌, Bool, true, false, not, ◌==◌, ◌&&◌, List, [], ◌∷◌, ◌++◌, length, Option, None, Some, refl, ap, ◌∙◌, arith, ⊎_elim}
-use Rattle.std.proofs.lemmas.Bool.{cases_lt, eq-eqb, ne_eqb}
+use Rattle.std.proofs.Common.{◌≡◌, ℕ, ◌+◌, ◌*◌, ◌/◌, ◌%◌, ◌<◌, ◌≤◌, false, ◌==◌, List, [], length, None, Some, ap, ◌∙◌, arith, ⊎_elim}
+use Rattle.std.proofs.lemmas.Bool.{cases_lt}
 use Rattle.std.specs.Int.{bit_at}
 use Rattle.bitlanes.specs.Bits.{bit}
 use Rattle.bitlanes.specs.Search.{IsFirstOne, IsLastOne, AreZeros}
 use Rattle.bitlanes.specs.Word.{IsLowestBit, IsHighestBit}
 use Rattle.bitwords.specs.Ascending.{ascending}
-use Rattle.bitwords.specs.AscendingFacts.{IsWithout, ascending-first, ascending-last, ascending-none}
+use Rattle.bitwords.specs.AscendingFacts.{ascending-none, first-ascending, last-ascending}
 use Rattle.bitwords.specs.Rows.{has_bit}
 use Rattle.bitwords.specs.RowFacts.{bit-zero, has_bit-at}
-
--- what passes, without x
-without : (ℕ → Bool) → ℕ → ℕ → Bool
-without test x i = test i && not (i == x)
-
-is_without : (test : ℕ → Bool) (low n x : ℕ) → low ≤ x → x < low + n → test x ≡ true → IsWithout test (without test x) low n x
-unfolding without
-is_without test low n x from to passes = record {
-  from = from;
-  to = to;
-  passes = passes;
-  gone = (let same = eq-eqb x x refl in λ i. passes i && not (same i));
-  others = λ i above below other. and_true (test i) (not (i == x)) (ap not (ne_eqb i x other));
-}
-  where
-    and_true : (b c : Bool) → c ≡ true → (b && c) ≡ b
-    and_true true c e = e
-    and_true false c e = refl
-
-last_or-push : (o : Option ℕ) (xs : List ℕ) (x : ℕ) → last_or o (xs ++ x ∷ []) ≡ Some x
-last_or-push o [] x = refl
-last_or-push o (y ∷ xs) x = last_or-push (Some y) xs x
 
 -- a word that is 0 has no position
 none_in_zero : (ws : List ℕ) (p : ℕ) → slice_index ws (p / 64) ≡ 0 → has_bit ws p ≡ false
@@ -51,32 +29,26 @@ module _ (ws : List ℕ) where
   -- the lowest bit of the first word that is not 0 is the first position
   pub first_position : (k j : ℕ) → IsFirstOne ws k → IsLowestBit (slice_index ws k) j → slice_get positions 0 ≡ Some (64 * k + j)
   first_position k j word low =
-      let x : ℕ = 64 * k + j in
-      ap (λ xs. slice_get xs 0) (ascending-first (has_bit ws) (without (has_bit ws) x) 0 (64 * length ws) x
-      (is_without (has_bit ws) 0 (64 * length ws) x (omega arith) (omega (arith, word.within, low.within)) (has_bit-at ws k j low.within ∙ ap (λ b. b == 1) low.set))
-      (λ i above below.
+      first-ascending (has_bit ws) (64 * length ws) (64 * k + j) (omega (arith, word.within, low.within)) (has_bit-at ws k j low.within ∙ ap (λ b. b == 1) low.set)
+      (λ i below.
       ⊎_elim
-      (λ (earlier : i / 64 < k). none_in_zero ws i (word.zeros (i / 64) earlier))
+      (λ (earlier : i / 64 < k). none_in_zero ws i (word.zeros (i / 64) (omega arith) earlier))
       (λ (here : k ≤ i / 64). none_in_word ws i k (omega (arith, low.within, below)) (low.lowest (i % 64) (omega (arith, low.within, below))))
-      (cases_lt (i / 64) k)))
+      (cases_lt (i / 64) k))
 
   -- the highest bit of the last word that is not 0 is the last position
   pub last_position : (k j : ℕ) → IsLastOne ws k → IsHighestBit (slice_index ws k) j → last_or None positions ≡ Some (64 * k + j)
   last_position k j word high =
-      let x : ℕ = 64 * k + j in
-      let rest = without (has_bit ws) x in
-      ap (last_or None) (ascending-last (has_bit ws) rest 0 (64 * length ws) x
-      (is_without (has_bit ws) 0 (64 * length ws) x (omega arith) (omega (arith, word.within, high.within)) (has_bit-at ws k j high.within ∙ ap (λ b. b == 1) high.set))
+      last-ascending (has_bit ws) (64 * length ws) (64 * k + j) (omega (arith, word.before, high.within)) (has_bit-at ws k j high.within ∙ ap (λ b. b == 1) high.set)
       (λ i above below.
       ⊎_elim
-      (λ (later : k < i / 64). none_in_zero ws i (word.zeros (i / 64) later))
+      (λ (later : k < i / 64). none_in_zero ws i (word.zeros (i / 64) later (omega (arith, below))))
       (λ (here : i / 64 ≤ k). none_in_word ws i k (omega (arith, above)) (high.highest (i % 64) (omega (arith, above))))
-      (cases_lt k (i / 64))))
-      ∙ last_or-push None (ascending rest 0 (64 * length ws)) x
+      (cases_lt k (i / 64)))
 
   -- zeros have no position
   none_in_zeros : AreZeros ws → positions ≡ []
-  none_in_zeros zeros = ascending-none (has_bit ws) 0 (64 * length ws) (λ i above below. none_in_zero ws i (zeros (i / 64)))
+  none_in_zeros zeros = ascending-none (has_bit ws) 0 (64 * length ws) (λ i above below. none_in_zero ws i (zeros (i / 64) (omega arith)))
 
   pub no_first_position : AreZeros ws → slice_get positions 0 ≡ None
   no_first_position zeros = ap (λ xs. slice_get xs 0) (none_in_zeros zeros)

@@ -1,11 +1,12 @@
 -- How an ascending list falls into parts, for those who make one.
-use Rattle.std.proofs.Common.{inl, inr, ◌≡◌, ◌≢◌, ℕ, zero, suc, ◌+◌, ◌<◌, ◌≤◌, Bool, true, false, cond, ◌&&◌, List, [], ◌∷◌, ◌++◌, refl, sym, ap, ◌∙◌, arith, filter, length}
-use Rattle.std.specs.List.{range_with_len}
+use Rattle.std.specs.Prelude.{slice_get}
+use Rattle.std.proofs.Common.{inl, inr, ◌≡◌, ◌≢◌, ℕ, zero, suc, ◌+◌, ◌<◌, ◌≤◌, Bool, true, false, cond, not, ◌==◌, ◌&&◌, Option, None, Some, List, [], ◌∷◌, ◌++◌, refl, sym, ap, ◌∙◌, arith, filter, length}
+use Rattle.std.specs.List.{range_with_len, last_or}
 use Rattle.std.proofs.lemmas.List.{append-nil}
 use Rattle.std.proofs.lemmas.List.Elements.{filter-append}
 use Rattle.std.proofs.lemmas.List.Sums.{length-filter, count_by-le-length}
 use Rattle.std.proofs.lemmas.List.FromFn.{length-range_with_len}
-use Rattle.std.proofs.lemmas.Bool.{cases_eq}
+use Rattle.std.proofs.lemmas.Bool.{cases_eq, eq-eqb, ne_eqb}
 use Rattle.bitwords.specs.Ascending.{ascending}
 use Rattle.bitwords.specs.Rows.{count_below}
 
@@ -112,3 +113,38 @@ filter-ascending p q low (suc n) = by_test (p low) (ascending p (low + 1) n) ∙
 pub length-count : (p : ℕ → Bool) (n : ℕ) → length (ascending p 0 n) ≡ count_below p n
 unfolding count_below
 length-count p n = length-filter p (range_with_len 0 n)
+
+-- ---- the first and the last that pass
+
+-- what passes, without x
+without : (ℕ → Bool) → ℕ → ℕ → Bool
+without test x i = test i && not (i == x)
+
+is_without : (test : ℕ → Bool) (n x : ℕ) → x < n → test x ≡ true → IsWithout test (without test x) 0 n x
+unfolding without
+is_without test n x to passes = record {
+  from = omega arith;
+  to = omega (arith, to);
+  passes = passes;
+  gone = (let same = eq-eqb x x refl in λ i. passes i && not (same i));
+  others = λ i above below other. and_true (test i) (not (i == x)) (ap not (ne_eqb i x other));
+}
+  where
+    and_true : (b c : Bool) → c ≡ true → (b && c) ≡ b
+    and_true true c e = e
+    and_true false c e = refl
+
+last_or-push : (o : Option ℕ) (xs : List ℕ) (x : ℕ) → last_or o (xs ++ x ∷ []) ≡ Some x
+last_or-push o [] x = refl
+last_or-push o (y ∷ xs) x = last_or-push (Some y) xs x
+
+-- what passes, with none before it that does, is the first
+pub first-ascending : (test : ℕ → Bool) (n x : ℕ) → x < n → test x ≡ true → ((i : ℕ) → i < x → test i ≡ false) → slice_get (ascending test 0 n) 0 ≡ Some x
+first-ascending test n x within passes none =
+    ap (λ xs. slice_get xs 0) (ascending-first test (without test x) 0 n x (is_without test n x within passes) (λ i _ below. none i below))
+
+-- what passes, with none behind it that does, is the last
+pub last-ascending : (test : ℕ → Bool) (n x : ℕ) → x < n → test x ≡ true → ((i : ℕ) → x < i → i < n → test i ≡ false) → last_or None (ascending test 0 n) ≡ Some x
+last-ascending test n x within passes none =
+    ap (last_or None) (ascending-last test (without test x) 0 n x (is_without test n x within passes) (λ i above below. none i above (omega (arith, below))))
+    ∙ last_or-push None (ascending (without test x) 0 n) x

@@ -3,6 +3,7 @@ pub mod Rows
 pub mod Steps
 pub mod Ascending
 pub mod Walk
+pub mod Neighbours
 -- facts for callers
 pub mod AscendingFacts
 pub mod CountFacts

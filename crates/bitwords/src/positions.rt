@@ -1,11 +1,14 @@
 //! Single positions of a row of words, the first and the last of them, and those from one position on.
-ghost use Rattle.std.specs.Prelude.{◌≡◌, ◌*◌, ◌^◌, ◌≤◌, ◌&&◌, nat_lt, length, slice_get, None};
+ghost use Rattle.std.specs.Prelude.{◌≡◌, ◌+◌, ◌-◌, ◌*◌, ◌/◌, ◌^◌, ◌<◌, ◌≤◌, ◌&&◌, nat_lt, length, slice_get, None, IfSome, IfNone, true, false};
 ghost use Rattle.std.specs.List.{last_or};
+ghost use Rattle.bitlanes.specs.Words.{lane_steps};
 ghost use Rattle.bitwords.specs.Ascending.{ascending};
-ghost use Rattle.bitwords.specs.Rows.{has_bit, IsJoined};
+ghost use Rattle.bitwords.specs.Neighbours.{IsNext, IsPrevious, NonePasses};
+ghost use Rattle.bitwords.specs.Rows.{has_bit, bit_test, IsJoined};
 
-use bitlanes::search::{first_one, last_one};
-use bitlanes::word::{BITS, Block, highest_bit, lowest_bit, ones_below};
+use bitlanes::ops::WordOp;
+use bitlanes::search::{first_one, last_one, next_one, previous_one};
+use bitlanes::word::{BITS, Block, highest_bit, lowest_bit, ones_below, stretch};
 use bitlanes::{Steps, lanes};
 
 /// Whether the position is set in the words: `false` past their end. It looks at one word.
@@ -63,6 +66,81 @@ pub fn last(words: &[Block]) -> Option<usize>
     Some(BITS * at + highest_bit(words[at]))
 }
 
+/// The least position, at or past `from` and below `end`, whose bit is set when a bit that is set is joined with it by
+/// `O`: with `And` a position of the row, with `AndNot` one that the row lacks. `None` where there is none.
+///
+/// It takes one step for the word of `from`, and one for each lane of four words behind it up to the one that has the
+/// position. The end may not be past the words.
+///
+/// ```
+/// let mut steps = Steps::new();
+/// assert_eq!(rt; positions::next::<And>(&[9, 0, 2], 1, 192, &mut steps), Some(3));
+/// assert_eq!(rt; positions::next::<And>(&[9, 0, 2], 4, 192, &mut steps), Some(129));
+/// assert_eq!(rt; positions::next::<AndNot>(&[Block::MAX, 1], 7, 66, &mut steps), Some(65));
+/// assert_eq!(rt; positions::next::<And>(&[9, 0, 2], 4, 129, &mut steps), None);
+/// ```
+#[inline(always)]
+pub fn next<O: WordOp>(
+    words: &[Block],
+    from: usize,
+    end: usize,
+    steps: &mut Steps,
+) -> Option<usize>
+    requires drops { O.TAKE ≡ false }
+    requires fits { 64 * length words.now ≤ 2 ^ 64 }
+    requires within { end ≤ 64 * length words.now }
+    ensures found { IfSome result (IsNext (bit_test (O.truth true) words.now) from end) }
+    ensures none { IfNone result (NonePasses (bit_test (O.truth true) words.now) from end) }
+    ensures cost { IfSome result
+        (λ p. steps.new ≡ steps.old + 1 + lane_steps (p / 64 - from / 64)) }
+    ensures whole { steps.new ≤ steps.old + 1 + lane_steps (length words.now - 1 - from / 64) }
+{
+    if from >= end {
+        return None;
+    }
+    let position = next_in_row::<O>(words, from, steps)?;
+    if position < end {
+        Some(position)
+    } else {
+        None
+    }
+}
+
+/// The greatest position below `below` whose bit is set when a bit that is set is joined with it by `O`: with `And` a
+/// position of the row, with `AndNot` one that the row lacks. `None` where there is none.
+///
+/// It takes one step for the word of the position before `below`, and one for each lane of four words before it down to
+/// the one that has the position. `below` may not be past the end of the words.
+///
+/// ```
+/// let mut steps = Steps::new();
+/// assert_eq!(rt; positions::previous::<And>(&[9, 0, 2], 192, &mut steps), Some(129));
+/// assert_eq!(rt; positions::previous::<And>(&[9, 0, 2], 129, &mut steps), Some(3));
+/// assert_eq!(rt; positions::previous::<AndNot>(&[5, Block::MAX], 128, &mut steps), Some(63));
+/// assert_eq!(rt; positions::previous::<And>(&[9, 0, 2], 0, &mut steps), None);
+/// ```
+#[inline(always)]
+pub fn previous<O: WordOp>(words: &[Block], below: usize, steps: &mut Steps) -> Option<usize>
+    requires drops { O.TAKE ≡ false }
+    requires fits { 64 * length words.now ≤ 2 ^ 64 }
+    requires within { below ≤ 64 * length words.now }
+    ensures found { IfSome result (IsPrevious (bit_test (O.truth true) words.now) below) }
+    ensures none { IfNone result (NonePasses (bit_test (O.truth true) words.now) 0 below) }
+    ensures cost { IfSome result
+        (λ p. steps.new ≡ steps.old + 1 + lane_steps ((below - 1) / 64 - p / 64)) }
+    ensures whole { steps.new ≤ steps.old + 1 + lane_steps ((below - 1) / 64) }
+{
+    let last = below.checked_sub(1)?;
+    steps.tick();
+    let at = last / BITS;
+    let word = O::word(stretch(0, last % BITS + 1), words[at]);
+    if word != 0 {
+        return Some(BITS * at + highest_bit(word));
+    }
+    let at = previous_one::<O>(Block::MAX, words, at, steps)?;
+    Some(BITS * at + highest_bit(O::word(Block::MAX, words[at])))
+}
+
 /// Clears each position of the row from `start` on. It writes the word of `start` and those behind it.
 ///
 /// ```
@@ -79,4 +157,28 @@ pub fn clear_from(words: &mut [Block], start: usize)
         words[at] &= ones_below(start % BITS);
         lanes::zero(&mut words[at + 1..], &mut Steps::new());
     }
+}
+
+// `next` up to the end of the words.
+#[inline(always)]
+fn next_in_row<O: WordOp>(words: &[Block], from: usize, steps: &mut Steps) -> Option<usize>
+    requires drops { O.TAKE ≡ false }
+    requires fits { 64 * length words.now ≤ 2 ^ 64 }
+    requires within { from < 64 * length words.now }
+    ensures found { IfSome result
+        (IsNext (bit_test (O.truth true) words.now) from (64 * length words.now)) }
+    ensures none { IfNone result
+        (NonePasses (bit_test (O.truth true) words.now) from (64 * length words.now)) }
+    ensures cost { IfSome result
+        (λ p. steps.new ≡ steps.old + 1 + lane_steps (p / 64 - from / 64)) }
+    ensures whole { steps.new ≤ steps.old + 1 + lane_steps (length words.now - 1 - from / 64) }
+{
+    steps.tick();
+    let at = from / BITS;
+    let word = O::word(stretch(from % BITS, BITS), words[at]);
+    if word != 0 {
+        return Some(BITS * at + lowest_bit(word));
+    }
+    let at = next_one::<O>(Block::MAX, words, at + 1, steps)?;
+    Some(BITS * at + lowest_bit(O::word(Block::MAX, words[at])))
 }

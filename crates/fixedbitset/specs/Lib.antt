@@ -3,6 +3,7 @@ pub mod Numbers
 pub mod Bits
 pub mod Ranges
 pub mod TwoSets
+pub mod Neighbours
 pub mod Walks
 pub mod Blocks
 pub mod Extended

@@ -1,10 +1,12 @@
 //! The calls with a counter of steps: each is the call of that name of the set, with one argument more.
 
 mod changes;
+mod neighbours;
 mod ranges;
 mod whole;
 
 pub use changes::{difference_with_change, intersect_with_change, union_with_change};
+pub use neighbours::{next_one, next_zero, previous_one, previous_zero};
 pub use ranges::{
     contains_all_in_range, contains_any_in_range, count_ones, count_zeroes, insert_range,
     remove_range, toggle_range,

@@ -13,6 +13,7 @@ ghost use Rattle.fixedbitset.specs.Bits.{of_words};
 ghost use Rattle.fixedbitset.specs.Stored.{IsClean};
 
 pub(crate) mod changes;
+pub(crate) mod neighbours;
 pub(crate) mod ranges;
 mod walks;
 pub(crate) mod whole;
@@ -21,6 +22,7 @@ use bitlanes::word::{BITS, Block, ones_below};
 use bitlanes::{Steps, lanes};
 use bitwords::positions;
 pub use changes::{difference_with_change, intersect_with_change, union_with_change};
+pub use neighbours::{next_one, next_zero, previous_one, previous_zero};
 pub use ranges::{
     contains_all_in_range, contains_any_in_range, count_ones, count_zeroes, insert_range,
     range_is_valid, remove_range, toggle_range,

@@ -9,6 +9,7 @@ pub mod counted;
 pub mod extend;
 pub mod json;
 pub mod lent;
+pub mod neighbours;
 pub mod operators;
 pub mod order;
 pub mod pairs;

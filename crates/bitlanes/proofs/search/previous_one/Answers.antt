@@ -1,0 +1,17 @@
+use Rattle.std.proofs.Common.{ℕ, ◌-◌, ◌<◌, ◌≤◌, map, sym, ◌∙◌, arith, ⊎_elim}
+use Rattle.std.proofs.lemmas.Bool.{cases_lt}
+use Rattle.bitlanes.proofs.Folding.{zero_in_stretch}
+use Rattle.bitlanes.proofs.search.previous_one.Goals as goal
+
+pub loop-end-preserved : goal.loop-end-preserved
+loop-end-preserved g c =
+    let before = c.loop-end.invariant in
+    let end : ℕ = c.loop-end.end in
+    record {
+      within = omega (arith, before.within);
+      zeros = λ i h below. ⊎_elim
+          (λ (lt : i < end). zero_in_stretch (end - 16) 16 (map (g.O.WordOp.joined c.args.mask) c.args.words.now) (sym c.are_zero_at.ensures ∙ c.if-are_zero_at.true) i h (omega (arith, c.loop-end-test.true)))
+          (λ (ge : end ≤ i). before.zeros i ge below)
+          (cases_lt i end);
+      cost = omega (arith, before.cost, before.within, c.loop-end-test.true, c.tick_four.ensures);
+    }

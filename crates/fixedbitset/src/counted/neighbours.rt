@@ -1,0 +1,91 @@
+//! The positions next to a given one, with a counter of steps.
+//!
+//! A call takes one step for the word of the number that it is given, and one for each lane of four words from there on
+//! up to the one that has the position. So what it takes goes by how far away the position is.
+
+ghost use Rattle.std.specs.Prelude.{◌≡◌, ◌≤◌, ◌+◌, ◌-◌, ◌/◌, min, IfSome};
+ghost use Rattle.bitlanes.specs.Words.{lane_steps};
+ghost use Rattle.fixedbitset.specs.Bits.{storage_words};
+ghost use Rattle.fixedbitset.specs.Neighbours as neighbours;
+
+use crate::lent::neighbours::{
+    next_one_counted, next_zero_counted, previous_one_counted, previous_zero_counted,
+};
+use crate::set::FixedBitSet;
+use bitlanes::Steps;
+
+/// [`FixedBitSet::next_one`], with the steps that it takes.
+///
+/// ```
+/// let mut set = FixedBitSet::with_capacity(alloc, 200)?;
+/// set.insert(150);
+/// assert_eq!(rt; counted::next_one(&set, 7, &mut Steps::new()), Some(150));
+/// ```
+#[inline]
+#[tactic(auto, using(crate::proofs::Words::of_length))]
+pub fn next_one(set: &FixedBitSet, from: usize, steps: &mut Steps) -> Option<usize>
+    ensures next { result ≡ neighbours.next_one set.now from }
+    ensures cost { IfSome result
+        (λ p. steps.new ≡ steps.old + 1 + lane_steps (p / 64 - from / 64)) }
+    ensures whole { steps.new ≤ steps.old + 1
+        + lane_steps (storage_words set.now.length - 1 - from / 64) }
+{
+    next_one_counted(&set.words, set.length, from, steps)
+}
+
+/// [`FixedBitSet::next_zero`], with the steps that it takes.
+///
+/// ```
+/// let mut set = FixedBitSet::with_capacity(alloc, 200)?;
+/// set.insert_range(..150);
+/// assert_eq!(rt; counted::next_zero(&set, 7, &mut Steps::new()), Some(150));
+/// ```
+#[inline]
+#[tactic(auto, using(crate::proofs::Words::of_length))]
+pub fn next_zero(set: &FixedBitSet, from: usize, steps: &mut Steps) -> Option<usize>
+    ensures next { result ≡ neighbours.next_zero set.now from }
+    ensures cost { IfSome result
+        (λ p. steps.new ≡ steps.old + 1 + lane_steps (p / 64 - from / 64)) }
+    ensures whole { steps.new ≤ steps.old + 1
+        + lane_steps (storage_words set.now.length - 1 - from / 64) }
+{
+    next_zero_counted(&set.words, set.length, from, steps)
+}
+
+/// [`FixedBitSet::previous_one`], with the steps that it takes.
+///
+/// ```
+/// let mut set = FixedBitSet::with_capacity(alloc, 200)?;
+/// set.insert(7);
+/// assert_eq!(rt; counted::previous_one(&set, 150, &mut Steps::new()), Some(7));
+/// ```
+#[inline]
+#[tactic(auto, using(crate::proofs::Words::of_length))]
+pub fn previous_one(set: &FixedBitSet, below: usize, steps: &mut Steps) -> Option<usize>
+    ensures previous { result ≡ neighbours.previous_one set.now below }
+    ensures cost { IfSome result (λ p. steps.new ≡ steps.old + 1
+        + lane_steps ((min below set.now.length - 1) / 64 - p / 64)) }
+    ensures whole { steps.new ≤ steps.old + 1
+        + lane_steps ((min below set.now.length - 1) / 64) }
+{
+    previous_one_counted(&set.words, set.length, below, steps)
+}
+
+/// [`FixedBitSet::previous_zero`], with the steps that it takes.
+///
+/// ```
+/// let mut set = FixedBitSet::with_capacity(alloc, 200)?;
+/// set.insert_range(8..);
+/// assert_eq!(rt; counted::previous_zero(&set, 150, &mut Steps::new()), Some(7));
+/// ```
+#[inline]
+#[tactic(auto, using(crate::proofs::Words::of_length))]
+pub fn previous_zero(set: &FixedBitSet, below: usize, steps: &mut Steps) -> Option<usize>
+    ensures previous { result ≡ neighbours.previous_zero set.now below }
+    ensures cost { IfSome result (λ p. steps.new ≡ steps.old + 1
+        + lane_steps ((min below set.now.length - 1) / 64 - p / 64)) }
+    ensures whole { steps.new ≤ steps.old + 1
+        + lane_steps ((min below set.now.length - 1) / 64) }
+{
+    previous_zero_counted(&set.words, set.length, below, steps)
+}

@@ -1,0 +1,72 @@
+//! The positions of a set next to a given one. Upstream has no such calls.
+//!
+//! Any number may be asked for, at or past the length too. No call takes memory. Each looks at the word of the number,
+//! and then at sixteen words at a time, or four, up to those that have the position.
+
+ghost use Rattle.std.specs.Prelude.{◌≡◌};
+ghost use Rattle.fixedbitset.specs.Neighbours as neighbours;
+
+use crate::lent;
+use crate::set::FixedBitSet;
+
+impl FixedBitSet {
+    /// The least position at or past `from` that is set, or `None` where none is.
+    ///
+    /// ```
+    /// let mut set = FixedBitSet::with_capacity(alloc, 200)?;
+    /// set.insert_range(64..130);
+    /// assert_eq!(rt; set.next_one(3), Some(64));
+    /// assert_eq!(rt; set.next_one(130), None);
+    /// ```
+    #[inline]
+    pub fn next_one(&self, from: usize) -> Option<usize>
+        ensures { result ≡ neighbours.next_one self.now from }
+    {
+        lent::next_one(&self.words, self.length, from)
+    }
+
+    /// The least position at or past `from` and below the length that is not set, or `None` where there is none.
+    ///
+    /// ```
+    /// let mut set = FixedBitSet::with_capacity(alloc, 200)?;
+    /// set.insert_range(64..130);
+    /// assert_eq!(rt; set.next_zero(64), Some(130));
+    /// assert_eq!(rt; set.next_zero(200), None);
+    /// ```
+    #[inline]
+    pub fn next_zero(&self, from: usize) -> Option<usize>
+        ensures { result ≡ neighbours.next_zero self.now from }
+    {
+        lent::next_zero(&self.words, self.length, from)
+    }
+
+    /// The greatest position below `below` that is set, or `None` where none is.
+    ///
+    /// ```
+    /// let mut set = FixedBitSet::with_capacity(alloc, 200)?;
+    /// set.insert_range(64..130);
+    /// assert_eq!(rt; set.previous_one(usize::MAX), Some(129));
+    /// assert_eq!(rt; set.previous_one(64), None);
+    /// ```
+    #[inline]
+    pub fn previous_one(&self, below: usize) -> Option<usize>
+        ensures { result ≡ neighbours.previous_one self.now below }
+    {
+        lent::previous_one(&self.words, self.length, below)
+    }
+
+    /// The greatest position below `below` and below the length that is not set, or `None` where there is none.
+    ///
+    /// ```
+    /// let mut set = FixedBitSet::with_capacity(alloc, 200)?;
+    /// set.insert_range(64..130);
+    /// assert_eq!(rt; set.previous_zero(130), Some(63));
+    /// assert_eq!(rt; set.previous_zero(0), None);
+    /// ```
+    #[inline]
+    pub fn previous_zero(&self, below: usize) -> Option<usize>
+        ensures { result ≡ neighbours.previous_zero self.now below }
+    {
+        lent::previous_zero(&self.words, self.length, below)
+    }
+}
