@@ -125,6 +125,14 @@ void bits_clear(bits *set);
 size_t bits_minimum(const bits *set);
 /* The greatest position that is set, or BITS_NONE. */
 size_t bits_maximum(const bits *set);
+/* The least position at or past `from` that is set, or BITS_NONE. Any number may be given, here and in the next three. */
+size_t bits_next_one(const bits *set, size_t from);
+/* The least position at or past `from` and below the length that is not set, or BITS_NONE. */
+size_t bits_next_zero(const bits *set, size_t from);
+/* The greatest position below `below` that is set, or BITS_NONE. */
+size_t bits_previous_one(const bits *set, size_t below);
+/* The greatest position below `below` and below the length that is not set, or BITS_NONE. */
+size_t bits_previous_zero(const bits *set, size_t below);
 /* Whether no position is set. */
 bool bits_is_clear(const bits *set);
 /* Whether each position is set. */

@@ -36,6 +36,10 @@ static void positions(void) {
     assert(bits_toggle(&set, 3) && !bits_contains(&set, 3) && !bits_toggle(&set, 70));
     assert(bits_set(&set, 5, true) && bits_set(&set, 6, false) && !bits_set(&set, 70, true));
     assert(bits_minimum(&set) == 5 && bits_maximum(&set) == 69);
+    assert(bits_next_one(&set, 5) == 5 && bits_next_one(&set, 6) == 69 && bits_next_one(&set, 70) == BITS_NONE);
+    assert(bits_next_zero(&set, 5) == 6 && bits_next_zero(&set, 69) == BITS_NONE);
+    assert(bits_previous_one(&set, SIZE_MAX) == 69 && bits_previous_one(&set, 5) == BITS_NONE);
+    assert(bits_previous_zero(&set, 70) == 68 && bits_previous_zero(&set, 0) == BITS_NONE);
     assert(bits_remove(&set, 69) && !bits_remove(&set, 70) && bits_maximum(&set) == 5);
     assert(bits_set_block(&set, 1, UINT64_MAX) && set.words[1] == 63 && !bits_set_block(&set, 2, 1));
     bits_clear(&set);

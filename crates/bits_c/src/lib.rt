@@ -17,6 +17,7 @@ ghost use Rattle.fixedbitset.specs.Bits as model;
 ghost use Rattle.fixedbitset.specs.Bits.{of_words};
 ghost use Rattle.fixedbitset.specs.Stored.{IsClean};
 
+pub mod neighbours;
 pub mod pairs;
 pub mod ranges;
 pub mod sieves;

@@ -80,12 +80,7 @@ pub fn last(words: &[Block]) -> Option<usize>
 /// assert_eq!(rt; positions::next::<And>(&[9, 0, 2], 4, 129, &mut steps), None);
 /// ```
 #[inline(always)]
-pub fn next<O: WordOp>(
-    words: &[Block],
-    from: usize,
-    end: usize,
-    steps: &mut Steps,
-) -> Option<usize>
+pub fn next<O: WordOp>(words: &[Block], from: usize, end: usize, steps: &mut Steps) -> Option<usize>
     requires drops { O.TAKE ≡ false }
     requires fits { 64 * length words.now ≤ 2 ^ 64 }
     requires within { end ≤ 64 * length words.now }
@@ -99,11 +94,7 @@ pub fn next<O: WordOp>(
         return None;
     }
     let position = next_in_row::<O>(words, from, steps)?;
-    if position < end {
-        Some(position)
-    } else {
-        None
-    }
+    if position < end { Some(position) } else { None }
 }
 
 /// The greatest position below `below` whose bit is set when a bit that is set is joined with it by `O`: with `And` a

@@ -19,6 +19,7 @@ pub mod RangesFacts
 pub mod TwoSetsFacts
 pub mod WalkFacts
 pub mod FirstFacts
+pub mod NeighbourFacts
 pub mod SizeFacts
 pub mod MemberFacts
 pub mod WordsFacts

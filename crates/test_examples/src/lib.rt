@@ -29,6 +29,8 @@ mod commands_replies;
 #[cfg(test)]
 mod counted_changes;
 #[cfg(test)]
+mod counted_neighbours;
+#[cfg(test)]
 mod counted_ranges;
 #[cfg(test)]
 mod counted_whole;
@@ -55,6 +57,8 @@ mod lent;
 #[cfg(test)]
 mod lent_changes;
 #[cfg(test)]
+mod lent_neighbours;
+#[cfg(test)]
 mod lent_ranges;
 #[cfg(test)]
 mod lent_walks;
@@ -62,6 +66,8 @@ mod lent_walks;
 mod lent_whole;
 #[cfg(test)]
 mod lines;
+#[cfg(test)]
+mod neighbours;
 #[cfg(test)]
 mod operators;
 #[cfg(test)]

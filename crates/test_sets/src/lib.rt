@@ -17,6 +17,8 @@ mod lent;
 #[cfg(test)]
 mod making;
 #[cfg(test)]
+mod neighbours;
+#[cfg(test)]
 mod questions;
 #[cfg(test)]
 mod ranges;

@@ -9,7 +9,7 @@ use test_values::slow::{filled, is_same, multiples};
 
 // The slow values of this length with no position, with all, with the first alone, the last alone, all but the last, and
 // every seventh.
-fn fillings(alloc: Global, length: usize) -> Result<Vec<Vec<bool>>, AllocError> {
+pub(crate) fn fillings(alloc: Global, length: usize) -> Result<Vec<Vec<bool>>, AllocError> {
     let mut first = vec![in alloc; false; length]?;
     let mut last = vec![in alloc; false; length]?;
     let mut all_but_last = vec![in alloc; true; length]?;

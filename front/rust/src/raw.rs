@@ -76,6 +76,10 @@ unsafe extern "C" {
     pub safe fn bits_clear(set: &mut Lent<'_>);
     pub safe fn bits_minimum(set: &Lent<'_>) -> usize;
     pub safe fn bits_maximum(set: &Lent<'_>) -> usize;
+    pub safe fn bits_next_one(set: &Lent<'_>, from: usize) -> usize;
+    pub safe fn bits_next_zero(set: &Lent<'_>, from: usize) -> usize;
+    pub safe fn bits_previous_one(set: &Lent<'_>, below: usize) -> usize;
+    pub safe fn bits_previous_zero(set: &Lent<'_>, below: usize) -> usize;
     pub safe fn bits_is_clear(set: &Lent<'_>) -> bool;
     pub safe fn bits_is_full(set: &Lent<'_>) -> bool;
 

@@ -1,0 +1,41 @@
+//! The positions of a set next to a given one. Any number may be given.
+
+ghost use Rattle.std.specs.Prelude.{◌≡◌, unwrap_or};
+ghost use Rattle.bits_c.specs.Sets.{value};
+ghost use Rattle.fixedbitset.specs.Neighbours as neighbours;
+
+use crate::NONE;
+use crate::structs::Set;
+use fixedbitset::lent;
+
+/// The least position at or past `from` that is set, or `NONE`.
+#[unsafe(no_mangle)]
+pub extern "C" fn bits_next_one(set: &Set<'_>, from: usize) -> usize
+    ensures { result ≡ unwrap_or (neighbours.next_one (value set.now) from) NONE }
+{
+    lent::next_one(set.words, set.length, from).unwrap_or(NONE)
+}
+
+/// The least position at or past `from` and below the length that is not set, or `NONE`.
+#[unsafe(no_mangle)]
+pub extern "C" fn bits_next_zero(set: &Set<'_>, from: usize) -> usize
+    ensures { result ≡ unwrap_or (neighbours.next_zero (value set.now) from) NONE }
+{
+    lent::next_zero(set.words, set.length, from).unwrap_or(NONE)
+}
+
+/// The greatest position below `below` that is set, or `NONE`.
+#[unsafe(no_mangle)]
+pub extern "C" fn bits_previous_one(set: &Set<'_>, below: usize) -> usize
+    ensures { result ≡ unwrap_or (neighbours.previous_one (value set.now) below) NONE }
+{
+    lent::previous_one(set.words, set.length, below).unwrap_or(NONE)
+}
+
+/// The greatest position below `below` and below the length that is not set, or `NONE`.
+#[unsafe(no_mangle)]
+pub extern "C" fn bits_previous_zero(set: &Set<'_>, below: usize) -> usize
+    ensures { result ≡ unwrap_or (neighbours.previous_zero (value set.now) below) NONE }
+{
+    lent::previous_zero(set.words, set.length, below).unwrap_or(NONE)
+}

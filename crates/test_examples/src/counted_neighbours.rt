@@ -1,0 +1,56 @@
+//! The examples in the docs of `fixedbitset::counted::neighbours`. docs/make_examples writes this file.
+
+use crate::calls::{cleared, equal};
+use fixedbitset::{Steps, counted};
+
+#[test]
+#[tactic(auto, using(fixedbitset::specs::BitsFacts::facts))]
+fn next_one(rt: HostRuntime) {
+    let alloc = rt.alloc();
+    let mut set = cleared(&rt, alloc, 200);
+    set.insert(150);
+    equal(
+        &rt,
+        counted::next_one(&set, 7, &mut Steps::new()),
+        Some(150),
+    );
+}
+
+#[test]
+#[tactic(auto, using(fixedbitset::specs::BitsFacts::facts, fixedbitset::specs::RangesFacts::facts))]
+fn next_zero(rt: HostRuntime) {
+    let alloc = rt.alloc();
+    let mut set = cleared(&rt, alloc, 200);
+    set.insert_range(..150);
+    equal(
+        &rt,
+        counted::next_zero(&set, 7, &mut Steps::new()),
+        Some(150),
+    );
+}
+
+#[test]
+#[tactic(auto, using(fixedbitset::specs::BitsFacts::facts))]
+fn previous_one(rt: HostRuntime) {
+    let alloc = rt.alloc();
+    let mut set = cleared(&rt, alloc, 200);
+    set.insert(7);
+    equal(
+        &rt,
+        counted::previous_one(&set, 150, &mut Steps::new()),
+        Some(7),
+    );
+}
+
+#[test]
+#[tactic(auto, using(fixedbitset::specs::BitsFacts::facts, fixedbitset::specs::RangesFacts::facts))]
+fn previous_zero(rt: HostRuntime) {
+    let alloc = rt.alloc();
+    let mut set = cleared(&rt, alloc, 200);
+    set.insert_range(8..);
+    equal(
+        &rt,
+        counted::previous_zero(&set, 150, &mut Steps::new()),
+        Some(7),
+    );
+}

@@ -1,0 +1,43 @@
+//! The examples in the docs of `fixedbitset::neighbours`. docs/make_examples writes this file.
+
+use crate::calls::{cleared, equal};
+
+#[test]
+#[tactic(auto, using(fixedbitset::specs::BitsFacts::facts, fixedbitset::specs::RangesFacts::facts))]
+fn next_one(rt: HostRuntime) {
+    let alloc = rt.alloc();
+    let mut set = cleared(&rt, alloc, 200);
+    set.insert_range(64..130);
+    equal(&rt, set.next_one(3), Some(64));
+    equal(&rt, set.next_one(130), None);
+}
+
+#[test]
+#[tactic(auto, using(fixedbitset::specs::BitsFacts::facts, fixedbitset::specs::RangesFacts::facts))]
+fn next_zero(rt: HostRuntime) {
+    let alloc = rt.alloc();
+    let mut set = cleared(&rt, alloc, 200);
+    set.insert_range(64..130);
+    equal(&rt, set.next_zero(64), Some(130));
+    equal(&rt, set.next_zero(200), None);
+}
+
+#[test]
+#[tactic(auto, using(fixedbitset::specs::BitsFacts::facts, fixedbitset::specs::RangesFacts::facts))]
+fn previous_one(rt: HostRuntime) {
+    let alloc = rt.alloc();
+    let mut set = cleared(&rt, alloc, 200);
+    set.insert_range(64..130);
+    equal(&rt, set.previous_one(usize::MAX), Some(129));
+    equal(&rt, set.previous_one(64), None);
+}
+
+#[test]
+#[tactic(auto, using(fixedbitset::specs::BitsFacts::facts, fixedbitset::specs::RangesFacts::facts))]
+fn previous_zero(rt: HostRuntime) {
+    let alloc = rt.alloc();
+    let mut set = cleared(&rt, alloc, 200);
+    set.insert_range(64..130);
+    equal(&rt, set.previous_zero(130), Some(63));
+    equal(&rt, set.previous_zero(0), None);
+}
