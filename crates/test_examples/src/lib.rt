@@ -27,6 +27,8 @@ mod commands_refusals;
 #[cfg(test)]
 mod commands_replies;
 #[cfg(test)]
+mod counted_alone;
+#[cfg(test)]
 mod counted_changes;
 #[cfg(test)]
 mod counted_ranges;
