@@ -2,11 +2,13 @@
 
 mod alone;
 mod changes;
+mod copies;
 mod ranges;
 mod whole;
 
 pub use alone::{clear, is_full};
 pub use changes::{difference_with_change, intersect_with_change, union_with_change};
+pub use copies::{bitand, bitor, bitxor, clone_from};
 pub use ranges::{
     contains_all_in_range, contains_any_in_range, count_ones, count_zeroes, insert_range,
     remove_range, toggle_range,

@@ -31,6 +31,8 @@ mod counted_alone;
 #[cfg(test)]
 mod counted_changes;
 #[cfg(test)]
+mod counted_copies;
+#[cfg(test)]
 mod counted_ranges;
 #[cfg(test)]
 mod counted_whole;
