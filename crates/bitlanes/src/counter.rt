@@ -1,6 +1,8 @@
 //! A counter that takes no bytes when the program runs.
 ghost use Rattle.std.specs.Prelude.{◌≡◌, ◌+◌};
+ghost use Rattle.bitlanes.specs.Words.{lane_steps};
 
+use crate::lanes::LANE;
 use std::marker::Model;
 use std::mem;
 use std::snapshot::Snapshot;
@@ -61,5 +63,22 @@ impl Steps {
     {
         let before = mem::replace(&mut self.tally, Snapshot::of(&Tally::Zero));
         self.tally = Snapshot::of(&Tally::Next(before));
+    }
+
+    /// Counts `words / 4` steps more, rounded up: for a call of std that goes over so many words, and that no kernel is.
+    /// It does nothing when the program runs.
+    ///
+    /// ```
+    /// let mut steps = Steps::new();
+    /// steps.tick_lanes(9);
+    /// assert_eq!(rt; size_of_val(&steps), 0);
+    /// ```
+    #[inline(always)]
+    pub fn tick_lanes(&mut self, words: usize)
+        ensures { self.new ≡ self.old + lane_steps words }
+    {
+        for _ in 0..words.div_ceil(LANE) {
+            self.tick();
+        }
     }
 }

@@ -5,6 +5,7 @@ pub mod Numbers
 pub mod Lists
 pub mod EndLetters
 pub mod OneOutput
+pub mod OneLines
 pub mod JsonTexts
 pub mod ArgumentTexts
 pub mod ReadBack

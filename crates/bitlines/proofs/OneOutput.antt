@@ -39,7 +39,7 @@ without_empty_last-append [] rest p ps e = refl
 without_empty_last-append (l ∷ []) rest p ps e = rw e refl
 without_empty_last-append (l ∷ m ∷ first) rest p ps e = ap (λ ls. l ∷ ls) (without_empty_last-append (m ∷ first) rest p ps e)
 
-lines_of-append : (xs ys : List ℕ) → lines_of (xs ++ 10 ∷ ys) ≡ slice_split (λ x. eqb x 10) xs ++ lines_of ys
+pub lines_of-append : (xs ys : List ℕ) → lines_of (xs ++ 10 ∷ ys) ≡ slice_split (λ x. eqb x 10) xs ++ lines_of ys
 unfolding lines_of
 lines_of-append xs ys =
     let rest = parts 10 ys in

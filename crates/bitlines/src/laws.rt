@@ -2,7 +2,7 @@
 
 ghost use Rattle.bitlines.specs.LineLaws.{LinesReadBack};
 ghost use Rattle.bitlines.specs.GrammarLaws.{LinesMean};
-ghost use Rattle.bitlines.specs.OutputLaws.{OneOutput};
+ghost use Rattle.bitlines.specs.OutputLaws.{OneOutput, OneLineEach};
 ghost use Rattle.bitlines.specs.StepLaws.{OnlyTargetChanges, RefusedChangesNothing};
 
 /// Two outputs of one input, neither with a line that says that memory was refused, are equal: but for memory, what the
@@ -17,6 +17,19 @@ ghost use Rattle.bitlines.specs.StepLaws.{OnlyTargetChanges, RefusedChangesNothi
 /// ```
 pub fn one_output()
     ensures { OneOutput }
+{}
+
+/// The lines of an output are the texts of the replies, in the order of the input's lines and as many. So a reply has no
+/// line end in it, and line `n` of the output replies to line `n` of the input.
+///
+/// ```
+/// let mut output = Vec::new(alloc);
+/// program::run_text(alloc, &mut "len 0\n\nas_slice 0".as_bytes(), &mut output)?;
+/// bitlines::laws::one_line_each();
+/// assert_eq!(rt; output.as_slice(), "0\nF8 not a command\n-\n".as_bytes());
+/// ```
+pub fn one_line_each()
+    ensures { OneLineEach }
 {}
 
 /// The line that a command is written as stands for that command. Its numbers must fit a `usize`, a list of ends must have

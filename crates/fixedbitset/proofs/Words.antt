@@ -8,7 +8,7 @@ use Rattle.std.proofs.lemmas.Nat.Bits.{same_from_bits_below}
 use Rattle.bitwords.specs.CountFacts.{indicator}
 use Rattle.bitwords.specs.Rows.{has_bit}
 use Rattle.bitwords.specs.RowFacts.{AreWords}
-use Rattle.fixedbitset.specs.Bits.{Bits, contains, words, words_needed, of_words}
+use Rattle.fixedbitset.specs.Bits.{Bits, contains, words, words_needed, storage_words, of_words}
 use Rattle.fixedbitset.specs.BitsFacts.{last_holds}
 use Rattle.fixedbitset.specs.Stored.{IsClean}
 use Rattle.fixedbitset.specs.WordsFacts.{length-of_words, contains-of_words, number_at-lt, bit_at-number_at, length-words, get_or-words, indicator-has_bit}
@@ -57,6 +57,10 @@ viewed_length n ws v e = sym (length-of_words n ws) ∙ ap (λ w. w.length) e
 
 pub viewed_fits : (n : ℕ) (ws : List ℕ) (v : Bits) → of_words n ws ≡ v → IsClean n ws → v.length < 2 ^ 64
 viewed_fits n ws v view clean = omega (arith, clean.fits, viewed_length n ws v view)
+
+-- a set keeps as many words as its value's length asks for
+pub viewed_count : (n : ℕ) (ws : List ℕ) (v : Bits) → of_words n ws ≡ v → IsClean n ws → length ws ≡ storage_words v.length
+viewed_count n ws v view clean = clean.count ∙ ap storage_words (viewed_length n ws v view)
 
 -- the first of words are words
 pub are_words-take : (k : ℕ) (ws : List ℕ) → AreWords ws → AreWords (take k ws)

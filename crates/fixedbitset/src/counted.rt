@@ -1,17 +1,21 @@
 //! The calls with a counter of steps: each is the call of that name of the set, with one argument more.
 
+mod alone;
 mod changes;
+mod copies;
 mod neighbours;
 mod ranges;
 mod whole;
 
+pub use alone::{clear, is_full};
 pub use changes::{difference_with_change, intersect_with_change, union_with_change};
+pub use copies::{bitand, bitor, bitxor, clone_from};
 pub use neighbours::{next_one, next_zero, previous_one, previous_zero};
 pub use ranges::{
     contains_all_in_range, contains_any_in_range, count_ones, count_zeroes, insert_range,
     remove_range, toggle_range,
 };
 pub use whole::{
-    difference_count, difference_with, intersect_with, intersection_count, is_disjoint, is_subset,
-    symmetric_difference_count, symmetric_difference_with, union_count, union_with,
+    difference_count, difference_with, intersect_with, intersection_count, is_disjoint, is_equal,
+    is_subset, symmetric_difference_count, symmetric_difference_with, union_count, union_with,
 };

@@ -6,8 +6,9 @@
 //! same names take, and what a call looks at is the same too. No call takes memory. The calls of `FixedBitSet`
 //! that take none hand its words over to these, and the static library `bits_c` lends those of a caller in C or in Rust.
 
-ghost use Rattle.std.specs.Prelude.{◌≡◌, ◌<◌, ◌≤◌, ◌-◌, ◌*◌, min};
+ghost use Rattle.std.specs.Prelude.{◌≡◌, ◌<◌, ◌≤◌, ◌+◌, ◌-◌, ◌*◌, min};
 ghost use Rattle.std.specs.Prelude as prelude;
+ghost use Rattle.bitlanes.specs.Words.{lane_steps};
 ghost use Rattle.fixedbitset.specs.Bits as model;
 ghost use Rattle.fixedbitset.specs.Bits.{of_words};
 ghost use Rattle.fixedbitset.specs.Stored.{IsClean};
@@ -208,7 +209,7 @@ pub fn clear(words: &mut [Block], length: usize)
     ensures value { of_words length words.new ≡ model.empty length }
     ensures clean { IsClean length words.new }
 {
-    lanes::zero(words, &mut Steps::new());
+    zero(words, length, &mut Steps::new());
 }
 
 /// Whether no position is set.
@@ -256,6 +257,17 @@ pub fn maximum(words: &[Block], length: usize) -> Option<usize>
     ensures { result ≡ model.maximum (of_words length words.now) }
 {
     positions::last(words)
+}
+
+// `clear`, with the steps that it takes.
+#[inline(always)]
+pub(crate) fn zero(words: &mut [Block], length: usize, steps: &mut Steps)
+    requires lent { IsClean length words.old }
+    ensures value { of_words length words.new ≡ model.empty length }
+    ensures clean { IsClean length words.new }
+    ensures cost { steps.new ≡ steps.old + lane_steps (model.storage_words length) }
+{
+    lanes::zero(words, steps);
 }
 
 // Whether the position, which has to be below the length, is set.

@@ -5,8 +5,9 @@
 ghost use Rattle.std.specs.Prelude.{◌≡◌, ◌==◌};
 ghost use Rattle.fixedbitset.specs.Bits as model;
 
-use crate::lent;
 use crate::set::FixedBitSet;
+use crate::{counted, lent};
+use bitlanes::Steps;
 
 impl FixedBitSet {
     /// Whether the length is 0. A set of another length is not empty, even where no position is set: see `is_clear`.
@@ -81,10 +82,9 @@ impl FixedBitSet {
     /// assert!(rt; set.is_full());
     /// ```
     #[inline]
-    #[tactic(auto, using(crate::specs::RangesFacts::is_full_all))]
     pub fn is_full(&self) -> bool
         ensures { result ≡ model.is_full self.now }
     {
-        self.contains_all_in_range(..)
+        counted::is_full(self, &mut Steps::new())
     }
 }

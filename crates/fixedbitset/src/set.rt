@@ -1,11 +1,13 @@
 //! The set itself: making one, growing it, its length and its words.
 
-ghost use Rattle.std.specs.Prelude.{◌≡◌, ◌<◌, ◌≤◌, ◌-◌, ◌*◌, ◌^◌, ◌++◌, min, drop, length, replicate, vec_len, IsOk, IfOk, OnOk, OnErr};
+ghost use Rattle.std.specs.Prelude.{◌≡◌, ◌<◌, ◌≤◌, ◌+◌, ◌-◌, ◌*◌, ◌^◌, ◌++◌, min, drop, length, replicate, vec_len, IsOk, IfOk, OnOk, OnErr};
 ghost use Rattle.std.specs.Vec.{vec_capacity};
+ghost use Rattle.bitlanes.specs.Words.{lane_steps};
 ghost use Rattle.fixedbitset.specs.Bits as model;
 ghost use Rattle.fixedbitset.specs.Blocks.{FirstItems};
 
 use crate::lent;
+use bitlanes::Steps;
 use bitlanes::lanes::LANE;
 use bitlanes::word::{BITS, Block};
 use bitwords::positions;
@@ -171,8 +173,23 @@ impl FixedBitSet {
         ensures succeeds { model.words_needed source.now.length
             ≤ model.words_needed self.old.length → IsOk result }
     {
+        self.copy_from(source, &mut Steps::new())
+    }
+
+    // `clone_from`, with the steps that it takes. They are counted beside std's copy.
+    #[inline(always)]
+    pub(crate) fn copy_from(&mut self, source: &Self, steps: &mut Steps) -> Result<(), AllocError>
+        ensures ok { OnOk result (self.new ≡ source.now) }
+        ensures err { OnErr result (self.new ≡ self.old) }
+        ensures succeeds { model.words_needed source.now.length
+            ≤ model.words_needed self.old.length → IsOk result }
+        ensures cost { OnOk result
+            (steps.new ≡ steps.old + lane_steps (model.storage_words source.now.length)) }
+        ensures refused { OnErr result (steps.new ≡ steps.old) }
+    {
         self.words.resize(source.words.len(), 0)?;
         self.words.copy_from_slice(&source.words);
+        steps.tick_lanes(source.words.len());
         self.length = source.length;
         Ok(())
     }

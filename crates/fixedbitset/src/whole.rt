@@ -4,16 +4,13 @@
 //! joined; the rest of the longer set is copied, cleared or left, as the operation says. Module `counted` has the same
 //! calls with a counter.
 
-ghost use Rattle.std.specs.Prelude.{◌≡◌, ◌≤◌, IsOk, IfOk, OnOk, OnErr, not, true};
+ghost use Rattle.std.specs.Prelude.{◌≡◌, ◌≤◌, IsOk, IfOk, OnOk, OnErr, not};
 ghost use Rattle.fixedbitset.specs.Bits as model;
-ghost use Rattle.fixedbitset.specs.Stored.{joined};
 ghost use Rattle.fixedbitset.specs.TwoSets as sets;
 
 use crate::counted;
 use crate::set::FixedBitSet;
 use bitlanes::Steps;
-use bitlanes::ops::{And, Or, WordOp, Xor};
-use bitwords::joins;
 use std::alloc::AllocError;
 
 impl FixedBitSet {
@@ -189,15 +186,10 @@ impl FixedBitSet {
     /// assert_eq!(rt; both.len(), 6);
     /// assert_eq!(rt; both.as_slice(), [8].as_slice());
     /// ```
-    #[tactic(auto, using(crate::proofs::JoinedValues::bitand_shorter, crate::proofs::JoinedValues::bitand_longer, crate::proofs::Words::viewed_length))]
     pub fn bitand(&self, other: &Self) -> Result<Self, AllocError>
         ensures { IfOk result (λ set. set ≡ sets.bitand self.now other.now) }
     {
-        if self.length < other.length {
-            self.joined_copy::<And>(other)
-        } else {
-            other.joined_copy::<And>(self)
-        }
+        counted::bitand(self, other, &mut Steps::new())
     }
 
     /// A new set of the greater of the two lengths, with the positions of either set.
@@ -212,15 +204,10 @@ impl FixedBitSet {
     /// assert_eq!(rt; either.len(), 65);
     /// assert_eq!(rt; either.as_slice(), [42, 1].as_slice());
     /// ```
-    #[tactic(auto, using(crate::proofs::JoinedValues::union_longer, crate::proofs::JoinedValues::union_shorter, crate::proofs::Words::viewed_length))]
     pub fn bitor(&self, other: &Self) -> Result<Self, AllocError>
         ensures { IfOk result (λ set. set ≡ sets.union self.now other.now) }
     {
-        if self.length < other.length {
-            other.joined_copy::<Or>(self)
-        } else {
-            self.joined_copy::<Or>(other)
-        }
+        counted::bitor(self, other, &mut Steps::new())
     }
 
     /// A new set of the greater of the two lengths, with the positions of exactly one of the sets.
@@ -235,15 +222,10 @@ impl FixedBitSet {
     /// assert_eq!(rt; one.len(), 65);
     /// assert_eq!(rt; one.as_slice(), [34, 1].as_slice());
     /// ```
-    #[tactic(auto, using(crate::proofs::JoinedValues::symmetric_difference_longer, crate::proofs::JoinedValues::symmetric_difference_shorter, crate::proofs::Words::viewed_length))]
     pub fn bitxor(&self, other: &Self) -> Result<Self, AllocError>
         ensures { IfOk result (λ set. set ≡ sets.symmetric_difference self.now other.now) }
     {
-        if self.length < other.length {
-            other.joined_copy::<Xor>(self)
-        } else {
-            self.joined_copy::<Xor>(other)
-        }
+        counted::bitxor(self, other, &mut Steps::new())
     }
 
     /// How many positions are in either set.
@@ -358,19 +340,5 @@ impl FixedBitSet {
         ensures { result ≡ sets.is_subset other.now self.now }
     {
         other.is_subset(self)
-    }
-
-    // A new set: this one, joined with `other`.
-    #[inline(always)]
-    fn joined_copy<O: WordOp>(&self, other: &Self) -> Result<Self, AllocError>
-        requires { O.TAKE ≡ true → other.now.length ≤ self.now.length }
-        ensures { IfOk result (λ set. set ≡ joined O.truth self.now other.now) }
-    {
-        let alloc = *self.words.allocator();
-        let words = joins::joined::<O>(alloc, self.words.as_slice(), other.words.as_slice())?;
-        Ok(FixedBitSet {
-            words,
-            length: self.length,
-        })
     }
 }

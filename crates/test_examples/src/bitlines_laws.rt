@@ -1,6 +1,6 @@
 //! The examples in the docs of `bitlines::laws`. docs/make_examples writes this file.
 
-use crate::calls::{cleared, gives, holds, ok, set_of};
+use crate::calls::{cleared, equal, gives, holds, ok, set_of};
 use bitcommands::commands;
 use bitcommands::commands::{Change, Command, Refusal, Reply};
 use bitlines::{lines, program};
@@ -19,6 +19,22 @@ fn one_output(rt: HostRuntime) {
     );
     bitlines::laws::one_output();
     holds(&rt, first == second);
+}
+
+#[test]
+fn one_line_each(rt: HostRuntime) {
+    let alloc = rt.alloc();
+    let mut output = Vec::new(alloc);
+    ok(
+        &rt,
+        program::run_text(alloc, &mut "len 0\n\nas_slice 0".as_bytes(), &mut output),
+    );
+    bitlines::laws::one_line_each();
+    equal(
+        &rt,
+        output.as_slice(),
+        "0\nF8 not a command\n-\n".as_bytes(),
+    );
 }
 
 #[test]

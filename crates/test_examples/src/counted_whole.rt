@@ -97,3 +97,12 @@ fn is_subset(rt: HostRuntime) {
     holds(&rt, counted::is_subset(&set, &other, &mut Steps::new()));
     holds(&rt, !counted::is_subset(&other, &set, &mut Steps::new()));
 }
+
+#[test]
+fn is_equal(rt: HostRuntime) {
+    let alloc = rt.alloc();
+    let set = set_of(&rt, alloc, &[3, 64]);
+    let other = set_of(&rt, alloc, &[3, 64, 200]);
+    holds(&rt, counted::is_equal(&set, &set, &mut Steps::new()));
+    holds(&rt, !counted::is_equal(&set, &other, &mut Steps::new()));
+}

@@ -18,3 +18,10 @@ fn tick(rt: HostRuntime) {
     lanes::zero(&mut [1; 9], &mut steps);
     equal(&rt, size_of_val(&steps), 0);
 }
+
+#[test]
+fn tick_lanes(rt: HostRuntime) {
+    let mut steps = Steps::new();
+    steps.tick_lanes(9);
+    equal(&rt, size_of_val(&steps), 0);
+}

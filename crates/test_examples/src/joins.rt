@@ -40,6 +40,9 @@ fn none(rt: HostRuntime) {
 #[test]
 fn joined(rt: HostRuntime) {
     let alloc = rt.alloc();
-    let new = ok(&rt, joins::joined::<And>(alloc, &[11, 3, 1], &[9, 6]));
+    let new = ok(
+        &rt,
+        joins::joined::<And>(alloc, &[11, 3, 1], &[9, 6], &mut Steps::new()),
+    );
     equal(&rt, new.as_slice(), [9, 2, 0].as_slice());
 }

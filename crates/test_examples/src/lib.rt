@@ -27,7 +27,11 @@ mod commands_refusals;
 #[cfg(test)]
 mod commands_replies;
 #[cfg(test)]
+mod counted_alone;
+#[cfg(test)]
 mod counted_changes;
+#[cfg(test)]
+mod counted_copies;
 #[cfg(test)]
 mod counted_neighbours;
 #[cfg(test)]

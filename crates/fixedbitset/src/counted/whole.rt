@@ -5,14 +5,14 @@
 //! where these are cleared or counted. A comparison takes at most as many, since it stops at the first lane that decides;
 //! where it answers `true`, exactly. What `grow` writes is not counted.
 
-ghost use Rattle.std.specs.Prelude.{◌≡◌, ◌<◌, ◌≤◌, ◌+◌, IsTrue, IsOk, OnOk, OnErr, true, false};
+ghost use Rattle.std.specs.Prelude.{◌≡◌, ◌≢◌, ◌<◌, ◌≤◌, ◌↔◌, ◌+◌, IsTrue, IsOk, OnOk, OnErr, true, false};
 ghost use Rattle.bitlanes.specs.Words.{lane_steps};
 ghost use Rattle.bitwords.specs.Steps.{join_steps, both_steps};
 ghost use Rattle.fixedbitset.specs.Bits as model;
 ghost use Rattle.fixedbitset.specs.Stored.{joined};
 ghost use Rattle.fixedbitset.specs.TwoSets as sets;
 
-use crate::lent::whole::{count, join, none};
+use crate::lent::whole::{count, equal, join, none};
 use crate::set::FixedBitSet;
 use bitlanes::Steps;
 use bitlanes::ops::{And, AndNot, Or, WordOp, Xor};
@@ -265,6 +265,26 @@ pub fn is_subset(set: &FixedBitSet, other: &FixedBitSet, steps: &mut Steps) -> b
         (model.storage_words other.now.length) }
 {
     none::<AndNot>(&set.words, set.length, &other.words, other.length, steps)
+}
+
+/// `==` of two sets, with the steps that it takes: none where the lengths differ.
+///
+/// ```
+/// let set = FixedBitSet::from_iter(alloc, [3, 64])?;
+/// let other = FixedBitSet::from_iter(alloc, [3, 64, 200])?;
+/// assert!(rt; counted::is_equal(&set, &set, &mut Steps::new()));
+/// assert!(rt; !counted::is_equal(&set, &other, &mut Steps::new()));
+/// ```
+#[inline]
+#[tactic(auto, using(crate::specs::OrderFacts::facts, crate::proofs::Words::viewed_length))]
+pub fn is_equal(set: &FixedBitSet, other: &FixedBitSet, steps: &mut Steps) -> bool
+    ensures same { IsTrue result ↔ (set.now ≡ other.now) }
+    ensures cost { steps.new ≤ steps.old + lane_steps (model.storage_words set.now.length) }
+    ensures whole { IsTrue result
+        → steps.new ≡ steps.old + lane_steps (model.storage_words set.now.length) }
+    ensures unlike { set.now.length ≢ other.now.length → steps.new ≡ steps.old }
+{
+    equal(&set.words, set.length, &other.words, other.length, steps)
 }
 
 // Joins the longer set `other` to `set`, which grows before. It is a call of its own, so that a set which is as long

@@ -1,6 +1,7 @@
 //! Two whole sets, of any two lengths.
 
-ghost use Rattle.std.specs.Prelude.{◌≡◌, ◌≤◌, ◌+◌, ◌==◌, IsTrue, true};
+ghost use Rattle.std.specs.Prelude.{◌≡◌, ◌≢◌, ◌≤◌, ◌+◌, ◌==◌, IsTrue, true};
+ghost use Rattle.bitlanes.specs.Words.{lane_steps};
 ghost use Rattle.bitwords.specs.Steps.{join_steps, both_steps};
 ghost use Rattle.fixedbitset.specs.Bits as model;
 ghost use Rattle.fixedbitset.specs.Bits.{of_words};
@@ -249,7 +250,7 @@ pub fn is_equal(words: &[Block], length: usize, other: &[Block], other_length: u
     ensures { result
         ≡ order.equal (of_words length words.now) (of_words other_length other.now) }
 {
-    length == other_length && none::<Xor>(words, length, other, other_length, &mut Steps::new())
+    equal(words, length, other, other_length, &mut Steps::new())
 }
 
 /// Which of the sets comes first, in the order of `FixedBitSet`.
@@ -272,6 +273,27 @@ pub fn compare(words: &[Block], length: usize, other: &[Block], other_length: us
         Ordering::Equal => used_words(words, length).cmp(used_words(other, other_length)),
         unequal => unequal,
     }
+}
+
+// `is_equal`, with the steps that it takes.
+#[inline(always)]
+pub(crate) fn equal(
+    words: &[Block],
+    length: usize,
+    other: &[Block],
+    other_length: usize,
+    steps: &mut Steps,
+) -> bool
+    requires lent { IsClean length words.now }
+    requires lent_other { IsClean other_length other.now }
+    ensures told { result
+        ≡ order.equal (of_words length words.now) (of_words other_length other.now) }
+    ensures cost { steps.new ≤ steps.old + lane_steps (model.storage_words length) }
+    ensures whole { IsTrue result
+        → steps.new ≡ steps.old + lane_steps (model.storage_words length) }
+    ensures unlike { length ≢ other_length → steps.new ≡ steps.old }
+{
+    length == other_length && none::<Xor>(words, length, other, other_length, steps)
 }
 
 // Joins the second words to the first.

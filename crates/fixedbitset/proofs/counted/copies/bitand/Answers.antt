@@ -1,0 +1,23 @@
+use Rattle.std.proofs.Common.{◌≡◌, ℕ, ◌≤◌, false, arith}
+use Rattle.bitwords.specs.Steps.{join_steps, both_steps}
+use Rattle.fixedbitset.specs.Bits.{storage_words}
+use Rattle.fixedbitset.proofs.Words.{viewed_length}
+use Rattle.fixedbitset.proofs.counted.copies.bitand.Goals as goal
+
+-- no words of a set are more than those of a longer one
+fewer_words : (m n : ℕ) → m ≤ n → storage_words m ≤ storage_words n
+fewer_words m n le = omega arith
+
+-- where the joined set is the shorter one, nothing is left to clear
+join_whole : (m n : ℕ) → m ≤ n → join_steps false (storage_words m) (storage_words n) ≡ both_steps false false (storage_words n) (storage_words m)
+join_whole m n le = omega (arith, fewer_words m n le)
+
+pub returns-else-set-other-clause-cost : goal.returns-else-set-other-clause-cost
+returns-else-set-other-clause-cost c =
+    let shorter : c.args.other.now.length ≤ c.args.set.now.length = omega (arith, c.if-set-other.false, viewed_length _ _ _ c.set.view_is, viewed_length _ _ _ c.other.view_is) in
+    rw (← join_whole c.args.other.now.length c.args.set.now.length shorter) c.joined_copy-else-set-other.ensures.cost
+
+pub returns-else-set-other-clause-whole : goal.returns-else-set-other-clause-whole
+returns-else-set-other-clause-whole c =
+    let shorter : c.args.other.now.length ≤ c.args.set.now.length = omega (arith, c.if-set-other.false, viewed_length _ _ _ c.set.view_is, viewed_length _ _ _ c.other.view_is) in
+    rw (← join_whole c.args.other.now.length c.args.set.now.length shorter) c.joined_copy-else-set-other.ensures.whole
