@@ -19,12 +19,13 @@ pub enum Growing {
     BitorAssign,
     BitxorAssign,
     UnionWithChange,
+    CountedCloneFrom,
     CountedUnionWith,
     CountedSymmetricDifferenceWith,
     CountedUnionWithChange,
 }
 
-pub const CALLS: [(&str, Growing); 12] = [
+pub const CALLS: [(&str, Growing); 13] = [
     ("grow", Growing::Grow),
     ("grow_and_insert", Growing::GrowAndInsert),
     ("extend", Growing::Extend),
@@ -37,6 +38,7 @@ pub const CALLS: [(&str, Growing); 12] = [
     ("bitor_assign", Growing::BitorAssign),
     ("bitxor_assign", Growing::BitxorAssign),
     ("union_with_change", Growing::UnionWithChange),
+    ("counted::clone_from", Growing::CountedCloneFrom),
     ("counted::union_with", Growing::CountedUnionWith),
     (
         "counted::symmetric_difference_with",
@@ -54,7 +56,7 @@ fn is_grown(set: &FixedBitSet, call: Growing) -> bool {
         Growing::Grow => is_value(set, LONG, &[3]),
         Growing::GrowAndInsert => is_value(set, LONG + 1, &[3, LONG]),
         Growing::Extend => is_value(set, LONG + 1, &[3, 4, 5, LONG]),
-        Growing::CloneFrom => is_long(set),
+        Growing::CloneFrom | Growing::CountedCloneFrom => is_long(set),
         _ => is_value(set, LONG, &[3, LONG - 1]),
     }
 }
@@ -93,6 +95,7 @@ fn joined(set: &mut FixedBitSet, long: &FixedBitSet, call: Growing) -> Result<()
         Growing::BitorAssign => set.bitor_assign(long),
         Growing::BitxorAssign => set.bitxor_assign(long),
         Growing::UnionWithChange => set.union_with_change(long).map(|_| ()),
+        Growing::CountedCloneFrom => counted::clone_from(set, long, &mut Steps::new()),
         Growing::CountedUnionWith => counted::union_with(set, long, &mut Steps::new()),
         Growing::CountedSymmetricDifferenceWith => {
             counted::symmetric_difference_with(set, long, &mut Steps::new())

@@ -66,7 +66,9 @@ fn make_refusable(
     for line in making::LINES {
         tally.count(rt, line, making::line_read(rt.alloc(), line))?;
     }
-    tally.count(rt, "solve", solving::solved(rt.alloc(), starts))?;
+    for ((name, problem), nodes) in solving::PROBLEMS.iter().zip(starts.nodes.iter()) {
+        tally.count(rt, name, solving::solved(rt.alloc(), nodes, problem))?;
+    }
     Ok(tally)
 }
 

@@ -4,7 +4,7 @@ use crate::outcome::Fault;
 use crate::starts::{LONG, Starts, is_long, is_short, is_value};
 use bitcommands::commands::{Change, Command, Look, Reply, run};
 use bitlines::lines::parse_line;
-use fixedbitset::FixedBitSet;
+use fixedbitset::{FixedBitSet, Steps, counted};
 use std::alloc::Global;
 
 #[derive(Clone, Copy, PartialEq, Eq)]
@@ -16,6 +16,9 @@ pub enum Making {
     Bitand,
     Bitor,
     Bitxor,
+    CountedBitand,
+    CountedBitor,
+    CountedBitxor,
     FromValue,
     ToValue,
     Text,
@@ -23,7 +26,7 @@ pub enum Making {
     Run,
 }
 
-pub const CALLS: [(&str, Making); 12] = [
+pub const CALLS: [(&str, Making); 15] = [
     ("with_capacity", Making::WithCapacity),
     ("with_capacity_and_blocks", Making::WithCapacityAndBlocks),
     ("from_iter", Making::FromIter),
@@ -31,6 +34,9 @@ pub const CALLS: [(&str, Making); 12] = [
     ("bitand", Making::Bitand),
     ("bitor", Making::Bitor),
     ("bitxor", Making::Bitxor),
+    ("counted::bitand", Making::CountedBitand),
+    ("counted::bitor", Making::CountedBitor),
+    ("counted::bitxor", Making::CountedBitxor),
     ("from_value", Making::FromValue),
     ("to_value", Making::ToValue),
     ("to_string", Making::Text),
@@ -43,6 +49,9 @@ pub fn made(alloc: Global, starts: &mut Starts, call: Making) -> Result<bool, Fa
     let outcome = match call {
         Making::ToValue | Making::Text | Making::PushText => text_made(alloc, starts, call),
         Making::Run => commands_run(alloc, starts),
+        Making::CountedBitand | Making::CountedBitor | Making::CountedBitxor => {
+            set_counted(starts, call)
+        }
         _ => set_made(alloc, starts, call),
     };
     if is_short(&starts.short) && is_long(&starts.long) {
@@ -66,6 +75,20 @@ fn set_made(alloc: Global, starts: &Starts, call: Making) -> Result<bool, Fault>
         Making::Bitor => is_value(&short.bitor(long)?, LONG, &[3, LONG - 1]),
         Making::Bitxor => is_value(&short.bitxor(long)?, LONG, &[3, LONG - 1]),
         Making::FromValue => is_short(&FixedBitSet::from_value(alloc, &starts.json)?),
+        _ => false,
+    })
+}
+
+fn set_counted(starts: &Starts, call: Making) -> Result<bool, Fault> {
+    let (short, long, steps) = (&starts.short, &starts.long, &mut Steps::new());
+    Ok(match call {
+        Making::CountedBitand => is_value(&counted::bitand(long, short, steps)?, 10, &[]),
+        Making::CountedBitor => {
+            is_value(&counted::bitor(short, long, steps)?, LONG, &[3, LONG - 1])
+        }
+        Making::CountedBitxor => {
+            is_value(&counted::bitxor(short, long, steps)?, LONG, &[3, LONG - 1])
+        }
         _ => false,
     })
 }

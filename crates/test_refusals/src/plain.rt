@@ -18,6 +18,7 @@ pub enum Group {
     RangesAsked,
     RangesChanged,
     RangesCounted,
+    RangesInclusive,
     Lesser,
     Counts,
     Counted,
@@ -27,13 +28,14 @@ pub enum Group {
     Json,
 }
 
-pub const GROUPS: [(&str, Group); 13] = [
+pub const GROUPS: [(&str, Group); 14] = [
     ("looks", Group::Looks),
     ("positions", Group::Positions),
     ("unchecked", Group::Unchecked),
     ("ranges_asked", Group::RangesAsked),
     ("ranges_changed", Group::RangesChanged),
     ("ranges_counted", Group::RangesCounted),
+    ("ranges_inclusive", Group::RangesInclusive),
     ("lesser", Group::Lesser),
     ("counts", Group::Counts),
     ("counted", Group::Counted),
@@ -51,6 +53,7 @@ pub fn holds(alloc: Global, starts: &mut Starts, group: Group) -> Result<bool, F
         Group::RangesAsked => Ok(ranges_asked(&starts.short)),
         Group::RangesChanged => ranges_changed(starts),
         Group::RangesCounted => ranges_counted(starts),
+        Group::RangesInclusive => ranges_inclusive(starts),
         Group::Lesser => lesser(starts),
         Group::Counts => Ok(counts(&starts.short, &starts.long)),
         Group::Counted => counted_calls(starts),
@@ -232,6 +235,35 @@ fn ranges_counted(starts: &mut Starts) -> Result<bool, Fault> {
     )
 }
 
+// The calls on ranges that name their last position.
+fn ranges_inclusive(starts: &mut Starts) -> Result<bool, Fault> {
+    let mut set = starts.take_short()?;
+    change(&mut set, 2..=4, Changing::Insert);
+    change(&mut set, ..=2, Changing::Toggle);
+    change(&mut set, 3..=3, Changing::Remove);
+    change(&mut set, 8..=9, Changing::Set);
+    change_counted(&mut set, 8..=8, Changing::Toggle);
+    Ok(is_value(&set, 10, &[0, 1, 4, 9]) && inclusive_asked(&set))
+}
+
+fn inclusive_asked(set: &FixedBitSet) -> bool {
+    if !set.range_is_valid(&(1..=4)) || set.range_is_valid(&(1..=10)) {
+        return false;
+    }
+    let steps = &mut Steps::new();
+    set.count_ones(1..=4) == 2
+        && set.count_zeroes(1..=4) == 2
+        && !set.contains_all_in_range(1..=4)
+        && set.contains_any_in_range(1..=4)
+        && counted::count_ones(set, 1..=4, steps) == 2
+        && counted::count_zeroes(set, 1..=4, steps) == 2
+        && !counted::contains_all_in_range(set, 1..=4, steps)
+        && counted::contains_any_in_range(set, 1..=4, steps)
+        && IndexRange::start(&(1..=4)) == Some(1)
+        && IndexRange::end(&(1..=4)) == Some(5)
+        && IndexRange::end(&(..=4)) == Some(5)
+}
+
 // The calls on two sets that leave the length of the first.
 fn lesser(starts: &mut Starts) -> Result<bool, Fault> {
     let mut set = starts.take_short()?;
@@ -266,7 +298,9 @@ fn counted_calls(starts: &mut Starts) -> Result<bool, Fault> {
         && counted::difference_count(short, long, steps) == 1
         && counted::symmetric_difference_count(short, long, steps) == 2
         && counted::is_disjoint(short, long, steps)
-        && !counted::is_subset(short, long, steps);
+        && !counted::is_subset(short, long, steps)
+        && !counted::is_equal(short, long, steps)
+        && !counted::is_full(short, steps);
     counted::intersect_with(&mut set, short, steps);
     counted::difference_with(&mut set, long, steps);
     counted::union_with(&mut wide, short, steps)?;
@@ -275,7 +309,11 @@ fn counted_calls(starts: &mut Starts) -> Result<bool, Fault> {
     let has_changed = counted::union_with_change(&mut wide, short, steps)?
         && !counted::intersect_with_change(&mut set, short, steps)
         && counted::difference_with_change(&mut wide, short, steps);
-    Ok(is_counted && is_joined && has_changed && is_short(&set) && is_long(&wide))
+    let is_kept = is_short(&set) && is_long(&wide);
+    counted::clear(&mut set, steps);
+    counted::clone_from(&mut wide, short, steps)?;
+    let is_replaced = is_value(&set, 10, &[]) && is_short(&wide);
+    Ok(is_counted && is_joined && has_changed && is_kept && is_replaced)
 }
 
 fn hash_of(set: &FixedBitSet) -> u64 {

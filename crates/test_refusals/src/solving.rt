@@ -1,49 +1,114 @@
-//! The data-flow solver on a worked problem of four nodes and three facts.
+//! The data-flow solver on five worked problems.
 
 use crate::outcome::Fault;
-use crate::starts::{Starts, is_value};
+use crate::starts::{Nodes, is_value};
 use fixedbitset::{FixedBitSet, Steps};
 use flow::{is_problem, solve};
 use std::alloc::Global;
 
-/// How many facts the problem has.
-pub const FACTS: usize = 3;
+/// A problem and its least solution: the facts of each node, one list after the other.
+#[derive(Clone, Copy)]
+pub struct Problem {
+    /// How many facts the problem has.
+    pub facts: usize,
+    edges: &'static [(usize, usize)],
+    /// What each node makes.
+    pub gens: &'static [&'static [usize]],
+    /// What each node stops.
+    pub kills: &'static [&'static [usize]],
+    ins: &'static [&'static [usize]],
+    outs: &'static [&'static [usize]],
+}
 
-const EDGES: [(usize, usize); 4] = [(0, 1), (1, 2), (2, 1), (1, 3)];
-
-/// What each node makes.
-pub const GENS: [&[usize]; 4] = [&[0], &[], &[1], &[2]];
-
-/// What each node stops.
-pub const KILLS: [&[usize]; 4] = [&[1], &[], &[0], &[]];
-
-const INS: [&[usize]; 4] = [&[], &[0, 1], &[0, 1], &[0, 1]];
-
-const OUTS: [&[usize]; 4] = [&[0], &[0, 1], &[1], &[0, 1, 2]];
+/// Facts along a loop of two nodes; a loop with no fact; an edge from a node to itself, twice; no facts; and no nodes.
+pub const PROBLEMS: [(&str, Problem); 5] = [
+    (
+        "solve of four nodes",
+        Problem {
+            facts: 3,
+            edges: &[(0, 1), (1, 2), (2, 1), (1, 3)],
+            gens: &[&[0], &[], &[1], &[2]],
+            kills: &[&[1], &[], &[0], &[]],
+            ins: &[&[], &[0, 1], &[0, 1], &[0, 1]],
+            outs: &[&[0], &[0, 1], &[1], &[0, 1, 2]],
+        },
+    ),
+    (
+        "solve of a loop",
+        Problem {
+            facts: 2,
+            edges: &[(0, 1), (1, 0)],
+            gens: &[&[], &[]],
+            kills: &[&[], &[]],
+            ins: &[&[], &[]],
+            outs: &[&[], &[]],
+        },
+    ),
+    (
+        "solve of one node",
+        Problem {
+            facts: 1,
+            edges: &[(0, 0), (0, 0)],
+            gens: &[&[0]],
+            kills: &[&[0]],
+            ins: &[&[0]],
+            outs: &[&[0]],
+        },
+    ),
+    (
+        "solve of no facts",
+        Problem {
+            facts: 0,
+            edges: &[(0, 1)],
+            gens: &[&[], &[]],
+            kills: &[&[], &[]],
+            ins: &[&[], &[]],
+            outs: &[&[], &[]],
+        },
+    ),
+    (
+        "solve of no nodes",
+        Problem {
+            facts: 5,
+            edges: &[],
+            gens: &[],
+            kills: &[],
+            ins: &[],
+            outs: &[],
+        },
+    ),
+];
 
 /// Solves the problem, looks at the answer, and that the sets of the problem stay.
-pub fn solved(alloc: Global, starts: &Starts) -> Result<bool, Fault> {
-    let outcome = answered(alloc, &starts.gens, &starts.kills);
-    if are(&starts.gens, &GENS) && are(&starts.kills, &KILLS) {
+pub fn solved(alloc: Global, nodes: &Nodes, problem: &Problem) -> Result<bool, Fault> {
+    let outcome = answered(alloc, &nodes.gens, &nodes.kills, problem);
+    let facts = problem.facts;
+    if are(&nodes.gens, facts, problem.gens) && are(&nodes.kills, facts, problem.kills) {
         outcome
     } else {
         Ok(false)
     }
 }
 
-fn answered(alloc: Global, gens: &[FixedBitSet], kills: &[FixedBitSet]) -> Result<bool, Fault> {
-    if !is_problem(FACTS, &EDGES, gens, kills) {
+fn answered(
+    alloc: Global,
+    gens: &[FixedBitSet],
+    kills: &[FixedBitSet],
+    problem: &Problem,
+) -> Result<bool, Fault> {
+    let (facts, edges) = (problem.facts, problem.edges);
+    if !is_problem(facts, edges, gens, kills) {
         return Ok(false);
     }
-    let answer = solve(alloc, FACTS, &EDGES, gens, kills, &mut Steps::new())?;
-    Ok(are(&answer.ins, &INS) && are(&answer.outs, &OUTS))
+    let answer = solve(alloc, facts, edges, gens, kills, &mut Steps::new())?;
+    Ok(are(&answer.ins, facts, problem.ins) && are(&answer.outs, facts, problem.outs))
 }
 
-// Whether the sets have these positions, one after the other.
-fn are(sets: &[FixedBitSet], wanted: &[&[usize]]) -> bool {
+// Whether the sets have this length and these positions, one after the other.
+fn are(sets: &[FixedBitSet], facts: usize, wanted: &[&[usize]]) -> bool {
     sets.len() == wanted.len()
         && sets
             .iter()
             .zip(wanted.iter())
-            .all(|(set, positions)| is_value(set, FACTS, positions))
+            .all(|(set, positions)| is_value(set, facts, positions))
 }

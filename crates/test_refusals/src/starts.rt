@@ -4,7 +4,7 @@ ghost use Rattle.std.specs.Prelude.{IfOk, ◌≡◌};
 ghost use Rattle.fixedbitset.specs.Bits as model;
 
 use crate::outcome::Fault;
-use crate::solving::{FACTS, GENS, KILLS};
+use crate::solving::{PROBLEMS, Problem};
 use fixedbitset::FixedBitSet;
 use serde_json::Value;
 use std::alloc::{AllocError, Global};
@@ -13,12 +13,19 @@ use std::alloc::{AllocError, Global};
 pub const LONG: usize = 100_000;
 
 // As many sets as calls take for themselves.
-const SHORT_SETS: usize = 32;
+const SHORT_SETS: usize = 34;
 
 const LONG_SETS: usize = 8;
 
 // Room for each text that a call puts behind the output.
 const ROOM: usize = 64;
+
+/// What the nodes of a data-flow problem make, and what they stop.
+#[derive(Drop)]
+pub struct Nodes {
+    pub gens: Vec<FixedBitSet>,
+    pub kills: Vec<FixedBitSet>,
+}
 
 #[derive(Drop)]
 pub struct Starts {
@@ -29,9 +36,8 @@ pub struct Starts {
     pub long: FixedBitSet,
     /// The sets of commands: two short ones.
     pub sets: Vec<FixedBitSet>,
-    /// What the nodes of a data-flow problem make, and what they stop.
-    pub gens: Vec<FixedBitSet>,
-    pub kills: Vec<FixedBitSet>,
+    /// The nodes of each data-flow problem.
+    pub nodes: Vec<Nodes>,
     /// The JSON form of a short set.
     pub json: Value,
     /// A text without room, and one with enough for the reply to a line.
@@ -51,8 +57,7 @@ impl Starts {
             short: short_set(alloc)?,
             long: long_set(alloc)?,
             sets: short_sets(alloc, 2)?,
-            gens: fact_sets(alloc, &GENS)?,
-            kills: fact_sets(alloc, &KILLS)?,
+            nodes: all_nodes(alloc)?,
             json,
             full: Vec::new(alloc),
             output: Vec::with_capacity(alloc, ROOM)?,
@@ -86,11 +91,30 @@ fn long_sets(alloc: Global, count: usize) -> Result<Vec<FixedBitSet>, AllocError
     Ok(sets)
 }
 
-// A set of facts for each list of them.
-fn fact_sets(alloc: Global, members: &[&[usize]]) -> Result<Vec<FixedBitSet>, AllocError> {
+fn all_nodes(alloc: Global) -> Result<Vec<Nodes>, AllocError> {
+    let mut all = Vec::new(alloc);
+    for (_, problem) in PROBLEMS {
+        all.push(nodes_of(alloc, problem)?)?;
+    }
+    Ok(all)
+}
+
+fn nodes_of(alloc: Global, problem: Problem) -> Result<Nodes, AllocError> {
+    Ok(Nodes {
+        gens: fact_sets(alloc, problem.facts, problem.gens)?,
+        kills: fact_sets(alloc, problem.facts, problem.kills)?,
+    })
+}
+
+// A set of this length for each list of its positions.
+fn fact_sets(
+    alloc: Global,
+    length: usize,
+    members: &[&[usize]],
+) -> Result<Vec<FixedBitSet>, AllocError> {
     let mut sets = Vec::new(alloc);
     for facts in members {
-        let mut set = FixedBitSet::with_capacity(alloc, FACTS)?;
+        let mut set = FixedBitSet::with_capacity(alloc, length)?;
         for fact in *facts {
             if *fact < set.len() {
                 set.insert(*fact);

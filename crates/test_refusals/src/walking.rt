@@ -53,7 +53,9 @@ pub fn gives(starts: &mut Starts, walk: Walk) -> Result<bool, Fault> {
         Walk::IntoOnes => gives_two(set.into_ones(), 3, 9),
         Walk::Zeroes => {
             let mut zeroes = short.zeroes();
-            zeroes.nth(3) == Some(4) && zeroes.size_hint().1 >= Some(5)
+            zeroes.nth(3) == Some(4)
+                && zeroes.size_hint().1 >= Some(5)
+                && zeroes.next_back() == Some(9)
         }
         Walk::Intersection => gives_two(set.intersection(&set), 3, 9),
         Walk::Difference => gives_two(set.difference(long), 3, 9),
