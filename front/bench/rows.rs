@@ -1,5 +1,5 @@
 //! What is timed, for the sets of the module above.
-use super::Set;
+use super::{Set, beyond};
 use crate::Row;
 use std::hash::{DefaultHasher, Hash, Hasher};
 use std::hint::black_box;
@@ -13,6 +13,8 @@ pub fn rows(bits: usize) -> Vec<Row> {
         whole(bits),
         pairs(bits),
         walks(bits),
+        neighbours(bits),
+        telling(bits),
     ]
     .into_iter()
     .flatten()
@@ -311,5 +313,44 @@ fn walks(bits: usize) -> Vec<Row> {
         two("symmetric_difference, an item", |set, other| {
             sum_of(set.symmetric_difference(other))
         }),
+    ]
+}
+
+/// Upstream has none of these calls; on its side stands what a user writes instead.
+fn neighbours(bits: usize) -> Vec<Row> {
+    let mut last = Set::with_capacity(bits);
+    last.insert(bits - 1);
+    let each = |name, many| {
+        walk(name, one_of(bits, many), Set::new(), |set, _| {
+            let mut sum = Sum { items: 0, sum: 0 };
+            beyond::for_each_one(set, |position| {
+                sum.items += 1;
+                sum.sum = sum.sum.wrapping_add(position);
+            });
+            sum
+        })
+    };
+    vec![
+        each("next_one in a loop, an item, 1 %", 100),
+        each("next_one in a loop, an item, 10 %", 10),
+        each("next_one in a loop, an item, 50 %", 2),
+        ask("next_one, far", last, Set::new(), |set, _| {
+            beyond::next_one(set, set.len() / 2)
+        }),
+    ]
+}
+
+fn telling(bits: usize) -> Vec<Row> {
+    let (low, high) = (lower(bits), upper(bits));
+    let with = |name, call: fn(&mut Set, &Set) -> bool| {
+        let high = high.clone();
+        change(name, low.clone(), move |set| {
+            black_box(call(set, black_box(&high)));
+        })
+    };
+    vec![
+        with("union_with_change", beyond::union_with_change),
+        with("intersect_with_change", beyond::intersect_with_change),
+        with("difference_with_change", beyond::difference_with_change),
     ]
 }

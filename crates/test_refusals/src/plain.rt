@@ -79,6 +79,10 @@ fn looks(alloc: Global, starts: &mut Starts) -> Result<bool, Fault> {
         && !set.is_full()
         && set.minimum() == Some(3)
         && set.maximum() == Some(3)
+        && set.next_one(0) == Some(3)
+        && set.next_zero(3) == Some(4)
+        && set.previous_one(10) == Some(3)
+        && set.previous_zero(4) == Some(2)
         && set.as_slice() == [8].as_slice();
     if set.as_slice().is_empty() {
         return Ok(false);
@@ -300,7 +304,11 @@ fn counted_calls(starts: &mut Starts) -> Result<bool, Fault> {
         && counted::is_disjoint(short, long, steps)
         && !counted::is_subset(short, long, steps)
         && !counted::is_equal(short, long, steps)
-        && !counted::is_full(short, steps);
+        && !counted::is_full(short, steps)
+        && counted::next_one(short, 0, steps) == short.next_one(0)
+        && counted::next_zero(short, 0, steps) == short.next_zero(0)
+        && counted::previous_one(short, 10, steps) == short.previous_one(10)
+        && counted::previous_zero(short, 10, steps) == short.previous_zero(10);
     counted::intersect_with(&mut set, short, steps);
     counted::difference_with(&mut set, long, steps);
     counted::union_with(&mut wide, short, steps)?;
