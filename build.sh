@@ -59,12 +59,35 @@ progress() {
   done >&2
 }
 
+# Whether no library that the program stands on was built before.
+is_first() {
+  local name
+  for name in $(crates); do
+    if [ "$name" != "$crate" ] && [ -e "$top/crates/$name/out" ]; then return 1; fi
+  done
+}
+
+# Runs the program without any proof. The lines that the kit says at the end of a run are left out.
+try() {
+  local status=0 said
+  cd "$top/crates/$crate"
+  exec {said}> >(awk '!/^(interpreter: ended|checked: ended|run=ended) status=/ { print; fflush() }' >&2)
+  rt try 2>&"$said" || status=$?
+  exec {said}>&-
+  wait "$!"
+  return "$status"
+}
+
 # Proves and builds the program. Its time is that of the start, so a source that is edited meanwhile is newer.
 build() {
   local out=$top/crates/$crate/out
   need_kit
   { mkdir -p "$out" && touch "$out/started"; } 2>/dev/null || refuse "to build it takes a folder to write to, and $out is none"
-  echo "$crate: proving and building; the first time takes 10 to 15 minutes" >&2
+  if is_first; then
+    echo "$crate: proving and building, which takes 10 to 15 minutes the first time" >&2
+  else
+    echo "$crate: proving and building" >&2
+  fi
   if ! (cd "$top/crates/$crate" && rt run <stdin 2>&1 | tee "$out/log" | progress); then
     tail -n 20 "$out/log" >&2
     refuse "it was not built; $out/log has all that was said"

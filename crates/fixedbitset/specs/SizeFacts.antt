@@ -1,5 +1,5 @@
 -- How many positions are set and how many are not, and what a change of one position makes of these numbers.
-use Rattle.std.specs.Prelude.{◌≡◌, ◌≢◌, ℕ, zero, suc, ◌+◌, ◌-◌, ◌<◌, ◌≤◌, min, Bool, true, false, cond, not, ◌&&◌, ◌||◌, ◌==◌, nat_lt, nat_le}
+use Rattle.std.specs.Prelude.{◌≡◌, ◌≢◌, ℕ, zero, suc, ◌+◌, ◌-◌, ◌<◌, ◌≤◌, min, Bool, true, false, cond, not, ◌&&◌, ◌||◌, ◌==◌, nat_lt, nat_le, length}
 use Rattle.std.specs.Ordering.{nat_cmp}
 use Rattle.std.specs.Cmp.{nat_cmp_total, unsigned_tied}
 use Rattle.std.specs.FinSet as set
@@ -7,12 +7,13 @@ use Rattle.std.specs.FinSet.{FinSet}
 use Rattle.std.proofs.Common.{refl, sym, ap, ◌∙◌, arith, ⊎_elim}
 use Rattle.std.proofs.lemmas.Bool.{cases_eq, cases_Bool, lt-ltb, ltb-true, le-ltb, le-leb, eq-eqb, eqb-true, ne_eqb, and_parts, and_right, true≢false}
 use Rattle.std.proofs.lemmas.Bool.Decides.{nat_tests}
+use Rattle.bitwords.specs.AscendingFacts.{length-count}
 use Rattle.bitwords.specs.Rows.{count_below}
 use Rattle.bitwords.specs.CountFacts.{indicator, count-zero, count-suc, count-same}
 use Rattle.fixedbitset.specs.Numbers.{numbers_below, numbers_between, contains-numbers_below}
 use Rattle.fixedbitset.specs.NumbersFacts.{same_set, same_truth, contains-numbers_between, len-below, none_len}
-use Rattle.fixedbitset.specs.Bits.{Bits, contains, empty, insert, remove, is_clear, is_full}
-use Rattle.fixedbitset.specs.BitsFacts.{contains_below, same_bits, length-empty, length-insert, length-remove, contains-empty, contains-insert, contains-remove}
+use Rattle.fixedbitset.specs.Bits.{Bits, contains, empty, insert, remove, is_clear, is_full, complement, asc}
+use Rattle.fixedbitset.specs.BitsFacts.{contains_below, same_bits, length-empty, length-insert, length-remove, contains-empty, contains-insert, contains-remove, contains-complement}
 use Rattle.fixedbitset.specs.Ranges.{count_ones, count_zeroes}
 
 -- ---- a set split in two by another one
@@ -227,6 +228,32 @@ is_full-counts v = same_truth _ _
 -- each position is set: none is not
 pub count_zeroes-full : (v : Bits) → is_full v ≡ true → count_zeroes v 0 v.length ≡ 0
 count_zeroes-full v full = omega (arith, range_counts_add_up v 0 v.length, eqb-true _ _ (sym (is_full-counts v) ∙ full))
+
+-- ---- the items of a walk
+
+-- a walk over the positions that are set has as many items as are counted
+pub items_counted : (v : Bits) → length (asc v) ≡ count_ones v 0 v.length
+unfolding asc contains
+items_counted v =
+    length-count (contains v) v.length ∙ sym (len-below v.length v.positions (contains_below v)) ∙ sym (count_ones-all v)
+
+-- those that are set in the complement are those that are not set
+count_ones-complement : (v : Bits) → count_ones (complement v) 0 (complement v).length ≡ count_zeroes v 0 v.length
+unfolding count_zeroes contains
+count_ones-complement v =
+    count_ones-all (complement v)
+    ∙ ap set.len (same_set _ _ (λ p.
+    contains-complement v p
+    ∙ ap (λ b. b && not (contains v p)) (from_zero p v.length)
+    ∙ ap (λ b. b && not (contains v p)) (sym (contains-numbers_between 0 v.length p))
+    ∙ sym (set.contains-difference nat_cmp_total (numbers_between 0 v.length) v.positions p)))
+  where
+    from_zero : (p n : ℕ) → nat_lt p n ≡ (nat_le 0 p && nat_lt p n)
+    from_zero p n = rw (le-leb 0 p (omega arith)) refl
+
+-- and one over those that are not set has as many as there are of these
+pub zero_items_counted : (v : Bits) → length (asc (complement v)) ≡ count_zeroes v 0 v.length
+zero_items_counted v = items_counted (complement v) ∙ count_ones-complement v
 
 -- what a caller needs of how many positions are set
 pub ruleset sizes = (count_ones-empty, count_zeroes-empty, count_ones-insert, count_zeroes-insert, count_ones-remove, count_zeroes-remove, count_ones-most, count_zeroes-most, count_zeroes-full, insert-set, remove-clear, length-empty, length-insert, length-remove)

@@ -48,3 +48,19 @@ fn the_last_slot_is_taken_too(rt: HostRuntime) -> Result<(), Fail> {
     assert_eq!(rt; slots.as_slice(), [1 << 63, 1].as_slice());
     Ok(())
 }
+
+/// How many slots are taken, and how many are not, by walks over them.
+#[tactic(auto, using(fixedbitset::specs::SizeFacts::items_counted, fixedbitset::specs::SizeFacts::zero_items_counted))]
+fn walked(slots: &FixedBitSet) -> (usize, usize)
+    ensures taken { result.0 ≡ ranges.count_ones slots.now 0 slots.now.length }
+    ensures left { result.1 ≡ ranges.count_zeroes slots.now 0 slots.now.length }
+{
+    (slots.ones().count(), slots.zeroes().count())
+}
+
+#[test]
+fn a_walk_is_counted(rt: HostRuntime) -> Result<(), Fail> {
+    let visited = start(rt.alloc(), 70)?;
+    assert_eq!(rt; walked(&visited), (1, 69));
+    Ok(())
+}
