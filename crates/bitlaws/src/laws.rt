@@ -74,7 +74,8 @@ pub fn json_text()
 /// let set = FixedBitSet::from_iter(alloc, [2, 9])?;
 /// laws::json_reads_back();
 /// let value = Value::from_str(alloc, "{\"data\":[4,2,0,0,0,0,0,0],\"length\":10}")?;
-/// assert!(rt; FixedBitSet::from_value(alloc, &value)? == set);
+/// let again = FixedBitSet::from_value(alloc, &value)?;
+/// assert!(rt; again == set);
 /// ```
 pub fn json_reads_back()
     ensures { TextReadsBack }

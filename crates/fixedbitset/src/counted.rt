@@ -1,4 +1,4 @@
-//! The calls with a counter of steps: each is the call of that name of the set, with one argument more.
+//! The calls with a counter of steps: each is the call of that name of the set, with one argument more. `is_equal` is `==`.
 
 mod alone;
 mod changes;

@@ -14,8 +14,8 @@ fn clear(rt: HostRuntime) {
 #[test]
 fn is_full(rt: HostRuntime) {
     let alloc = rt.alloc();
-    let mut set = set_of(&rt, alloc, &[0, 2]);
-    holds(&rt, !counted::is_full(&set, &mut Steps::new()));
-    set.insert(1);
-    holds(&rt, counted::is_full(&set, &mut Steps::new()));
+    let full = set_of(&rt, alloc, &[0, 1, 2]);
+    let other = set_of(&rt, alloc, &[0, 2]);
+    holds(&rt, counted::is_full(&full, &mut Steps::new()));
+    holds(&rt, !counted::is_full(&other, &mut Steps::new()));
 }

@@ -6,7 +6,7 @@ use fixedbitset::FixedBitSet;
 use std::alloc::Global;
 use std::cmp::Ordering;
 use std::collections::{BTreeMap, BTreeSet, HashMap, HashSet};
-use std::fmt::{Binary, Formatter};
+use std::fmt::{self, Binary, Display};
 use std::process::Abort;
 use std::test::Fail;
 use test_values::slow::filled;
@@ -247,6 +247,18 @@ fn pairs_of_three_stretches_compare(rt: HostRuntime) -> Result<(), Fail> {
 
 // ---- texts
 
+// A set that `Display` prints as `Binary` does, so that a format can ask for `#`.
+#[derive(Clone, Copy)]
+struct InBinary<'a> {
+    set: &'a FixedBitSet,
+}
+
+impl Display for InBinary<'_> {
+    fn fmt<W: fmt::Write>(&self, f: &mut fmt::Formatter<W>) -> fmt::Result {
+        Binary::fmt(self.set, f)
+    }
+}
+
 #[test]
 fn a_text_has_a_character_for_each_position(rt: HostRuntime) -> Result<(), Fail> {
     let set = set_of(rt.alloc(), 4, &[2])?;
@@ -261,9 +273,12 @@ fn a_text_has_a_character_for_each_position(rt: HostRuntime) -> Result<(), Fail>
     let two = set_of(rt.alloc(), 8, &[2, 4])?;
     assert_eq!(rt; two.to_string(rt.alloc())?.as_str(), "00101000");
     assert_eq!(rt; format!(in rt.alloc(); "{two:#}")?.as_str(), "0b00101000");
-    let mut binary = Formatter::new(String::new(rt.alloc()));
-    Binary::fmt(&two, &mut binary)?;
-    assert_eq!(rt; binary.into_inner().as_str(), "00101000");
+    let binary = InBinary { set: &two };
+    assert_eq!(rt; format!(in rt.alloc(); "{binary}")?.as_str(), "00101000");
+    assert_eq!(rt;
+        format!(in rt.alloc(); "{binary:#}")?.as_str(),
+        "0b00101000"
+    );
     let items = FixedBitSet::from_iter(rt.alloc(), [1, 5, 7, 10, 14, 15]).expect(&rt, "one word");
     assert_eq!(rt; items.to_string(rt.alloc())?.as_str(), "0100010100100011");
     Ok(())

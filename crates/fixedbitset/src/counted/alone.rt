@@ -29,10 +29,10 @@ pub fn clear(set: &mut FixedBitSet, steps: &mut Steps)
 /// [`FixedBitSet::is_full`], with the steps that it takes.
 ///
 /// ```
-/// let mut set = FixedBitSet::from_iter(alloc, [0, 2])?;
-/// assert!(rt; !counted::is_full(&set, &mut Steps::new()));
-/// set.insert(1);
-/// assert!(rt; counted::is_full(&set, &mut Steps::new()));
+/// let full = FixedBitSet::from_iter(alloc, [0, 1, 2])?;
+/// let other = FixedBitSet::from_iter(alloc, [0, 2])?;
+/// assert!(rt; counted::is_full(&full, &mut Steps::new()));
+/// assert!(rt; !counted::is_full(&other, &mut Steps::new()));
 /// ```
 #[inline]
 #[tactic(auto, using(crate::specs::RangesFacts::is_full_all))]
