@@ -2,6 +2,5 @@ mod OneList
 mod OfRanges
 mod OfTwoSets
 mod OfJoins
-mod OfJson
 mod OfOrder
 pub mod OfWalks

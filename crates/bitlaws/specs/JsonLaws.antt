@@ -1,7 +1,6 @@
 -- What is written of a set as JSON, for all values.
-use Rattle.std.specs.Prelude.{◌≡◌, ◌^◌, ◌<◌, Ok, Some, false}
+use Rattle.std.specs.Prelude.{◌≡◌, Ok, false}
 use Rattle.serde_json.specs.Data.{depth}
-use Rattle.serde_json.specs.Read.{read}
 use Rattle.serde_json.specs.Written.{compact_text, has_float}
 use Rattle.fixedbitset.specs.Bits.{Bits}
 use Rattle.fixedbitset.specs.Json as json
@@ -21,7 +20,3 @@ HasWholeNumbers = (v : Bits) → has_float (json.written v) ≡ false
 -- it is an object with a list in it, and no deeper, so its text can be read
 abbrev pub NestsTwice : Type 0
 NestsTwice = (v : Bits) → depth (json.written v) ≡ 2
-
--- that text is read as what was written, where a usize holds the length
-abbrev pub TextReadsBack : Type 0
-TextReadsBack = (v : Bits) → v.length < 2 ^ 64 → read (json.json_text v) ≡ Some (json.written v)

@@ -4,7 +4,7 @@ ghost use Rattle.bitlaws.specs.AscendingLaws.{OneAscendingList};
 ghost use Rattle.bitlaws.specs.JoinLaws.{Commutes, Associates, IsIdempotent, Absorbs, Distributes, IntersectionIsBitand};
 ghost use Rattle.bitlaws.specs.JoinLaws.{SubsetOfItself, SubsetThrough, SameSubsets, UnionIsLeast, IntersectionIsGreatest};
 ghost use Rattle.bitlaws.specs.JoinLaws.{ComplementTwice, ComplementOfUnion, ComplementOfIntersection, DifferenceByComplement};
-ghost use Rattle.bitlaws.specs.JsonLaws.{WrittenReadsBack, TextIsExact, HasWholeNumbers, NestsTwice, TextReadsBack};
+ghost use Rattle.bitlaws.specs.JsonLaws.{WrittenReadsBack, TextIsExact, HasWholeNumbers, NestsTwice};
 ghost use Rattle.bitlaws.specs.OrderLaws.{EqualTells, CompareTells, MinimumIsLeast, MaximumIsGreatest};
 ghost use Rattle.bitlaws.specs.RangeLaws.{WordsOfRange, NumberOfRangeWords, RangeWordsBound, SearchBound, TogglingTwice, RangeCountsAddUp, IsValidTells, ContainsAllTells, ContainsAnyTells};
 ghost use Rattle.bitlaws.specs.SetLaws.{ClearHasNone, FullHasAll, InsertAddsOne, InsertKeeps, RemoveTakesOne, RemoveKeeps, WordsReadBack};
@@ -65,20 +65,6 @@ pub fn json_text()
     ensures text { TextIsExact }
     ensures whole { HasWholeNumbers }
     ensures nests { NestsTwice }
-{}
-
-/// The text of a set's JSON value is read as that value, which by `reads_back` means the set. The length has to fit a
-/// `usize`, as that of each set does.
-///
-/// ```
-/// let set = FixedBitSet::from_iter(alloc, [2, 9])?;
-/// laws::json_reads_back();
-/// let value = Value::from_str(alloc, "{\"data\":[4,2,0,0,0,0,0,0],\"length\":10}")?;
-/// let again = FixedBitSet::from_value(alloc, &value)?;
-/// assert!(rt; again == set);
-/// ```
-pub fn json_reads_back()
-    ensures { TextReadsBack }
 {}
 
 /// A set is clear exactly if it has no position, and full exactly if it has as many as its length.

@@ -4,7 +4,6 @@ use crate::calls::{cleared, equal, gives, holds, ok, set_of};
 use bitlanes::word;
 use bitlaws::laws;
 use fixedbitset::{FixedBitSet, Steps, counted};
-use serde_json::Value;
 
 #[test]
 fn one_ascending_list(rt: HostRuntime) {
@@ -49,19 +48,6 @@ fn json_text(rt: HostRuntime) {
         text.as_str(),
         "{\"data\":[4,2,0,0,0,0,0,0],\"length\":10}",
     );
-}
-
-#[test]
-fn json_reads_back(rt: HostRuntime) {
-    let alloc = rt.alloc();
-    let set = set_of(&rt, alloc, &[2, 9]);
-    laws::json_reads_back();
-    let value = ok(
-        &rt,
-        Value::from_str(alloc, "{\"data\":[4,2,0,0,0,0,0,0],\"length\":10}"),
-    );
-    let again = ok(&rt, FixedBitSet::from_value(alloc, &value));
-    holds(&rt, again == set);
 }
 
 #[test]
