@@ -13,16 +13,16 @@ ghost use Rattle.std.specs.Iterator.{item_count, UpTo};
 ghost use Rattle.std.specs.Iterator.SizeHint.{IsWithinCount};
 ghost use Rattle.bitlanes.specs.Word.{IsLowestBit, ClearsBit};
 ghost use Rattle.bitwords.specs.RowFacts.{AreWords};
-ghost use Rattle.bitwords.specs.Walk.{GivesFirst, GivesLast, over_row};
+ghost use Rattle.bitwords.specs.Walk.{GivesFirst, GivesLast, over_row, range_row};
 
 use bitlanes::word::{Block, take_lowest_bit};
-use bitwords::cursors::{Cursor, Inverted, Plain};
+use bitwords::cursors::{Cursor, Inverted, Plain, ones_within, zeroes_within};
 use std::alloc::Global;
 use std::iter::FusedIterator;
 use std::marker::Model;
 use std::vec;
 
-/// The positions that are set, in ascending order. A set makes it by `ones`.
+/// The positions that are set, in ascending order. A set makes it by `ones`, and by `ones_in`.
 ///
 /// It borrows the words and takes no memory.
 ///
@@ -86,7 +86,7 @@ impl Drop for IntoOnes {
     }
 }
 
-/// The positions below a length that are not set, in ascending order. A set makes it by `zeroes`.
+/// The positions below a length that are not set, in ascending order. A set makes it by `zeroes`, and by `zeroes_in`.
 ///
 /// It borrows the words and takes no memory. Proofs see the words with each bit inverted.
 ///
@@ -133,6 +133,26 @@ impl<'a> Ones<'a> {
     {
         Ones {
             ones: Cursor::over(Plain { words }),
+        }
+    }
+
+    /// The positions set in the words, from `start` up to and without `end`. It reads the first and the last of the words
+    /// that hold a position of the range; those between are not yet taken.
+    ///
+    /// ```
+    /// let words = [8, 0, 7];
+    /// let walk = Ones::within(&words, 4, 130);
+    /// assert!(rt; walk.eq([128, 129]));
+    /// ```
+    #[inline]
+    pub fn within(words: &'a [Block], start: usize, end: usize) -> Ones<'a>
+        requires fits { 64 * length words.now ≤ 2 ^ 64 }
+        requires order { start ≤ end }
+        requires within { end ≤ 64 * length words.now }
+        ensures { result ≡ range_row words.now start end }
+    {
+        Ones {
+            ones: ones_within(words, start, end),
         }
     }
 
@@ -270,23 +290,23 @@ impl DoubleEndedIterator for IntoOnes {
 impl FusedIterator for IntoOnes {}
 
 impl<'a> Zeroes<'a> {
-    /// The positions below `end` that are not set in the words. `end` has to lie in the last word or at its end.
+    /// The positions not set in the words, from `start` up to and without `end`. It reads the first and the last of the
+    /// words that hold a position of the range; those between are not yet taken.
     ///
     /// ```
     /// let words = [Block::MAX, 5];
-    /// let walk = Zeroes::below(&words, 68);
+    /// let walk = Zeroes::within(&words, 60, 68);
     /// assert!(rt; walk.eq([65, 67]));
     /// ```
     #[inline]
-    pub fn below(words: &'a [Block], end: usize) -> Zeroes<'a>
+    pub fn within(words: &'a [Block], start: usize, end: usize) -> Zeroes<'a>
         requires fits { 64 * length words.now ≤ 2 ^ 64 }
-        requires long { end ≤ 64 * length words.now }
-        requires last { 64 * length words.now < end + 64 }
-        ensures { result ≡ over_row (map (bit_not w64) words.now) end }
+        requires order { start ≤ end }
+        requires within { end ≤ 64 * length words.now }
+        ensures { result ≡ range_row (map (bit_not w64) words.now) start end }
     {
-        let plain = Plain { words };
         Zeroes {
-            zeroes: Cursor::below(Inverted { plain }, end),
+            zeroes: zeroes_within(words, start, end),
         }
     }
 }

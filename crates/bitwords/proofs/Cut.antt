@@ -1,15 +1,16 @@
 -- A row of words whose ends are cut at a position.
-use Rattle.std.proofs.Common.{◌≡◌, ℕ, ◌+◌, ◌-◌, ◌*◌, ◌<◌, ◌≤◌, Bool, true, false, ◌&&◌, nat_lt, min, bit_and, List, [], ◌∷◌, ◌++◌, length, refl, sym, ap, ◌∙◌, arith, ⊎_elim}
-use Rattle.std.proofs.lemmas.Bool.{cases_lt, lt-ltb, le-ltb}
+use Rattle.std.proofs.Common.{◌≡◌, ℕ, ◌+◌, ◌-◌, ◌*◌, ◌<◌, ◌≤◌, Bool, true, false, ◌&&◌, nat_le, nat_lt, min, bit_and, List, [], ◌∷◌, ◌++◌, length, refl, sym, ap, ◌∙◌, arith, ⊎_elim}
+use Rattle.std.proofs.lemmas.Bool.{cases_lt}
 use Rattle.std.proofs.lemmas.Bool.Decides.{nat_tests}
 use Rattle.std.proofs.lemmas.List.{length-append}
 use Rattle.bitlanes.specs.Bits.{bit}
 use Rattle.bitlanes.specs.BitLaws.{bit-and}
-use Rattle.bitwords.specs.Rows.{has_bit}
+use Rattle.bitwords.specs.Rows.{has_bit, in_range}
+use Rattle.bitwords.specs.RowFacts.{before_range, past_range}
 use Rattle.bitwords.specs.Walk.{between_ends}
 use Rattle.bitwords.specs.WalkedWords.{ones_from}
 use Rattle.bitwords.specs.Ascending.{ascending}
-use Rattle.bitwords.specs.AscendingFacts.{ascending-cut}
+use Rattle.bitwords.specs.AscendingFacts.{ascending-skip, ascending-cut}
 use Rattle.bitwords.proofs.RowEnds.{has_bit-first, has_bit-later, has_bit-before, has_bit-last}
 use Rattle.bitwords.proofs.Left.{length-row, length-between}
 
@@ -25,23 +26,23 @@ and_false true c e = e
 and_false false c e = refl
 
 -- below 64 the cut at 64 tells nothing
-pub least : (i end : ℕ) → i < 64 → nat_lt i (min end 64) ≡ nat_lt i end
-least i end low = grind (arith, nat_tests)
+pub least : (low i end : ℕ) → i < 64 → (nat_le low i && nat_lt i (min end 64)) ≡ in_range low end i
+least low i end small = grind (arith, nat_tests)
 
--- a position that stands behind another one
-pub shifted : (i at end : ℕ) → nat_lt i (end - at) ≡ nat_lt (at + i) end
-shifted i at end = grind (arith, nat_tests)
+-- behind the first word, what a position of a later one is below
+pub shifted : (low i at end : ℕ) → low ≤ at → nat_lt i (end - at) ≡ in_range low end (at + i)
+shifted low i at end behind = grind (arith, nat_tests)
 
-module _ (ws ms : List ℕ) (f b end : ℕ) (middle : ms ≡ between_ends ws) (bits : (p : ℕ) → has_bit (f ∷ (ms ++ b ∷ [])) p ≡ has_bit ws p) (long : end ≤ 64 * length ws) (last : 64 * length ws < end + 64)
-    (first_mask last_mask : ℕ) (is_first : (i : ℕ) → i < 64 → bit first_mask i ≡ nat_lt i end) (is_last : (i : ℕ) → bit last_mask i ≡ nat_lt (64 * (length ms + 1) + i) end) where
+module _ (ws ms : List ℕ) (f b at low end : ℕ) (middle : ms ≡ between_ends ws) (bits : (p : ℕ) → has_bit (f ∷ (ms ++ b ∷ [])) p ≡ has_bit ws p) (first : low ≤ 64) (order : low ≤ end) (long : end ≤ 64 * length ws) (last : 64 * length ws < end + 64)
+    (first_mask last_mask : ℕ) (is_first : (i : ℕ) → i < 64 → bit first_mask i ≡ in_range low end i) (is_last : (i : ℕ) → bit last_mask i ≡ in_range low end (64 * (length ms + 1) + i)) where
   abbrev cut : List ℕ
   cut = bit_and f first_mask ∷ (ms ++ bit_and b last_mask ∷ [])
 
-  -- a position of the middle is below the end
-  inside : (p : ℕ) → 64 ≤ p → p < 64 * (length ms + 1) → nat_lt p end ≡ true
-  inside p above below = lt-ltb p end (omega (arith, length-between ws, ap length middle))
+  -- a position of the middle is in the range
+  inside : (p : ℕ) → 64 ≤ p → p < 64 * (length ms + 1) → in_range low end p ≡ true
+  inside p above below = let h : p < end = omega (arith, below, last, length-between ws, ap length middle) in grind (arith, nat_tests)
 
-  has_bit-cut : (p : ℕ) → p < 64 * (length ms + 2) → has_bit cut p ≡ (has_bit ws p && nat_lt p end)
+  has_bit-cut : (p : ℕ) → p < 64 * (length ms + 2) → has_bit cut p ≡ (has_bit ws p && in_range low end p)
   has_bit-cut p within =
       ⊎_elim
       (λ (lt : p < 64). has_bit-first _ _ p lt ∙ bit-and f first_mask p ∙ (let a = is_first p lt in let e = sym (has_bit-first f (ms ++ b ∷ []) p lt) ∙ bits p in λ i. e i && a i))
@@ -55,22 +56,29 @@ module _ (ws ms : List ℕ) (f b end : ℕ) (middle : ms ≡ between_ends ws) (b
       ∙ and_true _ _ (inside p ge (omega arith)))
       (λ (behind : 64 * length ms ≤ q).
       let j : ℕ = q - 64 * length ms in
-      let at : q ≡ 64 * length ms + j = omega arith in
-      let low : j < 64 = omega arith in
+      let place : q ≡ 64 * length ms + j = omega arith in
+      let small : j < 64 = omega arith in
       let whole : 64 * (length ms + 1) + j ≡ p = omega arith in
-      has_bit-later _ _ p q is ∙ has_bit-last ms _ q j at low ∙ bit-and b last_mask j
-      ∙ (let a = is_last j ∙ ap (λ n. nat_lt n end) whole in let e = sym (has_bit-last ms b q j at low) ∙ sym (has_bit-later f (ms ++ b ∷ []) p q is) ∙ bits p in λ i. e i && a i))
+      has_bit-later _ _ p q is ∙ has_bit-last ms _ q j place small ∙ bit-and b last_mask j
+      ∙ (let a = is_last j ∙ ap (in_range low end) whole in let e = sym (has_bit-last ms b q j place small) ∙ sym (has_bit-later f (ms ++ b ∷ []) p q is) ∙ bits p in λ i. e i && a i))
       (cases_lt q (64 * length ms)))
       (cases_lt p 64)
 
-  -- its positions are those below the end
-  pub ones_from-cut : ones_from 0 cut ≡ ascending (has_bit ws) 0 end
+  -- its positions are those of the range
+  pub ones_from-cut : ones_from at cut ≡ ascending (λ p. has_bit ws (p - at)) (at + low) (end - low)
   unfolding ones_from
   ones_from-cut =
       let row : length cut ≡ length ms + 2 = omega (arith, length-append ms (bit_and b last_mask ∷ [])) in
-      let size : 64 * length cut ≡ end + (64 * length cut - end) = omega (arith, long, length-row ws ms f b middle, length-append ms (b ∷ []), row) in
-      let same : (i : ℕ) → i < 64 * length cut → has_bit cut (i - 0) ≡ (has_bit ws i && nat_lt i end) = λ i below. let e : i - 0 ≡ i = omega arith in ap (has_bit cut) e ∙ has_bit-cut i (omega (arith, below, row)) in
-      ap (ascending (λ p. has_bit cut (p - 0)) 0) size
-      ∙ ascending-cut _ (has_bit ws) 0 end (64 * length cut - end)
-      (λ i above below. same i (omega (arith, size)) ∙ sym (and_true _ _ (lt-ltb i end (omega (arith, below)))))
-      (λ i above below. same i (omega (arith, size)) ∙ and_false _ _ (le-ltb i end (omega (arith, above))))
+      let rest : ℕ = 64 * length cut - end in
+      let size : 64 * length cut ≡ low + ((end - low) + rest) = omega (arith, order, long, length-row ws ms f b middle, length-append ms (b ∷ []), row) in
+      let same : (i : ℕ) → at ≤ i → i < at + 64 * length cut → has_bit cut (i - at) ≡ (has_bit ws (i - at) && in_range low end (i - at)) = λ i above below. has_bit-cut (i - at) (omega (arith, above, below, row)) in
+      ap (ascending (λ p. has_bit cut (p - at)) at) size
+      ∙ ascending-skip _ (λ p. has_bit cut (p - at)) at low ((end - low) + rest)
+      (λ i above below. same i above (omega (arith, below, size)) ∙ and_false _ _ (before_range low end (i - at) (omega (arith, above, below))))
+      (λ i above below. refl)
+      ∙ ascending-cut _ (λ p. has_bit ws (p - at)) (at + low) (end - low) rest
+      (λ i above below. same i (omega (arith, above)) (omega (arith, below, size)) ∙ sym (and_true _ _ (in_there (i - at) (omega (arith, above)) (omega (arith, above, below)))))
+      (λ i above below. same i (omega (arith, above)) (omega (arith, below, size)) ∙ and_false _ _ (past_range low end (i - at) (omega (arith, above))))
+    where
+      in_there : (p : ℕ) → low ≤ p → p < end → in_range low end p ≡ true
+      in_there p above below = grind (arith, nat_tests)

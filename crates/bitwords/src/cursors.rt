@@ -9,11 +9,11 @@ ghost use Rattle.std.specs.Iterator.{YieldsFirst, YieldsLast, item_count, UpTo};
 ghost use Rattle.std.specs.Iterator.SizeHint.{IsWithinCount};
 ghost use Rattle.std.specs.Vec.Iter.{into_iter_items};
 ghost use Rattle.bitwords.specs.Rows.{has_bit};
-ghost use Rattle.bitwords.specs.Walk.{GivesFirst, GivesLast, between_ends, over_row};
+ghost use Rattle.bitwords.specs.Walk.{GivesFirst, GivesLast, between_ends, over_row, within_row, range_row};
 ghost use Rattle.bitwords.specs.WalkedWords.{held_items, held_walk, IsSpaced};
 
 use bitlanes::counter::Steps;
-use bitlanes::word::{BITS, Block, ones_below, take_highest_bit, take_lowest_bit};
+use bitlanes::word::{BITS, Block, ones_below, stretch, take_highest_bit, take_lowest_bit};
 use std::alloc::Global;
 use std::marker::Model;
 use std::vec;
@@ -143,6 +143,7 @@ fn ends_of<M: Middle + Drop>(mut words: M) -> Ends<M>
     ensures bits { (p : ℕ) → has_bit (result.front ∷ (M.words result.middle ++ result.back ∷ [])) p
         ≡ has_bit (M.words words) p }
     ensures middle { M.words result.middle ≡ between_ends (M.words words) }
+    ensures single { length (M.words words) ≤ 1 → result.back ≡ 0 }
 {
     let front = words.take_first().unwrap_or(0);
     let back = words.take_last().unwrap_or(0);
@@ -217,27 +218,34 @@ impl<M: Middle + Drop> Cursor<M> {
         requires { 64 * length (M.words words) ≤ 2 ^ 64 }
         ensures { result ≡ over_row (M.words words) (64 * length (M.words words)) }
     {
-        Cursor::between(ends_of(words))
+        let ends = ends_of(words);
+        let back_at = BITS * (ends.middle.left() + 1);
+        Cursor::placed(ends, 0, back_at)
     }
 
-    /// Those of the positions that are below `end`, which lies in the last word or at its end.
+    /// Those of the positions from `low` up to and without `end`, each moved up by `at`. `low` lies in the first word, and
+    /// `end` in the last one or at its end.
     ///
     /// ```
-    /// let cursor = Cursor::below(Plain { words: &[8, 255] }, 66);
-    /// assert!(rt; cursor.eq([3, 64, 65]));
+    /// let cursor = Cursor::within(Plain { words: &[9, 255] }, 640, 1, 66);
+    /// assert!(rt; cursor.eq([643, 704, 705]));
     /// ```
     #[inline(always)]
-    pub fn below(words: M, end: usize) -> Cursor<M>
-        requires fits { 64 * length (M.words words) ≤ 2 ^ 64 }
+    pub fn within(words: M, at: usize, low: usize, end: usize) -> Cursor<M>
+        requires fits { at + 64 * length (M.words words) ≤ 2 ^ 64 }
+        requires room { at + 64 ≤ 2 ^ 64 }
+        requires first { low ≤ 64 }
+        requires order { low ≤ end }
         requires long { end ≤ 64 * length (M.words words) }
         requires last { 64 * length (M.words words) < end + 64 }
-        ensures { result ≡ over_row (M.words words) end }
+        ensures { result ≡ within_row (M.words words) at low end }
     {
+        let back_at = at + BITS * words.left().saturating_sub(1);
         let mut ends = ends_of(words);
-        let back_at = BITS * (ends.middle.left() + 1);
-        ends.front &= ones_below(end.min(BITS));
-        ends.back &= ones_below(end.saturating_sub(back_at));
-        Cursor::between(ends)
+        let behind = BITS * (ends.middle.left() + 1);
+        ends.front &= stretch(low, end.min(BITS));
+        ends.back &= ones_below(end.saturating_sub(behind));
+        Cursor::placed(ends, at, back_at)
     }
 
     /// What the cursor holds. `of_held` makes a cursor of it again, which has the same items left.
@@ -304,17 +312,16 @@ impl<M: Middle + Drop> Cursor<M> {
         }
     }
 
-    // The words lie one behind the other from position 0 on.
+    // The words stand at these positions, the ones between the first and the last one behind the other.
     #[inline(always)]
-    fn between(ends: Ends<M>) -> Cursor<M>
-        requires { 64 * (length (M.words ends.middle) + 2) ≤ 2 ^ 64 }
-        ensures { result ≡ held_walk 0 ends.front (M.words ends.middle) ends.back }
+    fn placed(ends: Ends<M>, front_at: usize, back_at: usize) -> Cursor<M>
+        requires { IsSpaced front_at back_at (length (M.words ends.middle)) ends.back }
+        ensures { result ≡ held_walk front_at ends.front (M.words ends.middle) ends.back }
     {
-        let back_at = BITS * (ends.middle.left() + 1);
         Cursor {
             front: ends.front,
             back: ends.back,
-            front_at: 0,
+            front_at,
             back_at,
             middle: ends.middle,
             turns: Steps::new(),
@@ -398,4 +405,46 @@ impl<M: Middle + Drop> DoubleEndedIterator for Cursor<M> {
             }
         }
     }
+}
+
+/// The positions of the row that are set, from `start` up to and without `end`. No other word than those that hold a
+/// position of the range is looked at.
+///
+/// ```
+/// let cursor = cursors::ones_within(&[9, 0, 7], 3, 130);
+/// assert!(rt; cursor.eq([3, 128, 129]));
+/// ```
+#[inline(always)]
+pub fn ones_within<'a>(words: &'a [Block], start: usize, end: usize) -> Cursor<Plain<'a>>
+    requires fits { 64 * length words.now ≤ 2 ^ 64 }
+    requires order { start ≤ end }
+    requires within { end ≤ 64 * length words.now }
+    ensures { result ≡ range_row words.now start end }
+{
+    let first = start / BITS;
+    let words = &words[first..end.div_ceil(BITS)];
+    let at = BITS * first;
+    Cursor::within(Plain { words }, at, start - at, end - at)
+}
+
+/// The positions of the row that are not set, from `start` up to and without `end`. No other word than those that hold a
+/// position of the range is looked at.
+///
+/// ```
+/// let cursor = cursors::zeroes_within(&[Block::MAX, 5], 60, 68);
+/// assert!(rt; cursor.eq([65, 67]));
+/// ```
+#[inline(always)]
+pub fn zeroes_within<'a>(words: &'a [Block], start: usize, end: usize) -> Cursor<Inverted<'a>>
+    requires fits { 64 * length words.now ≤ 2 ^ 64 }
+    requires order { start ≤ end }
+    requires within { end ≤ 64 * length words.now }
+    ensures { result ≡ range_row (map (bit_not w64) words.now) start end }
+{
+    let first = start / BITS;
+    let plain = Plain {
+        words: &words[first..end.div_ceil(BITS)],
+    };
+    let at = BITS * first;
+    Cursor::within(Inverted { plain }, at, start - at, end - at)
 }

@@ -7,6 +7,7 @@ pub mod JoinedValues
 pub mod JoinedChanges
 pub mod JoinedCounts
 pub mod Positions
+pub mod RangeWalks
 pub mod NextPositions
 pub mod PairItems
 pub mod PairRows

@@ -40,6 +40,12 @@ toggle_range v start end = pair v.length (symmetric_difference v.positions (numb
 unfoldable pub set_range : Bits → ℕ → ℕ → Bool → Bits
 set_range v start end enabled = if enabled then insert_range v start end else remove_range v start end
 
+-- ---- parts
+
+-- the positions that lie in the range, at the same length
+unfoldable pub within : Bits → ℕ → ℕ → Bits
+within v start end = pair v.length (set.intersection v.positions (numbers_between start end))
+
 -- ---- questions
 
 -- how many positions of the range are set

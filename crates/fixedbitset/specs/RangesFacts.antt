@@ -8,9 +8,9 @@ use Rattle.bitlanes.specs.Bits.{either}
 use Rattle.fixedbitset.specs.Numbers.{numbers_between, contains-numbers_below}
 use Rattle.bitwords.specs.Rows.{in_range}
 use Rattle.fixedbitset.specs.Bits.{Bits, contains, empty, is_full}
-use Rattle.fixedbitset.specs.BitsFacts.{length-pair, contains-pair, contains_below, length-empty, contains-empty, same_bits}
+use Rattle.fixedbitset.specs.BitsFacts.{length-pair, contains-pair, contains_below, last_holds, length-empty, contains-empty, same_bits}
 use Rattle.fixedbitset.specs.NumbersFacts.{same_set, contains-numbers_between, contains-symmetric_difference, member_of, none_len}
-use Rattle.fixedbitset.specs.Ranges.{insert_range, remove_range, toggle_range, set_range, count_ones, contains_all, contains_any}
+use Rattle.fixedbitset.specs.Ranges.{insert_range, remove_range, toggle_range, set_range, within, count_ones, contains_all, contains_any}
 
 -- a last test that the first one implies
 first_holds : (a b c : Bool) → (a ≡ true → c ≡ true) → ((a && b) && c) ≡ (a && b)
@@ -75,6 +75,19 @@ remove_range-all v = same_bits _ _ (length-remove_range v 0 v.length ∙ sym (le
     ∙ gone (contains v p) _ (λ one. and_from _ _ (le-leb 0 p (omega arith)) (lt-ltb p v.length (contains_below v p one)))
     ∙ sym (contains-empty v.length p))
 
+-- ---- parts
+
+pub length-within : (v : Bits) (start end : ℕ) → (within v start end).length ≡ v.length
+unfolding within
+length-within v start end = length-pair v.length _
+
+pub contains-within : (v : Bits) (start end p : ℕ) → contains (within v start end) p ≡ (contains v p && in_range start end p)
+unfolding within contains
+contains-within v start end p =
+    contains-pair v.length _ p
+    ∙ ap (λ b. b && nat_lt p v.length) (set.contains-intersection nat_cmp_total v.positions _ p ∙ ap (λ b. contains v p && b) (contains-numbers_between start end p))
+    ∙ last_holds true (contains v p && in_range start end p) _ (λ one. lt-ltb _ _ (contains_below v p (and_parts _ _ one).0))
+
 -- ---- questions
 
 -- each number of the range is a position of the set
@@ -108,4 +121,4 @@ contains_any-tells v start end =
     )
 
 -- what a caller needs of each change by a range, and of each question
-pub ruleset facts = (length-insert_range, length-remove_range, length-toggle_range, length-set_range, contains-insert_range, contains-remove_range, contains-toggle_range, contains-set_range, contains_all-tells, contains_any-tells)
+pub ruleset facts = (length-insert_range, length-remove_range, length-toggle_range, length-set_range, contains-insert_range, contains-remove_range, contains-toggle_range, contains-set_range, length-within, contains-within, contains_all-tells, contains_any-tells)

@@ -4,13 +4,17 @@
 //! after `None` from one end each end answers `None` for good. Proofs see the items left, the words that no call has
 //! taken yet, and the counts of turns and of words taken, which take no bytes when the program runs.
 
-ghost use Rattle.std.specs.Prelude.{◌≡◌, ◌^◌, ◌<◌, map, length};
+ghost use Rattle.std.specs.Prelude.{◌≡◌, ◌^◌, ◌<◌, map, length, IsTrue};
 ghost use Rattle.std.specs.Int.{bit_not, w64};
 ghost use Rattle.std.specs.Iterator.Runs.{EachRunFrom, ItemsAre, ItemsAreReversed};
 ghost use Rattle.bitwords.specs.Walk.{GivesFirst, GivesLast, between_ends};
 ghost use Rattle.fixedbitset.specs.Bits as model;
+ghost use Rattle.fixedbitset.specs.Ranges as ranges;
+ghost use Rattle.fixedbitset.specs.Ranges.{over};
+ghost use Rattle.fixedbitset.specs.Walks.{ones_of, zeroes_of, words_of, zero_words_of};
 
 use crate::set::FixedBitSet;
+use bitlanes::IndexRange;
 use bitlanes::word::BITS;
 use bitwalks::walks::{IntoOnes, Ones, Zeroes};
 
@@ -83,6 +87,63 @@ impl FixedBitSet {
         ensures turns { result.turns ≡ 0 }
         ensures taken { result.taken ≡ 0 }
     {
-        Zeroes::below(self.used_words(), self.length)
+        Zeroes::within(self.used_words(), 0, self.length)
+    }
+
+    /// The set positions of the range, in ascending order. The range must be valid, as that of
+    /// [`count_ones`](Self::count_ones).
+    ///
+    /// It takes no memory, and no other words than those that hold a position of the range. Upstream has no such call.
+    ///
+    /// ```
+    /// let set = FixedBitSet::from_iter(alloc, [3, 64, 65, 200])?;
+    /// assert!(rt; set.ones_in(64..200).eq([64, 65]));
+    /// assert_eq!(rt; set.ones_in(..=200).next_back(), Some(200));
+    /// ```
+    #[inline]
+    pub fn ones_in<R: IndexRange<usize> + Drop>(&self, range: R) -> Ones<'_>
+        requires { IsTrue (over ranges.is_valid self.now (R.start_of range) (R.end_of range)) }
+        ensures items { result.items ≡ over ones_of self.now (R.start_of range) (R.end_of range) }
+        ensures fits { length result.items < 2 ^ 64 }
+        ensures runs { EachRunFrom GivesFirst result
+            (λ run. ItemsAre run (over ones_of self.now (R.start_of range) (R.end_of range))) }
+        ensures runs_back { EachRunFrom GivesLast result
+            (λ run. ItemsAreReversed run
+            (over ones_of self.now (R.start_of range) (R.end_of range))) }
+        ensures words { result.words ≡ over words_of self.now (R.start_of range) (R.end_of range) }
+        ensures turns { result.turns ≡ 0 }
+        ensures taken { result.taken ≡ 0 }
+    {
+        let start = range.start().unwrap_or(0);
+        let end = range.end().unwrap_or(self.length);
+        Ones::within(self.used_words(), start, end)
+    }
+
+    /// The positions of the range that are not set, in ascending order. The range must be valid.
+    ///
+    /// It takes no memory, and no other words than those that hold a position of the range. Upstream has no such call.
+    ///
+    /// ```
+    /// let set = FixedBitSet::from_iter(alloc, [3, 64, 65, 200])?;
+    /// assert!(rt; set.zeroes_in(63..68).eq([63, 66, 67]));
+    /// ```
+    #[inline]
+    pub fn zeroes_in<R: IndexRange<usize> + Drop>(&self, range: R) -> Zeroes<'_>
+        requires { IsTrue (over ranges.is_valid self.now (R.start_of range) (R.end_of range)) }
+        ensures items { result.items ≡ over zeroes_of self.now (R.start_of range) (R.end_of range) }
+        ensures fits { length result.items < 2 ^ 64 }
+        ensures runs { EachRunFrom GivesFirst result
+            (λ run. ItemsAre run (over zeroes_of self.now (R.start_of range) (R.end_of range))) }
+        ensures runs_back { EachRunFrom GivesLast result
+            (λ run. ItemsAreReversed run
+            (over zeroes_of self.now (R.start_of range) (R.end_of range))) }
+        ensures words { result.words
+            ≡ over zero_words_of self.now (R.start_of range) (R.end_of range) }
+        ensures turns { result.turns ≡ 0 }
+        ensures taken { result.taken ≡ 0 }
+    {
+        let start = range.start().unwrap_or(0);
+        let end = range.end().unwrap_or(self.length);
+        Zeroes::within(self.used_words(), start, end)
     }
 }

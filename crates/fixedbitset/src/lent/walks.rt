@@ -1,15 +1,17 @@
 //! Walks over the positions of a set, and over those that it lacks.
 
-ghost use Rattle.std.specs.Prelude.{◌≡◌, not, filter};
+ghost use Rattle.std.specs.Prelude.{◌≡◌, IsTrue, not, filter};
 ghost use Rattle.bitwords.specs.Rows.{has_bit};
 ghost use Rattle.fixedbitset.specs.Bits as model;
 ghost use Rattle.fixedbitset.specs.Bits.{of_words};
+ghost use Rattle.fixedbitset.specs.Ranges.{is_valid};
 ghost use Rattle.fixedbitset.specs.Stored.{IsClean};
 ghost use Rattle.fixedbitset.specs.TwoSets as sets;
+ghost use Rattle.fixedbitset.specs.Walks.{ones_of, zeroes_of};
 
 use crate::lent::used_words;
 use bitlanes::Block;
-use bitwords::cursors::{Cursor, Inverted, Plain};
+use bitwords::cursors::{Cursor, Inverted, Plain, ones_within, zeroes_within};
 
 /// The positions that are set, in ascending order.
 ///
@@ -66,7 +68,42 @@ pub fn zeroes<'a>(words: &'a [Block], length: usize) -> Cursor<Inverted<'a>>
     requires { IsClean length words.now }
     ensures { result.items ≡ model.asc (model.complement (of_words length words.now)) }
 {
-    let words = used_words(words, length);
-    let plain = Plain { words };
-    Cursor::below(Inverted { plain }, length)
+    zeroes_within(used_words(words, length), 0, length)
+}
+
+/// The positions that are set, from `start` up to and without `end`, in ascending order. The range has to be valid.
+///
+/// ```
+/// let mut words = [9, 2, 0, 0];
+/// lent::settle(&mut words, 70, 70);
+/// assert!(rt; lent::ones_in(&words, 70, 1, 66).eq([3, 65]));
+/// ```
+#[inline(always)]
+pub fn ones_in<'a>(words: &'a [Block], length: usize, start: usize, end: usize) -> Cursor<Plain<'a>>
+    requires lent { IsClean length words.now }
+    requires valid { IsTrue (is_valid (of_words length words.now) start end) }
+    ensures { result.items ≡ ones_of (of_words length words.now) start end }
+{
+    ones_within(used_words(words, length), start, end)
+}
+
+/// The positions that are not set, from `start` up to and without `end`, in ascending order. The range has to be valid.
+///
+/// ```
+/// let mut words = [Block::MAX - 8, 60, 0, 0];
+/// lent::settle(&mut words, 70, 70);
+/// assert!(rt; lent::zeroes_in(&words, 70, 4, 65).eq([64]));
+/// ```
+#[inline(always)]
+pub fn zeroes_in<'a>(
+    words: &'a [Block],
+    length: usize,
+    start: usize,
+    end: usize,
+) -> Cursor<Inverted<'a>>
+    requires lent { IsClean length words.now }
+    requires valid { IsTrue (is_valid (of_words length words.now) start end) }
+    ensures { result.items ≡ zeroes_of (of_words length words.now) start end }
+{
+    zeroes_within(used_words(words, length), start, end)
 }

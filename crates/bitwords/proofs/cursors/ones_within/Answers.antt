@@ -1,0 +1,8 @@
+use Rattle.std.proofs.Common.{refl, ◌∙◌, ap, take, ◌-◌, ◌/◌, drop}
+use Rattle.bitwords.proofs.RangeRow.{within-range}
+use Rattle.bitwords.proofs.cursors.ones_within.Goals as goal
+
+pub returns : goal.returns
+returns c =
+    within-range c.args.words.now _ c.args.start c.args.end _
+    (ap (λ last. take (last - c.args.start / 64) (drop (c.args.start / 64) c.args.words.now)) c.div_ceil.ensures) refl c.within.result c.within.ensures

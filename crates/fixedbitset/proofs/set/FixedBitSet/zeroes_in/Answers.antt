@@ -1,0 +1,29 @@
+use Rattle.bitwords.specs.WalkFacts.{walk_forwards, walk_backwards}
+use Rattle.fixedbitset.proofs.RangeWalks.{range_order, range_reaches, zeroes_are, zero_words_are, zeroes_fit}
+use Rattle.fixedbitset.proofs.Words.{viewed_length}
+use Rattle.fixedbitset.proofs.set.FixedBitSet.zeroes_in.Goals as goal
+
+pub within-requires-clause-order : goal.within-requires-clause-order
+within-requires-clause-order g c =
+    range_order c.args.self.now _ _ _ _ _ _ _ c.unwrap_or-start.ensures c.unwrap_or-end.ensures c.start.ensures c.end.ensures (viewed_length _ _ _ c.self.view_is) c.requires
+
+pub within-requires-clause-within : goal.within-requires-clause-within
+within-requires-clause-within g c =
+    range_reaches c.args.self.now _ _ _ _ _ _ _ c.unwrap_or-start.ensures c.unwrap_or-end.ensures c.start.ensures c.end.ensures (viewed_length _ _ _ c.self.view_is) c.requires _ c.used_words.ensures.value
+
+pub returns-clause-items : goal.returns-clause-items
+returns-clause-items g c =
+    zeroes_are c.args.self.now _ _ _ _ _ _ _ c.unwrap_or-start.ensures c.unwrap_or-end.ensures c.start.ensures c.end.ensures (viewed_length _ _ _ c.self.view_is) c.requires _ c.used_words.ensures.value _ c.within.ensures
+
+pub returns-clause-fits : goal.returns-clause-fits
+returns-clause-fits g c = zeroes_fit c.args.self.now (g.R.IndexRange.start_of c.args.range) (g.R.IndexRange.end_of c.args.range) _ (returns-clause-items g c) c.used_words.ensures.fits
+
+pub returns-clause-runs : goal.returns-clause-runs
+returns-clause-runs g c = walk_forwards _ _ (returns-clause-items g c)
+
+pub returns-clause-runs_back : goal.returns-clause-runs_back
+returns-clause-runs_back g c = walk_backwards _ _ (returns-clause-items g c)
+
+pub returns-clause-words : goal.returns-clause-words
+returns-clause-words g c =
+    zero_words_are c.args.self.now _ _ _ _ _ _ _ c.unwrap_or-start.ensures c.unwrap_or-end.ensures c.start.ensures c.end.ensures (viewed_length _ _ _ c.self.view_is) _ c.used_words.ensures.value _ c.within.ensures
