@@ -33,7 +33,7 @@ typedef struct bits {
     size_t length;
 } bits;
 
-/* A walk over the positions of a set. Make it BITS_WALK, and begin it by bits_ones or bits_zeroes. Until its last call the
+/* A walk over the positions of a set. Make it BITS_WALK, and begin it by bits_ones, bits_zeroes or their kin. Until its last call the
  * set may not change. */
 typedef struct bits_walk {
     uint64_t front;
@@ -203,6 +203,10 @@ bool bits_ones_next_back(bits_walk *walk, size_t *position);
 void bits_zeroes(bits_walk *walk, const bits *set);
 bool bits_zeroes_next(bits_walk *walk, size_t *position);
 bool bits_zeroes_next_back(bits_walk *walk, size_t *position);
+/* Begins the walk over the positions from `start` up to and without `end` that are set, or that are not. It answers whether
+ * the range is valid; else the walk gives none. */
+bool bits_ones_in(bits_walk *walk, const bits *set, size_t start, size_t end);
+bool bits_zeroes_in(bits_walk *walk, const bits *set, size_t start, size_t end);
 /* Begins the walk over the positions of both sets, in ascending order. */
 void bits_intersection(bits_sieve *walk, const bits *set, const bits *other);
 bool bits_intersection_next(bits_sieve *walk, size_t *position);

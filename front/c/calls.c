@@ -101,12 +101,19 @@ static void walks(void) {
     const size_t few[] = {1, 3, 5}, more[] = {1, 3, 69, 70};
     bits a = of(6, 3, few), b = of(71, 4, more);
     bits_walk walk = BITS_WALK;
+    size_t sum = 0;
     bits_sieve sieve = BITS_SIEVE;
     bits_pair pair = BITS_PAIR;
     bits_ones(&walk, &b);
     GIVES(walk, bits_ones, 70, 1, 3, 69);
     bits_zeroes(&walk, &a);
     GIVES(walk, bits_zeroes, 4, 0, 2);
+    assert(bits_ones_in(&walk, &b, 3, 70));
+    GIVES(walk, bits_ones, 69, 3);
+    assert(bits_zeroes_in(&walk, &b, 64, 71));
+    GIVES(walk, bits_zeroes, 68, 64, 65, 66, 67);
+    assert(!bits_ones_in(&walk, &b, 3, 72) && !bits_ones_next(&walk, &sum));
+    assert(!bits_zeroes_in(&walk, &b, 4, 3) && !bits_zeroes_next_back(&walk, &sum));
     bits_intersection(&sieve, &a, &b);
     GIVES(sieve, bits_intersection, 3, 1);
     bits_difference(&sieve, &b, &a);
@@ -115,7 +122,6 @@ static void walks(void) {
     GIVES(pair, bits_union, 70, 1, 3, 5, 69);
     bits_symmetric_difference(&pair, &a, &b);
     GIVES(pair, bits_symmetric_difference, 70, 5, 69);
-    size_t sum = 0;
     BITS_FOR_EACH(p, &b) sum += p;
     assert(sum == 143);
     free(a.words);

@@ -4,12 +4,15 @@
 //! from either end, and answers whether it did: once none is left, no call gives one. A call that gives none leaves what
 //! `position` points to. While a walk is used, the words that it walks over may not change.
 
-ghost use Rattle.std.specs.Prelude.{◌≡◌, false};
+ghost use Rattle.std.specs.Prelude.{◌≡◌, [], false, if◌then◌else◌};
 ghost use Rattle.std.specs.Iterator.{YieldsFirst, YieldsLast};
 ghost use Rattle.bits_c.specs.Sets.{value};
 ghost use Rattle.bits_c.specs.Walks.{given, ones_left, zeroes_left};
 ghost use Rattle.fixedbitset.specs.Bits as model;
+ghost use Rattle.fixedbitset.specs.Ranges.{is_valid};
+ghost use Rattle.fixedbitset.specs.Walks.{ones_of, zeroes_of};
 
+use crate::ranges::bits_range_is_valid;
 use crate::structs::{Ones, Set, Zeroes};
 use bitwords::cursors::{Cursor, Held, Inverted, Plain};
 use fixedbitset::lent;
@@ -136,6 +139,51 @@ pub extern "C" fn bits_ones_next_back(walk: &mut Ones<'_>, position: &mut usize)
     ensures stays { result ≡ false → position.new ≡ position.old }
 {
     hand_out(walk.take_last(), position)
+}
+
+/// Begins the walk over the positions of the range that are set, in ascending order, and answers whether the range is
+/// valid; else the walk gives none.
+#[unsafe(no_mangle)]
+pub extern "C" fn bits_ones_in<'a>(
+    walk: &mut Ones<'a>,
+    set: &'a Set<'_>,
+    start: usize,
+    end: usize,
+) -> bool
+    ensures told { result ≡ is_valid (value set.now) start end }
+    ensures left { ones_left walk.new
+        ≡ (if result then ones_of (value set.now) start end else []) }
+{
+    if bits_range_is_valid(set, start, end) {
+        *walk = Ones::of(lent::ones_in(set.words, set.length, start, end));
+        true
+    } else {
+        *walk = Ones::of(Cursor::over(Plain { words: &[] }));
+        false
+    }
+}
+
+/// Begins the walk over the positions of the range that are not set, in ascending order, and answers whether the range is
+/// valid; else the walk gives none.
+#[unsafe(no_mangle)]
+pub extern "C" fn bits_zeroes_in<'a>(
+    walk: &mut Zeroes<'a>,
+    set: &'a Set<'_>,
+    start: usize,
+    end: usize,
+) -> bool
+    ensures told { result ≡ is_valid (value set.now) start end }
+    ensures left { zeroes_left walk.new
+        ≡ (if result then zeroes_of (value set.now) start end else []) }
+{
+    if bits_range_is_valid(set, start, end) {
+        *walk = Zeroes::of(lent::zeroes_in(set.words, set.length, start, end));
+        true
+    } else {
+        let plain = Plain { words: &[] };
+        *walk = Zeroes::of(Cursor::over(Inverted { plain }));
+        false
+    }
 }
 
 /// Begins the walk over the positions below the length that are not set, in ascending order.

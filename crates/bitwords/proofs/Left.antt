@@ -1,7 +1,7 @@
 -- What a call of a cursor does to the positions left.
 use Rattle.std.proofs.Math.Seq.{take-append_seam}
 use Rattle.std.proofs.Common.{take, drop, ◌≡◌, ℕ, suc, ◌+◌, ◌-◌, ◌*◌, ◌^◌, ◌<◌, ◌≤◌, List, [], ◌∷◌, ◌++◌, length, Option, Some, None, sym, ap, ◌∙◌, arith}
-use Rattle.std.specs.Iterator.{YieldsFirst, YieldsLast, item_count, MakesProgress, UpTo, at_most}
+use Rattle.std.specs.Iterator.{YieldsFirst, YieldsLast, UpTo, at_most}
 use Rattle.std.specs.Option.{SomeIff, IfSome, unwrap_or}
 use Rattle.std.proofs.lemmas.List.{length-append, length-drop, length-take-le}
 use Rattle.bitlanes.specs.Word.{IsLowestBit, IsHighestBit, ClearsBit}
@@ -56,15 +56,6 @@ left_kept start f b ms others items none empty same = ap (λ xs. left start f xs
 -- at most 64 positions a word
 pub length-left : (start f : ℕ) (ms : List ℕ) (b : ℕ) → length (left start f ms b) ≤ 64 * (length ms + 2)
 length-left start f ms b = omega (arith, length-ones_from start (f ∷ (ms ++ b ∷ [])), length-append ms (b ∷ []))
-
--- a walk that yields the first, or the last, comes nearer its end
-pub progress_first : {S : Type 0} (rest : S → List ℕ) (s : S) (r : Option ℕ) (t : S) → YieldsFirst rest s r t → MakesProgress (λ _. Unit {0}) (item_count rest) s r t
-progress_first rest s None t gives = record { on = λ _. tt; keeps = tt; rests = λ _. tt }
-progress_first rest s (Some x) t gives = record { on = λ _. (tt, tt, omega (arith, ap length gives)); keeps = tt; rests = λ _. tt }
-
-pub progress_last : {S : Type 0} (rest : S → List ℕ) (s : S) (r : Option ℕ) (t : S) → YieldsLast rest s r t → MakesProgress (λ _. Unit {0}) (item_count rest) s r t
-progress_last rest s None t gives = record { on = λ _. tt; keeps = tt; rests = λ _. tt }
-progress_last rest s (Some x) t gives = record { on = λ _. (tt, tt, omega (arith, ap length gives, length-append (rest t) (x ∷ []))); keeps = tt; rests = λ _. tt }
 
 -- a product that fits is an upper hint
 pub hint : (r : Option ℕ) (n most : ℕ) → SomeIff r (n < 2 ^ 64) n → most ≤ n → IfSome r (UpTo (at_most most))

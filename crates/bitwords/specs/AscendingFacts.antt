@@ -17,7 +17,8 @@ range-append low (suc m) n =
     let b : low + suc m ≡ low + 1 + m = omega arith in
     rw (a, b) (ap (λ xs. low ∷ xs) (range-append (low + 1) m n))
 
-ascending-append : (test : ℕ → Bool) (low m n : ℕ) → ascending test low (m + n) ≡ ascending test low m ++ ascending test (low + m) n
+-- a list of numbers, cut
+pub ascending-append : (test : ℕ → Bool) (low m n : ℕ) → ascending test low (m + n) ≡ ascending test low m ++ ascending test (low + m) n
 ascending-append test low m n = ap (filter test) (range-append low m n) ∙ filter-append test (range_with_len low m) (range_with_len (low + m) n)
 
 -- two tests that agree there give one list
@@ -142,6 +143,20 @@ last_or-push o (y ∷ xs) x = last_or-push (Some y) xs x
 pub first-ascending : (test : ℕ → Bool) (n x : ℕ) → x < n → test x ≡ true → ((i : ℕ) → i < x → test i ≡ false) → slice_get (ascending test 0 n) 0 ≡ Some x
 first-ascending test n x within passes none =
     ap (λ xs. slice_get xs 0) (ascending-first test (without test x) 0 n x (is_without test n x within passes) (λ i _ below. none i below))
+
+-- the same, from `low` on
+pub first-from : (test : ℕ → Bool) (low n x : ℕ) → low ≤ x → x < low + n → test x ≡ true → ((i : ℕ) → low ≤ i → i < x → test i ≡ false) → slice_get (ascending test low n) 0 ≡ Some x
+first-from test low zero x from to passes none = absurd (omega arith)
+first-from test low (suc n) x from to passes none =
+    elim (cases_eq low x) [
+      | inl here ↦
+          let passes_here : test low ≡ true = ap test here ∙ passes in
+          (λ j. slice_get (cond (passes_here j) (low ∷ ascending test (low + 1) n) (ascending test (low + 1) n)) 0) ∙ ap (λ y. Some y) here
+      | inr later ↦
+          let fails : test low ≡ false = none low (omega arith) (omega arith) in
+          (λ j. slice_get (cond (fails j) (low ∷ ascending test (low + 1) n) (ascending test (low + 1) n)) 0)
+          ∙ first-from test (low + 1) n x (omega arith) (omega arith) passes (λ i above below. none i (omega arith) below)
+    ]
 
 -- what passes, with none behind it that does, is the last
 pub last-ascending : (test : ℕ → Bool) (n x : ℕ) → x < n → test x ≡ true → ((i : ℕ) → x < i → i < n → test i ≡ false) → last_or None (ascending test 0 n) ≡ Some x

@@ -4,8 +4,10 @@ pub mod Steps
 pub mod Ascending
 pub mod Walk
 pub mod Neighbours
+pub mod Runs
 -- facts for callers
 pub mod AscendingFacts
+pub mod RunsFacts
 pub mod CountFacts
 pub mod RowFacts
 pub mod CallFacts

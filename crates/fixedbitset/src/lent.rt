@@ -28,7 +28,7 @@ pub use ranges::{
     contains_all_in_range, contains_any_in_range, count_ones, count_zeroes, insert_range,
     range_is_valid, remove_range, toggle_range,
 };
-pub use walks::{ones, ones_beside, zeroes};
+pub use walks::{ones, ones_beside, ones_in, zeroes, zeroes_in};
 pub use whole::{
     compare, difference_count, difference_with, intersect_with, intersection_count, is_disjoint,
     is_equal, is_subset, symmetric_difference_count, symmetric_difference_with, union_count,

@@ -83,6 +83,8 @@ fn looks(alloc: Global, starts: &mut Starts) -> Result<bool, Fault> {
         && set.next_zero(3) == Some(4)
         && set.previous_one(10) == Some(3)
         && set.previous_zero(4) == Some(2)
+        && set.ones_in(3..).next() == Some(3)
+        && set.zeroes_in(..4).next_back() == Some(2)
         && set.as_slice() == [8].as_slice();
     if set.as_slice().is_empty() {
         return Ok(false);

@@ -7,6 +7,7 @@ use crate::slow::{FILLINGS, set_of};
 use bitlanes::counter::Steps;
 use bitlanes::word::Block;
 use fixedbitset::{IntoOnes, Ones, Zeroes};
+use std::alloc::{AllocError, Global};
 use std::mem;
 use std::test::Fail;
 
@@ -47,6 +48,53 @@ fn zeroes_at_every_length(rt: HostRuntime) -> Result<(), Fail> {
             let items = filling.positions(rt.alloc(), length, false)?;
             for ends in ORDERS {
                 assert_gives(&rt, set.zeroes(), &items, ends);
+            }
+        }
+    }
+    Ok(())
+}
+
+// The items of the range, of those in the list.
+fn part(
+    alloc: Global,
+    items: &[usize],
+    start: usize,
+    end: usize,
+) -> Result<Vec<usize>, AllocError> {
+    let mut part = Vec::new(alloc);
+    for item in items {
+        if start <= *item && *item < end {
+            part.push(*item)?;
+        }
+    }
+    Ok(part)
+}
+
+// Ranges at the ends of the set and of its words, and some between.
+#[test]
+fn ranges_at_every_length(rt: HostRuntime) -> Result<(), Fail> {
+    for length in 0..201 {
+        for filling in FILLINGS {
+            let ones = filling.positions(rt.alloc(), length, true)?;
+            let zeroes = filling.positions(rt.alloc(), length, false)?;
+            let set = set_of(rt.alloc(), length, &ones)?;
+            for (start, end) in [
+                (0, length),
+                (length / 2, length),
+                (1, 64),
+                (63, 130),
+                (64, 128),
+                (70, 70),
+                (129, 200),
+            ] {
+                if set.range_is_valid(&(start..end)) {
+                    let wanted = part(rt.alloc(), &ones, start, end)?;
+                    let others = part(rt.alloc(), &zeroes, start, end)?;
+                    for ends in ORDERS {
+                        assert_gives(&rt, set.ones_in(start..end), &wanted, ends);
+                        assert_gives(&rt, set.zeroes_in(start..end), &others, ends);
+                    }
+                }
             }
         }
     }

@@ -142,7 +142,7 @@ impl FixedBitSet {
     }
 
     #[inline]
-    fn ends<T: IndexRange>(&self, range: &T) -> (usize, usize) {
+    pub(crate) fn ends<T: IndexRange>(&self, range: &T) -> (usize, usize) {
         (
             range.start().unwrap_or(0),
             range.end().unwrap_or(self.len()),
@@ -161,7 +161,7 @@ impl FixedBitSet {
 
     #[inline]
     #[track_caller]
-    fn assert_valid(&self, is_valid: bool, start: usize, end: usize) {
+    pub(crate) fn assert_valid(&self, is_valid: bool, start: usize, end: usize) {
         let length = self.len();
         assert!(
             is_valid,

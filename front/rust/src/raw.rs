@@ -118,6 +118,8 @@ unsafe extern "C" {
     fn bits_zeroes(walk: &mut Walk<'_>, set: &Lent<'_>);
     pub safe fn bits_zeroes_next(walk: &mut Walk<'_>, position: &mut usize) -> bool;
     pub safe fn bits_zeroes_next_back(walk: &mut Walk<'_>, position: &mut usize) -> bool;
+    fn bits_ones_in(walk: &mut Walk<'_>, set: &Lent<'_>, start: usize, end: usize) -> bool;
+    fn bits_zeroes_in(walk: &mut Walk<'_>, set: &Lent<'_>, start: usize, end: usize) -> bool;
     fn bits_intersection(walk: &mut Sieve<'_>, set: &Lent<'_>, other: &Lent<'_>);
     pub safe fn bits_intersection_next(walk: &mut Sieve<'_>, position: &mut usize) -> bool;
     pub safe fn bits_intersection_next_back(walk: &mut Sieve<'_>, position: &mut usize) -> bool;
@@ -259,6 +261,24 @@ impl Words {
         // SAFETY: as above.
         unsafe { bits_zeroes(&mut walk, &self.lent()) };
         walk
+    }
+
+    /// The walk over the positions of the range that are set, and whether the range is valid.
+    #[inline(always)]
+    pub fn ones_in(&self, start: usize, end: usize) -> (Walk<'_>, bool) {
+        let mut walk = Walk::NONE;
+        // SAFETY: as above.
+        let is_valid = unsafe { bits_ones_in(&mut walk, &self.lent(), start, end) };
+        (walk, is_valid)
+    }
+
+    /// The walk over the positions of the range that are not set, and whether the range is valid.
+    #[inline(always)]
+    pub fn zeroes_in(&self, start: usize, end: usize) -> (Walk<'_>, bool) {
+        let mut walk = Walk::NONE;
+        // SAFETY: as above.
+        let is_valid = unsafe { bits_zeroes_in(&mut walk, &self.lent(), start, end) };
+        (walk, is_valid)
     }
 
     #[inline(always)]

@@ -1,6 +1,6 @@
 //! The walks over positions. Each call of one is a proved call.
 use crate::raw::{self, Owned, Pair, Sieve, Walk};
-use crate::{Block, FixedBitSet};
+use crate::{Block, FixedBitSet, IndexRange};
 use core::fmt::{Debug, Formatter, Result};
 use core::iter::FusedIterator;
 
@@ -45,6 +45,44 @@ impl FixedBitSet {
         Zeroes {
             walk: self.words.zeroes(),
         }
+    }
+
+    /// The positions of the range that are set, in ascending order. It takes only the words that hold a position of the
+    /// range.
+    ///
+    /// **Panics** where the range is not valid.
+    ///
+    /// ```
+    /// # use fixedbitset::FixedBitSet;
+    /// let set: FixedBitSet = [9, 3, 70].into_iter().collect();
+    /// assert_eq!(set.ones_in(4..70).collect::<Vec<_>>(), [9]);
+    /// ```
+    #[inline]
+    #[track_caller]
+    pub fn ones_in<T: IndexRange>(&self, range: T) -> Ones<'_> {
+        let (start, end) = self.ends(&range);
+        let (walk, is_valid) = self.words.ones_in(start, end);
+        self.assert_valid(is_valid, start, end);
+        Ones { walk }
+    }
+
+    /// The positions of the range that are not set, in ascending order. It takes only the words that hold a position of
+    /// the range.
+    ///
+    /// **Panics** where the range is not valid.
+    ///
+    /// ```
+    /// # use fixedbitset::FixedBitSet;
+    /// let set: FixedBitSet = [1, 3].into_iter().collect();
+    /// assert_eq!(set.zeroes_in(1..).collect::<Vec<_>>(), [2]);
+    /// ```
+    #[inline]
+    #[track_caller]
+    pub fn zeroes_in<T: IndexRange>(&self, range: T) -> Zeroes<'_> {
+        let (start, end) = self.ends(&range);
+        let (walk, is_valid) = self.words.zeroes_in(start, end);
+        self.assert_valid(is_valid, start, end);
+        Zeroes { walk }
     }
 
     /// The positions of both sets, in ascending order.
@@ -104,7 +142,7 @@ impl FixedBitSet {
     }
 }
 
-/// The walk of [`FixedBitSet::ones`].
+/// The walk of [`FixedBitSet::ones`] and of [`FixedBitSet::ones_in`].
 ///
 /// ```
 /// # use fixedbitset::FixedBitSet;
@@ -128,7 +166,7 @@ pub struct IntoOnes {
     owned: Owned,
 }
 
-/// The walk of [`FixedBitSet::zeroes`].
+/// The walk of [`FixedBitSet::zeroes`] and of [`FixedBitSet::zeroes_in`].
 ///
 /// ```
 /// # use fixedbitset::FixedBitSet;

@@ -1,6 +1,7 @@
 use Rattle.std.proofs.Common.{[], ◌∷◌, ◌++◌, Some, sym, ap, ◌∙◌, arith, append_assoc, length}
 use Rattle.std.proofs.lemmas.List.{length-append}
-use Rattle.bitwords.proofs.Left.{progress_last, left_before, left_highest, left_highest_of_front, left_nothing, left_kept}
+use Rattle.bitwords.specs.CallFacts.{progress_last}
+use Rattle.bitwords.proofs.Left.{left_before, left_highest, left_highest_of_front, left_nothing, left_kept}
 use Rattle.bitwords.proofs.cursors.CursorDoubleEndedIterator.next_back.Goals as goal
 
 pub returns-then-self-ne0-clause-steps : goal.returns-then-self-ne0-clause-steps

@@ -25,7 +25,7 @@ pub returns-clause-runs_back : goal.returns-clause-runs_back
 returns-clause-runs_back c = walk_backwards _ _ (returns-clause-items c)
 
 pub returns-clause-words : goal.returns-clause-words
-returns-clause-words c = ap (λ walk. walk.words) c.within.ensures 
+returns-clause-words c = ap (λ walk. walk.words) c.within.ensures
     ∙ ap between_ends (range_cut-whole c.self.inside.length (map (bit_not w64) c.used_words.result.now)
     (omega (arith, length-map c.used_words.result.now (bit_not w64), c.used_words.ensures.count, viewed_length _ _ _ c.self.view_is)))
     ∙ ap (λ ws. between_ends (map (bit_not w64) ws)) c.used_words.ensures.value

@@ -1,0 +1,200 @@
+//! The stretches of positions that follow each other without a gap, as start and end: those that are set, and those that
+//! are not.
+//!
+//! A call looks for the next position that is like the others or unlike them, sixteen words at a time. So a stretch costs
+//! by its words and not by its positions. Proofs see the stretches left, the ends of where they are, and a count of steps
+//! that takes no bytes when the program runs.
+
+ghost use Rattle.std.specs.Prelude.{◌≡◌, ◌*◌, ◌^◌, ◌≤◌, ◌-◌, ◌/◌, ◌+◌, not, length, IfSome, IfNone};
+ghost use Rattle.std.specs.Iterator.{item_count};
+ghost use Rattle.bitlanes.specs.Words.{lane_steps};
+ghost use Rattle.bitwords.specs.Neighbours.{IsNext, IsPrevious, NonePasses};
+ghost use Rattle.bitwords.specs.Runs.{GivesFirstRun, GivesLastRun, is_like, stretches};
+
+use bitlanes::Steps;
+use bitlanes::ops::{And, AndNot};
+use bitlanes::word::{BITS, Block};
+use bitwords::positions::{next, previous};
+use std::iter::FusedIterator;
+use std::marker::Model;
+
+/// The stretches of positions that are set, or of those that are not, in ascending order. A set makes it by `runs` and by
+/// `zero_runs`.
+///
+/// It borrows the words and takes no memory.
+///
+/// ```
+/// let set = FixedBitSet::from_iter(alloc, [3, 4, 9, 200])?;
+/// let mut walk = set.runs();
+/// assert_eq!(rt; walk.next(), Some((3, 5)));
+/// assert_eq!(rt; walk.next_back(), Some((200, 201)));
+/// assert!(rt; walk.eq([(9, 10)]));
+/// ```
+pub struct Runs<'a> {
+    words: &'a [Block],
+    // Whether the positions are set.
+    are_set: bool,
+    // How many positions there are, and where the stretches left are.
+    end: usize,
+    low: usize,
+    high: usize,
+    steps: Steps,
+}
+
+impl<'a> Model for Runs<'a> {
+    ghost use Rattle.std.specs.Prelude.{◌*◌, ◌^◌, ◌≤◌, length};
+    ghost use Rattle.bitwords.specs.Runs.{RunWalk, IsBetween, is_like, stretches};
+
+    ghost Value = { RunWalk };
+
+    ghost view = { λ s. record {
+      items = stretches (is_like s.are_set s.words.now) s.end s.low s.high;
+      low = s.low;
+      high = s.high;
+      steps = s.steps;
+    } };
+
+    ghost invariant = { λ s. IsBetween (is_like s.are_set s.words.now) s.end s.low s.high
+        × (s.end ≤ 64 * length s.words.now) × (64 * length s.words.now ≤ 2 ^ 64) };
+}
+
+impl<'a> Drop for Runs<'a> {
+    #[inline]
+    fn drop(self) {
+        let Runs {
+            words: _,
+            are_set: _,
+            end: _,
+            low: _,
+            high: _,
+            steps: _,
+        } = self;
+    }
+}
+
+impl<'a> Runs<'a> {
+    /// The stretches of the positions below `end` that are set in the words, or of those that are not. `end` may not be
+    /// past the words.
+    ///
+    /// ```
+    /// let words = [12, 1];
+    /// assert!(rt; Runs::below(&words, true, 128).eq([(2, 4), (64, 65)]));
+    /// assert!(rt; Runs::below(&words, false, 70).eq([(0, 2), (4, 64), (65, 70)]));
+    /// ```
+    #[inline]
+    pub fn below(words: &'a [Block], are_set: bool, end: usize) -> Runs<'a>
+        requires fits { 64 * length words.now ≤ 2 ^ 64 }
+        requires within { end ≤ 64 * length words.now }
+        ensures items { result.items ≡ stretches (is_like are_set words.now) end 0 end }
+        ensures low { result.low ≡ 0 }
+        ensures high { result.high ≡ end }
+        ensures steps { result.steps ≡ 0 }
+    {
+        Runs {
+            words,
+            are_set,
+            end,
+            low: 0,
+            high: end,
+            steps: Steps::new(),
+        }
+    }
+}
+
+// The least position at or past `from` and below `end` that is set, or that is not.
+#[inline]
+fn next_like(
+    words: &[Block],
+    are_set: bool,
+    from: usize,
+    end: usize,
+    steps: &mut Steps,
+) -> Option<usize>
+    requires fits { 64 * length words.now ≤ 2 ^ 64 }
+    requires within { end ≤ 64 * length words.now }
+    ensures found { IfSome result (IsNext (is_like are_set words.now) from end) }
+    ensures none { IfNone result (NonePasses (is_like are_set words.now) from end) }
+    ensures cost { IfSome result
+        (λ p. steps.new ≡ steps.old + 1 + lane_steps (p / 64 - from / 64)) }
+    ensures whole { steps.new ≤ steps.old + 1 + lane_steps ((end - 1) / 64 - from / 64) }
+{
+    let words = &words[..end.div_ceil(BITS)];
+    if are_set {
+        next::<And>(words, from, end, steps)
+    } else {
+        next::<AndNot>(words, from, end, steps)
+    }
+}
+
+// The greatest position below `below` that is set, or that is not.
+#[inline]
+fn previous_like(words: &[Block], are_set: bool, below: usize, steps: &mut Steps) -> Option<usize>
+    requires fits { 64 * length words.now ≤ 2 ^ 64 }
+    requires within { below ≤ 64 * length words.now }
+    ensures found { IfSome result (IsPrevious (is_like are_set words.now) below) }
+    ensures none { IfNone result (NonePasses (is_like are_set words.now) 0 below) }
+    ensures cost { IfSome result
+        (λ p. steps.new ≡ steps.old + 1 + lane_steps ((below - 1) / 64 - p / 64)) }
+    ensures whole { steps.new ≤ steps.old + 1 + lane_steps ((below - 1) / 64) }
+{
+    if are_set {
+        previous::<And>(words, below, steps)
+    } else {
+        previous::<AndNot>(words, below, steps)
+    }
+}
+
+impl<'a> Iterator for Runs<'a> {
+    type Item = (usize, usize);
+
+    ghost next_gives = { GivesFirstRun };
+
+    ghost remaining = { item_count (λ walk. walk.items) };
+
+    /// The first stretch left, or `None` where none is, and then for good. It takes at most four steps, and one for each
+    /// four words that it goes over.
+    #[inline]
+    fn next(&mut self) -> Option<(usize, usize)> {
+        if self.low == self.high {
+            return None;
+        }
+        let (low, high) = (self.low, self.high);
+        let Some(start) = next_like(self.words, self.are_set, low, high, &mut self.steps) else {
+            self.low = high;
+            return None;
+        };
+        let found = next_like(self.words, !self.are_set, start, high, &mut self.steps);
+        self.low = found.unwrap_or(high);
+        Some((start, self.low))
+    }
+}
+
+impl<'a> DoubleEndedIterator for Runs<'a> {
+    ghost next_back_gives = { GivesLastRun };
+
+    /// The last stretch left, or `None` where none is, and then for good. It takes at most four steps, and one for each
+    /// four words that it goes over.
+    #[inline]
+    fn next_back(&mut self) -> Option<(usize, usize)> {
+        if self.low == self.high {
+            return None;
+        }
+        let found = previous_like(self.words, self.are_set, self.high, &mut self.steps);
+        match found {
+            Some(last) if last >= self.low => {
+                let gap = previous_like(self.words, !self.are_set, last, &mut self.steps);
+                self.high = match gap {
+                    Some(before) => before + 1,
+                    None => 0,
+                };
+                Some((self.high, last + 1))
+            }
+            _ => {
+                self.high = self.low;
+                None
+            }
+        }
+    }
+}
+
+impl<'a> FusedIterator for Runs<'a> {}
