@@ -2,9 +2,11 @@
 use Rattle.std.specs.Prelude.{ℕ, Bool, true, false, not, if◌then◌else◌, Option, Some, None, List, ◌++◌, map, filter}
 use Rattle.std.specs.Int.{bit_not, w64}
 use Rattle.bitwords.specs.Rows.{has_bit}
+use Rattle.bitwords.specs.Runs.{stretches, is_like}
 use Rattle.bitwords.specs.WalkedWords.{held_items}
 use Rattle.bits_c.specs.declared.structs.Ones.{Ones}
 use Rattle.bits_c.specs.declared.structs.Zeroes.{Zeroes}
+use Rattle.bits_c.specs.declared.structs.Runs.{Runs}
 use Rattle.bits_c.specs.declared.structs.Sieve.{Sieve}
 use Rattle.bits_c.specs.declared.structs.Pair.{Pair}
 
@@ -19,6 +21,14 @@ ones_left walk = held_items walk.front_at walk.front walk.words.now walk.back
 -- the same, where the words between the first and the last are inverted
 abbrev pub zeroes_left : Zeroes → List ℕ
 zeroes_left walk = held_items walk.front_at walk.front (map (bit_not w64) walk.words.now) walk.back
+
+-- the stretches left
+abbrev pub stretches_left : Runs → List (ℕ × ℕ)
+stretches_left walk = stretches (is_like walk.are_set walk.words.now) walk.end walk.low walk.high
+
+-- the stretch that a call gave, if it says that it gave one
+abbrev pub given_run : Bool → ℕ → ℕ → Option (ℕ × ℕ)
+given_run found start end = if found then Some (start, end) else None
 
 -- whether a position passes that the other set has or not
 abbrev pub passes : (shared has : Bool) → Bool

@@ -20,6 +20,7 @@ ghost use Rattle.fixedbitset.specs.Stored.{IsClean};
 pub mod neighbours;
 pub mod pairs;
 pub mod ranges;
+pub mod runs;
 pub mod sieves;
 pub mod structs;
 pub mod walks;

@@ -1,8 +1,10 @@
-//! The structs that a caller keeps. `front/c/bits.h` declares them as `bits`, `bits_walk`, `bits_sieve` and `bits_pair`.
+//! The structs that a caller keeps. `front/c/bits.h` declares them as `bits`, `bits_walk`, `bits_runs`, `bits_sieve`
+//! and `bits_pair`.
 //!
 //! They stand in a file of their own, since the definitions of `specs/` name them.
 
-ghost use Rattle.std.specs.Prelude.{length};
+ghost use Rattle.std.specs.Prelude.{◌*◌, ◌^◌, ◌≤◌, length};
+ghost use Rattle.bitwords.specs.Runs.{IsBetween, is_like};
 ghost use Rattle.bitwords.specs.WalkedWords.{IsSpaced};
 ghost use Rattle.fixedbitset.specs.Stored.{IsClean};
 
@@ -40,6 +42,21 @@ pub struct Zeroes<'a> {
     pub back_at: usize,
     pub words: &'a [Block],
     pub ghost spaced: { IsSpaced front_at back_at (length words.now) back },
+}
+
+/// A walk over stretches: whether they are of positions that are set, how many positions there are, where the stretches
+/// left are, and the words.
+#[repr(C)]
+#[derive(Drop)]
+pub struct Runs<'a> {
+    pub are_set: bool,
+    pub end: usize,
+    pub low: usize,
+    pub high: usize,
+    pub words: &'a [Block],
+    pub ghost between: { IsBetween (is_like are_set words.now) end low high },
+    pub ghost long: { end ≤ 64 * length words.now },
+    pub ghost fits: { 64 * length words.now ≤ 2 ^ 64 },
 }
 
 /// A walk over the positions of one set, and the words of another one in which each of them is looked up.

@@ -9,7 +9,8 @@ ghost use Rattle.std.specs.Prelude.{◌≡◌, ◌*◌, ◌^◌, ◌≤◌, ◌-
 ghost use Rattle.std.specs.Iterator.{item_count};
 ghost use Rattle.bitlanes.specs.Words.{lane_steps};
 ghost use Rattle.bitwords.specs.Neighbours.{IsNext, IsPrevious, NonePasses};
-ghost use Rattle.bitwords.specs.Runs.{GivesFirstRun, GivesLastRun, is_like, stretches};
+ghost use Rattle.bitwords.specs.Runs.{GivesFirstRun, GivesLastRun, IsBetween, is_like, stretches};
+ghost use Rattle.bitwalks.specs.Runs.{held_stretches};
 
 use bitlanes::Steps;
 use bitlanes::ops::{And, AndNot};
@@ -39,6 +40,17 @@ pub struct Runs<'a> {
     low: usize,
     high: usize,
     steps: Steps,
+}
+
+/// What a walk over stretches holds, for a caller that keeps its fields and no walk: the words, whether its positions are
+/// set, how many positions there are, and where the stretches left are.
+#[derive(Drop)]
+pub struct HeldRuns<'a> {
+    pub words: &'a [Block],
+    pub are_set: bool,
+    pub end: usize,
+    pub low: usize,
+    pub high: usize,
 }
 
 impl<'a> Model for Runs<'a> {
@@ -96,6 +108,58 @@ impl<'a> Runs<'a> {
             end,
             low: 0,
             high: end,
+            steps: Steps::new(),
+        }
+    }
+}
+
+impl<'a> Runs<'a> {
+    /// What the walk holds. `of_held` makes a walk of it again, which has the same stretches left.
+    ///
+    /// ```
+    /// let walk = Runs::below(&[12, 1], true, 128);
+    /// let held = walk.into_held();
+    /// assert_eq!(rt; held.low, 0);
+    /// assert_eq!(rt; held.high, 128);
+    /// ```
+    #[inline(always)]
+    pub fn into_held(self) -> HeldRuns<'a>
+        ensures items { held_stretches result ≡ self.entry.items }
+        ensures between { IsBetween (is_like result.are_set result.words.now) result.end
+            result.low result.high }
+        ensures long { result.end ≤ 64 * length result.words.now }
+        ensures fits { 64 * length result.words.now ≤ 2 ^ 64 }
+    {
+        HeldRuns {
+            words: self.words,
+            are_set: self.are_set,
+            end: self.end,
+            low: self.low,
+            high: self.high,
+        }
+    }
+
+    /// The walk that holds this. Its count begins at 0.
+    ///
+    /// ```
+    /// let held = Runs::below(&[12, 1], true, 128).into_held();
+    /// assert!(rt; Runs::of_held(held).eq([(2, 4), (64, 65)]));
+    /// ```
+    #[inline(always)]
+    pub fn of_held(held: HeldRuns<'a>) -> Runs<'a>
+        requires between { IsBetween (is_like held.are_set held.words.now) held.end
+            held.low held.high }
+        requires long { held.end ≤ 64 * length held.words.now }
+        requires fits { 64 * length held.words.now ≤ 2 ^ 64 }
+        ensures items { result.items ≡ held_stretches held.entry }
+        ensures steps { result.steps ≡ 0 }
+    {
+        Runs {
+            words: held.words,
+            are_set: held.are_set,
+            end: held.end,
+            low: held.low,
+            high: held.high,
             steps: Steps::new(),
         }
     }

@@ -7,7 +7,7 @@ use Rattle.std.proofs.lemmas.List.{map-append}
 use Rattle.bitwords.specs.Ascending.{ascending}
 use Rattle.bitwords.specs.AscendingFacts.{ascending-append, ascending-none, ascending-same, first-from}
 use Rattle.bitwords.specs.Neighbours.{NonePasses}
-use Rattle.bitwords.specs.Runs.{begins, end_from}
+use Rattle.bitwords.specs.Runs.{begins, end_from, stretches}
 
 and_right : (b c : Bool) → c ≡ true → (b && not c) ≡ false
 and_right b c e = grind arith
@@ -20,6 +20,15 @@ and_begins a b c e f = grind arith
 
 pub and_first : (a b c : Bool) → a ≡ true → b ≡ false → (a && not (b && c)) ≡ true
 and_first a b c e f = grind arith
+
+-- tests that agree below n have the same stretches
+pub stretches-same : (t u : ℕ → Bool) (n low high : ℕ) → high ≤ n → ((i : ℕ) → i < n → t i ≡ u i) → stretches t n low high ≡ stretches u n low high
+stretches-same t u n low high within same =
+    let ends : (p : ℕ) → end_from t n p ≡ end_from u n p = λ p. ap (λ xs. unwrap_or (slice_get xs 0) n) (ascending-same (λ q. not (t q)) (λ q. not (u q)) p (n - p) (λ i above below. ap not (same i (omega (arith, above, below))))) in
+    let firsts : ascending (begins t) low (high - low) ≡ ascending (begins u) low (high - low) =
+    ascending-same (begins t) (begins u) low (high - low)
+    (λ i above below. let here = same i (omega (arith, above, below, within)) in let before = same (i - 1) (omega (arith, above, below, within)) in λ j. here j && not (nat_lt 0 i && before j)) in
+    λ j. map (λ p. (p, ends p j)) (firsts j)
 
 module _ (test : ℕ → Bool) (n : ℕ) where
   -- behind a number that passes none begins

@@ -8,6 +8,8 @@ pub mod JoinedChanges
 pub mod JoinedCounts
 pub mod Positions
 pub mod RangeWalks
+pub mod Stretches
+pub mod Gaps
 pub mod NextPositions
 pub mod PairItems
 pub mod PairRows

@@ -4,6 +4,7 @@ pub mod Bits
 pub mod Ranges
 pub mod TwoSets
 pub mod Neighbours
+pub mod Runs
 pub mod Walks
 pub mod Blocks
 pub mod Extended

@@ -14,6 +14,7 @@ ghost use Rattle.fixedbitset.specs.Bits.{of_words};
 ghost use Rattle.fixedbitset.specs.Stored.{IsClean};
 
 pub(crate) mod changes;
+mod gaps;
 pub(crate) mod neighbours;
 pub(crate) mod ranges;
 mod walks;
@@ -23,12 +24,13 @@ use bitlanes::word::{BITS, Block, ones_below};
 use bitlanes::{Steps, lanes};
 use bitwords::positions;
 pub use changes::{difference_with_change, intersect_with_change, union_with_change};
+pub use gaps::first_gap;
 pub use neighbours::{next_one, next_zero, previous_one, previous_zero};
 pub use ranges::{
     contains_all_in_range, contains_any_in_range, count_ones, count_zeroes, insert_range,
     range_is_valid, remove_range, toggle_range,
 };
-pub use walks::{ones, ones_beside, ones_in, zeroes, zeroes_in};
+pub use walks::{ones, ones_beside, ones_in, runs, zero_runs, zeroes, zeroes_in};
 pub use whole::{
     compare, difference_count, difference_with, intersect_with, intersection_count, is_disjoint,
     is_equal, is_subset, symmetric_difference_count, symmetric_difference_with, union_count,

@@ -21,7 +21,9 @@ pub mod walks;
 pub mod whole;
 
 pub use bitlanes::{Block, IndexRange, Steps};
-pub use bitwalks::{Difference, Intersection, IntoOnes, Ones, SymmetricDifference, Union, Zeroes};
+pub use bitwalks::{
+    Difference, Intersection, IntoOnes, Ones, Runs, SymmetricDifference, Union, Zeroes,
+};
 pub use extend::ExtendFault;
 pub use json::JsonFault;
 pub use set::FixedBitSet;

@@ -11,11 +11,13 @@ ghost use Rattle.bitwords.specs.Walk.{GivesFirst, GivesLast, between_ends};
 ghost use Rattle.fixedbitset.specs.Bits as model;
 ghost use Rattle.fixedbitset.specs.Ranges as ranges;
 ghost use Rattle.fixedbitset.specs.Ranges.{over};
+ghost use Rattle.fixedbitset.specs.Runs as stretches;
 ghost use Rattle.fixedbitset.specs.Walks.{ones_of, zeroes_of, words_of, zero_words_of};
 
 use crate::set::FixedBitSet;
 use bitlanes::IndexRange;
 use bitlanes::word::BITS;
+use bitwalks::runs::Runs;
 use bitwalks::walks::{IntoOnes, Ones, Zeroes};
 
 impl FixedBitSet {
@@ -145,5 +147,47 @@ impl FixedBitSet {
         let start = range.start().unwrap_or(0);
         let end = range.end().unwrap_or(self.length);
         Zeroes::within(self.used_words(), start, end)
+    }
+
+    /// The stretches of set positions, as start and end, in ascending order: a stretch has the positions from its start up
+    /// to and without its end, and those before and behind it are clear or past the ends of the set.
+    ///
+    /// It takes no memory. A stretch costs by its words, and not by its positions. Upstream has no such call.
+    ///
+    /// ```
+    /// let mut set = FixedBitSet::with_capacity(alloc, 200)?;
+    /// set.insert_range(60..130);
+    /// set.insert(3);
+    /// assert!(rt; set.runs().eq([(3, 4), (60, 130)]));
+    /// ```
+    #[inline]
+    #[tactic(auto, using(crate::proofs::Stretches::runs_of, crate::proofs::Words::viewed_length))]
+    pub fn runs(&self) -> Runs<'_>
+        ensures items { result.items ≡ stretches.runs self.now }
+        ensures low { result.low ≡ 0 }
+        ensures high { result.high ≡ self.now.length }
+        ensures steps { result.steps ≡ 0 }
+    {
+        Runs::below(self.used_words(), true, self.length)
+    }
+
+    /// The stretches of positions below the length that are not set, as start and end, in ascending order.
+    ///
+    /// It takes no memory. A stretch costs by its words, and not by its positions. Upstream has no such call.
+    ///
+    /// ```
+    /// let mut set = FixedBitSet::with_capacity(alloc, 200)?;
+    /// set.insert_range(60..130);
+    /// assert!(rt; set.zero_runs().eq([(0, 60), (130, 200)]));
+    /// ```
+    #[inline]
+    #[tactic(auto, using(crate::proofs::Stretches::zero_runs_of, crate::proofs::Words::viewed_length))]
+    pub fn zero_runs(&self) -> Runs<'_>
+        ensures items { result.items ≡ stretches.zero_runs self.now }
+        ensures low { result.low ≡ 0 }
+        ensures high { result.high ≡ self.now.length }
+        ensures steps { result.steps ≡ 0 }
+    {
+        Runs::below(self.used_words(), false, self.length)
     }
 }

@@ -5,12 +5,14 @@ ghost use Rattle.bitwords.specs.Rows.{has_bit};
 ghost use Rattle.fixedbitset.specs.Bits as model;
 ghost use Rattle.fixedbitset.specs.Bits.{of_words};
 ghost use Rattle.fixedbitset.specs.Ranges.{is_valid};
+ghost use Rattle.fixedbitset.specs.Runs as stretches;
 ghost use Rattle.fixedbitset.specs.Stored.{IsClean};
 ghost use Rattle.fixedbitset.specs.TwoSets as sets;
 ghost use Rattle.fixedbitset.specs.Walks.{ones_of, zeroes_of};
 
 use crate::lent::used_words;
 use bitlanes::Block;
+use bitwalks::runs::Runs;
 use bitwords::cursors::{Cursor, Inverted, Plain, ones_within, zeroes_within};
 
 /// The positions that are set, in ascending order.
@@ -69,6 +71,38 @@ pub fn zeroes<'a>(words: &'a [Block], length: usize) -> Cursor<Inverted<'a>>
     ensures { result.items ≡ model.asc (model.complement (of_words length words.now)) }
 {
     zeroes_within(used_words(words, length), 0, length)
+}
+
+/// The stretches of positions that are set, as start and end, in ascending order.
+///
+/// ```
+/// let mut words = [Block::MAX, 1, 0, 0];
+/// lent::settle(&mut words, 70, 70);
+/// assert!(rt; lent::runs(&words, 70).eq([(0, 65)]));
+/// ```
+#[inline(always)]
+#[tactic(auto, using(crate::proofs::Stretches::runs_of, crate::proofs::Words::of_length))]
+pub fn runs<'a>(words: &'a [Block], length: usize) -> Runs<'a>
+    requires { IsClean length words.now }
+    ensures { result.items ≡ stretches.runs (of_words length words.now) }
+{
+    Runs::below(used_words(words, length), true, length)
+}
+
+/// The stretches of positions below the length that are not set, as start and end, in ascending order.
+///
+/// ```
+/// let mut words = [Block::MAX, 1, 0, 0];
+/// lent::settle(&mut words, 70, 70);
+/// assert!(rt; lent::zero_runs(&words, 70).eq([(65, 70)]));
+/// ```
+#[inline(always)]
+#[tactic(auto, using(crate::proofs::Stretches::zero_runs_of, crate::proofs::Words::of_length))]
+pub fn zero_runs<'a>(words: &'a [Block], length: usize) -> Runs<'a>
+    requires { IsClean length words.now }
+    ensures { result.items ≡ stretches.zero_runs (of_words length words.now) }
+{
+    Runs::below(used_words(words, length), false, length)
 }
 
 /// The positions that are set, from `start` up to and without `end`, in ascending order. The range has to be valid.

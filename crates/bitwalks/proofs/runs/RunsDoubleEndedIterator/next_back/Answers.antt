@@ -30,13 +30,13 @@ returns-after-gap-clause-steps c =
     let view = c.self.view_is in
     let found = c.in-Some.ensures.found in (
       sym (ap (λ walk. walk.items) view)
-      ∙ last_stretch like (is_like (not inside.are_set) inside.words.now) (unlike inside.are_set inside.words.now) inside.end inside.low inside.high c.self.invariant.0 c.if-self.false c.in-Some.last found c.if-last-self.true c.match-gap.self (is_last c),
+          ∙ last_stretch like (is_like (not inside.are_set) inside.words.now) (unlike inside.are_set inside.words.now) inside.end inside.low inside.high c.self.invariant.0 c.if-self.false c.in-Some.last found c.if-last-self.true c.match-gap.self (is_last c),
       ap (λ walk. walk.low) view,
       rw (sym view)
-      (elim c.match-gap.branch [
-        | in-Some-gap w ↦ rw (w.self-is) (steps_back inside.steps c.previous_like-found.new.steps c.previous_like-gap.new.steps inside.high c.in-Some.last w.in-Some-gap.before found.below w.in-Some-gap.ensures.found.below c.in-Some.ensures.cost w.in-Some-gap.ensures.cost)
-        | in-None w ↦ rw (w.self-is) (steps_whole inside.steps c.previous_like-found.new.steps c.previous_like-gap.new.steps inside.high c.in-Some.last found.below c.in-Some.ensures.cost c.previous_like-gap.ensures.whole)
-      ]),
+          (elim c.match-gap.branch [
+            | in-Some-gap w ↦ rw (w.self-is) (steps_back inside.steps c.previous_like-found.new.steps c.previous_like-gap.new.steps inside.high c.in-Some.last w.in-Some-gap.before found.below w.in-Some-gap.ensures.found.below c.in-Some.ensures.cost w.in-Some-gap.ensures.cost)
+            | in-None w ↦ rw (w.self-is) (steps_whole inside.steps c.previous_like-found.new.steps c.previous_like-gap.new.steps inside.high c.in-Some.last found.below c.in-Some.ensures.cost c.previous_like-gap.ensures.whole)
+          ]),
     )
 
 pub returns-after-gap-clause-goes : goal.returns-after-gap-clause-goes
@@ -51,20 +51,20 @@ returns-in_default-clause-steps c =
     let order = c.self.invariant.0.order in (
       (
         sym (ap (λ walk. walk.items) view)
-        ∙ nothing like other (unlike inside.are_set inside.words.now) inside.end inside.low inside.high c.self.invariant.0 c.if-self.false
-        (elim c.in_default.branch [
-          | in_default-via-in-Some+else-last-self w ↦ λ i above below. w.in-Some.ensures.found.none i (omega (arith, above, w.if-last-self.false)) below
-          | in_default-via-in_default w ↦ λ i above below. w.in_default.ensures.none i (omega arith) below
-        ]),
+            ∙ nothing like other (unlike inside.are_set inside.words.now) inside.end inside.low inside.high c.self.invariant.0 c.if-self.false
+            (elim c.in_default.branch [
+              | in_default-via-in-Some+else-last-self w ↦ λ i above below. w.in-Some.ensures.found.none i (omega (arith, above, w.if-last-self.false)) below
+              | in_default-via-in_default w ↦ λ i above below. w.in_default.ensures.none i (omega arith) below
+            ]),
         nothing_there like inside.end inside.low,
       ),
       ap (λ walk. walk.low) view,
       rw (sym view)
-      (elim c.in_default.branch [
-        | in_default-via-in-Some+else-last-self w ↦
-            steps_nothing inside.steps c.previous_like-found.new.steps inside.low inside.high w.in-Some.last order w.in-Some.ensures.found.below (low_is_behind like other (unlike inside.are_set inside.words.now) inside.end inside.low inside.high c.self.invariant.0 c.if-self.false w.in-Some.last w.in-Some.ensures.found (omega (arith, w.if-last-self.false))) w.in-Some.ensures.cost
-        | in_default-via-in_default w ↦
-            let zero = low_is_zero like other (unlike inside.are_set inside.words.now) inside.end inside.low inside.high c.self.invariant.0 c.if-self.false w.in_default.ensures.none in
-            omega (arith, zero, c.previous_like-found.ensures.whole)
-      ]),
+          (elim c.in_default.branch [
+            | in_default-via-in-Some+else-last-self w ↦
+                steps_nothing inside.steps c.previous_like-found.new.steps inside.low inside.high w.in-Some.last order w.in-Some.ensures.found.below (low_is_behind like other (unlike inside.are_set inside.words.now) inside.end inside.low inside.high c.self.invariant.0 c.if-self.false w.in-Some.last w.in-Some.ensures.found (omega (arith, w.if-last-self.false))) w.in-Some.ensures.cost
+            | in_default-via-in_default w ↦
+                let zero = low_is_zero like other (unlike inside.are_set inside.words.now) inside.end inside.low inside.high c.self.invariant.0 c.if-self.false w.in_default.ensures.none in
+                omega (arith, zero, c.previous_like-found.ensures.whole)
+          ]),
     )

@@ -24,8 +24,8 @@ returns-clause-steps c =
     let next = c.in-Some.ensures.found in
     let view = c.self.view_is in (
       sym (ap (λ walk. walk.items) view)
-      ∙ front like (is_like (not inside.are_set) inside.words.now) (unlike inside.are_set inside.words.now) inside.end inside.low inside.high c.self.invariant.0 c.if-self.false c.in-Some.start next c.next_like-found.result c.next_like-found.ensures.found c.next_like-found.ensures.none
-      ∙ ap (λ end. (c.in-Some.start, end) ∷ stretches like inside.end end inside.high) (sym c.unwrap_or-self-inside.ensures),
+          ∙ front like (is_like (not inside.are_set) inside.words.now) (unlike inside.are_set inside.words.now) inside.end inside.low inside.high c.self.invariant.0 c.if-self.false c.in-Some.start next c.next_like-found.result c.next_like-found.ensures.found c.next_like-found.ensures.none
+          ∙ ap (λ end. (c.in-Some.start, end) ∷ stretches like inside.end end inside.high) (sym c.unwrap_or-self-inside.ensures),
       ap (λ walk. walk.high) view,
       rw (sym view, c.unwrap_or-self-inside.ensures) (steps_front inside.steps c.next_like.new.steps c.next_like-found.new.steps inside.low c.in-Some.start inside.high c.next_like-found.result next.after next.below c.in-Some.ensures.cost c.next_like-found.ensures.cost c.next_like-found.ensures.whole _ c.next_like-found.ensures.found),
     )

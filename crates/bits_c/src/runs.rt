@@ -1,0 +1,110 @@
+//! Walks over the stretches of positions that follow each other without a gap, kept in a struct of the caller's.
+//!
+//! A stretch has the positions from its start up to and without its end. Each call gives one stretch, from either end, and
+//! answers whether it did; a call that gives none leaves what `start` and `end` point to.
+
+ghost use Rattle.std.specs.Prelude.{◌≡◌, false};
+ghost use Rattle.std.specs.Iterator.{YieldsFirst, YieldsLast};
+ghost use Rattle.bits_c.specs.Sets.{value};
+ghost use Rattle.bits_c.specs.Walks.{given_run, stretches_left};
+ghost use Rattle.fixedbitset.specs.Runs as stretches;
+
+use crate::structs::{Runs, Set};
+use bitwalks::runs::{HeldRuns, Runs as Walk};
+use fixedbitset::lent;
+
+impl<'a> Runs<'a> {
+    #[inline(always)]
+    fn of(walk: Walk<'a>) -> Runs<'a>
+        ensures { stretches_left result ≡ walk.entry.items }
+    {
+        let held = walk.into_held();
+        Runs {
+            are_set: held.are_set,
+            end: held.end,
+            low: held.low,
+            high: held.high,
+            words: held.words,
+        }
+    }
+
+    #[inline(always)]
+    fn walk(&self) -> Walk<'a>
+        ensures { result.items ≡ stretches_left self.now }
+    {
+        Walk::of_held(HeldRuns {
+            words: self.words,
+            are_set: self.are_set,
+            end: self.end,
+            low: self.low,
+            high: self.high,
+        })
+    }
+}
+
+// Writes the stretch to `start` and `end`, and answers whether there is one.
+#[inline(always)]
+fn hand_out_run(run: Option<(usize, usize)>, start: &mut usize, end: &mut usize) -> bool
+    ensures given { given_run result start.new end.new ≡ run }
+    ensures start_stays { result ≡ false → start.new ≡ start.old }
+    ensures end_stays { result ≡ false → end.new ≡ end.old }
+{
+    match run {
+        Some((first, behind)) => {
+            *start = first;
+            *end = behind;
+            true
+        }
+        None => false,
+    }
+}
+
+/// Begins the walk over the stretches of positions that are set, in ascending order.
+#[unsafe(no_mangle)]
+pub extern "C" fn bits_runs<'a>(walk: &mut Runs<'a>, set: &'a Set<'_>)
+    ensures { stretches_left walk.new ≡ stretches.runs (value set.now) }
+{
+    *walk = Runs::of(lent::runs(set.words, set.length));
+}
+
+/// Begins the walk over the stretches of positions below the length that are not set, in ascending order.
+#[unsafe(no_mangle)]
+pub extern "C" fn bits_zero_runs<'a>(walk: &mut Runs<'a>, set: &'a Set<'_>)
+    ensures { stretches_left walk.new ≡ stretches.zero_runs (value set.now) }
+{
+    *walk = Runs::of(lent::zero_runs(set.words, set.length));
+}
+
+/// Gives the first stretch left.
+#[tactic(auto, using(crate::proofs::Given::first_given))]
+#[unsafe(no_mangle)]
+pub extern "C" fn bits_runs_next(walk: &mut Runs<'_>, start: &mut usize, end: &mut usize) -> bool
+    ensures gives { YieldsFirst stretches_left walk.old (given_run result start.new end.new)
+        walk.new }
+    ensures start_stays { result ≡ false → start.new ≡ start.old }
+    ensures end_stays { result ≡ false → end.new ≡ end.old }
+{
+    let mut left = walk.walk();
+    let run = left.next();
+    *walk = Runs::of(left);
+    hand_out_run(run, start, end)
+}
+
+/// Gives the last stretch left.
+#[tactic(auto, using(crate::proofs::Given::last_given))]
+#[unsafe(no_mangle)]
+pub extern "C" fn bits_runs_next_back(
+    walk: &mut Runs<'_>,
+    start: &mut usize,
+    end: &mut usize,
+) -> bool
+    ensures gives { YieldsLast stretches_left walk.old (given_run result start.new end.new)
+        walk.new }
+    ensures start_stays { result ≡ false → start.new ≡ start.old }
+    ensures end_stays { result ≡ false → end.new ≡ end.old }
+{
+    let mut left = walk.walk();
+    let run = left.next_back();
+    *walk = Runs::of(left);
+    hand_out_run(run, start, end)
+}
