@@ -23,6 +23,7 @@ KINDS = {
     "&Set": "const set*", "&Lent": "const set*", "const bits *": "const set*",
     "&mut Set": "set*", "&mut Lent": "set*", "bits *": "set*",
     "&mut Ones": "walk*", "&mut Zeroes": "walk*", "&mut Walk": "walk*", "bits_walk *": "walk*",
+    "&mut Runs": "runs*", "bits_run_walk *": "runs*",
     "&mut Sieve": "sieve*", "bits_sieve *": "sieve*",
     "&mut Pair": "pair*", "bits_pair *": "pair*",
 }
@@ -30,6 +31,7 @@ KINDS = {
 STRUCTS = {
     "bits": ("Set", "Lent"),
     "bits_walk": ("Ones", "Walk"),
+    "bits_run_walk": ("Runs", "Runs"),
     "bits_sieve": ("Sieve", "Sieve"),
     "bits_pair": ("Pair", "Pair"),
 }

@@ -33,8 +33,8 @@ typedef struct bits {
     size_t length;
 } bits;
 
-/* A walk over the positions of a set. Make it BITS_WALK, and begin it by bits_ones, bits_zeroes or their kin. Until its last call the
- * set may not change. */
+/* A walk over the positions of a set. Make it BITS_WALK, and begin it by bits_ones, bits_zeroes, bits_ones_in or
+ * bits_zeroes_in. Until its last call the set may not change. */
 typedef struct bits_walk {
     uint64_t front;
     uint64_t back;
@@ -43,6 +43,17 @@ typedef struct bits_walk {
     const uint64_t *words;
     size_t count;
 } bits_walk;
+
+/* A walk over stretches of positions that follow each other without a gap. Make it BITS_RUNS, and begin it by bits_runs or
+ * bits_zero_runs. Until its last call the set may not change. */
+typedef struct bits_run_walk {
+    bool are_set;
+    size_t end;
+    size_t low;
+    size_t high;
+    const uint64_t *words;
+    size_t count;
+} bits_run_walk;
 
 /* A walk over the positions of a set that another one has, or lacks. Make it BITS_SIEVE, and begin it by
  * bits_intersection or bits_difference. Until its last call neither set may change. */
@@ -70,6 +81,7 @@ typedef struct bits_pair {
 
 /* Walks over no words. */
 #define BITS_WALK BITS_VALUE(bits_walk, 0, 0, 0, 0, (const uint64_t *)8, 0)
+#define BITS_RUNS BITS_VALUE(bits_run_walk, false, 0, 0, 0, (const uint64_t *)8, 0)
 #define BITS_SIEVE BITS_VALUE(bits_sieve, BITS_WALK, (const uint64_t *)8, 0)
 #define BITS_PAIR BITS_VALUE(bits_pair, BITS_SIEVE, BITS_SIEVE)
 
@@ -125,10 +137,12 @@ void bits_clear(bits *set);
 size_t bits_minimum(const bits *set);
 /* The greatest position that is set, or BITS_NONE. */
 size_t bits_maximum(const bits *set);
-/* The least position at or past `from` that is set, or BITS_NONE. Any number may be given, here and in the next three. */
+/* The least position at or past `from` that is set, or BITS_NONE. Any number may be given, here and in the next four. */
 size_t bits_next_one(const bits *set, size_t from);
 /* The least position at or past `from` and below the length that is not set, or BITS_NONE. */
 size_t bits_next_zero(const bits *set, size_t from);
+/* The least number at or past `from` with `count` clear positions from there on, or BITS_NONE. */
+size_t bits_first_gap(const bits *set, size_t count, size_t from);
 /* The greatest position below `below` that is set, or BITS_NONE. */
 size_t bits_previous_one(const bits *set, size_t below);
 /* The greatest position below `below` and below the length that is not set, or BITS_NONE. */
@@ -207,6 +221,12 @@ bool bits_zeroes_next_back(bits_walk *walk, size_t *position);
  * the range is valid; else the walk gives none. */
 bool bits_ones_in(bits_walk *walk, const bits *set, size_t start, size_t end);
 bool bits_zeroes_in(bits_walk *walk, const bits *set, size_t start, size_t end);
+/* Begins the walk over the stretches of positions that are set, or that are not, in ascending order. A stretch has the
+ * positions from `start` up to and without `end`, and costs by its words. */
+void bits_runs(bits_run_walk *walk, const bits *set);
+void bits_zero_runs(bits_run_walk *walk, const bits *set);
+bool bits_runs_next(bits_run_walk *walk, size_t *start, size_t *end);
+bool bits_runs_next_back(bits_run_walk *walk, size_t *start, size_t *end);
 /* Begins the walk over the positions of both sets, in ascending order. */
 void bits_intersection(bits_sieve *walk, const bits *set, const bits *other);
 bool bits_intersection_next(bits_sieve *walk, size_t *position);

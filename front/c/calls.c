@@ -108,6 +108,16 @@ static void walks(void) {
     GIVES(walk, bits_ones, 70, 1, 3, 69);
     bits_zeroes(&walk, &a);
     GIVES(walk, bits_zeroes, 4, 0, 2);
+    bits_run_walk runs = BITS_RUNS;
+    size_t end = 0;
+    bits_runs(&runs, &b);
+    assert(bits_runs_next_back(&runs, &sum, &end) && sum == 69 && end == 71);
+    assert(bits_runs_next(&runs, &sum, &end) && sum == 1 && end == 2);
+    bits_zero_runs(&runs, &a);
+    assert(bits_runs_next(&runs, &sum, &end) && sum == 0 && end == 1);
+    assert(bits_runs_next(&runs, &sum, &end) && bits_runs_next(&runs, &sum, &end) && sum == 4);
+    assert(!bits_runs_next(&runs, &sum, &end) && !bits_runs_next_back(&runs, &sum, &end));
+    assert(bits_first_gap(&b, 3, 0) == 4 && bits_first_gap(&b, 66, 0) == BITS_NONE);
     assert(bits_ones_in(&walk, &b, 3, 70));
     GIVES(walk, bits_ones, 69, 3);
     assert(bits_zeroes_in(&walk, &b, 64, 71));

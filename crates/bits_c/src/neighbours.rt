@@ -3,6 +3,7 @@
 ghost use Rattle.std.specs.Prelude.{◌≡◌, unwrap_or};
 ghost use Rattle.bits_c.specs.Sets.{value};
 ghost use Rattle.fixedbitset.specs.Neighbours as neighbours;
+ghost use Rattle.fixedbitset.specs.Runs as stretches;
 
 use crate::NONE;
 use crate::structs::Set;
@@ -22,6 +23,14 @@ pub extern "C" fn bits_next_zero(set: &Set<'_>, from: usize) -> usize
     ensures { result ≡ unwrap_or (neighbours.next_zero (value set.now) from) NONE }
 {
     lent::next_zero(set.words, set.length, from).unwrap_or(NONE)
+}
+
+/// The least number at or past `from` with `count` clear positions from there on, or `NONE`.
+#[unsafe(no_mangle)]
+pub extern "C" fn bits_first_gap(set: &Set<'_>, count: usize, from: usize) -> usize
+    ensures { result ≡ unwrap_or (stretches.first_gap (value set.now) count from) NONE }
+{
+    lent::first_gap(set.words, set.length, count, from).unwrap_or(NONE)
 }
 
 /// The greatest position below `below` that is set, or `NONE`.

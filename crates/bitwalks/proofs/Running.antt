@@ -44,6 +44,12 @@ not_false : (b : Bool) → not b ≡ false → b ≡ true
 not_false b e = grind arith
 
 module _ (t u : ℕ → Bool) (other : (i : ℕ) → u i ≡ not (t i)) (n low high : ℕ) (is : IsBetween t n low high) (left : low ≡ high → ⊥) where
+  from_cases : (low ≡ 0) ⊎ ((t (low - 1) ≡ true) × (t low ≡ false))
+  from_cases = elim (cases_eq low 0) [ | inl zero ↦ inl zero | inr some ↦ inr (is.from some left) ]
+
+  to_cases : (high ≡ n) ⊎ ((t high ≡ true) × (t (high - 1) ≡ false))
+  to_cases = elim (cases_eq high n) [ | inl last ↦ inl last | inr before ↦ inr (is.to before left) ]
+
   passes_not : (i : ℕ) → u i ≡ true → t i ≡ false
   passes_not i e = not_true (t i) (sym (other i) ∙ e)
 
@@ -53,19 +59,17 @@ module _ (t u : ℕ → Bool) (other : (i : ℕ) → u i ≡ not (t i)) (n low h
   -- what passes at `low` begins a stretch
   begins_low : t low ≡ true → begins t low ≡ true
   begins_low one =
-      elim is.from [
+      elim from_cases [
         | inl zero ↦ and_first (t low) (nat_lt 0 low) (t (low - 1)) one (ap (nat_lt 0) zero)
-        | inr (inl same) ↦ absurd (left same)
-        | inr (inr gap) ↦ absurd (true≢false (sym one ∙ gap.1))
+        | inr gap ↦ absurd (true≢false (sym one ∙ gap.1))
       ]
 
   -- a stretch that goes up to `high` goes up to n
   ends_high : t (high - 1) ≡ true → high ≡ n
   ends_high one =
-      elim is.to [
+      elim to_cases [
         | inl all ↦ all
-        | inr (inl same) ↦ absurd (left same)
-        | inr (inr gap) ↦ absurd (true≢false (sym one ∙ gap.1))
+        | inr gap ↦ absurd (true≢false (sym one ∙ gap.1))
       ]
 
   -- where none is left
@@ -117,10 +121,9 @@ module _ (t u : ℕ → Bool) (other : (i : ℕ) → u i ≡ not (t i)) (n low h
   -- where nothing passes below `high`, `low` is 0
   pub low_is_zero : NonePasses t 0 high → low ≡ 0
   low_is_zero none =
-      elim is.from [
+      elim from_cases [
         | inl zero ↦ zero
-        | inr (inl same) ↦ absurd (left same)
-        | inr (inr gap) ↦ absurd (true≢false (sym gap.0 ∙ none (low - 1) (omega arith) (omega (arith, is.order, positive gap))))
+        | inr gap ↦ absurd (true≢false (sym gap.0 ∙ none (low - 1) (omega arith) (omega (arith, is.order, positive gap))))
       ]
     where
       positive : (t (low - 1) ≡ true) × (t low ≡ false) → 0 < high
@@ -129,10 +132,9 @@ module _ (t u : ℕ → Bool) (other : (i : ℕ) → u i ≡ not (t i)) (n low h
   -- what passes before `low` stands there
   pub low_is_behind : (last : ℕ) → IsPrevious t high last → last < low → low ≤ last + 1
   low_is_behind last found before =
-      elim is.from [
+      elim from_cases [
         | inl zero ↦ omega (arith, zero)
-        | inr (inl same) ↦ absurd (left same)
-        | inr (inr gap) ↦
+        | inr gap ↦
             ⊎_elim
             (λ (between : last < low - 1). absurd (true≢false (sym gap.0 ∙ found.none (low - 1) between (omega (arith, is.order, before)))))
             (λ (there : low - 1 ≤ last). omega (arith, there))
@@ -158,10 +160,9 @@ module _ (t u : ℕ → Bool) (other : (i : ℕ) → u i ≡ not (t i)) (n low h
     -- and not over `low`
     not_before : (i : ℕ) → ((k : ℕ) → i ≤ k → k ≤ last → t k ≡ true) → i < low → ⊥
     not_before i all before =
-        elim is.from [
+        elim from_cases [
           | inl zero ↦ omega (arith, zero, before)
-          | inr (inl same) ↦ left same
-          | inr (inr gap) ↦ true≢false (sym (all low (omega (arith, before)) within) ∙ gap.1)
+          | inr gap ↦ true≢false (sym (all low (omega (arith, before)) within) ∙ gap.1)
         ]
 
     pub last_after : (gap : ℕ) → IsPrevious u last gap → IsLast (gap + 1) last
@@ -213,15 +214,8 @@ module _ (t u : ℕ → Bool) (other : (i : ℕ) → u i ≡ not (t i)) (n low h
           record {
             order = is_last.from;
             within = omega (arith, is_last.some, found.below, is.within);
-            from = elim is.from [
-              | inl zero ↦ inl zero
-              | inr (inl same) ↦ absurd (left same)
-              | inr (inr gap) ↦ inr (inr gap)
-            ];
-            to = elim (cases_eq low start) [
-              | inl same ↦ inr (inl same)
-              | inr other ↦ inr (inr (is_last.all start (omega arith) is_last.some, before_first (t start) (nat_lt 0 start) (t (start - 1)) (lt-ltb 0 start (omega (arith, other, is_last.from))) is_last.first))
-            ];
+            from = λ some _. is.from some left;
+            to = λ _ other. (is_last.all start (omega arith) is_last.some, before_first (t start) (nat_lt 0 start) (t (start - 1)) (lt-ltb 0 start (omega (arith, other, is_last.from))) is_last.first);
           }
         where
           before_first : (a b c : Bool) → b ≡ true → (a && not (b && c)) ≡ true → c ≡ false

@@ -1,5 +1,5 @@
 -- The stretches of numbers that pass a test without a gap, as start and end: the end is the first number behind.
-use Rattle.std.specs.Prelude.{◌≡◌, ℕ, ◌-◌, ◌+◌, ◌/◌, ◌≤◌, ◌⊎◌, Bool, true, false, not, ◌&&◌, nat_lt, if◌then◌else◌, Option, unwrap_or, List, map, slice_get}
+use Rattle.std.specs.Prelude.{◌≡◌, ◌≢◌, ℕ, ◌-◌, ◌+◌, ◌/◌, ◌≤◌, Bool, true, false, not, ◌&&◌, nat_lt, if◌then◌else◌, Option, unwrap_or, List, map, slice_get}
 use Rattle.std.specs.Iterator.{YieldsFirst, YieldsLast}
 use Rattle.bitwords.specs.Ascending.{ascending}
 use Rattle.bitwords.specs.Rows.{has_bit}
@@ -28,12 +28,13 @@ pub record RunWalk : Type 0 where
   pub high : ℕ
   pub steps : ℕ
 
--- no stretch of the numbers below n goes over `low` or over `high`
+-- no stretch of the numbers below n goes over `low` or over `high`: one ends at `low`, and one begins at `high`, but for
+-- the ends of the numbers and where both meet
 pub record IsBetween (test : ℕ → Bool) (n low high : ℕ) : Type 0 where
   pub order : low ≤ high
   pub within : high ≤ n
-  pub from : (low ≡ 0) ⊎ (low ≡ high) ⊎ ((test (low - 1) ≡ true) × (test low ≡ false))
-  pub to : (high ≡ n) ⊎ (low ≡ high) ⊎ ((test high ≡ true) × (test (high - 1) ≡ false))
+  pub from : low ≢ 0 → low ≢ high → (test (low - 1) ≡ true) × (test low ≡ false)
+  pub to : high ≢ n → low ≢ high → (test high ≡ true) × (test (high - 1) ≡ false)
 
 -- so many words were passed, by four at a time
 abbrev pub Passes : (words : ℕ) → RunWalk → RunWalk → Type 0

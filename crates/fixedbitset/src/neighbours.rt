@@ -5,6 +5,7 @@
 
 ghost use Rattle.std.specs.Prelude.{◌≡◌};
 ghost use Rattle.fixedbitset.specs.Neighbours as neighbours;
+ghost use Rattle.fixedbitset.specs.Runs as stretches;
 
 use crate::lent;
 use crate::set::FixedBitSet;
@@ -38,6 +39,24 @@ impl FixedBitSet {
         ensures { result ≡ neighbours.next_zero self.now from }
     {
         lent::next_zero(&self.words, self.length, from)
+    }
+
+    /// The least number at or past `from` with `count` clear positions from there on, all below the length, or `None` where
+    /// there is none. With a `count` of 0 that is `from`, up to the length.
+    ///
+    /// It goes from one stretch of clear positions to the next, so it takes a search or two for each.
+    ///
+    /// ```
+    /// let mut set = FixedBitSet::from_iter(alloc, [3, 6, 90])?;
+    /// assert_eq!(rt; set.first_gap(2, 0), Some(0));
+    /// assert_eq!(rt; set.first_gap(3, 1), Some(7));
+    /// assert_eq!(rt; set.first_gap(100, 0), None);
+    /// ```
+    #[inline]
+    pub fn first_gap(&self, count: usize, from: usize) -> Option<usize>
+        ensures { result ≡ stretches.first_gap self.now count from }
+    {
+        lent::first_gap(&self.words, self.length, count, from)
     }
 
     /// The greatest position below `below` that is set, or `None` where none is.

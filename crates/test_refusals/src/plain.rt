@@ -85,6 +85,9 @@ fn looks(alloc: Global, starts: &mut Starts) -> Result<bool, Fault> {
         && set.previous_zero(4) == Some(2)
         && set.ones_in(3..).next() == Some(3)
         && set.zeroes_in(..4).next_back() == Some(2)
+        && set.runs().next() == Some((3, 4))
+        && set.zero_runs().next_back() == Some((4, 10))
+        && set.first_gap(5, 0) == Some(4)
         && set.as_slice() == [8].as_slice();
     if set.as_slice().is_empty() {
         return Ok(false);

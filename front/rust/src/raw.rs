@@ -32,6 +32,19 @@ pub struct Walk<'a> {
     lent: PhantomData<&'a [usize]>,
 }
 
+/// A walk over stretches, the struct `bits_run_walk` of bits.h.
+#[repr(C)]
+#[derive(Clone)]
+pub struct Runs<'a> {
+    are_set: bool,
+    end: usize,
+    low: usize,
+    high: usize,
+    words: NonNull<usize>,
+    count: usize,
+    lent: PhantomData<&'a [usize]>,
+}
+
 /// A walk over one set that is sieved by another, the struct `bits_sieve` of bits.h.
 #[repr(C)]
 #[derive(Clone)]
@@ -78,6 +91,7 @@ unsafe extern "C" {
     pub safe fn bits_maximum(set: &Lent<'_>) -> usize;
     pub safe fn bits_next_one(set: &Lent<'_>, from: usize) -> usize;
     pub safe fn bits_next_zero(set: &Lent<'_>, from: usize) -> usize;
+    pub safe fn bits_first_gap(set: &Lent<'_>, count: usize, from: usize) -> usize;
     pub safe fn bits_previous_one(set: &Lent<'_>, below: usize) -> usize;
     pub safe fn bits_previous_zero(set: &Lent<'_>, below: usize) -> usize;
     pub safe fn bits_is_clear(set: &Lent<'_>) -> bool;
@@ -120,6 +134,14 @@ unsafe extern "C" {
     pub safe fn bits_zeroes_next_back(walk: &mut Walk<'_>, position: &mut usize) -> bool;
     fn bits_ones_in(walk: &mut Walk<'_>, set: &Lent<'_>, start: usize, end: usize) -> bool;
     fn bits_zeroes_in(walk: &mut Walk<'_>, set: &Lent<'_>, start: usize, end: usize) -> bool;
+    fn bits_runs(walk: &mut Runs<'_>, set: &Lent<'_>);
+    fn bits_zero_runs(walk: &mut Runs<'_>, set: &Lent<'_>);
+    pub safe fn bits_runs_next(walk: &mut Runs<'_>, start: &mut usize, end: &mut usize) -> bool;
+    pub safe fn bits_runs_next_back(
+        walk: &mut Runs<'_>,
+        start: &mut usize,
+        end: &mut usize,
+    ) -> bool;
     fn bits_intersection(walk: &mut Sieve<'_>, set: &Lent<'_>, other: &Lent<'_>);
     pub safe fn bits_intersection_next(walk: &mut Sieve<'_>, position: &mut usize) -> bool;
     pub safe fn bits_intersection_next_back(walk: &mut Sieve<'_>, position: &mut usize) -> bool;
@@ -282,6 +304,22 @@ impl Words {
     }
 
     #[inline(always)]
+    pub fn runs(&self) -> Runs<'_> {
+        let mut walk = Runs::NONE;
+        // SAFETY: as above.
+        unsafe { bits_runs(&mut walk, &self.lent()) };
+        walk
+    }
+
+    #[inline(always)]
+    pub fn zero_runs(&self) -> Runs<'_> {
+        let mut walk = Runs::NONE;
+        // SAFETY: as above.
+        unsafe { bits_zero_runs(&mut walk, &self.lent()) };
+        walk
+    }
+
+    #[inline(always)]
     pub fn intersection<'a>(&'a self, other: &'a Words) -> Sieve<'a> {
         let mut walk = Sieve::NONE;
         // SAFETY: the walk keeps the words of both sets, which are lent as long as it lives.
@@ -381,6 +419,18 @@ impl Walk<'_> {
     pub fn most(&self) -> Option<usize> {
         self.count.checked_add(2)?.checked_mul(usize::BITS as usize)
     }
+}
+
+impl Runs<'_> {
+    const NONE: Self = Runs {
+        are_set: false,
+        end: 0,
+        low: 0,
+        high: 0,
+        words: NonNull::dangling(),
+        count: 0,
+        lent: PhantomData,
+    };
 }
 
 impl Sieve<'_> {

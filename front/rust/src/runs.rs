@@ -1,0 +1,96 @@
+//! The stretches of positions that follow each other without a gap. The crate of this name has no such calls.
+
+use crate::{FixedBitSet, raw};
+use core::fmt::{Debug, Formatter, Result};
+use core::iter::FusedIterator;
+
+impl FixedBitSet {
+    /// The stretches of positions that are set, as start and end, in ascending order. The end is the first position behind.
+    /// A stretch costs by its words, and not by its positions.
+    ///
+    /// ```
+    /// # use fixedbitset::FixedBitSet;
+    /// let set: FixedBitSet = [3, 4, 5, 9].into_iter().collect();
+    /// assert_eq!(set.runs().collect::<Vec<_>>(), [(3, 6), (9, 10)]);
+    /// ```
+    #[inline]
+    pub fn runs(&self) -> Runs<'_> {
+        Runs {
+            walk: self.words.runs(),
+        }
+    }
+
+    /// The stretches of positions below the length that are not set, as start and end, in ascending order.
+    ///
+    /// ```
+    /// # use fixedbitset::FixedBitSet;
+    /// let set: FixedBitSet = [3, 4, 5, 9].into_iter().collect();
+    /// assert_eq!(set.zero_runs().collect::<Vec<_>>(), [(0, 3), (6, 9)]);
+    /// ```
+    #[inline]
+    pub fn zero_runs(&self) -> Runs<'_> {
+        Runs {
+            walk: self.words.zero_runs(),
+        }
+    }
+
+    /// The least number at or past `from` with `count` clear positions from there on, all below the length, if there is
+    /// one. With a `count` of 0 that is `from`, up to the length.
+    ///
+    /// ```
+    /// # use fixedbitset::FixedBitSet;
+    /// let set: FixedBitSet = [3, 6, 90].into_iter().collect();
+    /// assert_eq!((set.first_gap(3, 1), set.first_gap(90, 0)), (Some(7), None));
+    /// ```
+    #[inline]
+    pub fn first_gap(&self, count: usize, from: usize) -> Option<usize> {
+        raw::position(raw::bits_first_gap(&self.words.lent(), count, from))
+    }
+}
+
+/// The walk of [`FixedBitSet::runs`] and of [`FixedBitSet::zero_runs`].
+///
+/// ```
+/// # use fixedbitset::FixedBitSet;
+/// let set: FixedBitSet = [3, 4, 9].into_iter().collect();
+/// let mut walk = set.runs();
+/// assert_eq!((walk.next_back(), format!("{walk:?}")), (Some((9, 10)), "[(3, 5)]".to_string()));
+/// ```
+#[derive(Clone)]
+pub struct Runs<'a> {
+    walk: raw::Runs<'a>,
+}
+
+impl Runs<'_> {
+    /// The stretch that a call of the walk gave, if it gave one.
+    #[inline]
+    fn given(next: impl FnOnce(&mut usize, &mut usize) -> bool) -> Option<(usize, usize)> {
+        let (mut start, mut end) = (0, 0);
+        next(&mut start, &mut end).then_some((start, end))
+    }
+}
+
+impl Iterator for Runs<'_> {
+    type Item = (usize, usize);
+
+    #[inline]
+    fn next(&mut self) -> Option<(usize, usize)> {
+        Runs::given(|start, end| raw::bits_runs_next(&mut self.walk, start, end))
+    }
+}
+
+impl DoubleEndedIterator for Runs<'_> {
+    #[inline]
+    fn next_back(&mut self) -> Option<(usize, usize)> {
+        Runs::given(|start, end| raw::bits_runs_next_back(&mut self.walk, start, end))
+    }
+}
+
+impl FusedIterator for Runs<'_> {}
+
+impl Debug for Runs<'_> {
+    /// The stretches that are left.
+    fn fmt(&self, f: &mut Formatter<'_>) -> Result {
+        f.debug_list().entries(self.clone()).finish()
+    }
+}
