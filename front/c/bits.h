@@ -188,6 +188,9 @@ bool bits_union_with_change(bits *set, const bits *other, bool *changed);
 bool bits_intersect_with_change(bits *set, const bits *other);
 /* As bits_difference_with, and answers whether a position went. */
 bool bits_difference_with_change(bits *set, const bits *other);
+/* Adds the positions of `gens` that `kills` lacks, and answers whether `gens` is no longer than the first; else nothing is
+ * changed. It answers at `changed` whether a position came in; nothing is written there if none is changed. */
+bool bits_union_with_difference(bits *set, const bits *gens, const bits *kills, bool *changed);
 /* How many positions are in either. */
 size_t bits_union_count(const bits *set, const bits *other);
 /* How many positions are in both. */
@@ -200,6 +203,8 @@ size_t bits_symmetric_difference_count(const bits *set, const bits *other);
 bool bits_is_disjoint(const bits *set, const bits *other);
 /* Whether the second has each position of the first. The lengths do not matter. */
 bool bits_is_subset(const bits *set, const bits *other);
+/* The least position of the second that the first lacks, or BITS_NONE. */
+size_t bits_first_lacking(const bits *set, const bits *other);
 /* Whether the lengths and the positions are equal. */
 bool bits_equal(const bits *set, const bits *other);
 /* -1 where the first comes before the second, 0 where they are equal, 1 where it comes after: by their lengths, and then by

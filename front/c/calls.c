@@ -80,6 +80,10 @@ static void pairs(void) {
     assert(bits_union_with_change(&c, &b, &changed) && !changed && bits_count_ones(&c, 0, 70) == 3);
     assert(bits_intersect_with_change(&c, &b) && !bits_intersect_with_change(&c, &b) && bits_equal(&c, &b));
     assert(bits_difference_with_change(&c, &b) && !bits_difference_with_change(&c, &b) && bits_is_clear(&c));
+    assert(bits_first_lacking(&a, &b) == BITS_NONE && bits_first_lacking(&b, &a) == 1 && bits_first_lacking(&c, &b) == 3);
+    assert(!bits_union_with_difference(&a, &b, &c, &changed) && changed && bits_count_ones(&a, 0, 10) == 2);
+    assert(bits_union_with_difference(&c, &a, &b, &changed) && changed && bits_count_ones(&c, 0, 70) == 1 && bits_minimum(&c) == 1);
+    assert(bits_union_with_difference(&c, &a, &b, &changed) && !changed && bits_count_ones(&c, 0, 70) == 1);
     free(a.words);
     free(b.words);
     free(c.words);

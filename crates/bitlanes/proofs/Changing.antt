@@ -5,9 +5,10 @@ use Rattle.std.proofs.lemmas.List.{take_all, take-replicate, length-replicate, r
 use Rattle.std.proofs.lemmas.Simd.{take_more_put_chunk, length-put_chunk}
 use Rattle.bitlanes.specs.Changes.{changed_bits}
 use Rattle.bitlanes.specs.Words.{zip_longest, filled}
+use Rattle.bitlanes.proofs.Filling.{filled_joined, take_filled}
 use Rattle.bitlanes.proofs.Folding.{drop_put}
 use Rattle.bitlanes.proofs.Kept.{kept_none}
-use Rattle.bitlanes.proofs.Zipping.{chunk_zip2}
+use Rattle.bitlanes.proofs.Zipping.{chunk_zip2, take-zip2}
 
 -- the old words against the new ones
 pub against_joined : (f : ℕ → ℕ → ℕ) (xs ys : List ℕ) → zip2 bit_xor xs (zip2 f xs ys) ≡ zip2 (changed_bits f) xs ys
@@ -28,6 +29,21 @@ of_kept f g i n xs ys = ap (λ zs. zip2 g zs (chunk i n ys)) (kept_chunk f i n x
 
 pub filled_kept : (f g : ℕ → ℕ → ℕ) (i n : ℕ) (xs ys : List ℕ) → filled i n (zip2 g (zip_longest f true false xs (take i ys)) ys) ≡ filled i n (zip2 g xs ys)
 filled_kept f g i n xs ys = ap (λ zs. zs ++ replicate (4 - n) 0) (chunk_zip2 g i n _ ys ∙ of_kept f g i n xs ys)
+
+-- ---- the last words, joined with a lane that has those of a row and zeros
+
+module _ (i n : ℕ) (lane ys : List ℕ) (of_row : lane ≡ filled i n ys) (within : i + n ≤ length ys) where
+  pub part_taken : take n lane ≡ chunk i n ys
+  part_taken = ap (take n) of_row ∙ take_filled i n ys within
+
+  pub part_changed : (f : ℕ → ℕ → ℕ) → f 0 0 ≡ 0 → (xs : List ℕ) → i + n ≤ length xs → zip2 f (filled i n xs) lane ≡ filled i n (zip2 f xs ys)
+  part_changed f nothing xs long = ap (zip2 f (filled i n xs)) of_row ∙ filled_joined f nothing i n xs ys long within
+
+-- the first n words of a part that was joined with a lane
+pub part_joined : (f : ℕ → ℕ → ℕ) (i n : ℕ) (xs lane : List ℕ) → i + n ≤ length xs → take n (zip2 f (filled i n xs) lane) ≡ zip2 f (chunk i n xs) (take n lane)
+part_joined f i n xs lane within = take-zip2 f n (filled i n xs) lane ∙ ap (λ t. zip2 f t (take n lane)) (take_filled i n xs within)
+
+-- ---- a row made 0
 
 -- the words from a lane on are as they were, where that lane was written
 pub rest_written : (k : ℕ) (old xs ys : List ℕ) → length ys ≡ 4 → drop (4 * k) xs ≡ drop (4 * k) old → drop (4 * (k + 1)) (put_chunk (4 * k) xs ys) ≡ drop (4 * (k + 1)) old

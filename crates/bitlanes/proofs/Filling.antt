@@ -36,7 +36,7 @@ put_three i j k xs (y ∷ ys) e f h = put_first i y xs (take 2 ys) ∙ ap (λ k.
 -- ---- joined
 
 -- the first words of a filled lane
-take_filled : (i n : ℕ) (xs : List ℕ) → i + n ≤ length xs → take n (filled i n xs) ≡ chunk i n xs
+pub take_filled : (i n : ℕ) (xs : List ℕ) → i + n ≤ length xs → take n (filled i n xs) ≡ chunk i n xs
 take_filled i n xs within =
     let zeros : List ℕ = replicate (4 - n) 0 in
     ap (λ k. take k (chunk i n xs ++ zeros)) (sym (length-chunk i n xs within)) ∙ take-append_seam (chunk i n xs) zeros

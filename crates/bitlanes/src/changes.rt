@@ -1,13 +1,13 @@
 //! The kernels that change words and answer whether a bit changed. Each word is read once.
 //!
 //! A step is one lane, as in module `lanes`.
-ghost use Rattle.std.specs.Prelude.{◌≡◌, ◌+◌, ◌≤◌, ◌<◌, ◌==◌, ◌&&◌, not, length, min, replicate, true, false};
+ghost use Rattle.std.specs.Prelude.{◌≡◌, ◌+◌, ◌≤◌, ◌<◌, ◌==◌, ◌&&◌, not, length, min, replicate, take, true, false};
 ghost use Rattle.std.specs.List.{list_all};
 ghost use Rattle.std.specs.Simd.Lanes.{zip2, chunk, put_chunk};
 ghost use Rattle.bitlanes.specs.Changes.{changed_bits};
 ghost use Rattle.bitlanes.specs.Words.{zip_longest, filled, lane_steps};
 
-use crate::lanes::{LANE, is_zero, part_at, put_part};
+use crate::lanes::{LANE, is_zero, joined_part_at, lane_at, part_at, put_part};
 use crate::ops::WordOp;
 use crate::{Block, Steps};
 use std::simd::prelude::*;
@@ -41,6 +41,51 @@ pub fn apply<O: WordOp>(dst: &mut [Block], src: &[Block], steps: &mut Steps) -> 
     if rest > 0 {
         steps.tick();
         changed = gathered(changed, change_part::<O>(dst, src, LANE * lanes, rest));
+    }
+    !is_zero(changed)
+}
+
+/// Joins each word of `dst` by `O` with the words of `a` and `b` at its place, which are joined by `T` first, and answers
+/// whether a bit of `dst` changed. Words of `dst` past the end of `a` or of `b` stay.
+///
+/// It takes exactly `m / 4` steps, rounded up, `m` being the number of words of the shortest slice.
+///
+/// ```
+/// let mut words = [1, 2, 4, 8, 16];
+/// let mut steps = Steps::new();
+/// assert!(rt; changes::apply_joined::<Or, AndNot>(&mut words, &[7, 7], &[4, 5], &mut steps));
+/// assert!(rt; !changes::apply_joined::<Or, AndNot>(&mut words, &[3, 6], &[0, 4], &mut steps));
+/// assert_eq!(rt; words, [3, 2, 4, 8, 16]);
+/// ```
+#[inline(always)]
+pub fn apply_joined<O: WordOp, T: WordOp>(
+    dst: &mut [Block],
+    a: &[Block],
+    b: &[Block],
+    steps: &mut Steps,
+) -> bool
+    ensures words { dst.new ≡ zip_longest O.joined true false dst.old (zip2 T.joined a.now b.now) }
+    ensures changed { result ≡ not (list_all (λ word. word == 0)
+        (zip2 (changed_bits O.joined) dst.old (zip2 T.joined a.now b.now))) }
+    ensures cost { steps.new ≡ steps.old
+        + lane_steps (min (length dst.old) (min (length a.now) (length b.now))) }
+{
+    let words = dst.len().min(a.len().min(b.len()));
+    let lanes = words / LANE;
+    let mut changed = u64x4::splat(0);
+    for lane in 0..lanes {
+        steps.tick();
+        let joined = lane_at::<T>(a, b, LANE * lane);
+        changed = gathered(changed, change_by_lane::<O>(dst, LANE * lane, joined));
+    }
+    let rest = words % LANE;
+    if rest > 0 {
+        steps.tick();
+        let joined = joined_part_at::<T>(a, b, LANE * lanes, rest);
+        changed = gathered(
+            changed,
+            change_by_part::<O>(dst, LANE * lanes, rest, joined),
+        );
     }
     !is_zero(changed)
 }
@@ -90,7 +135,6 @@ fn gathered(before: u64x4, lane: u64x4) -> u64x4
 
 // Joins the four words of `dst` from `at` on with those of `src`, and answers the bits that changed.
 #[inline(always)]
-#[tactic(auto, using(crate::proofs::Changing::against_joined))]
 fn change_lane<O: WordOp>(dst: &mut [Block], src: &[Block], at: usize) -> u64x4
     requires in_dst { at + 4 ≤ length dst.old }
     requires in_src { at + 4 ≤ length src.now }
@@ -99,15 +143,25 @@ fn change_lane<O: WordOp>(dst: &mut [Block], src: &[Block], at: usize) -> u64x4
     ensures changed { result
         ≡ zip2 (changed_bits O.joined) (chunk at 4 dst.old) (chunk at 4 src.now) }
 {
+    change_by_lane::<O>(dst, at, u64x4::from_slice(&src[at..]))
+}
+
+// Joins the four words of `dst` from `at` on with a lane, and answers the bits that changed.
+#[inline(always)]
+#[tactic(auto, using(crate::proofs::Changing::against_joined))]
+fn change_by_lane<O: WordOp>(dst: &mut [Block], at: usize, lane: u64x4) -> u64x4
+    requires { at + 4 ≤ length dst.old }
+    ensures words { dst.new ≡ put_chunk at dst.old (zip2 O.joined (chunk at 4 dst.old) lane) }
+    ensures changed { result ≡ zip2 (changed_bits O.joined) (chunk at 4 dst.old) lane }
+{
     let old = u64x4::from_slice(&dst[at..]);
-    let new = O::lane(old, u64x4::from_slice(&src[at..]));
+    let new = O::lane(old, lane);
     new.copy_to_slice(&mut dst[at..]);
     old ^ new
 }
 
 // Joins the last one to three words of `dst`, from `at` on, with those of `src`, and answers the bits that changed.
 #[inline(always)]
-#[tactic(auto, using(crate::proofs::Changing::against_joined))]
 fn change_part<O: WordOp>(dst: &mut [Block], src: &[Block], at: usize, rest: usize) -> u64x4
     requires some { 0 < rest }
     requires few { rest < 4 }
@@ -117,8 +171,22 @@ fn change_part<O: WordOp>(dst: &mut [Block], src: &[Block], at: usize, rest: usi
         (zip2 O.joined (chunk at rest dst.old) (chunk at rest src.now)) }
     ensures changed { result ≡ filled at rest (zip2 (changed_bits O.joined) dst.old src.now) }
 {
+    change_by_part::<O>(dst, at, rest, part_at(src, at, rest))
+}
+
+// Joins the last one to three words of `dst`, from `at` on, with the first of a lane, and answers the bits that changed
+// where these words are filled with zeros.
+#[inline(always)]
+fn change_by_part<O: WordOp>(dst: &mut [Block], at: usize, rest: usize, lane: u64x4) -> u64x4
+    requires some { 0 < rest }
+    requires few { rest < 4 }
+    requires within { at + rest ≤ length dst.old }
+    ensures words { dst.new ≡ put_chunk at dst.old
+        (zip2 O.joined (chunk at rest dst.old) (take rest lane)) }
+    ensures changed { result ≡ zip2 (changed_bits O.joined) (filled at rest dst.old) lane }
+{
     let old = part_at(dst, at, rest);
-    let new = O::lane(old, part_at(src, at, rest));
-    put_part(dst, at, rest, new);
-    old ^ new
+    let joined = O::lane(old, lane);
+    put_part(dst, at, rest, joined);
+    old ^ joined
 }

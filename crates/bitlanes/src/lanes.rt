@@ -251,7 +251,7 @@ pub(crate) fn masked_lane_at<O: WordOp>(mask: Block, words: &[Block], at: usize)
 
 // The joined word at `at`.
 #[inline(always)]
-fn word_at<O: WordOp>(a: &[Block], b: &[Block], at: usize) -> Block
+pub(crate) fn word_at<O: WordOp>(a: &[Block], b: &[Block], at: usize) -> Block
     requires in_a { at < length a.now }
     requires in_b { at < length b.now }
     ensures { result ≡ slice_index (zip2 O.joined a.now b.now) at }
@@ -369,7 +369,7 @@ fn join_part<O: WordOp>(dst: &mut [Block], src: &[Block], at: usize, rest: usize
 
 // The last one to three joined words, from `at` on, and zeros.
 #[inline(always)]
-fn joined_part_at<O: WordOp>(a: &[Block], b: &[Block], at: usize, rest: usize) -> u64x4
+pub(crate) fn joined_part_at<O: WordOp>(a: &[Block], b: &[Block], at: usize, rest: usize) -> u64x4
     requires some { 0 < rest }
     requires few { rest < 4 }
     requires in_a { at + rest ≤ length a.now }

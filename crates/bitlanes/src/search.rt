@@ -2,15 +2,15 @@
 //!
 //! Each word is joined with one mask first, so the same loops find a word that has a bit and a word that lacks one. A
 //! step is one lane of four words from the place on where the search begins: each lane counts once, up to the one that
-//! has the word, though the last sixteen words may be looked at again.
-ghost use Rattle.std.specs.Prelude.{◌≡◌, ◌+◌, ◌-◌, ◌≤◌, ◌==◌, length, map, IfSome, IfNone};
+//! has the word, though the last sixteen words may be looked at again. The search of two rows goes by lanes alone.
+ghost use Rattle.std.specs.Prelude.{◌≡◌, ◌+◌, ◌-◌, ◌≤◌, ◌==◌, length, map, min, IfSome, IfNone};
 ghost use Rattle.std.specs.List.{list_all};
-ghost use Rattle.std.specs.Simd.Lanes.{chunk};
+ghost use Rattle.std.specs.Simd.Lanes.{zip2, chunk};
 ghost use Rattle.bitlanes.specs.Ones.{has_no_ones};
 ghost use Rattle.bitlanes.specs.Search.{IsNextOne, IsPreviousOne, AreZerosFrom, AreZerosBelow, IsFirstOne, IsLastOne, AreZeros};
 ghost use Rattle.bitlanes.specs.Words.{lane_steps};
 
-use crate::lanes::{LANE, is_zero, masked_lane_at};
+use crate::lanes::{LANE, is_zero, lane_at, masked_lane_at, word_at};
 use crate::ops::{And, WordOp};
 use crate::{Block, Steps};
 use std::simd::prelude::*;
@@ -135,6 +135,40 @@ pub fn previous_one<O: WordOp>(
             steps.tick();
         }
         if O::word(mask, words[at]) != 0 {
+            return Some(at);
+        }
+    }
+    None
+}
+
+/// The place of the first word of `a` that is not 0 when the word of `b` at its place is joined with it by `O`, as far as
+/// both go; `None` where there is none.
+///
+/// ```
+/// let mut steps = Steps::new();
+/// assert_eq!(rt; search::first_joined::<AndNot>(&[1, 3, 7], &[1, 2], &mut steps), Some(1));
+/// assert_eq!(rt; search::first_joined::<AndNot>(&[1, 3, 7], &[1, 3], &mut steps), None);
+/// ```
+#[inline(always)]
+#[tactic(auto, using(crate::proofs::Folding::zero_in_lane, crate::proofs::Zipping::length_joined))]
+pub fn first_joined<O: WordOp>(a: &[Block], b: &[Block], steps: &mut Steps) -> Option<usize>
+    ensures found { IfSome result (IsFirstOne (zip2 O.joined a.now b.now)) }
+    ensures none { IfNone result (AreZeros (zip2 O.joined a.now b.now)) }
+    ensures cost { IfSome result (λ at. steps.new ≡ steps.old + lane_steps (at + 1)) }
+    ensures whole { IfNone result
+        (steps.new ≡ steps.old + lane_steps (min (length a.now) (length b.now))) }
+{
+    let common = a.len().min(b.len());
+    let mut lane = 0;
+    while common - lane >= LANE && is_zero(lane_at::<O>(a, b, lane)) {
+        steps.tick();
+        lane += LANE;
+    }
+    for at in lane..common {
+        if at % LANE == 0 {
+            steps.tick();
+        }
+        if word_at::<O>(a, b, at) != 0 {
             return Some(at);
         }
     }

@@ -1,10 +1,12 @@
 //! Two whole sets, of any two lengths. The words of a set that is changed may not be those of the other.
 
-ghost use Rattle.std.specs.Prelude.{◌≡◌, nat_le, not, if◌then◌else◌};
+ghost use Rattle.std.specs.Prelude.{◌≡◌, nat_le, not, unwrap_or, if◌then◌else◌};
 ghost use Rattle.bits_c.specs.Sets.{value, sign};
+ghost use Rattle.fixedbitset.specs.Bits as model;
 ghost use Rattle.fixedbitset.specs.Order as order;
 ghost use Rattle.fixedbitset.specs.TwoSets as sets;
 
+use crate::NONE;
 use crate::structs::Set;
 use fixedbitset::lent;
 use std::cmp::Ordering;
@@ -97,6 +99,38 @@ pub extern "C" fn bits_difference_with_change(set: &mut Set<'_>, other: &Set<'_>
     lent::difference_with_change(set.words, set.length, other.words, other.length)
 }
 
+/// Takes in the positions of `gens` that `kills` lacks, and answers whether `gens` is no longer than the first; else
+/// nothing is changed. At `changed` it answers whether a position came in; where `gens` is longer, nothing is written
+/// there.
+#[unsafe(no_mangle)]
+pub extern "C" fn bits_union_with_difference(
+    set: &mut Set<'_>,
+    gens: &Set<'_>,
+    kills: &Set<'_>,
+    changed: &mut bool,
+) -> bool
+    ensures told { result ≡ nat_le gens.now.length set.old.length }
+    ensures value { value set.new ≡ (if result
+        then sets.union (value set.old) (sets.difference (value gens.now) (value kills.now))
+        else value set.old) }
+    ensures changed { changed.new ≡ (if result then not (sets.is_subset
+        (sets.difference (value gens.now) (value kills.now)) (value set.old)) else changed.old) }
+{
+    if gens.length <= set.length {
+        *changed = lent::union_with_difference(
+            set.words,
+            set.length,
+            gens.words,
+            gens.length,
+            kills.words,
+            kills.length,
+        );
+        true
+    } else {
+        false
+    }
+}
+
 /// How many positions are in either set.
 #[unsafe(no_mangle)]
 pub extern "C" fn bits_union_count(set: &Set<'_>, other: &Set<'_>) -> usize
@@ -143,6 +177,15 @@ pub extern "C" fn bits_is_subset(set: &Set<'_>, other: &Set<'_>) -> bool
     ensures { result ≡ sets.is_subset (value set.now) (value other.now) }
 {
     lent::is_subset(set.words, set.length, other.words, other.length)
+}
+
+/// The least position of the second set that the first lacks, or `NONE`.
+#[unsafe(no_mangle)]
+pub extern "C" fn bits_first_lacking(set: &Set<'_>, other: &Set<'_>) -> usize
+    ensures { result ≡ unwrap_or
+        (model.minimum (sets.difference (value other.now) (value set.now))) NONE }
+{
+    lent::first_lacking(set.words, set.length, other.words, other.length).unwrap_or(NONE)
 }
 
 /// Whether the lengths and the positions are equal.

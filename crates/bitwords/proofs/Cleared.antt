@@ -43,13 +43,13 @@ length-kept f [] ys = refl
 length-kept f (x ∷ xs) [] = refl
 length-kept f (x ∷ xs) (y ∷ ys) = ap suc (length-kept f xs ys)
 
-get_or-kept_both : (f : ℕ → ℕ → ℕ) (xs ys : List ℕ) (k : ℕ) → k < length xs → k < length ys → get_or (zip_longest f true false xs ys) k 0 ≡ f (get_or xs k 0) (get_or ys k 0)
+pub get_or-kept_both : (f : ℕ → ℕ → ℕ) (xs ys : List ℕ) (k : ℕ) → k < length xs → k < length ys → get_or (zip_longest f true false xs ys) k 0 ≡ f (get_or xs k 0) (get_or ys k 0)
 get_or-kept_both f [] ys k p q = absurd (omega arith)
 get_or-kept_both f (x ∷ xs) [] k p q = absurd (omega arith)
 get_or-kept_both f (x ∷ xs) (y ∷ ys) zero p q = refl
 get_or-kept_both f (x ∷ xs) (y ∷ ys) (suc k) p q = get_or-kept_both f xs ys k (omega arith) (omega arith)
 
-get_or-kept_past : (f : ℕ → ℕ → ℕ) (xs ys : List ℕ) (k : ℕ) → length ys ≤ k → get_or (zip_longest f true false xs ys) k 0 ≡ get_or xs k 0
+pub get_or-kept_past : (f : ℕ → ℕ → ℕ) (xs ys : List ℕ) (k : ℕ) → length ys ≤ k → get_or (zip_longest f true false xs ys) k 0 ≡ get_or xs k 0
 get_or-kept_past f [] ys k p = refl
 get_or-kept_past f (x ∷ xs) [] k p = refl
 get_or-kept_past f (x ∷ xs) (y ∷ ys) zero p = absurd (omega arith)

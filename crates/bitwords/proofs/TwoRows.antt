@@ -95,13 +95,13 @@ module _ {f : ℕ → ℕ → ℕ} {t : Bool → Bool → Bool} {keep take : Boo
   bit-longest (x ∷ xs) (y ∷ ys) p q zero i = law.by_bits x y i (p 0) (q 0)
   bit-longest (x ∷ xs) (y ∷ ys) p q (suc k) i = bit-longest xs ys (λ j. p (suc j)) (λ j. q (suc j)) k i
 
-  AreWords-longest : (xs ys : List ℕ) → AreWords xs → AreWords ys → AreWords (zip_longest f keep take xs ys)
+  pub AreWords-longest : (xs ys : List ℕ) → AreWords xs → AreWords ys → AreWords (zip_longest f keep take xs ys)
   AreWords-longest [] ys p q k = words_if take ys q k
   AreWords-longest (x ∷ xs) [] p q k = words_if keep (x ∷ xs) p k
   AreWords-longest (x ∷ xs) (y ∷ ys) p q zero = law.fits x y (p 0) (q 0)
   AreWords-longest (x ∷ xs) (y ∷ ys) p q (suc k) = AreWords-longest xs ys (λ j. p (suc j)) (λ j. q (suc j)) k
 
-  has_bit-longest : (xs ys : List ℕ) → AreWords xs → AreWords ys → (p : ℕ) → has_bit (zip_longest f keep take xs ys) p ≡ bits_test t xs ys p
+  pub has_bit-longest : (xs ys : List ℕ) → AreWords xs → AreWords ys → (p : ℕ) → has_bit (zip_longest f keep take xs ys) p ≡ bits_test t xs ys p
   unfolding has_bit bits_test
   has_bit-longest xs ys words_xs words_ys p = bit-longest xs ys words_xs words_ys (p / 64) (p % 64)
 

@@ -2,16 +2,21 @@
 //!
 //! The words that both rows have are joined by a kernel of `bitlanes`, by lanes of four; the rest of the longer row is
 //! cleared, counted or left, as the operation says.
-ghost use Rattle.std.specs.Prelude.{[], ◌≡◌, ◌<◌, ◌≤◌, ◌+◌, ◌-◌, ◌*◌, ◌^◌, ◌==◌, ◌++◌, not, IsTrue, IfOk, OnOk, true, false, length, min, max, drop, sum_by, if◌then◌else◌};
+ghost use Rattle.std.specs.Prelude.{[], ◌≡◌, ◌<◌, ◌≤◌, ◌+◌, ◌-◌, ◌*◌, ◌^◌, ◌==◌, ◌++◌, ◌&&◌, ◌||◌, not, IsTrue, IfOk, OnOk, IfSome, IfNone, true, false, length, min, max, drop, slice_get, slice_index, sum_by, if◌then◌else◌};
 ghost use Rattle.std.specs.Int.RustNames.{count_ones};
 ghost use Rattle.std.specs.List.{list_all};
 ghost use Rattle.std.specs.Simd.Lanes.{zip2};
+ghost use Rattle.bitlanes.specs.Bits.{bit_without};
 ghost use Rattle.bitlanes.specs.Changes.{changes};
+ghost use Rattle.bitlanes.specs.Search.{IsFirstOne, AreZeros};
 ghost use Rattle.bitlanes.specs.Words.{zip_longest, lane_steps};
+ghost use Rattle.bitwords.specs.Ascending.{ascending};
 ghost use Rattle.bitwords.specs.Rows.{has_bit, IsJoined, count_below, bits_test};
 ghost use Rattle.bitwords.specs.Steps.{join_steps, both_steps};
 
-use bitlanes::ops::WordOp;
+use bitlanes::ops::{AndNot, Or, WordOp};
+use bitlanes::search::{first_joined, next_one};
+use bitlanes::word::{BITS, lowest_bit};
 use bitlanes::{Block, Steps, changes, lanes};
 use std::alloc::{AllocError, Global};
 
@@ -68,6 +73,41 @@ pub fn join_with_change<O: WordOp>(words: &mut [Block], other: &[Block], steps: 
     joined
 }
 
+/// Takes in the positions of `gens` that `kills` lacks, and answers whether one came in. `gens` may not be longer than
+/// `words`.
+///
+/// With `m` words that `gens` and `kills` have and `t` that only `gens` has it takes exactly `m / 4` steps, rounded up,
+/// and `t / 4`, rounded up, more: each word is read once.
+///
+/// ```
+/// let mut words = [1, 0, 8];
+/// let mut steps = Steps::new();
+/// assert!(rt; joins::union_with_difference(&mut words, &[7, 3], &[5], &mut steps));
+/// assert!(rt; !joins::union_with_difference(&mut words, &[7, 3], &[4, 0, 9], &mut steps));
+/// assert_eq!(rt; words, [3, 3, 8]);
+/// ```
+#[inline(always)]
+pub fn union_with_difference(
+    words: &mut [Block],
+    gens: &[Block],
+    kills: &[Block],
+    steps: &mut Steps,
+) -> bool
+    requires shorter { length gens.now ≤ length words.old }
+    ensures bits { IsJoined (λ x y. x || y)
+        words.old (bits_test (λ x y. x && not y) gens.now kills.now) words.new }
+    ensures changed { result ≡ not (count_below (λ p. changes (λ x y. x || y)
+        (has_bit words.old p) (bits_test (λ x y. x && not y) gens.now kills.now p))
+        (64 * length words.old) == 0) }
+    ensures cost { steps.new ≡ steps.old
+        + both_steps true false (length gens.now) (length kills.now) }
+{
+    let common = gens.len().min(kills.len());
+    let joined = changes::apply_joined::<Or, AndNot>(words, gens, kills, steps);
+    let behind = changes::apply::<Or>(&mut words[common..], &gens[common..], steps);
+    joined | behind
+}
+
 /// How many positions are set in `a` joined with `b` by `O`. It asks that this number fits `usize`.
 ///
 /// With `m` words that both have and `t` that only the longer has it takes exactly `m / 4` steps, rounded up, and
@@ -106,6 +146,31 @@ pub fn none<O: WordOp>(a: &[Block], b: &[Block], steps: &mut Steps) -> bool
         → steps.new ≡ steps.old + both_steps O.KEEP O.TAKE (length a.now) (length b.now) }
 {
     none_words::<O>(a, b, steps)
+}
+
+/// The first position of `a` that `b` lacks, or `None` where it has each of them.
+///
+/// It looks at four words of each row at a time up to those that have the position. It takes at most the steps of
+/// [`count`] by `AndNot`; where it answers `None` it takes exactly as many. The number of positions of `a`, 64 for each
+/// word, may be at most 2 ^ 64.
+///
+/// ```
+/// assert_eq!(rt; joins::first_of_difference(&[7, 6], &[7, 2, 1], &mut Steps::new()), Some(66));
+/// assert_eq!(rt; joins::first_of_difference(&[7, 6], &[7], &mut Steps::new()), Some(65));
+/// assert_eq!(rt; joins::first_of_difference(&[7], &[7, 2, 1], &mut Steps::new()), None);
+/// ```
+#[inline(always)]
+#[tactic(auto, using(crate::proofs::Lacking::row_words))]
+pub fn first_of_difference(a: &[Block], b: &[Block], steps: &mut Steps) -> Option<usize>
+    requires { 64 * length a.now ≤ 2 ^ 64 }
+    ensures first { result ≡ slice_get
+        (ascending (bits_test (λ x y. x && not y) a.now b.now) 0 (64 * length a.now)) 0 }
+    ensures cost { steps.new ≤ steps.old + both_steps true false (length a.now) (length b.now) }
+    ensures whole { IfNone result
+        (steps.new ≡ steps.old + both_steps true false (length a.now) (length b.now)) }
+{
+    let at = first_word(a, b, steps)?;
+    Some(BITS * at + lowest_bit(word_without(a, b, at)))
 }
 
 /// A new row, as long as `words`: each position of `words`, joined with that of `other` by `O`.
@@ -296,4 +361,34 @@ fn none_unlike<O: WordOp>(a: &[Block], b: &[Block], steps: &mut Steps) -> bool
     lanes::none::<O>(a, b, steps)
         && none_rest(a, b.len(), O::KEEP, steps)
         && none_rest(b, a.len(), O::TAKE, steps)
+}
+
+// The place of the first word of `a` with a bit that `b` lacks.
+#[inline(always)]
+fn first_word(a: &[Block], b: &[Block], steps: &mut Steps) -> Option<usize>
+    ensures found { IfSome result (IsFirstOne (zip_longest bit_without true false a.now b.now)) }
+    ensures none { IfNone result (AreZeros (zip_longest bit_without true false a.now b.now)) }
+    ensures cost { steps.new ≤ steps.old + both_steps true false (length a.now) (length b.now) }
+    ensures whole { IfNone result
+        (steps.new ≡ steps.old + both_steps true false (length a.now) (length b.now)) }
+{
+    let common = a.len().min(b.len());
+    match first_joined::<AndNot>(a, b, steps) {
+        Some(at) => Some(at),
+        None => next_one::<Or>(0, a, common, steps),
+    }
+}
+
+// A word of `a` without the bits of that of `b`, where there is one.
+#[inline(always)]
+#[tactic(auto, using(crate::proofs::Lacking::row_words))]
+fn word_without(a: &[Block], b: &[Block], at: usize) -> Block
+    requires { at < length a.now }
+    ensures { result ≡ slice_index (zip_longest bit_without true false a.now b.now) at }
+{
+    if at < b.len() {
+        AndNot::word(a[at], b[at])
+    } else {
+        a[at]
+    }
 }

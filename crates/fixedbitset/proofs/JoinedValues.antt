@@ -11,6 +11,7 @@ use Rattle.fixedbitset.specs.BitsFacts.{contains-grow, length-grow}
 use Rattle.fixedbitset.specs.Ranges.{insert_range, remove_range, toggle_range}
 use Rattle.fixedbitset.specs.Stored.{joined, range_set}
 use Rattle.fixedbitset.specs.TwoSets.{union, symmetric_difference, intersection, difference, bitand}
+use Rattle.fixedbitset.specs.TwoSetsFacts.{length-difference}
 use Rattle.fixedbitset.proofs.Values.{pair_joined, contains-range_set}
 
 -- ---- changes by another set
@@ -25,6 +26,13 @@ pub union_grown : (v w : Bits) → joined (λ x y. x || y) (grow v w.length) w �
 unfolding union contains
 union_grown v w = pair_joined (λ x y. x || y) (grow v w.length) w _ _ (length-grow v w.length) (λ p.
     set.contains-union nat_cmp_total v.positions w.positions p ∙ ap (λ b. b || contains w p) (sym (contains-grow v w.length p)))
+
+-- the same, where the second is what is left of a set
+pub left_length : (g k : Bits) → (difference g k).length ≡ g.length
+left_length = length-difference
+
+pub difference_grown : (v g k : Bits) → joined (λ x y. x || y) (grow v g.length) (difference g k) ≡ union v (difference g k)
+difference_grown v g k = ap (λ n. joined (λ x y. x || y) (grow v n) (difference g k)) (sym (length-difference g k)) ∙ union_grown v (difference g k)
 
 pub symmetric_difference_grown : (v w : Bits) → joined either (grow v w.length) w ≡ symmetric_difference v w
 unfolding symmetric_difference contains

@@ -6,6 +6,7 @@ pub mod JoinedWords
 pub mod JoinedValues
 pub mod JoinedChanges
 pub mod JoinedCounts
+pub mod Lacking
 pub mod Positions
 pub mod RangeWalks
 pub mod Stretches

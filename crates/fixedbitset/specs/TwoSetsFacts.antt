@@ -1,13 +1,14 @@
 -- The length and the members of each join of two sets, for those who call it, and the joins of a set with itself.
-use Rattle.std.specs.Prelude.{IsTrue, ◌↔◌, ◌≡◌, ℕ, ◌<◌, max, min, Bool, true, false, not, ◌&&◌, ◌||◌, nat_lt}
+use Rattle.std.specs.Prelude.{IsTrue, ◌↔◌, ◌≡◌, ℕ, ◌<◌, ◌≤◌, max, min, Bool, true, false, not, ◌&&◌, ◌||◌, nat_lt, Option, Some, None}
 use Rattle.std.specs.Cmp.{nat_cmp_total}
 use Rattle.std.specs.FinSet as set
-use Rattle.std.proofs.Common.{sym, ap, ◌∙◌, arith, ⊎_elim}
+use Rattle.std.proofs.Common.{refl, sym, ap, ◌∙◌, arith, ⊎_elim}
 use Rattle.std.proofs.Math.Bool.{or_self, and_self, and-not_self}
 use Rattle.std.proofs.lemmas.Bool.{lt-ltb, or_cases, and_parts, and_from, true≢false, false_from_ne_true}
 use Rattle.bitlanes.specs.Bits.{either}
-use Rattle.fixedbitset.specs.Bits.{Bits, contains, empty}
+use Rattle.fixedbitset.specs.Bits.{Bits, contains, empty, minimum}
 use Rattle.fixedbitset.specs.BitsFacts.{length-pair, contains-pair, contains_below, last_holds, same_bits, length-empty, contains-empty}
+use Rattle.fixedbitset.specs.FirstFacts.{minimum_least, minimum_none}
 use Rattle.fixedbitset.specs.NumbersFacts as numbers
 use Rattle.fixedbitset.specs.NumbersFacts.{none_len}
 use Rattle.fixedbitset.specs.TwoSets.{union, symmetric_difference, intersection, difference, bitand, is_subset, is_disjoint, intersection_count}
@@ -96,6 +97,33 @@ is_disjoint-tells v w =
       λ none p one other. true≢false (sym (set.contains-intersection nat_cmp_total v.positions w.positions p ∙ and_from _ _ one other) ∙ (none_len common).0 none p),
       λ apart. (none_len common).1 (λ p. false_from_ne_true _ (λ one. let both = and_parts _ _ (sym (set.contains-intersection nat_cmp_total v.positions w.positions p) ∙ one) in apart p both.0 both.1)),
     )
+
+-- ---- the least position of one set that another one lacks
+
+-- it is in the one and not in the other, and no such position is less
+pub first_lacking_least : (v w : Bits) (p : ℕ) → minimum (difference w v) ≡ Some p
+    → IsTrue (contains w p) × (contains v p ≡ false) × ((q : ℕ) → IsTrue (contains w q) → contains v q ≡ false → p ≤ q)
+first_lacking_least v w p e =
+    let least = minimum_least (difference w v) p e in
+    let both = and_parts _ _ (sym (contains-difference w v p) ∙ least.0) in
+    (both.0, not_true _ both.1, λ q one clear. least.1 q (contains-difference w v q ∙ and_from _ _ one (ap not clear)))
+  where
+    not_true : (b : Bool) → not b ≡ true → b ≡ false
+    not_true b f = grind arith
+
+-- there is none exactly if the one is a subset of the other
+pub first_lacking_none : (v w : Bits) → (minimum (difference w v) ≡ None) ↔ IsTrue (is_subset w v)
+first_lacking_none v w = (
+  λ none. (is_subset-tells w v).1 (λ p one. has_too _ _ (sym (contains-difference w v p) ∙ minimum_none (difference w v) none p) one),
+  λ all. none_found (minimum (difference w v)) refl (λ p least. let parts = first_lacking_least v w p least in true≢false (sym ((is_subset-tells w v).0 all p parts.0) ∙ parts.1)),
+)
+  where
+    has_too : (a b : Bool) → (a && not b) ≡ false → a ≡ true → b ≡ true
+    has_too a b f g = grind arith
+
+    none_found : (found : Option ℕ) → minimum (difference w v) ≡ found → ((p : ℕ) → ¬ (minimum (difference w v) ≡ Some p)) → minimum (difference w v) ≡ None
+    none_found None is never = is
+    none_found (Some p) is never = absurd (never p is)
 
 -- what a caller needs of each join, and of each question
 pub ruleset facts = (length-union, length-symmetric_difference, length-intersection, length-difference, length-bitand, contains-union, contains-symmetric_difference, contains-intersection, contains-difference, contains-bitand, is_subset-tells, is_disjoint-tells)

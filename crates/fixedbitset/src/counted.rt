@@ -8,7 +8,9 @@ mod ranges;
 mod whole;
 
 pub use alone::{clear, is_full};
-pub use changes::{difference_with_change, intersect_with_change, union_with_change};
+pub use changes::{
+    difference_with_change, intersect_with_change, union_with_change, union_with_difference,
+};
 pub use copies::{bitand, bitor, bitxor, clone_from};
 pub use neighbours::{next_one, next_zero, previous_one, previous_zero};
 pub use ranges::{
@@ -16,6 +18,7 @@ pub use ranges::{
     remove_range, toggle_range,
 };
 pub use whole::{
-    difference_count, difference_with, intersect_with, intersection_count, is_disjoint, is_equal,
-    is_subset, symmetric_difference_count, symmetric_difference_with, union_count, union_with,
+    difference_count, difference_with, first_lacking, intersect_with, intersection_count,
+    is_disjoint, is_equal, is_subset, symmetric_difference_count, symmetric_difference_with,
+    union_count, union_with,
 };

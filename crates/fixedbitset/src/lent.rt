@@ -23,7 +23,9 @@ pub(crate) mod whole;
 use bitlanes::word::{BITS, Block, ones_below};
 use bitlanes::{Steps, lanes};
 use bitwords::positions;
-pub use changes::{difference_with_change, intersect_with_change, union_with_change};
+pub use changes::{
+    difference_with_change, intersect_with_change, union_with_change, union_with_difference,
+};
 pub use gaps::first_gap;
 pub use neighbours::{next_one, next_zero, previous_one, previous_zero};
 pub use ranges::{
@@ -32,9 +34,9 @@ pub use ranges::{
 };
 pub use walks::{ones, ones_beside, ones_in, runs, zero_runs, zeroes, zeroes_in};
 pub use whole::{
-    compare, difference_count, difference_with, intersect_with, intersection_count, is_disjoint,
-    is_equal, is_subset, symmetric_difference_count, symmetric_difference_with, union_count,
-    union_with,
+    compare, difference_count, difference_with, first_lacking, intersect_with, intersection_count,
+    is_disjoint, is_equal, is_subset, symmetric_difference_count, symmetric_difference_with,
+    union_count, union_with,
 };
 
 /// Makes any words those of a set of `length` positions: of the positions that they have those below `kept` stay.

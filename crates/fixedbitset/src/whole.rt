@@ -141,6 +141,32 @@ impl FixedBitSet {
         counted::difference_with_change(self, other, &mut Steps::new())
     }
 
+    /// Takes in the positions of `gens` that `kills` lacks, and answers whether one came in: whether this set lacked one of
+    /// them. The length is then the greater one of this set and of `gens`.
+    ///
+    /// Memory and errors are those of [`union_with`](Self::union_with) with `gens`; the length of `kills` does not matter.
+    /// It takes one step for each lane of `gens`: it reads each word once, and makes no set between. Upstream has no such
+    /// call.
+    ///
+    /// ```
+    /// let mut set = FixedBitSet::from_iter(alloc, [1, 3])?;
+    /// let gens = FixedBitSet::from_iter(alloc, [4, 64])?;
+    /// let kills = FixedBitSet::from_iter(alloc, [4, 200])?;
+    /// assert!(rt; set.union_with_difference(&gens, &kills)?);
+    /// assert_eq!(rt; set.as_slice(), [10, 1].as_slice());
+    /// ```
+    pub fn union_with_difference(&mut self, gens: &Self, kills: &Self) -> Result<bool, AllocError>
+        ensures ok { OnOk result
+            (self.new ≡ sets.union self.old (sets.difference gens.now kills.now)) }
+        ensures changed { IfOk result (λ changed. changed
+            ≡ not (sets.is_subset (sets.difference gens.now kills.now) self.old)) }
+        ensures err { OnErr result (self.new ≡ self.old) }
+        ensures succeeds { model.words_needed gens.now.length ≤ model.words_needed self.old.length
+            → IsOk result }
+    {
+        counted::union_with_difference(self, gens, kills, &mut Steps::new())
+    }
+
     /// The same as [`union_with`](Self::union_with). Upstream's operator `|=` is this call, as it may be refused memory.
     ///
     /// ```
@@ -340,5 +366,22 @@ impl FixedBitSet {
         ensures { result ≡ sets.is_subset other.now self.now }
     {
         other.is_subset(self)
+    }
+
+    /// The least position of `other` that this set lacks, or `None` where it lacks none: where `other` is a subset of it.
+    /// The lengths are not compared, and it takes no memory. Upstream has no such call.
+    ///
+    /// It stops at the first lane with such a position, and takes at most one step for each lane of `other`.
+    ///
+    /// ```
+    /// let set = FixedBitSet::from_iter(alloc, [1, 3])?;
+    /// let other = FixedBitSet::from_iter(alloc, [3, 64, 70])?;
+    /// assert_eq!(rt; set.first_lacking(&other), Some(64));
+    /// assert_eq!(rt; other.first_lacking(&set), Some(1));
+    /// ```
+    pub fn first_lacking(&self, other: &Self) -> Option<usize>
+        ensures { result ≡ model.minimum (sets.difference other.now self.now) }
+    {
+        counted::first_lacking(self, other, &mut Steps::new())
     }
 }

@@ -12,7 +12,7 @@ use Rattle.flow.proofs.Writes.{ins_new, ins_kept, ins_got, outs_new, outs_kept, 
 
 -- ---- at first
 
-nothing : (n facts v p : ℕ) → ¬ (Has (replicate n (empty facts)) v p)
+pub nothing : (n facts v p : ℕ) → ¬ (Has (replicate n (empty facts)) v p)
 nothing n facts v p has =
     ⊎_elim
     (λ (within : v < n). in_empty facts p (subst (λ s. IsTrue (contains s p)) (get_or-replicate n v (empty facts) (empty 0) within) has))

@@ -81,8 +81,7 @@ total_all facts sets =
     let many = length-range_with_len 0 facts in omega (arith, count_by-le-length (contains (get_or sets k d)) (range_with_len 0 facts)))
 
 -- the facts that are not there yet become fewer
-pub measure_falls : (room facts : ℕ) (old new : Sets) → room ≡ facts → length new ≡ length old → total room old < total room new → length new * facts - total facts new < length old * facts - total facts old
-measure_falls room facts old new same many grows =
-    let grown : total facts old < total facts new = subst (λ n. total n old < total n new) same grows in
+pub measure_falls : (facts : ℕ) (old new : Sets) → length new ≡ length old → total facts old < total facts new → length new * facts - total facts new < length old * facts - total facts old
+measure_falls facts old new many grows =
     let product : length new * facts ≡ length old * facts = ap (λ n. n * facts) many in
     omega (arith, total_all facts new)

@@ -1,16 +1,17 @@
 -- The loop of one turn: the edges so far, and what went along them.
-use Rattle.std.proofs.Common.{◌≡◌, ◌∙◌, ℕ, ◌+◌, ◌<◌, ◌≤◌, Bool, true, false, inr, IsTrue, length, get_or, replicate, take, drop, refl, sym, ap, subst, arith, ⊎_elim}
-use Rattle.std.proofs.lemmas.Bool.{true≢false}
+use Rattle.std.proofs.Common.{◌≡◌, ◌∙◌, ℕ, ◌+◌, ◌*◌, ◌<◌, ◌≤◌, ◌⊎◌, Bool, true, false, inl, inr, IsTrue, length, get_or, replicate, take, drop, refl, sym, ap, subst, arith, ⊎_elim}
+use Rattle.std.proofs.lemmas.Bool.{cases_lt, true≢false}
 use Rattle.std.proofs.lemmas.List.{length-set, length-replicate, take_all}
 use Rattle.std.proofs.lemmas.List.Elements.{All-set, All-replicate, Contains-get_or}
 use Rattle.fixedbitset.specs.Bits.{Bits, contains, empty, insert}
 use Rattle.fixedbitset.specs.BitsFacts.{length-empty, length-insert}
 use Rattle.fixedbitset.specs.TwoSets.{union}
 use Rattle.fixedbitset.specs.TwoSetsFacts.{length-union, length-difference}
-use Rattle.flow.specs.Flow.{Edges, Sets, at, AreBelow, HaveLength, IsProblem}
-use Rattle.flow.specs.Turns.{Fits, IsReached, IsPassed, AreSettled, AreSettledBut, total, ins_after, outs_after}
-use Rattle.flow.proofs.Reached.{reached_after}
+use Rattle.flow.specs.Flow.{Edges, Sets, at, Has, AreBelow, HaveLength, IsProblem}
+use Rattle.flow.specs.Turns.{Fits, IsReached, IsPassed, AreSettled, AreSettledBut, total, facts_of, ins_after, outs_after}
+use Rattle.flow.proofs.Reached.{nothing, reached_after}
 use Rattle.flow.proofs.Totals.{total_more}
+use Rattle.flow.proofs.Writes.{ins_new, outs_kept, outs_got}
 use Rattle.flow.proofs.Pending.{pending_none, pending_after, done_itself, pending_more, pending_next, pending_rest}
 
 -- a join with a set of its length keeps the length
@@ -54,6 +55,11 @@ fits_after facts kills ins outs u v fits u_below v_below =
       kills_for = (omega arith, fits.kills_for.1);
       ins_length = have_ins_after facts ins outs u v fits.ins_length fits.outs_for.1 u_in v_below;
       outs_for = (omega arith, have_outs_after facts kills outs u v fits.outs_for.1 u_in v_in);
+      spared = λ w p has kept.
+          ⊎_elim
+          (λ old. outs_kept kills outs u v v_in w p (fits.spared w p old kept))
+          (λ got. subst (λ x. Has (outs_after kills outs u v) x p) (sym got.0) (outs_got kills outs u v v_in p got.1 (subst (λ x. ¬ (Has kills x p)) got.0 kept)))
+          (ins_new ins outs u v v_below w p has);
     }
 
 -- what holds after n edges, where `ins0` and `outs0` are the sets before the turn
@@ -150,4 +156,53 @@ fits_first facts edges gens kills ins outs problem blank copied =
       kills_for = (omega arith, problem.kills_length);
       ins_length = subst (HaveLength facts) (sym blank) (All-replicate (λ set. set.length ≡ facts) (length gens) (empty facts) (length-empty facts));
       outs_for = (ap length copied ∙ sym many, subst (HaveLength facts) (sym copied) problem.gens_length);
+      spared = λ v p has _. absurd (nothing (length gens) facts v p (subst (λ sets. Has sets v p) blank has));
     }
+
+-- where there is no node, each length is that of the sets
+no_sets : (facts : ℕ) (sets : Sets) → length sets ≡ 0 → HaveLength facts sets
+no_sets facts sets none k d within = absurd (omega arith)
+
+nothing_times : (n facts : ℕ) → n ≡ 0 → n * facts ≡ 0
+nothing_times n facts none = ap (λ m. m * facts) none ∙ omega arith
+
+fits_nowhere : (facts other : ℕ) (kills ins outs : Sets) → length kills ≡ 0 → Fits facts kills ins outs → Fits other kills ins outs
+fits_nowhere facts other kills ins outs none fits =
+    let many = fits.kills_for.0 in
+    let many_outs = fits.outs_for.0 in
+    record {
+      kills_for = (many, no_sets other kills none);
+      ins_length = no_sets other ins (omega arith);
+      outs_for = (many_outs, no_sets other outs (omega arith));
+      spared = fits.spared;
+    }
+
+module _ (facts : ℕ) (kills ins outs : Sets) (fits : Fits facts kills ins outs) where
+  none_or_facts : (length kills ≡ 0) ⊎ (facts_of kills ≡ facts)
+  none_or_facts =
+      ⊎_elim
+      (λ (some : 0 < length kills). inr (fits.kills_for.1 0 (empty 0) some))
+      (λ (none : length kills ≤ 0). inl (omega arith))
+      (cases_lt 0 (length kills))
+
+  pub fits_kills : Fits (facts_of kills) kills ins outs
+  fits_kills =
+      ⊎_elim
+      (λ (none : length kills ≡ 0). fits_nowhere facts (facts_of kills) kills ins outs none fits)
+      (λ (same : facts_of kills ≡ facts). subst (λ n. Fits n kills ins outs) (sym same) fits)
+      none_or_facts
+
+  pub fits_facts : (ins1 outs1 : Sets) → Fits (facts_of kills) kills ins1 outs1 → Fits facts kills ins1 outs1
+  fits_facts ins1 outs1 fits1 =
+      ⊎_elim
+      (λ (none : length kills ≡ 0). fits_nowhere (facts_of kills) facts kills ins1 outs1 none fits1)
+      (λ (same : facts_of kills ≡ facts). subst (λ n. Fits n kills ins1 outs1) same fits1)
+      none_or_facts
+
+  -- so many facts of all nodes
+  pub all_facts : (n : ℕ) → n ≡ length kills → n * facts_of kills ≡ n * facts
+  all_facts n many =
+      ⊎_elim
+      (λ (none : length kills ≡ 0). let no_node : n ≡ 0 = many ∙ none in nothing_times n (facts_of kills) no_node ∙ sym (nothing_times n facts no_node))
+      (λ (same : facts_of kills ≡ facts). ap (λ m. n * m) same)
+      none_or_facts

@@ -7,11 +7,16 @@ use Rattle.fixedbitset.specs.Ranges.{insert_range}
 use Rattle.fixedbitset.specs.TwoSets.{union, difference}
 use Rattle.flow.specs.Flow.{Edges, Sets, at, Has, HaveLength, IsFor, ComesOut}
 
--- one set of length `facts` for each node
+-- the length of the sets, where it is the same for each
+abbrev pub facts_of : Sets → ℕ
+facts_of sets = (at sets 0).length
+
+-- one set of length `facts` for each node, and Out(v) has each fact of In(v) that Kill(v) lacks
 pub record Fits (facts : ℕ) (kills ins outs : Sets) : Type 0 where
   pub kills_for : IsFor ins facts kills
   pub ins_length : HaveLength facts ins
   pub outs_for : IsFor ins facts outs
+  pub spared : (v p : ℕ) → Has ins v p → ¬ (Has kills v p) → Has outs v p
 
 -- sets on the way to the least solution: all holds but that each Out(u) is in In(v), for an edge (u, v)
 pub record IsReached (edges : Edges) (gens kills ins outs : Sets) : Type 0 where

@@ -23,9 +23,10 @@ pub struct Solution {
 /// being one turn over all edges in their order, and so over all nodes that an edge leads to. It ticks `rounds` once for
 /// each: at least once, and at most `nodes * facts + 1` times. A round looks at the sets of an edge only where its first
 /// node took something in it or in the round before, and in the first round; so edges that stand in the order of the
-/// flow need few rounds. A look is one call over whole sets, and where something goes along the edge there are four more.
+/// flow need few rounds. A look is one call over whole sets, which lets go along the edge what there is; where something
+/// went there is one more.
 ///
-/// `Err` comes only where memory for the sets of the answer, or for four sets more at most, was refused. It is all taken
+/// `Err` comes only where memory for the sets of the answer, or for three sets more at most, was refused. It is all taken
 /// before the first round, so no round was ticked then.
 ///
 /// ```
@@ -60,7 +61,7 @@ pub fn solve(
 {
     let mut ins = vec![in alloc; FixedBitSet::with_capacity(alloc, facts)?; gens.len()]?;
     let mut outs = gens.to_vec(alloc)?;
-    let mut room = Room::new(alloc, facts, gens.len())?;
+    let mut room = Room::new(alloc, gens.len())?;
     settle(edges, kills, &mut ins, &mut outs, &mut room, rounds);
     Ok(Solution { ins, outs })
 }

@@ -2,7 +2,7 @@
 
 use crate::calls::{equal, holds};
 use bitlanes::changes;
-use bitlanes::ops::Or;
+use bitlanes::ops::{AndNot, Or};
 use fixedbitset::Steps;
 
 #[test]
@@ -15,6 +15,21 @@ fn apply(rt: HostRuntime) {
     holds(
         &rt,
         !changes::apply::<Or>(&mut words, &[3, 2], &mut Steps::new()),
+    );
+    equal(&rt, words, [3, 2, 4, 8, 16]);
+}
+
+#[test]
+fn apply_joined(rt: HostRuntime) {
+    let mut words = [1, 2, 4, 8, 16];
+    let mut steps = Steps::new();
+    holds(
+        &rt,
+        changes::apply_joined::<Or, AndNot>(&mut words, &[7, 7], &[4, 5], &mut steps),
+    );
+    holds(
+        &rt,
+        !changes::apply_joined::<Or, AndNot>(&mut words, &[3, 6], &[0, 4], &mut steps),
     );
     equal(&rt, words, [3, 2, 4, 8, 16]);
 }

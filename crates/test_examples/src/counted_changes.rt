@@ -41,3 +41,19 @@ fn difference_with_change(rt: HostRuntime) {
     );
     equal(&rt, set.as_slice(), [2, 1].as_slice());
 }
+
+#[test]
+fn union_with_difference(rt: HostRuntime) {
+    let alloc = rt.alloc();
+    let mut set = set_of(&rt, alloc, &[1, 3]);
+    let gens = set_of(&rt, alloc, &[4, 64]);
+    let kills = set_of(&rt, alloc, &[4]);
+    holds(
+        &rt,
+        ok(
+            &rt,
+            counted::union_with_difference(&mut set, &gens, &kills, &mut Steps::new()),
+        ),
+    );
+    equal(&rt, set.as_slice(), [10, 1].as_slice());
+}

@@ -99,6 +99,23 @@ fn is_subset(rt: HostRuntime) {
 }
 
 #[test]
+fn first_lacking(rt: HostRuntime) {
+    let alloc = rt.alloc();
+    let set = set_of(&rt, alloc, &[3, 64]);
+    let other = set_of(&rt, alloc, &[3, 64, 200]);
+    equal(
+        &rt,
+        counted::first_lacking(&set, &other, &mut Steps::new()),
+        Some(200),
+    );
+    equal(
+        &rt,
+        counted::first_lacking(&other, &set, &mut Steps::new()),
+        None,
+    );
+}
+
+#[test]
 fn is_equal(rt: HostRuntime) {
     let alloc = rt.alloc();
     let set = set_of(&rt, alloc, &[3, 64]);

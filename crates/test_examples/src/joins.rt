@@ -23,6 +23,21 @@ fn join_with_change(rt: HostRuntime) {
 }
 
 #[test]
+fn union_with_difference(rt: HostRuntime) {
+    let mut words = [1, 0, 8];
+    let mut steps = Steps::new();
+    holds(
+        &rt,
+        joins::union_with_difference(&mut words, &[7, 3], &[5], &mut steps),
+    );
+    holds(
+        &rt,
+        !joins::union_with_difference(&mut words, &[7, 3], &[4, 0, 9], &mut steps),
+    );
+    equal(&rt, words, [3, 3, 8]);
+}
+
+#[test]
 fn count(rt: HostRuntime) {
     let count = joins::count::<Xor>(&[11, 3], &[9], &mut Steps::new());
     equal(&rt, count, 3);
@@ -34,6 +49,25 @@ fn none(rt: HostRuntime) {
     holds(
         &rt,
         !joins::none::<AndNot>(&[3, 1], &[3], &mut Steps::new()),
+    );
+}
+
+#[test]
+fn first_of_difference(rt: HostRuntime) {
+    equal(
+        &rt,
+        joins::first_of_difference(&[7, 6], &[7, 2, 1], &mut Steps::new()),
+        Some(66),
+    );
+    equal(
+        &rt,
+        joins::first_of_difference(&[7, 6], &[7], &mut Steps::new()),
+        Some(65),
+    );
+    equal(
+        &rt,
+        joins::first_of_difference(&[7], &[7, 2, 1], &mut Steps::new()),
+        None,
     );
 }
 

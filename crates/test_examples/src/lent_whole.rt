@@ -93,6 +93,15 @@ fn is_subset(rt: HostRuntime) {
 }
 
 #[test]
+fn first_lacking(rt: HostRuntime) {
+    let (mut words, mut other) = ([9, 0, 0, 0], [11, 1, 0, 0]);
+    lent::settle(&mut words, 9, 9);
+    lent::settle(&mut other, 70, 70);
+    equal(&rt, lent::first_lacking(&words, 9, &other, 70), Some(1));
+    equal(&rt, lent::first_lacking(&other, 70, &words, 9), None);
+}
+
+#[test]
 fn is_equal(rt: HostRuntime) {
     let (mut words, mut other) = ([9, 0, 0, 0], [9, 0, 0, 0]);
     lent::settle(&mut words, 70, 70);

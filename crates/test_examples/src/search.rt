@@ -54,3 +54,18 @@ fn previous_one(rt: HostRuntime) {
         None,
     );
 }
+
+#[test]
+fn first_joined(rt: HostRuntime) {
+    let mut steps = Steps::new();
+    equal(
+        &rt,
+        search::first_joined::<AndNot>(&[1, 3, 7], &[1, 2], &mut steps),
+        Some(1),
+    );
+    equal(
+        &rt,
+        search::first_joined::<AndNot>(&[1, 3, 7], &[1, 3], &mut steps),
+        None,
+    );
+}

@@ -69,6 +69,16 @@ fn difference_with_change(rt: HostRuntime) {
 }
 
 #[test]
+fn union_with_difference(rt: HostRuntime) {
+    let alloc = rt.alloc();
+    let mut set = set_of(&rt, alloc, &[1, 3]);
+    let gens = set_of(&rt, alloc, &[4, 64]);
+    let kills = set_of(&rt, alloc, &[4, 200]);
+    holds(&rt, ok(&rt, set.union_with_difference(&gens, &kills)));
+    equal(&rt, set.as_slice(), [10, 1].as_slice());
+}
+
+#[test]
 fn bitor_assign(rt: HostRuntime) {
     let alloc = rt.alloc();
     let mut set = set_of(&rt, alloc, &[1, 3]);
@@ -175,4 +185,13 @@ fn is_superset(rt: HostRuntime) {
     let longer = cleared(&rt, alloc, 200);
     holds(&rt, set.is_superset(&longer));
     holds(&rt, !longer.is_superset(&set));
+}
+
+#[test]
+fn first_lacking(rt: HostRuntime) {
+    let alloc = rt.alloc();
+    let set = set_of(&rt, alloc, &[1, 3]);
+    let other = set_of(&rt, alloc, &[3, 64, 70]);
+    equal(&rt, set.first_lacking(&other), Some(64));
+    equal(&rt, other.first_lacking(&set), Some(1));
 }

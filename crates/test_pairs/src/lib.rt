@@ -5,6 +5,8 @@
 #[cfg(test)]
 mod calls;
 #[cfg(test)]
+mod differences;
+#[cfg(test)]
 mod steps;
 #[cfg(test)]
 mod sweeps;

@@ -19,13 +19,15 @@ pub enum Growing {
     BitorAssign,
     BitxorAssign,
     UnionWithChange,
+    UnionWithDifference,
     CountedCloneFrom,
     CountedUnionWith,
     CountedSymmetricDifferenceWith,
     CountedUnionWithChange,
+    CountedUnionWithDifference,
 }
 
-pub const CALLS: [(&str, Growing); 13] = [
+pub const CALLS: [(&str, Growing); 15] = [
     ("grow", Growing::Grow),
     ("grow_and_insert", Growing::GrowAndInsert),
     ("extend", Growing::Extend),
@@ -38,6 +40,7 @@ pub const CALLS: [(&str, Growing); 13] = [
     ("bitor_assign", Growing::BitorAssign),
     ("bitxor_assign", Growing::BitxorAssign),
     ("union_with_change", Growing::UnionWithChange),
+    ("union_with_difference", Growing::UnionWithDifference),
     ("counted::clone_from", Growing::CountedCloneFrom),
     ("counted::union_with", Growing::CountedUnionWith),
     (
@@ -47,6 +50,10 @@ pub const CALLS: [(&str, Growing); 13] = [
     (
         "counted::union_with_change",
         Growing::CountedUnionWithChange,
+    ),
+    (
+        "counted::union_with_difference",
+        Growing::CountedUnionWithDifference,
     ),
 ];
 
@@ -67,7 +74,7 @@ pub fn grown(starts: &mut Starts, call: Growing, forgets: bool) -> Result<bool, 
     let made = match call {
         Growing::Grow => grow(&mut set, forgets),
         Growing::Extend => return extended(&mut set),
-        _ => joined(&mut set, &starts.long, call),
+        _ => joined(&mut set, starts, call),
     };
     match made {
         Ok(()) => Ok(is_grown(&set, call) && is_long(&starts.long)),
@@ -85,7 +92,8 @@ fn grow(set: &mut FixedBitSet, forgets: bool) -> Result<(), AllocError> {
     grown
 }
 
-fn joined(set: &mut FixedBitSet, long: &FixedBitSet, call: Growing) -> Result<(), AllocError> {
+fn joined(set: &mut FixedBitSet, starts: &Starts, call: Growing) -> Result<(), AllocError> {
+    let (short, long) = (&starts.short, &starts.long);
     match call {
         Growing::Grow | Growing::Extend => Ok(()),
         Growing::GrowAndInsert => set.grow_and_insert(LONG),
@@ -95,6 +103,7 @@ fn joined(set: &mut FixedBitSet, long: &FixedBitSet, call: Growing) -> Result<()
         Growing::BitorAssign => set.bitor_assign(long),
         Growing::BitxorAssign => set.bitxor_assign(long),
         Growing::UnionWithChange => set.union_with_change(long).map(|_| ()),
+        Growing::UnionWithDifference => set.union_with_difference(long, short).map(|_| ()),
         Growing::CountedCloneFrom => counted::clone_from(set, long, &mut Steps::new()),
         Growing::CountedUnionWith => counted::union_with(set, long, &mut Steps::new()),
         Growing::CountedSymmetricDifferenceWith => {
@@ -102,6 +111,9 @@ fn joined(set: &mut FixedBitSet, long: &FixedBitSet, call: Growing) -> Result<()
         }
         Growing::CountedUnionWithChange => {
             counted::union_with_change(set, long, &mut Steps::new()).map(|_| ())
+        }
+        Growing::CountedUnionWithDifference => {
+            counted::union_with_difference(set, long, short, &mut Steps::new()).map(|_| ())
         }
     }
 }

@@ -294,6 +294,7 @@ fn counts(short: &FixedBitSet, long: &FixedBitSet) -> bool {
         && short.is_disjoint(long)
         && !short.is_subset(long)
         && !short.is_superset(long)
+        && short.first_lacking(long) == Some(LONG - 1)
         && is_short(short)
         && is_long(long)
 }
@@ -308,6 +309,7 @@ fn counted_calls(starts: &mut Starts) -> Result<bool, Fault> {
         && counted::symmetric_difference_count(short, long, steps) == 2
         && counted::is_disjoint(short, long, steps)
         && !counted::is_subset(short, long, steps)
+        && counted::first_lacking(short, long, steps) == Some(LONG - 1)
         && !counted::is_equal(short, long, steps)
         && !counted::is_full(short, steps)
         && counted::next_one(short, 0, steps) == short.next_one(0)
@@ -321,6 +323,8 @@ fn counted_calls(starts: &mut Starts) -> Result<bool, Fault> {
     counted::symmetric_difference_with(&mut wide, short, steps)?;
     let has_changed = counted::union_with_change(&mut wide, short, steps)?
         && !counted::intersect_with_change(&mut set, short, steps)
+        && counted::difference_with_change(&mut wide, short, steps)
+        && counted::union_with_difference(&mut wide, short, long, steps)?
         && counted::difference_with_change(&mut wide, short, steps);
     let is_kept = is_short(&set) && is_long(&wide);
     counted::clear(&mut set, steps);
@@ -373,7 +377,10 @@ fn joins_in_place(starts: &mut Starts) -> Result<bool, Fault> {
     let is_joined_again = is_value(&set, LONG, &[3, LONG - 1]);
     set.bitxor_assign(short)?;
     let is_back_again = is_long(&set);
-    let has_changed = set.union_with_change(short)? && set.difference_with_change(short);
+    let has_changed = set.union_with_change(short)?
+        && set.difference_with_change(short)
+        && set.union_with_difference(short, &starts.long)?
+        && set.difference_with_change(short);
     let is_back_at_last = is_long(&set) && !set.intersect_with_change(&starts.long);
     set.clone_from(short)?;
     Ok(

@@ -1,13 +1,14 @@
 -- The rights of each role after one set is changed, and after one more is made.
-use Rattle.std.proofs.Common.{◌≡◌, ◌≢◌, ◌∙◌, ℕ, ◌+◌, ◌<◌, ◌≤◌, ◌⊎◌, ◌↔◌, inl, inr, IsTrue, List, [], ◌∷◌, ◌++◌, min, length, get_or, set, refl, sym, ap, subst, arith, length-append, ⊎_elim, All}
-use Rattle.std.proofs.lemmas.Bool.{cases_eq, cases_lt}
+use Rattle.std.proofs.Common.{◌≡◌, ◌≢◌, ◌∙◌, ℕ, ◌+◌, ◌<◌, ◌≤◌, ◌⊎◌, ◌↔◌, inl, inr, IsTrue, List, [], ◌∷◌, ◌++◌, min, length, get_or, set, refl, sym, ap, subst, arith, length-append, ⊎_elim, All, Option, Some, None, MatchOption}
+use Rattle.std.proofs.lemmas.Bool.{cases_eq, cases_lt, true≢false, false_from_ne_true}
 use Rattle.std.proofs.lemmas.List.{get_or-set_other, get_or-set_same, get_or_default, get_or_append_left, get_or_past}
 use Rattle.std.proofs.lemmas.List.Elements.{All-set, All-weaker}
 use Rattle.std.proofs.Math.Seq.{get_or-append_seam}
-use Rattle.fixedbitset.specs.Bits.{Bits, contains, empty, insert, remove}
+use Rattle.fixedbitset.specs.Bits.{Bits, contains, empty, insert, remove, minimum}
 use Rattle.fixedbitset.specs.BitsFacts.{contains_below, length-empty}
-use Rattle.fixedbitset.specs.TwoSets.{bitand}
-use Rattle.use_access.specs.Policies.{Rights, Has}
+use Rattle.fixedbitset.specs.TwoSets.{bitand, difference}
+use Rattle.fixedbitset.specs.TwoSetsFacts.{is_subset-tells, first_lacking_least, first_lacking_none}
+use Rattle.use_access.specs.Policies.{Rights, Has, IsLeastMissing}
 use Rattle.fixedbitset.specs.MemberFacts.{in_empty, in_insert, in_remove, in_bitand}
 
 -- a role's set has the right
@@ -40,6 +41,18 @@ module _ (policy : Rights) (sets : List Bits) (role right : ℕ) (old : Bits) (s
 
   pub had : (x : ℕ) → Has policy role x → IsTrue (contains old x)
   had x one = subst (λ s. IsTrue (contains s x)) (sym read) one
+
+  -- the least of the rights asked for that its set lacks
+  pub missed : (asked : Bits) (found : Option ℕ) → found ≡ minimum (difference asked old)
+      → MatchOption found ((x : ℕ) → IsTrue (contains asked x) → Has policy role x) (IsLeastMissing policy role (λ x. IsTrue (contains asked x)))
+  missed asked None none = λ x one. has x ((is_subset-tells asked old).0 ((first_lacking_none old asked).0 (sym none)) x one)
+  missed asked (Some p) some =
+      let least = first_lacking_least old asked p (sym some) in
+      record {
+        asked = least.0;
+        missing = λ there. true≢false (sym (had p there) ∙ least.1);
+        least = λ q one lacks. least.2 q one (false_from_ne_true _ (λ there. lacks (has q there)));
+      }
 
   kept : (r x : ℕ) → In sets r x ≡ Has policy r x
   kept r x = ap (λ (l : List Bits). In l r x) same

@@ -1,7 +1,9 @@
 -- What the lines of the two policies and of the questions say.
-use Rattle.std.specs.Prelude.{◌≡◌, ℕ, ◌<◌, ◌↔◌, List, [], ◌∷◌, Contains, length, map, slice_index}
+use Rattle.std.specs.Prelude.{◌≡◌, ℕ, ◌<◌, ◌↔◌, List, [], ◌∷◌, All, Contains, length, map, slice_index}
 use Rattle.use_text.specs.declared.Row.{Row}
-use Rattle.use_access.specs.Policies.{Rights, Has}
+use Rattle.use_access.specs.declared.Answer.{Answer}
+use Rattle.use_access.specs.declared.Answer.TheVariants.{Allowed, Lacking, Unknown}
+use Rattle.use_access.specs.Policies.{Rights, Has, IsLeastMissing}
 
 -- two numbers: a role and a right that there are
 abbrev pub IsGrant : ℕ → ℕ → List ℕ → Type 0
@@ -16,3 +18,11 @@ HasGrants rows policy =
 -- there is a role
 abbrev pub IsQuestion : List ℕ → Type 0
 IsQuestion numbers = 0 < length numbers
+
+-- the role has each of these rights; or there is the role, and each right, and this is the least one that it lacks; or there
+-- is no such role or right
+abbrev pub IsAnswer : Rights → ℕ → List ℕ → Answer → Type 0
+IsAnswer policy role rights Allowed = (role < length policy.roles) × ((right : ℕ) → Contains rights right → Has policy role right)
+IsAnswer policy role rights (Lacking right) =
+    (role < length policy.roles) × All (λ asked. asked < policy.rights) rights × IsLeastMissing policy role (Contains rights) right
+IsAnswer policy role rights Unknown = ¬ ((role < length policy.roles) × All (λ asked. asked < policy.rights) rights)

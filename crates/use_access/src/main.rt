@@ -2,20 +2,20 @@
 //!
 //! The first line is how many roles and how many rights there are, at most 10,000 of each. Three parts follow, each with an
 //! empty line before it: what the first policy grants, what the second one grants, and the questions. A line of the first
-//! two is a role and a right that there are. A question is a role and the rights asked for, and the answer is `yes` or
-//! `no`. It is `no` where there is no such role or right.
+//! two is a role and a right that there are. A question is a role and the rights asked for. The answer is `yes`, or `no` and
+//! the least of the rights asked for that the role lacks. It is `no` alone where there is no such role or right.
 //!
 //! Each policy has exactly the grants of its lines. Where some line is not as said here, nothing is answered but one
 //! sentence on standard error with the number of that line, and the status is 1.
 #![tactic(auto)]
 
-ghost use Rattle.std.specs.Prelude.{◌≡◌, ◌<◌, ◌↔◌, [], ◌∷◌, ℕ, MatchOption, IfOk, IfErr, OnOk, IsTrue, Contains, length};
+ghost use Rattle.std.specs.Prelude.{◌≡◌, ◌∷◌, [], MatchOption, IfOk, IfErr, OnOk, length};
 ghost use Rattle.use_text.specs.Faults.{AreAll, IsFaultOfRow};
-ghost use Rattle.use_access.specs.Policies.{Has};
-ghost use Rattle.use_access.specs.Lines.{IsGrant, IsQuestion, HasGrants};
+ghost use Rattle.use_access.specs.Lines.{IsGrant, IsQuestion, HasGrants, IsAnswer};
 
 use policies::Policy;
 use std::alloc::{AllocError, Global};
+use std::fmt::Write;
 use std::process::ExitCode;
 use use_text::program::{finish, read};
 use use_text::sets::set_of;
@@ -90,6 +90,17 @@ fn grant_of(numbers: &[usize], roles: usize, rights: usize) -> Option<(usize, us
     }
 }
 
+// What a policy says to a question.
+#[derive(Clone, Copy, PartialEq, Eq, Debug)]
+enum Answer {
+    // The role has each of the rights.
+    Allowed,
+    // It lacks one, and this is the least.
+    Lacking(usize),
+    // There is no such role, or no such right.
+    Unknown,
+}
+
 // A line for each question. The fault has the first row that has no role.
 fn answers_of(alloc: Global, policy: &Policy, rows: &[Row]) -> Result<String, Fault>
     ensures each { OnOk result (AreAll IsQuestion rows.now) }
@@ -100,27 +111,32 @@ fn answers_of(alloc: Global, policy: &Policy, rows: &[Row]) -> Result<String, Fa
         let Some((role, rights)) = row.numbers.split_first() else {
             return Err(Fault::Line(row.line, "a question has to begin with a role"));
         };
-        let answer = is_allowed(alloc, policy, *role, rights)?;
-        answers.push_str(if answer { "yes\n" } else { "no\n" })?;
+        match answer_to(alloc, policy, *role, rights)? {
+            Answer::Allowed => answers.push_str("yes\n")?,
+            Answer::Lacking(right) => writeln!(answers, "no {right}")?,
+            Answer::Unknown => answers.push_str("no\n")?,
+        }
     }
     Ok(answers)
 }
 
-// Whether there is the role, and it has each of these rights.
-fn is_allowed(
+// What the policy says to the question for these rights of the role.
+fn answer_to(
     alloc: Global,
     policy: &Policy,
     role: usize,
     rights: &[usize],
-) -> Result<bool, AllocError>
-    ensures { IfOk result (λ answer. IsTrue answer ↔ ((role < length policy.now.roles)
-        × ((right : ℕ) → Contains rights.now right → Has policy.now role right))) }
+) -> Result<Answer, AllocError>
+    ensures { IfOk result (IsAnswer policy.now role rights.now) }
 {
     if role >= policy.roles() {
-        return Ok(false);
+        return Ok(Answer::Unknown);
     }
     let Some(asked) = set_of(alloc, policy.rights(), rights)? else {
-        return Ok(false);
+        return Ok(Answer::Unknown);
     };
-    Ok(policy.allows(role, &asked))
+    match policy.missing(role, &asked) {
+        Some(right) => Ok(Answer::Lacking(right)),
+        None => Ok(Answer::Allowed),
+    }
 }

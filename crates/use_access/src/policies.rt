@@ -1,13 +1,13 @@
 //! Policies: which rights each role has.
 //!
-//! What they promise: a role is allowed what is asked exactly where the rights asked for are a subset of its own; `grant` and
-//! `revoke` change one right of one role and nothing else; and by `both` a role has a right exactly where two policies give
+//! What they promise: a role is allowed what is asked exactly where the rights asked for are a subset of its own, and else
+//! `missing` tells the least of them that it lacks; `grant` and `revoke` change one right of one role and nothing else; and by `both` a role has a right exactly where two policies give
 //! it. Roles and rights are numbers. Contracts see a policy as how many rights there are and, for each role, the set of
 //! those that it has (`specs/Policies.antt`).
 
-ghost use Rattle.std.specs.Prelude.{◌≡◌, ◌<◌, ◌↔◌, ℕ, min, length, IsTrue, IfOk};
+ghost use Rattle.std.specs.Prelude.{◌≡◌, ◌<◌, ◌↔◌, ℕ, min, length, IsTrue, IfOk, MatchOption};
 ghost use Rattle.fixedbitset.specs.Bits.{contains};
-ghost use Rattle.use_access.specs.Policies.{Has, HaveSameSize, IsGranted, IsRevoked};
+ghost use Rattle.use_access.specs.Policies.{Has, HaveSameSize, IsGranted, IsRevoked, IsLeastMissing};
 
 use fixedbitset::FixedBitSet;
 use std::alloc::{AllocError, Global};
@@ -91,7 +91,17 @@ impl Policy {
         ensures { IsTrue result
             ↔ ((right : ℕ) → IsTrue (contains asked.now right) → Has self.now role right) }
     {
-        asked.is_subset(&self.roles[role])
+        self.missing(role, asked).is_none()
+    }
+
+    /// The least of the rights asked for that the role lacks, or `None` where it lacks none.
+    pub fn missing(&self, role: usize, asked: &FixedBitSet) -> Option<usize>
+        requires { role < length self.now.roles }
+        ensures { MatchOption result
+            ((right : ℕ) → IsTrue (contains asked.now right) → Has self.now role right)
+            (IsLeastMissing self.now role (λ right. IsTrue (contains asked.now right))) }
+    {
+        self.roles[role].first_lacking(asked)
     }
 
     /// The policy by which a role has a right if both policies give it.

@@ -19,6 +19,10 @@ fn a_reader_and_an_editor(rt: HostRuntime) -> Result<(), Fail> {
     asked.insert(70);
     assert!(rt; !policy.allows(0, &asked));
     assert!(rt; policy.allows(1, &asked));
+    assert_eq!(rt;
+        (policy.missing(0, &asked), policy.missing(1, &asked)),
+        (Some(70), None)
+    );
     let mut other = Policy::new(rt.alloc(), 2, 71)?;
     other.grant(1, 70);
     let both = policy.both(rt.alloc(), &other)?;

@@ -106,6 +106,30 @@ impl FixedBitSet {
         raw::bits_difference_with_change(&mut self.words.lent_mut(), &other.words.lent())
     }
 
+    /// Adds the positions of `gens` that `kills` lacks, and answers whether one came in. The length is then that of the
+    /// longer of this set and `gens`. Upstream has no such call.
+    ///
+    /// ```
+    /// # use fixedbitset::FixedBitSet;
+    /// let mut set: FixedBitSet = [1, 2].into_iter().collect();
+    /// let gens = [2, 3, 4].into_iter().collect();
+    /// let kills = [3, 70].into_iter().collect();
+    /// assert!(set.union_with_difference(&gens, &kills));
+    /// assert_eq!(set.to_string(), "01101");
+    /// ```
+    #[inline]
+    pub fn union_with_difference(&mut self, gens: &FixedBitSet, kills: &FixedBitSet) -> bool {
+        self.grow(gens.len());
+        let mut changed = false;
+        raw::bits_union_with_difference(
+            &mut self.words.lent_mut(),
+            &gens.words.lent(),
+            &kills.words.lent(),
+            &mut changed,
+        );
+        changed
+    }
+
     /// How many positions are in either set.
     ///
     /// ```
@@ -188,5 +212,21 @@ impl FixedBitSet {
     #[inline]
     pub fn is_superset(&self, other: &FixedBitSet) -> bool {
         other.is_subset(self)
+    }
+
+    /// The least position of `other` that this set lacks, if there is one. The lengths do not matter. Upstream has no such
+    /// call.
+    ///
+    /// ```
+    /// # use fixedbitset::FixedBitSet;
+    /// let (few, more): (FixedBitSet, FixedBitSet) = ([1].into_iter().collect(), [1, 4, 9].into_iter().collect());
+    /// assert_eq!((few.first_lacking(&more), more.first_lacking(&few)), (Some(4), None));
+    /// ```
+    #[inline]
+    pub fn first_lacking(&self, other: &FixedBitSet) -> Option<usize> {
+        raw::position(raw::bits_first_lacking(
+            &self.words.lent(),
+            &other.words.lent(),
+        ))
     }
 }

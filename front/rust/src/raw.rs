@@ -117,12 +117,19 @@ unsafe extern "C" {
     ) -> bool;
     pub safe fn bits_intersect_with_change(set: &mut Lent<'_>, other: &Lent<'_>) -> bool;
     pub safe fn bits_difference_with_change(set: &mut Lent<'_>, other: &Lent<'_>) -> bool;
+    pub safe fn bits_union_with_difference(
+        set: &mut Lent<'_>,
+        gens: &Lent<'_>,
+        kills: &Lent<'_>,
+        changed: &mut bool,
+    ) -> bool;
     pub safe fn bits_union_count(set: &Lent<'_>, other: &Lent<'_>) -> usize;
     pub safe fn bits_intersection_count(set: &Lent<'_>, other: &Lent<'_>) -> usize;
     pub safe fn bits_difference_count(set: &Lent<'_>, other: &Lent<'_>) -> usize;
     pub safe fn bits_symmetric_difference_count(set: &Lent<'_>, other: &Lent<'_>) -> usize;
     pub safe fn bits_is_disjoint(set: &Lent<'_>, other: &Lent<'_>) -> bool;
     pub safe fn bits_is_subset(set: &Lent<'_>, other: &Lent<'_>) -> bool;
+    pub safe fn bits_first_lacking(set: &Lent<'_>, other: &Lent<'_>) -> usize;
     pub safe fn bits_equal(set: &Lent<'_>, other: &Lent<'_>) -> bool;
     pub safe fn bits_compare(set: &Lent<'_>, other: &Lent<'_>) -> isize;
 

@@ -1,5 +1,5 @@
-//! The changes by another set that answer whether a position changed, with a counter of steps. Each takes the steps of the
-//! call without the answer.
+//! The changes by other sets that answer whether a position changed, with a counter of steps. Each change by one set takes
+//! the steps of the call without the answer.
 
 ghost use Rattle.std.specs.Prelude.{◌≡◌, ◌<◌, ◌≤◌, ◌+◌, IsOk, IfOk, OnOk, OnErr, not, true, false};
 ghost use Rattle.bitlanes.specs.Words.{lane_steps};
@@ -7,7 +7,7 @@ ghost use Rattle.bitwords.specs.Steps.{join_steps};
 ghost use Rattle.fixedbitset.specs.Bits as model;
 ghost use Rattle.fixedbitset.specs.TwoSets as sets;
 
-use crate::lent::changes::join;
+use crate::lent::changes::{join, join_difference};
 use crate::set::FixedBitSet;
 use bitlanes::Steps;
 use bitlanes::ops::{And, AndNot, Or};
@@ -103,6 +103,49 @@ pub fn difference_with_change(set: &mut FixedBitSet, other: &FixedBitSet, steps:
     )
 }
 
+/// [`FixedBitSet::union_with_difference`], with the steps that it takes.
+///
+/// Where memory was refused the set is as it was.
+///
+/// ```
+/// let mut set = FixedBitSet::from_iter(alloc, [1, 3])?;
+/// let gens = FixedBitSet::from_iter(alloc, [4, 64])?;
+/// let kills = FixedBitSet::from_iter(alloc, [4])?;
+/// assert!(rt; counted::union_with_difference(&mut set, &gens, &kills, &mut Steps::new())?);
+/// assert_eq!(rt; set.as_slice(), [10, 1].as_slice());
+/// ```
+#[inline]
+#[tactic(auto, using(crate::proofs::JoinedValues::union_longer, crate::proofs::JoinedChanges::union_changes, crate::proofs::Words::given_back, crate::proofs::Words::viewed_length, crate::proofs::JoinedValues::left_length))]
+pub fn union_with_difference(
+    set: &mut FixedBitSet,
+    gens: &FixedBitSet,
+    kills: &FixedBitSet,
+    steps: &mut Steps,
+) -> Result<bool, AllocError>
+    ensures ok { OnOk result (set.new ≡ sets.union set.old (sets.difference gens.now kills.now)) }
+    ensures changed { IfOk result (λ changed. changed
+        ≡ not (sets.is_subset (sets.difference gens.now kills.now) set.old)) }
+    ensures err { OnErr result (set.new ≡ set.old) }
+    ensures succeeds { model.words_needed gens.now.length ≤ model.words_needed set.old.length
+        → IsOk result }
+    ensures cost { OnOk result
+        (steps.new ≡ steps.old + lane_steps (model.words_needed gens.now.length)) }
+    ensures refused { OnErr result (steps.new ≡ steps.old) }
+{
+    if set.len() < gens.len() {
+        return grow_and_take(set, gens, kills, steps);
+    }
+    Ok(join_difference(
+        &mut set.words,
+        set.length,
+        &gens.words,
+        gens.length,
+        &kills.words,
+        kills.length,
+        steps,
+    ))
+}
+
 // Unites `set`, which grows before, with the longer set `other`.
 #[cold]
 #[inline(never)]
@@ -128,6 +171,39 @@ fn grow_and_unite(
         set.length,
         &other.words,
         other.length,
+        steps,
+    ))
+}
+
+// Takes into `set`, which grows before, what `kills` lacks of the longer set `gens`.
+#[cold]
+#[inline(never)]
+#[tactic(auto, using(crate::proofs::JoinedValues::grown_over, crate::proofs::JoinedValues::grown_length, crate::proofs::JoinedValues::difference_grown, crate::proofs::JoinedChanges::union_grown_changes, crate::proofs::Words::given_back, crate::proofs::Words::viewed_length))]
+fn grow_and_take(
+    set: &mut FixedBitSet,
+    gens: &FixedBitSet,
+    kills: &FixedBitSet,
+    steps: &mut Steps,
+) -> Result<bool, AllocError>
+    requires longer { set.old.length < gens.now.length }
+    ensures ok { OnOk result (set.new ≡ sets.union set.old (sets.difference gens.now kills.now)) }
+    ensures changed { IfOk result (λ changed. changed
+        ≡ not (sets.is_subset (sets.difference gens.now kills.now) set.old)) }
+    ensures err { OnErr result (set.new ≡ set.old) }
+    ensures succeeds { model.words_needed gens.now.length ≤ model.words_needed set.old.length
+        → IsOk result }
+    ensures cost { OnOk result
+        (steps.new ≡ steps.old + lane_steps (model.words_needed gens.now.length)) }
+    ensures refused { OnErr result (steps.new ≡ steps.old) }
+{
+    set.grow(gens.len())?;
+    Ok(join_difference(
+        &mut set.words,
+        set.length,
+        &gens.words,
+        gens.length,
+        &kills.words,
+        kills.length,
         steps,
     ))
 }

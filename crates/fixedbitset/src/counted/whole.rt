@@ -3,16 +3,16 @@
 //! A step is one lane of four words in one turn of a kernel. A set of `n` positions has `n / 256` lanes, rounded up. A
 //! change or a count takes exactly one step for each lane that both sets have, and one for each that only one of them has,
 //! where these are cleared or counted. A comparison takes at most as many, since it stops at the first lane that decides;
-//! where it answers `true`, exactly. What `grow` writes is not counted.
+//! where it answers `true`, or `first_lacking` answers `None`, exactly. What `grow` writes is not counted.
 
-ghost use Rattle.std.specs.Prelude.{◌≡◌, ◌≢◌, ◌<◌, ◌≤◌, ◌↔◌, ◌+◌, IsTrue, IsOk, OnOk, OnErr, true, false};
+ghost use Rattle.std.specs.Prelude.{◌≡◌, ◌≢◌, ◌<◌, ◌≤◌, ◌↔◌, ◌+◌, IsTrue, IsOk, OnOk, OnErr, IfNone, true, false};
 ghost use Rattle.bitlanes.specs.Words.{lane_steps};
 ghost use Rattle.bitwords.specs.Steps.{join_steps, both_steps};
 ghost use Rattle.fixedbitset.specs.Bits as model;
 ghost use Rattle.fixedbitset.specs.Stored.{joined};
 ghost use Rattle.fixedbitset.specs.TwoSets as sets;
 
-use crate::lent::whole::{count, equal, join, none};
+use crate::lent::whole::{count, equal, join, lacking, none};
 use crate::set::FixedBitSet;
 use bitlanes::Steps;
 use bitlanes::ops::{And, AndNot, Or, WordOp, Xor};
@@ -265,6 +265,28 @@ pub fn is_subset(set: &FixedBitSet, other: &FixedBitSet, steps: &mut Steps) -> b
         (model.storage_words other.now.length) }
 {
     none::<AndNot>(&set.words, set.length, &other.words, other.length, steps)
+}
+
+/// [`FixedBitSet::first_lacking`], with the steps that it takes.
+///
+/// ```
+/// let set = FixedBitSet::from_iter(alloc, [3, 64])?;
+/// let other = FixedBitSet::from_iter(alloc, [3, 64, 200])?;
+/// assert_eq!(rt; counted::first_lacking(&set, &other, &mut Steps::new()), Some(200));
+/// assert_eq!(rt; counted::first_lacking(&other, &set, &mut Steps::new()), None);
+/// ```
+#[inline]
+#[tactic(auto, using(crate::proofs::Words::viewed_length))]
+pub fn first_lacking(set: &FixedBitSet, other: &FixedBitSet, steps: &mut Steps) -> Option<usize>
+    ensures first { result ≡ model.minimum (sets.difference other.now set.now) }
+    ensures cost { steps.new ≤ steps.old
+        + both_steps true false (model.storage_words other.now.length)
+        (model.storage_words set.now.length) }
+    ensures whole { IfNone result (steps.new ≡ steps.old
+        + both_steps true false (model.storage_words other.now.length)
+        (model.storage_words set.now.length)) }
+{
+    lacking(&set.words, set.length, &other.words, other.length, steps)
 }
 
 /// `==` of two sets, with the steps that it takes: none where the lengths differ.

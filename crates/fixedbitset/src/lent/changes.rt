@@ -1,7 +1,8 @@
 //! Two whole sets joined, with the answer whether a position of the first one changed.
 
-ghost use Rattle.std.specs.Prelude.{◌≡◌, ◌≤◌, ◌+◌, ◌==◌, not, true};
+ghost use Rattle.std.specs.Prelude.{◌≡◌, ◌≤◌, ◌+◌, ◌==◌, ◌||◌, not, true};
 ghost use Rattle.bitlanes.specs.Changes.{changes};
+ghost use Rattle.bitlanes.specs.Words.{lane_steps};
 ghost use Rattle.bitwords.specs.Steps.{join_steps};
 ghost use Rattle.fixedbitset.specs.Bits as model;
 ghost use Rattle.fixedbitset.specs.Bits.{of_words};
@@ -95,6 +96,68 @@ pub fn difference_with_change(
     ensures clean { IsClean length words.new }
 {
     join::<AndNot>(words, length, other, other_length, &mut Steps::new())
+}
+
+/// Takes in the positions of the second set that the third lacks, and answers whether one came in. The second may not be
+/// longer than the first.
+///
+/// ```
+/// let (mut words, mut gens, mut kills) = ([1, 0, 0, 0], [7, 0, 0, 0], [4, 1, 0, 0]);
+/// lent::settle(&mut words, 9, 9);
+/// lent::settle(&mut gens, 9, 9);
+/// lent::settle(&mut kills, 70, 70);
+/// assert!(rt; lent::union_with_difference(&mut words, 9, &gens, 9, &kills, 70));
+/// assert!(rt; !lent::union_with_difference(&mut words, 9, &gens, 9, &kills, 70));
+/// ```
+#[inline(always)]
+#[tactic(auto, using(crate::proofs::Words::of_length, crate::proofs::JoinedValues::union_longer, crate::proofs::JoinedChanges::union_changes, crate::proofs::JoinedValues::left_length))]
+pub fn union_with_difference(
+    words: &mut [Block],
+    length: usize,
+    gens: &[Block],
+    gens_length: usize,
+    kills: &[Block],
+    kills_length: usize,
+) -> bool
+    requires lent { IsClean length words.old }
+    requires lent_gens { IsClean gens_length gens.now }
+    requires lent_kills { IsClean kills_length kills.now }
+    requires shorter { gens_length ≤ length }
+    ensures value { of_words length words.new ≡ sets.union (of_words length words.old)
+        (sets.difference (of_words gens_length gens.now) (of_words kills_length kills.now)) }
+    ensures changed { result ≡ not (sets.is_subset
+        (sets.difference (of_words gens_length gens.now) (of_words kills_length kills.now))
+        (of_words length words.old)) }
+    ensures clean { IsClean length words.new }
+{
+    let steps = &mut Steps::new();
+    join_difference(words, length, gens, gens_length, kills, kills_length, steps)
+}
+
+// Joins the second words, but for the positions of the third, to the first, and answers whether a position changed.
+#[inline(always)]
+pub(crate) fn join_difference(
+    words: &mut [Block],
+    length: usize,
+    gens: &[Block],
+    gens_length: usize,
+    kills: &[Block],
+    kills_length: usize,
+    steps: &mut Steps,
+) -> bool
+    requires lent { IsClean length words.old }
+    requires lent_gens { IsClean gens_length gens.now }
+    requires lent_kills { IsClean kills_length kills.now }
+    requires shorter { gens_length ≤ length }
+    ensures value { of_words length words.new ≡ joined (λ x y. x || y) (of_words length words.old)
+        (sets.difference (of_words gens_length gens.now) (of_words kills_length kills.now)) }
+    ensures changed { result ≡ not (count_joined (changes (λ x y. x || y))
+        (of_words length words.old)
+        (sets.difference (of_words gens_length gens.now) (of_words kills_length kills.now)) == 0) }
+    ensures clean { IsClean length words.new }
+    ensures cost { steps.new ≡ steps.old + lane_steps (model.words_needed gens_length) }
+{
+    joins::union_with_difference(words, gens, kills, steps)
 }
 
 // Joins the second words to the first, and answers whether a position changed.

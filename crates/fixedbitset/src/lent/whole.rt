@@ -1,6 +1,6 @@
 //! Two whole sets, of any two lengths.
 
-ghost use Rattle.std.specs.Prelude.{◌≡◌, ◌≢◌, ◌≤◌, ◌+◌, ◌==◌, IsTrue, true};
+ghost use Rattle.std.specs.Prelude.{◌≡◌, ◌≢◌, ◌≤◌, ◌+◌, ◌==◌, IsTrue, IfNone, true, false};
 ghost use Rattle.bitlanes.specs.Words.{lane_steps};
 ghost use Rattle.bitwords.specs.Steps.{join_steps, both_steps};
 ghost use Rattle.fixedbitset.specs.Bits as model;
@@ -235,6 +235,30 @@ pub fn is_subset(words: &[Block], length: usize, other: &[Block], other_length: 
     none::<AndNot>(words, length, other, other_length, &mut Steps::new())
 }
 
+/// The least position of the second set that the first lacks, or `None` where it lacks none.
+///
+/// ```
+/// let (mut words, mut other) = ([9, 0, 0, 0], [11, 1, 0, 0]);
+/// lent::settle(&mut words, 9, 9);
+/// lent::settle(&mut other, 70, 70);
+/// assert_eq!(rt; lent::first_lacking(&words, 9, &other, 70), Some(1));
+/// assert_eq!(rt; lent::first_lacking(&other, 70, &words, 9), None);
+/// ```
+#[inline(always)]
+pub fn first_lacking(
+    words: &[Block],
+    length: usize,
+    other: &[Block],
+    other_length: usize,
+) -> Option<usize>
+    requires lent { IsClean length words.now }
+    requires lent_other { IsClean other_length other.now }
+    ensures { result ≡ model.minimum
+        (sets.difference (of_words other_length other.now) (of_words length words.now)) }
+{
+    lacking(words, length, other, other_length, &mut Steps::new())
+}
+
 /// Whether the lengths and the positions are equal.
 ///
 /// ```
@@ -273,6 +297,28 @@ pub fn compare(words: &[Block], length: usize, other: &[Block], other_length: us
         Ordering::Equal => used_words(words, length).cmp(used_words(other, other_length)),
         unequal => unequal,
     }
+}
+
+// `first_lacking`, with the steps that it takes.
+#[inline(always)]
+#[tactic(auto, using(crate::proofs::Lacking::first_left))]
+pub(crate) fn lacking(
+    words: &[Block],
+    length: usize,
+    other: &[Block],
+    other_length: usize,
+    steps: &mut Steps,
+) -> Option<usize>
+    requires lent { IsClean length words.now }
+    requires lent_other { IsClean other_length other.now }
+    ensures first { result ≡ model.minimum
+        (sets.difference (of_words other_length other.now) (of_words length words.now)) }
+    ensures cost { steps.new ≤ steps.old + both_steps true false
+        (model.storage_words other_length) (model.storage_words length) }
+    ensures whole { IfNone result (steps.new ≡ steps.old + both_steps true false
+        (model.storage_words other_length) (model.storage_words length)) }
+{
+    joins::first_of_difference(other, words, steps)
 }
 
 // `is_equal`, with the steps that it takes.

@@ -1,4 +1,5 @@
-use Rattle.std.proofs.Common.{◌≡◌, ◌∙◌, ◌*◌, length, refl, ap, arith}
+use Rattle.std.proofs.Common.{◌≡◌, ◌∙◌, ◌*◌, length, ap, arith}
+use Rattle.flow.specs.Turns.{facts_of}
 use Rattle.flow.proofs.AllNodes.{length-all}
 use Rattle.flow.proofs.Pending.{pending_first}
 use Rattle.flow.proofs.Totals.{total_all, measure_falls}
@@ -7,7 +8,6 @@ use Rattle.flow.proofs.rounds.settle.Goals as goal
 pub turns-init : goal.turns-init
 turns-init c = record {
   fits = c.requires.fits;
-  passed = refl;
   nodes = ap (λ set. set.length) c.requires.due ∙ length-all _;
   next = c.requires.next;
   due = pending_first _ _ _ _ c.requires.due c.requires.below;
@@ -18,10 +18,9 @@ turns-init c = record {
 
 pub returns-then-not-turn-clause-bound : goal.returns-then-not-turn-clause-bound
 returns-then-not-turn-clause-bound c =
-    let facts = c.args.room.now.passed.length in
+    let facts = facts_of c.args.kills.now in
     let many : length c.turns.ins * facts ≡ length c.args.ins.now * facts = ap (λ n. n * facts) c.turns.auto.ins in
     omega (arith, total_all facts c.turns.ins)
 
 pub turns-smaller : goal.turns-smaller
-turns-smaller c =
-    measure_falls c.turns.room.passed.length c.args.room.now.passed.length c.turns.ins c.turn.new.ins c.turns.invariant.passed c.turn.auto.ins (c.turn.ensures.grows c.if-not-turn.false)
+turns-smaller c = measure_falls (facts_of c.args.kills.now) c.turns.ins c.turn.new.ins c.turn.auto.ins (c.turn.ensures.grows c.if-not-turn.false)

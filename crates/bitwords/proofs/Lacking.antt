@@ -1,0 +1,199 @@
+-- A row without another one: of each word the bits that the word of the other row lacks, and the rest as it is. What it
+-- has first, and what becomes of a third row that takes it in, in two parts.
+use Rattle.std.specs.Prelude.{slice_get}
+use Rattle.std.proofs.Common.{◌≡◌, ℕ, zero, suc, ◌+◌, ◌-◌, ◌*◌, ◌<◌, ◌≤◌, Bool, true, false, not, ◌&&◌, ◌||◌, ◌==◌, inr, List, [], ◌∷◌, ◌++◌, take, drop, length, get_or, map, min, max, bit_or, Option, Some, None, IfSome, IfNone, refl, sym, ap, ◌∙◌, subst, arith, ⊎_elim}
+use Rattle.std.specs.List.{list_all}
+use Rattle.std.specs.Simd.Lanes.{zip2}
+use Rattle.std.proofs.Math.Bool.{and_assoc}
+use Rattle.std.proofs.lemmas.Bool.{cases_lt}
+use Rattle.std.proofs.lemmas.List.{append-nil, drop_all, length-drop, length-map, get_or_past}
+use Rattle.std.proofs.lemmas.Simd.{get_or-zip2}
+use borrow.Rule.Slice.PartMut.{put_mid, post_of}
+use Rattle.bitlanes.specs.Bits.{bit_without}
+use Rattle.bitlanes.specs.BitLaws.{laws_of_or, laws_of_without}
+use Rattle.bitlanes.specs.Changes.{changed_bits, changes}
+use Rattle.bitlanes.specs.Search.{IsFirstOne, IsNextOne, AreZeros, AreZerosFrom}
+use Rattle.bitlanes.specs.Word.{IsLowestBit}
+use Rattle.bitlanes.specs.Words.{zip_longest}
+use Rattle.bitwords.specs.Ascending.{ascending}
+use Rattle.bitwords.specs.AscendingFacts.{ascending-same}
+use Rattle.bitwords.specs.CountFacts.{count-same}
+use Rattle.bitwords.specs.Rows.{has_bit, count_below, bits_test, IsJoined}
+use Rattle.bitwords.specs.RowFacts.{AreWords}
+use Rattle.bitwords.proofs.Changed.{changed-kept}
+use Rattle.bitwords.proofs.Cleared.{length-kept, get_or-kept_both, get_or-kept_past, IsJoined-kept}
+use Rattle.bitwords.proofs.FirstAndLast.{first_position, no_first_position}
+use Rattle.bitwords.proofs.TwoRows.{AreWords-longest, has_bit-longest}
+use Rattle.bitwords.proofs.Written.{slice_rest}
+
+module _ (xs ys : List ℕ) (words_xs : AreWords xs) (words_ys : AreWords ys) where
+  abbrev lacked : List ℕ
+  lacked = zip_longest bit_without true false xs ys
+
+  abbrev passes : ℕ → Bool
+  passes = bits_test (λ x y. x && not y) xs ys
+
+  are_words : AreWords lacked
+  are_words = AreWords-longest laws_of_without xs ys words_xs words_ys
+
+  tells : (p : ℕ) → has_bit lacked p ≡ passes p
+  tells = has_bit-longest laws_of_without xs ys words_xs words_ys
+
+  listed : ascending (has_bit lacked) 0 (64 * length lacked) ≡ ascending passes 0 (64 * length xs)
+  listed =
+      ascending-same (has_bit lacked) passes 0 (64 * length lacked) (λ i _ _. tells i)
+      ∙ ap (λ n. ascending passes 0 (64 * n)) (length-kept bit_without xs ys)
+
+  -- the lowest bit of its first word that is not 0 is its first position
+  pub first_lacked : (k j : ℕ) → IsFirstOne lacked k → IsLowestBit (get_or lacked k 0) j → slice_get (ascending passes 0 (64 * length xs)) 0 ≡ Some (64 * k + j)
+  first_lacked k j word low = ap (λ ps. slice_get ps 0) (sym listed) ∙ first_position lacked k j word low
+
+  pub none_lacked : AreZeros lacked → slice_get (ascending passes 0 (64 * length xs)) 0 ≡ None
+  none_lacked zeros = ap (λ ps. slice_get ps 0) (sym listed) ∙ no_first_position lacked zeros
+
+  module _ (ws : List ℕ) (words_ws : AreWords ws) (shorter : length xs ≤ length ws) where
+    -- what a row has that takes it in
+    pub lacked_taken : IsJoined (λ x y. x || y) ws passes (zip_longest bit_or true false ws lacked)
+    lacked_taken =
+        let done = IsJoined-kept laws_of_or ws lacked words_ws are_words (inr refl) in
+        record { long = done.long; bits = λ p h. done.bits p h ∙ ap (λ b. has_bit ws p || b) (tells p) }
+
+    -- whether a position of that row is new
+    pub lacked_changes : not (list_all (λ w. w == 0) (zip2 (changed_bits bit_or) ws lacked)) ≡ not (count_below (λ p. changes (λ x y. x || y) (has_bit ws p) (passes p)) (64 * length ws) == 0)
+    unfolding bits_test
+    lacked_changes =
+        let long : 64 * max (length ws) (length lacked) ≡ 64 * length ws = omega (arith, length-kept bit_without xs ys) in
+        changed-kept laws_of_or ws lacked words_ws are_words (λ _. omega (arith, length-kept bit_without xs ys)) (inr refl)
+        ∙ ap (λ n. not (n == 0)) (
+        ap (count_below (bits_test (changes (λ x y. x || y)) ws lacked)) long
+        ∙ count-same _ _ (64 * length ws) (λ p _. ap (changes (λ x y. x || y) (has_bit ws p)) (tells p)))
+
+-- ---- its first word that is not 0, among those that both rows have or behind them
+
+length_both : (f : ℕ → ℕ → ℕ) (xs ys : List ℕ) → length (zip2 f xs ys) ≡ min (length xs) (length ys)
+length_both f [] ys = omega arith
+length_both f (x ∷ xs) [] = omega arith
+length_both f (x ∷ xs) (y ∷ ys) = let e = length_both f xs ys in omega arith
+
+under_no_mask : (xs : List ℕ) → map (bit_or 0) xs ≡ xs
+under_no_mask [] = refl
+under_no_mask (x ∷ xs) = ap (λ t. x ∷ t) (under_no_mask xs)
+
+module _ (f : ℕ → ℕ → ℕ) (xs ys : List ℕ) where
+  of_both : (i : ℕ) → i < length xs → i < length ys → get_or (zip_longest f true false xs ys) i 0 ≡ get_or (zip2 f xs ys) i 0
+  of_both i p q = get_or-kept_both f xs ys i p q ∙ sym (get_or-zip2 f xs ys i 0 0 0 p q)
+
+  pub within_both : (k : ℕ) → IsFirstOne (zip2 f xs ys) k → k < min (length xs) (length ys)
+  within_both k word = omega (arith, word.within, length_both f xs ys)
+
+  pub first_of_both : (k : ℕ) → IsFirstOne (zip2 f xs ys) k → IsFirstOne (zip_longest f true false xs ys) k
+  first_of_both k word =
+      let both = within_both k word in
+      record {
+        after = word.after;
+        within = omega (arith, length-kept f xs ys);
+        one = λ zero. word.one (sym (of_both k (omega arith) (omega arith)) ∙ zero);
+        zeros = λ i from before. of_both i (omega arith) (omega arith) ∙ word.zeros i from before;
+      }
+
+  module _ (none : AreZeros (zip2 f xs ys)) where
+    behind_both : (i : ℕ) → min (length xs) (length ys) ≤ i → get_or (zip_longest f true false xs ys) i 0 ≡ get_or (map (bit_or 0) xs) i 0
+    behind_both i past =
+        ⊎_elim
+        (λ (inside : i < length xs). get_or-kept_past f xs ys i (omega arith) ∙ ap (λ ws. get_or ws i 0) (sym (under_no_mask xs)))
+        (λ (outside : length xs ≤ i).
+        get_or_past (zip_longest f true false xs ys) i 0 (omega (arith, length-kept f xs ys))
+        ∙ sym (ap (λ ws. get_or ws i 0) (under_no_mask xs) ∙ get_or_past xs i 0 outside))
+        (cases_lt i (length xs))
+
+    zero_before : (i n : ℕ) → ((j : ℕ) → min (length xs) (length ys) ≤ j → j < n → get_or (map (bit_or 0) xs) j 0 ≡ 0) → i < n → get_or (zip_longest f true false xs ys) i 0 ≡ 0
+    zero_before i n rest before =
+        ⊎_elim
+        (λ (both : i < min (length xs) (length ys)). of_both i (omega arith) (omega arith) ∙ none i (omega arith))
+        (λ (past : min (length xs) (length ys) ≤ i). behind_both i past ∙ rest i past before)
+        (cases_lt i (min (length xs) (length ys)))
+
+    first_behind : (k : ℕ) → IsNextOne (map (bit_or 0) xs) (min (length xs) (length ys)) k → IsFirstOne (zip_longest f true false xs ys) k
+    first_behind k word = record {
+      after = omega arith;
+      within = omega (arith, word.within, length-map xs (bit_or 0), length-kept f xs ys);
+      one = λ zero. word.one (sym (behind_both k word.after) ∙ zero);
+      zeros = λ i _ before. zero_before i k word.zeros before;
+    }
+
+    none_behind : AreZerosFrom (map (bit_or 0) xs) (min (length xs) (length ys)) → AreZeros (zip_longest f true false xs ys)
+    none_behind zeros i _ = zero_before i (i + 1) (λ j from _. zeros j from) (omega arith)
+
+    module _ (n : ℕ) (both : n ≡ min (length xs) (length ys)) where
+      pub found_behind : (found : Option ℕ) → IfSome found (IsNextOne (map (bit_or 0) xs) n) → IfSome found (IsFirstOne (zip_longest f true false xs ys))
+      found_behind None none_found = tt
+      found_behind (Some k) word = first_behind k (subst (λ m. IsNextOne (map (bit_or 0) xs) m k) both word)
+
+      pub unfound_behind : (found : Option ℕ) → IfNone found (AreZerosFrom (map (bit_or 0) xs) n) → IfNone found (AreZeros (zip_longest f true false xs ys))
+      unfound_behind None zeros = none_behind (subst (AreZerosFrom (map (bit_or 0) xs)) both zeros)
+      unfound_behind (Some k) _ = tt
+
+-- how many words it has, and each of them
+pub ruleset row_words = (length-kept, get_or-kept_both, get_or-kept_past)
+
+-- ---- in two parts: the words that both rows have, and those of the first behind them
+
+behind_kept : (f g : ℕ → ℕ → ℕ) (n : ℕ) (ws xs ys : List ℕ) → n ≡ min (length xs) (length ys) → drop n (zip_longest f true false ws (zip2 g xs ys)) ≡ drop n ws
+behind_kept f g zero [] xs ys e = refl
+behind_kept f g zero (w ∷ ws) [] ys e = refl
+behind_kept f g zero (w ∷ ws) (x ∷ xs) [] e = refl
+behind_kept f g zero ws (x ∷ xs) (y ∷ ys) e = absurd (omega arith)
+behind_kept f g (suc n) ws [] ys e = absurd (omega arith)
+behind_kept f g (suc n) ws (x ∷ xs) [] e = absurd (omega arith)
+behind_kept f g (suc n) [] (x ∷ xs) (y ∷ ys) e = refl
+behind_kept f g (suc n) (w ∷ ws) (x ∷ xs) (y ∷ ys) e = behind_kept f g n ws xs ys (omega arith)
+
+taken_behind : (f g : ℕ → ℕ → ℕ) (n : ℕ) (ws xs ys : List ℕ) → n ≡ min (length xs) (length ys) → length xs ≤ length ws
+    → take n (zip_longest f true false ws (zip2 g xs ys)) ++ zip_longest f true false (drop n ws) (drop n xs) ≡ zip_longest f true false ws (zip_longest g true false xs ys)
+taken_behind f g zero ws [] ys e le = refl
+taken_behind f g zero ws (x ∷ xs) [] e le = refl
+taken_behind f g zero ws (x ∷ xs) (y ∷ ys) e le = absurd (omega arith)
+taken_behind f g (suc n) ws [] ys e le = absurd (omega arith)
+taken_behind f g (suc n) [] (x ∷ xs) ys e le = absurd (omega arith)
+taken_behind f g (suc n) (w ∷ ws) (x ∷ xs) [] e le = absurd (omega arith)
+taken_behind f g (suc n) (w ∷ ws) (x ∷ xs) (y ∷ ys) e le = ap (λ t. f w (g x y) ∷ t) (taken_behind f g n ws xs ys (omega arith) (omega arith))
+
+all_behind : (p : ℕ → Bool) (f g : ℕ → ℕ → ℕ) (n : ℕ) (ws xs ys : List ℕ) → n ≡ min (length xs) (length ys) → length xs ≤ length ws
+    → (list_all p (zip2 f ws (zip2 g xs ys)) && list_all p (zip2 f (drop n ws) (drop n xs))) ≡ list_all p (zip2 f ws (zip_longest g true false xs ys))
+all_behind p f g zero [] [] ys e le = refl
+all_behind p f g zero (w ∷ ws) [] ys e le = refl
+all_behind p f g zero [] (x ∷ xs) ys e le = absurd (omega arith)
+all_behind p f g zero (w ∷ ws) (x ∷ xs) [] e le = refl
+all_behind p f g zero ws (x ∷ xs) (y ∷ ys) e le = absurd (omega arith)
+all_behind p f g (suc n) ws [] ys e le = absurd (omega arith)
+all_behind p f g (suc n) [] (x ∷ xs) ys e le = absurd (omega arith)
+all_behind p f g (suc n) (w ∷ ws) (x ∷ xs) [] e le = absurd (omega arith)
+all_behind p f g (suc n) (w ∷ ws) (x ∷ xs) (y ∷ ys) e le =
+    and_assoc (p (f w (g x y))) _ _ ∙ ap (λ b. p (f w (g x y)) && b) (all_behind p f g n ws xs ys (omega arith) (omega arith))
+
+some_fails : (a b : Bool) → (not a || not b) ≡ not (a && b)
+some_fails true b = refl
+some_fails false b = refl
+
+module _ (f g : ℕ → ℕ → ℕ) (n : ℕ) (ws xs ys row : List ℕ) (common : n ≡ min (length xs) (length ys)) (shorter : length xs ≤ length ws) (first : row ≡ zip_longest f true false ws (zip2 g xs ys)) where
+  rest_of_row : take (length row - n) (drop n row) ≡ drop n ws
+  rest_of_row = slice_rest n row ∙ ap (drop n) first ∙ behind_kept f g n ws xs ys common
+
+  -- the words after both parts
+  pub written_behind : (part : List ℕ) → part ≡ zip_longest f true false (take (length row - n) (drop n row)) (take (length xs - n) (drop n xs)) → put_mid n (length row - n) row part ≡ zip_longest f true false ws (zip_longest g true false xs ys)
+  written_behind part second =
+      let none : post_of n (length row - n) row ≡ [] = drop_all (length row - n) (drop n row) (omega (arith, length-drop n row)) in
+      let whole : part ≡ zip_longest f true false (drop n ws) (drop n xs) = second ∙ (let a = rest_of_row in let b = slice_rest n xs in λ i. zip_longest f true false (a i) (b i)) in
+      ap (λ zs. take n row ++ (part ++ zs)) none
+      ∙ ap (λ zs. take n row ++ zs) (append-nil part ∙ whole)
+      ∙ ap (λ zs. take n zs ++ zip_longest f true false (drop n ws) (drop n xs)) first
+      ∙ taken_behind f g n ws xs ys common shorter
+
+  -- whether a word changed in either
+  pub changed_behind : (joined behind : Bool) → joined ≡ not (list_all (λ w. w == 0) (zip2 (changed_bits f) ws (zip2 g xs ys)))
+      → behind ≡ not (list_all (λ w. w == 0) (zip2 (changed_bits f) (take (length row - n) (drop n row)) (take (length xs - n) (drop n xs))))
+      → (joined || behind) ≡ not (list_all (λ w. w == 0) (zip2 (changed_bits f) ws (zip_longest g true false xs ys)))
+  changed_behind joined behind one other =
+      (let b = other ∙ (let c = rest_of_row in let d = slice_rest n xs in λ i. not (list_all (λ w. w == 0) (zip2 (changed_bits f) (c i) (d i)))) in λ i. one i || b i)
+      ∙ some_fails _ _
+      ∙ ap not (all_behind (λ w. w == 0) (changed_bits f) g n ws xs ys common shorter)
