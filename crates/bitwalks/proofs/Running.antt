@@ -1,5 +1,5 @@
 -- What a call of a walk over stretches does to those left.
-use Rattle.std.proofs.Common.{◌≡◌, ◌%◌, ◌⊎◌, ℕ, suc, ◌+◌, ◌-◌, ◌*◌, ◌/◌, ◌<◌, ◌≤◌, inl, inr, Bool, true, false, not, ◌&&◌, nat_lt, Option, Some, None, IfSome, IfNone, unwrap_or, List, [], ◌∷◌, ◌++◌, map, take, get_or, refl, sym, ap, ◌∙◌, arith, ⊎_elim}
+use Rattle.std.proofs.Common.{◌≡◌, ◌%◌, ◌⊎◌, ℕ, ◌+◌, ◌-◌, ◌*◌, ◌/◌, ◌<◌, ◌≤◌, inl, inr, Bool, true, false, not, ◌&&◌, nat_lt, Option, Some, None, IfSome, IfNone, unwrap_or, List, [], ◌∷◌, ◌++◌, map, take, refl, sym, ap, ◌∙◌, arith, ⊎_elim}
 use Rattle.std.proofs.lemmas.Bool.{cases_eq, cases_lt, lt-ltb, true≢false}
 use Rattle.std.proofs.lemmas.List.{get_or-take, map-append}
 use Rattle.bitlanes.specs.Bits.{bit}
@@ -45,10 +45,10 @@ not_false b e = grind arith
 
 module _ (t u : ℕ → Bool) (other : (i : ℕ) → u i ≡ not (t i)) (n low high : ℕ) (is : IsBetween t n low high) (left : low ≡ high → ⊥) where
   from_cases : (low ≡ 0) ⊎ ((t (low - 1) ≡ true) × (t low ≡ false))
-  from_cases = elim (cases_eq low 0) [ | inl zero ↦ inl zero | inr some ↦ inr (is.from some left) ]
+  from_cases = elim (cases_eq low 0) [ inl zero ↦ inl zero | inr some ↦ inr (is.from some left) ]
 
   to_cases : (high ≡ n) ⊎ ((t high ≡ true) × (t (high - 1) ≡ false))
-  to_cases = elim (cases_eq high n) [ | inl last ↦ inl last | inr before ↦ inr (is.to before left) ]
+  to_cases = elim (cases_eq high n) [ inl last ↦ inl last | inr before ↦ inr (is.to before left) ]
 
   passes_not : (i : ℕ) → u i ≡ true → t i ≡ false
   passes_not i e = not_true (t i) (sym (other i) ∙ e)

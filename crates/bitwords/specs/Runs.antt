@@ -1,5 +1,5 @@
 -- The stretches of numbers that pass a test without a gap, as start and end: the end is the first number behind.
-use Rattle.std.specs.Prelude.{◌≡◌, ◌≢◌, ℕ, ◌-◌, ◌+◌, ◌/◌, ◌≤◌, Bool, true, false, not, ◌&&◌, nat_lt, if◌then◌else◌, Option, unwrap_or, List, map, slice_get}
+use Rattle.std.specs.Prelude.{◌≡◌, ◌≢◌, ℕ, ◌-◌, ◌+◌, ◌/◌, ◌≤◌, Bool, true, false, not, ◌&&◌, nat_lt, Option, unwrap_or, List, map, slice_get}
 use Rattle.std.specs.Iterator.{YieldsFirst, YieldsLast}
 use Rattle.bitwords.specs.Ascending.{ascending}
 use Rattle.bitwords.specs.Rows.{has_bit}

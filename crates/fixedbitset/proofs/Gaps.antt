@@ -1,15 +1,12 @@
 -- The first gap, found by the next position that is clear and the next one that is set.
-use Rattle.std.proofs.Common.{◌≡◌, ℕ, ◌+◌, ◌-◌, ◌<◌, ◌≤◌, ◌⊎◌, inl, inr, Bool, true, false, not, ◌&&◌, nat_le, Option, Some, None, unwrap_or, slice_get, IsTrue, refl, sym, ap, ◌∙◌, arith, ⊎_elim}
+use Rattle.std.proofs.Common.{◌≡◌, ℕ, ◌+◌, ◌-◌, ◌<◌, ◌≤◌, ◌⊎◌, inl, inr, Bool, true, false, not, Option, Some, None, unwrap_or, slice_get, refl, sym, ap, ◌∙◌, arith, ⊎_elim}
 use Rattle.std.proofs.lemmas.Bool.{cases_eq, cases_lt, cases_Bool, le-leb, leb-true, and_parts, and_from, true≢false, false_from_ne_true}
-use Rattle.std.proofs.lemmas.Bool.Decides.{nat_tests}
-use Rattle.bitwords.specs.Ascending.{ascending}
 use Rattle.bitwords.specs.AscendingFacts.{ascending-none, first-from}
 use Rattle.fixedbitset.specs.Bits.{Bits, contains}
 use Rattle.fixedbitset.specs.BitsFacts.{contains_below}
 use Rattle.fixedbitset.specs.NeighbourFacts.{next_one_least, next_one_none, next_zero_least, next_zero_none}
 use Rattle.fixedbitset.specs.Neighbours.{next_one, next_zero}
 use Rattle.fixedbitset.specs.RangesFacts.{contains_any-tells}
-use Rattle.fixedbitset.specs.Ranges.{contains_any}
 use Rattle.fixedbitset.specs.Runs.{has_room, first_gap}
 
 module _ (v : Bits) (count : ℕ) where

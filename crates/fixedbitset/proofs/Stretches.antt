@@ -1,5 +1,5 @@
 -- The stretches of a value, as those of its words.
-use Rattle.std.proofs.Common.{◌≡◌, ℕ, ◌<◌, ◌≤◌, not, ◌&&◌, nat_lt, true, false, List, refl, sym, ap, ◌∙◌, arith}
+use Rattle.std.proofs.Common.{◌≡◌, ℕ, not, ◌&&◌, true, false, List, sym, ap, ◌∙◌, arith}
 use Rattle.std.proofs.lemmas.Bool.{lt-ltb}
 use Rattle.bitwords.specs.Rows.{has_bit}
 use Rattle.bitwords.specs.Runs.{stretches, is_like}

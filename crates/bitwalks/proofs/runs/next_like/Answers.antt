@@ -1,5 +1,5 @@
-use Rattle.std.proofs.Common.{◌≡◌, ℕ, ◌<◌, Bool, true, false, not, ◌&&◌, take, sym, ap, ◌∙◌, arith}
-use Rattle.bitwords.specs.Rows.{has_bit, bit_test}
+use Rattle.std.proofs.Common.{◌≡◌, ℕ, ◌<◌, true, not, ◌&&◌, take, sym, ap, ◌∙◌, arith}
+use Rattle.bitwords.specs.Rows.{bit_test}
 use Rattle.bitwords.specs.Runs.{is_like}
 use Rattle.bitwalks.proofs.Running.{has_bit-take, next_agrees, none_agrees}
 use Rattle.bitwalks.proofs.runs.next_like.Goals as goal

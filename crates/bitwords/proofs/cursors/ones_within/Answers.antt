@@ -1,4 +1,4 @@
-use Rattle.std.proofs.Common.{refl, ◌∙◌, ap, take, ◌-◌, ◌/◌, drop}
+use Rattle.std.proofs.Common.{refl, ap, take, ◌-◌, ◌/◌, drop}
 use Rattle.bitwords.proofs.RangeRow.{within-range}
 use Rattle.bitwords.proofs.cursors.ones_within.Goals as goal
 

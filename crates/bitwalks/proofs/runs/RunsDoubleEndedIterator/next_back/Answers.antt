@@ -1,7 +1,6 @@
-use Rattle.std.proofs.Common.{not, ◌+◌, ◌-◌, ◌<◌, ◌∷◌, [], ◌++◌, sym, ap, ◌∙◌, arith, ⊎_elim}
-use Rattle.std.proofs.lemmas.Bool.{cases_lt}
+use Rattle.std.proofs.Common.{not, sym, ap, ◌∙◌, arith}
 use Rattle.bitwords.specs.CallFacts.{progress_last}
-use Rattle.bitwords.specs.Runs.{is_like, stretches}
+use Rattle.bitwords.specs.Runs.{is_like}
 use Rattle.bitwalks.proofs.Running.{unlike, nothing, nothing_there, IsLast, last_after, last_whole, last_stretch, between_start, steps_back, steps_whole, steps_nothing, low_is_zero, low_is_behind}
 use Rattle.bitwalks.proofs.runs.RunsDoubleEndedIterator.next_back.Goals as goal
 use Rattle.bitwalks.proofs.runs.RunsDoubleEndedIterator.next_back.Goals.{in-Some-gap, in-None, in_default-via-in-Some+else-last-self, in_default-via-in_default}

@@ -1,4 +1,4 @@
-use Rattle.std.proofs.Common.{◌≡◌, ℕ, ◌<◌, ◌≤◌, unwrap_or, ◌-◌, sym, ◌∙◌, arith}
+use Rattle.std.proofs.Common.{unwrap_or, sym, ◌∙◌, arith}
 use Rattle.fixedbitset.specs.Bits.{of_words}
 use Rattle.fixedbitset.specs.WordsFacts.{length-of_words}
 use Rattle.fixedbitset.proofs.Gaps.{none_wanted, past_all, all_set, begun, too_far, end_order, found, none_left, searched_on, goes_on}
@@ -42,9 +42,13 @@ returns-in_err-start-2 c =
 
 pub loop-start-smaller : goal.loop-start-smaller
 loop-start-smaller c =
-    omega (arith, c.loop-start.invariant.below, length-of_words c.args.length c.args.words.now,
-    goes_on (of_words c.args.length c.args.words.now) c.args.count c.args.from (omega (arith, c.if-count-eq0.false)) c.loop-start.start c.loop-start.invariant c.unwrap_or-end.result
-    (c.unwrap_or-end.ensures ∙ (let long = sym (length-of_words c.args.length c.args.words.now) in λ i. unwrap_or (c.next_one.ensures i) (long i))) c.in_ok-start-2.start (sym c.next_zero-in-loop-start.ensures ∙ c.in_ok-start-2.was))
+    omega (
+      arith,
+      c.loop-start.invariant.below,
+      length-of_words c.args.length c.args.words.now,
+      goes_on (of_words c.args.length c.args.words.now) c.args.count c.args.from (omega (arith, c.if-count-eq0.false)) c.loop-start.start c.loop-start.invariant c.unwrap_or-end.result
+          (c.unwrap_or-end.ensures ∙ (let long = sym (length-of_words c.args.length c.args.words.now) in λ i. unwrap_or (c.next_one.ensures i) (long i))) c.in_ok-start-2.start (sym c.next_zero-in-loop-start.ensures ∙ c.in_ok-start-2.was),
+    )
 
 pub loop-start-preserved : goal.loop-start-preserved
 loop-start-preserved c =
