@@ -1,0 +1,93 @@
+/* Constructors, and casts from and to other types. */
+#include "fixedbitset.h"
+
+#include "catalog/pg_type.h"
+#include "miscadmin.h"
+#include "utils/array.h"
+#include "utils/builtins.h"
+#include "utils/varbit.h"
+
+FUNCTION(bitset_empty) {
+    bits set = new_set(checked_length(PG_GETARG_INT64(0)));
+    PG_RETURN_DATUM(stored_set(&set));
+}
+
+FUNCTION(bitset_from_positions) {
+    ArrayType *array = PG_GETARG_ARRAYTYPE_P(0);
+    bits set = new_set(checked_length(PG_GETARG_INT64(1)));
+    const int64 *positions = (const int64 *)ARR_DATA_PTR(array);
+    int count = ArrayGetNItems(ARR_NDIM(array), ARR_DIMS(array));
+    if (array_contains_nulls(array))
+        ereport(ERROR, (errcode(ERRCODE_NULL_VALUE_NOT_ALLOWED), errmsg("positions of a bitset must not be null")));
+    for (int i = 0; i < count; i++)
+        insert_checked(&set, positions[i]);
+    PG_RETURN_DATUM(stored_set(&set));
+}
+
+/* An array without nulls has its items side by side, so they are written where they belong. */
+FUNCTION(bitset_to_positions) {
+    READ(set, 0);
+    size_t count = bits_count_ones(set, 0, set->length);
+    size_t size = ARR_OVERHEAD_NONULLS(1) + count * sizeof(int64);
+    int64 *positions;
+    ArrayType *array;
+    if (count == 0)
+        PG_RETURN_ARRAYTYPE_P(construct_empty_array(INT8OID));
+    if (count > MaxArraySize || !AllocSizeIsValid(size))
+        ereport(ERROR, (errcode(ERRCODE_PROGRAM_LIMIT_EXCEEDED), errmsg("%zu positions are too many for an array", count),
+                        errhint("ones(bitset) gives them as rows.")));
+    array = palloc0(size);
+    SET_VARSIZE(array, size);
+    array->ndim = 1;
+    array->elemtype = INT8OID;
+    ARR_DIMS(array)[0] = count;
+    ARR_LBOUND(array)[0] = 1;
+    positions = (int64 *)ARR_DATA_PTR(array);
+    BITS_FOR_EACH(position, set) {
+        CHECK_FOR_INTERRUPTS();
+        *positions++ = position;
+    }
+    PG_RETURN_ARRAYTYPE_P(array);
+}
+
+/* Eight positions a byte, least first. */
+FUNCTION(bitset_from_bytea) {
+    bytea *bytes = PG_GETARG_BYTEA_PP(0);
+    size_t count = VARSIZE_ANY_EXHDR(bytes);
+    bits set = new_set(checked_length((int64)count * BITS_PER_BYTE));
+    memcpy(set.words, VARDATA_ANY(bytes), count);
+    PG_RETURN_DATUM(stored_set(&set));
+}
+
+FUNCTION(bitset_to_bytea) {
+    READ(set, 0);
+    PG_RETURN_BYTEA_P(cstring_to_text_with_len((char *)set->words, OCTETS(set->length)));
+}
+
+/* A bit string has its first bit uppermost in its byte, and a set has position 0 lowest. Rather than turn bytes round here,
+ * both casts go by the digits that varbit reads and writes. */
+FUNCTION(bitset_from_varbit) {
+    bits set = new_set(VARBITLEN(PG_GETARG_VARBIT_P(0)));
+    char *digits = DatumGetCString(DirectFunctionCall1(varbit_out, PG_GETARG_DATUM(0)));
+    for (char *one = strchr(digits, '1'); one; one = strchr(one + 1, '1'))
+        insert_checked(&set, one - digits);
+    PG_RETURN_DATUM(stored_set(&set));
+}
+
+FUNCTION(bitset_to_varbit) {
+    READ(set, 0);
+    size_t start, end = 0;
+    char *digits;
+    if (!AllocSizeIsValid(set->length + 2))
+        ereport(ERROR, (errcode(ERRCODE_PROGRAM_LIMIT_EXCEEDED),
+                        errmsg("length %zu is too great for a cast to bit varying", set->length)));
+    digits = palloc(set->length + 2);
+    digits[0] = 'b';
+    memset(digits + 1, '0', set->length);
+    digits[set->length + 1] = '\0';
+    while (next_run(set, &start, &end)) {
+        CHECK_FOR_INTERRUPTS();
+        memset(digits + 1 + start, '1', end - start);
+    }
+    PG_RETURN_DATUM(DirectFunctionCall3(varbit_in, CStringGetDatum(digits), ObjectIdGetDatum(InvalidOid), Int32GetDatum(-1)));
+}

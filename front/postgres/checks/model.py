@@ -1,0 +1,181 @@
+"""What a set answers, by Python's integers: a set is a length and an integer whose bits are its positions."""
+import struct
+
+LENGTHS = [0, 1, 7, 8, 9, 63, 64, 65, 255, 256, 257, 960, 961, 1024, 1025, 5000, 100000]
+
+
+class Set:
+    def __init__(self, length, ones):
+        self.length, self.ones = length, ones
+
+    def positions(self):
+        return [p for p, digit in enumerate(reversed(bin(self.ones)[2:])) if digit == "1"]
+
+    def bytes(self):
+        return self.ones.to_bytes((self.length + 7) // 8, "little")
+
+    def runs(self):
+        found = []
+        for p in self.positions():
+            if found and found[-1][1] == p:
+                found[-1][1] = p + 1
+            else:
+                found.append([p, p + 1])
+        return found
+
+    def text(self):
+        items = (str(a) if b - a == 1 else f"{a}-{b - 1}" for a, b in self.runs())
+        return "{" + ",".join(items) + "}/" + str(self.length)
+
+    def hex(self):
+        return f"x:{self.bytes().hex()}/{self.length}"
+
+    def words(self):
+        return [self.ones >> at & (1 << 64) - 1 for at in range(0, self.length, 64)]
+
+    def key(self):
+        return self.length, self.words()
+
+    def digits(self):
+        return bin(self.ones)[2:].zfill(self.length)[::-1][: self.length]
+
+
+def draw(rng):
+    length = rng.choice(LENGTHS[:15] * 6 + LENGTHS)
+    kind = rng.randrange(6)
+    if kind == 0:
+        ones = 0
+    elif kind == 1:
+        ones = (1 << length) - 1
+    elif kind == 2:
+        ones = sum({1 << rng.randrange(length) for _ in range(rng.randrange(12))}) if length else 0
+    elif kind == 3:
+        ones = 0
+        for _ in range(rng.randrange(6)):
+            a, b = sorted((rng.randint(0, length), rng.randint(0, length)))
+            ones |= (1 << b) - (1 << a)
+    else:
+        ones = rng.getrandbits(length) if length else 0
+        if kind == 5:
+            ones &= rng.getrandbits(length) & rng.getrandbits(length) if length else 0
+    return Set(length, ones)
+
+
+def mask(a, b):
+    return (1 << b) - (1 << a)
+
+
+def next_of(ones, length, start):
+    rest = ones >> start << start if start < length else 0
+    return (rest & -rest).bit_length() - 1 if rest else None
+
+
+def previous_of(ones, below):
+    return (ones & mask(0, below)).bit_length() - 1 if ones & mask(0, below) else None
+
+
+def wrong(code):
+    return ("error", code)
+
+
+def below(s, p, ones):
+    return Set(s.length, ones()) if 0 <= p < s.length else wrong("2202E")
+
+
+def ranged(s, a, b, answer):
+    return answer(mask(a, b)) if 0 <= a <= b <= s.length else wrong("2202E")
+
+
+def around(s, p, zero, back):
+    ones = mask(0, s.length) ^ s.ones if zero else s.ones
+    p = max(p, 0)
+    return previous_of(ones, min(p, s.length)) if back else next_of(ones, s.length, p)
+
+
+def sign(a, b):
+    return (a > b) - (a < b)
+
+
+def told(answer):
+    """An answer as it is compared: a set as text and as binary."""
+    if isinstance(answer, Set):
+        return answer.text(), struct.pack(">q", answer.length) + answer.bytes()
+    return answer
+
+
+def join(sets, operation):
+    ones = sets[0].ones
+    for s in sets[1:]:
+        ones = operation(ones, s.ones)
+    return ones
+
+
+# The expression, and its answer of sets s and t, a position p and a range from a to b.
+CALLS = {
+    "s | t": lambda s, t, p, a, b: Set(max(s.length, t.length), s.ones | t.ones),
+    "s & t": lambda s, t, p, a, b: Set(min(s.length, t.length), s.ones & t.ones),
+    "s # t": lambda s, t, p, a, b: Set(max(s.length, t.length), s.ones ^ t.ones),
+    "s - t": lambda s, t, p, a, b: Set(s.length, s.ones & ~t.ones),
+    "s @> t": lambda s, t, p, a, b: t.ones & ~s.ones == 0,
+    "s <@ t": lambda s, t, p, a, b: s.ones & ~t.ones == 0,
+    "s && t": lambda s, t, p, a, b: s.ones & t.ones != 0,
+    "s @> p": lambda s, t, p, a, b: p >= 0 and s.ones >> p & 1 == 1,
+    "p <@ s": lambda s, t, p, a, b: p >= 0 and s.ones >> p & 1 == 1,
+    "contains(s, p)": lambda s, t, p, a, b: p >= 0 and s.ones >> p & 1 == 1,
+    "s = t": lambda s, t, p, a, b: s.key() == t.key(),
+    "s <> t": lambda s, t, p, a, b: s.key() != t.key(),
+    "s < t": lambda s, t, p, a, b: s.key() < t.key(),
+    "s <= t": lambda s, t, p, a, b: s.key() <= t.key(),
+    "s > t": lambda s, t, p, a, b: s.key() > t.key(),
+    "s >= t": lambda s, t, p, a, b: s.key() >= t.key(),
+    "s = s": lambda s, t, p, a, b: True,
+    "s && s": lambda s, t, p, a, b: s.ones != 0,
+    "bitset_cmp(s, t)": lambda s, t, p, a, b: sign(s.key(), t.key()),
+    "bitset_hash(s) = bitset_hash(t) OR s <> t": lambda s, t, p, a, b: True,
+    "bitset_hash_extended(s, p) = bitset_hash_extended(s | bitset(0), p)": lambda s, t, p, a, b: True,
+    "length(s)": lambda s, t, p, a, b: s.length,
+    "count_ones(s)": lambda s, t, p, a, b: s.ones.bit_count(),
+    "is_clear(s)": lambda s, t, p, a, b: s.ones == 0,
+    "is_full(s)": lambda s, t, p, a, b: s.ones == mask(0, s.length),
+    "minimum(s)": lambda s, t, p, a, b: next_of(s.ones, s.length, 0),
+    "maximum(s)": lambda s, t, p, a, b: previous_of(s.ones, s.length),
+    "next_one(s, p)": lambda s, t, p, a, b: around(s, p, False, False),
+    "next_zero(s, p)": lambda s, t, p, a, b: around(s, p, True, False),
+    "previous_one(s, p)": lambda s, t, p, a, b: around(s, p, False, True),
+    "previous_zero(s, p)": lambda s, t, p, a, b: around(s, p, True, True),
+    "union_count(s, t)": lambda s, t, p, a, b: (s.ones | t.ones).bit_count(),
+    "intersection_count(s, t)": lambda s, t, p, a, b: (s.ones & t.ones).bit_count(),
+    "difference_count(s, t)": lambda s, t, p, a, b: (s.ones & ~t.ones).bit_count(),
+    "symmetric_difference_count(s, t)": lambda s, t, p, a, b: (s.ones ^ t.ones).bit_count(),
+    "insert(s, p)": lambda s, t, p, a, b: below(s, p, lambda: s.ones | 1 << p),
+    "remove(s, p)": lambda s, t, p, a, b: below(s, p, lambda: s.ones & ~(1 << p)),
+    "toggle(s, p)": lambda s, t, p, a, b: below(s, p, lambda: s.ones ^ 1 << p),
+    "grow(s, length(t))": lambda s, t, p, a, b: Set(max(s.length, t.length), s.ones),
+    "insert_range(s, int8range(a, b))": lambda s, t, p, a, b: ranged(s, a, b, lambda m: Set(s.length, s.ones | m)),
+    "remove_range(s, int8range(a, b))": lambda s, t, p, a, b: ranged(s, a, b, lambda m: Set(s.length, s.ones & ~m)),
+    "toggle_range(s, int8range(a, b))": lambda s, t, p, a, b: ranged(s, a, b, lambda m: Set(s.length, s.ones ^ m)),
+    "toggle_range(s, '(,)')": lambda s, t, p, a, b: Set(s.length, s.ones ^ mask(0, s.length)),
+    "count_ones(s, int8range(a, b))": lambda s, t, p, a, b: ranged(s, a, b, lambda m: (s.ones & m).bit_count()),
+    "count_zeroes(s, int8range(a, b))": lambda s, t, p, a, b: ranged(s, a, b, lambda m: (~s.ones & m).bit_count()),
+    "contains_all(s, int8range(a, b))": lambda s, t, p, a, b: ranged(s, a, b, lambda m: s.ones & m == m),
+    "contains_any(s, int8range(a, b))": lambda s, t, p, a, b: ranged(s, a, b, lambda m: s.ones & m != 0),
+    "positions(s)": lambda s, t, p, a, b: s.positions(),
+    "bitset(positions(s), length(s) + 3)": lambda s, t, p, a, b: Set(s.length + 3, s.ones),
+    "bitset(length(s))": lambda s, t, p, a, b: Set(s.length, 0),
+    "bytes(s)": lambda s, t, p, a, b: s.bytes(),
+    "bitset(s::bytea)": lambda s, t, p, a, b: Set((s.length + 7) // 8 * 8, s.ones),
+    "(s::bit varying)::text": lambda s, t, p, a, b: s.digits(),
+    "bitset(s::bit varying)": lambda s, t, p, a, b: s,
+    "s::text::bitset": lambda s, t, p, a, b: s,
+    "ARRAY(SELECT ones(s))": lambda s, t, p, a, b: s.positions(),
+    "ARRAY(SELECT zeroes(s))": lambda s, t, p, a, b: Set(s.length, mask(0, s.length) ^ s.ones).positions(),
+    "(SELECT array_agg(lower(r) || '+' || upper(r)) FROM runs(s) r)":
+        lambda s, t, p, a, b: [f"{x}+{y}" for x, y in s.runs()] or None,
+}
+# The aggregate over five sets of a batch, and its answer.
+AGGREGATES = {
+    "bitset_union(s)": lambda sets: Set(max(s.length for s in sets), join(sets, int.__or__)),
+    "bitset_intersection(s)": lambda sets: Set(min(s.length for s in sets), join(sets, int.__and__)),
+    "bitset_agg(minimum(s), length(s))":
+        lambda sets: Set(max(s.length for s in sets), join([Set(0, s.ones & -s.ones) for s in sets], int.__or__)),
+}

@@ -1,0 +1,81 @@
+/* The stored form of a set, and how functions read and make sets.
+ *
+ * A stored set is a varlena: its length in bits, and its words as bits.h has them. The length alone says which of two
+ * forms it has, so that equal sets have equal bytes:
+ *   - Up to SHORT_WORDS blocks: the words that hold positions. PostgreSQL keeps such a value behind a header of one byte,
+ *     unaligned, so that a reader has to copy it anyhow. The copy adds the rest of the lane.
+ *   - Any longer one: whole lanes, which are read where they stand.
+ * The length takes 32 bits, so that no set needs more than 512 MB.
+ */
+#ifndef FIXEDBITSET_H
+#define FIXEDBITSET_H
+
+#include "postgres.h"
+
+#include "bits.h"
+#include "fmgr.h"
+#include "utils/memutils.h"
+
+#ifdef WORDS_BIGENDIAN
+#error "the binary forms take the words' bytes least first; libbits_c.a is built for x86-64"
+#endif
+
+typedef struct Stored {
+    int32 vl_len_; /* PostgreSQL's own: SET_VARSIZE writes it */
+    uint32 length;
+    uint64_t words[FLEXIBLE_ARRAY_MEMBER];
+} Stored;
+
+#define MAX_LENGTH PG_UINT32_MAX
+#define WORD_SIZE sizeof(uint64_t)
+
+/* As many blocks as fit behind a header of one byte, and the words of so many. */
+#define SHORT_WORDS 15
+#define SHORT_LANES 16
+
+StaticAssertDecl(VARHDRSZ_SHORT + sizeof(uint32) + SHORT_WORDS * WORD_SIZE <= VARATT_SHORT_MAX,
+                 "a short set fits behind the short header");
+StaticAssertDecl(offsetof(Stored, words) + ((Size)MAX_LENGTH + 256) / BITS_PER_BYTE <= MaxAllocSize,
+                 "the longest set may be allocated");
+
+/* How many bytes of eight positions each a length takes. */
+#define OCTETS(length) (((size_t)(length) + BITS_PER_BYTE - 1) / BITS_PER_BYTE)
+
+/* A set that is read: it, what has to be freed, and room for one that is stored short. */
+typedef struct Reading {
+    bits set;
+    void *copy;
+    uint64_t room[SHORT_LANES];
+} Reading;
+
+extern const bits *read_set(Reading *reading, Datum datum);
+extern void done_reading(Reading *reading);
+
+/* A function that SQL calls. In it READ(set, n) declares `set` and reads it from argument n, and DONE(set) frees it. BY makes
+ * one that leaves all to another function. */
+#define FUNCTION(name)                                                                                                 \
+    PG_FUNCTION_INFO_V1(name);                                                                                         \
+    Datum name(PG_FUNCTION_ARGS)
+#define BY(name, function, ...)                                                                                        \
+    FUNCTION(name) {                                                                                                   \
+        return function(fcinfo, __VA_ARGS__);                                                                          \
+    }
+#define READ(set, n)                                                                                                   \
+    Reading set##_reading;                                                                                             \
+    const bits *set = read_set(&set##_reading, PG_GETARG_DATUM(n))
+#define DONE(set) done_reading(&set##_reading)
+
+/* Sets that are made. Before their words is room for the header of a stored set, which stored_set fills in. After that the
+ * set may not be used. */
+extern bits new_set(size_t length);
+extern bits copy_set(const bits *set, size_t length);
+extern void free_set(bits *set);
+extern Datum stored_set(bits *set);
+
+extern size_t past_length(const bits *set);
+extern size_t checked_length(int64 length);
+extern void wrong_position(const bits *set, int64 position) pg_attribute_noreturn();
+extern void insert_checked(bits *set, int64 position);
+extern bool next_run(const bits *set, size_t *start, size_t *end);
+
+#endif

@@ -1,0 +1,60 @@
+/* The index class for GIN. Its keys are the positions of a set, so that no row has to be looked at again. */
+#include "fixedbitset.h"
+
+#include "access/gin.h"
+#include "access/stratnum.h"
+
+/* The operators of the class, by their numbers in the SQL. */
+enum { OVERLAPS = 1, CONTAINS = 2, CONTAINS_POSITION = 3 };
+
+/* The positions of a set. */
+static Datum *keys_of(const bits *set, int32 *count) {
+    size_t ones = bits_count_ones(set, 0, set->length);
+    Datum *keys, *key;
+    if (!AllocSizeIsValid(ones * sizeof(Datum)))
+        ereport(ERROR,
+                (errcode(ERRCODE_PROGRAM_LIMIT_EXCEEDED), errmsg("%zu positions are too many for an index", ones)));
+    keys = key = palloc(ones * sizeof(Datum));
+    BITS_FOR_EACH(position, set) *key++ = Int64GetDatum(position);
+    *count = ones;
+    return keys;
+}
+
+FUNCTION(bitset_gin_value) {
+    READ(set, 0);
+    PG_RETURN_POINTER(keys_of(set, (int32 *)PG_GETARG_POINTER(1)));
+}
+
+/* The right side of an operator: a set or a position. Each set contains the one without positions, so all are asked for. */
+FUNCTION(bitset_gin_query) {
+    int32 *count = (int32 *)PG_GETARG_POINTER(1);
+    StrategyNumber operator = PG_GETARG_UINT16(2);
+    Datum *keys;
+    if (operator == CONTAINS_POSITION) {
+        keys = palloc(sizeof(Datum));
+        keys[0] = PG_GETARG_DATUM(0);
+        *count = 1;
+    } else {
+        READ(set, 0);
+        keys = keys_of(set, count);
+        if (operator == CONTAINS && *count == 0)
+            *(int32 *)PG_GETARG_POINTER(6) = GIN_SEARCH_MODE_ALL;
+    }
+    PG_RETURN_POINTER(keys);
+}
+
+/* Whether a row has one of the keys, or all of them, as far as is known. */
+FUNCTION(bitset_gin_consistent) {
+    GinTernaryValue *has = (GinTernaryValue *)PG_GETARG_POINTER(0);
+    bool one = PG_GETARG_UINT16(1) == OVERLAPS;
+    int32 count = PG_GETARG_INT32(3);
+    GinTernaryValue decides = one ? GIN_TRUE : GIN_FALSE;
+    GinTernaryValue answer = one ? GIN_FALSE : GIN_TRUE;
+    for (int32 i = 0; i < count; i++) {
+        if (has[i] == decides)
+            PG_RETURN_GIN_TERNARY_VALUE(decides);
+        if (has[i] == GIN_MAYBE)
+            answer = GIN_MAYBE;
+    }
+    PG_RETURN_GIN_TERNARY_VALUE(answer);
+}

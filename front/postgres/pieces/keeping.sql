@@ -1,0 +1,29 @@
+-- What a server has that keeps pieces: those from :least up to and without :past, and what may be asked of them here.
+
+CREATE EXTENSION fixedbitset;
+
+-- Piece k of a set has its positions from 1000000 k on. A piece that is not there has none.
+CREATE TABLE pieces (
+    name text,
+    piece int CHECK (piece >= :least AND piece < :past),
+    part bitset NOT NULL CHECK (length(part) = 1000000),
+    PRIMARY KEY (name, piece)
+);
+
+CREATE VIEW facts AS
+    SELECT name, piece, count_ones(part) AS ones, minimum(part) AS least, maximum(part) AS greatest FROM pieces;
+CREATE VIEW pairs AS
+    SELECT a.name AS a, b.name AS b, piece, intersection_count(a.part, b.part) AS shared FROM pieces a JOIN pieces b USING (piece);
+
+-- A row that is inserted here makes the union of two sets' pieces, of those that this server keeps.
+CREATE VIEW unions AS SELECT name AS server, name AS target, name AS a, name AS b FROM pieces WHERE false;
+CREATE FUNCTION make_union() RETURNS trigger LANGUAGE plpgsql AS $$
+BEGIN
+    DELETE FROM public.pieces WHERE name = NEW.target AND name NOT IN (NEW.a, NEW.b);
+    INSERT INTO public.pieces
+        SELECT NEW.target, piece, public.bitset_union(part) FROM public.pieces WHERE name IN (NEW.a, NEW.b) GROUP BY piece
+        ON CONFLICT (name, piece) DO UPDATE SET part = EXCLUDED.part;
+    RETURN NEW;
+END
+$$;
+CREATE TRIGGER make_union INSTEAD OF INSERT ON unions FOR EACH ROW EXECUTE FUNCTION make_union();

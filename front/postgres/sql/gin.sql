@@ -1,0 +1,43 @@
+--
+-- an index of the positions
+--
+CREATE TABLE tagged (id int, tags bitset);
+INSERT INTO tagged SELECT id, bitset_agg((id * k * k) % 300, 300) FROM generate_series(1, 2000) id, generate_series(1, 6) k GROUP BY id;
+INSERT INTO tagged VALUES (2001, '{}/0'), (2002, '{}/300'), (2003, NULL), (2004, '{7,99999}/100000'), (2005, '{0-299}/300');
+CREATE INDEX tagged_tags ON tagged USING gin (tags);
+SELECT amvalidate(oid) FROM pg_opclass WHERE opcname = 'bitset_ops' AND opcmethod = (SELECT oid FROM pg_am WHERE amname = 'gin');
+ANALYZE tagged;
+
+-- each question by the index and without it
+CREATE FUNCTION compared(question text, OUT plan text, OUT rows bigint, OUT same boolean) LANGUAGE plpgsql AS $$
+DECLARE
+    line text;
+    slow bigint;
+    ids text;
+    slow_ids text;
+BEGIN
+    PERFORM set_config('enable_seqscan', 'off', true);
+    FOR line IN EXECUTE 'EXPLAIN (COSTS OFF) SELECT id FROM tagged WHERE ' || question LOOP
+        IF line ~ 'Scan' THEN plan := concat_ws(', ', plan, btrim(line, ' >-')); END IF;
+    END LOOP;
+    EXECUTE 'SELECT count(*), string_agg(id::text, '','' ORDER BY id) FROM tagged WHERE ' || question INTO rows, ids;
+    PERFORM set_config('enable_seqscan', 'on', true);
+    PERFORM set_config('enable_bitmapscan', 'off', true);
+    EXECUTE 'SELECT count(*), string_agg(id::text, '','' ORDER BY id) FROM tagged WHERE ' || question INTO slow, slow_ids;
+    PERFORM set_config('enable_bitmapscan', 'on', true);
+    same := rows = slow AND ids IS NOT DISTINCT FROM slow_ids;
+END
+$$;
+SELECT (compared(question)).* FROM (VALUES ('tags @> 7'), ('tags @> 7::bigint'), ('7 <@ tags'), ('tags @> -1'), ('tags @> 99999'),
+    ('tags @> ''{7,28}/300'''), ('tags @> ''{7,28,299}/1000'''), ('tags @> ''{}/0'''), ('tags @> ''{}/5000'''), ('tags @> ''{999}/1000'''),
+    ('tags && ''{7,28}/300'''), ('tags && ''{}/300'''), ('tags && ''{0-299}/300'''), ('tags && ''{999}/1000'''), ('''{7}/8'' <@ tags'),
+    ('tags @> 7 AND tags && ''{28,63}/64'''), ('tags @> 7 OR tags @> 11'), ('tags @> NULL::bitset')) v(question);
+
+-- rows that come and go
+DELETE FROM tagged WHERE id % 3 = 0;
+UPDATE tagged SET tags = insert(tags, 299) WHERE id % 5 = 0 AND length(tags) = 300;
+VACUUM tagged;
+INSERT INTO tagged SELECT id, bitset(ARRAY[id % 300, 5]::bigint[], 300) FROM generate_series(3000, 3500) id;
+SELECT (compared(question)).* FROM (VALUES ('tags @> 299'), ('tags @> ''{5,299}/300'''), ('tags && ''{5,299}/300'''), ('tags @> ''{}/0''')) v(question);
+DROP FUNCTION compared;
+DROP TABLE tagged;

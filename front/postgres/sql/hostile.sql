@@ -1,0 +1,19 @@
+--
+-- bytes that are not those of a set
+--
+\set VERBOSITY sqlstate
+-- functions for the server's own use cannot be called
+SELECT bitset_recv(NULL);
+SELECT bitset_union_step(NULL, '{}/1');
+SELECT bitset_deserial('\x00', NULL);
+SELECT bitset_final(NULL);
+SELECT bitset_gin_value('{}/1', NULL);
+-- numbers past every limit
+SELECT bitset('{1}'::bigint[], 9223372036854775807);
+SELECT insert('{}/10'::bitset, 9223372036854775807);
+SELECT insert('{}/10'::bitset, -9223372036854775808);
+SELECT toggle_range('{}/10'::bitset, '[-9223372036854775808,9223372036854775807)'::int8range);
+SELECT grow('{}/10'::bitset, -1);
+SELECT bitset(4294967295)::bit varying;
+SELECT insert(bitset(4294967295), 4294967294) @> 4294967294;
+DROP EXTENSION fixedbitset;

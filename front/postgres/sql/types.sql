@@ -1,0 +1,109 @@
+--
+-- text form, binary form, constructors and casts
+--
+CREATE EXTENSION fixedbitset;
+
+-- canonical output
+SELECT '{}/0'::bitset, '{}/64'::bitset, '{3,7,10-20}/64'::bitset;
+SELECT '{20-10}/64'::bitset;
+SELECT ' { 20 , 3,4,  5 , 3 - 4 } / 064 '::bitset;
+SELECT '{0-63}/64'::bitset, '{0,2,4-5,63}/64'::bitset;
+SELECT '{7,4294967294}/4294967295'::bitset;
+
+-- every fault says where it is
+SELECT ''::bitset;
+SELECT '{3,7}'::bitset;
+SELECT '3,7/64'::bitset;
+SELECT '{3,7/64'::bitset;
+SELECT '{3,,7}/64'::bitset;
+SELECT '{3,}/64'::bitset;
+SELECT '{-3}/64'::bitset;
+SELECT '{3 7}/64'::bitset;
+SELECT '{64}/64'::bitset;
+SELECT '{60-64}/64'::bitset;
+SELECT '{99999999999999999999999999}/64'::bitset;
+SELECT '{0}/0'::bitset;
+SELECT '{}/4294967296'::bitset;
+SELECT '{}/'::bitset;
+SELECT '{}/64 x'::bitset;
+SELECT '{}/3/64'::bitset;
+SELECT '{} x/64'::bitset;
+SELECT '{}/-1'::bitset;
+\set VERBOSITY sqlstate
+SELECT '{3,7'::bitset;
+SELECT '{64}/64'::bitset;
+SELECT '{}/4294967296'::bitset;
+SELECT bitset(4294967296);
+SELECT bitset(-1);
+SELECT bitset('{7}'::bigint[], 7);
+\set VERBOSITY default
+
+-- the form in hexadecimal digits
+SELECT 'x:/0'::bitset, 'x:88/8'::bitset, 'x:88fc1F/24'::bitset, 'x:01/1'::bitset, 'x:01/0001'::bitset;
+SET fixedbitset.output = hex;
+SELECT '{}/0'::bitset, '{3,7,10-20}/24'::bitset, '{0,9,16}/17'::bitset;
+SELECT '{0,9,16}/17'::bitset::text::bitset = '{0,9,16}/17';
+RESET fixedbitset.output;
+SET fixedbitset.output = octal;
+SET fixedbitset.input = hex;
+SELECT 'x:8/8'::bitset;
+SELECT 'x:888/8'::bitset;
+SELECT 'x:8888/8'::bitset;
+SELECT 'x:/8'::bitset;
+SELECT 'x:8g/8'::bitset;
+SELECT 'x: 88/8'::bitset;
+SELECT 'x:88 /8'::bitset;
+SELECT 'x:88/ 8'::bitset;
+SELECT 'x:88/8 '::bitset;
+SELECT ' x:88/8'::bitset;
+SELECT 'X:88/8'::bitset;
+SELECT 'x:88'::bitset;
+SELECT 'x:88/'::bitset;
+SELECT 'x:88/-8'::bitset;
+SELECT 'x:88/7'::bitset;
+SELECT 'x:0002/9'::bitset;
+SELECT 'x:88/4294967296'::bitset;
+SELECT 'x:88/4294967295'::bitset;
+\set VERBOSITY sqlstate
+SELECT 'x:88/9'::bitset;
+SELECT 'x:88/7'::bitset;
+SELECT 'x:88/4294967296'::bitset;
+\set VERBOSITY default
+
+-- constructors
+SELECT bitset(10), bitset('{3,1,3}'::bigint[], 10), bitset('{}'::bigint[], 10);
+SELECT bitset('{{1,2},{3,4}}'::bigint[], 10);
+SELECT bitset('{1,NULL}'::bigint[], 10);
+SELECT bitset('{1,10}'::bigint[], 10);
+SELECT bitset('{-1}'::bigint[], 10);
+SELECT bitset(4294967296);
+
+-- casts
+SELECT B'0101'::bit varying::bitset, B''::bit varying::bitset, '{1,3}/4'::bitset::bit varying;
+SELECT '{0,9,16}/17'::bitset::bytea, '\x010201'::bytea::bitset, ''::bytea::bitset;
+SELECT '{0,9,16}/17'::bitset::bigint[], '{}/17'::bitset::bigint[];
+SELECT p FROM ones('{0,9,16}/17') p;
+SELECT p FROM zeroes('{0,3-9}/10') p;
+SELECT ones('{5,900}/1000'), zeroes('{0-998}/1000');
+SELECT * FROM ones('{0-99}/100') LIMIT 2;
+SELECT r FROM runs('{0-2,9,64-200}/201') r;
+SELECT runs('{}/0'), runs('{}/10'), runs('{0-299}/300');
+SELECT runs('{0,5-6}/7'), ones('{0,5-6}/7');
+SELECT bytes('{0,9,16}/17');
+
+-- binary form
+SELECT bitset_send('{0,9,16}/17'), bitset_send('{}/0');
+
+-- size: a short set has the blocks that it needs, a longer one whole lanes
+SELECT n, pg_column_size(bitset(n)) AS made FROM unnest('{0,1,64,65,960,961,1024,1025}'::bigint[]) n;
+CREATE TABLE sizes (n bigint, s bitset);
+INSERT INTO sizes SELECT n, insert(bitset(n), n - 1) FROM unnest('{1,64,65,256,960,961,1024,1025}'::bigint[]) n;
+SELECT n, pg_column_size(s) AS stored, s FROM sizes ORDER BY n;
+DROP TABLE sizes;
+
+-- a set that is compressed, and one that is stored out of line
+CREATE TABLE toasted (a bitset, b bitset);
+ALTER TABLE toasted ALTER b SET STORAGE EXTERNAL;
+INSERT INTO toasted VALUES ('{5,99999}/100000', '{5,99999}/100000');
+SELECT pg_column_size(a) < 1000, pg_column_size(b), length(a), length(b), a, b, a = b FROM toasted;
+DROP TABLE toasted;
