@@ -62,7 +62,7 @@ def of_c(text):
 
 
 def fields_of(text, name):
-    """The fields of a struct as words (`w`) and pointers (`p`), with those of the structs in it."""
+    """The fields of a struct as words (`w`), answers (`b`) and pointers (`p`), with those of the structs in it."""
     body = re.search(rf"struct {name}\b[^{{;]*\{{(.*?)\n\}}", text, re.S)[1]
     rust = [kind for field, kind in re.findall(r"^ +(?:pub )?(\w+): ([^{,]+),", body, re.M) if "PhantomData" not in kind]
     kinds = rust or [kind for kind in re.findall(r"^ +((?:const )?\w+ \*|\w+ )\w+;", body, re.M)]
@@ -71,7 +71,7 @@ def fields_of(text, name):
 
 def letters_of(text, kind):
     kind = KINDS.get(kind, kind)
-    known = {"word": "w", "word*": "p", "const word*": "p", "word* word": "pw", "const word* word": "pw"}
+    known = {"word": "w", "bool": "b", "word*": "p", "const word*": "p", "word* word": "pw", "const word* word": "pw"}
     return known.get(kind) or fields_of(text, kind)
 
 

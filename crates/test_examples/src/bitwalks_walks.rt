@@ -42,6 +42,13 @@ fn ones_over(rt: HostRuntime) {
 }
 
 #[test]
+fn ones_within(rt: HostRuntime) {
+    let words = [8, 0, 7];
+    let walk = Ones::within(&words, 4, 130);
+    gives(&rt, walk, &[128, 129]);
+}
+
+#[test]
 fn ones_last_positive_bit_and_unset(rt: HostRuntime) {
     let mut bits = 12;
     equal(&rt, Ones::last_positive_bit_and_unset(&mut bits), 2);
@@ -64,8 +71,8 @@ fn into_ones_last_positive_bit_and_unset(rt: HostRuntime) {
 }
 
 #[test]
-fn below(rt: HostRuntime) {
+fn zeroes_within(rt: HostRuntime) {
     let words = [Block::MAX, 5];
-    let walk = Zeroes::below(&words, 68);
+    let walk = Zeroes::within(&words, 60, 68);
     gives(&rt, walk, &[65, 67]);
 }

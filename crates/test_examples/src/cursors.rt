@@ -1,6 +1,7 @@
 //! The examples in the docs of `bitwords::cursors`. docs/make_examples writes this file.
 
 use crate::calls::{equal, gives, ok};
+use bitwords::cursors;
 use bitwords::cursors::{Cursor, Inverted, Middle, Plain};
 use fixedbitset::Block;
 
@@ -43,9 +44,9 @@ fn over(rt: HostRuntime) {
 }
 
 #[test]
-fn below(rt: HostRuntime) {
-    let cursor = Cursor::below(Plain { words: &[8, 255] }, 66);
-    gives(&rt, cursor, &[3, 64, 65]);
+fn within(rt: HostRuntime) {
+    let cursor = Cursor::within(Plain { words: &[9, 255] }, 640, 1, 66);
+    gives(&rt, cursor, &[643, 704, 705]);
 }
 
 #[test]
@@ -60,4 +61,16 @@ fn of_held(rt: HostRuntime) {
     let cursor = Cursor::over(Plain { words: &[9, 0, 1] });
     let held = cursor.into_held();
     gives(&rt, Cursor::of_held(held), &[0, 3, 128]);
+}
+
+#[test]
+fn ones_within(rt: HostRuntime) {
+    let cursor = cursors::ones_within(&[9, 0, 7], 3, 130);
+    gives(&rt, cursor, &[3, 128, 129]);
+}
+
+#[test]
+fn zeroes_within(rt: HostRuntime) {
+    let cursor = cursors::zeroes_within(&[Block::MAX, 5], 60, 68);
+    gives(&rt, cursor, &[65, 67]);
 }

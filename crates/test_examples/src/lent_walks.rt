@@ -24,3 +24,31 @@ fn zeroes(rt: HostRuntime) {
     lent::settle(&mut words, 70, 70);
     gives(&rt, lent::zeroes(&words, 70), &[3, 64, 65]);
 }
+
+#[test]
+fn runs(rt: HostRuntime) {
+    let mut words = [Block::MAX, 1, 0, 0];
+    lent::settle(&mut words, 70, 70);
+    gives(&rt, lent::runs(&words, 70), &[(0, 65)]);
+}
+
+#[test]
+fn zero_runs(rt: HostRuntime) {
+    let mut words = [Block::MAX, 1, 0, 0];
+    lent::settle(&mut words, 70, 70);
+    gives(&rt, lent::zero_runs(&words, 70), &[(65, 70)]);
+}
+
+#[test]
+fn ones_in(rt: HostRuntime) {
+    let mut words = [9, 2, 0, 0];
+    lent::settle(&mut words, 70, 70);
+    gives(&rt, lent::ones_in(&words, 70, 1, 66), &[3, 65]);
+}
+
+#[test]
+fn zeroes_in(rt: HostRuntime) {
+    let mut words = [Block::MAX - 8, 60, 0, 0];
+    lent::settle(&mut words, 70, 70);
+    gives(&rt, lent::zeroes_in(&words, 70, 4, 65), &[64]);
+}

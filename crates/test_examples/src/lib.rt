@@ -61,6 +61,8 @@ mod lent;
 #[cfg(test)]
 mod lent_changes;
 #[cfg(test)]
+mod lent_gaps;
+#[cfg(test)]
 mod lent_neighbours;
 #[cfg(test)]
 mod lent_ranges;
@@ -94,6 +96,8 @@ mod range;
 mod ranges;
 #[cfg(test)]
 mod readme_1;
+#[cfg(test)]
+mod runs;
 #[cfg(test)]
 mod search;
 #[cfg(test)]

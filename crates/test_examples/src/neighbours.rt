@@ -1,6 +1,6 @@
 //! The examples in the docs of `fixedbitset::neighbours`. docs/make_examples writes this file.
 
-use crate::calls::{cleared, equal};
+use crate::calls::{cleared, equal, set_of};
 
 #[test]
 #[tactic(auto, using(fixedbitset::specs::BitsFacts::facts, fixedbitset::specs::RangesFacts::facts))]
@@ -20,6 +20,15 @@ fn next_zero(rt: HostRuntime) {
     set.insert_range(64..130);
     equal(&rt, set.next_zero(64), Some(130));
     equal(&rt, set.next_zero(200), None);
+}
+
+#[test]
+fn first_gap(rt: HostRuntime) {
+    let alloc = rt.alloc();
+    let mut set = set_of(&rt, alloc, &[3, 6, 90]);
+    equal(&rt, set.first_gap(2, 0), Some(0));
+    equal(&rt, set.first_gap(3, 1), Some(7));
+    equal(&rt, set.first_gap(100, 0), None);
 }
 
 #[test]

@@ -1,6 +1,6 @@
 //! The examples in the docs of `fixedbitset::walks`. docs/make_examples writes this file.
 
-use crate::calls::{cleared, equal, ok, set_of};
+use crate::calls::{cleared, equal, gives, ok, set_of};
 
 #[test]
 fn ones(rt: HostRuntime) {
@@ -26,4 +26,38 @@ fn zeroes(rt: HostRuntime) {
     set.insert_range(1..65);
     let items: Vec<usize> = ok(&rt, set.zeroes().collect(alloc));
     equal(&rt, items.as_slice(), [0, 65].as_slice());
+}
+
+#[test]
+fn ones_in(rt: HostRuntime) {
+    let alloc = rt.alloc();
+    let set = set_of(&rt, alloc, &[3, 64, 65, 200]);
+    gives(&rt, set.ones_in(64..200), &[64, 65]);
+    equal(&rt, set.ones_in(..=200).next_back(), Some(200));
+}
+
+#[test]
+fn zeroes_in(rt: HostRuntime) {
+    let alloc = rt.alloc();
+    let set = set_of(&rt, alloc, &[3, 64, 65, 200]);
+    gives(&rt, set.zeroes_in(63..68), &[63, 66, 67]);
+}
+
+#[test]
+#[tactic(auto, using(fixedbitset::specs::BitsFacts::facts, fixedbitset::specs::RangesFacts::facts))]
+fn runs(rt: HostRuntime) {
+    let alloc = rt.alloc();
+    let mut set = cleared(&rt, alloc, 200);
+    set.insert_range(60..130);
+    set.insert(3);
+    gives(&rt, set.runs(), &[(3, 4), (60, 130)]);
+}
+
+#[test]
+#[tactic(auto, using(fixedbitset::specs::BitsFacts::facts, fixedbitset::specs::RangesFacts::facts))]
+fn zero_runs(rt: HostRuntime) {
+    let alloc = rt.alloc();
+    let mut set = cleared(&rt, alloc, 200);
+    set.insert_range(60..130);
+    gives(&rt, set.zero_runs(), &[(0, 60), (130, 200)]);
 }

@@ -6,9 +6,10 @@ use crate::gives::{ORDERS, assert_gives};
 use crate::slow::{FILLINGS, set_of};
 use bitlanes::counter::Steps;
 use bitlanes::word::Block;
-use fixedbitset::{IntoOnes, Ones, Zeroes};
+use fixedbitset::{FixedBitSet, IntoOnes, Ones, Zeroes};
 use std::alloc::{AllocError, Global};
 use std::mem;
+use std::process::Abort;
 use std::test::Fail;
 
 #[test]
@@ -97,6 +98,87 @@ fn ranges_at_every_length(rt: HostRuntime) -> Result<(), Fail> {
                 }
             }
         }
+    }
+    Ok(())
+}
+
+// The stretches of the positions in the list, as start and end.
+fn stretches(alloc: Global, items: &[usize]) -> Result<Vec<(usize, usize)>, AllocError> {
+    let mut list = Vec::new(alloc);
+    let mut open = None;
+    for item in items {
+        open = match open {
+            Some((start, end)) if end == *item => Some((start, item.saturating_add(1))),
+            Some(stretch) => {
+                list.push(stretch)?;
+                Some((*item, item.saturating_add(1)))
+            }
+            None => Some((*item, item.saturating_add(1))),
+        };
+    }
+    if let Some(stretch) = open {
+        list.push(stretch)?;
+    }
+    Ok(list)
+}
+
+// From the front, from the back, and from both in turn.
+fn assert_stretches(rt: &impl Abort, set: &FixedBitSet, are_set: bool, wanted: &[(usize, usize)]) {
+    let walk = || if are_set { set.runs() } else { set.zero_runs() };
+    assert!(rt; walk().eq(wanted.iter().copied()));
+    assert!(rt; walk().rev().eq(wanted.iter().rev().copied()));
+    let (mut both, mut left) = (walk(), wanted);
+    for _ in 0..wanted.len() {
+        let Some((first, others)) = left.split_first() else {
+            break;
+        };
+        assert_eq!(rt; both.next(), Some(*first));
+        left = others;
+        if let Some((last, before)) = left.split_last() {
+            assert_eq!(rt; both.next_back(), Some(*last));
+            left = before;
+        }
+    }
+    assert!(rt; both.next() == None && both.next_back() == None);
+}
+
+#[test]
+fn stretches_at_every_length(rt: HostRuntime) -> Result<(), Fail> {
+    for length in 0..201 {
+        for filling in FILLINGS {
+            let ones = filling.positions(rt.alloc(), length, true)?;
+            let zeroes = filling.positions(rt.alloc(), length, false)?;
+            let set = set_of(rt.alloc(), length, &ones)?;
+            assert_stretches(&rt, &set, true, &stretches(rt.alloc(), &ones)?);
+            assert_stretches(&rt, &set, false, &stretches(rt.alloc(), &zeroes)?);
+        }
+    }
+    Ok(())
+}
+
+// Four stretches over 4,000 positions, and the room between them.
+#[test]
+fn stretches_over_many_words(rt: HostRuntime) -> Result<(), Fail> {
+    let mut set = FixedBitSet::with_capacity(rt.alloc(), 4_000)?;
+    let wanted = [(0, 1), (63, 65), (128, 2_000), (3_999, 4_000)];
+    for (start, end) in wanted {
+        if set.range_is_valid(&(start..end)) {
+            set.insert_range(start..end);
+        }
+    }
+    assert_stretches(&rt, &set, true, &wanted);
+    assert_stretches(&rt, &set, false, &[(1, 63), (65, 128), (2_000, 3_999)]);
+    for (count, from, start) in [
+        (0, 7, Some(7)),
+        (62, 0, Some(1)),
+        (63, 0, Some(65)),
+        (64, 0, Some(2_000)),
+        (2_000, 0, None),
+        (1, 3_999, None),
+        (0, 4_000, Some(4_000)),
+        (0, 4_001, None),
+    ] {
+        assert_eq!(rt; set.first_gap(count, from), start);
     }
     Ok(())
 }
