@@ -1,0 +1,41 @@
+//! Prints the primes below a number, one a line.
+//!
+//! Standard input has one line with the number, at most 10,000,000. Where it is not as said here, nothing is answered but
+//! one sentence on standard error with the number of the line, and the status is 1.
+#![tactic(auto)]
+
+use sieve::{LIMIT, primes};
+use std::alloc::Global;
+use std::fmt::Write;
+use std::process::ExitCode;
+use use_text::Fault;
+use use_text::program::{finish, read};
+
+mod sieve;
+#[cfg(test)]
+mod tests;
+
+fn main(rt: HostRuntime) -> ExitCode {
+    let alloc = rt.alloc();
+    let answer = read(alloc, &mut rt.stdin()).and_then(|text| answer(alloc, text.as_str()));
+    finish(&rt, &answer, &mut rt.stdout())
+}
+
+fn answer(alloc: Global, text: &str) -> Result<String, Fault> {
+    let rows = use_text::rows(alloc, text)?;
+    let Some((first, others)) = rows.split_first() else {
+        return Err(Fault::Line(1, "the number is missing"));
+    };
+    let [end @ 0..=LIMIT] = *first.numbers.as_slice() else {
+        let wanted = "there has to be one number up to 10,000,000";
+        return Err(Fault::Line(first.line, wanted));
+    };
+    if let Some(other) = others.first() {
+        return Err(Fault::Line(other.line, "there has to be one line"));
+    }
+    let mut answer = String::new(alloc);
+    for prime in primes(alloc, end)?.ones() {
+        writeln!(answer, "{prime}")?;
+    }
+    Ok(answer)
+}
