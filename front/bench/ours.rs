@@ -31,4 +31,25 @@ pub mod beyond {
     pub fn difference_with_change(set: &mut Set, other: &Set) -> bool {
         set.difference_with_change(other)
     }
+
+    pub fn union_with_difference(set: &mut Set, gens: &Set, kills: &Set) -> bool {
+        set.union_with_difference(gens, kills)
+    }
+
+    pub fn first_lacking(set: &Set, other: &Set) -> Option<usize> {
+        set.first_lacking(other)
+    }
+
+    pub fn for_each_in_half(set: &Set, call: impl FnMut(usize)) {
+        let quarter = set.len() / 4;
+        set.ones_in(quarter..3 * quarter).for_each(call);
+    }
+
+    pub fn for_each_run(set: &Set, mut call: impl FnMut(usize, usize)) {
+        set.runs().for_each(|(start, end)| call(start, end));
+    }
+
+    pub fn first_gap(set: &Set, count: usize) -> Option<usize> {
+        set.first_gap(count, 0)
+    }
 }

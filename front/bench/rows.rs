@@ -14,6 +14,7 @@ pub fn rows(bits: usize) -> Vec<Row> {
         pairs(bits),
         walks(bits),
         neighbours(bits),
+        stretches(bits),
         telling(bits),
     ]
     .into_iter()
@@ -340,8 +341,60 @@ fn neighbours(bits: usize) -> Vec<Row> {
     ]
 }
 
+/// Every other thousand of positions.
+fn thousands(bits: usize) -> Set {
+    let mut set = Set::with_capacity(bits);
+    for start in (0..bits).step_by(2_000) {
+        set.insert_range(start..(start + 1_000).min(bits));
+    }
+    set
+}
+
+fn stretches(bits: usize) -> Vec<Row> {
+    let part = |name, many| {
+        walk(name, one_of(bits, many), Set::new(), |set, _| {
+            let mut sum = Sum { items: 0, sum: 0 };
+            beyond::for_each_in_half(set, |position| {
+                sum.items += 1;
+                sum.sum = sum.sum.wrapping_add(position);
+            });
+            sum
+        })
+    };
+    vec![
+        part("ones_in(n/4..3n/4), an item, 10 %", 10),
+        part("ones_in(n/4..3n/4), an item, 50 %", 2),
+        walk(
+            "runs of 1,000 positions, a run",
+            thousands(bits),
+            Set::new(),
+            |set, _| {
+                let mut sum = Sum { items: 0, sum: 0 };
+                beyond::for_each_run(set, |start, end| {
+                    sum.items += 1;
+                    sum.sum = sum.sum.wrapping_add(start ^ end);
+                });
+                sum
+            },
+        ),
+        ask(
+            "first_gap past runs of 1,000 positions",
+            thousands(bits),
+            Set::new(),
+            |set, _| beyond::first_gap(set, 1_001),
+        ),
+        ask(
+            "first_lacking, none",
+            upper(bits),
+            upper(bits),
+            |set, other| beyond::first_lacking(set, other),
+        ),
+    ]
+}
+
 fn telling(bits: usize) -> Vec<Row> {
     let (low, high) = (lower(bits), upper(bits));
+    let (gens, kills) = (high.clone(), one_of(bits, 2));
     let with = |name, call: fn(&mut Set, &Set) -> bool| {
         let high = high.clone();
         change(name, low.clone(), move |set| {
@@ -352,5 +405,12 @@ fn telling(bits: usize) -> Vec<Row> {
         with("union_with_change", beyond::union_with_change),
         with("intersect_with_change", beyond::intersect_with_change),
         with("difference_with_change", beyond::difference_with_change),
+        change("union_with_difference", low.clone(), move |set| {
+            black_box(beyond::union_with_difference(
+                set,
+                black_box(&gens),
+                black_box(&kills),
+            ));
+        }),
     ]
 }
