@@ -1,5 +1,6 @@
 mod OneList
 mod OfRanges
+mod OfRuns
 mod OfTwoSets
 mod OfJoins
 mod OfOrder

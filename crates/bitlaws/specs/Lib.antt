@@ -1,5 +1,6 @@
 pub mod AscendingLaws
 pub mod RangeLaws
+pub mod RunLaws
 pub mod TwoSetLaws
 pub mod JoinLaws
 pub mod OrderLaws

@@ -7,6 +7,7 @@ ghost use Rattle.bitlaws.specs.JoinLaws.{ComplementTwice, ComplementOfUnion, Com
 ghost use Rattle.bitlaws.specs.JsonLaws.{WrittenReadsBack, TextIsExact, HasWholeNumbers, NestsTwice};
 ghost use Rattle.bitlaws.specs.OrderLaws.{EqualTells, CompareTells, MinimumIsLeast, MaximumIsGreatest};
 ghost use Rattle.bitlaws.specs.RangeLaws.{WordsOfRange, NumberOfRangeWords, RangeWordsBound, SearchBound, TogglingTwice, RangeCountsAddUp, IsValidTells, ContainsAllTells, ContainsAnyTells};
+ghost use Rattle.bitlaws.specs.RunLaws.{RunsAreTheSet, ZeroRunsAreTheOthers};
 ghost use Rattle.bitlaws.specs.SetLaws.{ClearHasNone, FullHasAll, InsertAddsOne, InsertKeeps, RemoveTakesOne, RemoveKeeps, WordsReadBack};
 ghost use Rattle.bitlaws.specs.TwoSetLaws.{CountsAddUp, SymmetricDifferenceIsSum, SubsetBothWays, IsSubsetTells, IsDisjointTells, StepsBound, StepsOfEqual};
 ghost use Rattle.bitlaws.specs.WalkLaws.{PartsAreTheList, TurnsOfCalls, LooksUpOnce, JoinsOnce, SplitsOnce};
@@ -37,6 +38,19 @@ pub fn one_ascending_list()
 /// ```
 pub fn words_read_back()
     ensures { WordsReadBack }
+{}
+
+/// The stretches that `runs` and `zero_runs` walk over are the set. Each position of a stretch is set, or clear; none
+/// between two stretches is, and at least one position lies between them.
+///
+/// ```
+/// let set = FixedBitSet::from_iter(alloc, [3, 4, 9])?;
+/// laws::runs_are_the_set();
+/// assert!(rt; set.runs().eq([(3, 5), (9, 10)]));
+/// ```
+pub fn runs_are_the_set()
+    ensures ones { RunsAreTheSet }
+    ensures zeroes { ZeroRunsAreTheOthers }
 {}
 
 /// What is written of a set as JSON is in the form and means that set.

@@ -27,6 +27,14 @@ fn words_read_back(rt: HostRuntime) {
 }
 
 #[test]
+fn runs_are_the_set(rt: HostRuntime) {
+    let alloc = rt.alloc();
+    let set = set_of(&rt, alloc, &[3, 4, 9]);
+    laws::runs_are_the_set();
+    gives(&rt, set.runs(), &[(3, 5), (9, 10)]);
+}
+
+#[test]
 #[tactic(auto, using(fixedbitset::specs::OrderFacts::facts))]
 fn reads_back(rt: HostRuntime) {
     let alloc = rt.alloc();

@@ -1,0 +1,107 @@
+-- The stretches of the numbers that pass, one after the other.
+use Rattle.std.proofs.Common.{inl, inr, ◌⊎◌, ◌≡◌, ℕ, zero, suc, ◌+◌, ◌-◌, ◌<◌, ◌≤◌, Bool, true, false, not, ◌&&◌, nat_lt, ◌∷◌, ◌++◌, map, refl, sym, ap, ◌∙◌, subst, arith, ⊎_elim}
+use Rattle.std.proofs.lemmas.Bool.{cases_eq, true≢false}
+use Rattle.bitwords.specs.Ascending.{ascending}
+use Rattle.bitwords.specs.Neighbours.{IsNext, NonePasses}
+use Rattle.bitwords.specs.Runs.{begins, end_from, stretches}
+use Rattle.bitwords.specs.RunsFacts.{around, none_begin, ends_at, ends_last, and_begins}
+use Rattle.bitlaws.specs.RunLaws.{AreStretches, RunsAreTheSet, ZeroRunsAreTheOthers}
+use Rattle.fixedbitset.specs.Bits.{contains, complement}
+use Rattle.fixedbitset.specs.BitsFacts.{length-complement}
+use Rattle.fixedbitset.specs.Runs.{runs, zero_runs}
+
+-- the least number that passes, if there is one
+least : (test : ℕ → Bool) (low k : ℕ) → NonePasses test low (low + k) ⊎ ((p : ℕ) × IsNext test low (low + k) p)
+least test low zero = inl (λ i above below. absurd (omega (arith, above, below)))
+least test low (suc k) = at_low (test low) refl (least test (low + 1) k)
+  where
+    one_more : test low ≡ false → (end : ℕ) → NonePasses test (low + 1) end → NonePasses test low end
+    one_more fails end none i above below = ⊎_elim (λ (here : low ≡ i). ap test (sym here) ∙ fails) (λ later. none i (omega (arith, above, later)) below) (cases_eq low i)
+
+    at_low : (b : Bool) → test low ≡ b → NonePasses test (low + 1) (low + 1 + k) ⊎ ((p : ℕ) × IsNext test (low + 1) (low + 1 + k) p) → NonePasses test low (low + suc k) ⊎ ((p : ℕ) × IsNext test low (low + suc k) p)
+    at_low true passes rest = inr (low, record { after = omega arith; below = omega arith; passes = passes; none = λ i above below. absurd (omega (arith, above, below)) })
+    at_low false fails (inl none) = inl (one_more fails (low + suc k) (λ i above below. none i above (omega (arith, below))))
+    at_low false fails (inr next) = inr (next.0, record { after = omega (arith, next.1.after); below = omega (arith, next.1.below); passes = next.1.passes; none = one_more fails next.0 next.1.none })
+
+not_true : (b : Bool) → not b ≡ true → b ≡ false
+not_true b e = grind arith
+
+not_false : (b : Bool) → not b ≡ false → b ≡ true
+not_false b e = grind arith
+
+module _ (test : ℕ → Bool) (n : ℕ) where
+  -- what begins at `low` is not cut by it
+  abbrev IsEdge : ℕ → Type 0
+  IsEdge low = low < n → test low ≡ true → begins test low ≡ true
+
+  -- one stretch, and those behind it
+  module _ (low start end : ℕ) (edge : IsEdge low) (next : IsNext test low n start) (some : start < end) (within : end ≤ n) (all : (p : ℕ) → start ≤ p → p < end → test p ≡ true) (stops : end < n → test end ≡ false) where
+    first : begins test start ≡ true
+    first =
+        elim (cases_eq low start) [
+          | inl here ↦ ap (begins test) (sym here) ∙ edge (omega (arith, here, next.below)) (ap test here ∙ next.passes)
+          | inr later ↦ and_begins (test start) (nat_lt 0 start) (test (start - 1)) next.passes (next.none (start - 1) (omega (arith, later, next.after)) (omega (arith, later, next.after)))
+        ]
+
+    ending : end_from test n start ≡ end
+    ending =
+        elim (cases_eq end n) [
+          | inl last ↦ ap (λ m. end_from test m start) (sym last) ∙ ends_last test end start some all
+          | inr before ↦ ends_at test n start end some (omega (arith, before, within)) all (stops (omega (arith, before, within)))
+        ]
+
+    listed : stretches test n low n ≡ (start, end) ∷ stretches test n end n
+    listed =
+        ap (map (λ p. (p, end_from test n p)))
+        (around test n low start end n next.after some within first all ∙ ap (λ xs. xs ++ start ∷ ascending (begins test) end (n - end)) (none_begin test n low start next.none))
+        ∙ ap (λ e. (start, e) ∷ stretches test n end n) ending
+
+    one_stretch : AreStretches test end n (stretches test n end n) → AreStretches test low n (stretches test n low n)
+    unfolding AreStretches
+    one_stretch others = subst (AreStretches test low n) (sym listed) (next.after, next.none, some, all, within, stops, others)
+
+  no_stretch : (low : ℕ) → NonePasses test low n → AreStretches test low n (stretches test n low n)
+  unfolding AreStretches
+  no_stretch low none = subst (AreStretches test low n) (sym (ap (map (λ p. (p, end_from test n p))) (none_begin test n low n none))) none
+
+  all_stretches : (fuel low : ℕ) → n ≤ low + fuel → low ≤ n → IsEdge low → AreStretches test low n (stretches test n low n)
+  all_stretches zero low short within edge = no_stretch low (λ i above below. absurd (omega (arith, short, above, below)))
+  all_stretches (suc fuel) low short within edge = from_least (all_stretches fuel) (least test low (n - low))
+    where
+      whole : low + (n - low) ≡ n
+      whole = omega (arith, within)
+
+      from_end : ((next : ℕ) → n ≤ next + fuel → next ≤ n → IsEdge next → AreStretches test next n (stretches test n next n)) → (start : ℕ) → IsNext test low n start → NonePasses (λ q. not (test q)) start (start + (n - start)) ⊎ ((q : ℕ) × IsNext (λ q. not (test q)) start (start + (n - start)) q) → AreStretches test low n (stretches test n low n)
+      from_end more start next (inl none) =
+          one_stretch low start n edge next next.below (omega arith) (λ p above below. not_false (test p) (none p above (omega (arith, below)))) (λ less. absurd (omega (arith, less)))
+          (more n (omega arith) (omega arith) (λ less. absurd (omega (arith, less))))
+      from_end more start next (inr found) =
+          let end : ℕ = found.0 in
+          let fails : test end ≡ false = not_true (test end) found.1.passes in
+          let some : start < end =
+          elim (cases_eq start end) [
+            | inl same ↦ absurd (true≢false (sym next.passes ∙ ap test same ∙ fails))
+            | inr other ↦ omega (arith, other, found.1.after)
+          ] in
+          one_stretch low start end edge next some (omega (arith, found.1.below, next.below)) (λ p above below. not_false (test p) (found.1.none p above below)) (λ less. fails)
+          (more end (omega (arith, short, some, next.after)) (omega (arith, found.1.below, next.below)) (λ less passes. absurd (true≢false (sym passes ∙ fails))))
+
+      from_least : ((next : ℕ) → n ≤ next + fuel → next ≤ n → IsEdge next → AreStretches test next n (stretches test n next n)) → NonePasses test low (low + (n - low)) ⊎ ((p : ℕ) × IsNext test low (low + (n - low)) p) → AreStretches test low n (stretches test n low n)
+      from_least more (inl none) = no_stretch low (λ i above below. none i above (omega (arith, below, whole)))
+      from_least more (inr found) =
+          let next : IsNext test low n found.0 = record { after = found.1.after; below = omega (arith, found.1.below, whole); passes = found.1.passes; none = found.1.none } in
+          from_end more found.0 next (least (λ q. not (test q)) found.0 (n - found.0))
+
+  pub stretches_of : AreStretches test 0 n (stretches test n 0 n)
+  stretches_of = all_stretches n 0 (omega arith) (omega arith) (λ _ one. at_zero (test 0) (test (0 - 1)) one)
+    where
+      at_zero : (a c : Bool) → a ≡ true → (a && not (nat_lt 0 0 && c)) ≡ true
+      at_zero a c one = grind arith
+
+pub runs_are_the_set : RunsAreTheSet
+unfolding runs
+runs_are_the_set v = stretches_of (contains v) v.length
+
+pub zero_runs_are_the_others : ZeroRunsAreTheOthers
+unfolding runs zero_runs
+zero_runs_are_the_others v = subst (λ n. AreStretches (contains (complement v)) 0 n (zero_runs v)) (length-complement v) (stretches_of (contains (complement v)) (complement v).length)

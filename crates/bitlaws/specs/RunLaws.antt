@@ -1,0 +1,23 @@
+-- What the stretches of a set are.
+use Rattle.std.specs.Prelude.{◌≡◌, ℕ, ◌<◌, ◌≤◌, Bool, true, false, List, [], ◌∷◌}
+use Rattle.bitwords.specs.Neighbours.{NonePasses}
+use Rattle.fixedbitset.specs.Bits.{Bits, contains, complement}
+use Rattle.fixedbitset.specs.Runs.{runs, zero_runs}
+
+-- from `low` up to n these are the numbers that pass, as start and end: none before a stretch passes, each number of it
+-- does, and the one behind it does not
+unfoldable pub AreStretches : (ℕ → Bool) → (low n : ℕ) → List (ℕ × ℕ) → Type 0
+AreStretches test low n [] = NonePasses test low n
+AreStretches test low n (run ∷ others) =
+    (low ≤ run.0) × NonePasses test low run.0
+    × (run.0 < run.1) × ((p : ℕ) → run.0 ≤ p → p < run.1 → test p ≡ true)
+    × (run.1 ≤ n) × (run.1 < n → test run.1 ≡ false)
+    × AreStretches test run.1 n others
+
+-- those of a set are its positions
+abbrev pub RunsAreTheSet : Type 0
+RunsAreTheSet = (v : Bits) → AreStretches (contains v) 0 v.length (runs v)
+
+-- and those that are clear are the others below the length
+abbrev pub ZeroRunsAreTheOthers : Type 0
+ZeroRunsAreTheOthers = (v : Bits) → AreStretches (contains (complement v)) 0 v.length (zero_runs v)
