@@ -98,9 +98,10 @@ impl FixedBitSet {
     /// It takes no memory, and no other words than those that hold a position of the range. Upstream has no such call.
     ///
     /// ```
-    /// let set = FixedBitSet::from_iter(alloc, [3, 64, 65, 200])?;
-    /// assert!(rt; set.ones_in(64..200).eq([64, 65]));
-    /// assert_eq!(rt; set.ones_in(..=200).next_back(), Some(200));
+    /// let mut set = FixedBitSet::with_capacity(alloc, 200)?;
+    /// set.insert_range(60..130);
+    /// assert!(rt; set.ones_in(128..).eq([128, 129]));
+    /// assert_eq!(rt; set.ones_in(..=60).next(), Some(60));
     /// ```
     #[inline]
     pub fn ones_in<R: IndexRange<usize> + Drop>(&self, range: R) -> Ones<'_>
@@ -126,8 +127,9 @@ impl FixedBitSet {
     /// It takes no memory, and no other words than those that hold a position of the range. Upstream has no such call.
     ///
     /// ```
-    /// let set = FixedBitSet::from_iter(alloc, [3, 64, 65, 200])?;
-    /// assert!(rt; set.zeroes_in(63..68).eq([63, 66, 67]));
+    /// let mut set = FixedBitSet::with_capacity(alloc, 200)?;
+    /// set.insert_range(60..130);
+    /// assert!(rt; set.zeroes_in(58..132).eq([58, 59, 130, 131]));
     /// ```
     #[inline]
     pub fn zeroes_in<R: IndexRange<usize> + Drop>(&self, range: R) -> Zeroes<'_>

@@ -25,7 +25,11 @@ pub fn equal<T: PartialEq + Debug + Drop>(rt: &impl Abort, left: T, right: T)
 }
 
 /// The assertion that a walk gives these items and no more.
-pub fn gives<I: Iterator<Item = usize>>(rt: &impl Abort, walk: I, items: &[usize])
+pub fn gives<T: PartialEq + Copy + Drop, I: Iterator<Item = T>>(
+    rt: &impl Abort,
+    walk: I,
+    items: &[T],
+)
     requires can { I.can_next walk }
     requires finite { IsFinite (I.remaining walk) }
 {

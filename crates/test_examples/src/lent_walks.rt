@@ -40,6 +40,7 @@ fn zero_runs(rt: HostRuntime) {
 }
 
 #[test]
+#[tactic(auto, using(fixedbitset::specs::WordsFacts::facts))]
 fn ones_in(rt: HostRuntime) {
     let mut words = [9, 2, 0, 0];
     lent::settle(&mut words, 70, 70);
@@ -47,6 +48,7 @@ fn ones_in(rt: HostRuntime) {
 }
 
 #[test]
+#[tactic(auto, using(fixedbitset::specs::WordsFacts::facts))]
 fn zeroes_in(rt: HostRuntime) {
     let mut words = [Block::MAX - 8, 60, 0, 0];
     lent::settle(&mut words, 70, 70);

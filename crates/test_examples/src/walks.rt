@@ -29,18 +29,22 @@ fn zeroes(rt: HostRuntime) {
 }
 
 #[test]
+#[tactic(auto, using(fixedbitset::specs::BitsFacts::facts, fixedbitset::specs::RangesFacts::facts))]
 fn ones_in(rt: HostRuntime) {
     let alloc = rt.alloc();
-    let set = set_of(&rt, alloc, &[3, 64, 65, 200]);
-    gives(&rt, set.ones_in(64..200), &[64, 65]);
-    equal(&rt, set.ones_in(..=200).next_back(), Some(200));
+    let mut set = cleared(&rt, alloc, 200);
+    set.insert_range(60..130);
+    gives(&rt, set.ones_in(128..), &[128, 129]);
+    equal(&rt, set.ones_in(..=60).next(), Some(60));
 }
 
 #[test]
+#[tactic(auto, using(fixedbitset::specs::BitsFacts::facts, fixedbitset::specs::RangesFacts::facts))]
 fn zeroes_in(rt: HostRuntime) {
     let alloc = rt.alloc();
-    let set = set_of(&rt, alloc, &[3, 64, 65, 200]);
-    gives(&rt, set.zeroes_in(63..68), &[63, 66, 67]);
+    let mut set = cleared(&rt, alloc, 200);
+    set.insert_range(60..130);
+    gives(&rt, set.zeroes_in(58..132), &[58, 59, 130, 131]);
 }
 
 #[test]
