@@ -1,14 +1,16 @@
 -- The stretches of the numbers that pass, one after the other.
-use Rattle.std.proofs.Common.{inl, inr, ◌⊎◌, ◌≡◌, ℕ, zero, suc, ◌+◌, ◌-◌, ◌<◌, ◌≤◌, Bool, true, false, not, ◌&&◌, nat_lt, ◌∷◌, ◌++◌, map, refl, sym, ap, ◌∙◌, subst, arith, ⊎_elim}
-use Rattle.std.proofs.lemmas.Bool.{cases_eq, true≢false}
+use Rattle.std.proofs.Common.{inl, inr, ◌⊎◌, ◌≡◌, ℕ, zero, suc, ◌+◌, ◌-◌, ◌<◌, ◌≤◌, Bool, true, false, not, ◌&&◌, nat_le, nat_lt, IsTrue, MatchOption, slice_get, ◌∷◌, ◌++◌, map, refl, sym, ap, ◌∙◌, subst, arith, ⊎_elim}
+use Rattle.std.proofs.lemmas.Bool.{cases_eq, cases_lt, le-leb, leb-true, and_parts, and_from, true≢false, false_from_ne_true}
 use Rattle.bitwords.specs.Ascending.{ascending}
+use Rattle.bitwords.specs.AscendingFacts.{ascending-none, first-from}
 use Rattle.bitwords.specs.Neighbours.{IsNext, NonePasses}
 use Rattle.bitwords.specs.Runs.{begins, end_from, stretches}
 use Rattle.bitwords.specs.RunsFacts.{around, none_begin, ends_at, ends_last, and_begins}
-use Rattle.bitlaws.specs.RunLaws.{AreStretches, RunsAreTheSet, ZeroRunsAreTheOthers}
+use Rattle.bitlaws.specs.RunLaws.{AreStretches, RunsAreTheSet, ZeroRunsAreTheOthers, RoomTells, GapIsLeast}
 use Rattle.fixedbitset.specs.Bits.{contains, complement}
 use Rattle.fixedbitset.specs.BitsFacts.{length-complement}
-use Rattle.fixedbitset.specs.Runs.{runs, zero_runs}
+use Rattle.fixedbitset.specs.RangesFacts.{contains_any-tells}
+use Rattle.fixedbitset.specs.Runs.{runs, zero_runs, has_room, first_gap}
 
 -- the least number that passes, if there is one
 least : (test : ℕ → Bool) (low k : ℕ) → NonePasses test low (low + k) ⊎ ((p : ℕ) × IsNext test low (low + k) p)
@@ -105,3 +107,35 @@ runs_are_the_set v = stretches_of (contains v) v.length
 pub zero_runs_are_the_others : ZeroRunsAreTheOthers
 unfolding runs zero_runs
 zero_runs_are_the_others v = subst (λ n. AreStretches (contains (complement v)) 0 n (zero_runs v)) (length-complement v) (stretches_of (contains (complement v)) (complement v).length)
+
+-- ---- gaps
+
+pub room_tells : RoomTells
+unfolding has_room
+room_tells v count p = (
+  λ room.
+      let parts = and_parts (nat_le (p + count) v.length) _ room in (
+        leb-true (p + count) v.length parts.0,
+        λ q above below one. true≢false (sym ((contains_any-tells v p (p + count)).1 (q, above, below, one)) ∙ not_true _ parts.1),
+      ),
+  λ free. and_from _ _ (le-leb (p + count) v.length free.0)
+      (ap not (false_from_ne_true _ (λ some. let one = (contains_any-tells v p (p + count)).0 some in free.1 one.0 one.1 one.2 one.3))),
+)
+
+pub gap_is_least : GapIsLeast
+unfolding first_gap
+gap_is_least v count from = by_least (least (has_room v count) from (v.length + 1 - from))
+  where
+    past : (q : ℕ) → has_room v count q ≡ true → q < v.length + 1
+    past q room = let fits : q + count ≤ v.length = ((room_tells v count q).0 room).0 in omega (arith, fits)
+
+    by_least : NonePasses (has_room v count) from (from + (v.length + 1 - from)) ⊎ ((p : ℕ) × IsNext (has_room v count) from (from + (v.length + 1 - from)) p)
+        → MatchOption (slice_get (ascending (has_room v count) from (v.length + 1 - from)) 0) ((p : ℕ) → from ≤ p → ¬ (IsTrue (has_room v count p))) (λ p. (from ≤ p) × IsTrue (has_room v count p) × ((q : ℕ) → from ≤ q → IsTrue (has_room v count q) → p ≤ q))
+    by_least (inl none) =
+        rw (ascending-none (has_room v count) from (v.length + 1 - from) none)
+        (λ p above room. true≢false (sym room ∙ none p above (let h = past p room in omega (arith, above, h))))
+    by_least (inr found) =
+        let p : ℕ = found.0 in
+        let next = found.1 in
+        rw (first-from (has_room v count) from (v.length + 1 - from) p next.after next.below next.passes next.none)
+        (next.after, next.passes, λ q above room. ⊎_elim (λ (less : q < p). absurd (true≢false (sym room ∙ next.none q above less))) (λ (more : p ≤ q). more) (cases_lt q p))

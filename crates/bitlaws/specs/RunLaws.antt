@@ -1,8 +1,8 @@
 -- What the stretches of a set are.
-use Rattle.std.specs.Prelude.{◌≡◌, ℕ, ◌<◌, ◌≤◌, Bool, true, false, List, [], ◌∷◌}
+use Rattle.std.specs.Prelude.{◌≡◌, ◌↔◌, ℕ, ◌+◌, ◌<◌, ◌≤◌, Bool, true, false, IsTrue, MatchOption, List, [], ◌∷◌}
 use Rattle.bitwords.specs.Neighbours.{NonePasses}
 use Rattle.fixedbitset.specs.Bits.{Bits, contains, complement}
-use Rattle.fixedbitset.specs.Runs.{runs, zero_runs}
+use Rattle.fixedbitset.specs.Runs.{runs, zero_runs, has_room, first_gap}
 
 -- from `low` up to n these are the numbers that pass, as start and end: none before a stretch passes, each number of it
 -- does, and the one behind it does not
@@ -21,3 +21,13 @@ RunsAreTheSet = (v : Bits) → AreStretches (contains v) 0 v.length (runs v)
 -- and those that are clear are the others below the length
 abbrev pub ZeroRunsAreTheOthers : Type 0
 ZeroRunsAreTheOthers = (v : Bits) → AreStretches (contains (complement v)) 0 v.length (zero_runs v)
+
+-- there is room exactly if the positions are below the length and none of them is set
+abbrev pub RoomTells : Type 0
+RoomTells = (v : Bits) (count p : ℕ) → IsTrue (has_room v count p) ↔ ((p + count ≤ v.length) × ((q : ℕ) → p ≤ q → q < p + count → ¬ (IsTrue (contains v q))))
+
+-- the first gap is the least number with room, and where there is none no number has
+abbrev pub GapIsLeast : Type 0
+GapIsLeast = (v : Bits) (count from : ℕ) → MatchOption (first_gap v count from)
+    ((p : ℕ) → from ≤ p → ¬ (IsTrue (has_room v count p)))
+    (λ p. (from ≤ p) × IsTrue (has_room v count p) × ((q : ℕ) → from ≤ q → IsTrue (has_room v count q) → p ≤ q))

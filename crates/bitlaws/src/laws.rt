@@ -7,7 +7,7 @@ ghost use Rattle.bitlaws.specs.JoinLaws.{ComplementTwice, ComplementOfUnion, Com
 ghost use Rattle.bitlaws.specs.JsonLaws.{WrittenReadsBack, TextIsExact, HasWholeNumbers, NestsTwice};
 ghost use Rattle.bitlaws.specs.OrderLaws.{EqualTells, CompareTells, MinimumIsLeast, MaximumIsGreatest};
 ghost use Rattle.bitlaws.specs.RangeLaws.{WordsOfRange, NumberOfRangeWords, RangeWordsBound, SearchBound, TogglingTwice, RangeCountsAddUp, IsValidTells, ContainsAllTells, ContainsAnyTells};
-ghost use Rattle.bitlaws.specs.RunLaws.{RunsAreTheSet, ZeroRunsAreTheOthers};
+ghost use Rattle.bitlaws.specs.RunLaws.{RunsAreTheSet, ZeroRunsAreTheOthers, RoomTells, GapIsLeast};
 ghost use Rattle.bitlaws.specs.SetLaws.{ClearHasNone, FullHasAll, InsertAddsOne, InsertKeeps, RemoveTakesOne, RemoveKeeps, WordsReadBack};
 ghost use Rattle.bitlaws.specs.TwoSetLaws.{CountsAddUp, SymmetricDifferenceIsSum, SubsetBothWays, IsSubsetTells, IsDisjointTells, StepsBound, StepsOfEqual};
 ghost use Rattle.bitlaws.specs.WalkLaws.{PartsAreTheList, TurnsOfCalls, LooksUpOnce, JoinsOnce, SplitsOnce};
@@ -51,6 +51,19 @@ pub fn words_read_back()
 pub fn runs_are_the_set()
     ensures ones { RunsAreTheSet }
     ensures zeroes { ZeroRunsAreTheOthers }
+{}
+
+/// `first_gap` answers the least number with room, and none exactly where no number has room. There is room where the
+/// positions are below the length and none of them is set.
+///
+/// ```
+/// let set = FixedBitSet::from_iter(alloc, [3, 4, 9])?;
+/// laws::first_gap_is_least();
+/// assert_eq!(rt; set.first_gap(4, 0), Some(5));
+/// ```
+pub fn first_gap_is_least()
+    ensures room { RoomTells }
+    ensures least { GapIsLeast }
 {}
 
 /// What is written of a set as JSON is in the form and means that set.

@@ -35,6 +35,14 @@ fn runs_are_the_set(rt: HostRuntime) {
 }
 
 #[test]
+fn first_gap_is_least(rt: HostRuntime) {
+    let alloc = rt.alloc();
+    let set = set_of(&rt, alloc, &[3, 4, 9]);
+    laws::first_gap_is_least();
+    equal(&rt, set.first_gap(4, 0), Some(5));
+}
+
+#[test]
 #[tactic(auto, using(fixedbitset::specs::OrderFacts::facts))]
 fn reads_back(rt: HostRuntime) {
     let alloc = rt.alloc();
