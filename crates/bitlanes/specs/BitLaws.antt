@@ -102,3 +102,12 @@ laws_of_xor = record {
   of_first = elim [ true ↦ refl | false ↦ refl ];
   of_second = elim [ true ↦ refl | false ↦ refl ];
 }
+
+pub laws_of_second : IsWordOp (λ x y. y) (λ x y. y) false true
+laws_of_second = record {
+  by_bits = λ a b i p q. refl;
+  fits = λ a b p q. q;
+  of_neither = refl;
+  of_first = λ x. refl;
+  of_second = elim [ true ↦ refl | false ↦ refl ];
+}

@@ -6,6 +6,7 @@ pub mod Ones
 pub mod Ops
 pub mod Range
 pub mod Search
+pub mod Shifts
 pub mod Word
 pub mod Words
 -- facts for callers

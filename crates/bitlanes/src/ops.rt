@@ -2,7 +2,7 @@
 ghost use Rattle.std.specs.Prelude.{◌≡◌, ℕ, Bool, true, false, ◌&&◌, ◌||◌, not, bit_and, bit_or, bit_xor};
 ghost use Rattle.std.specs.Simd.Lanes.{zip2};
 ghost use Rattle.bitlanes.specs.Bits.{either, bit_without};
-ghost use Rattle.bitlanes.specs.BitLaws.{laws_of_or, laws_of_and, laws_of_without, laws_of_xor};
+ghost use Rattle.bitlanes.specs.BitLaws.{laws_of_or, laws_of_and, laws_of_without, laws_of_xor, laws_of_second};
 ghost use Rattle.bitlanes.specs.Ops.{IsWordOp};
 
 use crate::Block;
@@ -181,4 +181,38 @@ impl WordOp for Xor {
     }
 
     ghost laws = { laws_of_xor };
+}
+
+/// The bits of the second word: what a row is written over with.
+///
+/// ```
+/// assert_eq!(rt; <Second as WordOp>::word(10, 6), 6);
+/// assert!(rt; !<Second as WordOp>::KEEP && <Second as WordOp>::TAKE);
+/// ```
+pub struct Second;
+
+impl WordOp for Second {
+    const KEEP: bool = false; // what nothing is written over with is nothing
+
+    const TAKE: bool = true; // what y is written over with is y
+
+    ghost KEEP = { false };
+
+    ghost TAKE = { true };
+
+    ghost truth = { λ x y. y };
+
+    ghost joined = { λ x y. y };
+
+    #[inline(always)]
+    fn word(_a: Block, b: Block) -> Block {
+        b
+    }
+
+    #[inline(always)]
+    fn lane(_left: u64x4, right: u64x4) -> u64x4 {
+        right
+    }
+
+    ghost laws = { laws_of_second };
 }

@@ -8,3 +8,4 @@ pub mod cursors;
 pub mod joins;
 pub mod positions;
 pub mod ranges;
+pub mod shifts;

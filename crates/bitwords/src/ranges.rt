@@ -1,4 +1,4 @@
-//! A range of positions of one row: changes, counts and tests.
+//! A range of positions of one row: changes, counts and tests, and a copy from another row.
 //!
 //! A range is cut at the edges of words into three parts: positions of its first word, whole words, and positions of its
 //! last word. Each part may be empty. So no word but the first and the last is masked.
@@ -6,10 +6,12 @@ ghost use Rattle.std.specs.Prelude.{◌≡◌, ℕ, ◌<◌, ◌≤◌, ◌+◌,
 ghost use Rattle.bitlanes.specs.Bits.{bit};
 ghost use Rattle.bitlanes.specs.Words.{lane_steps};
 ghost use Rattle.bitwords.specs.Cuts.{IsCut};
-ghost use Rattle.bitwords.specs.Rows.{in_range, IsJoined, count_below, bit_test};
+ghost use Rattle.bitwords.specs.Rows.{in_range, IsJoined, IsCopied, count_below, bit_test};
 ghost use Rattle.bitwords.specs.Steps.{range_words, search_steps};
 
-use bitlanes::ops::WordOp;
+use crate::shifts::join_down;
+use bitlanes::ops::{Second, WordOp};
+use bitlanes::shifts::word_from;
 use bitlanes::word::{BITS, Block, stretch};
 use bitlanes::{Steps, lanes};
 
@@ -85,6 +87,45 @@ pub fn none<O: WordOp>(words: &[Block], start: usize, end: usize, steps: &mut St
     none_part::<O>(words, start, low, steps)
         && none_whole::<O>(words, low / BITS, high / BITS, steps)
         && none_part::<O>(words, high, end, steps)
+}
+
+/// Writes the positions of `other` from `from` on over those of the range; the others stay.
+///
+/// It takes exactly `search_steps`: one step for each lane of four of the words that are wholly in the range, the last of
+/// which may have fewer, and one for each other word that holds a position of it.
+///
+/// ```
+/// let mut words = [9, 9];
+/// ranges::copy(&mut words, 1, 67, &[5 << 60, 9], 62, &mut Steps::new());
+/// assert_eq!(rt; words, [75, 8]);
+/// ```
+#[inline(always)]
+pub fn copy(
+    words: &mut [Block],
+    start: usize,
+    end: usize,
+    other: &[Block],
+    from: usize,
+    steps: &mut Steps,
+)
+    requires order { start ≤ end }
+    requires within { end ≤ 64 * length words.old }
+    requires source { from + (end - start) ≤ 64 * length other.now }
+    requires fits { from + (end - start) < 2 ^ 64 }
+    ensures bits { IsCopied other.now from start end words.old words.new }
+    ensures cost { steps.new ≡ steps.old + search_steps start end }
+{
+    let (low, high) = cut(start, end);
+    copy_part(words, start, low, other, from, steps);
+    copy_whole(
+        words,
+        low / BITS,
+        high / BITS,
+        other,
+        from + (low - start),
+        steps,
+    );
+    copy_part(words, high, end, other, from + (high - start), steps);
 }
 
 // Where the whole words of the range begin and where they end. If it has none, both are the same place.
@@ -222,4 +263,47 @@ fn none_whole<O: WordOp>(words: &[Block], first: usize, last: usize, steps: &mut
         return O::word(Block::MAX, words[first]) == 0;
     }
     lanes::none_masked::<O>(Block::MAX, &words[first..last], steps)
+}
+
+// `copy`, for a range within one word.
+#[inline(always)]
+fn copy_part(
+    words: &mut [Block],
+    start: usize,
+    end: usize,
+    other: &[Block],
+    from: usize,
+    steps: &mut Steps,
+)
+    requires order { start ≤ end }
+    requires one_word { end ≤ 64 * (start / 64) + 64 }
+    requires within { end ≤ 64 * length words.old }
+    ensures bits { IsCopied other.now from start end words.old words.new }
+    ensures cost { steps.new ≡ steps.old + range_words start end }
+{
+    if start < end {
+        steps.tick();
+        let at = start / BITS;
+        let mask = mask(start, end);
+        words[at] = words[at] & !mask | word_from(other, from) << (start % BITS) & mask;
+    }
+}
+
+// `copy`, for the words from `first` up to and without `last`.
+#[inline(always)]
+fn copy_whole(
+    words: &mut [Block],
+    first: usize,
+    last: usize,
+    other: &[Block],
+    from: usize,
+    steps: &mut Steps,
+)
+    requires order { first ≤ last }
+    requires within { last ≤ length words.old }
+    requires source { from + 64 * (last - first) ≤ 64 * length other.now }
+    ensures bits { IsCopied other.now from (64 * first) (64 * last) words.old words.new }
+    ensures cost { steps.new ≡ steps.old + lane_steps (last - first) }
+{
+    join_down::<Second>(&mut words[first..last], other, from, steps);
 }

@@ -1,0 +1,250 @@
+-- Rows moved by a number of positions: their bits.
+use Rattle.std.proofs.Common.{◌≡◌, ℕ, ◌+◌, ◌-◌, ◌*◌, ◌/◌, ◌%◌, ◌^◌, ◌<◌, ◌≤◌, Bool, true, false, ◌&&◌, ◌||◌, ◌==◌, nat_le, List, ◌++◌, length, take, drop, get_or, sym, ap, ◌∙◌, arith, refl, inl, inr, ◌⊎◌, ⊎_elim}
+use Rattle.std.specs.Int.{bit_at}
+use Rattle.std.proofs.lemmas.Bool.{cases_lt, le-leb}
+use Rattle.std.proofs.lemmas.Bool.Decides.{nat_tests}
+use Rattle.std.proofs.lemmas.List.{get_or_append_left, get_or-append_right, get_or-take, length-append, length-take-le, length-drop}
+use borrow.Rule.Slice.PartMut.{put_mid, post_of}
+use Rattle.std.proofs.lemmas.Nat.{shr-shr, shr_split, or_lt, shr_le, pow_pos}
+use Rattle.std.proofs.lemmas.Nat.Bits.{bit_at_above, bit_at_cat_low, bit_at_cat_high, bit_at-zero}
+use Rattle.bitlanes.specs.Bits.{bit}
+use Rattle.bitlanes.specs.BitLaws.{bit-or}
+use Rattle.bitlanes.specs.Ops.{IsWordOp}
+use Rattle.bitlanes.specs.Shifts.{straddle, window}
+use Rattle.bitwords.specs.Rows.{has_bit, IsJoined}
+use Rattle.bitwords.specs.RowFacts.{AreWords, bit-zero, has_bit-past}
+
+-- ---- a word moved
+
+-- a bit of a word moved down
+bit-down : (x r i : ℕ) → bit (x / 2 ^ r) i ≡ bit x (r + i)
+bit-down x r i = ap (λ n. n % 2 == 1) (shr-shr x r i)
+
+-- a bit of the lowest 64
+bit-cut : (x i : ℕ) → i < 64 → bit (x % 2 ^ 64) i ≡ bit x i
+bit-cut x i h = ap (λ n. n == 1) (sym (bit_at_cat_low (x / 2 ^ 64) 64 (x % 2 ^ 64) i h)) ∙ ap (λ n. bit n i) (shr_split x 64)
+
+-- a bit of a word moved up
+bit-up_low : (x k i : ℕ) → i < 64 → i < k → bit (x * 2 ^ k % 2 ^ 64) i ≡ false
+bit-up_low x k i h low = bit-cut (x * 2 ^ k) i h ∙ (let e : x * 2 ^ k ≡ x * 2 ^ k + 0 = omega arith in ap (λ n. bit n i) e) ∙ ap (λ n. n == 1) (bit_at_cat_low x k 0 i low ∙ bit_at-zero i)
+
+pub bit-up : (x k i : ℕ) → i < 64 → k ≤ i → bit (x * 2 ^ k % 2 ^ 64) i ≡ bit x (i - k)
+bit-up x k i h high = bit-cut (x * 2 ^ k) i h ∙ (let e : x * 2 ^ k ≡ x * 2 ^ k + 0 = omega arith in ap (λ n. bit n i) e) ∙ ap (λ n. n == 1) (bit_at_cat_high x k 0 i (pow_pos k) high)
+
+gt_leb : (a b : ℕ) → b < a → nat_le a b ≡ false
+gt_leb a b h = grind (arith, nat_tests)
+
+and_false : (b : Bool) → (b && false) ≡ false
+and_false b = grind arith
+
+or_false : (b : Bool) → (b || false) ≡ b
+or_false b = grind arith
+
+module _ (r low high i : ℕ) (short : r < 64) (within : i < 64) where
+  abbrev right : ℕ
+  right = low / 2 ^ r
+
+  abbrev left : ℕ
+  left = high * 2 ^ 1 % 2 ^ 64 * 2 ^ (63 - r) % 2 ^ 64
+
+  -- the bits of the first word
+  pub straddle_first : r + i < 64 → bit (straddle r low high) i ≡ bit low (r + i)
+  unfolding straddle
+  straddle_first first =
+      bit-or right left i
+      ∙ (let a = bit-down low r i in let b = by_place in λ j. a j || b j)
+      ∙ or_false (bit low (r + i))
+    where
+      by_place : bit left i ≡ false
+      by_place = ⊎_elim
+          (λ (lt : i < 63 - r). bit-up_low (high * 2 ^ 1 % 2 ^ 64) (63 - r) i within lt)
+          (λ (ge : 63 - r ≤ i).
+          bit-up (high * 2 ^ 1 % 2 ^ 64) (63 - r) i within ge
+          ∙ (let e : i - (63 - r) ≡ 0 = omega arith in ap (bit (high * 2 ^ 1 % 2 ^ 64)) e)
+          ∙ bit-up_low high 1 0 (omega arith) (omega arith))
+          (cases_lt i (63 - r))
+
+  -- the bits of the second
+  pub straddle_second : low < 2 ^ 64 → 64 ≤ r + i → bit (straddle r low high) i ≡ bit high (r + i - 64)
+  unfolding straddle
+  straddle_second word second =
+      bit-or right left i
+      ∙ (let a = bit-down low r i ∙ ap (λ n. n == 1) (bit_at_above low 64 (r + i) word second) in
+      let b = bit-up (high * 2 ^ 1 % 2 ^ 64) (63 - r) i within (omega arith)
+      ∙ bit-up high 1 (i - (63 - r)) (omega arith) (omega arith)
+      ∙ (let e : i - (63 - r) - 1 ≡ r + i - 64 = omega arith in ap (bit high) e) in
+      λ j. a j || b j)
+
+-- the 64 bits from a position on
+module _ (ws : List ℕ) (words : AreWords ws) (p : ℕ) where
+  pub bit-window : (i : ℕ) → i < 64 → bit (window ws p) i ≡ has_bit ws (p + i)
+  unfolding window has_bit
+  bit-window i within = ⊎_elim
+      (λ (lt : p % 64 + i < 64).
+      let q : p / 64 ≡ (p + i) / 64 = omega arith in
+      let s : p % 64 + i ≡ (p + i) % 64 = omega arith in
+      straddle_first (p % 64) (get_or ws (p / 64) 0) (get_or ws (p / 64 + 1) 0) i (omega arith) within lt
+      ∙ (λ j. bit (get_or ws (q j) 0) (s j)))
+      (λ (ge : 64 ≤ p % 64 + i).
+      let q : p / 64 + 1 ≡ (p + i) / 64 = omega arith in
+      let s : p % 64 + i - 64 ≡ (p + i) % 64 = omega arith in
+      straddle_second (p % 64) (get_or ws (p / 64) 0) (get_or ws (p / 64 + 1) 0) i (omega arith) within (words (p / 64)) ge
+      ∙ (λ j. bit (get_or ws (q j) 0) (s j)))
+      (cases_lt (p % 64 + i) 64)
+
+  pub window_fits : window ws p < 2 ^ 64
+  unfolding window straddle
+  window_fits =
+      let word = words (p / 64) in
+      or_lt 64 (get_or ws (p / 64) 0 / 2 ^ (p % 64)) _ (omega (arith, word, pow_pos (p % 64), shr_le (get_or ws (p / 64) 0) (p % 64))) (omega arith)
+
+-- the bits of a first word that is moved up within its place
+pub bit-first : (ws : List ℕ) (shift i : ℕ) → i < 64 → shift < 64 → bit (get_or ws 0 0 * 2 ^ shift % 2 ^ 64) i ≡ (nat_le shift i && has_bit ws (i - shift))
+unfolding has_bit
+bit-first ws shift i within short = ⊎_elim
+    (λ (lt : i < shift). bit-up_low (get_or ws 0 0) shift i within lt ∙ sym (ap (λ b. b && bit (get_or ws ((i - shift) / 64) 0) ((i - shift) % 64)) (gt_leb shift i lt)))
+    (λ (ge : shift ≤ i).
+    let q : 0 ≡ (i - shift) / 64 = omega arith in
+    let r : i - shift ≡ (i - shift) % 64 = omega arith in
+    bit-up (get_or ws 0 0) shift i within ge
+    ∙ (λ j. bit (get_or ws (q j) 0) (r j))
+    ∙ sym (ap (λ b. b && bit (get_or ws ((i - shift) / 64) 0) ((i - shift) % 64)) (le-leb shift i ge)))
+    (cases_lt i shift)
+
+-- ---- a row whose words from one on are written over
+
+module _ (row part : List ℕ) (at : ℕ) (inside : at ≤ length row) (long : length part ≡ length row - at) where
+  abbrev pub put_row : List ℕ
+  put_row = put_mid at (length row - at) row part
+
+  front : length (take at row) ≡ at
+  front = length-take-le at row inside
+
+  pub length-put_row : length put_row ≡ length row
+  length-put_row =
+      let rest : List ℕ = post_of at (length row - at) row in
+      let none : length rest ≡ 0 = length-drop (length row - at) (drop at row) ∙ (let e = length-drop at row in omega arith) in
+      length-append (take at row) (part ++ rest) ∙ (let e = length-append part rest in let f = front in omega arith)
+
+  pub put_row_below : (k : ℕ) → k < at → get_or put_row k 0 ≡ get_or row k 0
+  put_row_below k l = get_or_append_left (take at row) _ 0 k (let f = front in omega arith) ∙ get_or-take at row k 0 l
+
+  pub put_row_from : (k : ℕ) → at ≤ k → k < length row → get_or put_row k 0 ≡ get_or part (k - at) 0
+  put_row_from k l h =
+      get_or-append_right (take at row) _ at k 0 front l
+      ∙ get_or_append_left part (post_of at (length row - at) row) 0 (k - at) (omega arith)
+
+-- ---- a row joined, word by word, with the positions that pass a test
+
+-- word k takes in a word that has the bits of the test
+pub record TakesWord (f : ℕ → ℕ → ℕ) (old : List ℕ) (test : ℕ → Bool) (new : List ℕ) (k : ℕ) : Type 0 where
+  pub word : ℕ
+  pub fits : word < 2 ^ 64
+  pub joined : get_or new k 0 ≡ f (get_or old k 0) word
+  pub bits : (i : ℕ) → i < 64 → bit word i ≡ test (64 * k + i)
+
+-- no position of word k passes, and the word stays, or is 0 where such positions are not kept
+pub record LeavesWord (keep : Bool) (old : List ℕ) (test : ℕ → Bool) (new : List ℕ) (k : ℕ) : Type 0 where
+  pub none : (i : ℕ) → i < 64 → test (64 * k + i) ≡ false
+  pub left : ((keep ≡ true) × (get_or new k 0 ≡ get_or old k 0)) ⊎ ((keep ≡ false) × (get_or new k 0 ≡ 0))
+
+module _ {f : ℕ → ℕ → ℕ} {t : Bool → Bool → Bool} {keep take : Bool} (law : IsWordOp f t keep take) (old : List ℕ) (words_old : AreWords old) where
+  pub IsJoined_words : (test : ℕ → Bool) (new : List ℕ) → length new ≡ length old
+      → ((k : ℕ) → k < length old → TakesWord f old test new k ⊎ LeavesWord keep old test new k)
+      → IsJoined t old test new
+  unfolding has_bit
+  IsJoined_words test new long each = record {
+    long = long;
+    bits = λ p within.
+        let place : 64 * (p / 64) + p % 64 ≡ p = omega arith in
+        ⊎_elim
+        (λ (takes : TakesWord f old test new (p / 64)).
+        ap (λ w. bit w (p % 64)) takes.joined
+        ∙ law.by_bits (get_or old (p / 64) 0) takes.word (p % 64) (words_old (p / 64)) takes.fits
+        ∙ ap (t (has_bit old p)) (takes.bits (p % 64) (omega arith) ∙ ap test place))
+        (λ (leaves : LeavesWord keep old test new (p / 64)).
+        let none : test p ≡ false = ap test (sym place) ∙ leaves.none (p % 64) (omega arith) in
+        let of_first : t (has_bit old p) (test p) ≡ (keep && has_bit old p) = ap (t (has_bit old p)) none ∙ law.of_first (has_bit old p) in
+        ⊎_elim
+        (λ kept. ap (λ w. bit w (p % 64)) kept.1 ∙ sym (of_first ∙ ap (λ b. b && has_bit old p) kept.0))
+        (λ lost. ap (λ w. bit w (p % 64)) lost.1 ∙ bit-zero (p % 64) ∙ sym (of_first ∙ ap (λ b. b && has_bit old p) lost.0))
+        leaves.left)
+        (each (p / 64) (omega arith));
+  }
+
+-- ---- the tests of moved rows
+
+module _ (ws : List ℕ) (words : AreWords ws) where
+  -- what stands `from` above
+  pub takes_down : (f : ℕ → ℕ → ℕ) (old new : List ℕ) (from k : ℕ) → get_or new k 0 ≡ f (get_or old k 0) (window ws (from + 64 * k)) → TakesWord f old (λ p. has_bit ws (from + p)) new k
+  takes_down f old new from k joined = record {
+    word = window ws (from + 64 * k);
+    fits = window_fits ws words (from + 64 * k);
+    joined = joined;
+    bits = λ i h. bit-window ws words (from + 64 * k) i h ∙ (let e : from + 64 * k + i ≡ from + (64 * k + i) = omega arith in ap (has_bit ws) e);
+  }
+
+  pub leaves_down : (keep : Bool) (old new : List ℕ) (from k : ℕ) → length ws ≤ k + from / 64
+      → ((keep ≡ true) × (get_or new k 0 ≡ get_or old k 0)) ⊎ ((keep ≡ false) × (get_or new k 0 ≡ 0))
+      → LeavesWord keep old (λ p. has_bit ws (from + p)) new k
+  leaves_down keep old new from k past left = record { none = λ i h. has_bit-past ws (from + (64 * k + i)) (omega arith); left = left }
+
+  -- what stands `by` below
+  pub takes_up : (f : ℕ → ℕ → ℕ) (old new : List ℕ) (by k : ℕ) → by ≤ 64 * k → get_or new k 0 ≡ f (get_or old k 0) (window ws (64 * k - by)) → TakesWord f old (λ p. nat_le by p && has_bit ws (p - by)) new k
+  takes_up f old new by k within joined = record {
+    word = window ws (64 * k - by);
+    fits = window_fits ws words (64 * k - by);
+    joined = joined;
+    bits = λ i h.
+        bit-window ws words (64 * k - by) i h
+        ∙ (let e : 64 * k - by + i ≡ 64 * k + i - by = omega arith in ap (has_bit ws) e)
+        ∙ sym (ap (λ b. b && has_bit ws (64 * k + i - by)) (le-leb by (64 * k + i) (omega arith)));
+  }
+
+  -- the word that has fewer than 64 bits below it
+  pub takes_first : (f : ℕ → ℕ → ℕ) (old new : List ℕ) (by k : ℕ) → k ≡ by / 64 → get_or new k 0 ≡ f (get_or old k 0) (get_or ws 0 0 * 2 ^ (by % 64) % 2 ^ 64)
+      → TakesWord f old (λ p. nat_le by p && has_bit ws (p - by)) new k
+  takes_first f old new by k here joined = record {
+    word = get_or ws 0 0 * 2 ^ (by % 64) % 2 ^ 64;
+    fits = omega arith;
+    joined = joined;
+    bits = λ i h.
+        bit-first ws (by % 64) i h (omega arith)
+        ∙ (let e : i - by % 64 ≡ 64 * k + i - by = omega arith in
+        let same : nat_le (by % 64) i ≡ nat_le by (64 * k + i) = grind (arith, nat_tests) in
+        λ j. same j && has_bit ws (e j));
+  }
+
+  pub leaves_up : (keep : Bool) (old new : List ℕ) (by k : ℕ) → 64 * (k + 1) ≤ by
+      → ((keep ≡ true) × (get_or new k 0 ≡ get_or old k 0)) ⊎ ((keep ≡ false) × (get_or new k 0 ≡ 0))
+      → LeavesWord keep old (λ p. nat_le by p && has_bit ws (p - by)) new k
+  leaves_up keep old new by k below left = record { none = λ i h. ap (λ b. b && has_bit ws (64 * k + i - by)) (gt_leb by (64 * k + i) (omega arith)); left = left }
+
+  -- behind the last of them
+  pub leaves_past : (keep : Bool) (old new : List ℕ) (by k : ℕ) → 64 * length ws + by ≤ 64 * k
+      → ((keep ≡ true) × (get_or new k 0 ≡ get_or old k 0)) ⊎ ((keep ≡ false) × (get_or new k 0 ≡ 0))
+      → LeavesWord keep old (λ p. nat_le by p && has_bit ws (p - by)) new k
+  leaves_past keep old new by k past left = record { none = λ i h. (let e = has_bit-past ws (64 * k + i - by) (omega arith) in λ j. nat_le by (64 * k + i) && e j) ∙ and_false (nat_le by (64 * k + i)); left = left }
+
+-- a row beside which another has no word
+pub leaves_empty : (ws : List ℕ) → length ws ≡ 0 → (keep : Bool) (old : List ℕ) (by k : ℕ) → keep ≡ true → LeavesWord keep old (λ p. nat_le by p && has_bit ws (p - by)) old k
+leaves_empty ws empty keep old by k kept = record {
+  none = λ i h. (let e = has_bit-past ws (64 * k + i - by) (omega arith) in λ j. nat_le by (64 * k + i) && e j) ∙ and_false (nat_le by (64 * k + i));
+  left = inl (kept, refl);
+}
+
+-- a row that was moved up: word by word
+pub moved_up : (old : List ℕ) → AreWords old → (f : ℕ → ℕ → ℕ) (new : List ℕ) (keep : Bool) (by : ℕ)
+    → ((k : ℕ) → k < length old → by ≤ 64 * k → get_or new k 0 ≡ f (get_or old k 0) (window old (64 * k - by)))
+    → (by / 64 < length old → 0 < by % 64 → get_or new (by / 64) 0 ≡ f (get_or old (by / 64) 0) (get_or old 0 0 * 2 ^ (by % 64) % 2 ^ 64))
+    → ((k : ℕ) → k < length old → 64 * (k + 1) ≤ by → ((keep ≡ true) × (get_or new k 0 ≡ get_or old k 0)) ⊎ ((keep ≡ false) × (get_or new k 0 ≡ 0)))
+    → (k : ℕ) → k < length old → TakesWord f old (λ p. nat_le by p && has_bit old (p - by)) new k ⊎ LeavesWord keep old (λ p. nat_le by p && has_bit old (p - by)) new k
+moved_up old words f new keep by joined first rest k within = ⊎_elim
+    (λ (lt : 64 * k < by). ⊎_elim
+    (λ (below : 64 * (k + 1) < by + 1). inr (leaves_up old words keep old new by k (omega arith) (rest k within (omega arith))))
+    (λ (some : by + 1 ≤ 64 * (k + 1)).
+    let here : k ≡ by / 64 = omega arith in
+    inl (takes_first old words f old new by k here (ap (λ j. get_or new j 0) here ∙ first (omega arith) (omega arith) ∙ ap (λ j. f (get_or old j 0) (get_or old 0 0 * 2 ^ (by % 64) % 2 ^ 64)) (sym here))))
+    (cases_lt (64 * (k + 1)) (by + 1)))
+    (λ (ge : by ≤ 64 * k). inl (takes_up old words f old new by k ge (joined k within ge)))
+    (cases_lt (64 * k) by)
