@@ -65,6 +65,112 @@ pub fn value_of_words(alloc: Global, bits: usize, words: &[Block]) -> Result<Val
     Ok(value)
 }
 
+/// The first `count` words that `source` are the bytes of: eight for each word, the lowest byte first. Past its end a byte is
+/// 0.
+///
+/// It looks at no more than `8 * count` bytes, each once, and takes the memory of the words at once. `Err` comes only where
+/// that was refused.
+///
+/// ```
+/// let words = bytes::words_of_bytes(alloc, &[1, 2], 2)?;
+/// assert_eq!(rt; words.as_slice(), [513, 0].as_slice());
+/// ```
+pub fn words_of_bytes(alloc: Global, source: &[u8], count: usize) -> Result<Vec<Block>, AllocError>
+    requires { 8 * count ≤ 2 ^ 64 }
+    ensures words { IfOk result
+        (λ words. words.items ≡ map (bytes.word_of source.now) (range_with_len 0 count)) }
+    ensures len { IfOk result (λ words. vec_len words ≡ count) }
+{
+    let mut words = vec![in alloc; 0; count]?;
+    fill_words(source, &mut words);
+    Ok(words)
+}
+
+/// Writes over the words those that `source` are the bytes of, as [`words_of_bytes`] makes them.
+///
+/// It looks at no more than eight bytes for a word, each once, and takes no memory.
+///
+/// ```
+/// let mut words = [7, 7];
+/// bytes::fill_words(&[1, 2], &mut words);
+/// assert_eq!(rt; words, [513, 0]);
+/// ```
+pub fn fill_words(source: &[u8], words: &mut [Block])
+    requires { 8 * length words.old ≤ 2 ^ 64 }
+    ensures { words.new
+        ≡ map (bytes.word_of source.now) (range_with_len 0 (length words.old)) }
+{
+    for index in 0..words.len() {
+        words[index] = word_of_bytes(source, index);
+    }
+}
+
+/// The bytes of the words: eight for each word, the lowest byte first.
+///
+/// It takes the memory of the bytes at once. `Err` comes only where that was refused.
+///
+/// ```
+/// let data = bytes::bytes_of_words(alloc, &[513])?;
+/// assert_eq!(rt; data.as_slice(), [1, 2, 0, 0, 0, 0, 0, 0].as_slice());
+/// ```
+pub fn bytes_of_words(alloc: Global, words: &[Block]) -> Result<Vec<u8>, AllocError>
+    requires { 8 * length words.now < 2 ^ 64 }
+    ensures { IfOk result (λ made. made.items ≡ bytes.bytes_of words.now) }
+{
+    let mut made = vec![in alloc; 0; 8 * words.len()]?;
+    fill_bytes(words, &mut made);
+    Ok(made)
+}
+
+/// Writes the bytes of the words over those of `made`, as [`bytes_of_words`] makes them. There have to be eight bytes for
+/// each word.
+///
+/// It takes no memory.
+///
+/// ```
+/// let mut made = [7; 8];
+/// bytes::fill_bytes(&[513], &mut made);
+/// assert_eq!(rt; made, [1, 2, 0, 0, 0, 0, 0, 0]);
+/// ```
+pub fn fill_bytes(words: &[Block], made: &mut [u8])
+    requires { length made.old ≡ 8 * length words.now }
+    ensures { made.new ≡ bytes.bytes_of words.now }
+{
+    for index in 0..made.len() {
+        made[index] = byte_of_words(words, index) as u8;
+    }
+}
+
+// The word of eight bytes.
+#[tactic(auto, unfolding(crate::specs::Bytes::word_of))]
+fn word_of_bytes(source: &[u8], index: usize) -> Block
+    requires { 8 * index + 8 ≤ 2 ^ 64 }
+    ensures { result ≡ bytes.word_of source.now index }
+{
+    let first = 8 * index;
+    u64::from_le_bytes([
+        byte_or_zero(source, first),
+        byte_or_zero(source, first + 1),
+        byte_or_zero(source, first + 2),
+        byte_or_zero(source, first + 3),
+        byte_or_zero(source, first + 4),
+        byte_or_zero(source, first + 5),
+        byte_or_zero(source, first + 6),
+        byte_or_zero(source, first + 7),
+    ])
+}
+
+// A byte, and 0 past the last one.
+fn byte_or_zero(source: &[u8], index: usize) -> u8
+    ensures { result ≡ slice_index source.now index }
+{
+    if index < source.len() {
+        source[index]
+    } else {
+        0
+    }
+}
+
 // The word of eight items.
 #[tactic(auto, unfolding(crate::specs::Bytes::word_of))]
 fn word_at(items: &[Value], index: usize) -> Block
