@@ -53,7 +53,7 @@ module _ (n : ℕ) (fits : n < 2 ^ 64) (old new : List ℕ) (long : length old �
   pub IsClean_cut : IsClean n new
   IsClean_cut = IsClean_settled n n fits (omega arith) old new long done
 
-  of-cut : of_words n new ≡ of_words n old
+  pub of-cut : of_words n new ≡ of_words n old
   of-cut = of_settled n n fits (omega arith) old new long done ∙ sym (grow_same n n old _ refl (omega arith))
 
   -- the items, and 0 for each word that none came for

@@ -118,6 +118,10 @@ module _ (v : Bits) (count : ℕ) where
           pub end_order : start ≤ end
           end_order = is_ending.order
 
+          -- where too few are clear and enough are left, it is set
+          pub end_below : end - start < count → count ≤ v.length - start → end < v.length
+          end_below less left = let e = is_ending in omega (arith, less, left, searched.below, e.order, e.within)
+
           pub found : count ≤ end - start → Some start ≡ first_gap v count from
           found long =
               let e = is_ending in
@@ -165,4 +169,23 @@ module _ (v : Bits) (count : ℕ) where
                       | inr one ↦ absurd (true≢false (sym one ∙ ap (contains v) (sym here) ∙ searched.clear))
                     ]
                 | inr other ↦ omega (arith, other, e.order, least.1)
+              ]
+
+          -- and the position before the next clear one is set
+          pub set_before : end < v.length → (next : ℕ) → next_zero v end ≡ Some next → contains v (next - 1) ≡ true
+          set_before below next is =
+              let least = next_zero_least v end next is in
+              elim is_ending.stop [
+                | inl last ↦ absurd (omega (arith, last, below))
+                | inr one ↦
+                    ⊎_elim
+                    (λ (here : end ≡ next). absurd (true≢false (sym one ∙ ap (contains v) here ∙ least.0)))
+                    (λ other.
+                    ⊎_elim
+                    (λ (set_there : contains v (next - 1) ≡ true). set_there)
+                    (λ (clear : contains v (next - 1) ≡ false).
+                    let h : next ≤ next - 1 = least.3 (next - 1) (omega (arith, other, least.1)) (omega (arith, least.2)) clear in
+                    absurd (omega (arith, h, other, least.1)))
+                    (cases_Bool (contains v (next - 1))))
+                    (cases_eq end next)
               ]

@@ -1,14 +1,14 @@
 -- The words of a set against the bytes of its JSON form.
-use Rattle.std.proofs.Common.{◌≡◌, ℕ, ◌+◌, ◌*◌, ◌/◌, ◌%◌, ◌<◌, ◌≤◌, ◌&&◌, ◌==◌, nat_lt, ◌^◌, List, ◌++◌, map, replicate, length, get_or, sym, ap, ◌∙◌, arith, ⊎_elim}
+use Rattle.std.proofs.Common.{◌≡◌, ℕ, ◌+◌, ◌*◌, ◌/◌, ◌%◌, ◌<◌, ◌≤◌, ◌&&◌, ◌==◌, nat_lt, ◌^◌, List, map, length, get_or, sym, ap, ◌∙◌, arith, ⊎_elim}
 use Rattle.std.specs.Int.{bit_at}
 use Rattle.std.specs.List.{range_with_len}
 use Rattle.std.proofs.lemmas.Bool.{cases_lt, le-ltb, and_right}
-use Rattle.std.proofs.lemmas.List.{ext_get_or, drop_all, append-nil, length-replicate}
+use Rattle.std.proofs.lemmas.List.{ext_get_or}
 use Rattle.std.proofs.lemmas.List.FromFn.{get_or-map-range_with_len, length-map-range_with_len}
 use Rattle.std.proofs.lemmas.Nat.Bits.{same_from_bits_below}
 use Rattle.bitlanes.specs.Bits.{bit}
 use Rattle.bitwords.specs.CountFacts.{indicator}
-use Rattle.bitwords.specs.Rows.{has_bit, IsJoined}
+use Rattle.bitwords.specs.Rows.{has_bit}
 use Rattle.bitjson.specs.Bytes.{word_of, byte_of, bytes_of}
 use Rattle.bitjson.specs.BytesFacts.{bit_at-word_of, bit_at-byte_of, byte_of-lt}
 use Rattle.bitjson.specs.Form.{object_of}
@@ -16,7 +16,6 @@ use Rattle.fixedbitset.specs.Bits.{Bits, contains, of_words, words, words_needed
 use Rattle.fixedbitset.specs.BitsFacts.{same_bits}
 use Rattle.fixedbitset.specs.WordsFacts.{length-having, contains-having, length-of_words, contains-of_words, number_at-lt, bit_at-number_at, length-words, get_or-words}
 use Rattle.fixedbitset.specs.Json.{of_bytes, byte, bytes, written}
-use Rattle.fixedbitset.proofs.Blocks.{of_filled}
 
 -- words of bytes mean what the bytes mean
 module _ (bs : List ℕ) (small : (j : ℕ) → get_or bs j 0 < 256) (n : ℕ) where
@@ -44,12 +43,6 @@ module _ (bs : List ℕ) (small : (j : ℕ) → get_or bs j 0 < 256) (n : ℕ) w
       (cases_lt p n)
       ∙ sym (contains-having n _ p))
 
--- words cut at the length mean what they meant
-pub of_cut : (n : ℕ) → n < 2 ^ 64 → (old new : List ℕ) → length old ≡ storage_words n → IsJoined (λ x y. x && y) old (λ p. nat_lt p n) new → of_words n new ≡ of_words n old
-of_cut n fits old new long done =
-    let none = drop_all (length old) (replicate (storage_words n) 0) (omega (arith, long, length-replicate {A = ℕ} (storage_words n) 0)) in
-    of_filled n fits old new long done old (sym (ap (λ rest. old ++ rest) none ∙ append-nil old))
-
 -- a byte of the words of a value is that of its positions
 byte_of-words : (v : Bits) (j : ℕ) → j < 8 * words_needed v.length → byte_of (words v) j ≡ byte v j
 byte_of-words v j h =
@@ -61,7 +54,7 @@ byte_of-words v j h =
     ∙ ap (λ p. indicator (contains v p)) place
     ∙ sym (bit_at-number_at v (8 * j) 8 i l))
 
-bytes_of-words : (v : Bits) → bytes_of (words v) ≡ bytes v
+pub bytes_of-words : (v : Bits) → bytes_of (words v) ≡ bytes v
 unfolding bytes bytes_of
 bytes_of-words v =
     let long : 8 * length (words v) ≡ 8 * words_needed v.length = ap (λ n. 8 * n) (length-words v) in

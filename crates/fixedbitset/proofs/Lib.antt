@@ -11,10 +11,12 @@ pub mod Positions
 pub mod RangeWalks
 pub mod Stretches
 pub mod Gaps
+pub mod GapSteps
 pub mod NextPositions
 pub mod PairItems
 pub mod PairRows
 pub mod Blocks
+pub mod Moves
 pub mod Equality
 pub mod Characters
 pub mod JsonBytes

@@ -5,6 +5,7 @@ pub mod Ranges
 pub mod TwoSets
 pub mod Neighbours
 pub mod Runs
+pub mod Parts
 pub mod Walks
 pub mod Blocks
 pub mod Extended
@@ -21,6 +22,7 @@ pub mod TwoSetsFacts
 pub mod WalkFacts
 pub mod FirstFacts
 pub mod NeighbourFacts
+pub mod PartsFacts
 pub mod SizeFacts
 pub mod MemberFacts
 pub mod WordsFacts

@@ -5,6 +5,7 @@ mod changes;
 mod copies;
 mod neighbours;
 mod ranges;
+mod shifts;
 mod whole;
 
 pub use alone::{clear, is_full};
@@ -12,10 +13,13 @@ pub use changes::{
     difference_with_change, intersect_with_change, union_with_change, union_with_difference,
 };
 pub use copies::{bitand, bitor, bitxor, clone_from};
-pub use neighbours::{next_one, next_zero, previous_one, previous_zero};
+pub use neighbours::{first_gap, next_one, next_zero, previous_one, previous_zero};
 pub use ranges::{
     contains_all_in_range, contains_any_in_range, count_ones, count_zeroes, insert_range,
     remove_range, toggle_range,
+};
+pub use shifts::{
+    copy_range, shift_down, shift_up, slice, union_with_own_shift, union_with_shifted,
 };
 pub use whole::{
     difference_count, difference_with, first_lacking, intersect_with, intersection_count,

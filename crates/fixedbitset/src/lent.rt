@@ -13,16 +13,19 @@ ghost use Rattle.fixedbitset.specs.Bits as model;
 ghost use Rattle.fixedbitset.specs.Bits.{of_words};
 ghost use Rattle.fixedbitset.specs.Stored.{IsClean};
 
+pub(crate) mod bytes;
 pub(crate) mod changes;
-mod gaps;
+pub(crate) mod gaps;
 pub(crate) mod neighbours;
 pub(crate) mod ranges;
+pub(crate) mod shifts;
 mod walks;
 pub(crate) mod whole;
 
 use bitlanes::word::{BITS, Block, ones_below};
 use bitlanes::{Steps, lanes};
 use bitwords::positions;
+pub use bytes::{from_bytes, to_bytes};
 pub use changes::{
     difference_with_change, intersect_with_change, union_with_change, union_with_difference,
 };
@@ -31,6 +34,9 @@ pub use neighbours::{next_one, next_zero, previous_one, previous_zero};
 pub use ranges::{
     contains_all_in_range, contains_any_in_range, count_ones, count_zeroes, insert_range,
     range_is_valid, remove_range, toggle_range,
+};
+pub use shifts::{
+    copy_range, shift_down, shift_up, slice, union_with_own_shift, union_with_shifted,
 };
 pub use walks::{ones, ones_beside, ones_in, runs, zero_runs, zeroes, zeroes_in};
 pub use whole::{

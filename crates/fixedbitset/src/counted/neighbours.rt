@@ -1,13 +1,16 @@
 //! The positions next to a given one, with a counter of steps.
 //!
 //! A call takes one step for the word of the number that it is given, and one for each lane of four words from there on
-//! up to the one that has the position. So what it takes goes by how far away the position is.
+//! up to the one that has the position. So what it takes goes by how far away the position is. `first_gap` goes from one
+//! position to the next, and takes at most four steps more for each stretch of clear positions.
 
-ghost use Rattle.std.specs.Prelude.{◌≡◌, ◌≤◌, ◌+◌, ◌-◌, ◌/◌, min, IfSome};
+ghost use Rattle.std.specs.Prelude.{◌≡◌, ◌≤◌, ◌+◌, ◌-◌, ◌*◌, ◌/◌, min, length, IfSome};
 ghost use Rattle.bitlanes.specs.Words.{lane_steps};
 ghost use Rattle.fixedbitset.specs.Bits.{storage_words};
 ghost use Rattle.fixedbitset.specs.Neighbours as neighbours;
+ghost use Rattle.fixedbitset.specs.Runs as stretches;
 
+use crate::lent::gaps::first_gap_counted;
 use crate::lent::neighbours::{
     next_one_counted, next_zero_counted, previous_one_counted, previous_zero_counted,
 };
@@ -50,6 +53,23 @@ pub fn next_zero(set: &FixedBitSet, from: usize, steps: &mut Steps) -> Option<us
         + lane_steps (storage_words set.now.length - 1 - from / 64) }
 {
     next_zero_counted(&set.words, set.length, from, steps)
+}
+
+/// [`FixedBitSet::first_gap`], with the steps that it takes: at most those of a search up to the end of the words, and four
+/// for each stretch of clear positions.
+///
+/// ```
+/// let set = FixedBitSet::from_iter(alloc, [3, 6, 90])?;
+/// assert_eq!(rt; counted::first_gap(&set, 3, 1, &mut Steps::new()), Some(7));
+/// ```
+#[inline]
+#[tactic(auto, using(crate::proofs::Words::of_length))]
+pub fn first_gap(set: &FixedBitSet, count: usize, from: usize, steps: &mut Steps) -> Option<usize>
+    ensures gap { result ≡ stretches.first_gap set.now count from }
+    ensures cost { steps.new ≤ steps.old + 1 + 4 * length (stretches.zero_runs set.now)
+        + lane_steps (storage_words set.now.length - 1 - from / 64) }
+{
+    first_gap_counted(&set.words, set.length, count, from, steps)
 }
 
 /// [`FixedBitSet::previous_one`], with the steps that it takes.

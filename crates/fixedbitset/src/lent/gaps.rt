@@ -1,13 +1,14 @@
 //! Stretches of clear positions, long enough for a caller.
 
-ghost use Rattle.std.specs.Prelude.{◌≡◌, ◌≤◌, ◌<◌, Some, false};
-ghost use Rattle.fixedbitset.specs.Bits.{contains, of_words};
+ghost use Rattle.std.specs.Prelude.{◌≡◌, ◌≤◌, ◌+◌, ◌-◌, ◌*◌, ◌/◌};
+ghost use Rattle.std.specs.Prelude as prelude;
+ghost use Rattle.bitlanes.specs.Words.{lane_steps};
+ghost use Rattle.fixedbitset.specs.Bits.{of_words, storage_words};
 ghost use Rattle.fixedbitset.specs.Runs as stretches;
-ghost use Rattle.fixedbitset.specs.Runs.{has_room};
 ghost use Rattle.fixedbitset.specs.Stored.{IsClean};
 
-use crate::lent::neighbours::{next_one, next_zero};
-use bitlanes::Block;
+use crate::lent::neighbours::{next_one_counted, next_zero_counted};
+use bitlanes::{Block, Steps};
 
 /// The least number at or past `from` with `count` clear positions from there on, or `None` where there is none.
 ///
@@ -22,18 +23,36 @@ pub fn first_gap(words: &[Block], length: usize, count: usize, from: usize) -> O
     requires { IsClean length words.now }
     ensures { result ≡ stretches.first_gap (of_words length words.now) count from }
 {
+    first_gap_counted(words, length, count, from, &mut Steps::new())
+}
+
+// `first_gap`, with its steps.
+#[inline]
+pub(crate) fn first_gap_counted(
+    words: &[Block],
+    length: usize,
+    count: usize,
+    from: usize,
+    steps: &mut Steps,
+) -> Option<usize>
+    requires { IsClean length words.now }
+    ensures gap { result ≡ stretches.first_gap (of_words length words.now) count from }
+    ensures cost { steps.new ≤ steps.old + 1
+        + 4 * prelude.length (stretches.zero_runs (of_words length words.now))
+        + lane_steps (storage_words length - 1 - from / 64) }
+{
     if count == 0 {
         return if from <= length { Some(from) } else { None };
     }
-    let mut start = next_zero(words, length, from)?;
+    let mut start = next_zero_counted(words, length, from, steps)?;
     loop {
         if length - start < count {
             return None;
         }
-        let end = next_one(words, length, start).unwrap_or(length);
+        let end = next_one_counted(words, length, start, steps).unwrap_or(length);
         if end - start >= count {
             return Some(start);
         }
-        start = next_zero(words, length, end)?;
+        start = next_zero_counted(words, length, end, steps)?;
     }
 }

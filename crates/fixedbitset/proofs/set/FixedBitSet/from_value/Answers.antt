@@ -7,8 +7,8 @@ use Rattle.bitjson.specs.FormFacts.{item_bytes_lt}
 use Rattle.bitjson.specs.Bytes.{word_of}
 use Rattle.fixedbitset.specs.Bits.{of_words, storage_words}
 use Rattle.fixedbitset.specs.Json.{of_bytes}
-use Rattle.fixedbitset.proofs.Blocks.{IsClean_cut}
-use Rattle.fixedbitset.proofs.JsonBytes.{of_words-made, of_cut}
+use Rattle.fixedbitset.proofs.Blocks.{IsClean_cut, of-cut}
+use Rattle.fixedbitset.proofs.JsonBytes.{of_words-made}
 use Rattle.fixedbitset.proofs.set.FixedBitSet.from_value.Goals as goal
 
 pub invariant_of-result : goal.invariant_of-result
@@ -30,5 +30,5 @@ returns-clause-ok c =
     let read : form (view c.args.value.now) ≡ Ok (c.in_ok-length.length, map item_byte c.in_ok-length.items.now) = search rules in
     let made : words.items ≡ map (word_of (map item_byte c.in_ok-length.items.now)) (range_with_len 0 (storage_words c.in_ok-length.length)) = search rules in
     ap (λ r. r >>= λ f. Ok (of_bytes f.0 f.1)) read
-    ∙ ap Ok (sym (rw (with_items_is words c.clear_from.new.words same) (of_cut _ fits _ _ long done)
+    ∙ ap Ok (sym (rw (with_items_is words c.clear_from.new.words same) (of-cut _ fits _ _ long done)
     ∙ ap (of_words c.in_ok-length.length) made ∙ of_words-made (map item_byte c.in_ok-length.items.now) (item_bytes_lt c.in_ok-length.items.now) c.in_ok-length.length))

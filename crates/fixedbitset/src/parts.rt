@@ -1,0 +1,189 @@
+//! Parts of a set, and sets put together: positions of a range as a set of their own or written over those of another set,
+//! one set behind another, and other lengths.
+//!
+//! `Err` comes only where more words are needed than there are and memory for them was refused. The set is then as it was.
+
+ghost use Rattle.std.specs.Prelude.{◌≡◌, ◌<◌, ◌≤◌, ◌+◌, ◌-◌, ◌^◌, ◌&&◌, nat_lt, take, vec_len, IsTrue, IsOk, IfOk, OnOk, OnErr};
+ghost use Rattle.bitwords.specs.Rows.{IsJoined};
+ghost use Rattle.fixedbitset.specs.Bits as model;
+ghost use Rattle.fixedbitset.specs.Json.{of_bytes, bytes};
+ghost use Rattle.fixedbitset.specs.Parts as parts;
+ghost use Rattle.fixedbitset.specs.Ranges as ranges;
+ghost use Rattle.fixedbitset.specs.Ranges.{over};
+
+use crate::counted;
+use crate::set::{FixedBitSet, storage_words};
+use bitjson::bytes::{bytes_of_words, words_of_bytes};
+use bitlanes::{Block, IndexRange, Steps};
+use bitwords::positions;
+use std::alloc::{AllocError, Global};
+
+impl FixedBitSet {
+    /// A set of the length of the range: its positions that this set has, less its start.
+    ///
+    /// The range has to be valid (`range_is_valid`). It writes each word of the new set twice. Upstream has no such call.
+    ///
+    /// ```
+    /// let set = FixedBitSet::from_iter(alloc, [1, 63, 65, 69])?;
+    /// assert_eq!(rt; set.len(), 70);
+    /// let part = set.slice(alloc, 63..68)?;
+    /// assert!(rt; part.ones().eq([0, 2]));
+    /// ```
+    pub fn slice<R: IndexRange<usize> + Drop>(
+        &self,
+        alloc: Global,
+        range: R,
+    ) -> Result<Self, AllocError>
+        requires { IsTrue (over ranges.is_valid self.now (R.start_of range) (R.end_of range)) }
+        ensures { IfOk result (λ part. part
+            ≡ over parts.slice self.now (R.start_of range) (R.end_of range)) }
+    {
+        counted::slice(self, alloc, range, &mut Steps::new())
+    }
+
+    /// Writes the positions of the range of `other` over those of this set from `at` on. All others stay.
+    ///
+    /// The range has to be valid in `other` (`range_is_valid`), and to end within this set where it begins at `at`. It
+    /// writes each word that has one of these positions once, and takes no memory. Upstream has no such call.
+    ///
+    /// ```
+    /// let mut set = FixedBitSet::from_iter(alloc, [0, 2, 65, 69])?;
+    /// let other = FixedBitSet::from_iter(alloc, [1, 63, 65])?;
+    /// assert!(rt; set.len() == 70 && other.len() == 66);
+    /// set.copy_range(&other, 62..66, 1);
+    /// assert!(rt; set.ones().eq([0, 2, 4, 65, 69]));
+    /// ```
+    pub fn copy_range<R: IndexRange<usize> + Drop>(&mut self, other: &Self, range: R, at: usize)
+        requires valid { IsTrue (over ranges.is_valid other.now (R.start_of range)
+            (R.end_of range)) }
+        requires room { at + over (λ _ start end. end - start) other.now (R.start_of range)
+            (R.end_of range) ≤ self.old.length }
+        ensures { self.new ≡ over (λ w start end. parts.copy_range self.old w start end at)
+            other.now (R.start_of range) (R.end_of range) }
+    {
+        counted::copy_range(self, other, range, at, &mut Steps::new());
+    }
+
+    /// Puts the positions of `other` behind those of this set: the lengths are added, which has to give a length.
+    ///
+    /// A call that needs no more words is never refused. It reads each word of `other` once. Upstream has no such call.
+    ///
+    /// ```
+    /// let mut set = FixedBitSet::with_capacity(alloc, 4)?;
+    /// let mut other = FixedBitSet::with_capacity(alloc, 65)?;
+    /// other.insert(64);
+    /// set.append(&other)?;
+    /// assert!(rt; set.len() == 69 && set.contains(68));
+    /// ```
+    #[tactic(auto, using(crate::proofs::Moves::append_grown))]
+    pub fn append(&mut self, other: &Self) -> Result<(), AllocError>
+        requires { self.old.length + other.now.length < 2 ^ 64 }
+        ensures ok { OnOk result (self.new ≡ parts.append self.old other.now) }
+        ensures err { OnErr result (self.new ≡ self.old) }
+        ensures succeeds { model.words_needed (self.old.length + other.now.length)
+            ≤ model.words_needed self.old.length → IsOk result }
+    {
+        let length = self.len();
+        self.grow(length + other.len())?;
+        self.union_with_shifted(other, length);
+        Ok(())
+    }
+
+    /// Makes the length the lesser of itself and `bits`. The positions that are not below it fall away.
+    ///
+    /// It writes one word, and those up to a whole lane. Memory is kept. Upstream has no such call.
+    ///
+    /// ```
+    /// let mut set = FixedBitSet::from_iter(alloc, [1, 3, 64])?;
+    /// set.truncate(3);
+    /// set.truncate(70);
+    /// assert_eq!(rt; set.len(), 3);
+    /// assert_eq!(rt; set.as_slice(), [2].as_slice());
+    /// ```
+    pub fn truncate(&mut self, bits: usize)
+        ensures { self.new ≡ parts.truncate self.old bits }
+    {
+        if bits < self.length {
+            shorten(&mut self.words, bits);
+            self.length = bits;
+        }
+    }
+
+    /// Makes the length `bits`. Where it was greater, the positions that are not below `bits` fall away; where it was
+    /// less, each new position is set or not, as `enabled` says.
+    ///
+    /// A call that needs no more words is never refused. Upstream has no such call.
+    ///
+    /// ```
+    /// let mut set = FixedBitSet::from_iter(alloc, [1, 3])?;
+    /// set.resize(66, true)?;
+    /// assert_eq!(rt; set.count_ones(..), 64);
+    /// set.resize(3, true)?;
+    /// assert!(rt; set.ones().eq([1]));
+    /// ```
+    #[tactic(auto, using(crate::proofs::Moves::resize_shorter, crate::proofs::Moves::resize_with, crate::proofs::Moves::resize_without, crate::specs::BitsFacts::facts))]
+    pub fn resize(&mut self, bits: usize, enabled: bool) -> Result<(), AllocError>
+        ensures ok { OnOk result (self.new ≡ parts.resize self.old bits enabled) }
+        ensures err { OnErr result (self.new ≡ self.old) }
+        ensures succeeds { model.words_needed bits ≤ model.words_needed self.old.length
+            → IsOk result }
+    {
+        let length = self.len();
+        if bits <= length {
+            self.truncate(bits);
+            return Ok(());
+        }
+        self.grow(bits)?;
+        if enabled {
+            self.insert_range(length..bits);
+        }
+        Ok(())
+    }
+
+    /// A set of `bits` positions, set as bytes say: position `p` is set where bit `p % 8` of byte `p / 8` is. Bytes that are
+    /// missing count as 0, and bits past the length are dropped.
+    ///
+    /// It looks at each byte at most once, and writes each word once. Upstream has no such call.
+    ///
+    /// ```
+    /// let set = FixedBitSet::from_bytes(alloc, 10, &[76, 255])?;
+    /// assert_eq!(rt; set.len(), 10);
+    /// assert_eq!(rt; set.as_slice(), [844].as_slice());
+    /// ```
+    pub fn from_bytes(alloc: Global, bits: usize, source: &[u8]) -> Result<Self, AllocError>
+        ensures { IfOk result (λ set. set ≡ of_bytes bits source.now) }
+    {
+        let mut words = words_of_bytes(alloc, source, storage_words(bits))?;
+        positions::clear_from(&mut words, bits);
+        Ok(FixedBitSet {
+            words,
+            length: bits,
+        })
+    }
+
+    /// The bytes of the set, as [`to_value`](Self::to_value) writes them: position `p` is bit `p % 8` of byte `p / 8`. There
+    /// are eight for each word of `as_slice`, so those at the end may be 0.
+    ///
+    /// It writes each byte once. Upstream has no such call.
+    ///
+    /// ```
+    /// let set = FixedBitSet::from_iter(alloc, [2, 9])?;
+    /// let data = set.to_bytes(alloc)?;
+    /// assert_eq!(rt; data.as_slice(), [4, 2, 0, 0, 0, 0, 0, 0].as_slice());
+    /// ```
+    pub fn to_bytes(&self, alloc: Global) -> Result<Vec<u8>, AllocError>
+        ensures { IfOk result (λ made. made.items ≡ bytes self.now) }
+    {
+        bytes_of_words(alloc, self.as_slice())
+    }
+}
+
+// Keeps the words of `bits` positions, and clears those that are not below `bits`.
+fn shorten(words: &mut Vec<Block>, bits: usize)
+    requires { model.storage_words bits ≤ vec_len words.old }
+    ensures { IsJoined (λ x y. x && y) (take (model.storage_words bits) words.old.items)
+        (λ p. nat_lt p bits) words.new.items }
+{
+    words.truncate(storage_words(bits));
+    positions::clear_from(words, bits);
+}
