@@ -1,0 +1,5 @@
+-- to believe
+pub mod Ranks
+pub mod RankLaws
+-- facts for callers
+pub mod RanksFacts

@@ -1,0 +1,29 @@
+//! The call with a counter: it is the call of that name of the table, with one argument more.
+
+ghost use Rattle.std.specs.Prelude.{◌≡◌, ◌≤◌, ◌↔◌, ◌+◌, ◌*◌, ℕ, length};
+ghost use Rattle.bitrows.specs.Tables.{HaveSameSize};
+ghost use Rattle.bitrows.specs.Paths.{HasEdge, IsConnected, IsPairCount};
+
+use crate::lent;
+use crate::table::BitRows;
+use bitlanes::Steps;
+
+/// [`BitRows::close`], with the joins of two rows that it makes: one for each pair of nodes `a` and `k` with a path from
+/// `a` to `k` whose nodes between its ends are all below `k`.
+///
+/// ```
+/// let mut table = BitRows::new(alloc, 2, 2)?;
+/// table.set(0, 1, true);
+/// counted::close(&mut table, &mut Steps::new());
+/// assert!(rt; table.row(0).eq([1]));
+/// ```
+pub fn close(table: &mut BitRows, joins: &mut Steps)
+    ensures size { HaveSameSize table.old table.new }
+    ensures closed { (a b : ℕ) → HasEdge table.new a b ↔ IsConnected (HasEdge table.old) a b }
+    ensures cost { (pairs : ℕ) × IsPairCount (HasEdge table.old) (length table.old.rows) pairs
+        × (joins.new ≡ joins.old + pairs) }
+    ensures bound { joins.new ≤ joins.old + length table.old.rows * length table.old.rows }
+{
+    let (rows, columns) = (table.rows, table.columns);
+    lent::close(&mut table.words, rows, columns, joins);
+}
