@@ -4,4 +4,7 @@ mod OfRuns
 mod OfTwoSets
 mod OfJoins
 mod OfOrder
+mod OfPieces
+mod OfPlaced
+mod OfMissing
 pub mod OfWalks

@@ -7,3 +7,5 @@ pub mod OrderLaws
 pub mod WalkLaws
 pub mod SetLaws
 pub mod JsonLaws
+pub mod Pieces
+pub mod PieceLaws

@@ -1,0 +1,326 @@
+-- The laws of a set in pieces are proved: for two slices that meet, and then for any cuts.
+use Rattle.std.proofs.Common.{◌≡◌, ℕ, ◌+◌, ◌-◌, ◌<◌, ◌≤◌, max, Bool, true, false, not, ◌&&◌, ◌||◌, ◌==◌, nat_lt, nat_le, List, [], ◌∷◌, map, sum, sum_by, zip, refl, sym, ap, ◌∙◌, arith, ⊎_elim}
+use Rattle.std.specs.Cmp.{nat_cmp_total}
+use Rattle.std.specs.FinSet as set
+use Rattle.std.specs.List.{list_all}
+use Rattle.std.proofs.lemmas.Bool.{cases_lt, lt-ltb, le-ltb, le-leb, ltb-true, and_right}
+use Rattle.std.proofs.lemmas.Bool.Decides.{nat_tests}
+use Rattle.std.proofs.lemmas.List.Sums.{sum_by-cons}
+use Rattle.std.proofs.lemmas.List.Folds.{sum_by-zero, list_all-map}
+use Rattle.bitlanes.specs.Bits.{either}
+use Rattle.bitwords.specs.Rows.{count_below}
+use Rattle.bitwords.specs.CountFacts.{count-zero, count-same, count-append}
+use Rattle.fixedbitset.specs.Bits.{Bits, contains, empty, is_clear}
+use Rattle.fixedbitset.specs.BitsFacts.{same_bits, contains_below, contains-past, last_holds, length-empty, contains-empty}
+use Rattle.fixedbitset.specs.NumbersFacts as numbers
+use Rattle.fixedbitset.specs.NumbersFacts.{same_set, same_truth, len-below}
+use Rattle.fixedbitset.specs.MemberFacts.{is_clear-tells}
+use Rattle.fixedbitset.specs.Parts.{slice, append}
+use Rattle.fixedbitset.specs.PartsFacts.{length-slice, contains-slice, length-append, contains-append}
+use Rattle.fixedbitset.specs.SizeFacts.{count_ones-all, is_clear-counts}
+use Rattle.fixedbitset.specs.TwoSets.{union, intersection, difference, symmetric_difference, union_count, intersection_count, difference_count, symmetric_difference_count, is_subset, is_disjoint}
+use Rattle.fixedbitset.specs.TwoSetsFacts.{length-union, length-intersection, length-difference, length-symmetric_difference, contains-union, contains-intersection, contains-difference, contains-symmetric_difference, is_subset-tells}
+use Rattle.bitlaws.specs.SetLaws.{size}
+use Rattle.bitlaws.specs.Pieces.{AreCuts, pieces, put_together, ends}
+use Rattle.bitlaws.specs.PieceLaws.{PiecesAreTheSet, AnySetsArePieces, JoinsByPieces, CountsByPieces, TestsByPieces, SizeByPieces}
+
+-- ---- slices
+
+pub and_true : (a b : Bool) → b ≡ true → (a && b) ≡ a
+and_true a b f = grind arith
+
+-- of a slice up to the length, and of a longer one
+contains-rest : (v : Bits) (start end p : ℕ) → v.length ≤ end → contains (slice v start end) p ≡ contains v (start + p)
+contains-rest v start end p long =
+    contains-slice v start end p ∙ last_holds true (contains v (start + p)) _ (λ one. let below : start + p < v.length = contains_below v (start + p) one in lt-ltb _ _ (omega arith))
+
+slice-whole : (v : Bits) → slice v 0 v.length ≡ v
+slice-whole v = same_bits _ _ (length-slice v 0 v.length ∙ omega arith) (λ p.
+    contains-rest v 0 v.length p (omega arith) ∙ (let same : 0 + p ≡ p = omega arith in ap (contains v) same))
+
+append-nothing : (v : Bits) → append v (empty 0) ≡ v
+append-nothing v = same_bits _ _ (length-append v (empty 0) ∙ omega (arith, length-empty 0)) (λ p.
+    contains-append v (empty 0) p ∙ by_place p (contains-empty 0 (p - v.length)) (omega (arith, length-empty 0)))
+  where
+    no_more : (a b c d : Bool) → c ≡ false → (a ≡ true → d ≡ true) → ((a || (b && c)) && d) ≡ a
+    no_more a b c d none low = grind arith
+
+    by_place : (p : ℕ) → contains (empty 0) (p - v.length) ≡ false → v.length + (empty 0).length ≡ v.length → ((contains v p || (nat_le v.length p && contains (empty 0) (p - v.length))) && nat_lt p (v.length + (empty 0).length)) ≡ contains v p
+    by_place p none long = no_more _ _ _ _ none (λ one. let below : p < v.length = contains_below v p one in lt-ltb _ _ (omega arith))
+
+in_first : (a b c l m h : Bool) → l ≡ true → m ≡ false → h ≡ true → (((a && l) || (m && (b && c))) && h) ≡ (a && h)
+in_first a b c l m h e f g = grind arith
+
+in_second : (a b c l m h : Bool) → l ≡ false → m ≡ true → (h ≡ true → c ≡ true) → (((b && l) || (m && (a && c))) && h) ≡ (a && h)
+in_second a b c l m h e f g = grind arith
+
+-- two slices that meet, appended
+module _ (v : Bits) (start cut end : ℕ) (first : start ≤ cut) (second : cut ≤ end) where
+  member_of_either : (p : ℕ) → (((contains v (start + p) && nat_lt p (cut - start)) || (nat_le (cut - start) p && (contains v (cut + (p - (cut - start))) && nat_lt (p - (cut - start)) (end - cut)))) && nat_lt p (end - start))
+      ≡ (contains v (start + p) && nat_lt p (end - start))
+  member_of_either p =
+      let here = contains v (start + p) in
+      let there = contains v (cut + (p - (cut - start))) in
+      let low = nat_lt p (cut - start) in
+      let high = nat_le (cut - start) p in
+      let inside = nat_lt (p - (cut - start)) (end - cut) in
+      let below = nat_lt p (end - start) in
+      ⊎_elim
+      (λ (less : p < cut - start).
+      let not_high : high ≡ false = grind (arith, nat_tests) in
+      in_first here there inside low high below (lt-ltb p (cut - start) less) not_high (lt-ltb p (end - start) (omega arith)))
+      (λ (more : cut - start ≤ p).
+      let at : cut + (p - (cut - start)) ≡ start + p = omega arith in
+      ap (λ q. ((here && low) || (high && (contains v q && inside))) && below) at
+      ∙ in_second here here inside low high below (le-ltb p (cut - start) more) (le-leb (cut - start) p more) (λ one. let less : p < end - start = ltb-true p (end - start) one in lt-ltb (p - (cut - start)) (end - cut) (omega arith)))
+      (cases_lt p (cut - start))
+
+  append-slices : append (slice v start cut) (slice v cut end) ≡ slice v start end
+  append-slices =
+      let low = slice v start cut in
+      let high = slice v cut end in
+      let low_long = length-slice v start cut in
+      let long : low.length + high.length ≡ end - start = omega (arith, low_long, length-slice v cut end) in
+      same_bits _ _ (length-append low high ∙ long ∙ sym (length-slice v start end)) (λ p.
+      contains-append low high p
+      ∙ (λ i. (contains-slice v start cut p i || (nat_le (low_long i) p && contains-slice v cut end (p - low_long i) i)) && nat_lt p (long i))
+      ∙ member_of_either p
+      ∙ sym (contains-slice v start end p))
+
+-- ---- put together
+
+-- what is cut starts within the set
+pub cuts_within : (v : Bits) (start : ℕ) (cuts : List ℕ) → AreCuts v start cuts → start ≤ v.length
+cuts_within v start [] are = are
+cuts_within v start (cut ∷ cuts) are = let within = cuts_within v cut cuts are.1 in let first : start ≤ cut = are.0 in omega arith
+
+together : (v : Bits) (start : ℕ) (cuts : List ℕ) → AreCuts v start cuts → put_together (pieces v start cuts) ≡ slice v start v.length
+together v start [] are = append-nothing (slice v start v.length)
+together v start (cut ∷ cuts) are =
+    ap (append (slice v start cut)) (together v cut cuts are.1) ∙ append-slices v start cut v.length are.0 (cuts_within v cut cuts are.1)
+
+pub pieces_are_the_set : PiecesAreTheSet
+pieces_are_the_set v cuts are = together v 0 cuts are ∙ slice-whole v
+
+-- ---- any sets put together
+
+contains-append_low : (v w : Bits) (p : ℕ) → p < v.length → contains (append v w) p ≡ contains v p
+contains-append_low v w p below =
+    let not_high : nat_le v.length p ≡ false = grind (arith, nat_tests) in
+    contains-append v w p ∙ first_part (contains v p) (contains w (p - v.length)) (nat_le v.length p) (nat_lt p (v.length + w.length)) not_high (lt-ltb p (v.length + w.length) (omega arith))
+  where
+    first_part : (a b m h : Bool) → m ≡ false → h ≡ true → ((a || (m && b)) && h) ≡ a
+    first_part a b m h f g = grind arith
+
+contains-append_high : (v w : Bits) (p : ℕ) → contains (append v w) (v.length + p) ≡ contains w p
+contains-append_high v w p =
+    let at : (v.length + p) - v.length ≡ p = omega arith in
+    contains-append v w (v.length + p)
+    ∙ ap (λ q. (contains v (v.length + p) || (nat_le v.length (v.length + p) && contains w q)) && nat_lt (v.length + p) (v.length + w.length)) at
+    ∙ second_part (contains v (v.length + p)) (contains w p) _ _
+    (contains-past v (v.length + p) (omega arith))
+    (le-leb v.length (v.length + p) (omega arith))
+    (λ one. let below : p < w.length = contains_below w p one in lt-ltb (v.length + p) (v.length + w.length) (omega arith))
+  where
+    second_part : (a b m h : Bool) → a ≡ false → m ≡ true → (b ≡ true → h ≡ true) → ((a || (m && b)) && h) ≡ b
+    second_part a b m h e f g = grind arith
+
+-- where the part of u behind `start` is what the sets make, they are its pieces
+are_pieces : (u : Bits) (start : ℕ) (piece : Bits) (others : List Bits) → u.length ≡ start + (put_together (piece ∷ others)).length
+    → ((p : ℕ) → contains u (start + p) ≡ contains (put_together (piece ∷ others)) p)
+    → AreCuts u start (ends start piece others) × (pieces u start (ends start piece others) ≡ piece ∷ others)
+are_pieces u start piece [] long same =
+    let alone = append-nothing piece in
+    let length : (append piece (empty 0)).length ≡ piece.length = ap (λ v. v.length) alone in (
+      omega arith,
+      ap (λ v. v ∷ []) (same_bits _ _ (length-slice u start u.length ∙ omega arith) (λ p. contains-rest u start u.length p (omega arith) ∙ same p ∙ ap (λ v. contains v p) alone)),
+    )
+are_pieces u start piece (next ∷ others) long same =
+    let rest = put_together (next ∷ others) in
+    let cut : ℕ = start + piece.length in
+    let further : u.length ≡ cut + rest.length = omega (arith, long, length-append piece rest) in
+    let first : slice u start cut ≡ piece = same_bits _ _ (length-slice u start cut ∙ omega arith) (λ p. contains-slice u start cut p ∙ by_place p) in
+    let later = are_pieces u cut next others further (λ p. let at : cut + p ≡ start + (piece.length + p) = omega arith in ap (contains u) at ∙ same (piece.length + p) ∙ contains-append_high piece rest p) in
+    ((omega arith, later.0), λ i. first i ∷ later.1 i)
+  where
+    by_place : (p : ℕ) → (contains u (start + p) && nat_lt p ((start + piece.length) - start)) ≡ contains piece p
+    by_place p = ⊎_elim
+        (λ (low : p < piece.length).
+        and_true (contains u (start + p)) _ (lt-ltb p ((start + piece.length) - start) (omega arith)) ∙ same p ∙ contains-append_low piece (put_together (next ∷ others)) p low)
+        (λ (high : piece.length ≤ p).
+        and_right (contains u (start + p)) _ (le-ltb p ((start + piece.length) - start) (omega arith)) ∙ sym (contains-past piece p high))
+        (cases_lt p piece.length)
+
+pub any_sets_are_pieces : AnySetsArePieces
+any_sets_are_pieces piece others = are_pieces (put_together (piece ∷ others)) 0 piece others (omega arith) (λ p. let at : 0 + p ≡ p = omega arith in ap (contains (put_together (piece ∷ others))) at)
+
+-- ---- joins
+
+-- what a join makes of the members of two sets and of their lengths
+pub record IsJoin (join : Bits → Bits → Bits) (f : Bool → Bool → Bool) (long : ℕ → ℕ → ℕ) : Type 0 where
+  pub members : (v w : Bits) (p : ℕ) → contains (join v w) p ≡ f (contains v p) (contains w p)
+  pub neither : f false false ≡ false
+  pub lengths : (v w : Bits) → (join v w).length ≡ long v.length w.length
+  pub alike : (n : ℕ) → long n n ≡ n
+  pub less : (n m by : ℕ) → long (n - by) (m - by) ≡ long n m - by
+  pub longer : (n m : ℕ) → n ≤ long n m
+
+module _ {join : Bits → Bits → Bits} {f : Bool → Bool → Bool} {long : ℕ → ℕ → ℕ} (law : IsJoin join f long) where
+  both_kept : (a b l : Bool) → (f a b && l) ≡ f (a && l) (b && l)
+  both_kept a b true = and_true (f a b) true refl ∙ sym (λ i. f (and_true a true refl i) (and_true b true refl i))
+  both_kept a b false = and_right (f a b) false refl ∙ sym ((λ i. f (and_right a false refl i) (and_right b false refl i)) ∙ law.neither)
+
+  slice-join : (v w : Bits) (start end : ℕ) → slice (join v w) start end ≡ join (slice v start end) (slice w start end)
+  slice-join v w start end =
+      let first = slice v start end in
+      let second = slice w start end in
+      same_bits _ _
+      (length-slice (join v w) start end ∙ sym (law.lengths first second ∙ (λ i. long (length-slice v start end i) (length-slice w start end i)) ∙ law.alike (end - start)))
+      (λ p.
+      contains-slice (join v w) start end p
+      ∙ ap (λ b. b && nat_lt p (end - start)) (law.members v w (start + p))
+      ∙ both_kept (contains v (start + p)) (contains w (start + p)) (nat_lt p (end - start))
+      ∙ sym (law.members first second p ∙ (λ i. f (contains-slice v start end p i) (contains-slice w start end p i))))
+
+  rest-join : (v w : Bits) (start : ℕ) → slice (join v w) start (join v w).length ≡ join (slice v start v.length) (slice w start w.length)
+  rest-join v w start =
+      let first = slice v start v.length in
+      let second = slice w start w.length in
+      same_bits _ _
+      (length-slice (join v w) start (join v w).length
+      ∙ ap (λ n. n - start) (law.lengths v w)
+      ∙ sym (law.lengths first second ∙ (λ i. long (length-slice v start v.length i) (length-slice w start w.length i)) ∙ law.less v.length w.length start))
+      (λ p.
+      contains-rest (join v w) start (join v w).length p (omega arith)
+      ∙ law.members v w (start + p)
+      ∙ sym (law.members first second p ∙ (λ i. f (contains-rest v start v.length p (omega arith) i) (contains-rest w start w.length p (omega arith) i))))
+
+  pieces-join : (v w : Bits) (start : ℕ) (cuts : List ℕ) → pieces (join v w) start cuts ≡ map (λ both. join both.0 both.1) (zip (pieces v start cuts) (pieces w start cuts))
+  pieces-join v w start [] = ap (λ u. u ∷ []) (rest-join v w start)
+  pieces-join v w start (cut ∷ cuts) = let first = slice-join v w start cut in let others = pieces-join v w cut cuts in λ i. first i ∷ others i
+
+  pub joins_by_pieces : JoinsByPieces join
+  joins_by_pieces v w cuts = pieces-join v w 0 cuts
+
+pub of_union : IsJoin union (λ a b. a || b) max
+of_union = record { members = contains-union; neither = refl; lengths = length-union; alike = λ n. omega arith; less = λ n m by. omega arith; longer = λ n m. omega arith }
+
+pub of_symmetric_difference : IsJoin symmetric_difference either max
+of_symmetric_difference = record { members = contains-symmetric_difference; neither = refl; lengths = length-symmetric_difference; alike = λ n. omega arith; less = λ n m by. omega arith; longer = λ n m. omega arith }
+
+pub of_intersection : IsJoin intersection (λ a b. a && b) (λ n m. n)
+of_intersection = record { members = contains-intersection; neither = refl; lengths = length-intersection; alike = λ n. refl; less = λ n m by. refl; longer = λ n m. omega arith }
+
+pub of_difference : IsJoin difference (λ a b. a && not b) (λ n m. n)
+of_difference = record { members = contains-difference; neither = refl; lengths = length-difference; alike = λ n. refl; less = λ n m by. refl; longer = λ n m. omega arith }
+
+-- ---- counts
+
+-- as many positions are set as numbers below the length pass
+size-count : (v : Bits) → size v ≡ count_below (contains v) v.length
+unfolding contains
+size-count v = count_ones-all v ∙ len-below v.length v.positions (contains_below v)
+
+size-slice : (v : Bits) (start end : ℕ) → start ≤ end → size (slice v start end) + count_below (contains v) start ≡ count_below (contains v) end
+size-slice v start end order =
+    let part = slice v start end in
+    let whole : end ≡ start + (end - start) = omega arith in
+    omega (
+      arith,
+      size-count part,
+      ap (count_below (contains part)) (length-slice v start end),
+      count-same (contains part) (λ p. contains v (start + p)) (end - start) (λ p below. contains-slice v start end p ∙ and_true _ _ (lt-ltb _ _ below)),
+      count-append (contains v) start (end - start),
+      ap (count_below (contains v)) whole,
+    )
+
+sizes : (v : Bits) (start : ℕ) (cuts : List ℕ) → AreCuts v start cuts → sum_by size (pieces v start cuts) + count_below (contains v) start ≡ count_below (contains v) v.length
+sizes v start [] are = omega (arith, sum_by-cons size (slice v start v.length) [], size-slice v start v.length are)
+sizes v start (cut ∷ cuts) are = omega (arith, sum_by-cons size (slice v start cut) (pieces v cut cuts), size-slice v start cut are.0, sizes v cut cuts are.1)
+
+pub size_by_pieces : SizeByPieces
+size_by_pieces v cuts are = omega (arith, size-count v, sizes v 0 cuts are, count-zero (contains v))
+
+-- cuts of a set are cuts of a longer one
+cuts_of_longer : (v w : Bits) (start : ℕ) (cuts : List ℕ) → v.length ≤ w.length → AreCuts v start cuts → AreCuts w start cuts
+cuts_of_longer v w start [] long are = omega arith
+cuts_of_longer v w start (cut ∷ cuts) long are = (are.0, cuts_of_longer v w cut cuts long are.1)
+
+module _ {join : Bits → Bits → Bits} {f : Bool → Bool → Bool} {long : ℕ → ℕ → ℕ} (law : IsJoin join f long) where
+  joined_cuts : (v w : Bits) (cuts : List ℕ) → AreCuts v 0 cuts → AreCuts (join v w) 0 cuts
+  joined_cuts v w cuts are = cuts_of_longer v (join v w) 0 cuts (omega (arith, law.lengths v w, law.longer v.length w.length)) are
+
+  -- where a count is that of the positions of a join
+  module _ {count : Bits → Bits → ℕ} (is : (v w : Bits) → count v w ≡ size (join v w)) where
+    totals : (pairs : List (Bits × Bits)) → sum_by size (map (λ both. join both.0 both.1) pairs) ≡ sum (map (λ both. count both.0 both.1) pairs)
+    totals [] = refl
+    totals (pair ∷ pairs) =
+        omega (
+          arith,
+          sum_by-cons size (join pair.0 pair.1) (map (λ both. join both.0 both.1) pairs),
+          sum_by-cons (λ n. n) (count pair.0 pair.1) (map (λ both. count both.0 both.1) pairs),
+          is pair.0 pair.1,
+          totals pairs,
+        )
+
+    pub counts_by_pieces : CountsByPieces count
+    counts_by_pieces v w cuts are =
+        is v w
+        ∙ size_by_pieces (join v w) cuts (joined_cuts v w cuts are)
+        ∙ ap (sum_by size) (pieces-join law v w 0 cuts)
+        ∙ totals (zip (pieces v 0 cuts) (pieces w 0 cuts))
+
+  -- where a question asks whether a join has no position
+  module _ {test : Bits → Bits → Bool} (is : (v w : Bits) → test v w ≡ is_clear (join v w)) where
+    pub tests_by_pieces : TestsByPieces test
+    tests_by_pieces v w cuts are =
+        let pairs : List (Bits × Bits) = zip (pieces v 0 cuts) (pieces w 0 cuts) in
+        is v w
+        ∙ is_clear-pieces (join v w) cuts (joined_cuts v w cuts are)
+        ∙ ap (list_all is_clear) (pieces-join law v w 0 cuts)
+        ∙ list_all-map is_clear (λ both. join both.0 both.1) pairs
+        ∙ (λ i. list_all (λ both. sym (is both.0 both.1) i) pairs)
+        ∙ sym (list_all-map (λ answer. answer) (λ both. test both.0 both.1) pairs)
+      where
+        is_clear-pieces : (u : Bits) (cuts : List ℕ) → AreCuts u 0 cuts → is_clear u ≡ list_all is_clear (pieces u 0 cuts)
+        is_clear-pieces u cuts are =
+            is_clear-counts u
+            ∙ ap (λ n. n == 0) (size_by_pieces u cuts are)
+            ∙ sum_by-zero size (pieces u 0 cuts)
+            ∙ (λ i. list_all (λ piece. sym (is_clear-counts piece) i) (pieces u 0 cuts))
+
+-- ---- the counts and the questions of joins
+
+pub union-size : (v w : Bits) → union_count v w ≡ size (union v w)
+unfolding union_count contains
+union-size v w = sym (count_ones-all (union v w) ∙ ap set.len (same_set _ _ (λ p. contains-union v w p ∙ sym (set.contains-union nat_cmp_total v.positions w.positions p))))
+
+pub intersection-size : (v w : Bits) → intersection_count v w ≡ size (intersection v w)
+unfolding intersection_count contains
+intersection-size v w =
+    sym (count_ones-all (intersection v w) ∙ ap set.len (same_set _ _ (λ p. contains-intersection v w p ∙ sym (set.contains-intersection nat_cmp_total v.positions w.positions p))))
+
+pub difference-size : (v w : Bits) → difference_count v w ≡ size (difference v w)
+unfolding difference_count contains
+difference-size v w =
+    sym (count_ones-all (difference v w) ∙ ap set.len (same_set _ _ (λ p. contains-difference v w p ∙ sym (set.contains-difference nat_cmp_total v.positions w.positions p))))
+
+pub symmetric_difference-size : (v w : Bits) → symmetric_difference_count v w ≡ size (symmetric_difference v w)
+unfolding symmetric_difference_count contains
+symmetric_difference-size v w =
+    sym (count_ones-all (symmetric_difference v w) ∙ ap set.len (same_set _ _ (λ p. contains-symmetric_difference v w p ∙ sym (numbers.contains-symmetric_difference v.positions w.positions p))))
+
+pub subset-clear : (v w : Bits) → is_subset v w ≡ is_clear (difference v w)
+subset-clear v w = same_truth _ _
+    (λ all. (is_clear-tells (difference v w)).1 (λ p. contains-difference v w p ∙ no_other _ _ ((is_subset-tells v w).0 all p)))
+    (λ none. (is_subset-tells v w).1 (λ p one. held_too _ _ (sym (contains-difference v w p) ∙ (is_clear-tells (difference v w)).0 none p) one))
+  where
+    no_other : (a b : Bool) → (a ≡ true → b ≡ true) → (a && not b) ≡ false
+    no_other a b f = grind arith
+
+    held_too : (a b : Bool) → (a && not b) ≡ false → a ≡ true → b ≡ true
+    held_too a b f g = grind arith
+
+pub disjoint-clear : (v w : Bits) → is_disjoint v w ≡ is_clear (intersection v w)
+unfolding is_disjoint
+disjoint-clear v w = ap (λ n. n == 0) (intersection-size v w) ∙ sym (is_clear-counts (intersection v w))

@@ -1,0 +1,260 @@
+-- What a set in pieces tells position by position: where a position lies, and the positions in ascending order.
+use Rattle.std.proofs.Common.{◌≡◌, ℕ, zero, suc, ◌+◌, ◌-◌, ◌<◌, ◌≤◌, Bool, true, false, cond, not, ◌&&◌, ◌==◌, nat_lt, nat_le, IsTrue, Option, Some, None, option_map, List, [], ◌∷◌, ◌++◌, map, zip, filter_map, flat_map, count_by, All, slice_get, refl, sym, ap, ◌∙◌, arith, ⊎_elim}
+use Rattle.std.specs.List.{last_or, cons_option}
+use Rattle.std.proofs.lemmas.Bool.{cases_Bool, lt-ltb, le-leb, ltb-true, leb-true, eqb-true, and_from, and_parts, true≢false, false_from_ne_true}
+use Rattle.std.proofs.lemmas.Bool.Decides.{nat_tests}
+use Rattle.std.proofs.lemmas.List.{append-nil}
+use Rattle.std.proofs.lemmas.List.Elements.{All-nil, All-cons}
+use Rattle.std.proofs.lemmas.List.Sums.{sum_by-cons}
+use Rattle.bitwords.specs.Rows.{in_range}
+use Rattle.bitwords.specs.Ascending.{ascending}
+use Rattle.bitwords.specs.AscendingFacts.{ascending-append, ascending-same}
+use Rattle.bitwords.specs.CountFacts.{indicator}
+use Rattle.fixedbitset.specs.Bits.{Bits, contains, insert, remove, set_bit, toggle, asc, minimum, maximum}
+use Rattle.fixedbitset.specs.BitsFacts.{same_bits, length-insert, length-remove, length-set_bit, contains-set_bit, length-toggle}
+use Rattle.fixedbitset.specs.Parts.{slice}
+use Rattle.fixedbitset.specs.PartsFacts.{length-slice, contains-slice}
+use Rattle.bitlaws.specs.Pieces.{AreCuts, pieces, placed, lies_in}
+use Rattle.bitlaws.specs.PieceLaws.{InOnePiece, MembersByPieces, ChangesByPieces, AscendingByPieces, MinimumByPieces, MaximumByPieces}
+use Rattle.bitlaws.proofs.OfPieces.{and_true, cuts_within}
+
+-- the pieces from `start` on, each behind the position at which it starts
+abbrev placed_from : Bits → ℕ → List ℕ → List (ℕ × Bits)
+placed_from v start cuts = zip (start ∷ cuts) (pieces v start cuts)
+
+-- ---- where a position lies
+
+lies_in-slice : (v : Bits) (start end p : ℕ) → start ≤ end → lies_in p (start, slice v start end) ≡ in_range start end p
+lies_in-slice v start end p order =
+    let past : start + (slice v start end).length ≡ end = omega (arith, length-slice v start end) in ap (λ n. in_range start n p) past
+
+-- one piece more: it has the position, or the others do
+one_of : (start cut p : ℕ) → start ≤ cut → indicator (in_range start cut p) + indicator (nat_le cut p) ≡ indicator (nat_le start p)
+one_of start cut p order = grind (arith, nat_tests)
+
+places : (v : Bits) (start : ℕ) (cuts : List ℕ) (p : ℕ) → AreCuts v start cuts → p < v.length → count_by (lies_in p) (placed_from v start cuts) ≡ indicator (nat_le start p)
+places v start [] p are below =
+    omega (
+      arith,
+      sum_by-cons (λ at. cond (lies_in p at) 1 0) (start, slice v start v.length) [],
+      ap indicator (lies_in-slice v start v.length p are ∙ and_true (nat_le start p) _ (lt-ltb p v.length below)),
+    )
+places v start (cut ∷ cuts) p are below =
+    omega (
+      arith,
+      sum_by-cons (λ at. cond (lies_in p at) 1 0) (start, slice v start cut) (placed_from v cut cuts),
+      ap indicator (lies_in-slice v start cut p are.0),
+      places v cut cuts p are.1 below,
+      one_of start cut p are.0,
+    )
+
+pub in_one_piece : InOnePiece
+in_one_piece v cuts p are below = places v 0 cuts p are below ∙ ap indicator (le-leb 0 p (omega arith))
+
+-- a position that lies in a piece is set exactly if it is there
+abbrev IsToldBy : Bits → ℕ → ℕ × Bits → Type 0
+IsToldBy v p at = IsTrue (lies_in p at) → contains v p ≡ contains at.1 (p - at.0)
+
+contains-within : (v : Bits) (start end p : ℕ) → start ≤ p → p < end → contains v p ≡ contains (slice v start end) (p - start)
+contains-within v start end p from to =
+    let at : p ≡ start + (p - start) = omega arith in
+    ap (contains v) at ∙ sym (contains-slice v start end (p - start) ∙ and_true (contains v (start + (p - start))) _ (lt-ltb (p - start) (end - start) (omega arith)))
+
+told_by_slice : (v : Bits) (start end p : ℕ) → IsToldBy v p (start, slice v start end)
+told_by_slice v start end p lies =
+    let ends = and_parts (nat_le start p) _ lies in
+    let from : start ≤ p = leb-true start p ends.0 in
+    let to : p < start + (slice v start end).length = ltb-true p _ ends.1 in
+    contains-within v start end p from (omega (arith, length-slice v start end))
+
+members : (v : Bits) (start : ℕ) (cuts : List ℕ) (p : ℕ) → All (IsToldBy v p) (placed_from v start cuts)
+members v start [] p = All-cons (IsToldBy v p) (start, slice v start v.length) [] (told_by_slice v start v.length p) (All-nil (IsToldBy v p))
+members v start (cut ∷ cuts) p = All-cons (IsToldBy v p) (start, slice v start cut) (placed_from v cut cuts) (told_by_slice v start cut p) (members v cut cuts p)
+
+pub members_by_pieces : MembersByPieces
+members_by_pieces v cuts p = members v 0 cuts p
+
+-- ---- a change of one position
+
+-- what a test chooses is kept, where what it chooses is within
+chosen : (e on c l : Bool) → (e ≡ true → l ≡ true) → (cond e on c && l) ≡ cond e on (c && l)
+chosen e on c l f = grind arith
+
+-- and what lies outside does not count
+outside : (e on c l : Bool) → (e ≡ true → l ≡ false) → (cond e on c && l) ≡ (c && l)
+outside e on c l f = grind arith
+
+module _ (v : Bits) (start end p : ℕ) (on : Bool) (below : p < v.length) where
+  changed-slice : (q : ℕ) → contains (slice (set_bit v p on) start end) q ≡ (cond ((start + q) == p) on (contains v (start + q)) && nat_lt q (end - start))
+  changed-slice q = contains-slice (set_bit v p on) start end q ∙ ap (λ b. b && nat_lt q (end - start)) (contains-set_bit v p on (start + q) below)
+
+  slice-changed : start ≤ p → p < end → slice (set_bit v p on) start end ≡ set_bit (slice v start end) (p - start) on
+  slice-changed from to =
+      let part = slice v start end in
+      let within : p - start < part.length = omega (arith, length-slice v start end) in
+      same_bits _ _ (length-slice (set_bit v p on) start end ∙ sym (length-set_bit part (p - start) on ∙ length-slice v start end)) (λ q.
+      let same : ((start + q) == p) ≡ (q == (p - start)) = grind (arith, nat_tests) in
+      changed-slice q
+      ∙ ap (λ b. cond b on (contains v (start + q)) && nat_lt q (end - start)) same
+      ∙ chosen (q == (p - start)) on (contains v (start + q)) (nat_lt q (end - start)) (λ here. let at : q ≡ p - start = eqb-true q (p - start) here in lt-ltb q (end - start) (omega arith))
+      ∙ sym (contains-set_bit part (p - start) on q within ∙ ap (cond (q == (p - start)) on) (contains-slice v start end q)))
+
+  slice-kept : in_range start end p ≡ false → slice (set_bit v p on) start end ≡ slice v start end
+  slice-kept out = same_bits _ _ (length-slice (set_bit v p on) start end ∙ sym (length-slice v start end)) (λ q.
+      changed-slice q
+      ∙ outside ((start + q) == p) on (contains v (start + q)) (nat_lt q (end - start)) (λ here. let at : start + q ≡ p = eqb-true (start + q) p here in false_from_ne_true _ (λ one.
+      let less : q < end - start = ltb-true q (end - start) one in
+      true≢false (sym (and_from _ _ (le-leb start p (omega arith)) (lt-ltb p end (omega arith))) ∙ out)))
+      ∙ sym (contains-slice v start end q))
+
+-- a change that keeps the length, and changes a slice in which the position lies as it changes the set
+pub record IsChange (change : Bits → ℕ → Bits) : Type 0 where
+  pub lengths : (v : Bits) (p : ℕ) → (change v p).length ≡ v.length
+  pub inside : (v : Bits) (start end p : ℕ) → p < v.length → start ≤ p → p < end → slice (change v p) start end ≡ change (slice v start end) (p - start)
+  pub others : (v : Bits) (start end p : ℕ) → p < v.length → in_range start end p ≡ false → slice (change v p) start end ≡ slice v start end
+
+pub of_insert : IsChange insert
+unfolding set_bit
+of_insert = record {
+  lengths = length-insert;
+  inside = λ v start end p below from to. slice-changed v start end p true below from to;
+  others = λ v start end p below out. slice-kept v start end p true below out;
+}
+
+pub of_remove : IsChange remove
+unfolding set_bit
+of_remove = record {
+  lengths = length-remove;
+  inside = λ v start end p below from to. slice-changed v start end p false below from to;
+  others = λ v start end p below out. slice-kept v start end p false below out;
+}
+
+pub of_toggle : IsChange toggle
+unfolding toggle
+of_toggle = record {
+  lengths = length-toggle;
+  inside = λ v start end p below from to.
+      let told = contains-within v start end p from to in
+      slice-changed v start end p (not (contains v p)) below from to ∙ ap (λ b. set_bit (slice v start end) (p - start) (not b)) told;
+  others = λ v start end p below out. slice-kept v start end p (not (contains v p)) below out;
+}
+
+module _ {change : Bits → ℕ → Bits} (law : IsChange change) where
+  piece-changed : (v : Bits) (start end p : ℕ) → p < v.length → start ≤ end
+      → slice (change v p) start end ≡ cond (lies_in p (start, slice v start end)) (change (slice v start end) (p - start)) (slice v start end)
+  piece-changed v start end p below order =
+      let part = slice v start end in
+      let lies = lies_in-slice v start end p order in
+      ⊎_elim
+      (λ (one : in_range start end p ≡ true).
+      let ends = and_parts (nat_le start p) _ one in
+      law.inside v start end p below (leb-true start p ends.0) (ltb-true p end ends.1) ∙ ap (λ b. cond b (change part (p - start)) part) (sym (lies ∙ one)))
+      (λ (out : in_range start end p ≡ false). law.others v start end p below out ∙ ap (λ b. cond b (change part (p - start)) part) (sym (lies ∙ out)))
+      (cases_Bool (in_range start end p))
+
+  changed : (v : Bits) (start : ℕ) (cuts : List ℕ) (p : ℕ) → AreCuts v start cuts → p < v.length
+      → pieces (change v p) start cuts ≡ map (λ at. cond (lies_in p at) (change at.1 (p - at.0)) at.1) (placed_from v start cuts)
+  changed v start [] p are below = ap (λ n. slice (change v p) start n ∷ []) (law.lengths v p) ∙ ap (λ u. u ∷ []) (piece-changed v start v.length p below are)
+  changed v start (cut ∷ cuts) p are below =
+      let first = piece-changed v start cut p below are.0 in
+      let others = changed v cut cuts p are.1 below in
+      λ i. first i ∷ others i
+
+  pub changes_by_pieces : ChangesByPieces change
+  changes_by_pieces v cuts p are below = changed v 0 cuts p are below
+
+-- ---- in ascending order
+
+-- the numbers that pass, moved up
+moved : (test : ℕ → Bool) (by low n : ℕ) → map (λ p. by + p) (ascending (λ i. test (by + i)) low n) ≡ ascending test (by + low) n
+moved test by low zero = refl
+moved test by low (suc n) =
+    by_test (test (by + low)) (ascending (λ i. test (by + i)) (low + 1) n)
+    ∙ (let next : by + (low + 1) ≡ by + low + 1 = omega arith in
+    let others = moved test by (low + 1) n ∙ ap (λ from. ascending test from n) next in
+    λ i. cond (test (by + low)) ((by + low) ∷ others i) (others i))
+  where
+    by_test : (b : Bool) (xs : List ℕ) → map (λ p. by + p) (cond b (low ∷ xs) xs) ≡ cond b ((by + low) ∷ map (λ p. by + p) xs) (map (λ p. by + p) xs)
+    by_test true xs = refl
+    by_test false xs = refl
+
+-- the positions of a piece, moved up by its start
+moved_up : ℕ × Bits → List ℕ
+moved_up at = map (λ p. at.0 + p) (asc at.1)
+
+moved_up-slice : (v : Bits) (start end : ℕ) → moved_up (start, slice v start end) ≡ ascending (contains v) start (end - start)
+unfolding moved_up asc
+moved_up-slice v start end =
+    let part = slice v start end in
+    let kept = ascending-same (contains part) (λ i. contains v (start + i)) 0 (end - start) (λ i from to. contains-slice v start end i ∙ and_true _ _ (lt-ltb i (end - start) (omega arith))) in
+    let first : start + 0 ≡ start = omega arith in
+    ap (λ n. map (λ p. start + p) (ascending (contains part) 0 n)) (length-slice v start end)
+    ∙ ap (map (λ p. start + p)) kept
+    ∙ moved (contains v) start 0 (end - start)
+    ∙ ap (λ from. ascending (contains v) from (end - start)) first
+
+in_order : (v : Bits) (start : ℕ) (cuts : List ℕ) → AreCuts v start cuts → flat_map moved_up (placed_from v start cuts) ≡ ascending (contains v) start (v.length - start)
+in_order v start [] are = append-nil (moved_up (start, slice v start v.length)) ∙ moved_up-slice v start v.length
+in_order v start (cut ∷ cuts) are =
+    let first : start ≤ cut = are.0 in
+    let within : cut ≤ v.length = cuts_within v cut cuts are.1 in
+    let at : start + (cut - start) ≡ cut = omega arith in
+    let both : (cut - start) + (v.length - cut) ≡ v.length - start = omega arith in
+    (λ i. moved_up-slice v start cut i ++ in_order v cut cuts are.1 i)
+    ∙ ap (λ from. ascending (contains v) start (cut - start) ++ ascending (contains v) from (v.length - cut)) (sym at)
+    ∙ sym (ascending-append (contains v) start (cut - start) (v.length - cut))
+    ∙ ap (ascending (contains v) start) both
+
+asc_by_pieces : (v : Bits) (cuts : List ℕ) → AreCuts v 0 cuts → asc v ≡ flat_map moved_up (placed v cuts)
+unfolding asc
+asc_by_pieces v cuts are = let whole : v.length ≡ v.length - 0 = omega arith in ap (ascending (contains v) 0) whole ∙ sym (in_order v 0 cuts are)
+
+pub ascending_by_pieces : AscendingByPieces
+unfolding moved_up
+ascending_by_pieces v cuts are = asc_by_pieces v cuts are
+
+-- ---- the first and the last
+
+-- the first item of lists in a row is that of the first list that has one
+first_of : (items : ℕ × Bits → List ℕ) (first : ℕ × Bits → Option ℕ) → ((at : ℕ × Bits) → slice_get (items at) 0 ≡ first at)
+    → (row : List (ℕ × Bits)) → slice_get (flat_map items row) 0 ≡ slice_get (filter_map first row) 0
+first_of items first is [] = refl
+first_of items first is (at ∷ row) = by_items (items at) (flat_map items row) (filter_map first row) (first_of items first is row) ∙ ap (λ o. slice_get (cons_option o (filter_map first row)) 0) (is at)
+  where
+    by_items : (xs others rest : List ℕ) → slice_get others 0 ≡ slice_get rest 0 → slice_get (xs ++ others) 0 ≡ slice_get (cons_option (slice_get xs 0) rest) 0
+    by_items [] others rest same = same
+    by_items (x ∷ xs) others rest same = refl
+
+-- and the last that of the last list that has one
+last_of : (items : ℕ × Bits → List ℕ) (last : ℕ × Bits → Option ℕ) → ((at : ℕ × Bits) → last_or None (items at) ≡ last at)
+    → (row : List (ℕ × Bits)) (o : Option ℕ) → last_or o (flat_map items row) ≡ last_or o (filter_map last row)
+last_of items last is [] o = refl
+last_of items last is (at ∷ row) o = by_items (items at) (flat_map items row) (filter_map last row) o (last_of items last is row) ∙ ap (λ q. last_or o (cons_option q (filter_map last row))) (is at)
+  where
+    behind_one : (x : ℕ) (xs others rest : List ℕ) (o : Option ℕ) → ((q : Option ℕ) → last_or q others ≡ last_or q rest) → last_or (Some x) (xs ++ others) ≡ last_or o (cons_option (last_or (Some x) xs) rest)
+    behind_one x [] others rest o same = same (Some x)
+    behind_one x (y ∷ ys) others rest o same = behind_one y ys others rest o same
+
+    by_items : (xs others rest : List ℕ) (o : Option ℕ) → ((q : Option ℕ) → last_or q others ≡ last_or q rest) → last_or o (xs ++ others) ≡ last_or o (cons_option (last_or None xs) rest)
+    by_items [] others rest o same = same o
+    by_items (x ∷ xs) others rest o same = behind_one x xs others rest o same
+
+first-map : (f : ℕ → ℕ) (xs : List ℕ) → slice_get (map f xs) 0 ≡ option_map f (slice_get xs 0)
+first-map f [] = refl
+first-map f (x ∷ xs) = refl
+
+last-map : (f : ℕ → ℕ) (xs : List ℕ) (o : Option ℕ) → last_or (option_map f o) (map f xs) ≡ option_map f (last_or o xs)
+last-map f [] o = refl
+last-map f (x ∷ xs) o = last-map f xs (Some x)
+
+pub minimum_by_pieces : MinimumByPieces
+unfolding minimum moved_up
+minimum_by_pieces v cuts are =
+    ap (λ xs. slice_get xs 0) (asc_by_pieces v cuts are)
+    ∙ first_of moved_up (λ at. option_map (λ p. at.0 + p) (minimum at.1)) (λ at. first-map (λ p. at.0 + p) (asc at.1)) (placed v cuts)
+
+pub maximum_by_pieces : MaximumByPieces
+unfolding maximum moved_up
+maximum_by_pieces v cuts are =
+    ap (last_or None) (asc_by_pieces v cuts are)
+    ∙ last_of moved_up (λ at. option_map (λ p. at.0 + p) (maximum at.1)) (λ at. last-map (λ p. at.0 + p) (asc at.1) None) (placed v cuts) None
