@@ -17,10 +17,14 @@ ghost use Rattle.fixedbitset.specs.Bits as model;
 ghost use Rattle.fixedbitset.specs.Bits.{of_words};
 ghost use Rattle.fixedbitset.specs.Stored.{IsClean};
 
+pub mod bytes;
 pub mod neighbours;
 pub mod pairs;
 pub mod ranges;
+pub mod ranks;
+pub mod rows;
 pub mod runs;
+pub mod shifts;
 pub mod sieves;
 pub mod structs;
 pub mod walks;

@@ -1,0 +1,40 @@
+//! A set as bytes: position `p` is bit `p % 8` of byte `p / 8`.
+
+ghost use Rattle.std.specs.Prelude.{◌≡◌, ◌*◌, ◌==◌, if◌then◌else◌, length};
+ghost use Rattle.bits_c.specs.Sets.{value};
+ghost use Rattle.fixedbitset.specs.Bits.{words_needed};
+ghost use Rattle.fixedbitset.specs.Json as json;
+
+use crate::bits_blocks;
+use crate::structs::Set;
+use fixedbitset::lent;
+
+/// How many bytes `bits_to_bytes` writes: eight for each word that the length needs.
+#[unsafe(no_mangle)]
+pub extern "C" fn bits_bytes(length: usize) -> usize
+    ensures { result ≡ 8 * words_needed length }
+{
+    8 * bits_blocks(length)
+}
+
+/// Leaves the positions that the bytes say. Bytes that are missing count as 0, and bits past the length are dropped.
+#[unsafe(no_mangle)]
+pub extern "C" fn bits_from_bytes(set: &mut Set<'_>, bytes: &[u8])
+    ensures { value set.new ≡ json.of_bytes set.old.length bytes.now }
+{
+    lent::from_bytes(set.words, set.length, bytes);
+}
+
+/// Writes the bytes of the set, and answers whether there are as many as `bits_bytes` says; else nothing is changed.
+#[unsafe(no_mangle)]
+pub extern "C" fn bits_to_bytes(set: &Set<'_>, bytes: &mut [u8]) -> bool
+    ensures told { result ≡ (length bytes.old == 8 * words_needed set.now.length) }
+    ensures bytes { bytes.new ≡ (if result then json.bytes (value set.now) else bytes.old) }
+{
+    if bytes.len() == bits_bytes(set.length) {
+        lent::to_bytes(set.words, set.length, bytes);
+        true
+    } else {
+        false
+    }
+}

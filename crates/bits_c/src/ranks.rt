@@ -1,0 +1,72 @@
+//! How many positions stand below a given one, and which is the k-th: by a directory of the set's words, which the caller
+//! keeps beside them.
+//!
+//! One call writes the directory, and the struct that the others take. While that is used, neither the words nor the
+//! directory may change.
+
+ghost use Rattle.std.specs.Prelude.{◌≡◌, ◌==◌, unwrap_or, if◌then◌else◌, length};
+ghost use Rattle.bitranks.specs.Ranks as model;
+ghost use Rattle.bits_c.specs.Sets.{value, ranked};
+ghost use Rattle.fixedbitset.specs.Bits.{empty, storage_words};
+
+use crate::structs::{Ranks, Set};
+use crate::{NONE, bits_words};
+use bitlanes::Steps;
+use bitranks::directory;
+
+/// How many entries the directory of a set of so many positions has: one for each eight words, rounded up.
+#[unsafe(no_mangle)]
+pub extern "C" fn bits_ranks_entries(length: usize) -> usize
+    ensures { result ≡ model.entries (storage_words length) }
+{
+    directory::entries(bits_words(length))
+}
+
+/// Writes the directory of the set's words, and the whole struct `ranks` from any before. It answers whether the directory
+/// has as many entries as `bits_ranks_entries` says; else the ranks are those of the set of length 0.
+#[tactic(auto, using(crate::proofs::Ranked::all_fit, crate::proofs::Ranked::nothing_clean, crate::proofs::Ranked::nothing_kept, crate::proofs::Ranked::nothing_ranked))]
+#[unsafe(no_mangle)]
+pub extern "C" fn bits_ranks_fill<'a>(
+    ranks: &mut Ranks<'a>,
+    set: &'a Set<'_>,
+    directory: &'a mut [usize],
+) -> bool
+    ensures told { result
+        ≡ (length directory.old == model.entries (storage_words set.now.length)) }
+    ensures value { ranked ranks.new ≡ (if result then value set.now else empty 0) }
+{
+    if directory.len() == bits_ranks_entries(set.length) {
+        directory::fill(set.words, directory, &mut Steps::new());
+        *ranks = Ranks {
+            words: set.words,
+            length: set.length,
+            directory,
+        };
+        true
+    } else {
+        *ranks = Ranks {
+            words: &[],
+            length: 0,
+            directory: &[],
+        };
+        false
+    }
+}
+
+/// How many positions below this one are set. Past the length all are below it.
+#[tactic(auto, using(crate::proofs::Ranked::lent_rank))]
+#[unsafe(no_mangle)]
+pub extern "C" fn bits_rank(ranks: &Ranks<'_>, position: usize) -> usize
+    ensures { result ≡ model.rank (ranked ranks.now) position }
+{
+    directory::rank(ranks.words, ranks.directory, position, &mut Steps::new())
+}
+
+/// The position that is set and has so many positions that are set below it, or `NONE`.
+#[tactic(auto, using(crate::proofs::Ranked::all_fit, crate::proofs::Ranked::lent_select))]
+#[unsafe(no_mangle)]
+pub extern "C" fn bits_select(ranks: &Ranks<'_>, index: usize) -> usize
+    ensures { result ≡ unwrap_or (model.select (ranked ranks.now) index) NONE }
+{
+    directory::select(ranks.words, ranks.directory, index, &mut Steps::new()).unwrap_or(NONE)
+}

@@ -1,0 +1,135 @@
+//! Tables of bits: rows of one length, in words of the caller's.
+//!
+//! A table is the struct `Rows`. Each row keeps as many words as a set of `columns` positions, one row behind the other.
+//! `bits_rows_clear` makes any words those of a table with no bit.
+
+ghost use Rattle.std.specs.Prelude.{◌≡◌, ◌<◌, ◌≤◌, ◌*◌, ◌^◌, ◌↔◌, ◌&&◌, ℕ, [], ◌==◌, nat_lt, true, false, not, if◌then◌else◌, length};
+ghost use Rattle.bitrows.specs.Paths.{HasEdge, IsConnected};
+ghost use Rattle.bitrows.specs.Stored.{IsTable, table_in};
+ghost use Rattle.bitrows.specs.Tables.{row_of, has, blank, with_row, set_at};
+ghost use Rattle.bits_c.specs.Sets.{table};
+ghost use Rattle.bits_c.specs.Walks.{ones_left};
+ghost use Rattle.fixedbitset.specs.Bits.{asc, storage_words};
+ghost use Rattle.fixedbitset.specs.TwoSets.{union, is_subset};
+
+use crate::structs::{Ones, Rows};
+use crate::{NONE, bits_words};
+use bitlanes::{Block, Steps};
+use bitrows::lent;
+use bitwords::cursors::{Cursor, Plain};
+use fixedbitset::lent as sets;
+
+/// How many words a table of so many rows and columns has, or `NONE` where they are more than there are numbers.
+#[unsafe(no_mangle)]
+pub extern "C" fn bits_rows_words(rows: usize, columns: usize) -> usize
+    ensures words { rows * storage_words columns < 2 ^ 64
+        → result ≡ rows * storage_words columns }
+    ensures none { 2 ^ 64 ≤ rows * storage_words columns → result ≡ NONE }
+{
+    rows.checked_mul(bits_words(columns)).unwrap_or(NONE)
+}
+
+/// Makes any words those of a table of so many rows and columns, with no bit. It answers whether there are as many as
+/// `bits_rows_words` says; else nothing is changed.
+#[unsafe(no_mangle)]
+pub extern "C" fn bits_rows_clear(words: &mut [Block], rows: usize, columns: usize) -> bool
+    ensures told { result ≡ (length words.old == rows * storage_words columns) }
+    ensures clean { result ≡ true → IsTable rows columns words.new }
+    ensures value { result ≡ true → table_in rows columns words.new ≡ blank rows columns }
+    ensures stays { result ≡ false → words.new ≡ words.old }
+{
+    if words.len() == bits_rows_words(rows, columns) {
+        lent::clear(words, rows, columns);
+        true
+    } else {
+        false
+    }
+}
+
+/// Whether the row has a bit at the column: `false` past the rows and past the columns.
+#[tactic(auto, using(crate::proofs::Tables::none_past))]
+#[unsafe(no_mangle)]
+pub extern "C" fn bits_rows_get(rows: &Rows<'_>, row: usize, column: usize) -> bool
+    ensures { result ≡ has (table rows.now) row column }
+{
+    if row < rows.rows {
+        lent::get(rows.words, rows.rows, rows.columns, row, column)
+    } else {
+        false
+    }
+}
+
+/// Sets the bit of the row at the column, or clears it where `enabled` is false, and answers whether the table has both; else
+/// nothing is changed.
+#[unsafe(no_mangle)]
+pub extern "C" fn bits_rows_set(
+    rows: &mut Rows<'_>,
+    row: usize,
+    column: usize,
+    enabled: bool,
+) -> bool
+    ensures told { result ≡ (nat_lt row rows.old.rows && nat_lt column rows.old.columns) }
+    ensures value { table rows.new
+        ≡ (if result then set_at (table rows.old) row column enabled else table rows.old) }
+{
+    if row < rows.rows && column < rows.columns {
+        lent::set(rows.words, rows.rows, rows.columns, row, column, enabled);
+        true
+    } else {
+        false
+    }
+}
+
+/// Row `into` takes in the bits of row `from`, and the answer is whether the table has both; else nothing is changed. It
+/// writes to `changed` whether a bit came in; where the table has not both, nothing.
+#[unsafe(no_mangle)]
+pub extern "C" fn bits_rows_union(
+    rows: &mut Rows<'_>,
+    from: usize,
+    into: usize,
+    changed: &mut bool,
+) -> bool
+    ensures told { result ≡ (nat_lt from rows.old.rows && nat_lt into rows.old.rows) }
+    ensures value { table rows.new ≡ (if result
+        then with_row (table rows.old) into
+        (union (row_of (table rows.old) into) (row_of (table rows.old) from))
+        else table rows.old) }
+    ensures changed { changed.new ≡ (if result
+        then not (is_subset (row_of (table rows.old) from) (row_of (table rows.old) into))
+        else changed.old) }
+{
+    if from < rows.rows && into < rows.rows {
+        *changed = lent::union_rows(rows.words, rows.rows, rows.columns, from, into);
+        true
+    } else {
+        false
+    }
+}
+
+/// Begins the walk over the columns at which the row has a bit, in ascending order, and answers whether the table has the
+/// row; else the walk gives none.
+#[unsafe(no_mangle)]
+pub extern "C" fn bits_rows_ones<'a>(walk: &mut Ones<'a>, rows: &'a Rows<'_>, row: usize) -> bool
+    ensures told { result ≡ nat_lt row rows.now.rows }
+    ensures left { ones_left walk.new
+        ≡ (if result then asc (row_of (table rows.now) row) else []) }
+{
+    if row < rows.rows {
+        let words = lent::words_of(rows.words, rows.rows, rows.columns, row);
+        *walk = Ones::of(sets::ones(words, rows.columns));
+        true
+    } else {
+        *walk = Ones::of(Cursor::over(Plain { words: &[] }));
+        false
+    }
+}
+
+/// The transitive closure of the graph that has an edge from each row to each column at which the row has a bit: afterwards
+/// row `a` has a bit at column `b` exactly if some path of one or more edges led from `a` to `b`.
+#[unsafe(no_mangle)]
+pub extern "C" fn bits_rows_close(rows: &mut Rows<'_>)
+    ensures { (a b : ℕ) → HasEdge (table rows.new) a b
+        ↔ IsConnected (HasEdge (table rows.old)) a b }
+{
+    lent::close(rows.words, rows.rows, rows.columns, &mut Steps::new());
+}
