@@ -1,13 +1,17 @@
 -- Which slots are taken and which are free, before and after one is taken or given back.
-use Rattle.std.proofs.Common.{◌≡◌, ◌≢◌, ◌∙◌, ℕ, ◌≤◌, inl, inr, Option, Some, None, List, [], ◌∷◌, refl, sym, subst, arith}
+use Rattle.std.proofs.Common.{◌≡◌, ◌≢◌, ◌∙◌, ℕ, ◌+◌, ◌≤◌, inl, inr, Option, Some, None, List, [], ◌∷◌, refl, sym, subst, arith}
 use Rattle.std.specs.Prelude.{MatchOption, unwrap_or}
 use Rattle.std.proofs.lemmas.Bool.{true≢false, false_from_ne_true}
 use Rattle.fixedbitset.specs.Bits.{Bits, insert, remove, asc, complement}
 use Rattle.fixedbitset.specs.BitsFacts.{contains_below, length-insert, length-remove}
-use Rattle.fixedbitset.specs.MemberFacts.{in_insert, in_remove, is_full-tells}
+use Rattle.fixedbitset.specs.MemberFacts.{in_insert, in_remove, in_insert_range, is_full-tells}
+use Rattle.fixedbitset.specs.Ranges.{insert_range}
+use Rattle.fixedbitset.specs.RangesFacts.{length-insert_range}
 use Rattle.fixedbitset.specs.SizeFacts.{count_zeroes-full}
 use Rattle.fixedbitset.specs.FirstFacts.{first_zero, no_zero}
-use Rattle.use_slots.specs.Pool.{IsTaken, IsFree, IsLeastFree, AreAllTaken, free_count}
+use Rattle.fixedbitset.specs.Runs.{first_gap}
+use Rattle.bitlaws.specs.RunLaws.{RoomTells, GapIsLeast}
+use Rattle.use_slots.specs.Pool.{IsTaken, IsFree, IsLeastFree, AreAllTaken, IsTakenStretch, IsLeastStretch, HasNoStretch, free_count}
 
 -- ---- the first item of the walk over the free slots
 
@@ -44,6 +48,26 @@ module _ (v : Bits) (first second : ℕ) (is_first : IsFree v first) (is_second 
 
 -- what holds of them
 pub ruleset two_taken = (two_apart, two_free, first_stays, second_too)
+
+-- ---- a stretch is taken
+
+module _ (room : RoomTells) (least : GapIsLeast) (v : Bits) (count from : ℕ) where
+  pub least_stretch : (start : ℕ) → Some start ≡ first_gap v count from → IsLeastStretch v count from start
+  least_stretch start is =
+      let found = rw (sym is) at (least v count from) in
+      (found.0, (room v count start).0 found.1, λ other after free. found.2 other after ((room v count other).1 free))
+
+  pub no_stretch : None ≡ first_gap v count from → HasNoStretch v count from
+  no_stretch is = let none = rw (sym is) at (least v count from) in λ start after free. none start after ((room v count start).1 free)
+
+-- each slot of it is taken then
+pub stretch_taken : (v w : Bits) (count from start : ℕ) → IsLeastStretch v count from start → w ≡ insert_range v start (start + count) → IsTakenStretch w count start
+stretch_taken v w count from start least left =
+    let fits : start + count ≤ v.length = least.1.0 in
+    rw left (
+      omega (arith, fits, length-insert_range v start (start + count)),
+      λ slot from_there below. (in_insert_range v start (start + count) slot fits).1 (inl (from_there, below)),
+    )
 
 -- ---- a slot is given back
 

@@ -2,8 +2,10 @@
 //!
 //! The first line is how many slots there are, at most 1,000,000. A line without a number takes a slot, and the answer is
 //! the slot or `full`. A line with a number gives that slot back, and the answer is `ok`, or `free` where it was not taken.
-//! Where some line is not as said here, nothing is answered but one sentence on standard error with the number of that
-//! line, and the status is 1.
+//! A line of two numbers takes a stretch: as many slots as the first says, one behind the other, from the least start at or
+//! past the second where all of them are free. The answer is that start, or `full`. Each slot of it is given back by a line
+//! of its own. Where some line is not as said here, nothing is answered but one sentence on standard error with the number
+//! of that line, and the status is 1.
 #![tactic(auto)]
 
 ghost use Rattle.std.specs.Prelude.{OnOk, IfErr};
@@ -62,7 +64,11 @@ fn carry_out(alloc: Global, slots: &mut Slots, rows: &[Row]) -> Result<String, F
                 answers.push_str("ok\n")?;
             }
             [_] => answers.push_str("free\n")?,
-            _ => return Err(Fault::Line(row.line, "a command has to be one number or none")),
+            [count, from] => match slots.take_stretch(count, from) {
+                Some(start) => writeln!(answers, "{start}")?,
+                None => answers.push_str("full\n")?,
+            },
+            _ => return Err(Fault::Line(row.line, "a command has to be two numbers at most")),
         }
     }
     Ok(answers)

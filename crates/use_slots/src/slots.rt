@@ -1,16 +1,20 @@
 //! An allocator of slots: which of so many slots are taken.
 //!
 //! What it promises: `take` takes the least free slot, and answers `None` exactly where all are taken; `give_back` makes that
-//! slot free and no other; and in every run of calls a slot that `take` answered twice was given back in between. Contracts
-//! see it as a length, how many slots there are, and the set of those that are taken (`specs/Pool.antt`).
+//! slot free and no other; `take_stretch` takes so many slots one behind the other from the least start where all of them
+//! are free, and answers `None` exactly where there is no such start; and in every run of calls a slot that was taken twice,
+//! alone or in a stretch, was given back in between. Contracts see it as a length, how many slots there are, and the set of
+//! those that are taken (`specs/Pool.antt`).
 
 ghost use Rattle.std.specs.Prelude.{◌≡◌, ◌≢◌, ◌+◌, ◌<◌, ◌≤◌, ◌↔◌, ℕ, List, [], ◌∷◌, ◌++◌, Contains, IsTrue, IfOk, IfNone, IfSome, MatchOption};
 ghost use Rattle.fixedbitset.specs.Bits as model;
 ghost use Rattle.fixedbitset.specs.Bits.{Bits};
+ghost use Rattle.fixedbitset.specs.Ranges as ranges;
 ghost use Rattle.use_slots.specs.Pool.{IsTaken, IsFree, IsLeastFree, IsAnswer, IsLeft, free_count, taken_count};
-ghost use Rattle.use_slots.specs.Runs.{Call, Take, Give_back, Runs};
+ghost use Rattle.use_slots.specs.Pool.{IsTakenStretch, IsStretchAnswer, IsStretchLeft};
+ghost use Rattle.use_slots.specs.Runs.{Call, Runs, Takes, GivesBack};
 
-use bitlaws::laws::counts_of_range_add_up;
+use bitlaws::laws::{counts_of_range_add_up, first_gap_is_least};
 use fixedbitset::FixedBitSet;
 use std::alloc::{AllocError, Global};
 use std::marker::Model;
@@ -64,6 +68,29 @@ impl Slots {
         self.taken.remove(slot);
     }
 
+    /// Takes `count` slots one behind the other, from the least start at or past `from` where all of them are free, and
+    /// answers that start. `None` comes exactly where there is no such start, and then nothing changes.
+    pub fn take_stretch(&mut self, count: usize, from: usize) -> Option<usize>
+        ensures stretch { IsStretchAnswer self.old count from result }
+        ensures after { IsStretchLeft self.old count result self.new }
+        ensures taken { IfSome result (λ start. IsTakenStretch self.new count start) }
+    {
+        first_gap_is_least();
+        let _many = self.taken.len();
+        let start = self.taken.first_gap(count, from)?;
+        self.taken.insert_range(start..start + count);
+        Some(start)
+    }
+
+    /// Makes the `count` slots from `start` on free, each of which is taken.
+    pub fn give_back_stretch(&mut self, start: usize, count: usize)
+        requires { IsTakenStretch self.old count start }
+        ensures { self.new ≡ ranges.remove_range self.old start (start + count) }
+    {
+        let _many = self.taken.len();
+        self.taken.remove_range(start..start + count);
+    }
+
     /// Whether the slot is taken. A slot past the end is not.
     pub fn is_taken(&self, slot: usize) -> bool
         ensures { IsTrue result ↔ IsTaken self.now slot }
@@ -112,9 +139,11 @@ pub fn take_two(slots: &mut Slots) -> Option<(usize, usize)>
     Some((first, second))
 }
 
-/// In every run of calls a slot that `take` answers twice was given back in between. It does nothing: its contract is a
-/// law of what `take` and `give_back` ensure.
+/// In every run of calls a slot that two of them take, alone or in a stretch, was given back in between. It does nothing:
+/// its contract is a law of what the calls that take and give back ensure.
 pub fn never_twice()
-    ensures { (old new : Bits) (slot : ℕ) (between : List Call)
-        → Runs old (Take (Some slot) ∷ (between ++ Take (Some slot) ∷ [])) new → Contains between (Give_back slot) }
+    ensures { (old new : Bits) (slot : ℕ) (first second : Call) (between : List Call)
+        → Takes first slot → Takes second slot
+        → Runs old (first ∷ (between ++ second ∷ [])) new
+        → (call : Call) × Contains between call × GivesBack call slot }
 {}

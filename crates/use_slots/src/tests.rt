@@ -20,3 +20,17 @@ fn three_slots(rt: HostRuntime) -> Result<(), Fail> {
     never_twice();
     Ok(())
 }
+
+#[test]
+fn stretches(rt: HostRuntime) -> Result<(), Fail> {
+    let mut slots = Slots::new(rt.alloc(), 9)?;
+    assert_eq!(rt; slots.take_stretch(2, 3), Some(3));
+    assert_eq!(rt; slots.take_stretch(3, 1), Some(5));
+    assert_eq!(rt; slots.take_stretch(4, 0), None);
+    if let Some(start) = slots.take_stretch(2, 1) {
+        slots.give_back_stretch(start, 2);
+    }
+    assert_eq!(rt; slots.take_stretch(3, 0), Some(0));
+    assert_eq!(rt; slots.take(), Some(8));
+    Ok(())
+}

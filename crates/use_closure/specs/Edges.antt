@@ -1,0 +1,23 @@
+-- Which edges the rows are, and pairs of nodes in order.
+use Rattle.std.specs.Prelude.{◌≡◌, ℕ, ◌<◌, ◌⊎◌, List, [], ◌∷◌, Contains, length, map, slice_index}
+use Rattle.std.specs.List.{flat_map, range_with_len}
+use Rattle.use_text.specs.declared.Row.{Row}
+use Rattle.fixedbitset.specs.Bits.{asc}
+use Rattle.bitrows.specs.Tables.{Table, row_of}
+
+-- two numbers: the nodes that an edge leads from and to
+abbrev pub IsEdge : ℕ → List ℕ → Type 0
+IsEdge nodes numbers =
+    (length numbers ≡ 2) × (slice_index numbers 0 < nodes) × (slice_index numbers 1 < nodes)
+
+-- one of the rows is the edge from node a to node b
+abbrev pub HasEdge : List Row → ℕ → ℕ → Type 0
+HasEdge rows a b = Contains (map (λ (row : Row). row.numbers.items) rows) (a ∷ b ∷ [])
+
+-- the first nodes of two pairs are in order, or they are one node and the second nodes are in order
+abbrev pub IsBefore : ℕ × ℕ → ℕ × ℕ → Type 0
+IsBefore p q = (p.0 < q.0) ⊎ ((p.0 ≡ q.0) × (p.1 < q.1))
+
+-- the row and the column of each bit in the first n rows of a table, row after row
+abbrev pub pairs_in : Table → ℕ → List (ℕ × ℕ)
+pairs_in t n = flat_map (λ row. map (λ column. (row, column)) (asc (row_of t row))) (range_with_len 0 n)

@@ -1,0 +1,42 @@
+//! Reads a graph from standard input, and prints the pairs of nodes that a path of one or more edges joins, one pair a line.
+//!
+//! The first line is how many nodes there are, at most 10,000. Each other line is an edge: the node that it leads from, and
+//! the node that it leads to. The pairs come in ascending order. Where some line is not as said here, or names a node that
+//! there is not, nothing is answered but one sentence on standard error with the number of that line, and the status is 1.
+#![tactic(auto)]
+
+use graph::closure;
+use std::alloc::Global;
+use std::fmt::Write;
+use std::process::ExitCode;
+use use_text::Fault;
+use use_text::program::{finish, read};
+
+mod graph;
+#[cfg(test)]
+mod tests;
+
+// How many nodes there may be.
+const LIMIT: usize = 10_000;
+
+fn main(rt: HostRuntime) -> ExitCode {
+    let alloc = rt.alloc();
+    let answer = read(alloc, &mut rt.stdin()).and_then(|text| answer(alloc, text.as_str()));
+    finish(&rt, &answer, &mut rt.stdout())
+}
+
+fn answer(alloc: Global, text: &str) -> Result<String, Fault> {
+    let rows = use_text::rows(alloc, text)?;
+    let Some((first, edges)) = rows.split_first() else {
+        return Err(Fault::Line(1, "the number of nodes is missing"));
+    };
+    let [nodes @ 0..=LIMIT] = *first.numbers.as_slice() else {
+        let wanted = "there has to be one number, of nodes, up to 10,000";
+        return Err(Fault::Line(first.line, wanted));
+    };
+    let mut answer = String::new(alloc);
+    for (from, to) in &closure(alloc, nodes, edges)? {
+        writeln!(answer, "{from} {to}")?;
+    }
+    Ok(answer)
+}
