@@ -1,6 +1,6 @@
 //! The examples in the docs of `fixedbitset::counted::neighbours`. docs/make_examples writes this file.
 
-use crate::calls::{cleared, equal};
+use crate::calls::{cleared, equal, set_of};
 use fixedbitset::{Steps, counted};
 
 #[test]
@@ -26,6 +26,17 @@ fn next_zero(rt: HostRuntime) {
         &rt,
         counted::next_zero(&set, 7, &mut Steps::new()),
         Some(150),
+    );
+}
+
+#[test]
+fn first_gap(rt: HostRuntime) {
+    let alloc = rt.alloc();
+    let set = set_of(&rt, alloc, &[3, 6, 90]);
+    equal(
+        &rt,
+        counted::first_gap(&set, 3, 1, &mut Steps::new()),
+        Some(7),
     );
 }
 

@@ -1,4 +1,1 @@
-pub mod CallsLemmas
-pub mod FillLemmas
-pub mod SlotLemmas
 pub mod SumLemmas

@@ -1,213 +1,97 @@
-//! Chains of an iterator's methods over the set positions.
+//! Tests of the chains of `test_loops::chains`.
 
-ghost use Rattle.std.specs.Prelude.{◌≡◌, ℕ, ◌^◌, ◌<◌, ◌≤◌, ◌%◌, ◌+◌, ◌*◌, ◌==◌, ◌++◌, nat_lt, nat_le, true, false, length, sum, sum_by, count_by, take, drop, take_while, fold, find, position, slice_get, slice_index, EachIndex, OnOk, IfOk, IfSome, IfNone, None, IsTrue};
-ghost use Rattle.std.specs.Bool.{OnTrue, OnFalse};
-ghost use Rattle.std.specs.List.{list_any, list_all, zip, enumerate_from, last_or};
-ghost use Rattle.fixedbitset.specs.Bits as model;
-
+use crate::slow::{EXAMPLE, assert_answer, assert_items, assert_number, example, set_of};
 use fixedbitset::FixedBitSet;
-use std::alloc::{AllocError, Global};
+use std::process::Abort;
+use std::test::Fail;
+use test_loops::chains::{
+    after_few, all_below, all_in, any_from, chained, collected, count, count_of_even, extended,
+    find, first_few, folded, greatest, last, least, member_from, nth, numbered, paired, place_of,
+    stepped, sum, sum_of_rests, taken_below,
+};
 
-// ---- numbers
-
-/// How many positions there are.
-pub fn count(set: &FixedBitSet) -> usize
-    ensures { result ≡ length (model.asc set.now) }
-{
-    set.ones().count()
+#[test]
+#[tactic(auto, using(crate::proofs::SumLemmas::sum_fits, crate::proofs::SumLemmas::sum_of_rests_fits))]
+fn numbers(rt: HostRuntime) -> Result<(), Fail> {
+    let set = example(rt.alloc())?;
+    assert_number(&rt, count(&set), 5);
+    assert_number(&rt, sum(&set), 264);
+    assert_number(&rt, sum_of_rests(&set), 5);
+    assert_number(&rt, count_of_even(&set), 3);
+    assert_number(&rt, folded(&set), 264);
+    Ok(())
 }
 
-/// Their sum.
-pub fn sum(set: &FixedBitSet) -> usize
-    requires { sum (model.asc set.now) < 2 ^ 64 }
-    ensures { result ≡ sum (model.asc set.now) }
-{
-    set.ones().sum()
+#[test]
+fn greatest_and_least(rt: HostRuntime) -> Result<(), Fail> {
+    let empty = FixedBitSet::with_capacity(rt.alloc(), 131)?;
+    let set = example(rt.alloc())?;
+    for (set, first, end) in [(&set, Some(0), Some(130)), (&empty, None, None)] {
+        assert_answer(&rt, least(set), first);
+        assert_answer(&rt, greatest(set), end);
+        assert_answer(&rt, last(set), end);
+    }
+    Ok(())
 }
 
-/// The sum of their rests by 7.
-pub fn sum_of_rests(set: &FixedBitSet) -> usize
-    requires { sum_by (λ p. p % 7) (model.asc set.now) < 2 ^ 64 }
-    ensures { result ≡ sum_by (λ p. p % 7) (model.asc set.now) }
-{
-    set.ones().map(|position| position % 7).sum()
+#[test]
+fn places(rt: HostRuntime) -> Result<(), Fail> {
+    let set = example(rt.alloc())?;
+    for place in 0..7 {
+        assert_answer(&rt, nth(&set, place), EXAMPLE.get(place).copied());
+    }
+    for (low, wanted, place) in [
+        (0, Some(0), Some(0)),
+        (8, Some(63), Some(2)),
+        (130, Some(130), Some(4)),
+        (131, None, None),
+    ] {
+        assert_answer(&rt, find(&set, low), wanted);
+        assert_answer(&rt, member_from(&set, low), wanted);
+        assert_answer(&rt, place_of(&set, low), place);
+        assert!(rt; any_from(&set, low) == wanted.is_some());
+        assert!(rt; all_below(&set, low) == wanted.is_none());
+    }
+    Ok(())
 }
 
-/// How many are even.
-pub fn count_of_even(set: &FixedBitSet) -> usize
-    ensures { result ≡ count_by (λ p. p % 2 == 0) (model.asc set.now) }
-{
-    set.ones().filter(|position| *position % 2 == 0).count()
+#[test]
+fn lists(rt: HostRuntime) -> Result<(), Fail> {
+    let set = example(rt.alloc())?;
+    let mut list = collected(rt.alloc(), &set)?;
+    assert_items(&rt, &list, &EXAMPLE);
+    extended(&mut list, &set)?;
+    assert_items(&rt, &list, &chained(rt.alloc(), &set, &set)?);
+    assert_items(&rt, &list, &[0, 7, 63, 64, 130, 0, 7, 63, 64, 130]);
+    Ok(())
 }
 
-/// A number that each position changes in turn.
-pub fn folded(set: &FixedBitSet) -> usize
-    ensures { result ≡ fold (λ rest p. (rest % 1000 + p % 1000) % 1000) 0 (model.asc set.now) }
-{
-    set.ones()
-        .fold(0, |rest, position| (rest % 1000 + position % 1000) % 1000)
+#[test]
+fn parts_of_lists(rt: HostRuntime) -> Result<(), Fail> {
+    let set = example(rt.alloc())?;
+    assert_items(&rt, &first_few(rt.alloc(), &set, 2)?, &[0, 7]);
+    assert_items(&rt, &first_few(rt.alloc(), &set, 9)?, &EXAMPLE);
+    assert_items(&rt, &after_few(rt.alloc(), &set, 2)?, &[63, 64, 130]);
+    assert_items(&rt, &after_few(rt.alloc(), &set, 9)?, &[]);
+    assert_items(&rt, &taken_below(rt.alloc(), &set, 63)?, &[0, 7]);
+    assert_items(&rt, &taken_below(rt.alloc(), &set, 131)?, &EXAMPLE);
+    assert_items(&rt, &stepped(rt.alloc(), &set, 1)?, &EXAMPLE);
+    assert_items(&rt, &stepped(rt.alloc(), &set, 3)?, &[0, 64]);
+    Ok(())
 }
 
-// ---- one position
-
-/// The greatest position.
-#[tactic(auto, using(fixedbitset::specs::WalkFacts::items))]
-pub fn greatest(set: &FixedBitSet) -> Option<usize>
-    ensures member { IfSome result (λ m. model.contains set.now m ≡ true) }
-    ensures greatest { IfSome result (λ m. (p : ℕ) → model.contains set.now p ≡ true → p ≤ m) }
-    ensures none { IfNone result ((p : ℕ) → model.contains set.now p ≡ false) }
-{
-    set.ones().max()
+fn assert_pairs(rt: &impl Abort, list: &[(usize, usize)], wanted: &[(usize, usize)]) {
+    assert_eq!(rt; list, wanted);
 }
 
-/// The least position.
-#[tactic(auto, using(fixedbitset::specs::WalkFacts::items))]
-pub fn least(set: &FixedBitSet) -> Option<usize>
-    ensures member { IfSome result (λ m. model.contains set.now m ≡ true) }
-    ensures least { IfSome result (λ m. (p : ℕ) → model.contains set.now p ≡ true → m ≤ p) }
-    ensures none { IfNone result ((p : ℕ) → model.contains set.now p ≡ false) }
-{
-    set.ones().min()
+#[test]
+fn two_sets(rt: HostRuntime) -> Result<(), Fail> {
+    let set = example(rt.alloc())?;
+    let other = set_of(rt.alloc(), 200, &[63, 130, 199])?;
+    assert!(rt; all_in(&set, &set) && !all_in(&set, &other));
+    let pairs = paired(rt.alloc(), &set, &other)?;
+    assert_pairs(&rt, &pairs, &[(0, 63), (7, 130), (63, 199)]);
+    let pairs = numbered(rt.alloc(), &other)?;
+    assert_pairs(&rt, &pairs, &[(0, 63), (1, 130), (2, 199)]);
+    Ok(())
 }
-
-/// The position that has so many before it.
-pub fn nth(set: &FixedBitSet, place: usize) -> Option<usize>
-    ensures { result ≡ slice_get (model.asc set.now) place }
-{
-    set.ones().nth(place)
-}
-
-/// The last position.
-pub fn last(set: &FixedBitSet) -> Option<usize>
-    ensures { result ≡ last_or None (model.asc set.now) }
-{
-    set.ones().last()
-}
-
-/// The first position from `low` on.
-pub fn find(set: &FixedBitSet, low: usize) -> Option<usize>
-    ensures { result ≡ find (nat_le low) (model.asc set.now) }
-{
-    set.ones().find(|position| *position >= low)
-}
-
-/// How many positions come before the first from `low` on.
-pub fn place_of(set: &FixedBitSet, low: usize) -> Option<usize>
-    ensures { result ≡ position (nat_le low) (model.asc set.now) }
-{
-    set.ones().position(|position| position >= low)
-}
-
-/// The first position from `low` on, said of the set alone.
-#[tactic(auto, using(fixedbitset::specs::WalkFacts::items))]
-pub fn member_from(set: &FixedBitSet, low: usize) -> Option<usize>
-    ensures some { IfSome result (λ p. IsTrue (model.contains set.now p) × (low ≤ p)) }
-    ensures none { IfNone result ((p : ℕ) → IsTrue (model.contains set.now p) → p < low) }
-{
-    set.ones().find(|position| *position >= low)
-}
-
-// ---- questions
-
-/// Whether some position is at least `low`.
-pub fn any_from(set: &FixedBitSet, low: usize) -> bool
-    ensures { result ≡ list_any (nat_le low) (model.asc set.now) }
-{
-    set.ones().any(|position| position >= low)
-}
-
-/// Whether all positions are below `end`.
-pub fn all_below(set: &FixedBitSet, end: usize) -> bool
-    ensures { result ≡ list_all (λ p. nat_lt p end) (model.asc set.now) }
-{
-    set.ones().all(|position| position < end)
-}
-
-/// Whether each position is in the other set.
-#[tactic(auto, using(fixedbitset::specs::WalkFacts::items))]
-pub fn all_in(set: &FixedBitSet, other: &FixedBitSet) -> bool
-    ensures yes { OnTrue result ((p : ℕ) → IsTrue (model.contains set.now p) → IsTrue (model.contains other.now p)) }
-    ensures no { OnFalse result ((p : ℕ) × IsTrue (model.contains set.now p) × (model.contains other.now p ≡ false)) }
-{
-    set.ones().all(|position| other.contains(position))
-}
-
-// ---- lists
-
-/// All positions.
-pub fn collected(alloc: Global, set: &FixedBitSet) -> Result<Vec<usize>, AllocError>
-    ensures { IfOk result (λ list. list.items ≡ model.asc set.now) }
-{
-    set.ones().collect(alloc)
-}
-
-/// The first few.
-pub fn first_few(alloc: Global, set: &FixedBitSet, few: usize) -> Result<Vec<usize>, AllocError>
-    ensures { IfOk result (λ list. list.items ≡ take few (model.asc set.now)) }
-{
-    set.ones().take(few).collect(alloc)
-}
-
-/// All but the first few.
-pub fn after_few(alloc: Global, set: &FixedBitSet, few: usize) -> Result<Vec<usize>, AllocError>
-    ensures { IfOk result (λ list. list.items ≡ drop few (model.asc set.now)) }
-{
-    set.ones().skip(few).collect(alloc)
-}
-
-/// The first, and then each that comes so many places later.
-pub fn stepped(alloc: Global, set: &FixedBitSet, step: usize) -> Result<Vec<usize>, AllocError>
-    requires { 0 < step }
-    ensures all { IfOk result (λ list. length (model.asc set.now) ≤ length list.items * step) }
-    ensures items { IfOk result (λ list. EachIndex list.items (λ k. slice_index list.items k ≡ slice_index (model.asc set.now) (k * step))) }
-{
-    set.ones().step_by(step).collect(alloc)
-}
-
-/// Those below `end`, until one is not.
-pub fn taken_below(alloc: Global, set: &FixedBitSet, end: usize) -> Result<Vec<usize>, AllocError>
-    ensures { IfOk result (λ list. list.items ≡ take_while (λ p. nat_lt p end) (model.asc set.now)) }
-{
-    set.ones()
-        .take_while(|position| *position < end)
-        .collect(alloc)
-}
-
-/// Those of one set, and behind them those of the other.
-pub fn chained(
-    alloc: Global,
-    set: &FixedBitSet,
-    other: &FixedBitSet,
-) -> Result<Vec<usize>, AllocError>
-    ensures { IfOk result (λ list. list.items ≡ model.asc set.now ++ model.asc other.now) }
-{
-    set.ones().chain(other.ones()).collect(alloc)
-}
-
-/// Each with its place in the list.
-pub fn numbered(alloc: Global, set: &FixedBitSet) -> Result<Vec<(usize, usize)>, AllocError>
-    ensures { IfOk result (λ list. list.items ≡ enumerate_from 0 (model.asc set.now)) }
-{
-    set.ones().enumerate().collect(alloc)
-}
-
-/// Pairs of those of two sets, as far as both go.
-pub fn paired(
-    alloc: Global,
-    set: &FixedBitSet,
-    other: &FixedBitSet,
-) -> Result<Vec<(usize, usize)>, AllocError>
-    ensures { IfOk result (λ list. list.items ≡ zip (model.asc set.now) (model.asc other.now)) }
-{
-    set.ones().zip(other.ones()).collect(alloc)
-}
-
-/// Puts all positions behind the items of a list.
-pub fn extended(list: &mut Vec<usize>, set: &FixedBitSet) -> Result<(), AllocError>
-    ensures { OnOk result (list.new.items ≡ list.old.items ++ model.asc set.now) }
-{
-    list.extend(set.ones())
-}
-
-#[cfg(test)]
-mod tests;

@@ -1,78 +1,69 @@
-//! Walks from the back, and from both ends in turn.
+//! Tests of the walks from either end of `test_loops::ends`.
 
-ghost use Rattle.std.specs.Prelude.{◌≡◌, ◌+◌, reverse, length, slice_get, IfOk};
-ghost use Rattle.test_walks.specs.Calls.{answers, left_after};
-ghost use Rattle.fixedbitset.specs.Bits as model;
+use crate::slow::{assert_answer, assert_items, set_of};
+use std::process::Abort;
+use std::test::Fail;
+use test_loops::ends::{ascending_of, call_all, called, descending, descending_of, nth_back};
 
-use fixedbitset::{FixedBitSet, Ones};
-use std::alloc::{AllocError, Global};
+// Positions in no order.
+const POSITIONS: [usize; 9] = [11, 12, 7, 35, 40, 77, 95, 50, 99];
 
-/// The positions, the greatest first.
-pub fn descending(alloc: Global, set: &FixedBitSet) -> Result<Vec<usize>, AllocError>
-    ensures { IfOk result (λ list. list.items ≡ reverse (model.asc set.now)) }
-{
-    set.ones().rev().collect(alloc)
+const ASCENDING: [usize; 9] = [7, 11, 12, 35, 40, 50, 77, 95, 99];
+
+const DESCENDING: [usize; 9] = [99, 95, 77, 50, 40, 35, 12, 11, 7];
+
+#[test]
+fn from_either_end(rt: HostRuntime) -> Result<(), Fail> {
+    let set = set_of(rt.alloc(), 100, &POSITIONS)?;
+    for place in 0..11 {
+        assert_answer(&rt, nth_back(&set, place), DESCENDING.get(place).copied());
+    }
+    assert_items(&rt, &descending(rt.alloc(), &set)?, &DESCENDING);
+    assert_items(&rt, &descending_of(rt.alloc(), set)?, &DESCENDING);
+    let set = set_of(rt.alloc(), 100, &POSITIONS)?;
+    assert_items(&rt, &ascending_of(rt.alloc(), set)?, &ASCENDING);
+    Ok(())
 }
 
-/// The position that has so many behind it.
-pub fn nth_back(set: &FixedBitSet, place: usize) -> Option<usize>
-    ensures { result ≡ slice_get (reverse (model.asc set.now)) place }
-{
-    set.ones().nth_back(place)
+// The first, the last, the second and so on, and then `None` for good.
+const ANSWERS: [Option<usize>; 12] = [
+    Some(7),
+    Some(99),
+    Some(11),
+    Some(95),
+    Some(12),
+    Some(77),
+    Some(35),
+    Some(50),
+    Some(40),
+    None,
+    None,
+    None,
+];
+
+const ENDS: [bool; 12] = [
+    true, false, true, false, true, false, true, false, true, false, true, false,
+];
+
+fn assert_answers(rt: &impl Abort, answers: &[Option<usize>], wanted: &[Option<usize>]) {
+    assert_eq!(rt; answers, wanted);
 }
 
-/// The positions of a set that is not used again.
-pub fn ascending_of(alloc: Global, set: FixedBitSet) -> Result<Vec<usize>, AllocError>
-    ensures { IfOk result (λ list. list.items ≡ model.asc set) }
-{
-    set.into_ones().collect(alloc)
+#[test]
+fn from_both_ends(rt: HostRuntime) -> Result<(), Fail> {
+    let set = set_of(rt.alloc(), 100, &POSITIONS)?;
+    assert_answers(&rt, &called(rt.alloc(), &set, &ENDS)?, &ANSWERS);
+    Ok(())
 }
 
-/// The same, the greatest first.
-pub fn descending_of(alloc: Global, set: FixedBitSet) -> Result<Vec<usize>, AllocError>
-    ensures { IfOk result (λ list. list.items ≡ reverse (model.asc set)) }
-{
-    set.into_ones().rev().collect(alloc)
-}
-
-/// What calls from these ends in turn answer, where `true` is the front.
-#[tactic(auto, using(crate::proofs::CallsLemmas::calls))]
-pub fn called(
-    alloc: Global,
-    set: &FixedBitSet,
-    ends: &[bool],
-) -> Result<Vec<Option<usize>>, AllocError>
-    ensures { IfOk result (λ list. list.items ≡ answers ends.now (model.asc set.now)) }
-{
+#[test]
+fn calls_go_on(rt: HostRuntime) -> Result<(), Fail> {
+    let set = set_of(rt.alloc(), 100, &POSITIONS)?;
     let mut walk = set.ones();
-    let mut list = Vec::new(alloc);
-    for front in ends {
-        let answer = if *front {
-            walk.next()
-        } else {
-            walk.next_back()
-        };
-        list.push(answer)?;
-    }
-    Ok(list)
+    call_all(&mut walk, &[true, false, false, true]);
+    assert_answer(&rt, walk.next(), Some(12));
+    assert_answer(&rt, walk.next_back(), Some(77));
+    call_all(&mut walk, &[false; 4]);
+    assert_answer(&rt, walk.next(), None);
+    Ok(())
 }
-
-/// Calls a walk from these ends in turn, and lets the answers go. The calls make one turn each, and one more for each
-/// word that they take; no word is taken twice.
-#[tactic(auto, using(crate::proofs::CallsLemmas::calls, crate::proofs::CallsLemmas::counts))]
-pub fn call_all(walk: &mut Ones<'_>, ends: &[bool])
-    ensures items { walk.new.items ≡ left_after ends.now walk.old.items }
-    ensures turns { walk.new.turns + walk.old.taken ≡ walk.old.turns + length ends.now + walk.new.taken }
-    ensures taken { walk.new.taken + length walk.new.words ≡ walk.old.taken + length walk.old.words }
-{
-    for front in ends {
-        let _ = if *front {
-            walk.next()
-        } else {
-            walk.next_back()
-        };
-    }
-}
-
-#[cfg(test)]
-mod tests;

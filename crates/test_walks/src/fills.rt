@@ -1,61 +1,60 @@
-//! Loops that set positions until none is left, or until one comes again.
+//! Tests of the loops that fill a set of `test_loops::fills`.
 
-ghost use Rattle.std.specs.Prelude.{◌≡◌, ℕ, ◌<◌, length, slice_index, EachIndex, IfOk, true};
-ghost use Rattle.fixedbitset.specs.Bits as model;
+ghost use Rattle.std.specs.Prelude.{◌≡◌, length, IfOk};
 
-use crate::zeroes::first_clear;
+use crate::slow::set_of;
 use fixedbitset::FixedBitSet;
 use std::alloc::{AllocError, Global};
+use std::test::Fail;
+use test_loops::fills::{fill, first_again, reached};
+use test_loops::zeroes;
 
-/// Takes the free slots from the first on, one a turn.
-#[tactic(auto, using(fixedbitset::specs::BitsFacts::facts, fixedbitset::specs::SizeFacts::falls))]
-pub fn fill(set: &mut FixedBitSet)
-    ensures length { set.new.length ≡ set.old.length }
-    ensures full { (p : ℕ) → p < set.new.length → model.contains set.new p ≡ true }
-{
-    while let Some(slot) = first_clear(set) {
-        set.insert(slot);
-    }
+#[test]
+fn all_slots_are_taken(rt: HostRuntime) -> Result<(), Fail> {
+    let mut set = set_of(rt.alloc(), 130, [0, 64, 129].as_slice())?;
+    fill(&mut set);
+    assert_eq!(rt; zeroes::count(&set), 0);
+    assert_eq!(rt; set.as_slice(), [u64::MAX, u64::MAX, 3].as_slice());
+    Ok(())
 }
 
-/// Follows `next` from `start` until a node comes again, and answers it.
-#[tactic(auto, using(fixedbitset::specs::BitsFacts::facts, fixedbitset::specs::SizeFacts::falls))]
-pub fn first_again(visited: &mut FixedBitSet, next: &[usize], start: usize) -> usize
-    requires nodes { length next.now ≡ visited.old.length }
-    requires starts { start < visited.old.length }
-    requires leads { EachIndex next.now (λ k. slice_index next.now k < length next.now) }
-    ensures nodes { visited.new.length ≡ visited.old.length }
-    ensures visited { model.contains visited.new result ≡ true }
-{
-    let mut node = start;
-    while !visited.put(node) {
-        node = next[node];
+#[test]
+fn a_cycle_is_found(rt: HostRuntime) -> Result<(), Fail> {
+    let next = [3, 4, 0, 1, 3];
+    for (start, again, nodes) in [(0, 3, 4), (1, 1, 3), (2, 3, 5)] {
+        let mut visited = set_of(rt.alloc(), 5, [].as_slice())?;
+        assert!(rt; start < 5 && next.iter().all(|node| *node < 5));
+        assert_eq!(rt; first_again(&mut visited, &next, start), again);
+        assert_eq!(rt; visited.ones().count(), nodes);
     }
-    node
+    Ok(())
 }
 
-/// The nodes that are reached from `start`: a node is set as it is put on the list of those to do.
-#[tactic(auto, using(fixedbitset::specs::BitsFacts::facts, fixedbitset::specs::SizeFacts::falls, crate::proofs::FillLemmas::contains_stays))]
-pub fn reached(alloc: Global, edges: &[Vec<usize>], start: usize) -> Result<FixedBitSet, AllocError>
-    requires { start < length edges.now }
-    ensures nodes { IfOk result (λ visited. visited.length ≡ length edges.now) }
-    ensures start { IfOk result (λ visited. model.contains visited start ≡ true) }
+// The edges of six nodes. One leads to no node.
+fn edges(alloc: Global) -> Result<Vec<Vec<usize>>, AllocError>
+    ensures { IfOk result (λ edges. length edges.items ≡ 6) }
 {
-    let mut visited = FixedBitSet::with_capacity(alloc, edges.len())?;
-    let mut todo = Vec::new(alloc);
-    visited.insert(start);
-    todo.push(start)?;
-    while let Some(node) = todo.pop() {
-        if let Some(next) = edges.get(node) {
-            for to in next.iter() {
-                if *to < visited.len() && !visited.put(*to) {
-                    todo.push(*to)?;
-                }
-            }
-        }
-    }
-    Ok(visited)
+    let mut edges = Vec::new(alloc);
+    edges.push(vec![in alloc; 2, 3]?)?;
+    edges.push(vec![in alloc; 9]?)?;
+    edges.push(vec![in alloc; 0, 5, 2]?)?;
+    edges.push(Vec::new(alloc))?;
+    edges.push(vec![in alloc; 0]?)?;
+    edges.push(Vec::new(alloc))?;
+    Ok(edges)
 }
 
-#[cfg(test)]
-mod tests;
+// The one word of a set of nodes.
+fn word_of(nodes: &FixedBitSet) -> Option<u64> {
+    nodes.as_slice().first().copied()
+}
+
+#[test]
+fn reached_nodes(rt: HostRuntime) -> Result<(), Fail> {
+    let edges = edges(rt.alloc())?;
+    for (start, word) in [(0, 45), (1, 2), (3, 8), (4, 61)] {
+        let nodes = reached(rt.alloc(), &edges, start)?;
+        assert!(rt; word_of(&nodes) == Some(word), "from {start}");
+    }
+    Ok(())
+}

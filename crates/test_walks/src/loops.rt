@@ -1,182 +1,86 @@
-//! `for` and `while let` over the set positions.
+//! Tests of the loops of `test_loops::loops`.
 
-ghost use Rattle.std.specs.Prelude.{◌≡◌, ℕ, ◌+◌, ◌^◌, ◌<◌, ◌≤◌, nat_le, nat_lt, length, sum, fold, find, slice_index, slice_set, true, false, [], IfOk, IfSome, IfNone, IsTrue};
-ghost use Rattle.std.specs.Bool.{OnFalse};
-ghost use Rattle.std.specs.List.{list_all};
-ghost use Rattle.fixedbitset.specs.Bits as model;
+use crate::slow::{EXAMPLE, assert_answer, assert_items, assert_number, example, set_of};
+use std::test::Fail;
+use test_loops::loops::{
+    all_are_in, copied_into, counted, each_has_a_cost, each_is_in, first_and_total, first_from,
+    first_of_calls_from, marked, pushed, some_from, some_lacked, total, total_of_calls,
+    without_least,
+};
 
-use fixedbitset::FixedBitSet;
-use std::alloc::{AllocError, Global};
-
-// ---- `for`
-
-/// The positions, pushed one by one.
-pub fn pushed(alloc: Global, set: &FixedBitSet) -> Result<Vec<usize>, AllocError>
-    ensures { IfOk result (λ list. list.items ≡ model.asc set.now) }
-{
-    let mut list = Vec::new(alloc);
-    for position in set.ones() {
-        list.push(position)?;
-    }
-    Ok(list)
+#[test]
+#[tactic(auto, using(crate::proofs::SumLemmas::sum_fits))]
+fn totals(rt: HostRuntime) -> Result<(), Fail> {
+    let set = example(rt.alloc())?;
+    assert_number(&rt, total(&set), 264);
+    assert_number(&rt, total_of_calls(&set), 264);
+    assert_number(&rt, counted(&set), 5);
+    assert!(rt; first_and_total(&set) == Some((0, 264)));
+    Ok(())
 }
 
-/// Their sum.
-pub fn total(set: &FixedBitSet) -> usize
-    requires { sum (model.asc set.now) < 2 ^ 64 }
-    ensures { result ≡ sum (model.asc set.now) }
-{
-    let mut total = 0;
-    for position in set.ones() {
-        total += position;
+#[test]
+fn firsts(rt: HostRuntime) -> Result<(), Fail> {
+    let set = example(rt.alloc())?;
+    for (low, wanted) in [
+        (0, Some(0)),
+        (1, Some(7)),
+        (64, Some(64)),
+        (65, Some(130)),
+        (131, None),
+    ] {
+        assert_answer(&rt, some_from(&set, low), wanted);
+        assert_answer(&rt, first_from(&set, low), wanted);
+        assert_answer(&rt, first_of_calls_from(&set, low), wanted);
     }
-    total
+    Ok(())
 }
 
-/// How many there are.
-pub fn counted(set: &FixedBitSet) -> usize
-    ensures { result ≡ length (model.asc set.now) }
-{
-    let mut count = 0;
-    for _position in set.ones() {
-        count += 1;
-    }
-    count
+#[test]
+fn lists_and_sets(rt: HostRuntime) -> Result<(), Fail> {
+    let set = example(rt.alloc())?;
+    assert_items(&rt, &pushed(rt.alloc(), &set)?, &EXAMPLE);
+    let mut other = set_of(rt.alloc(), 140, &[7, 65, 139])?;
+    assert_answer(&rt, some_lacked(&set, &other), Some(0));
+    assert!(rt; !each_is_in(&set, &other));
+    assert!(rt; !all_are_in(&set, &other));
+    copied_into(&set, &mut other);
+    assert!(rt; each_is_in(&set, &other));
+    assert!(rt; all_are_in(&set, &other));
+    assert_answer(&rt, some_lacked(&set, &other), None);
+    assert_items(
+        &rt,
+        &pushed(rt.alloc(), &other)?,
+        &[0, 7, 63, 64, 65, 130, 139],
+    );
+    Ok(())
 }
 
-/// Some position from `low` on.
-#[tactic(auto, using(fixedbitset::specs::WalkFacts::items))]
-pub fn some_from(set: &FixedBitSet, low: usize) -> Option<usize>
-    ensures { IfSome result (λ p. IsTrue (model.contains set.now p) × (low ≤ p)) }
-{
-    for position in set.ones() {
-        if low <= position {
-            return Some(position);
-        }
-    }
-    None
+#[test]
+fn copies(rt: HostRuntime) -> Result<(), Fail> {
+    let set = set_of(rt.alloc(), 140, &[7, 65])?;
+    let Some(rest) = without_least(&set)? else {
+        return Ok(());
+    };
+    assert_items(&rt, &pushed(rt.alloc(), &rest)?, &[65]);
+    assert!(rt; without_least(&set_of(rt.alloc(), 140, &[])?)?.is_none());
+    Ok(())
 }
 
-/// Whether each position is in the other set.
-#[tactic(auto, using(fixedbitset::specs::WalkFacts::items))]
-pub fn each_is_in(set: &FixedBitSet, other: &FixedBitSet) -> bool
-    ensures no { OnFalse result ((p : ℕ) × IsTrue (model.contains set.now p) × (model.contains other.now p ≡ false)) }
-{
-    for position in set.ones() {
-        if !other.contains(position) {
-            return false;
-        }
+#[test]
+fn places_of_a_slice(rt: HostRuntime) -> Result<(), Fail> {
+    let set = example(rt.alloc())?;
+    let mut marks = [false; 131];
+    marked(&set, &mut marks);
+    for (position, mark) in marks.iter().enumerate() {
+        assert_eq!(rt; *mark, set.contains(position), "at {position}");
     }
-    true
-}
-
-/// The first position from `low` on.
-pub fn first_from(set: &FixedBitSet, low: usize) -> Option<usize>
-    ensures { result ≡ find (nat_le low) (model.asc set.now) }
-{
-    for position in set.ones() {
-        if low <= position {
-            return Some(position);
-        }
+    let mut costs = [0; 131];
+    for position in EXAMPLE {
+        assert!(rt; position < costs.len());
+        assert!(rt; !each_has_a_cost(&set, &costs));
+        costs[position] = 1;
     }
-    None
+    assert!(rt; each_has_a_cost(&set, &costs));
+    Ok(())
 }
-
-/// Whether each position has a cost.
-#[tactic(auto, using(fixedbitset::specs::WalkFacts::items))]
-pub fn each_has_a_cost(set: &FixedBitSet, costs: &[u8]) -> bool
-    requires { set.now.length ≤ length costs.now }
-    ensures { result ≡ list_all (λ p. nat_lt 0 (slice_index costs.now p)) (model.asc set.now) }
-{
-    let mut each = true;
-    for position in set.ones() {
-        if costs[position] == 0 {
-            each = false;
-            break;
-        }
-    }
-    each
-}
-
-/// Sets each position in the other set.
-#[tactic(auto, using(fixedbitset::specs::WalkFacts::items, fixedbitset::specs::BitsFacts::facts))]
-pub fn copied_into(set: &FixedBitSet, other: &mut FixedBitSet)
-    requires { set.now.length ≤ other.old.length }
-    ensures { other.new ≡ fold model.insert other.old (model.asc set.now) }
-{
-    for position in set.ones() {
-        other.insert(position);
-    }
-}
-
-/// The first position, and the sum of the others.
-pub fn first_and_total(set: &FixedBitSet) -> Option<(usize, usize)>
-    requires { sum (model.asc set.now) < 2 ^ 64 }
-    ensures some { IfSome result (λ found. found.0 + found.1 ≡ sum (model.asc set.now)) }
-    ensures none { IfNone result (model.asc set.now ≡ []) }
-{
-    let mut walk = set.ones();
-    let first = walk.by_ref().next()?;
-    let mut others = 0;
-    for position in walk {
-        others += position;
-    }
-    Some((first, others))
-}
-
-// ---- `while let`
-
-/// The sum of the positions, by calls of `next`.
-pub fn total_of_calls(set: &FixedBitSet) -> usize
-    requires { sum (model.asc set.now) < 2 ^ 64 }
-    ensures { result ≡ sum (model.asc set.now) }
-{
-    let mut total = 0;
-    let mut walk = set.ones();
-    while let Some(position) = walk.next() {
-        total += position;
-    }
-    total
-}
-
-/// The first position from `low` on, by calls of `next`.
-pub fn first_of_calls_from(set: &FixedBitSet, low: usize) -> Option<usize>
-    ensures { result ≡ find (nat_le low) (model.asc set.now) }
-{
-    let mut walk = set.ones();
-    while let Some(position) = walk.next() {
-        if low <= position {
-            return Some(position);
-        }
-    }
-    None
-}
-
-/// Some position that is not in the other set, if there is one.
-#[tactic(auto, using(fixedbitset::specs::WalkFacts::items))]
-pub fn some_lacked(set: &FixedBitSet, other: &FixedBitSet) -> Option<usize>
-    ensures { IfSome result (λ p. IsTrue (model.contains set.now p) × (model.contains other.now p ≡ false)) }
-{
-    let mut walk = set.ones();
-    while let Some(position) = walk.next() {
-        if !other.contains(position) {
-            return Some(position);
-        }
-    }
-    None
-}
-
-/// Sets the mark of each position.
-#[tactic(auto, using(fixedbitset::specs::WalkFacts::items))]
-pub fn marked(set: &FixedBitSet, marks: &mut [bool])
-    requires { set.now.length ≤ length marks.old }
-    ensures { marks.new ≡ fold (λ seen p. slice_set seen p true) marks.old (model.asc set.now) }
-{
-    let mut walk = set.ones();
-    while let Some(position) = walk.next() {
-        marks[position] = true;
-    }
-}
-
-#[cfg(test)]
-mod tests;

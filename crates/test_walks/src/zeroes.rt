@@ -1,70 +1,33 @@
-//! The positions below the length that are not set: the free slots of an allocator.
+//! Tests of the walks over the zeros of `test_loops::zeroes`.
 
-ghost use Rattle.std.specs.Prelude.{◌≡◌, ℕ, ◌<◌, ◌≤◌, nat_le, length, reverse, find, true, false, IfOk, IfSome, IfNone};
-ghost use Rattle.test_walks.specs.Calls.{first_of};
-ghost use Rattle.fixedbitset.specs.Bits as model;
-
+use crate::slow::{assert_answer, assert_items, set_of};
 use fixedbitset::FixedBitSet;
-use std::alloc::{AllocError, Global};
+use std::test::Fail;
+use test_loops::zeroes::{
+    collected, count, descending, first_clear, first_clear_from, some_clear_from,
+};
 
-/// The first free slot, or `None` where each is taken.
-#[tactic(auto, using(fixedbitset::specs::WalkFacts::zero_items))]
-pub fn first_clear(set: &FixedBitSet) -> Option<usize>
-    ensures first { result ≡ first_of (model.asc (model.complement set.now)) }
-    ensures below { IfSome result (λ p. p < set.now.length) }
-    ensures clear { IfSome result (λ p. model.contains set.now p ≡ false) }
-    ensures full { IfNone result ((p : ℕ) → p < set.now.length → model.contains set.now p ≡ true) }
-{
-    set.zeroes().next()
-}
-
-/// Some free slot from `low` on.
-#[tactic(auto, using(fixedbitset::specs::WalkFacts::zero_items))]
-pub fn some_clear_from(set: &FixedBitSet, low: usize) -> Option<usize>
-    ensures low { IfSome result (λ p. low ≤ p) }
-    ensures below { IfSome result (λ p. p < set.now.length) }
-    ensures clear { IfSome result (λ p. model.contains set.now p ≡ false) }
-{
-    for slot in set.zeroes() {
-        if low <= slot {
-            return Some(slot);
-        }
+#[test]
+fn free_slots(rt: HostRuntime) -> Result<(), Fail> {
+    let mut set = FixedBitSet::with_capacity(rt.alloc(), 83)?;
+    assert_answer(&rt, first_clear(&set), Some(0));
+    assert!(rt; set.range_is_valid(&(..79)));
+    set.insert_range(..79);
+    assert_answer(&rt, first_clear(&set), Some(79));
+    assert_eq!(rt; count(&set), 4);
+    assert_items(&rt, &collected(rt.alloc(), &set)?, &[79, 80, 81, 82]);
+    assert_items(&rt, &descending(rt.alloc(), &set)?, &[82, 81, 80, 79]);
+    for (low, wanted) in [(0, Some(79)), (81, Some(81)), (83, None)] {
+        assert_answer(&rt, some_clear_from(&set, low), wanted);
+        assert_answer(&rt, first_clear_from(&set, low), wanted);
     }
-    None
+    Ok(())
 }
 
-/// The first free slot from `low` on.
-pub fn first_clear_from(set: &FixedBitSet, low: usize) -> Option<usize>
-    ensures { result ≡ find (nat_le low) (model.asc (model.complement set.now)) }
-{
-    for slot in set.zeroes() {
-        if low <= slot {
-            return Some(slot);
-        }
-    }
-    None
+#[test]
+fn no_free_slot(rt: HostRuntime) -> Result<(), Fail> {
+    let set = set_of(rt.alloc(), 1, &[0])?;
+    assert_answer(&rt, first_clear(&set), None);
+    assert_answer(&rt, first_clear(&FixedBitSet::new(rt.alloc())), None);
+    Ok(())
 }
-
-/// How many slots are free.
-pub fn count(set: &FixedBitSet) -> usize
-    ensures { result ≡ length (model.asc (model.complement set.now)) }
-{
-    set.zeroes().count()
-}
-
-/// All free slots.
-pub fn collected(alloc: Global, set: &FixedBitSet) -> Result<Vec<usize>, AllocError>
-    ensures { IfOk result (λ list. list.items ≡ model.asc (model.complement set.now)) }
-{
-    set.zeroes().collect(alloc)
-}
-
-/// All free slots, the last one first.
-pub fn descending(alloc: Global, set: &FixedBitSet) -> Result<Vec<usize>, AllocError>
-    ensures { IfOk result (λ list. list.items ≡ reverse (model.asc (model.complement set.now))) }
-{
-    set.zeroes().rev().collect(alloc)
-}
-
-#[cfg(test)]
-mod tests;

@@ -1,0 +1,56 @@
+//! The examples in the docs of `fixedbitset::counted::shifts`. docs/make_examples writes this file.
+
+use crate::calls::{equal, holds, ok, set_of};
+use fixedbitset::{Steps, counted};
+
+#[test]
+fn shift_up(rt: HostRuntime) {
+    let alloc = rt.alloc();
+    let mut set = set_of(&rt, alloc, &[0, 3, 69]);
+    counted::shift_up(&mut set, 64, &mut Steps::new());
+    equal(&rt, set.as_slice(), [0, 9].as_slice());
+}
+
+#[test]
+fn shift_down(rt: HostRuntime) {
+    let alloc = rt.alloc();
+    let mut set = set_of(&rt, alloc, &[0, 3, 69]);
+    counted::shift_down(&mut set, 3, &mut Steps::new());
+    equal(&rt, set.as_slice(), [1, 4].as_slice());
+}
+
+#[test]
+fn union_with_shifted(rt: HostRuntime) {
+    let alloc = rt.alloc();
+    let mut set = set_of(&rt, alloc, &[0, 69]);
+    let other = set_of(&rt, alloc, &[0, 1, 5]);
+    counted::union_with_shifted(&mut set, &other, 65, &mut Steps::new());
+    equal(&rt, set.as_slice(), [1, 38].as_slice());
+}
+
+#[test]
+fn union_with_own_shift(rt: HostRuntime) {
+    let alloc = rt.alloc();
+    let mut set = set_of(&rt, alloc, &[0, 69]);
+    counted::union_with_own_shift(&mut set, 3, &mut Steps::new());
+    equal(&rt, set.as_slice(), [9, 32].as_slice());
+}
+
+#[test]
+fn slice(rt: HostRuntime) {
+    let alloc = rt.alloc();
+    let set = set_of(&rt, alloc, &[1, 63, 65, 69]);
+    equal(&rt, set.len(), 70);
+    let part = ok(&rt, counted::slice(&set, alloc, 63..68, &mut Steps::new()));
+    equal(&rt, part.as_slice(), [5].as_slice());
+}
+
+#[test]
+fn copy_range(rt: HostRuntime) {
+    let alloc = rt.alloc();
+    let mut set = set_of(&rt, alloc, &[0, 2, 65, 69]);
+    let other = set_of(&rt, alloc, &[1, 63, 65]);
+    holds(&rt, set.len() == 70 && other.len() == 66);
+    counted::copy_range(&mut set, &other, 62.., 1, &mut Steps::new());
+    equal(&rt, set.as_slice(), [21, 34].as_slice());
+}

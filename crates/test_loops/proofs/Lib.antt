@@ -1,0 +1,3 @@
+pub mod CallsLemmas
+pub mod FillLemmas
+pub mod SlotLemmas

@@ -1,0 +1,15 @@
+//! The examples in the docs of `bitrows::counted`. docs/make_examples writes this file.
+
+use bitrows::{BitRows, counted};
+use fixedbitset::Steps;
+use test_examples::calls::{gives, ok};
+
+#[test]
+#[tactic(auto, using(bitrows::specs::TableFacts::facts))]
+fn close(rt: HostRuntime) {
+    let alloc = rt.alloc();
+    let mut table = ok(&rt, BitRows::new(alloc, 2, 2));
+    table.set(0, 1, true);
+    counted::close(&mut table, &mut Steps::new());
+    gives(&rt, table.row(0), &[1]);
+}

@@ -1,0 +1,56 @@
+//! The examples in the docs of `bitjson::bytes`. docs/make_examples writes this file.
+
+use bitjson::bytes;
+use serde_json::Value;
+use test_examples::calls::{equal, ok};
+
+#[test]
+fn words_of_items(rt: HostRuntime) {
+    let alloc = rt.alloc();
+    let value = ok(&rt, Value::from_str(alloc, "[1,2]"));
+    let items = ok(&rt, value.as_array().ok_or("no list"));
+    let words = ok(&rt, bytes::words_of_items(alloc, items.as_slice(), 2));
+    equal(&rt, words.as_slice(), [513, 0].as_slice());
+}
+
+#[test]
+fn value_of_words(rt: HostRuntime) {
+    let alloc = rt.alloc();
+    let text = ok(
+        &rt,
+        ok(&rt, bytes::value_of_words(alloc, 10, &[513])).to_string(alloc),
+    );
+    equal(
+        &rt,
+        text.as_str(),
+        "{\"data\":[1,2,0,0,0,0,0,0],\"length\":10}",
+    );
+}
+
+#[test]
+fn words_of_bytes(rt: HostRuntime) {
+    let alloc = rt.alloc();
+    let words = ok(&rt, bytes::words_of_bytes(alloc, &[1, 2], 2));
+    equal(&rt, words.as_slice(), [513, 0].as_slice());
+}
+
+#[test]
+fn fill_words(rt: HostRuntime) {
+    let mut words = [7, 7];
+    bytes::fill_words(&[1, 2], &mut words);
+    equal(&rt, words, [513, 0]);
+}
+
+#[test]
+fn bytes_of_words(rt: HostRuntime) {
+    let alloc = rt.alloc();
+    let data = ok(&rt, bytes::bytes_of_words(alloc, &[513]));
+    equal(&rt, data.as_slice(), [1, 2, 0, 0, 0, 0, 0, 0].as_slice());
+}
+
+#[test]
+fn fill_bytes(rt: HostRuntime) {
+    let mut made = [7; 8];
+    bytes::fill_bytes(&[513], &mut made);
+    equal(&rt, made, [1, 2, 0, 0, 0, 0, 0, 0]);
+}

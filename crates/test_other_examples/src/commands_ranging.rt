@@ -1,0 +1,16 @@
+//! The examples in the docs of `bitcommands::commands::ranging`. docs/make_examples writes this file.
+
+use bitcommands::commands::Span;
+use test_examples::calls::{cleared, equal};
+
+#[test]
+#[tactic(auto, using(fixedbitset::specs::BitsFacts::facts))]
+fn span(rt: HostRuntime) {
+    let alloc = rt.alloc();
+    let set = cleared(&rt, alloc, 70);
+    let span = Span {
+        start: Some(60),
+        end: None,
+    };
+    equal(&rt, set.count_zeroes(span), 10);
+}

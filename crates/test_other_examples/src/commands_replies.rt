@@ -1,0 +1,20 @@
+//! The examples in the docs of `bitcommands::commands::replies`. docs/make_examples writes this file.
+
+use bitcommands::commands::Reply;
+use test_examples::calls::{equal, ok};
+
+#[test]
+fn reply(rt: HostRuntime) {
+    let alloc = rt.alloc();
+    let reply = Reply::Position(None);
+    equal(&rt, ok(&rt, reply.to_string(alloc)).as_str(), "none");
+}
+
+#[test]
+fn push_text(rt: HostRuntime) {
+    let alloc = rt.alloc();
+    let mut output = Vec::new(alloc);
+    ok(&rt, Reply::Number(70).push_text(&mut output));
+    ok(&rt, Reply::Bool(true).push_text(&mut output));
+    equal(&rt, output.as_slice(), b"70true".as_slice());
+}

@@ -1,0 +1,76 @@
+//! The examples in the docs of `bitwords::cursors`. docs/make_examples writes this file.
+
+use bitwords::cursors;
+use bitwords::cursors::{Cursor, Inverted, Middle, Plain};
+use fixedbitset::Block;
+use test_examples::calls::{equal, gives, ok};
+
+#[test]
+fn middle(rt: HostRuntime) {
+    let mut middle = Plain { words: &[3, 5, 7] };
+    equal(&rt, Middle::take_first(&mut middle), Some(3));
+    equal(&rt, Middle::take_last(&mut middle), Some(7));
+    equal(&rt, Middle::left(&middle), 1);
+}
+
+#[test]
+fn plain(rt: HostRuntime) {
+    let mut cursor = Cursor::over(Plain { words: &[8, 0, 1] });
+    equal(&rt, cursor.next_back(), Some(128));
+    gives(&rt, cursor, &[3]);
+}
+
+#[test]
+fn inverted(rt: HostRuntime) {
+    let words = [Block::MAX - 8];
+    let plain = Plain { words: &words };
+    let cursor = Cursor::over(Inverted { plain });
+    gives(&rt, cursor, &[3]);
+}
+
+#[test]
+fn cursor(rt: HostRuntime) {
+    let alloc = rt.alloc();
+    let words = ok(&rt, [8, 0, 1].to_vec(alloc));
+    let mut cursor = Cursor::over(words.into_iter());
+    equal(&rt, cursor.next_back(), Some(128));
+    gives(&rt, cursor, &[3]);
+}
+
+#[test]
+fn over(rt: HostRuntime) {
+    let cursor = Cursor::over(Plain { words: &[9, 0, 1] });
+    gives(&rt, cursor, &[0, 3, 128]);
+}
+
+#[test]
+fn within(rt: HostRuntime) {
+    let cursor = Cursor::within(Plain { words: &[9, 255] }, 640, 1, 66);
+    gives(&rt, cursor, &[643, 704, 705]);
+}
+
+#[test]
+fn into_held(rt: HostRuntime) {
+    let mut cursor = Cursor::over(Plain { words: &[9, 0, 1] });
+    equal(&rt, cursor.next(), Some(0));
+    equal(&rt, cursor.into_held().front, 8);
+}
+
+#[test]
+fn of_held(rt: HostRuntime) {
+    let cursor = Cursor::over(Plain { words: &[9, 0, 1] });
+    let held = cursor.into_held();
+    gives(&rt, Cursor::of_held(held), &[0, 3, 128]);
+}
+
+#[test]
+fn ones_within(rt: HostRuntime) {
+    let cursor = cursors::ones_within(&[9, 0, 7], 3, 130);
+    gives(&rt, cursor, &[3, 128, 129]);
+}
+
+#[test]
+fn zeroes_within(rt: HostRuntime) {
+    let cursor = cursors::zeroes_within(&[Block::MAX, 5], 60, 68);
+    gives(&rt, cursor, &[65, 67]);
+}

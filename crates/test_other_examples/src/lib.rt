@@ -1,0 +1,74 @@
+//! The examples in the docs of the public calls of the crates below a set and of those above it, as tests.
+//! docs/make_examples writes each file of this crate.
+#![tactic(auto)]
+
+#[cfg(test)]
+mod bitlines_laws;
+#[cfg(test)]
+mod bitranks_laws;
+#[cfg(test)]
+mod bitrows_counted;
+#[cfg(test)]
+mod bitwords_shifts;
+#[cfg(test)]
+mod bytes;
+#[cfg(test)]
+mod changes;
+#[cfg(test)]
+mod commands;
+#[cfg(test)]
+mod commands_ranging;
+#[cfg(test)]
+mod commands_refusals;
+#[cfg(test)]
+mod commands_replies;
+#[cfg(test)]
+mod counted;
+#[cfg(test)]
+mod counter;
+#[cfg(test)]
+mod cursors;
+#[cfg(test)]
+mod directory;
+#[cfg(test)]
+mod fault;
+#[cfg(test)]
+mod form;
+#[cfg(test)]
+mod joins;
+#[cfg(test)]
+mod lanes;
+#[cfg(test)]
+mod laws;
+#[cfg(test)]
+mod lent;
+#[cfg(test)]
+mod lines;
+#[cfg(test)]
+mod ops;
+#[cfg(test)]
+mod pairs;
+#[cfg(test)]
+mod pieces;
+#[cfg(test)]
+mod positions;
+#[cfg(test)]
+mod program;
+#[cfg(test)]
+mod range;
+#[cfg(test)]
+mod ranges;
+#[cfg(test)]
+mod ranks;
+#[cfg(test)]
+mod runs;
+#[cfg(test)]
+mod search;
+#[cfg(test)]
+mod shifts;
+#[cfg(test)]
+mod table;
+#[cfg(test)]
+mod walks;
+#[cfg(test)]
+mod word;

@@ -1,0 +1,18 @@
+//! The examples in the docs of `bitlines::lines`. docs/make_examples writes this file.
+
+use bitcommands::commands::{Change, Command};
+use bitlines::lines;
+use bitlines::lines::LineFault;
+use test_examples::calls::{holds, ok};
+
+#[test]
+fn parse_line(rt: HostRuntime) {
+    let alloc = rt.alloc();
+    let command = ok(&rt, lines::parse_line(alloc, b"insert 0 64"));
+    holds(
+        &rt,
+        matches!(command, Command::Change(Change::Insert { set: 0, bit: 64 })),
+    );
+    let fault = lines::parse_line(alloc, b"insert 0  64").err();
+    holds(&rt, matches!(fault, Some(LineFault::NotACommand)));
+}

@@ -1,0 +1,82 @@
+//! The examples in the docs of `bitwords::positions`. docs/make_examples writes this file.
+
+use bitlanes::ops::{And, AndNot};
+use bitwords::positions;
+use fixedbitset::{Block, Steps};
+use test_examples::calls::{equal, holds};
+
+#[test]
+fn contains(rt: HostRuntime) {
+    holds(&rt, positions::contains(&[8, 1], 64));
+    holds(&rt, !positions::contains(&[8, 1], 65));
+    holds(&rt, !positions::contains(&[8, 1], 128));
+}
+
+#[test]
+fn first(rt: HostRuntime) {
+    equal(&rt, positions::first(&[0, 12]), Some(66));
+    equal(&rt, positions::first(&[0; 5]), None);
+}
+
+#[test]
+fn last(rt: HostRuntime) {
+    equal(&rt, positions::last(&[12, 12, 0]), Some(67));
+    equal(&rt, positions::last(&[0; 5]), None);
+}
+
+#[test]
+fn next(rt: HostRuntime) {
+    let mut steps = Steps::new();
+    equal(
+        &rt,
+        positions::next::<And>(&[9, 0, 2], 1, 192, &mut steps),
+        Some(3),
+    );
+    equal(
+        &rt,
+        positions::next::<And>(&[9, 0, 2], 4, 192, &mut steps),
+        Some(129),
+    );
+    equal(
+        &rt,
+        positions::next::<AndNot>(&[Block::MAX, 1], 7, 66, &mut steps),
+        Some(65),
+    );
+    equal(
+        &rt,
+        positions::next::<And>(&[9, 0, 2], 4, 129, &mut steps),
+        None,
+    );
+}
+
+#[test]
+fn previous(rt: HostRuntime) {
+    let mut steps = Steps::new();
+    equal(
+        &rt,
+        positions::previous::<And>(&[9, 0, 2], 192, &mut steps),
+        Some(129),
+    );
+    equal(
+        &rt,
+        positions::previous::<And>(&[9, 0, 2], 129, &mut steps),
+        Some(3),
+    );
+    equal(
+        &rt,
+        positions::previous::<AndNot>(&[5, Block::MAX], 128, &mut steps),
+        Some(63),
+    );
+    equal(
+        &rt,
+        positions::previous::<And>(&[9, 0, 2], 0, &mut steps),
+        None,
+    );
+}
+
+#[test]
+fn clear_from(rt: HostRuntime) {
+    let mut words = [Block::MAX; 3];
+    positions::clear_from(&mut words, 67);
+    equal(&rt, words, [Block::MAX, 7, 0]);
+}

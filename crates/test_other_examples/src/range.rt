@@ -1,0 +1,13 @@
+//! The examples in the docs of `bitlanes::range`. docs/make_examples writes this file.
+
+use fixedbitset::IndexRange;
+use test_examples::calls::equal;
+
+#[test]
+fn index_range(rt: HostRuntime) {
+    let range = 60..=69;
+    equal(&rt, IndexRange::start(&range), Some(60));
+    equal(&rt, IndexRange::end(&range), Some(70));
+    equal(&rt, IndexRange::end(&(60..)), None);
+    equal(&rt, IndexRange::end(&(0..=usize::MAX)), Some(usize::MAX));
+}

@@ -1,0 +1,71 @@
+//! The examples in the docs of `bitlanes::search`. docs/make_examples writes this file.
+
+use bitlanes::ops::{And, AndNot};
+use bitlanes::search;
+use fixedbitset::{Block, Steps};
+use test_examples::calls::equal;
+
+#[test]
+fn first_one(rt: HostRuntime) {
+    equal(&rt, search::first_one(&[0, 0, 8, 1, 0]), Some(2));
+    equal(&rt, search::first_one(&[0; 9]), None);
+}
+
+#[test]
+fn last_one(rt: HostRuntime) {
+    equal(&rt, search::last_one(&[0, 0, 8, 1, 0]), Some(3));
+    equal(&rt, search::last_one(&[0; 9]), None);
+}
+
+#[test]
+fn next_one(rt: HostRuntime) {
+    let words = [7, 0, 0, 1];
+    let mut steps = Steps::new();
+    equal(
+        &rt,
+        search::next_one::<And>(Block::MAX, &words, 1, &mut steps),
+        Some(3),
+    );
+    equal(
+        &rt,
+        search::next_one::<AndNot>(7, &words, 0, &mut steps),
+        Some(1),
+    );
+    equal(&rt, search::next_one::<And>(8, &words, 0, &mut steps), None);
+}
+
+#[test]
+fn previous_one(rt: HostRuntime) {
+    let words = [1, 0, 0, 7];
+    let mut steps = Steps::new();
+    equal(
+        &rt,
+        search::previous_one::<And>(Block::MAX, &words, 3, &mut steps),
+        Some(0),
+    );
+    equal(
+        &rt,
+        search::previous_one::<AndNot>(7, &words, 4, &mut steps),
+        Some(2),
+    );
+    equal(
+        &rt,
+        search::previous_one::<And>(8, &words, 4, &mut steps),
+        None,
+    );
+}
+
+#[test]
+fn first_joined(rt: HostRuntime) {
+    let mut steps = Steps::new();
+    equal(
+        &rt,
+        search::first_joined::<AndNot>(&[1, 3, 7], &[1, 2], &mut steps),
+        Some(1),
+    );
+    equal(
+        &rt,
+        search::first_joined::<AndNot>(&[1, 3, 7], &[1, 3], &mut steps),
+        None,
+    );
+}
