@@ -20,6 +20,8 @@ pub enum Growing {
     BitxorAssign,
     UnionWithChange,
     UnionWithDifference,
+    Append,
+    Resize,
     CountedCloneFrom,
     CountedUnionWith,
     CountedSymmetricDifferenceWith,
@@ -27,7 +29,7 @@ pub enum Growing {
     CountedUnionWithDifference,
 }
 
-pub const CALLS: [(&str, Growing); 15] = [
+pub const CALLS: [(&str, Growing); 17] = [
     ("grow", Growing::Grow),
     ("grow_and_insert", Growing::GrowAndInsert),
     ("extend", Growing::Extend),
@@ -41,6 +43,8 @@ pub const CALLS: [(&str, Growing); 15] = [
     ("bitxor_assign", Growing::BitxorAssign),
     ("union_with_change", Growing::UnionWithChange),
     ("union_with_difference", Growing::UnionWithDifference),
+    ("append", Growing::Append),
+    ("resize", Growing::Resize),
     ("counted::clone_from", Growing::CountedCloneFrom),
     ("counted::union_with", Growing::CountedUnionWith),
     (
@@ -60,7 +64,8 @@ pub const CALLS: [(&str, Growing); 15] = [
 // Whether the set is what the call leaves with ample memory.
 fn is_grown(set: &FixedBitSet, call: Growing) -> bool {
     match call {
-        Growing::Grow => is_value(set, LONG, &[3]),
+        Growing::Grow | Growing::Resize => is_value(set, LONG, &[3]),
+        Growing::Append => is_value(set, 10 + LONG, &[3, 9 + LONG]),
         Growing::GrowAndInsert => is_value(set, LONG + 1, &[3, LONG]),
         Growing::Extend => is_value(set, LONG + 1, &[3, 4, 5, LONG]),
         Growing::CloneFrom | Growing::CountedCloneFrom => is_long(set),
@@ -92,6 +97,14 @@ fn grow(set: &mut FixedBitSet, forgets: bool) -> Result<(), AllocError> {
     grown
 }
 
+// The lengths are those of the sets that are made for it; of others nothing is put together.
+fn appended(set: &mut FixedBitSet, long: &FixedBitSet) -> Result<(), AllocError> {
+    if set.len() <= LONG && long.len() <= LONG {
+        return set.append(long);
+    }
+    Ok(())
+}
+
 fn joined(set: &mut FixedBitSet, starts: &Starts, call: Growing) -> Result<(), AllocError> {
     let (short, long) = (&starts.short, &starts.long);
     match call {
@@ -104,6 +117,8 @@ fn joined(set: &mut FixedBitSet, starts: &Starts, call: Growing) -> Result<(), A
         Growing::BitxorAssign => set.bitxor_assign(long),
         Growing::UnionWithChange => set.union_with_change(long).map(|_| ()),
         Growing::UnionWithDifference => set.union_with_difference(long, short).map(|_| ()),
+        Growing::Append => appended(set, long),
+        Growing::Resize => set.resize(LONG, false),
         Growing::CountedCloneFrom => counted::clone_from(set, long, &mut Steps::new()),
         Growing::CountedUnionWith => counted::union_with(set, long, &mut Steps::new()),
         Growing::CountedSymmetricDifferenceWith => {

@@ -4,6 +4,8 @@ use crate::outcome::Fault;
 use crate::starts::{LONG, Starts, is_long, is_short, is_value};
 use bitcommands::commands::{Change, Command, Look, Reply, run};
 use bitlines::lines::parse_line;
+use bitranks::Ranks;
+use bitrows::BitRows;
 use fixedbitset::{FixedBitSet, Steps, counted};
 use std::alloc::Global;
 
@@ -19,6 +21,11 @@ pub enum Making {
     CountedBitand,
     CountedBitor,
     CountedBitxor,
+    Slice,
+    FromBytes,
+    ToBytes,
+    RanksOf,
+    BitRowsNew,
     FromValue,
     ToValue,
     Text,
@@ -26,7 +33,7 @@ pub enum Making {
     Run,
 }
 
-pub const CALLS: [(&str, Making); 15] = [
+pub const CALLS: [(&str, Making); 20] = [
     ("with_capacity", Making::WithCapacity),
     ("with_capacity_and_blocks", Making::WithCapacityAndBlocks),
     ("from_iter", Making::FromIter),
@@ -37,6 +44,11 @@ pub const CALLS: [(&str, Making); 15] = [
     ("counted::bitand", Making::CountedBitand),
     ("counted::bitor", Making::CountedBitor),
     ("counted::bitxor", Making::CountedBitxor),
+    ("slice", Making::Slice),
+    ("from_bytes", Making::FromBytes),
+    ("to_bytes", Making::ToBytes),
+    ("Ranks::of", Making::RanksOf),
+    ("BitRows::new", Making::BitRowsNew),
     ("from_value", Making::FromValue),
     ("to_value", Making::ToValue),
     ("to_string", Making::Text),
@@ -74,9 +86,25 @@ fn set_made(alloc: Global, starts: &Starts, call: Making) -> Result<bool, Fault>
         Making::Bitand => is_value(&long.bitand(short)?, 10, &[]),
         Making::Bitor => is_value(&short.bitor(long)?, LONG, &[3, LONG - 1]),
         Making::Bitxor => is_value(&short.bitxor(long)?, LONG, &[3, LONG - 1]),
+        Making::Slice => {
+            long.len() == LONG && is_value(&long.slice(alloc, LONG - 70..)?, 70, &[69])
+        }
+        Making::FromBytes => is_short(&FixedBitSet::from_bytes(alloc, 10, &[8])?),
+        Making::ToBytes => short.to_bytes(alloc)?.as_slice() == [8, 0, 0, 0, 0, 0, 0, 0].as_slice(),
+        Making::RanksOf => Ranks::of(alloc, long)?.select(0) == Some(LONG - 1),
+        Making::BitRowsNew => table_made(alloc)?,
         Making::FromValue => is_short(&FixedBitSet::from_value(alloc, &starts.json)?),
         _ => false,
     })
+}
+
+fn table_made(alloc: Global) -> Result<bool, Fault> {
+    let mut table = BitRows::new(alloc, 2, LONG)?;
+    if table.rows() != 2 || table.columns() != LONG {
+        return Ok(false);
+    }
+    table.set(1, LONG - 1, true);
+    Ok(table.get(1, LONG - 1) && !table.get(0, LONG - 1))
 }
 
 fn set_counted(starts: &Starts, call: Making) -> Result<bool, Fault> {

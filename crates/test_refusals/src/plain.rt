@@ -20,6 +20,7 @@ pub enum Group {
     RangesCounted,
     RangesInclusive,
     Lesser,
+    Shifts,
     Counts,
     Counted,
     Order,
@@ -28,7 +29,7 @@ pub enum Group {
     Json,
 }
 
-pub const GROUPS: [(&str, Group); 14] = [
+pub const GROUPS: [(&str, Group); 15] = [
     ("looks", Group::Looks),
     ("positions", Group::Positions),
     ("unchecked", Group::Unchecked),
@@ -37,6 +38,7 @@ pub const GROUPS: [(&str, Group); 14] = [
     ("ranges_counted", Group::RangesCounted),
     ("ranges_inclusive", Group::RangesInclusive),
     ("lesser", Group::Lesser),
+    ("shifts", Group::Shifts),
     ("counts", Group::Counts),
     ("counted", Group::Counted),
     ("order", Group::Order),
@@ -55,6 +57,7 @@ pub fn holds(alloc: Global, starts: &mut Starts, group: Group) -> Result<bool, F
         Group::RangesCounted => ranges_counted(starts),
         Group::RangesInclusive => ranges_inclusive(starts),
         Group::Lesser => lesser(starts),
+        Group::Shifts => shifts(starts),
         Group::Counts => Ok(counts(&starts.short, &starts.long)),
         Group::Counted => counted_calls(starts),
         Group::Order => Ok(order(&starts.short, &starts.long)),
@@ -284,6 +287,27 @@ fn lesser(starts: &mut Starts) -> Result<bool, Fault> {
     let is_still_kept = is_short(&set);
     set.difference_with(&starts.short);
     Ok(is_kept && is_still_kept && is_value(&set, 10, &[]))
+}
+
+// The calls that move positions, and the one that cuts them off.
+fn shifts(starts: &mut Starts) -> Result<bool, Fault> {
+    let mut set = starts.take_short()?;
+    set.shift_up(5);
+    let is_up = is_value(&set, 10, &[8]);
+    set.shift_down(2);
+    let is_down = is_value(&set, 10, &[6]);
+    set.union_with_own_shift(3);
+    set.union_with_shifted(&starts.short, 1);
+    let is_joined = is_value(&set, 10, &[4, 6, 9]);
+    set.truncate(7);
+    let is_cut = is_value(&set, 7, &[4, 6]);
+    let is_copied = if set.len() == 7 && starts.short.len() == 10 {
+        set.copy_range(&starts.short, 2..5, 4);
+        is_value(&set, 7, &[5])
+    } else {
+        false
+    };
+    Ok(is_up && is_down && is_joined && is_cut && is_copied)
 }
 
 fn counts(short: &FixedBitSet, long: &FixedBitSet) -> bool {

@@ -13,7 +13,7 @@ use std::alloc::{AllocError, Global};
 pub const LONG: usize = 100_000;
 
 // As many sets as calls take for themselves.
-const SHORT_SETS: usize = 36;
+const SHORT_SETS: usize = 38;
 
 const LONG_SETS: usize = 8;
 

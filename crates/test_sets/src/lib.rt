@@ -19,6 +19,8 @@ mod making;
 #[cfg(test)]
 mod neighbours;
 #[cfg(test)]
+mod parts;
+#[cfg(test)]
 mod questions;
 #[cfg(test)]
 mod ranges;
