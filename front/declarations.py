@@ -19,6 +19,7 @@ KINDS = {
     "bool": "bool", "&mut bool": "bool*", "bool *": "bool*", "": "none", "void": "none",
     "&mut usize": "word*", "&mut Block": "word*", "uint64_t *": "word*", "size_t *": "word*",
     "&mut [Block]": "word* word", "&[Block]": "const word* word",
+    "&mut [usize]": "word* word", "&[usize]": "const word* word", "const size_t *": "const word*",
     "NonNull<usize>": "word*", "const uint64_t *": "const word*",
     "&Set": "const set*", "&Lent": "const set*", "const bits *": "const set*",
     "&mut Set": "set*", "&mut Lent": "set*", "bits *": "set*",
@@ -26,6 +27,10 @@ KINDS = {
     "&mut Runs": "runs*", "bits_run_walk *": "runs*",
     "&mut Sieve": "sieve*", "bits_sieve *": "sieve*",
     "&mut Pair": "pair*", "bits_pair *": "pair*",
+    "&[u8]": "const byte* word", "*const u8": "const byte*", "const uint8_t *": "const byte*",
+    "&mut [u8]": "byte* word", "NonNull<u8>": "byte*", "uint8_t *": "byte*",
+    "&mut Rows": "rows*", "bits_rows *": "rows*", "&Rows": "const rows*", "const bits_rows *": "const rows*",
+    "&mut Ranks": "ranks*", "bits_ranks *": "ranks*", "&Ranks": "const ranks*", "const bits_ranks *": "const ranks*",
 }
 # The struct that each of the three has, by its name in bits.h.
 STRUCTS = {
@@ -34,6 +39,8 @@ STRUCTS = {
     "bits_run_walk": ("Runs", "Runs"),
     "bits_sieve": ("Sieve", "Sieve"),
     "bits_pair": ("Pair", "Pair"),
+    "bits_ranks": ("Ranks", "Ranks"),
+    "bits_rows": ("Rows", "Rows"),
 }
 
 

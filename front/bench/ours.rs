@@ -7,6 +7,53 @@ pub mod rows;
 /// The calls that upstream lacks.
 pub mod beyond {
     use super::Set;
+    pub use fixedbitset::BitRows as Table;
+    use fixedbitset::Ranks;
+
+    /// A set with a directory of its words.
+    pub struct Ranked(Ranks<'static>);
+
+    impl Ranked {
+        pub fn of(set: &'static Set) -> Self {
+            Ranked(Ranks::of(set))
+        }
+
+        pub fn rank(&self, position: usize) -> usize {
+            self.0.rank(position)
+        }
+
+        pub fn count_below(&self, position: usize) -> usize {
+            self.0.rank(position)
+        }
+
+        pub fn select(&self, index: usize) -> Option<usize> {
+            self.0.select(index)
+        }
+    }
+
+    pub fn shift_up(set: &mut Set, by: usize) {
+        set.shift_up(by);
+    }
+
+    pub fn shift_down(set: &mut Set, by: usize) {
+        set.shift_down(by);
+    }
+
+    pub fn union_with_shifted(set: &mut Set, other: &Set, by: usize) {
+        set.union_with_shifted(other, by);
+    }
+
+    pub fn union_with_own_shift(set: &mut Set, by: usize) {
+        set.union_with_own_shift(by);
+    }
+
+    pub fn slice(set: &Set, start: usize, end: usize) -> Set {
+        set.slice(start..end)
+    }
+
+    pub fn append(set: &mut Set, other: &Set) {
+        set.append(other);
+    }
 
     pub fn next_one(set: &Set, from: usize) -> Option<usize> {
         set.next_one(from)

@@ -16,6 +16,9 @@ pub fn rows(bits: usize) -> Vec<Row> {
         neighbours(bits),
         stretches(bits),
         telling(bits),
+        moved(bits),
+        ranks(bits),
+        tables(bits),
     ]
     .into_iter()
     .flatten()
@@ -411,6 +414,125 @@ fn telling(bits: usize) -> Vec<Row> {
                 black_box(&gens),
                 black_box(&kills),
             ));
+        }),
+    ]
+}
+
+/// Positions moved by no whole number of words.
+fn moved(bits: usize) -> Vec<Row> {
+    let (some, other) = (one_of(bits, 3), one_of(bits, 2));
+    let by = bits / 3 | 1;
+    let (start, end) = (bits / 4 | 1, 3 * bits / 4);
+    vec![
+        change("shift_up", some.clone(), move |set| {
+            beyond::shift_up(set, black_box(by))
+        }),
+        change("shift_down", some.clone(), move |set| {
+            beyond::shift_down(set, black_box(by))
+        }),
+        change("shift_up by 1", some.clone(), move |set| {
+            beyond::shift_up(set, black_box(1))
+        }),
+        change("union_with_shifted", some.clone(), {
+            let other = other.clone();
+            move |set| beyond::union_with_shifted(set, black_box(&other), black_box(by))
+        }),
+        change("union_with_own_shift", some.clone(), move |set| {
+            beyond::union_with_own_shift(set, black_box(by))
+        }),
+        ask(
+            "slice(n/4..3n/4) and drop",
+            some.clone(),
+            Set::new(),
+            move |set, _| beyond::slice(set, black_box(start), black_box(end)),
+        ),
+        ask(
+            "append to a copy and drop",
+            some,
+            other,
+            move |set, other| {
+                let mut all = set.clone();
+                beyond::append(&mut all, other);
+                all
+            },
+        ),
+    ]
+}
+
+/// Half of the positions, by chance.
+fn half_of(bits: usize) -> Set {
+    let mut random = 88_172_645_463_325_252_usize;
+    let blocks = std::iter::repeat_with(|| {
+        random ^= random << 13;
+        random ^= random >> 7;
+        random ^= random << 17;
+        random
+    });
+    Set::with_capacity_and_blocks(bits, blocks.take(bits / 64))
+}
+
+/// The call for numbers below a bound, in an order without pattern.
+fn ranked(
+    name: &'static str,
+    set: &'static Set,
+    bound: usize,
+    call: fn(&beyond::Ranked, usize) -> usize,
+) -> Row {
+    let ranks = beyond::Ranked::of(set);
+    Row::new(name, 1, move |rounds| {
+        let ranks = black_box(&ranks);
+        let sum = (0..rounds)
+            .map(|round| call(ranks, round.wrapping_mul(79_190_011) % bound))
+            .fold(0, usize::wrapping_add);
+        black_box(sum);
+    })
+}
+
+/// On upstream's side stands a directory that a user writes, or `count_ones(..p)`.
+fn ranks(bits: usize) -> Vec<Row> {
+    let some: &'static Set = Box::leak(Box::new(half_of(bits)));
+    let more: &'static Set = Box::leak(Box::new(half_of(100 * bits)));
+    let of = |name, set: &'static Set, call| ranked(name, set, set.len(), call);
+    let select = |name, set: &'static Set| {
+        ranked(name, set, set.count_ones(..), |ranks, index| {
+            ranks.select(index).unwrap_or(0)
+        })
+    };
+    let beside = |ranks: &beyond::Ranked, position| ranks.count_below(position);
+    vec![
+        of("rank", some, beyond::Ranked::rank),
+        of("rank beside count_ones(..p)", some, beside),
+        of("rank of 100 times as many bits", more, beyond::Ranked::rank),
+        of("rank of so many beside count_ones(..p)", more, beside),
+        select("select", some),
+        select("select of 100 times as many bits", more),
+    ]
+}
+
+/// On upstream's side stands a set for each row.
+fn tables(bits: usize) -> Vec<Row> {
+    let nodes = bits.isqrt();
+    let mut edges = beyond::Table::new(nodes, nodes);
+    for edge in 0..2 * nodes {
+        edges.set(edge * 7919 % nodes, edge * edge * 31 % nodes, true);
+    }
+    let mut rows = beyond::Table::new(2, bits);
+    (0..bits)
+        .step_by(3)
+        .for_each(|column| rows.set(0, column, true));
+    vec![
+        Row::new("union_rows", 1, move |rounds| {
+            let rows = black_box(&mut rows);
+            (0..rounds).for_each(|_| {
+                black_box(rows.union_rows(black_box(0), 1));
+            });
+        }),
+        Row::new("close a copy, of n bits in all", 1, move |rounds| {
+            for _ in 0..rounds {
+                let mut table = black_box(&edges).clone();
+                table.close();
+                black_box(&table);
+            }
         }),
     ]
 }

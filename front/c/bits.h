@@ -8,7 +8,7 @@
  * Zeros are the set without a position. bits_settle makes any words those of a set. Each call leaves them so.
  *
  * No call asks anything of its numbers: a position or a range past the length is refused by the answer. No call takes or
- * frees memory, prints, waits or ends the process, and none but a walk keeps a pointer. Calls on unlike sets may run at
+ * frees memory, prints, waits or ends the process. None but the begin of a walk or of ranks keeps a pointer. Calls on unlike sets may run at
  * once in unlike threads, and so may calls that only read one set.
  *
  *     bits set = BITS_OF((uint64_t *)calloc(bits_words(100), 8), 100);
@@ -33,8 +33,8 @@ typedef struct bits {
     size_t length;
 } bits;
 
-/* A walk over the positions of a set. Make it BITS_WALK, and begin it by bits_ones, bits_zeroes, bits_ones_in or
- * bits_zeroes_in. Until its last call the set may not change. */
+/* A walk over the positions of a set. Make it BITS_WALK, and begin it by bits_ones, bits_zeroes, bits_ones_in,
+ * bits_zeroes_in or bits_rows_ones. Until its last call the set may not change. */
 typedef struct bits_walk {
     uint64_t front;
     uint64_t back;
@@ -70,6 +70,26 @@ typedef struct bits_pair {
     bits_sieve second;
 } bits_pair;
 
+/* A table of bits: `rows` rows of `columns` columns. It points to `count` words, which is bits_rows_words(rows, columns).
+ * These are the words of a set of `columns` positions for each row, one row behind the other. Zeros are the table with no
+ * bit. What holds of the words of a set that a call changes or reads holds of those of a table. */
+typedef struct bits_rows {
+    uint64_t *words;
+    size_t count;
+    size_t rows;
+    size_t columns;
+} bits_rows;
+
+/* A set that is lent with a directory of its words. Make it BITS_RANKS, and begin it by bits_ranks_fill. Until its last call
+ * neither the set nor the directory may change. */
+typedef struct bits_ranks {
+    const uint64_t *words;
+    size_t count;
+    size_t length;
+    const size_t *directory;
+    size_t entries;
+} bits_ranks;
+
 #ifdef __cplusplus
 #define BITS_VALUE(type, ...) (type{__VA_ARGS__})
 #else
@@ -79,13 +99,19 @@ typedef struct bits_pair {
 /* The set of length n with these words, which are bits_words(n). */
 #define BITS_OF(w, n) BITS_VALUE(bits, (w), bits_words(n), (n))
 
+/* The table of so many rows and columns with these words, which are bits_rows_words(r, n). */
+#define BITS_ROWS_OF(w, r, n) BITS_VALUE(bits_rows, (w), bits_rows_words((r), (n)), (r), (n))
+
 /* Walks over no words. */
 #define BITS_WALK BITS_VALUE(bits_walk, 0, 0, 0, 0, (const uint64_t *)8, 0)
 #define BITS_RUNS BITS_VALUE(bits_run_walk, false, 0, 0, 0, (const uint64_t *)8, 0)
 #define BITS_SIEVE BITS_VALUE(bits_sieve, BITS_WALK, (const uint64_t *)8, 0)
 #define BITS_PAIR BITS_VALUE(bits_pair, BITS_SIEVE, BITS_SIEVE)
 
-/* No position: what bits_minimum, bits_maximum and bits_take_lowest_bit answer where there is none. */
+/* Ranks of no set. */
+#define BITS_RANKS BITS_VALUE(bits_ranks, (const uint64_t *)8, 0, 0, (const size_t *)8, 0)
+
+/* No position: what bits_minimum, bits_maximum and their kin answer where there is none. */
 #define BITS_NONE SIZE_MAX
 
 /* A loop over the positions of the set, in ascending order. `break` and `continue` are as in any loop. */
@@ -210,6 +236,70 @@ bool bits_equal(const bits *set, const bits *other);
 /* -1 where the first comes before the second, 0 where they are equal, 1 where it comes after: by their lengths, and then by
  * their words from the first on. */
 ptrdiff_t bits_compare(const bits *set, const bits *other);
+
+/* ---- positions moved by any number, and parts. What is not below the length then falls away, and the length stays.
+ *      To put one set behind another, make the first longer by bits_settle, and take the second in, moved by the old
+ *      length. To cut a set, have bits_settle make fewer of its words those of a lesser length. */
+
+/* Moves each position up by `by`. */
+void bits_shift_up(bits *set, size_t by);
+/* Moves each position down by `by`; those below `by` fall away. */
+void bits_shift_down(bits *set, size_t by);
+/* Adds the positions of the second moved up by `by`. */
+void bits_union_with_shifted(bits *set, const bits *other, size_t by);
+/* Adds the positions of the set itself moved up by `by`. */
+void bits_union_with_own_shift(bits *set, size_t by);
+/* Makes `part` the positions of the second from `start` up to and without `end`, less `start`. It answers whether it did,
+ * which is where the range is valid and `part` has its length, end - start; else nothing is changed. */
+bool bits_slice(bits *part, const bits *set, size_t start, size_t end);
+/* Writes the positions of the second from `start` up to and without `end` over those of the first from `at` on; all others
+ * stay. It answers whether it did, which is where the range is valid in the second, and from `at` on ends within the first;
+ * else nothing is changed. */
+bool bits_copy_range(bits *set, const bits *other, size_t start, size_t end, size_t at);
+
+/* ---- a set as bytes: position p is bit p % 8 of byte p / 8 */
+
+/* How many bytes a set of this length has: eight for each word that the length needs. */
+size_t bits_bytes(size_t length);
+/* Leaves the positions that the bytes say, of any number of bytes. Those that are missing count as 0, and bits past the length
+ * are dropped. */
+void bits_from_bytes(bits *set, const uint8_t *bytes, size_t count);
+/* Writes the bytes of the set, and answers whether `count` is bits_bytes of its length; else nothing is changed. */
+bool bits_to_bytes(const bits *set, uint8_t *bytes, size_t count);
+
+/* ---- how many positions stand below a given one, and which is the k-th */
+
+/* How many entries the directory of a set of this length has: one for each eight words, rounded up. */
+size_t bits_ranks_entries(size_t length);
+/* Writes the directory of the set's words to `directory`, and the whole of `ranks`. It answers whether `entries` is
+ * bits_ranks_entries of the set's length; else the ranks are those of no set. */
+bool bits_ranks_fill(bits_ranks *ranks, const bits *set, size_t *directory, size_t entries);
+/* How many positions below this one are set. Past the length all are below it. */
+size_t bits_rank(const bits_ranks *ranks, size_t position);
+/* The position that is set and has so many positions that are set below it, or BITS_NONE. The first has index 0. */
+size_t bits_select(const bits_ranks *ranks, size_t index);
+
+/* ---- tables */
+
+/* How many words a table of so many rows and columns has, or BITS_NONE where there are not so many numbers. */
+size_t bits_rows_words(size_t rows, size_t columns);
+/* Makes any words those of a table of so many rows and columns, with no bit. It answers whether `count` is
+ * bits_rows_words(rows, columns); else nothing is changed. Zeros are such words too. */
+bool bits_rows_clear(uint64_t *words, size_t count, size_t rows, size_t columns);
+/* Whether the row has a bit at the column: false past the rows and past the columns. */
+bool bits_rows_get(const bits_rows *rows, size_t row, size_t column);
+/* Sets the bit of the row at the column, or clears it where `enabled` is false, and answers whether the table has both; else
+ * nothing is changed. */
+bool bits_rows_set(bits_rows *rows, size_t row, size_t column, bool enabled);
+/* Row `into` takes in the bits of row `from`. It answers whether the table has both; else nothing is changed. It answers at
+ * `changed` whether a bit came in; nothing is written there if none is changed. */
+bool bits_rows_union(bits_rows *rows, size_t from, size_t into, bool *changed);
+/* Begins the walk over the columns at which the row has a bit, in ascending order; bits_ones_next and bits_ones_next_back give
+ * them. It answers whether the table has the row; else the walk gives none. */
+bool bits_rows_ones(bits_walk *walk, const bits_rows *rows, size_t row);
+/* The transitive closure of the graph with an edge from each row to each column at which it has a bit: afterwards row a has
+ * a bit at column b exactly if some path of one or more edges led from a to b. */
+void bits_rows_close(bits_rows *rows);
 
 /* ---- walks: each call of one gives a position and true, or false where none is left, and then for good.
  *      `next` gives the first that is left, `next_back` the last one, in any mix. */

@@ -90,6 +90,106 @@ static void pairs(void) {
     free(c.words);
 }
 
+/* A set has this length and these positions, one at least. */
+#define IS(set, n, ...)                                                            \
+    do {                                                                           \
+        const size_t wanted[] = {__VA_ARGS__};                                     \
+        bits other = of(n, sizeof wanted / sizeof *wanted, wanted);                \
+        assert(bits_equal(&set, &other));                                          \
+        free(other.words);                                                         \
+    } while (0)
+
+static void parts(void) {
+    const size_t some[] = {0, 3, 69}, one[] = {5};
+    bits a = of(70, 3, some), b = of(70, 3, some), part = of(68, 1, one);
+    bits_shift_up(&a, 64);
+    IS(a, 70, 64, 67);
+    bits_shift_down(&a, 65);
+    IS(a, 70, 2);
+    bits_union_with_shifted(&b, &a, 64);
+    bits_union_with_shifted(&b, &a, 68);
+    bits_union_with_shifted(&b, &a, SIZE_MAX);
+    IS(b, 70, 0, 3, 66, 69);
+    bits_union_with_own_shift(&b, 1);
+    bits_union_with_own_shift(&b, SIZE_MAX);
+    IS(b, 70, 0, 1, 3, 4, 66, 67, 69);
+    assert(!bits_slice(&part, &b, 2, 69) && !bits_slice(&part, &b, 3, 71) && !bits_slice(&part, &b, 71, 3));
+    IS(part, 68, 5);
+    assert(bits_slice(&part, &b, 1, 69));
+    IS(part, 68, 0, 2, 3, 65, 66);
+    assert(!bits_copy_range(&a, &b, 4, 3, 0) && !bits_copy_range(&a, &b, 0, 71, 0));
+    assert(!bits_copy_range(&a, &b, 0, 6, 65) && !bits_copy_range(&a, &b, 0, 1, SIZE_MAX));
+    IS(a, 70, 2);
+    assert(bits_copy_range(&a, &b, 3, 68, 1) && bits_copy_range(&a, &b, 70, 70, 70));
+    IS(a, 70, 1, 2, 64, 65);
+    part.length = 3;
+    assert(bits_settle(part.words, part.count, 3, 3));
+    IS(part, 3, 0, 2);
+    bits_shift_up(&a, SIZE_MAX);
+    bits_shift_down(&b, 70);
+    assert(bits_is_clear(&a) && bits_is_clear(&b) && b.length == 70);
+    free(a.words);
+    free(b.words);
+    free(part.words);
+}
+
+static void bytes(void) {
+    const size_t some[] = {2, 9};
+    const uint8_t source[] = {76, 255, 255};
+    uint8_t made[8] = {7, 7, 7, 7, 7, 7, 7, 7};
+    bits set = of(10, 2, some);
+    assert(bits_bytes(0) == 0 && bits_bytes(64) == 8 && bits_bytes(65) == 16);
+    assert(!bits_to_bytes(&set, made, 7) && made[0] == 7);
+    assert(bits_to_bytes(&set, made, 8) && made[0] == 4 && made[1] == 2 && made[7] == 0);
+    bits_from_bytes(&set, source, 3);
+    IS(set, 10, 2, 3, 6, 8, 9);
+    bits_from_bytes(&set, source, 1);
+    IS(set, 10, 2, 3, 6);
+    bits_from_bytes(&set, source, 0);
+    assert(bits_is_clear(&set));
+    free(set.words);
+}
+
+static void tables(void) {
+    bits_rows table = BITS_ROWS_OF((uint64_t *)calloc(bits_rows_words(3, 70), sizeof(uint64_t)), 3, 70);
+    bits_walk walk = BITS_WALK;
+    bool changed = true;
+    size_t p = 0;
+    assert(table.words && table.count == 12 && bits_rows_words(SIZE_MAX, 1) == BITS_NONE);
+    assert(bits_rows_words(0, 70) == 0 && bits_rows_words(5, 0) == 0 && bits_rows_words(2, 257) == 16);
+    assert(bits_rows_set(&table, 0, 2, true) && bits_rows_set(&table, 2, 1, true) && bits_rows_set(&table, 2, 69, true));
+    assert(!bits_rows_set(&table, 3, 0, true) && !bits_rows_set(&table, 0, 70, true));
+    assert(bits_rows_get(&table, 2, 69) && !bits_rows_get(&table, 1, 69));
+    assert(!bits_rows_get(&table, 3, 0) && !bits_rows_get(&table, 0, SIZE_MAX));
+    bits_rows_close(&table);
+    assert(bits_rows_get(&table, 0, 1) && bits_rows_get(&table, 0, 69) && !bits_rows_get(&table, 1, 1));
+    assert(!bits_rows_union(&table, 0, 3, &changed) && changed);
+    assert(bits_rows_union(&table, 2, 0, &changed) && !changed);
+    assert(bits_rows_union(&table, 0, 1, &changed) && changed);
+    assert(bits_rows_ones(&walk, &table, 1));
+    assert(bits_ones_next(&walk, &p) && p == 1 && bits_ones_next_back(&walk, &p) && p == 69);
+    assert(!bits_rows_ones(&walk, &table, 3) && !bits_ones_next(&walk, &p));
+    assert(!bits_rows_clear(table.words, 11, 3, 70) && !bits_rows_clear(table.words, 12, 2, 70) && bits_rows_get(&table, 0, 2));
+    assert(bits_rows_clear(table.words, 12, 3, 70) && !bits_rows_get(&table, 0, 2) && !bits_rows_get(&table, 2, 69));
+    free(table.words);
+}
+
+static void ranks(void) {
+    const size_t some[] = {3, 64, 70, 600};
+    size_t directory[2] = {7, 7};
+    bits set = of(601, 4, some), none = empty(0);
+    bits_ranks ranks = BITS_RANKS;
+    assert(bits_rank(&ranks, 9) == 0 && bits_select(&ranks, 0) == BITS_NONE);
+    assert(bits_ranks_entries(0) == 0 && bits_ranks_entries(512) == 1 && bits_ranks_entries(601) == 2);
+    assert(!bits_ranks_fill(&ranks, &set, directory, 1) && directory[0] == 7 && bits_rank(&ranks, 601) == 0);
+    assert(bits_ranks_fill(&ranks, &set, directory, 2) && directory[0] == 0 && directory[1] == 3);
+    assert(bits_rank(&ranks, 3) == 0 && bits_rank(&ranks, 65) == 2 && bits_rank(&ranks, SIZE_MAX) == 4);
+    assert(bits_select(&ranks, 0) == 3 && bits_select(&ranks, 3) == 600 && bits_select(&ranks, 4) == BITS_NONE);
+    assert(bits_ranks_fill(&ranks, &none, directory, 0) && bits_rank(&ranks, 1) == 0);
+    free(set.words);
+    free(none.words);
+}
+
 /* What a walk of one kind gives: the last, then the first and so on to its end. */
 #define GIVES(walk, name, last, ...)                                      \
     do {                                                                  \
@@ -148,6 +248,10 @@ int main(void) {
     positions();
     ranges();
     pairs();
+    parts();
+    bytes();
+    tables();
+    ranks();
     walks();
     return 0;
 }

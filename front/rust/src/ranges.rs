@@ -1,5 +1,5 @@
 //! Ranges of positions. A range is valid where its start is not past its end, and its end not past the length.
-use crate::raw::{self, Shared};
+use crate::raw::{self, Lent, Shared};
 use crate::{FixedBitSet, IndexRange};
 
 impl FixedBitSet {
@@ -152,7 +152,7 @@ impl FixedBitSet {
     /// The set, lent, and the ends of a valid range.
     #[inline]
     #[track_caller]
-    fn part<T: IndexRange>(&self, range: &T) -> (Shared<'_>, usize, usize) {
+    pub(crate) fn part<T: IndexRange>(&self, range: &T) -> (Shared<Lent<'_>>, usize, usize) {
         let (start, end) = self.ends(range);
         let set = self.words.lent();
         self.assert_valid(raw::bits_range_is_valid(&set, start, end), start, end);

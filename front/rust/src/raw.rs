@@ -3,7 +3,9 @@
 //! A call of `libbits_c.a` asks one thing of its caller: that what is lent to it is a set. A set is whole lanes of four
 //! words, as many as its length needs, with no bit past the length. Each call leaves it so, and takes any numbers. So
 //! the declarations are `safe`. They stand on this: [`Words`], [`Lent`] and the walks have private fields, and what
-//! makes or changes them stands here.
+//! makes or changes them stands here. A table is the words of a set for each row; [`Table`] and [`Rows`] are to it what
+//! [`Words`] and [`Lent`] are to a set.
+use alloc::vec;
 use alloc::vec::Vec;
 use core::marker::PhantomData;
 use core::ops::Deref;
@@ -62,14 +64,43 @@ pub struct Pair<'a> {
     second: Sieve<'a>,
 }
 
+/// A table that is lent, the struct `bits_rows` of bits.h.
+#[repr(C)]
+pub struct Rows<'a> {
+    words: NonNull<usize>,
+    count: usize,
+    rows: usize,
+    columns: usize,
+    lent: PhantomData<&'a mut [usize]>,
+}
+
+/// A set that is lent with a directory of its words, the struct `bits_ranks` of bits.h.
+#[repr(C)]
+pub struct Ranks<'a> {
+    words: NonNull<usize>,
+    count: usize,
+    length: usize,
+    directory: NonNull<usize>,
+    entries: usize,
+    lent: PhantomData<&'a [usize]>,
+}
+
 // SAFETY: a walk reads words that are lent to it, as a slice does, and changes itself alone.
 unsafe impl Send for Walk<'_> {}
 // SAFETY: as above.
 unsafe impl Sync for Walk<'_> {}
 // SAFETY: as above.
+unsafe impl Send for Runs<'_> {}
+// SAFETY: as above.
+unsafe impl Sync for Runs<'_> {}
+// SAFETY: as above.
 unsafe impl Send for Sieve<'_> {}
 // SAFETY: as above.
 unsafe impl Sync for Sieve<'_> {}
+// SAFETY: ranks read words and a directory that are lent to them, as slices do.
+unsafe impl Send for Ranks<'_> {}
+// SAFETY: as above.
+unsafe impl Sync for Ranks<'_> {}
 
 // SAFETY: names and types are those of crates/bits_c, which front/declarations.py compares. Each call that is `safe` is so
 // for every set that is lent, every walk and all numbers, by its contract. The others are lent words by themselves, or keep them past the call.
@@ -132,6 +163,50 @@ unsafe extern "C" {
     pub safe fn bits_first_lacking(set: &Lent<'_>, other: &Lent<'_>) -> usize;
     pub safe fn bits_equal(set: &Lent<'_>, other: &Lent<'_>) -> bool;
     pub safe fn bits_compare(set: &Lent<'_>, other: &Lent<'_>) -> isize;
+
+    pub safe fn bits_shift_up(set: &mut Lent<'_>, by: usize);
+    pub safe fn bits_shift_down(set: &mut Lent<'_>, by: usize);
+    pub safe fn bits_union_with_shifted(set: &mut Lent<'_>, other: &Lent<'_>, by: usize);
+    pub safe fn bits_union_with_own_shift(set: &mut Lent<'_>, by: usize);
+    pub safe fn bits_slice(part: &mut Lent<'_>, set: &Lent<'_>, start: usize, end: usize) -> bool;
+    pub safe fn bits_copy_range(
+        set: &mut Lent<'_>,
+        other: &Lent<'_>,
+        start: usize,
+        end: usize,
+        at: usize,
+    ) -> bool;
+
+    pub safe fn bits_bytes(length: usize) -> usize;
+    fn bits_from_bytes(set: &mut Lent<'_>, bytes: *const u8, count: usize);
+    fn bits_to_bytes(set: &Lent<'_>, bytes: NonNull<u8>, count: usize) -> bool;
+
+    pub safe fn bits_rows_words(rows: usize, columns: usize) -> usize;
+    pub safe fn bits_rows_get(rows: &Rows<'_>, row: usize, column: usize) -> bool;
+    pub safe fn bits_rows_set(
+        rows: &mut Rows<'_>,
+        row: usize,
+        column: usize,
+        enabled: bool,
+    ) -> bool;
+    pub safe fn bits_rows_union(
+        rows: &mut Rows<'_>,
+        from: usize,
+        into: usize,
+        changed: &mut bool,
+    ) -> bool;
+    fn bits_rows_ones(walk: &mut Walk<'_>, rows: &Rows<'_>, row: usize) -> bool;
+    pub safe fn bits_rows_close(rows: &mut Rows<'_>);
+
+    pub safe fn bits_ranks_entries(length: usize) -> usize;
+    fn bits_ranks_fill(
+        ranks: &mut Ranks<'_>,
+        set: &Lent<'_>,
+        directory: NonNull<usize>,
+        entries: usize,
+    ) -> bool;
+    pub safe fn bits_rank(ranks: &Ranks<'_>, position: usize) -> usize;
+    pub safe fn bits_select(ranks: &Ranks<'_>, index: usize) -> usize;
 
     fn bits_ones(walk: &mut Walk<'_>, set: &Lent<'_>);
     pub safe fn bits_ones_next(walk: &mut Walk<'_>, position: &mut usize) -> bool;
@@ -218,10 +293,34 @@ impl Words {
         let row = unsafe { slice::from_raw_parts_mut(lent.as_ptr(), count) };
         let row = row[..bits_blocks(length)].iter_mut();
         row.zip(blocks).for_each(|(word, block)| *word = block);
-        // SAFETY: as above. The call takes any words, and does its work for this count of them.
+        words.settle();
+        words
+    }
+
+    /// Leaves the positions that the bytes say.
+    pub fn read_bytes(&mut self, bytes: &[u8]) {
+        // SAFETY: so many bytes are lent, and nothing changes them while the call reads them. It changes the set alone.
+        unsafe { bits_from_bytes(&mut self.lent_mut(), bytes.as_ptr(), bytes.len()) };
+    }
+
+    /// The bytes of the set.
+    pub fn bytes(&self) -> Vec<u8> {
+        let mut bytes = vec![0; bits_bytes(self.length)];
+        let (lent, count) = (NonNull::from(&mut bytes[..]).cast(), bytes.len());
+        // SAFETY: so many bytes are lent, and nothing else reads or writes them until the call has written them.
+        let done = unsafe { bits_to_bytes(&self.lent(), lent, count) };
+        assert!(done);
+        bytes
+    }
+
+    /// Makes any words those of a set: it drops the positions past the length.
+    fn settle(&mut self) {
+        let (length, count) = (self.length, LANE * self.lanes.len());
+        let lent = self.lent_mut().words;
+        // SAFETY: so many words are lent, and nothing else reads or writes them until the call has made them a set. The
+        // call takes any words, and does its work for this count of them.
         let done = unsafe { bits_settle(lent, count, length, length) };
         assert!(done);
-        words
     }
 
     /// Makes the length greater by zeros, and leaves the positions.
@@ -231,6 +330,14 @@ impl Words {
         assert!(length >= self.length);
         self.lanes.resize(lanes_of(length), Lane([0; LANE]));
         self.length = length;
+    }
+
+    /// Makes the length less, and drops the positions past it. The memory stays.
+    pub fn shorten(&mut self, length: usize) {
+        assert!(length <= self.length);
+        self.lanes.truncate(lanes_of(length));
+        self.length = length;
+        self.settle();
     }
 
     /// Becomes what `source` is, in the memory that is there. In between it is empty.
@@ -255,7 +362,7 @@ impl Words {
     }
 
     #[inline(always)]
-    pub fn lent(&self) -> Shared<'_> {
+    pub fn lent(&self) -> Shared<Lent<'_>> {
         let words = NonNull::from(&self.lanes[..]).cast();
         Shared(Lent {
             words,
@@ -358,6 +465,21 @@ impl Words {
         walk
     }
 
+    /// The set with a new directory of its words.
+    pub fn ranks(&self) -> Directory<'_> {
+        let mut entries = vec![0; bits_ranks_entries(self.length)];
+        let (lent, count) = (NonNull::from(&mut entries[..]).cast(), entries.len());
+        let mut ranks = Ranks::NONE;
+        // SAFETY: the ranks keep the words, which are lent as long as they live, and the entries, which stay where they
+        // are, unchanged, as long as the `Directory` lives.
+        let done = unsafe { bits_ranks_fill(&mut ranks, &self.lent(), lent, count) };
+        assert!(done);
+        Directory {
+            ranks,
+            _entries: entries,
+        }
+    }
+
     #[inline(always)]
     pub fn into_ones(self) -> Owned {
         let mut walk = Walk::NONE;
@@ -373,15 +495,78 @@ fn lanes_of(length: usize) -> usize {
     bits_words(length) / LANE
 }
 
-/// A set that is lent for reading.
-pub struct Shared<'a>(Lent<'a>);
+/// What is lent for reading: a set or a table.
+pub struct Shared<T>(T);
 
-impl<'a> Deref for Shared<'a> {
-    type Target = Lent<'a>;
+impl<T> Deref for Shared<T> {
+    type Target = T;
 
     #[inline(always)]
-    fn deref(&self) -> &Lent<'a> {
+    fn deref(&self) -> &T {
         &self.0
+    }
+}
+
+/// The words of a table: for each row as many lanes as a set of so many columns has, with no bit past them.
+#[derive(Clone)]
+pub struct Table {
+    lanes: Vec<Lane>,
+    rows: usize,
+    columns: usize,
+}
+
+impl Table {
+    /// With no bit.
+    pub fn new(rows: usize, columns: usize) -> Self {
+        let lanes = vec![Lane([0; LANE]); bits_rows_words(rows, columns) / LANE];
+        Table {
+            lanes,
+            rows,
+            columns,
+        }
+    }
+
+    #[inline]
+    pub fn rows(&self) -> usize {
+        self.rows
+    }
+
+    #[inline]
+    pub fn columns(&self) -> usize {
+        self.columns
+    }
+
+    #[inline(always)]
+    pub fn lent(&self) -> Shared<Rows<'_>> {
+        let words = NonNull::from(&self.lanes[..]).cast();
+        Shared(Rows {
+            words,
+            count: LANE * self.lanes.len(),
+            rows: self.rows,
+            columns: self.columns,
+            lent: PhantomData,
+        })
+    }
+
+    #[inline(always)]
+    pub fn lent_mut(&mut self) -> Rows<'_> {
+        let words = NonNull::from(&mut self.lanes[..]).cast();
+        Rows {
+            words,
+            count: LANE * self.lanes.len(),
+            rows: self.rows,
+            columns: self.columns,
+            lent: PhantomData,
+        }
+    }
+
+    /// The walk over the columns of a row, and whether the table has the row.
+    #[inline(always)]
+    pub fn ones(&self, row: usize) -> (Walk<'_>, bool) {
+        let mut walk = Walk::NONE;
+        // SAFETY: the walk keeps the words, which are lent as long as it lives.
+        let is_there = unsafe { bits_rows_ones(&mut walk, &self.lent(), row) };
+        (walk, is_there)
     }
 }
 
@@ -406,6 +591,19 @@ impl Owned {
     #[inline]
     pub fn walk(&self) -> &Walk<'_> {
         &self.walk
+    }
+}
+
+/// A set that is lent, and the directory of its words.
+pub struct Directory<'a> {
+    ranks: Ranks<'a>,
+    _entries: Vec<usize>,
+}
+
+impl Directory<'_> {
+    #[inline]
+    pub fn ranks(&self) -> &Ranks<'_> {
+        &self.ranks
     }
 }
 
@@ -436,6 +634,17 @@ impl Runs<'_> {
         high: 0,
         words: NonNull::dangling(),
         count: 0,
+        lent: PhantomData,
+    };
+}
+
+impl Ranks<'_> {
+    const NONE: Self = Ranks {
+        words: NonNull::dangling(),
+        count: 0,
+        length: 0,
+        directory: NonNull::dangling(),
+        entries: 0,
         lent: PhantomData,
     };
 }

@@ -152,7 +152,7 @@ impl FixedBitSet {
 /// ```
 #[derive(Clone)]
 pub struct Ones<'a> {
-    walk: Walk<'a>,
+    pub(crate) walk: Walk<'a>,
 }
 
 /// The walk of [`FixedBitSet::into_ones`].

@@ -5,6 +5,8 @@ use std::fmt::{self, Binary, Display, Formatter};
 use std::ops::{BitAnd, BitAndAssign, BitOr, BitOrAssign, BitXor, BitXorAssign};
 use std::ops::{Bound, Index, Range, RangeBounds};
 
+#[path = "beyond.rs"]
+pub mod beyond;
 #[path = "calls.rs"]
 pub mod calls;
 
@@ -246,6 +248,110 @@ impl Set {
 
     pub fn is_superset(&self, other: &Self) -> bool {
         self.ones.is_superset(&other.ones)
+    }
+}
+
+/// Positions moved, and parts.
+impl Set {
+    /// The positions moved up by a number, as far as they are below a length.
+    fn moved(&self, by: usize, length: usize) -> impl Iterator<Item = usize> {
+        let moved = self.ones.iter().filter_map(move |bit| bit.checked_add(by));
+        moved.filter(move |bit| *bit < length)
+    }
+
+    pub fn shift_up(&mut self, by: usize) {
+        *self = Set::of(self.length, self.moved(by, self.length));
+    }
+
+    pub fn shift_down(&mut self, by: usize) {
+        let moved = self.ones.iter().filter_map(|bit| bit.checked_sub(by));
+        *self = Set::of(self.length, moved);
+    }
+
+    pub fn union_with_shifted(&mut self, other: &Self, by: usize) {
+        self.ones.extend(other.moved(by, self.length));
+    }
+
+    pub fn union_with_own_shift(&mut self, by: usize) {
+        self.union_with_shifted(&self.clone(), by);
+    }
+
+    pub fn slice(&self, range: impl RangeBounds<usize>) -> Self {
+        let range = self.positions(range);
+        let mut part = Set::of(range.len(), self.ones.range(range.clone()).copied());
+        part.shift_down(range.start);
+        part
+    }
+
+    pub fn copy_range(&mut self, other: &Self, range: impl RangeBounds<usize>, at: usize) {
+        let range = other.positions(range);
+        let (count, length) = (range.len(), self.length);
+        assert!(
+            at.checked_add(count).is_some_and(|end| end <= length),
+            "copy at index {at} of {count} positions exceeds fixedbitset size {length}"
+        );
+        for (from, to) in range.zip(at..) {
+            self.enable(to, other.contains(from));
+        }
+    }
+
+    pub fn append(&mut self, other: &Self) {
+        let length = self.length;
+        self.length += other.length;
+        self.union_with_shifted(other, length);
+    }
+
+    pub fn truncate(&mut self, length: usize) {
+        self.length = self.length.min(length);
+        self.ones.retain(|bit| *bit < length);
+    }
+
+    pub fn resize(&mut self, length: usize, enabled: bool) {
+        let old = self.length;
+        self.truncate(length);
+        self.grow(length);
+        (old..length).for_each(|bit| self.enable(bit, enabled));
+    }
+}
+
+/// Bytes.
+impl Set {
+    pub fn from_bytes(length: usize, bytes: &[u8]) -> Self {
+        let is_set = |bit: &usize| {
+            bytes
+                .get(bit / 8)
+                .is_some_and(|byte| byte >> (bit % 8) & 1 == 1)
+        };
+        Set::of(length, (0..length).filter(is_set))
+    }
+
+    pub fn to_bytes(&self) -> Vec<u8> {
+        let mut bytes = vec![0; 8 * self.length.div_ceil(64)];
+        self.ones
+            .iter()
+            .for_each(|bit| bytes[bit / 8] |= 1 << (bit % 8));
+        bytes
+    }
+}
+
+/// Ranks: the set alone.
+pub struct Ranks<'a>(&'a Set);
+
+impl<'a> Ranks<'a> {
+    pub fn of(set: &'a Set) -> Self {
+        Ranks(set)
+    }
+
+    pub fn set(&self) -> &'a Set {
+        self.0
+    }
+
+    pub fn rank(&self, position: usize) -> usize {
+        self.0.ones.range(..position).count()
+    }
+
+    pub fn select(&self, index: usize) -> Option<usize> {
+        self.0.ones.iter().nth(index).copied()
     }
 }
 

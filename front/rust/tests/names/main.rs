@@ -4,6 +4,14 @@
 // The table is compiled once for each crate.
 #![allow(clippy::duplicate_mod)]
 
+/// The names of calls, each of which has its type.
+macro_rules! typed {
+    ($($name:literal is $call:expr, $type:ty;)*) => {
+        vec![$({ let _: $type = $call; $name }),*]
+    };
+}
+
+mod beyond;
 mod ours;
 #[cfg(upstream)]
 mod theirs;
@@ -32,6 +40,14 @@ fn each_public_call_has_upstreams_type() {
     assert_eq!(names.len(), 20 + 7 + 4 * 10 + 11 + 9);
     #[cfg(upstream)]
     assert_eq!(names, names!(theirs::table));
+}
+
+#[test]
+fn each_call_beyond_upstreams_has_its_type() {
+    assert_eq!(beyond::calls().len(), 11);
+    assert_eq!(beyond::rank_calls().len(), 4);
+    assert_eq!(beyond::row_calls().len(), 8);
+    assert!(beyond::have_traits());
 }
 
 #[test]

@@ -1,0 +1,83 @@
+//! How many positions stand below a given one, and which is the k-th. The crate of this name has no such calls.
+use crate::{FixedBitSet, raw};
+use core::fmt::{Debug, Formatter, Result};
+
+/// A set that is lent, with a directory that answers how many positions stand below a given one.
+///
+/// The directory takes one word of memory for eight words of the set. While it lives the set cannot change.
+///
+/// ```
+/// use fixedbitset::{FixedBitSet, Ranks};
+///
+/// let set: FixedBitSet = [3, 64, 70].into_iter().collect();
+/// let ranks = Ranks::of(&set);
+/// assert_eq!((ranks.rank(64), ranks.select(2)), (1, Some(70)));
+/// assert_eq!(format!("{ranks:?}"), "Ranks { set: FixedBitSet { length: 71, ones: {3, 64, 70} } }");
+/// ```
+pub struct Ranks<'a> {
+    set: &'a FixedBitSet,
+    directory: raw::Directory<'a>,
+}
+
+impl<'a> Ranks<'a> {
+    /// The ranks of a set. It looks at each word of the set once.
+    ///
+    /// ```
+    /// # use fixedbitset::{FixedBitSet, Ranks};
+    /// let set: FixedBitSet = [3, 64, 70].into_iter().collect();
+    /// assert_eq!(Ranks::of(&set).rank(usize::MAX), 3);
+    /// ```
+    pub fn of(set: &'a FixedBitSet) -> Self {
+        Ranks {
+            set,
+            directory: set.words.ranks(),
+        }
+    }
+
+    /// The set.
+    ///
+    /// ```
+    /// # use fixedbitset::{FixedBitSet, Ranks};
+    /// let set: FixedBitSet = [3, 64, 70].into_iter().collect();
+    /// assert_eq!(Ranks::of(&set).set().len(), 71);
+    /// ```
+    #[inline]
+    pub fn set(&self) -> &'a FixedBitSet {
+        self.set
+    }
+
+    /// How many positions below this one are set. The position may be any number; past the length all are below it. It looks
+    /// at one entry of the directory and at eight words of the set at most.
+    ///
+    /// ```
+    /// # use fixedbitset::{FixedBitSet, Ranks};
+    /// let set: FixedBitSet = [3, 64, 70].into_iter().collect();
+    /// let ranks = Ranks::of(&set);
+    /// assert_eq!([3, 4, 70, 1000].map(|position| ranks.rank(position)), [0, 1, 2, 3]);
+    /// ```
+    #[inline]
+    pub fn rank(&self, position: usize) -> usize {
+        raw::bits_rank(self.directory.ranks(), position)
+    }
+
+    /// The position with so many positions of the set below it: the first has index 0. `None` where the set has no more
+    /// positions than that.
+    ///
+    /// ```
+    /// # use fixedbitset::{FixedBitSet, Ranks};
+    /// let set: FixedBitSet = [3, 64, 70].into_iter().collect();
+    /// let ranks = Ranks::of(&set);
+    /// assert_eq!([0, 1, 2, 3].map(|index| ranks.select(index)), [Some(3), Some(64), Some(70), None]);
+    /// ```
+    #[inline]
+    pub fn select(&self, index: usize) -> Option<usize> {
+        raw::position(raw::bits_select(self.directory.ranks(), index))
+    }
+}
+
+impl Debug for Ranks<'_> {
+    /// The set.
+    fn fmt(&self, f: &mut Formatter<'_>) -> Result {
+        f.debug_struct("Ranks").field("set", self.set).finish()
+    }
+}

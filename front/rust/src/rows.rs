@@ -1,0 +1,167 @@
+//! Tables of bits. The crate of this name has none.
+use crate::{Ones, raw};
+use core::fmt::{Debug, Formatter, Result};
+
+/// A table of bits: so many rows of so many columns.
+///
+/// The rows stand in one row of words. Each keeps the words that a set of so many columns has: whole lanes of four.
+///
+/// ```
+/// use fixedbitset::BitRows;
+///
+/// let mut edges = BitRows::new(3, 3);
+/// edges.set(0, 2, true);
+/// edges.set(2, 1, true);
+/// edges.close();
+/// assert_eq!(format!("{edges:?}"), "[{1, 2}, {}, {1}]");
+/// ```
+#[derive(Clone)]
+pub struct BitRows {
+    table: raw::Table,
+}
+
+impl BitRows {
+    /// The table of so many rows and columns with no bit.
+    ///
+    /// **Panics** where its words would be more than a vector can have.
+    ///
+    /// ```
+    /// # use fixedbitset::BitRows;
+    /// let table = BitRows::new(3, 70);
+    /// assert!(!table.get(2, 69));
+    /// ```
+    pub fn new(rows: usize, columns: usize) -> Self {
+        BitRows {
+            table: raw::Table::new(rows, columns),
+        }
+    }
+
+    /// How many rows there are.
+    ///
+    /// ```
+    /// # use fixedbitset::BitRows;
+    /// assert_eq!(BitRows::new(3, 70).rows(), 3);
+    /// ```
+    #[inline]
+    pub fn rows(&self) -> usize {
+        self.table.rows()
+    }
+
+    /// How many columns there are.
+    ///
+    /// ```
+    /// # use fixedbitset::BitRows;
+    /// assert_eq!(BitRows::new(3, 70).columns(), 70);
+    /// ```
+    #[inline]
+    pub fn columns(&self) -> usize {
+        self.table.columns()
+    }
+
+    /// Whether the row has a bit at the column: `false` past the rows and past the columns.
+    ///
+    /// ```
+    /// # use fixedbitset::BitRows;
+    /// let mut table = BitRows::new(3, 70);
+    /// table.set(1, 69, true);
+    /// assert!(table.get(1, 69) && !table.get(2, 69) && !table.get(3, 70));
+    /// ```
+    #[inline]
+    pub fn get(&self, row: usize, column: usize) -> bool {
+        raw::bits_rows_get(&self.table.lent(), row, column)
+    }
+
+    /// Sets the bit of the row at the column, or clears it where `enabled` is false.
+    ///
+    /// **Panics** where the table has no such row or no such column.
+    ///
+    /// ```
+    /// # use fixedbitset::BitRows;
+    /// let mut table = BitRows::new(3, 70);
+    /// table.set(1, 69, true);
+    /// table.set(1, 3, true);
+    /// table.set(1, 69, false);
+    /// assert_eq!(table.row(1).collect::<Vec<_>>(), [3]);
+    /// ```
+    #[inline]
+    #[track_caller]
+    pub fn set(&mut self, row: usize, column: usize, enabled: bool) {
+        let done = raw::bits_rows_set(&mut self.table.lent_mut(), row, column, enabled);
+        let columns = self.columns();
+        assert!(
+            done,
+            "set at row {row}, column {column} exceeds a table of {} rows and {columns} columns",
+            self.rows()
+        );
+    }
+
+    /// Row `into` takes in the bits of row `from`, and the other rows stay. It answers whether a bit came in. Where the two
+    /// are one row, nothing changes.
+    ///
+    /// **Panics** where the table has not both rows.
+    ///
+    /// ```
+    /// # use fixedbitset::BitRows;
+    /// let mut table = BitRows::new(3, 70);
+    /// table.set(0, 69, true);
+    /// assert!(table.union_rows(0, 2) && !table.union_rows(0, 2));
+    /// assert!(table.get(2, 69) && !table.get(1, 69));
+    /// ```
+    #[inline]
+    #[track_caller]
+    pub fn union_rows(&mut self, from: usize, into: usize) -> bool {
+        let mut changed = false;
+        let done = raw::bits_rows_union(&mut self.table.lent_mut(), from, into, &mut changed);
+        let rows = self.rows();
+        assert!(
+            done,
+            "union of row {from} into row {into} exceeds a table of {rows} rows"
+        );
+        changed
+    }
+
+    /// The columns at which the row has a bit, in ascending order.
+    ///
+    /// **Panics** where the table has no such row.
+    ///
+    /// ```
+    /// # use fixedbitset::BitRows;
+    /// let mut table = BitRows::new(3, 70);
+    /// table.set(1, 69, true);
+    /// table.set(1, 3, true);
+    /// assert_eq!(table.row(1).rev().collect::<Vec<_>>(), [69, 3]);
+    /// ```
+    #[inline]
+    #[track_caller]
+    pub fn row(&self, row: usize) -> Ones<'_> {
+        let (walk, is_there) = self.table.ones(row);
+        let rows = self.rows();
+        assert!(is_there, "row {row} exceeds a table of {rows} rows");
+        Ones { walk }
+    }
+
+    /// The transitive closure of the graph that has an edge from each row to each column at which the row has a bit:
+    /// afterwards row `a` has a bit at column `b` exactly if some path of one or more edges led from `a` to `b`. Nothing
+    /// leads on from a column that is no row.
+    ///
+    /// ```
+    /// # use fixedbitset::BitRows;
+    /// let mut edges = BitRows::new(3, 3);
+    /// edges.set(0, 1, true);
+    /// edges.set(1, 0, true);
+    /// edges.close();
+    /// assert_eq!(edges.row(0).collect::<Vec<_>>(), [0, 1]);
+    /// ```
+    pub fn close(&mut self) {
+        raw::bits_rows_close(&mut self.table.lent_mut());
+    }
+}
+
+impl Debug for BitRows {
+    /// The columns of each row.
+    fn fmt(&self, f: &mut Formatter<'_>) -> Result {
+        f.debug_list()
+            .entries((0..self.rows()).map(|row| self.row(row)))
+            .finish()
+    }
+}
