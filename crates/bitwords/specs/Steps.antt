@@ -1,6 +1,7 @@
 -- The steps of a call. A step is one lane of four words, or one word.
-use Rattle.std.specs.Prelude.{ℕ, ◌+◌, ◌-◌, ◌/◌, min, Bool, nat_lt, if◌then◌else◌}
+use Rattle.std.specs.Prelude.{ℕ, ◌+◌, ◌-◌, ◌/◌, ◌%◌, min, Bool, nat_lt, if◌then◌else◌}
 use Rattle.std.specs.Int.{div_ceil}
+use Rattle.bitlanes.specs.Shifts.{up_steps}
 use Rattle.bitlanes.specs.Words.{lane_steps}
 
 -- how many words hold a position of the range
@@ -22,3 +23,11 @@ join_steps keep n m = lane_steps (min n m) + (if keep then 0 else lane_steps (n 
 -- to go through n and m words: over those that both have, and over the rest of each where it counts
 abbrev pub both_steps : Bool → Bool → ℕ → ℕ → ℕ
 both_steps keep take n m = lane_steps (min n m) + (if keep then lane_steps (n - m) else 0) + (if take then lane_steps (m - n) else 0)
+
+-- to join n words with m others that are moved up: the first word, which may have fewer than 64 of them, and those behind it
+abbrev pub join_up_steps : (n m by : ℕ) → ℕ
+join_up_steps n m by = min (min (by % 64) 1) (min (n - by / 64) m) + lane_steps (min (n - by / 64 - min (by % 64) 1) m)
+
+-- to move n words up: none where `by` is 0, and over those below it where they are cleared
+abbrev pub move_up_steps : Bool → (n by : ℕ) → ℕ
+move_up_steps keep n by = if nat_lt 0 by then up_steps n by + (if keep then 0 else lane_steps (min n (by / 64))) else 0

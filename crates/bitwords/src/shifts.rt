@@ -6,7 +6,7 @@ ghost use Rattle.std.specs.Prelude as prelude;
 ghost use Rattle.bitlanes.specs.Shifts.{up_steps};
 ghost use Rattle.bitlanes.specs.Words.{lane_steps};
 ghost use Rattle.bitwords.specs.Rows.{has_bit, IsJoined};
-ghost use Rattle.bitwords.specs.Steps.{join_steps};
+ghost use Rattle.bitwords.specs.Steps.{join_steps, join_up_steps};
 
 use bitlanes::ops::WordOp;
 use bitlanes::word::BITS;
@@ -37,7 +37,8 @@ pub fn join_down<O: WordOp>(words: &mut [Block], other: &[Block], from: usize, s
 
 /// Joins each position of `words` by `O` with the position of `other` that stands `by` below it, if there is one.
 ///
-/// It takes at most one step, and one for each lane of four words that are joined, the last of which may have fewer.
+/// It takes exactly `m / 4` steps, rounded up, `m` being the number of words that have 64 positions below them, and one more
+/// for the word that has fewer.
 ///
 /// ```
 /// let mut words = [1, 0, 0];
@@ -49,8 +50,8 @@ pub fn join_up<O: WordOp>(words: &mut [Block], other: &[Block], by: usize, steps
     requires keeps { O.KEEP ≡ true }
     ensures bits { IsJoined O.truth words.old
         (λ p. nat_le by p && has_bit other.now (p - by)) words.new }
-    ensures cost { steps.new ≤ steps.old + 1
-        + lane_steps (min (length words.old - by / 64) (length other.now)) }
+    ensures cost { steps.new ≡ steps.old
+        + join_up_steps (length words.old) (length other.now) by }
 {
     let at = by / BITS;
     let shift = by % BITS;

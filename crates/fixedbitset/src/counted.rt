@@ -19,7 +19,8 @@ pub use ranges::{
     remove_range, toggle_range,
 };
 pub use shifts::{
-    copy_range, shift_down, shift_up, slice, union_with_own_shift, union_with_shifted,
+    append, copy_range, resize, shift_down, shift_up, slice, union_with_own_shift,
+    union_with_shifted,
 };
 pub use whole::{
     difference_count, difference_with, first_lacking, intersect_with, intersection_count,

@@ -75,7 +75,6 @@ impl FixedBitSet {
     /// set.append(&other)?;
     /// assert!(rt; set.len() == 69 && set.contains(68));
     /// ```
-    #[tactic(auto, using(crate::proofs::Moves::append_grown))]
     pub fn append(&mut self, other: &Self) -> Result<(), AllocError>
         requires { self.old.length + other.now.length < 2 ^ 64 }
         ensures ok { OnOk result (self.new ≡ parts.append self.old other.now) }
@@ -83,10 +82,7 @@ impl FixedBitSet {
         ensures succeeds { model.words_needed (self.old.length + other.now.length)
             ≤ model.words_needed self.old.length → IsOk result }
     {
-        let length = self.len();
-        self.grow(length + other.len())?;
-        self.union_with_shifted(other, length);
-        Ok(())
+        counted::append(self, other, &mut Steps::new())
     }
 
     /// Makes the length the lesser of itself and `bits`. The positions that are not below it fall away.
@@ -121,23 +117,13 @@ impl FixedBitSet {
     /// set.resize(3, true)?;
     /// assert!(rt; set.ones().eq([1]));
     /// ```
-    #[tactic(auto, using(crate::proofs::Moves::resize_shorter, crate::proofs::Moves::resize_with, crate::proofs::Moves::resize_without, crate::specs::BitsFacts::facts))]
     pub fn resize(&mut self, bits: usize, enabled: bool) -> Result<(), AllocError>
         ensures ok { OnOk result (self.new ≡ parts.resize self.old bits enabled) }
         ensures err { OnErr result (self.new ≡ self.old) }
         ensures succeeds { model.words_needed bits ≤ model.words_needed self.old.length
             → IsOk result }
     {
-        let length = self.len();
-        if bits <= length {
-            self.truncate(bits);
-            return Ok(());
-        }
-        self.grow(bits)?;
-        if enabled {
-            self.insert_range(length..bits);
-        }
-        Ok(())
+        counted::resize(self, bits, enabled, &mut Steps::new())
     }
 
     /// A set of `bits` positions, set as bytes say: position `p` is set where bit `p % 8` of byte `p / 8` is. Bytes that are

@@ -54,3 +54,21 @@ fn copy_range(rt: HostRuntime) {
     counted::copy_range(&mut set, &other, 62.., 1, &mut Steps::new());
     equal(&rt, set.as_slice(), [21, 34].as_slice());
 }
+
+#[test]
+fn append(rt: HostRuntime) {
+    let alloc = rt.alloc();
+    let mut set = set_of(&rt, alloc, &[3]);
+    let other = set_of(&rt, alloc, &[0, 64]);
+    ok(&rt, counted::append(&mut set, &other, &mut Steps::new()));
+    equal(&rt, set.len(), 69);
+    equal(&rt, set.as_slice(), [24, 16].as_slice());
+}
+
+#[test]
+fn resize(rt: HostRuntime) {
+    let alloc = rt.alloc();
+    let mut set = set_of(&rt, alloc, &[1, 3]);
+    ok(&rt, counted::resize(&mut set, 66, true, &mut Steps::new()));
+    equal(&rt, set.as_slice(), [!5, 3].as_slice());
+}

@@ -259,29 +259,52 @@ impl Display for InBinary<'_> {
     }
 }
 
+// The text of a set, and of `Binary`, is `wanted`, whatever width is asked for, and `marked` where `#` is.
+fn assert_text(
+    rt: &impl Abort,
+    alloc: Global,
+    set: &FixedBitSet,
+    wanted: &str,
+    marked: &str,
+) -> Result<(), Fail> {
+    let binary = InBinary { set };
+    assert_eq!(rt; set.to_string(alloc)?.as_str(), wanted);
+    assert_eq!(rt; format!(in alloc; "{set:>20}")?.as_str(), wanted);
+    assert_eq!(rt; format!(in alloc; "{set:020}")?.as_str(), wanted);
+    assert_eq!(rt; format!(in alloc; "{set:#}")?.as_str(), marked);
+    assert_eq!(rt; format!(in alloc; "{binary}")?.as_str(), wanted);
+    assert_eq!(rt; format!(in alloc; "{binary:#}")?.as_str(), marked);
+    Ok(())
+}
+
+const TEXTS: [(usize, &[usize], &str, &str); 4] = [
+    (0, &[], "", "0b"),
+    (4, &[2], "0010", "0b0010"),
+    (8, &[2, 4], "00101000", "0b00101000"),
+    (
+        16,
+        &[1, 5, 7, 10, 14, 15],
+        "0100010100100011",
+        "0b0100010100100011",
+    ),
+];
+
 #[test]
 fn a_text_has_a_character_for_each_position(rt: HostRuntime) -> Result<(), Fail> {
-    let set = set_of(rt.alloc(), 4, &[2])?;
-    assert_eq!(rt; set.to_string(rt.alloc())?.as_str(), "0010");
-    assert_eq!(rt; format!(in rt.alloc(); "{set:>20}")?.as_str(), "0010");
-    assert_eq!(rt; format!(in rt.alloc(); "{set:#}")?.as_str(), "0b0010");
-    assert_eq!(rt; format!(in rt.alloc(); "{set:020}")?.as_str(), "0010");
-    assert_eq!(rt;
-        FixedBitSet::new(rt.alloc()).to_string(rt.alloc())?.as_str(),
-        ""
-    );
-    let two = set_of(rt.alloc(), 8, &[2, 4])?;
-    assert_eq!(rt; two.to_string(rt.alloc())?.as_str(), "00101000");
-    assert_eq!(rt; format!(in rt.alloc(); "{two:#}")?.as_str(), "0b00101000");
-    let binary = InBinary { set: &two };
-    assert_eq!(rt; format!(in rt.alloc(); "{binary}")?.as_str(), "00101000");
-    assert_eq!(rt;
-        format!(in rt.alloc(); "{binary:#}")?.as_str(),
-        "0b00101000"
-    );
+    for (length, positions, wanted, marked) in TEXTS {
+        let set = set_of(rt.alloc(), length, positions)?;
+        assert_text(&rt, rt.alloc(), &set, wanted, marked)?;
+    }
+    let new = FixedBitSet::new(rt.alloc());
+    assert_text(&rt, rt.alloc(), &new, "", "0b")?;
     let items = FixedBitSet::from_iter(rt.alloc(), [1, 5, 7, 10, 14, 15]).expect(&rt, "one word");
-    assert_eq!(rt; items.to_string(rt.alloc())?.as_str(), "0100010100100011");
-    Ok(())
+    assert_text(
+        &rt,
+        rt.alloc(),
+        &items,
+        "0100010100100011",
+        "0b0100010100100011",
+    )
 }
 
 #[test]

@@ -1,16 +1,18 @@
 //! Shifts and parts, with a counter of steps.
 //!
-//! A call takes at most one step for each lane of four words that it writes, and one or two more for the words at the ends.
-//! What is cleared behind the length in the last lane is not counted.
+//! A call takes at most one step for each lane of four words that it writes, and one or two more for the words at the ends:
+//! `bound` says so, and `cost` how many it takes. What `grow` writes is not counted, nor what is cleared behind the length in
+//! the last lane.
 
-ghost use Rattle.std.specs.Prelude.{◌≡◌, ◌≤◌, ◌+◌, ◌-◌, ◌/◌, min, IsTrue, IfOk};
+ghost use Rattle.std.specs.Prelude.{◌≡◌, ◌<◌, ◌≤◌, ◌+◌, ◌-◌, ◌/◌, ◌^◌, min, true, false, if◌then◌else◌, IsTrue, IsOk, IfOk, OnOk, OnErr};
 ghost use Rattle.bitlanes.specs.Words.{lane_steps};
-ghost use Rattle.bitwords.specs.Steps.{search_steps};
+ghost use Rattle.bitwords.specs.Steps.{join_steps, join_up_steps, move_up_steps, range_words, search_steps};
 ghost use Rattle.fixedbitset.specs.Bits as model;
 ghost use Rattle.fixedbitset.specs.Parts as parts;
 ghost use Rattle.fixedbitset.specs.Ranges as ranges;
 ghost use Rattle.fixedbitset.specs.Ranges.{over};
 
+use crate::counted::ranges::insert_range;
 use crate::lent::shifts::{
     copy_range_counted, shift_down_counted, shift_up_counted, slice_counted,
     union_with_own_shift_counted, union_with_shifted_counted,
@@ -30,7 +32,9 @@ use std::alloc::{AllocError, Global};
 #[tactic(auto, using(crate::proofs::Words::given_back, crate::proofs::Words::viewed_length))]
 pub fn shift_up(set: &mut FixedBitSet, by: usize, steps: &mut Steps)
     ensures value { set.new ≡ parts.shift_up set.old by }
-    ensures cost { steps.new ≤ steps.old + lane_steps (model.storage_words set.old.length) + 2 }
+    ensures cost { steps.new ≡ steps.old
+        + move_up_steps false (model.storage_words set.old.length) by }
+    ensures bound { steps.new ≤ steps.old + lane_steps (model.storage_words set.old.length) + 2 }
 {
     shift_up_counted(&mut set.words, set.length, by, steps);
 }
@@ -46,7 +50,9 @@ pub fn shift_up(set: &mut FixedBitSet, by: usize, steps: &mut Steps)
 #[tactic(auto, using(crate::proofs::Words::given_back, crate::proofs::Words::viewed_length))]
 pub fn shift_down(set: &mut FixedBitSet, by: usize, steps: &mut Steps)
     ensures value { set.new ≡ parts.shift_down set.old by }
-    ensures cost { steps.new ≤ steps.old + lane_steps (model.storage_words set.old.length) + 1 }
+    ensures cost { steps.new ≡ steps.old + join_steps false
+        (model.storage_words set.old.length) (model.storage_words set.old.length - by / 64) }
+    ensures bound { steps.new ≤ steps.old + lane_steps (model.storage_words set.old.length) + 1 }
 {
     shift_down_counted(&mut set.words, set.length, by, steps);
 }
@@ -63,7 +69,9 @@ pub fn shift_down(set: &mut FixedBitSet, by: usize, steps: &mut Steps)
 #[tactic(auto, using(crate::proofs::Words::given_back, crate::proofs::Words::viewed_length))]
 pub fn union_with_shifted(set: &mut FixedBitSet, other: &FixedBitSet, by: usize, steps: &mut Steps)
     ensures value { set.new ≡ parts.union_with_shifted set.old other.now by }
-    ensures cost { steps.new ≤ steps.old + 1 + lane_steps (min
+    ensures cost { steps.new ≡ steps.old + join_up_steps (model.storage_words set.old.length)
+        (model.storage_words other.now.length) by }
+    ensures bound { steps.new ≤ steps.old + 1 + lane_steps (min
         (model.storage_words set.old.length - by / 64) (model.storage_words other.now.length)) }
 {
     union_with_shifted_counted(
@@ -87,7 +95,9 @@ pub fn union_with_shifted(set: &mut FixedBitSet, other: &FixedBitSet, by: usize,
 #[tactic(auto, using(crate::proofs::Words::given_back, crate::proofs::Words::viewed_length))]
 pub fn union_with_own_shift(set: &mut FixedBitSet, by: usize, steps: &mut Steps)
     ensures value { set.new ≡ parts.union_with_shifted set.old set.old by }
-    ensures cost { steps.new ≤ steps.old + lane_steps (model.storage_words set.old.length) + 1 }
+    ensures cost { steps.new ≡ steps.old
+        + move_up_steps true (model.storage_words set.old.length) by }
+    ensures bound { steps.new ≤ steps.old + lane_steps (model.storage_words set.old.length) + 1 }
 {
     union_with_own_shift_counted(&mut set.words, set.length, by, steps);
 }
@@ -111,7 +121,11 @@ pub fn slice<R: IndexRange<usize> + Drop>(
     requires { IsTrue (over ranges.is_valid set.now (R.start_of range) (R.end_of range)) }
     ensures value { IfOk result (λ part. part
         ≡ over parts.slice set.now (R.start_of range) (R.end_of range)) }
-    ensures cost { steps.new ≤ steps.old + 1 + lane_steps (model.storage_words
+    ensures cost { OnOk result (steps.new ≡ steps.old + over (λ v start end. join_steps false
+        (model.storage_words (end - start)) (model.storage_words v.length - start / 64))
+        set.now (R.start_of range) (R.end_of range)) }
+    ensures refused { OnErr result (steps.new ≡ steps.old) }
+    ensures bound { steps.new ≤ steps.old + 1 + lane_steps (model.storage_words
         (over (λ _ start end. end - start) set.now (R.start_of range) (R.end_of range))) }
 {
     let start = range.start().unwrap_or(0);
@@ -165,4 +179,68 @@ pub fn copy_range<R: IndexRange<usize> + Drop>(
         at,
         steps,
     );
+}
+
+/// [`FixedBitSet::append`], with the steps that it takes.
+///
+/// ```
+/// let mut set = FixedBitSet::from_iter(alloc, [3])?;
+/// let other = FixedBitSet::from_iter(alloc, [0, 64])?;
+/// counted::append(&mut set, &other, &mut Steps::new())?;
+/// assert_eq!(rt; set.len(), 69);
+/// assert_eq!(rt; set.as_slice(), [24, 16].as_slice());
+/// ```
+#[tactic(auto, using(crate::proofs::Moves::append_grown))]
+pub fn append(
+    set: &mut FixedBitSet,
+    other: &FixedBitSet,
+    steps: &mut Steps,
+) -> Result<(), AllocError>
+    requires { set.old.length + other.now.length < 2 ^ 64 }
+    ensures ok { OnOk result (set.new ≡ parts.append set.old other.now) }
+    ensures err { OnErr result (set.new ≡ set.old) }
+    ensures succeeds { model.words_needed (set.old.length + other.now.length)
+        ≤ model.words_needed set.old.length → IsOk result }
+    ensures cost { OnOk result (steps.new ≡ steps.old + join_up_steps
+        (model.storage_words (set.old.length + other.now.length))
+        (model.storage_words other.now.length) set.old.length) }
+    ensures refused { OnErr result (steps.new ≡ steps.old) }
+{
+    let length = set.len();
+    set.grow(length + other.len())?;
+    union_with_shifted(set, other, length, steps);
+    Ok(())
+}
+
+/// [`FixedBitSet::resize`], with the steps that it takes: one for each word that holds a position that is new and set.
+///
+/// ```
+/// let mut set = FixedBitSet::from_iter(alloc, [1, 3])?;
+/// counted::resize(&mut set, 66, true, &mut Steps::new())?;
+/// assert_eq!(rt; set.as_slice(), [!5, 3].as_slice());
+/// ```
+#[tactic(auto, using(crate::proofs::Moves::resize_shorter, crate::proofs::Moves::resize_with, crate::proofs::Moves::resize_without, crate::specs::BitsFacts::facts))]
+pub fn resize(
+    set: &mut FixedBitSet,
+    bits: usize,
+    enabled: bool,
+    steps: &mut Steps,
+) -> Result<(), AllocError>
+    ensures ok { OnOk result (set.new ≡ parts.resize set.old bits enabled) }
+    ensures err { OnErr result (set.new ≡ set.old) }
+    ensures succeeds { model.words_needed bits ≤ model.words_needed set.old.length → IsOk result }
+    ensures cost { OnOk result (steps.new ≡ steps.old
+        + (if enabled then range_words set.old.length bits else 0)) }
+    ensures refused { OnErr result (steps.new ≡ steps.old) }
+{
+    let length = set.len();
+    if bits <= length {
+        set.truncate(bits);
+        return Ok(());
+    }
+    set.grow(bits)?;
+    if enabled {
+        insert_range(set, length..bits, steps);
+    }
+    Ok(())
 }

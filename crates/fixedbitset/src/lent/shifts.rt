@@ -5,7 +5,7 @@ ghost use Rattle.std.specs.Prelude as prelude;
 ghost use Rattle.bitlanes.specs.Shifts.{up_steps};
 ghost use Rattle.bitlanes.specs.Words.{lane_steps};
 ghost use Rattle.bitwords.specs.Rows.{has_bit};
-ghost use Rattle.bitwords.specs.Steps.{search_steps};
+ghost use Rattle.bitwords.specs.Steps.{join_steps, join_up_steps, move_up_steps, search_steps};
 ghost use Rattle.fixedbitset.specs.Bits as model;
 ghost use Rattle.fixedbitset.specs.Bits.{of_words, having};
 ghost use Rattle.fixedbitset.specs.Parts as parts;
@@ -41,7 +41,9 @@ pub(crate) fn shift_up_counted(words: &mut [Block], length: usize, by: usize, st
     requires { IsClean length words.old }
     ensures value { of_words length words.new ≡ parts.shift_up (of_words length words.old) by }
     ensures clean { IsClean length words.new }
-    ensures cost { steps.new ≤ steps.old + lane_steps (model.storage_words length) + 2 }
+    ensures cost { steps.new ≡ steps.old
+        + move_up_steps prelude.false (model.storage_words length) by }
+    ensures bound { steps.new ≤ steps.old + lane_steps (model.storage_words length) + 2 }
 {
     if by > 0 {
         join_own::<Second>(words, length, by, steps);
@@ -71,7 +73,9 @@ pub(crate) fn shift_down_counted(words: &mut [Block], length: usize, by: usize, 
     requires { IsClean length words.old }
     ensures value { of_words length words.new ≡ parts.shift_down (of_words length words.old) by }
     ensures clean { IsClean length words.new }
-    ensures cost { steps.new ≤ steps.old + lane_steps (model.storage_words length) + 1 }
+    ensures cost { steps.new ≡ steps.old + join_steps prelude.false (model.storage_words length)
+        (model.storage_words length - by / 64) }
+    ensures bound { steps.new ≤ steps.old + lane_steps (model.storage_words length) + 1 }
 {
     shifts::down(words, by, steps);
 }
@@ -117,7 +121,9 @@ pub(crate) fn union_with_shifted_counted(
     ensures value { of_words length words.new ≡ parts.union_with_shifted
         (of_words length words.old) (of_words other_length other.now) by }
     ensures clean { IsClean length words.new }
-    ensures cost { steps.new ≤ steps.old + 1 + lane_steps
+    ensures cost { steps.new ≡ steps.old
+        + join_up_steps (model.storage_words length) (model.storage_words other_length) by }
+    ensures bound { steps.new ≤ steps.old + 1 + lane_steps
         (min (model.storage_words length - by / 64) (model.storage_words other_length)) }
 {
     shifts::join_up::<Or>(words, other, by, steps);
@@ -158,7 +164,9 @@ pub(crate) fn union_with_own_shift_counted(
     ensures value { of_words length words.new ≡ parts.union_with_shifted
         (of_words length words.old) (of_words length words.old) by }
     ensures clean { IsClean length words.new }
-    ensures cost { steps.new ≤ steps.old + lane_steps (model.storage_words length) + 1 }
+    ensures cost { steps.new ≡ steps.old
+        + move_up_steps prelude.true (model.storage_words length) by }
+    ensures bound { steps.new ≤ steps.old + lane_steps (model.storage_words length) + 1 }
 {
     if by > 0 {
         join_own::<Or>(words, length, by, steps);
@@ -205,7 +213,9 @@ pub(crate) fn slice_counted(
     ensures value { of_words (end - start) to.new
         ≡ parts.slice (of_words length words.now) start end }
     ensures clean { IsClean (end - start) to.new }
-    ensures cost { steps.new ≤ steps.old + lane_steps (model.storage_words (end - start)) + 1 }
+    ensures cost { steps.new ≡ steps.old + join_steps prelude.false
+        (model.storage_words (end - start)) (model.storage_words length - start / 64) }
+    ensures bound { steps.new ≤ steps.old + lane_steps (model.storage_words (end - start)) + 1 }
 {
     shifts::join_down::<Second>(to, words, start, steps);
     positions::clear_from(to, end - start);
@@ -279,7 +289,7 @@ fn join_own<O: WordOp>(words: &mut [Block], length: usize, by: usize, steps: &mu
     ensures value { of_words length words.new ≡ having length
         (λ p. O.truth (has_bit words.old p) (nat_le by p && has_bit words.old (p - by))) }
     ensures clean { IsClean length words.new }
-    ensures cost { steps.new ≤ steps.old + up_steps (model.storage_words length) by
+    ensures cost { steps.new ≡ steps.old + up_steps (model.storage_words length) by
         + (if O.KEEP then 0 else lane_steps (min (model.storage_words length) (by / 64))) }
 {
     shifts::up::<O>(words, by, steps);
