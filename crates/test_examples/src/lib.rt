@@ -4,7 +4,8 @@
 
 #[cfg(test)]
 mod bits;
-pub mod calls;
+#[cfg(test)]
+mod calls;
 #[cfg(test)]
 mod counted_alone;
 #[cfg(test)]

@@ -1,9 +1,9 @@
 //! The examples in the docs of `bitlines::laws`. docs/make_examples writes this file.
 
+use crate::calls::{cleared, equal, gives, holds, ok, set_of};
 use bitcommands::commands;
 use bitcommands::commands::{Change, Command, Refusal, Reply};
 use bitlines::{lines, program};
-use test_examples::calls::{cleared, equal, gives, holds, ok, set_of};
 
 #[test]
 fn one_output(rt: HostRuntime) {

@@ -1,8 +1,8 @@
 //! The examples in the docs of `bitrows::counted`. docs/make_examples writes this file.
 
+use crate::calls::{gives, ok};
 use bitrows::{BitRows, counted};
 use fixedbitset::Steps;
-use test_examples::calls::{gives, ok};
 
 #[test]
 #[tactic(auto, using(bitrows::specs::TableFacts::facts))]

@@ -1,9 +1,9 @@
 //! The examples in the docs of `bitwords::shifts`. docs/make_examples writes this file.
 
+use crate::calls::equal;
 use bitlanes::ops::{Or, Second};
 use bitwords::shifts;
 use fixedbitset::Steps;
-use test_examples::calls::equal;
 
 #[test]
 fn join_down(rt: HostRuntime) {

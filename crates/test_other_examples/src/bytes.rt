@@ -1,8 +1,8 @@
 //! The examples in the docs of `bitjson::bytes`. docs/make_examples writes this file.
 
+use crate::calls::{equal, ok};
 use bitjson::bytes;
 use serde_json::Value;
-use test_examples::calls::{equal, ok};
 
 #[test]
 fn words_of_items(rt: HostRuntime) {

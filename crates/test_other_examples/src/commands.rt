@@ -1,9 +1,9 @@
 //! The examples in the docs of `bitcommands::commands`. docs/make_examples writes this file.
 
+use crate::calls::{cleared, holds, ok};
 use bitcommands::commands;
 use bitcommands::commands::{Change, Command, Look, Refusal, Reply};
 use fixedbitset::FixedBitSet;
-use test_examples::calls::{cleared, holds, ok};
 
 #[test]
 #[tactic(auto, using(fixedbitset::specs::BitsFacts::facts))]

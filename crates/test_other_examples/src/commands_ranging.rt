@@ -1,7 +1,7 @@
 //! The examples in the docs of `bitcommands::commands::ranging`. docs/make_examples writes this file.
 
+use crate::calls::{cleared, equal};
 use bitcommands::commands::Span;
-use test_examples::calls::{cleared, equal};
 
 #[test]
 #[tactic(auto, using(fixedbitset::specs::BitsFacts::facts))]

@@ -1,9 +1,9 @@
 //! The examples in the docs of `bitcommands::commands::refusals`. docs/make_examples writes this file.
 
+use crate::calls::{equal, holds, ok};
 use bitcommands::commands::Refusal;
 use fixedbitset::{ExtendFault, JsonFault};
 use std::alloc::AllocError;
-use test_examples::calls::{equal, holds, ok};
 
 #[test]
 fn refusal(rt: HostRuntime) {

@@ -1,7 +1,7 @@
 //! The examples in the docs of `bitcommands::commands::replies`. docs/make_examples writes this file.
 
+use crate::calls::{equal, ok};
 use bitcommands::commands::Reply;
-use test_examples::calls::{equal, ok};
 
 #[test]
 fn reply(rt: HostRuntime) {

@@ -1,8 +1,8 @@
 //! The examples in the docs of `bitranks::counted`. docs/make_examples writes this file.
 
+use crate::calls::{equal, ok, set_of};
 use bitranks::Ranks;
 use fixedbitset::Steps;
-use test_examples::calls::{equal, ok, set_of};
 
 #[test]
 fn of(rt: HostRuntime) {

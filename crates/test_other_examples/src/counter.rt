@@ -1,8 +1,8 @@
 //! The examples in the docs of `bitlanes::counter`. docs/make_examples writes this file.
 
+use crate::calls::equal;
 use bitlanes::lanes;
 use fixedbitset::Steps;
-use test_examples::calls::equal;
 
 #[test]
 fn new(rt: HostRuntime) {

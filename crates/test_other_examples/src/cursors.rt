@@ -1,9 +1,9 @@
 //! The examples in the docs of `bitwords::cursors`. docs/make_examples writes this file.
 
+use crate::calls::{equal, gives, ok};
 use bitwords::cursors;
 use bitwords::cursors::{Cursor, Inverted, Middle, Plain};
 use fixedbitset::Block;
-use test_examples::calls::{equal, gives, ok};
 
 #[test]
 fn middle(rt: HostRuntime) {

@@ -1,8 +1,8 @@
 //! The examples in the docs of `bitranks::directory`. docs/make_examples writes this file.
 
+use crate::calls::equal;
 use bitranks::directory;
 use fixedbitset::Steps;
-use test_examples::calls::equal;
 
 #[test]
 fn entries(rt: HostRuntime) {

@@ -1,8 +1,8 @@
 //! The examples in the docs of `bitjson::fault`. docs/make_examples writes this file.
 
+use crate::calls::equal;
 use fixedbitset::JsonFault;
 use std::alloc::AllocError;
-use test_examples::calls::equal;
 
 #[test]
 fn json_fault(rt: HostRuntime) {

@@ -1,8 +1,8 @@
 //! The examples in the docs of `bitjson::form`. docs/make_examples writes this file.
 
+use crate::calls::{equal, ok};
 use bitjson::form;
 use serde_json::Value;
-use test_examples::calls::{equal, ok};
 
 #[test]
 fn read_form(rt: HostRuntime) {

@@ -1,9 +1,9 @@
 //! The examples in the docs of `bitwords::joins`. docs/make_examples writes this file.
 
+use crate::calls::{equal, holds, ok};
 use bitlanes::ops::{And, AndNot, Xor};
 use bitwords::joins;
 use fixedbitset::Steps;
-use test_examples::calls::{equal, holds, ok};
 
 #[test]
 fn join(rt: HostRuntime) {

@@ -1,9 +1,9 @@
 //! The examples in the docs of `bitlanes::lanes`. docs/make_examples writes this file.
 
+use crate::calls::{equal, holds};
 use bitlanes::lanes;
 use bitlanes::ops::{And, AndNot, Or};
 use fixedbitset::Steps;
-use test_examples::calls::{equal, holds};
 
 #[test]
 fn apply(rt: HostRuntime) {

@@ -1,9 +1,9 @@
 //! The examples in the docs of `bitlaws::laws`. docs/make_examples writes this file.
 
+use crate::calls::{cleared, equal, gives, holds, ok, set_of};
 use bitlanes::word;
 use bitlaws::laws;
 use fixedbitset::{FixedBitSet, Steps, counted};
-use test_examples::calls::{cleared, equal, gives, holds, ok, set_of};
 
 #[test]
 fn one_ascending_list(rt: HostRuntime) {

@@ -1,8 +1,8 @@
 //! The examples in the docs of `bitrows::lent`. docs/make_examples writes this file.
 
+use crate::calls::{equal, holds};
 use bitrows::lent;
 use fixedbitset::Steps;
-use test_examples::calls::{equal, holds};
 
 #[test]
 fn width(rt: HostRuntime) {

@@ -13,6 +13,8 @@ mod bitwords_shifts;
 #[cfg(test)]
 mod bytes;
 #[cfg(test)]
+mod calls;
+#[cfg(test)]
 mod changes;
 #[cfg(test)]
 mod commands;

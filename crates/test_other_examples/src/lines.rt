@@ -1,9 +1,9 @@
 //! The examples in the docs of `bitlines::lines`. docs/make_examples writes this file.
 
+use crate::calls::{holds, ok};
 use bitcommands::commands::{Change, Command};
 use bitlines::lines;
 use bitlines::lines::LineFault;
-use test_examples::calls::{holds, ok};
 
 #[test]
 fn parse_line(rt: HostRuntime) {

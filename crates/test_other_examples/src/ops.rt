@@ -1,8 +1,8 @@
 //! The examples in the docs of `bitlanes::ops`. docs/make_examples writes this file.
 
+use crate::calls::{equal, holds};
 use bitlanes::ops::{And, AndNot, Or, Second, WordOp, Xor};
 use std::simd::u64x4;
-use test_examples::calls::{equal, holds};
 
 #[test]
 fn word_op(rt: HostRuntime) {

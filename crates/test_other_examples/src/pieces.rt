@@ -1,7 +1,7 @@
 //! The examples in the docs of `bitlaws::pieces`. docs/make_examples writes this file.
 
+use crate::calls::{cleared, equal, gives, holds, ok, set_of};
 use bitlaws::pieces;
-use test_examples::calls::{cleared, equal, gives, holds, ok, set_of};
 
 #[test]
 fn pieces_are_the_set(rt: HostRuntime) {

@@ -1,9 +1,9 @@
 //! The examples in the docs of `bitwords::positions`. docs/make_examples writes this file.
 
+use crate::calls::{equal, holds};
 use bitlanes::ops::{And, AndNot};
 use bitwords::positions;
 use fixedbitset::{Block, Steps};
-use test_examples::calls::{equal, holds};
 
 #[test]
 fn contains(rt: HostRuntime) {

@@ -1,8 +1,8 @@
 //! The examples in the docs of `bitlines::program`. docs/make_examples writes this file.
 
+use crate::calls::{equal, ok};
 use bitlines::program;
 use bitlines::program::RunFault;
-use test_examples::calls::{equal, ok};
 
 #[test]
 fn run_text(rt: HostRuntime) {

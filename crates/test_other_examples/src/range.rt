@@ -1,7 +1,7 @@
 //! The examples in the docs of `bitlanes::range`. docs/make_examples writes this file.
 
+use crate::calls::equal;
 use fixedbitset::IndexRange;
-use test_examples::calls::equal;
 
 #[test]
 fn index_range(rt: HostRuntime) {

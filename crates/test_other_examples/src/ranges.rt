@@ -1,9 +1,9 @@
 //! The examples in the docs of `bitwords::ranges`. docs/make_examples writes this file.
 
+use crate::calls::{equal, holds};
 use bitlanes::ops::{And, Xor};
 use bitwords::ranges;
 use fixedbitset::{Block, Steps};
-use test_examples::calls::{equal, holds};
 
 #[test]
 fn change(rt: HostRuntime) {

@@ -1,7 +1,7 @@
 //! The examples in the docs of `bitranks::ranks`. docs/make_examples writes this file.
 
+use crate::calls::{equal, ok, set_of};
 use bitranks::Ranks;
-use test_examples::calls::{equal, ok, set_of};
 
 #[test]
 fn of(rt: HostRuntime) {

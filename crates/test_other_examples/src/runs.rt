@@ -1,7 +1,7 @@
 //! The examples in the docs of `bitwalks::runs`. docs/make_examples writes this file.
 
+use crate::calls::{equal, gives, set_of};
 use bitwalks::Runs;
-use test_examples::calls::{equal, gives, set_of};
 
 #[test]
 fn runs(rt: HostRuntime) {

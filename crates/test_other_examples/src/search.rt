@@ -1,9 +1,9 @@
 //! The examples in the docs of `bitlanes::search`. docs/make_examples writes this file.
 
+use crate::calls::equal;
 use bitlanes::ops::{And, AndNot};
 use bitlanes::search;
 use fixedbitset::{Block, Steps};
-use test_examples::calls::equal;
 
 #[test]
 fn first_one(rt: HostRuntime) {

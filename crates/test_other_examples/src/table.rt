@@ -1,7 +1,7 @@
 //! The examples in the docs of `bitrows::table`. docs/make_examples writes this file.
 
+use crate::calls::{equal, gives, holds, ok};
 use bitrows::BitRows;
-use test_examples::calls::{equal, gives, holds, ok};
 
 #[test]
 #[tactic(auto, using(bitrows::specs::TableFacts::facts))]

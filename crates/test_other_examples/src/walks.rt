@@ -1,8 +1,8 @@
 //! The examples in the docs of `bitwalks::walks`. docs/make_examples writes this file.
 
+use crate::calls::{equal, gives, ok, set_of};
 use bitwalks::{IntoOnes, Ones, Zeroes};
 use fixedbitset::Block;
-use test_examples::calls::{equal, gives, ok, set_of};
 
 #[test]
 fn ones(rt: HostRuntime) {

@@ -1,8 +1,8 @@
 //! The examples in the docs of `bitlanes::word`. docs/make_examples writes this file.
 
+use crate::calls::equal;
 use bitlanes::word;
 use fixedbitset::Block;
-use test_examples::calls::equal;
 
 #[test]
 fn lowest_bit(rt: HostRuntime) {
