@@ -1,6 +1,6 @@
 //! The examples in the docs of `fixedbitset::counted::shifts`. docs/make_examples writes this file.
 
-use crate::calls::{equal, holds, ok, set_of};
+use crate::calls::{equal, known, ok, set_of};
 use fixedbitset::{Steps, counted};
 
 #[test]
@@ -40,7 +40,7 @@ fn union_with_own_shift(rt: HostRuntime) {
 fn slice(rt: HostRuntime) {
     let alloc = rt.alloc();
     let set = set_of(&rt, alloc, &[1, 63, 65, 69]);
-    equal(&rt, set.len(), 70);
+    known(&rt, set.len() == 70);
     let part = ok(&rt, counted::slice(&set, alloc, 63..68, &mut Steps::new()));
     equal(&rt, part.as_slice(), [5].as_slice());
 }
@@ -50,7 +50,7 @@ fn copy_range(rt: HostRuntime) {
     let alloc = rt.alloc();
     let mut set = set_of(&rt, alloc, &[0, 2, 65, 69]);
     let other = set_of(&rt, alloc, &[1, 63, 65]);
-    holds(&rt, set.len() == 70 && other.len() == 66);
+    known(&rt, set.len() == 70 && other.len() == 66);
     counted::copy_range(&mut set, &other, 62.., 1, &mut Steps::new());
     equal(&rt, set.as_slice(), [21, 34].as_slice());
 }
@@ -61,7 +61,7 @@ fn append(rt: HostRuntime) {
     let mut set = set_of(&rt, alloc, &[3]);
     let other = set_of(&rt, alloc, &[0, 64]);
     ok(&rt, counted::append(&mut set, &other, &mut Steps::new()));
-    equal(&rt, set.len(), 69);
+    known(&rt, set.len() == 69);
     equal(&rt, set.as_slice(), [24, 16].as_slice());
 }
 

@@ -1,6 +1,6 @@
 //! The examples in the docs of `fixedbitset::shifts`. docs/make_examples writes this file.
 
-use crate::calls::{cleared, equal, gives, holds, set_of};
+use crate::calls::{cleared, equal, gives, known, set_of};
 
 #[test]
 fn shift_up(rt: HostRuntime) {
@@ -9,7 +9,7 @@ fn shift_up(rt: HostRuntime) {
     set.shift_up(64);
     equal(&rt, set.as_slice(), [0, 9].as_slice());
     set.shift_up(usize::MAX);
-    holds(&rt, set.is_clear() && set.len() == 70);
+    known(&rt, set.is_clear() && set.len() == 70);
 }
 
 #[test]
@@ -18,7 +18,7 @@ fn shift_down(rt: HostRuntime) {
     let mut set = set_of(&rt, alloc, &[0, 3, 69]);
     set.shift_down(3);
     equal(&rt, set.as_slice(), [1, 4].as_slice());
-    equal(&rt, set.len(), 70);
+    known(&rt, set.len() == 70);
 }
 
 #[test]
