@@ -1,6 +1,6 @@
 //! Shifts and parts at every length up to 200, beside slow values.
 
-ghost use Rattle.std.specs.Prelude.{◌≤◌, ◌+◌, ◌-◌, length};
+ghost use Rattle.std.specs.Prelude.{◌≡◌, ◌≤◌, ◌+◌, ◌-◌, length};
 
 use crate::questions::fillings;
 use fixedbitset::FixedBitSet;
@@ -108,29 +108,28 @@ fn joined_with_a_moved_set(rt: HostRuntime) -> Result<(), Fail> {
     Ok(())
 }
 
+// The set has these flags. The words and the number tell in which case it was looked at.
+fn assert_same(rt: &impl Abort, set: &FixedBitSet, flags: &[bool], case: &str, number: usize)
+    ensures { set.now.length ≡ length flags.now }
+{
+    assert!(rt;
+        is_same(set, flags),
+        "{case} {number}, {} flags",
+        flags.len()
+    );
+}
+
 fn assert_cut(rt: &impl Abort, alloc: Global, flags: &[bool]) -> Result<(), AllocError> {
     let set = filled(alloc, flags)?;
     for cut in [0, 1, 63, 64, 65, 127, 128, 129] {
         if cut <= flags.len() && cut <= set.len() {
             let mut first = set.slice(alloc, ..cut)?;
             let second = set.slice(alloc, cut..)?;
-            assert!(rt;
-                is_same(&first, &flags[..cut]),
-                "to {cut} of {}",
-                flags.len()
-            );
-            assert!(rt;
-                is_same(&second, &flags[cut..]),
-                "from {cut} of {}",
-                flags.len()
-            );
+            assert_same(rt, &first, &flags[..cut], "to", cut);
+            assert_same(rt, &second, &flags[cut..], "from", cut);
             if first.len() <= 200 && second.len() <= 200 {
                 first.append(&second)?;
-                assert!(rt;
-                    is_same(&first, flags),
-                    "put together at {cut} of {}",
-                    flags.len()
-                );
+                assert_same(rt, &first, flags, "put together at", cut);
             }
         }
     }
@@ -261,13 +260,13 @@ fn assert_copied_back(rt: &impl Abort, alloc: Global, flags: &[bool]) -> Result<
             assert!(rt; first.len() == cut && second.len() == set.len() - cut);
             let mut new = filled(alloc, flags)?;
             new.copy_range(&first, .., 0);
-            assert!(rt; is_same(&new, flags), "to {cut} of {}", flags.len());
+            assert_same(rt, &new, flags, "copied up to", cut);
             new.clear();
             assert!(rt; new.len() == set.len());
             new.copy_range(&second, .., cut);
             assert!(rt; new.len() == set.len());
             new.copy_range(&first, .., 0);
-            assert!(rt; is_same(&new, flags), "at {cut} of {}", flags.len());
+            assert_same(rt, &new, flags, "copied at", cut);
         }
     }
     Ok(())
@@ -296,12 +295,9 @@ fn assert_resized(rt: &impl Abort, alloc: Global, flags: &[bool]) -> Result<(), 
             }
             let mut set = filled(alloc, flags)?;
             set.resize(bits, enabled)?;
-            assert!(rt; is_same(&set, &wanted), "{bits} of {}", flags.len());
+            assert_same(rt, &set, &wanted, "resized from", flags.len());
             set.truncate(64);
-            assert!(rt;
-                is_same(&set, &wanted[..wanted.len().min(64)]),
-                "64 of {bits}"
-            );
+            assert_same(rt, &set, &wanted[..wanted.len().min(64)], "cut from", bits);
         }
     }
     Ok(())
@@ -324,10 +320,10 @@ fn bytes_read_back_at_every_length(rt: HostRuntime) -> Result<(), Fail> {
         for flags in fillings(rt.alloc(), length)? {
             let bytes = filled(rt.alloc(), &flags)?.to_bytes(rt.alloc())?;
             let set = FixedBitSet::from_bytes(rt.alloc(), length, &bytes)?;
-            assert!(rt; is_same(&set, &flags), "{length}");
+            assert_same(&rt, &set, &flags, "bytes of", length);
             let needed = bytes.len().min(length.div_ceil(8));
             let set = FixedBitSet::from_bytes(rt.alloc(), length, &bytes[..needed])?;
-            assert!(rt; is_same(&set, &flags), "{length} of {needed} bytes");
+            assert_same(&rt, &set, &flags, "bytes as needed,", needed);
         }
     }
     Ok(())
