@@ -1,6 +1,9 @@
 /* Reading and making stored sets. */
 #include "fixedbitset.h"
 
+#include "utils/rangetypes.h"
+#include "utils/typcache.h"
+
 PG_MODULE_MAGIC;
 
 /* Whether a set of this length is stored by the blocks that it needs. */
@@ -99,14 +102,19 @@ Datum stored_set(bits *set) {
     return PointerGetDatum(stored);
 }
 
+/* The number, which has a name. */
+size_t not_negative(int64 number, const char *name) {
+    if (number < 0)
+        ereport(ERROR, (errcode(ERRCODE_NUMERIC_VALUE_OUT_OF_RANGE), errmsg("%s must not be negative", name)));
+    return number;
+}
+
 /* The length, which a set may have. */
 size_t checked_length(int64 length) {
-    if (length < 0)
-        ereport(ERROR, (errcode(ERRCODE_NUMERIC_VALUE_OUT_OF_RANGE), errmsg("length of a bitset must not be negative")));
     if (length > (int64)MAX_LENGTH)
         ereport(ERROR, (errcode(ERRCODE_PROGRAM_LIMIT_EXCEEDED),
                         errmsg("length %lld of a bitset is past the greatest, %u", (long long)length, MAX_LENGTH)));
-    return length;
+    return not_negative(length, "length of a bitset");
 }
 
 /* Refuses a position. A negative one is past any length, as the library counts. */
@@ -121,11 +129,20 @@ void insert_checked(bits *set, int64 position) {
         wrong_position(set, position);
 }
 
-/* The first run of positions at or past `end`: where it starts and ends, or false where there is none. */
-bool next_run(const bits *set, size_t *start, size_t *end) {
-    *start = bits_next_one(set, *end);
-    if (*start == BITS_NONE)
-        return false;
-    *end = Min(bits_next_zero(set, *start), set->length);
-    return true;
+/* A range, which has to be valid. An unbounded one ends where the set does. A bounded int8range comes as [start,end). */
+Span read_span(FunctionCallInfo fcinfo, int argument, const bits *set) {
+    RangeType *range = PG_GETARG_RANGE_P(argument);
+    RangeBound lower, upper;
+    bool empty;
+    Span span = {0, 0};
+    range_deserialize(lookup_type_cache(RangeTypeGetOid(range), TYPECACHE_RANGE_INFO), range, &lower, &upper, &empty);
+    if (empty)
+        return span;
+    span.start = lower.infinite ? 0 : (size_t)DatumGetInt64(lower.val);
+    span.end = upper.infinite ? set->length : (size_t)DatumGetInt64(upper.val);
+    if (!bits_range_is_valid(set, span.start, span.end))
+        ereport(ERROR, (errcode(ERRCODE_ARRAY_SUBSCRIPT_ERROR),
+                        errmsg("range [%lld,%lld) is not within the length %zu", (long long)span.start,
+                               (long long)span.end, set->length)));
+    return span;
 }
