@@ -48,6 +48,9 @@ typedef struct Reading {
     uint64_t room[SHORT_LANES];
 } Reading;
 
+/* What the module's files call of each other is not for other modules, so it is called directly. */
+#pragma GCC visibility push(hidden)
+
 extern const bits *read_set(Reading *reading, Datum datum);
 extern void done_reading(Reading *reading);
 
@@ -84,5 +87,7 @@ extern size_t checked_length(int64 length);
 extern void wrong_position(const bits *set, int64 position) pg_attribute_noreturn();
 extern void insert_checked(bits *set, int64 position);
 extern Span read_span(FunctionCallInfo fcinfo, int argument, const bits *set);
+
+#pragma GCC visibility pop
 
 #endif

@@ -6,14 +6,10 @@
 
 PG_MODULE_MAGIC;
 
-/* Whether a set of this length is stored by the blocks that it needs. */
-static bool is_short(size_t length) {
-    return bits_blocks(length) <= SHORT_WORDS;
-}
-
-/* How many words a stored set of this length has. */
-static size_t stored_words(size_t length) {
-    return is_short(length) ? bits_blocks(length) : bits_words(length);
+/* How many words a stored set of this length has: the blocks that it needs where these are few, and else all of `count`. */
+static size_t stored_words(size_t length, size_t count) {
+    size_t blocks = bits_blocks(length);
+    return blocks <= SHORT_WORDS ? blocks : count;
 }
 
 /* The first position of the set's words that is set and past its length, or BITS_NONE. */
@@ -27,19 +23,21 @@ size_t past_length(const bits *set) {
 const bits *read_set(Reading *reading, Datum datum) {
     struct varlena *given = (struct varlena *)DatumGetPointer(datum);
     struct varlena *flat = pg_detoast_datum_packed(given);
-    size_t size = VARSIZE_ANY_EXHDR(flat);
+    size_t size = VARSIZE_ANY_EXHDR(flat), count, stored;
     char *data = VARDATA_ANY(flat);
     uint32 length = 0;
     if (size >= sizeof(length))
         memcpy(&length, data, sizeof(length));
-    if (size != sizeof(length) + stored_words(length) * WORD_SIZE)
+    count = bits_words(length);
+    stored = stored_words(length, count);
+    if (size != sizeof(length) + stored * WORD_SIZE)
         ereport(ERROR, (errcode(ERRCODE_DATA_CORRUPTED), errmsg("bitset of length %u has %zu bytes", length, size)));
 
     reading->copy = flat == given ? NULL : flat;
-    reading->set = BITS_OF((uint64_t *)(data + sizeof(length)), length);
-    if (is_short(length)) {
-        memset(reading->room, 0, reading->set.count * WORD_SIZE);
-        memcpy(reading->room, data + sizeof(length), size - sizeof(length));
+    reading->set = (bits){(uint64_t *)(data + sizeof(length)), count, length};
+    if (stored <= SHORT_WORDS) {
+        memcpy(reading->room, data + sizeof(length), stored * WORD_SIZE);
+        memset(reading->room + stored, 0, (count - stored) * WORD_SIZE);
         reading->set.words = reading->room;
     }
     Assert(PointerIsAligned(reading->set.words, uint64_t));
@@ -97,7 +95,7 @@ void free_set(bits *set) {
 /* A made set as a value of the type. */
 Datum stored_set(bits *set) {
     Stored *stored = header_of(set);
-    SET_VARSIZE(stored, offsetof(Stored, words) + stored_words(set->length) * WORD_SIZE);
+    SET_VARSIZE(stored, offsetof(Stored, words) + stored_words(set->length, set->count) * WORD_SIZE);
     stored->length = set->length;
     return PointerGetDatum(stored);
 }
