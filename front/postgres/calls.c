@@ -3,7 +3,6 @@
 
 #include "access/detoast.h"
 #include "common/hashfn.h"
-#include "utils/rangetypes.h"
 
 /* Only the length is fetched, where the set is stored out of line and not compressed. */
 FUNCTION(bitset_length) {
@@ -37,13 +36,6 @@ BY(bitset_insert, change, bits_insert)
 BY(bitset_remove, change, bits_remove)
 BY(bitset_toggle, change, bits_toggle)
 
-FUNCTION(bitset_grow) {
-    READ(set, 0);
-    size_t length = checked_length(PG_GETARG_INT64(1));
-    bits grown = copy_set(set, Max(length, set->length));
-    PG_RETURN_DATUM(stored_set(&grown));
-}
-
 /* A position, or null where there is none. */
 static Datum position_or_null(FunctionCallInfo fcinfo, size_t position) {
     if (position == BITS_NONE)
@@ -71,33 +63,32 @@ BY(bitset_next_zero, neighbour, bits_next_zero)
 BY(bitset_previous_one, neighbour, bits_previous_one)
 BY(bitset_previous_zero, neighbour, bits_previous_zero)
 
-typedef struct Span {
-    size_t start;
-    size_t end;
-} Span;
+FUNCTION(bitset_first_gap) {
+    READ(set, 0);
+    size_t count = not_negative(PG_GETARG_INT64(1), "count of positions");
+    return position_or_null(fcinfo, bits_first_gap(set, count, Max(PG_GETARG_INT64(2), 0)));
+}
 
-/* A range, which has to be valid. An unbounded one ends where the set does. A bounded int8range comes as [start,end). */
-static Span read_span(FunctionCallInfo fcinfo, const bits *set) {
-    RangeType *range = PG_GETARG_RANGE_P(1);
-    RangeBound lower, upper;
-    bool empty;
-    Span span = {0, 0};
-    range_deserialize(range_get_typcache(fcinfo, RangeTypeGetOid(range)), range, &lower, &upper, &empty);
-    if (empty)
-        return span;
-    span.start = lower.infinite ? 0 : (size_t)DatumGetInt64(lower.val);
-    span.end = upper.infinite ? set->length : (size_t)DatumGetInt64(upper.val);
-    if (!bits_range_is_valid(set, span.start, span.end))
-        ereport(ERROR, (errcode(ERRCODE_ARRAY_SUBSCRIPT_ERROR),
-                        errmsg("range [%lld,%lld) is not within the length %zu", (long long)span.start,
-                               (long long)span.end, set->length)));
-    return span;
+/* How many positions below a number are set. Past the length all are below it. */
+FUNCTION(bitset_rank) {
+    READ(set, 0);
+    PG_RETURN_INT64(bits_count_ones(set, 0, Min((size_t)Max(PG_GETARG_INT64(1), 0), set->length)));
+}
+
+/* The position that has so many below it. The directory is made for this one question: a pass over the words, as a count
+ * is. */
+FUNCTION(bitset_select_one) {
+    READ(set, 0);
+    size_t entries = bits_ranks_entries(set->length);
+    bits_ranks ranks = BITS_RANKS;
+    bits_ranks_fill(&ranks, set, palloc(entries * sizeof(size_t)), entries);
+    return position_or_null(fcinfo, bits_select(&ranks, PG_GETARG_INT64(1)));
 }
 
 /* The set with a range changed. */
 static Datum change_range(FunctionCallInfo fcinfo, bool (*call)(bits *, size_t, size_t)) {
     READ(set, 0);
-    Span span = read_span(fcinfo, set);
+    Span span = read_span(fcinfo, 1, set);
     bits changed = copy_set(set, set->length);
     call(&changed, span.start, span.end);
     return stored_set(&changed);
@@ -111,7 +102,7 @@ BY(bitset_toggle_range, change_range, bits_toggle_range)
 #define ASK_RANGE(name, call, answer)                                                                                  \
     FUNCTION(name) {                                                                                                   \
         READ(set, 0);                                                                                                  \
-        Span span = read_span(fcinfo, set);                                                                            \
+        Span span = read_span(fcinfo, 1, set);                                                                            \
         return answer(call(set, span.start, span.end));                                                                \
     }
 
@@ -190,6 +181,12 @@ ASK_PAIR(bitset_lt, Bool, bits_compare(a, b) < 0)
 ASK_PAIR(bitset_le, Bool, bits_compare(a, b) <= 0)
 ASK_PAIR(bitset_gt, Bool, bits_compare(a, b) > 0)
 ASK_PAIR(bitset_ge, Bool, bits_compare(a, b) >= 0)
+
+FUNCTION(bitset_first_lacking) {
+    READ(a, 0);
+    READ(b, 1);
+    return position_or_null(fcinfo, bits_first_lacking(a, b));
+}
 
 /* Equal sets have equal bytes, so the bytes are hashed as they are stored. */
 FUNCTION(bitset_hash) {

@@ -50,13 +50,20 @@ FUNCTION(bitset_to_positions) {
     PG_RETURN_ARRAYTYPE_P(array);
 }
 
-/* Eight positions a byte, least first. */
+/* The positions below a length that bytes say, eight a byte, least first. */
+static Datum set_of_bytes(const bytea *bytes, int64 length) {
+    bits set = new_set(checked_length(length));
+    bits_from_bytes(&set, (const uint8_t *)VARDATA_ANY(bytes), VARSIZE_ANY_EXHDR(bytes));
+    return stored_set(&set);
+}
+
 FUNCTION(bitset_from_bytea) {
-    bytea *bytes = PG_GETARG_BYTEA_PP(0);
-    size_t count = VARSIZE_ANY_EXHDR(bytes);
-    bits set = new_set(checked_length((int64)count * BITS_PER_BYTE));
-    memcpy(set.words, VARDATA_ANY(bytes), count);
-    PG_RETURN_DATUM(stored_set(&set));
+    const bytea *bytes = PG_GETARG_BYTEA_PP(0);
+    return set_of_bytes(bytes, (int64)VARSIZE_ANY_EXHDR(bytes) * BITS_PER_BYTE);
+}
+
+FUNCTION(bitset_from_bytes) {
+    return set_of_bytes(PG_GETARG_BYTEA_PP(0), PG_GETARG_INT64(1));
 }
 
 FUNCTION(bitset_to_bytea) {
@@ -76,7 +83,8 @@ FUNCTION(bitset_from_varbit) {
 
 FUNCTION(bitset_to_varbit) {
     READ(set, 0);
-    size_t start, end = 0;
+    size_t start, end;
+    bits_run_walk walk = BITS_RUNS;
     char *digits;
     if (!AllocSizeIsValid(set->length + 2))
         ereport(ERROR, (errcode(ERRCODE_PROGRAM_LIMIT_EXCEEDED),
@@ -85,7 +93,8 @@ FUNCTION(bitset_to_varbit) {
     digits[0] = 'b';
     memset(digits + 1, '0', set->length);
     digits[set->length + 1] = '\0';
-    while (next_run(set, &start, &end)) {
+    bits_runs(&walk, set);
+    while (bits_runs_next(&walk, &start, &end)) {
         CHECK_FOR_INTERRUPTS();
         memset(digits + 1 + start, '1', end - start);
     }

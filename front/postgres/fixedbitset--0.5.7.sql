@@ -13,8 +13,10 @@ CREATE FUNCTION bitset_out(bitset) RETURNS cstring AS 'MODULE_PATHNAME' LANGUAGE
 CREATE FUNCTION bitset_recv(internal) RETURNS bitset AS 'MODULE_PATHNAME' LANGUAGE C IMMUTABLE STRICT PARALLEL SAFE;
 CREATE FUNCTION bitset_send(bitset) RETURNS bytea AS 'MODULE_PATHNAME' LANGUAGE C IMMUTABLE STRICT PARALLEL SAFE;
 
+CREATE FUNCTION bitset_typanalyze(internal) RETURNS boolean AS 'MODULE_PATHNAME' LANGUAGE C STRICT;
+
 CREATE TYPE bitset (
-    INPUT = bitset_in, OUTPUT = bitset_out, RECEIVE = bitset_recv, SEND = bitset_send,
+    INPUT = bitset_in, OUTPUT = bitset_out, RECEIVE = bitset_recv, SEND = bitset_send, ANALYZE = bitset_typanalyze,
     INTERNALLENGTH = VARIABLE, ALIGNMENT = double, STORAGE = extended
 );
 COMMENT ON TYPE bitset IS 'set of positions below a length: {3,7,10-20}/64';
@@ -29,6 +31,8 @@ CREATE FUNCTION bitset(bit varying) RETURNS bitset
 AS 'MODULE_PATHNAME', 'bitset_from_varbit' LANGUAGE C IMMUTABLE STRICT PARALLEL SAFE;
 CREATE FUNCTION bitset(bytea) RETURNS bitset
 AS 'MODULE_PATHNAME', 'bitset_from_bytea' LANGUAGE C IMMUTABLE STRICT PARALLEL SAFE;
+CREATE FUNCTION bitset_from_bytes(bytes bytea, length bigint) RETURNS bitset
+AS 'MODULE_PATHNAME', 'bitset_from_bytes' LANGUAGE C IMMUTABLE STRICT PARALLEL SAFE;
 CREATE FUNCTION bitset_to_varbit(bitset) RETURNS bit varying
 AS 'MODULE_PATHNAME' LANGUAGE C IMMUTABLE STRICT PARALLEL SAFE;
 CREATE FUNCTION bytes(bitset) RETURNS bytea
@@ -46,8 +50,14 @@ CREATE FUNCTION ones(bitset) RETURNS SETOF bigint
 AS 'MODULE_PATHNAME', 'bitset_ones' LANGUAGE C IMMUTABLE STRICT PARALLEL SAFE;
 CREATE FUNCTION zeroes(bitset) RETURNS SETOF bigint
 AS 'MODULE_PATHNAME', 'bitset_zeroes' LANGUAGE C IMMUTABLE STRICT PARALLEL SAFE;
+CREATE FUNCTION ones(bitset, int8range) RETURNS SETOF bigint
+AS 'MODULE_PATHNAME', 'bitset_ones' LANGUAGE C IMMUTABLE STRICT PARALLEL SAFE;
+CREATE FUNCTION zeroes(bitset, int8range) RETURNS SETOF bigint
+AS 'MODULE_PATHNAME', 'bitset_zeroes' LANGUAGE C IMMUTABLE STRICT PARALLEL SAFE;
 CREATE FUNCTION runs(bitset) RETURNS SETOF int8range
 AS 'MODULE_PATHNAME', 'bitset_runs' LANGUAGE C IMMUTABLE STRICT PARALLEL SAFE;
+CREATE FUNCTION zero_runs(bitset) RETURNS SETOF int8range
+AS 'MODULE_PATHNAME', 'bitset_zero_runs' LANGUAGE C IMMUTABLE STRICT PARALLEL SAFE;
 
 -- One set
 
@@ -55,6 +65,10 @@ CREATE FUNCTION length(bitset) RETURNS bigint
 AS 'MODULE_PATHNAME', 'bitset_length' LANGUAGE C IMMUTABLE STRICT PARALLEL SAFE;
 CREATE FUNCTION grow(bitset, length bigint) RETURNS bitset
 AS 'MODULE_PATHNAME', 'bitset_grow' LANGUAGE C IMMUTABLE STRICT PARALLEL SAFE;
+CREATE FUNCTION truncate(bitset, length bigint) RETURNS bitset
+AS 'MODULE_PATHNAME', 'bitset_truncate' LANGUAGE C IMMUTABLE STRICT PARALLEL SAFE;
+CREATE FUNCTION resize(bitset, length bigint) RETURNS bitset
+AS 'MODULE_PATHNAME', 'bitset_resize' LANGUAGE C IMMUTABLE STRICT PARALLEL SAFE;
 CREATE FUNCTION is_clear(bitset) RETURNS boolean
 AS 'MODULE_PATHNAME', 'bitset_is_clear' LANGUAGE C IMMUTABLE STRICT PARALLEL SAFE;
 CREATE FUNCTION is_full(bitset) RETURNS boolean
@@ -71,6 +85,12 @@ CREATE FUNCTION previous_one(bitset, below bigint) RETURNS bigint
 AS 'MODULE_PATHNAME', 'bitset_previous_one' LANGUAGE C IMMUTABLE STRICT PARALLEL SAFE;
 CREATE FUNCTION previous_zero(bitset, below bigint) RETURNS bigint
 AS 'MODULE_PATHNAME', 'bitset_previous_zero' LANGUAGE C IMMUTABLE STRICT PARALLEL SAFE;
+CREATE FUNCTION first_gap(bitset, count bigint, "from" bigint DEFAULT 0) RETURNS bigint
+AS 'MODULE_PATHNAME', 'bitset_first_gap' LANGUAGE C IMMUTABLE STRICT PARALLEL SAFE;
+CREATE FUNCTION rank(bitset, "position" bigint) RETURNS bigint
+AS 'MODULE_PATHNAME', 'bitset_rank' LANGUAGE C IMMUTABLE STRICT PARALLEL SAFE;
+CREATE FUNCTION select_one(bitset, index bigint) RETURNS bigint
+AS 'MODULE_PATHNAME', 'bitset_select_one' LANGUAGE C IMMUTABLE STRICT PARALLEL SAFE;
 CREATE FUNCTION count_ones(bitset) RETURNS bigint
 AS 'MODULE_PATHNAME', 'bitset_count_ones' LANGUAGE C IMMUTABLE STRICT PARALLEL SAFE;
 CREATE FUNCTION contains(bitset, "position" bigint) RETURNS boolean
@@ -81,6 +101,10 @@ CREATE FUNCTION remove(bitset, "position" bigint) RETURNS bitset
 AS 'MODULE_PATHNAME', 'bitset_remove' LANGUAGE C IMMUTABLE STRICT PARALLEL SAFE;
 CREATE FUNCTION toggle(bitset, "position" bigint) RETURNS bitset
 AS 'MODULE_PATHNAME', 'bitset_toggle' LANGUAGE C IMMUTABLE STRICT PARALLEL SAFE;
+CREATE FUNCTION shift_up(bitset, by bigint) RETURNS bitset
+AS 'MODULE_PATHNAME', 'bitset_shift_up' LANGUAGE C IMMUTABLE STRICT PARALLEL SAFE;
+CREATE FUNCTION shift_down(bitset, by bigint) RETURNS bitset
+AS 'MODULE_PATHNAME', 'bitset_shift_down' LANGUAGE C IMMUTABLE STRICT PARALLEL SAFE;
 
 -- One set and a range of positions
 
@@ -98,6 +122,8 @@ CREATE FUNCTION contains_all(bitset, int8range) RETURNS boolean
 AS 'MODULE_PATHNAME', 'bitset_contains_all' LANGUAGE C IMMUTABLE STRICT PARALLEL SAFE;
 CREATE FUNCTION contains_any(bitset, int8range) RETURNS boolean
 AS 'MODULE_PATHNAME', 'bitset_contains_any' LANGUAGE C IMMUTABLE STRICT PARALLEL SAFE;
+CREATE FUNCTION slice(bitset, int8range) RETURNS bitset
+AS 'MODULE_PATHNAME', 'bitset_slice' LANGUAGE C IMMUTABLE STRICT PARALLEL SAFE;
 
 -- Two sets, of any two lengths
 
@@ -109,6 +135,14 @@ CREATE FUNCTION difference_count(bitset, bitset) RETURNS bigint
 AS 'MODULE_PATHNAME', 'bitset_difference_count' LANGUAGE C IMMUTABLE STRICT PARALLEL SAFE;
 CREATE FUNCTION symmetric_difference_count(bitset, bitset) RETURNS bigint
 AS 'MODULE_PATHNAME', 'bitset_symmetric_difference_count' LANGUAGE C IMMUTABLE STRICT PARALLEL SAFE;
+CREATE FUNCTION first_lacking(bitset, bitset) RETURNS bigint
+AS 'MODULE_PATHNAME', 'bitset_first_lacking' LANGUAGE C IMMUTABLE STRICT PARALLEL SAFE;
+CREATE FUNCTION append(bitset, bitset) RETURNS bitset
+AS 'MODULE_PATHNAME', 'bitset_append' LANGUAGE C IMMUTABLE STRICT PARALLEL SAFE;
+CREATE FUNCTION copy_range(bitset, bitset, int8range, at bigint) RETURNS bitset
+AS 'MODULE_PATHNAME', 'bitset_copy_range' LANGUAGE C IMMUTABLE STRICT PARALLEL SAFE;
+CREATE FUNCTION union_with_shifted(bitset, bitset, by bigint) RETURNS bitset
+AS 'MODULE_PATHNAME', 'bitset_union_with_shifted' LANGUAGE C IMMUTABLE STRICT PARALLEL SAFE;
 
 CREATE FUNCTION bitset_or(bitset, bitset) RETURNS bitset AS 'MODULE_PATHNAME' LANGUAGE C IMMUTABLE STRICT PARALLEL SAFE;
 CREATE FUNCTION bitset_and(bitset, bitset) RETURNS bitset AS 'MODULE_PATHNAME' LANGUAGE C IMMUTABLE STRICT PARALLEL SAFE;
@@ -119,29 +153,37 @@ CREATE FUNCTION bitset_subset(bitset, bitset) RETURNS boolean AS 'MODULE_PATHNAM
 CREATE FUNCTION bitset_overlap(bitset, bitset) RETURNS boolean AS 'MODULE_PATHNAME' LANGUAGE C IMMUTABLE STRICT PARALLEL SAFE;
 CREATE FUNCTION bitset_contained_position(bigint, bitset) RETURNS boolean AS 'MODULE_PATHNAME' LANGUAGE C IMMUTABLE STRICT PARALLEL SAFE;
 
+-- (the planner's estimates)
+CREATE FUNCTION bitset_contains_share(internal, oid, internal, integer) RETURNS double precision
+AS 'MODULE_PATHNAME' LANGUAGE C STABLE STRICT PARALLEL SAFE;
+CREATE FUNCTION bitset_contained_share(internal, oid, internal, integer) RETURNS double precision
+AS 'MODULE_PATHNAME' LANGUAGE C STABLE STRICT PARALLEL SAFE;
+CREATE FUNCTION bitset_overlap_share(internal, oid, internal, integer) RETURNS double precision
+AS 'MODULE_PATHNAME' LANGUAGE C STABLE STRICT PARALLEL SAFE;
+
 CREATE OPERATOR | (LEFTARG = bitset, RIGHTARG = bitset, FUNCTION = bitset_or, COMMUTATOR = |);
 CREATE OPERATOR & (LEFTARG = bitset, RIGHTARG = bitset, FUNCTION = bitset_and, COMMUTATOR = &);
 CREATE OPERATOR # (LEFTARG = bitset, RIGHTARG = bitset, FUNCTION = bitset_xor, COMMUTATOR = #);
 CREATE OPERATOR - (LEFTARG = bitset, RIGHTARG = bitset, FUNCTION = bitset_minus);
 CREATE OPERATOR @> (
     LEFTARG = bitset, RIGHTARG = bitset, FUNCTION = bitset_superset, COMMUTATOR = <@,
-    RESTRICT = contsel, JOIN = contjoinsel
+    RESTRICT = bitset_contains_share, JOIN = contjoinsel
 );
 CREATE OPERATOR <@ (
     LEFTARG = bitset, RIGHTARG = bitset, FUNCTION = bitset_subset, COMMUTATOR = @>,
-    RESTRICT = contsel, JOIN = contjoinsel
+    RESTRICT = bitset_contained_share, JOIN = contjoinsel
 );
 CREATE OPERATOR && (
     LEFTARG = bitset, RIGHTARG = bitset, FUNCTION = bitset_overlap, COMMUTATOR = &&,
-    RESTRICT = areasel, JOIN = areajoinsel
+    RESTRICT = bitset_overlap_share, JOIN = areajoinsel
 );
 CREATE OPERATOR @> (
     LEFTARG = bitset, RIGHTARG = bigint, FUNCTION = contains, COMMUTATOR = <@,
-    RESTRICT = contsel, JOIN = contjoinsel
+    RESTRICT = bitset_contains_share, JOIN = contjoinsel
 );
 CREATE OPERATOR <@ (
     LEFTARG = bigint, RIGHTARG = bitset, FUNCTION = bitset_contained_position, COMMUTATOR = @>,
-    RESTRICT = contsel, JOIN = contjoinsel
+    RESTRICT = bitset_contained_share, JOIN = contjoinsel
 );
 
 -- Order and hashing

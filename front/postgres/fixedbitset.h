@@ -48,6 +48,9 @@ typedef struct Reading {
     uint64_t room[SHORT_LANES];
 } Reading;
 
+/* What the module's files call of each other is not for other modules, so it is called directly. */
+#pragma GCC visibility push(hidden)
+
 extern const bits *read_set(Reading *reading, Datum datum);
 extern void done_reading(Reading *reading);
 
@@ -72,10 +75,19 @@ extern bits copy_set(const bits *set, size_t length);
 extern void free_set(bits *set);
 extern Datum stored_set(bits *set);
 
+/* The positions of a range, from `start` up to and without `end`. */
+typedef struct Span {
+    size_t start;
+    size_t end;
+} Span;
+
 extern size_t past_length(const bits *set);
+extern size_t not_negative(int64 number, const char *name);
 extern size_t checked_length(int64 length);
 extern void wrong_position(const bits *set, int64 position) pg_attribute_noreturn();
 extern void insert_checked(bits *set, int64 position);
-extern bool next_run(const bits *set, size_t *start, size_t *end);
+extern Span read_span(FunctionCallInfo fcinfo, int argument, const bits *set);
+
+#pragma GCC visibility pop
 
 #endif

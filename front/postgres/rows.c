@@ -12,11 +12,11 @@
 #define RANGE_OF(type, lower, upper) range_serialize(type, lower, upper, false)
 #endif
 
-/* What is kept from one row to the next. */
+/* What is kept from one row to the next: a copy of the set, and a walk over its positions or over its runs. */
 typedef struct Rows {
     bits set;
     bits_walk walk;
-    size_t end;
+    bits_run_walk runs;
     TypeCacheEntry *ranges;
 } Rows;
 
@@ -27,7 +27,7 @@ static Rows *rows_of(FunctionCallInfo fcinfo, FuncCallContext **call) {
         FuncCallContext *first = SRF_FIRSTCALL_INIT();
         MemoryContext old = MemoryContextSwitchTo(first->multi_call_memory_ctx);
         Rows *rows = palloc(sizeof(Rows));
-        *rows = (Rows){copy_set(set, set->length), BITS_WALK, 0, lookup_type_cache(INT8RANGEOID, TYPECACHE_RANGE_INFO)};
+        *rows = (Rows){copy_set(set, set->length), BITS_WALK, BITS_RUNS, lookup_type_cache(INT8RANGEOID, TYPECACHE_RANGE_INFO)};
         first->user_fctx = rows;
         MemoryContextSwitchTo(old);
     }
@@ -35,32 +35,40 @@ static Rows *rows_of(FunctionCallInfo fcinfo, FuncCallContext **call) {
     return (*call)->user_fctx;
 }
 
-/* A row for each position of a walk. */
-static Datum rows_of_walk(FunctionCallInfo fcinfo, void (*begin)(bits_walk *, const bits *),
+/* A row for each position of a walk, over the whole set or over a range. */
+static Datum rows_of_walk(FunctionCallInfo fcinfo, bool (*begin)(bits_walk *, const bits *, size_t, size_t),
                           bool (*next)(bits_walk *, size_t *)) {
     bool first = SRF_IS_FIRSTCALL();
     FuncCallContext *call;
     Rows *rows = rows_of(fcinfo, &call);
     size_t position;
-    if (first)
-        begin(&rows->walk, &rows->set);
+    if (first) {
+        Span span = PG_NARGS() == 2 ? read_span(fcinfo, 1, &rows->set) : (Span){0, rows->set.length};
+        begin(&rows->walk, &rows->set, span.start, span.end);
+    }
     if (next(&rows->walk, &position))
         SRF_RETURN_NEXT(call, Int64GetDatum(position));
     SRF_RETURN_DONE(call);
 }
 
-BY(bitset_ones, rows_of_walk, bits_ones, bits_ones_next)
-BY(bitset_zeroes, rows_of_walk, bits_zeroes, bits_zeroes_next)
+BY(bitset_ones, rows_of_walk, bits_ones_in, bits_ones_next)
+BY(bitset_zeroes, rows_of_walk, bits_zeroes_in, bits_zeroes_next)
 
 /* A row for each run, as long as it goes: [start,end). */
-FUNCTION(bitset_runs) {
+static Datum rows_of_runs(FunctionCallInfo fcinfo, void (*begin)(bits_run_walk *, const bits *)) {
+    bool first = SRF_IS_FIRSTCALL();
     FuncCallContext *call;
     Rows *rows = rows_of(fcinfo, &call);
-    size_t start;
-    if (next_run(&rows->set, &start, &rows->end)) {
+    size_t start, end;
+    if (first)
+        begin(&rows->runs, &rows->set);
+    if (bits_runs_next(&rows->runs, &start, &end)) {
         RangeBound lower = {.val = Int64GetDatum(start), .inclusive = true, .lower = true};
-        RangeBound upper = {.val = Int64GetDatum(rows->end)};
+        RangeBound upper = {.val = Int64GetDatum(end)};
         SRF_RETURN_NEXT(call, RangeTypePGetDatum(RANGE_OF(rows->ranges, &lower, &upper)));
     }
     SRF_RETURN_DONE(call);
 }
+
+BY(bitset_runs, rows_of_runs, bits_runs)
+BY(bitset_zero_runs, rows_of_runs, bits_zero_runs)

@@ -1,16 +1,15 @@
 /* Reading and making stored sets. */
 #include "fixedbitset.h"
 
+#include "utils/rangetypes.h"
+#include "utils/typcache.h"
+
 PG_MODULE_MAGIC;
 
-/* Whether a set of this length is stored by the blocks that it needs. */
-static bool is_short(size_t length) {
-    return bits_blocks(length) <= SHORT_WORDS;
-}
-
-/* How many words a stored set of this length has. */
-static size_t stored_words(size_t length) {
-    return is_short(length) ? bits_blocks(length) : bits_words(length);
+/* How many words a stored set of this length has: the blocks that it needs where these are few, and else all of `count`. */
+static size_t stored_words(size_t length, size_t count) {
+    size_t blocks = bits_blocks(length);
+    return blocks <= SHORT_WORDS ? blocks : count;
 }
 
 /* The first position of the set's words that is set and past its length, or BITS_NONE. */
@@ -24,19 +23,21 @@ size_t past_length(const bits *set) {
 const bits *read_set(Reading *reading, Datum datum) {
     struct varlena *given = (struct varlena *)DatumGetPointer(datum);
     struct varlena *flat = pg_detoast_datum_packed(given);
-    size_t size = VARSIZE_ANY_EXHDR(flat);
+    size_t size = VARSIZE_ANY_EXHDR(flat), count, stored;
     char *data = VARDATA_ANY(flat);
     uint32 length = 0;
     if (size >= sizeof(length))
         memcpy(&length, data, sizeof(length));
-    if (size != sizeof(length) + stored_words(length) * WORD_SIZE)
+    count = bits_words(length);
+    stored = stored_words(length, count);
+    if (size != sizeof(length) + stored * WORD_SIZE)
         ereport(ERROR, (errcode(ERRCODE_DATA_CORRUPTED), errmsg("bitset of length %u has %zu bytes", length, size)));
 
     reading->copy = flat == given ? NULL : flat;
-    reading->set = BITS_OF((uint64_t *)(data + sizeof(length)), length);
-    if (is_short(length)) {
-        memset(reading->room, 0, reading->set.count * WORD_SIZE);
-        memcpy(reading->room, data + sizeof(length), size - sizeof(length));
+    reading->set = (bits){(uint64_t *)(data + sizeof(length)), count, length};
+    if (stored <= SHORT_WORDS) {
+        memcpy(reading->room, data + sizeof(length), stored * WORD_SIZE);
+        memset(reading->room + stored, 0, (count - stored) * WORD_SIZE);
         reading->set.words = reading->room;
     }
     Assert(PointerIsAligned(reading->set.words, uint64_t));
@@ -94,19 +95,24 @@ void free_set(bits *set) {
 /* A made set as a value of the type. */
 Datum stored_set(bits *set) {
     Stored *stored = header_of(set);
-    SET_VARSIZE(stored, offsetof(Stored, words) + stored_words(set->length) * WORD_SIZE);
+    SET_VARSIZE(stored, offsetof(Stored, words) + stored_words(set->length, set->count) * WORD_SIZE);
     stored->length = set->length;
     return PointerGetDatum(stored);
 }
 
+/* The number, which has a name. */
+size_t not_negative(int64 number, const char *name) {
+    if (number < 0)
+        ereport(ERROR, (errcode(ERRCODE_NUMERIC_VALUE_OUT_OF_RANGE), errmsg("%s must not be negative", name)));
+    return number;
+}
+
 /* The length, which a set may have. */
 size_t checked_length(int64 length) {
-    if (length < 0)
-        ereport(ERROR, (errcode(ERRCODE_NUMERIC_VALUE_OUT_OF_RANGE), errmsg("length of a bitset must not be negative")));
     if (length > (int64)MAX_LENGTH)
         ereport(ERROR, (errcode(ERRCODE_PROGRAM_LIMIT_EXCEEDED),
                         errmsg("length %lld of a bitset is past the greatest, %u", (long long)length, MAX_LENGTH)));
-    return length;
+    return not_negative(length, "length of a bitset");
 }
 
 /* Refuses a position. A negative one is past any length, as the library counts. */
@@ -121,11 +127,20 @@ void insert_checked(bits *set, int64 position) {
         wrong_position(set, position);
 }
 
-/* The first run of positions at or past `end`: where it starts and ends, or false where there is none. */
-bool next_run(const bits *set, size_t *start, size_t *end) {
-    *start = bits_next_one(set, *end);
-    if (*start == BITS_NONE)
-        return false;
-    *end = Min(bits_next_zero(set, *start), set->length);
-    return true;
+/* A range, which has to be valid. An unbounded one ends where the set does. A bounded int8range comes as [start,end). */
+Span read_span(FunctionCallInfo fcinfo, int argument, const bits *set) {
+    RangeType *range = PG_GETARG_RANGE_P(argument);
+    RangeBound lower, upper;
+    bool empty;
+    Span span = {0, 0};
+    range_deserialize(lookup_type_cache(RangeTypeGetOid(range), TYPECACHE_RANGE_INFO), range, &lower, &upper, &empty);
+    if (empty)
+        return span;
+    span.start = lower.infinite ? 0 : (size_t)DatumGetInt64(lower.val);
+    span.end = upper.infinite ? set->length : (size_t)DatumGetInt64(upper.val);
+    if (!bits_range_is_valid(set, span.start, span.end))
+        ereport(ERROR, (errcode(ERRCODE_ARRAY_SUBSCRIPT_ERROR),
+                        errmsg("range [%lld,%lld) is not within the length %zu", (long long)span.start,
+                               (long long)span.end, set->length)));
+    return span;
 }

@@ -197,9 +197,11 @@ static void append_number(StringInfo text, size_t number) {
 }
 
 static void append_runs(StringInfo text, const bits *set) {
-    size_t start, end = 0;
+    size_t start, end;
+    bits_run_walk walk = BITS_RUNS;
+    bits_runs(&walk, set);
     appendStringInfoChar(text, '{');
-    while (next_run(set, &start, &end)) {
+    while (bits_runs_next(&walk, &start, &end)) {
         CHECK_FOR_INTERRUPTS();
         if (text->len > 1)
             appendStringInfoChar(text, ',');

@@ -14,6 +14,9 @@ class Set:
     def bytes(self):
         return self.ones.to_bytes((self.length + 7) // 8, "little")
 
+    def gaps(self):
+        return Set(self.length, mask(0, self.length) ^ self.ones).runs()
+
     def runs(self):
         found = []
         for p in self.positions():
@@ -92,6 +95,33 @@ def around(s, p, zero, back):
     return previous_of(ones, min(p, s.length)) if back else next_of(ones, s.length, p)
 
 
+def gap(s, count, start):
+    if count < 0:
+        return wrong("22003")
+    if count == 0:
+        return start if start <= s.length else None
+    return next((max(x, start) for x, y in s.gaps() if y - max(x, start) >= count), None)
+
+
+def long(length, ones):
+    return Set(length, ones & mask(0, length)) if length < 2**32 else wrong("54000")
+
+
+def moved(s, by, ones):
+    return Set(s.length, ones(by) & mask(0, s.length)) if by >= 0 else wrong("22003")
+
+
+def up(ones, by):
+    """Past 200,000 nothing is left of any set here."""
+    return ones << min(by, 200000)
+
+
+def written(s, t, a, b, at):
+    if not (0 <= a <= b <= t.length and 0 <= at <= s.length - (b - a)):
+        return wrong("2202E")
+    return Set(s.length, s.ones & ~mask(at, at + b - a) | (t.ones & mask(a, b)) >> a << at)
+
+
 def sign(a, b):
     return (a > b) - (a < b)
 
@@ -159,6 +189,25 @@ CALLS = {
     "count_zeroes(s, int8range(a, b))": lambda s, t, p, a, b: ranged(s, a, b, lambda m: (~s.ones & m).bit_count()),
     "contains_all(s, int8range(a, b))": lambda s, t, p, a, b: ranged(s, a, b, lambda m: s.ones & m == m),
     "contains_any(s, int8range(a, b))": lambda s, t, p, a, b: ranged(s, a, b, lambda m: s.ones & m != 0),
+    "truncate(s, length(t))": lambda s, t, p, a, b: long(min(s.length, t.length), s.ones),
+    "resize(s, length(t))": lambda s, t, p, a, b: long(t.length, s.ones),
+    "resize(s, abs(p))": lambda s, t, p, a, b: long(abs(p), s.ones),
+    "append(s, t)": lambda s, t, p, a, b: Set(s.length + t.length, s.ones | t.ones << s.length),
+    "slice(s, int8range(a, b))": lambda s, t, p, a, b: ranged(s, a, b, lambda m: Set(b - a, (s.ones & m) >> a)),
+    "copy_range(s, t, int8range(a, b), p)": lambda s, t, p, a, b: written(s, t, a, b, p),
+    "copy_range(t, s, int8range(a, b), p / 2)": lambda s, t, p, a, b: written(t, s, a, b, int(p / 2)),
+    "shift_up(s, p)": lambda s, t, p, a, b: moved(s, p, lambda by: up(s.ones, by)),
+    "shift_down(s, p)": lambda s, t, p, a, b: moved(s, p, lambda by: s.ones >> by),
+    "union_with_shifted(s, t, p)": lambda s, t, p, a, b: moved(s, p, lambda by: s.ones | up(t.ones, by)),
+    "union_with_shifted(s, s, a)": lambda s, t, p, a, b: moved(s, a, lambda by: s.ones | up(s.ones, by)),
+    "rank(s, p)": lambda s, t, p, a, b: (s.ones & mask(0, min(max(p, 0), s.length))).bit_count(),
+    "select_one(s, p)": lambda s, t, p, a, b: dict(enumerate(s.positions())).get(p),
+    "select_one(s, abs(p) % 40)": lambda s, t, p, a, b: dict(enumerate(s.positions())).get(abs(p) % 40),
+    "rank(s, select_one(s, abs(p) % 400))": lambda s, t, p, a, b: abs(p) % 400 if abs(p) % 400 < s.ones.bit_count() else None,
+    "first_gap(s, p)": lambda s, t, p, a, b: gap(s, p, 0),
+    "first_gap(s, abs(p) % 12, a - 1)": lambda s, t, p, a, b: gap(s, abs(p) % 12, max(a - 1, 0)),
+    "first_lacking(s, t)": lambda s, t, p, a, b: next_of(t.ones & ~s.ones, t.length, 0),
+    "bitset_from_bytes(bytes(s), length(t))": lambda s, t, p, a, b: long(t.length, s.ones),
     "positions(s)": lambda s, t, p, a, b: s.positions(),
     "bitset(positions(s), length(s) + 3)": lambda s, t, p, a, b: Set(s.length + 3, s.ones),
     "bitset(length(s))": lambda s, t, p, a, b: Set(s.length, 0),
@@ -169,6 +218,12 @@ CALLS = {
     "s::text::bitset": lambda s, t, p, a, b: s,
     "ARRAY(SELECT ones(s))": lambda s, t, p, a, b: s.positions(),
     "ARRAY(SELECT zeroes(s))": lambda s, t, p, a, b: Set(s.length, mask(0, s.length) ^ s.ones).positions(),
+    "ARRAY(SELECT ones(s, int8range(a, b)))":
+        lambda s, t, p, a, b: ranged(s, a, b, lambda m: Set(s.length, s.ones & m).positions()),
+    "ARRAY(SELECT zeroes(s, int8range(a, b)))":
+        lambda s, t, p, a, b: ranged(s, a, b, lambda m: Set(s.length, ~s.ones & m).positions()),
+    "(SELECT array_agg(lower(r) || '+' || upper(r)) FROM zero_runs(s) r)":
+        lambda s, t, p, a, b: [f"{x}+{y}" for x, y in s.gaps()] or None,
     "(SELECT array_agg(lower(r) || '+' || upper(r)) FROM runs(s) r)":
         lambda s, t, p, a, b: [f"{x}+{y}" for x, y in s.runs()] or None,
 }

@@ -6,8 +6,9 @@ CREATE EXTENSION fixedbitset;
 CREATE EXTENSION postgres_fdw;
 
 CREATE TABLE pieces (name text, piece int, part bitset) PARTITION BY RANGE (piece);
-CREATE TABLE facts (name text, piece int, ones bigint, least bigint, greatest bigint) PARTITION BY RANGE (piece);
-CREATE TABLE pairs (a text, b text, piece int, shared bigint) PARTITION BY RANGE (piece);
+CREATE TABLE facts (name text, piece int, least bigint, greatest bigint) PARTITION BY RANGE (piece);
+CREATE TABLE totals (server text, name text, ones bigint) PARTITION BY LIST (server);
+CREATE TABLE pairs (server text, a text, b text, shared bigint) PARTITION BY LIST (server);
 CREATE TABLE unions (server text, target text, a text, b text) PARTITION BY LIST (server);
 CREATE TABLE keepers (server text PRIMARY KEY, port int, least int, past int);
 INSERT INTO keepers VALUES ('first', :first, 0, 333334), ('second', :second, 333334, 666667), ('third', :third, 666667, 1000000);
@@ -22,7 +23,8 @@ SELECT format($$
     CREATE FOREIGN TABLE pieces_%1$s PARTITION OF pieces FOR VALUES FROM (%3$s) TO (%4$s)
         SERVER %1$s OPTIONS (table_name 'pieces', batch_size '20');
     CREATE FOREIGN TABLE facts_%1$s PARTITION OF facts FOR VALUES FROM (%3$s) TO (%4$s) SERVER %1$s OPTIONS (table_name 'facts');
-    CREATE FOREIGN TABLE pairs_%1$s PARTITION OF pairs FOR VALUES FROM (%3$s) TO (%4$s) SERVER %1$s OPTIONS (table_name 'pairs');
+    CREATE FOREIGN TABLE totals_%1$s PARTITION OF totals FOR VALUES IN ('%1$s') SERVER %1$s OPTIONS (table_name 'totals');
+    CREATE FOREIGN TABLE pairs_%1$s PARTITION OF pairs FOR VALUES IN ('%1$s') SERVER %1$s OPTIONS (table_name 'pairs');
     CREATE FOREIGN TABLE unions_%1$s PARTITION OF unions FOR VALUES IN ('%1$s') SERVER %1$s OPTIONS (table_name 'unions')$$,
     server, port, least, past)
 FROM keepers \gexec
@@ -33,12 +35,12 @@ CREATE FUNCTION pieces_contains(name text, "position" bigint) RETURNS boolean ST
     SELECT EXISTS (SELECT FROM pieces s WHERE s.name = $1 AND s.piece = $2 / 1000000 AND s.part @> ($2 % 1000000))
 $$;
 
--- How many positions the set has: the sum over its pieces, each of which its server counts.
+-- How many positions the set has: the sum over its pieces. Each server sends the sum over its own.
 CREATE FUNCTION pieces_count(name text) RETURNS bigint STABLE LANGUAGE sql SET enable_partitionwise_join = on AS $$
-    SELECT coalesce(sum(s.ones), 0)::bigint FROM facts s WHERE s.name = $1
+    SELECT coalesce(sum(s.ones), 0)::bigint FROM totals s WHERE s.name = $1
 $$;
 
--- How many positions are in both sets: the sum over the pieces that both have.
+-- How many positions are in both sets: the sum over the pieces that both have, summed as above.
 CREATE FUNCTION pieces_intersection_count(a text, b text) RETURNS bigint STABLE LANGUAGE sql
     SET enable_partitionwise_join = on AS $$
     SELECT coalesce(sum(s.shared), 0)::bigint FROM pairs s WHERE s.a = $1 AND s.b = $2

@@ -10,10 +10,12 @@ CREATE TABLE pieces (
     PRIMARY KEY (name, piece)
 );
 
-CREATE VIEW facts AS
-    SELECT name, piece, count_ones(part) AS ones, minimum(part) AS least, maximum(part) AS greatest FROM pieces;
+-- The ends of each piece, and sums over all pieces here: of a set, and of two sets.
+CREATE VIEW facts AS SELECT name, piece, minimum(part) AS least, maximum(part) AS greatest FROM pieces;
+CREATE VIEW totals AS SELECT NULL AS server, name, sum(count_ones(part)) AS ones FROM pieces GROUP BY name;
 CREATE VIEW pairs AS
-    SELECT a.name AS a, b.name AS b, piece, intersection_count(a.part, b.part) AS shared FROM pieces a JOIN pieces b USING (piece);
+    SELECT NULL AS server, a.name AS a, b.name AS b, sum(intersection_count(a.part, b.part)) AS shared
+    FROM pieces a JOIN pieces b USING (piece) GROUP BY a.name, b.name;
 
 -- A row that is inserted here makes the union of two sets' pieces, of those that this server keeps.
 CREATE VIEW unions AS SELECT name AS server, name AS target, name AS a, name AS b FROM pieces WHERE false;

@@ -8,12 +8,18 @@ SELECT bitset_union_step(NULL, '{}/1');
 SELECT bitset_deserial('\x00', NULL);
 SELECT bitset_final(NULL);
 SELECT bitset_gin_value('{}/1', NULL);
+SELECT bitset_typanalyze(NULL);
+SELECT bitset_contains_share(NULL, 0, NULL, 0);
 -- numbers past every limit
 SELECT bitset('{1}'::bigint[], 9223372036854775807);
 SELECT insert('{}/10'::bitset, 9223372036854775807);
 SELECT insert('{}/10'::bitset, -9223372036854775808);
 SELECT toggle_range('{}/10'::bitset, '[-9223372036854775808,9223372036854775807)'::int8range);
 SELECT grow('{}/10'::bitset, -1);
+SELECT append(bitset(4294967295), '{}/1');
+SELECT maximum(append(bitset(4294967294), '{0}/1'));
+SELECT copy_range('{}/10', '{1}/10', '[0,10)', 9223372036854775807), copy_range('{}/10', '{1}/10', '[0,10)', -9223372036854775808);
+SELECT select_one(insert_range(bitset(4294967295), '[4294967000,)'), 294);
 SELECT bitset(4294967295)::bit varying;
 SELECT insert(bitset(4294967295), 4294967294) @> 4294967294;
 DROP EXTENSION fixedbitset;

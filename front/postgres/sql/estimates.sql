@@ -1,0 +1,58 @@
+--
+-- what the planner expects of `@>`, `<@` and `&&`
+--
+CREATE FUNCTION expected(name text, condition text, OUT expected bigint, OUT rows bigint) LANGUAGE plpgsql AS $$
+DECLARE
+    plan json;
+BEGIN
+    EXECUTE format('EXPLAIN (FORMAT json) SELECT FROM %I WHERE %s', name, condition) INTO plan;
+    EXECUTE format('SELECT count(*) FROM %I WHERE %s', name, condition) INTO rows;
+    expected := plan->0->'Plan'->>'Plan Rows';
+END
+$$;
+
+-- position k is in each row whose number k + 1 divides; 63 is in one row
+CREATE TABLE tagged AS SELECT id, bitset(ARRAY(SELECT k FROM generate_series(0::bigint, 39) k WHERE id % (k + 1) = 0), 64) AS tags
+FROM generate_series(1, 20000) id;
+UPDATE tagged SET tags = insert(tags, 63) WHERE id = 7;
+ANALYZE tagged;
+SELECT condition, (expected('tagged', condition)).* FROM (VALUES ('tags @> 0'), ('tags @> 1'), ('tags @> 9'), ('tags @> 39'), ('tags @> 63'),
+    ('tags @> 50'), ('tags @> 99999'), ('tags @> -1'), ('9 <@ tags'), ('tags @> ''{1,2}/3'''), ('''{1,2}/3'' <@ tags'), ('tags @> ''{0,63}/64'''),
+    ('tags @> ''{1,50}/64'''), ('tags @> ''{}/0'''), ('tags && ''{1,2}/3'''), ('tags && ''{39,63}/64'''), ('tags && ''{50-62}/64'''),
+    ('tags && ''{}/0'''), ('tags @> NULL::bitset'), ('NOT tags @> 9'), ('tags @> 1 AND tags @> 2')) v(condition);
+
+-- a rare position is looked for in the index, and a common one is not
+CREATE INDEX ON tagged USING gin (tags);
+EXPLAIN (COSTS OFF) SELECT id FROM tagged WHERE tags @> 63;
+EXPLAIN (COSTS OFF) SELECT id FROM tagged WHERE tags @> 0;
+
+-- the shares themselves: those of the rows that are not null, and as many as the statistics target asks for, ten for each
+CREATE TABLE few AS SELECT CASE WHEN id % 3 > 0 THEN bitset(ARRAY(SELECT k FROM generate_series(0::bigint, 39) k WHERE id % (k + 1) = 0), 64) END AS tags
+FROM generate_series(1, 300) id;
+ALTER TABLE few ALTER tags SET STATISTICS 1;
+ANALYZE few;
+SELECT null_frac, most_common_elems, most_common_elem_freqs FROM pg_stats WHERE tablename = 'few';
+SELECT condition, (expected('few', condition)).* FROM (VALUES ('tags @> 0'), ('tags @> 6'), ('tags @> 39')) v(condition);
+
+-- columns without positions, without sets and without rows
+CREATE TABLE none AS SELECT bitset(64) AS clear, NULL::bitset AS missing FROM generate_series(1, 300);
+ANALYZE none;
+SELECT attname, most_common_elems FROM pg_stats WHERE tablename = 'none' ORDER BY attname;
+SELECT name, (expected('none', name || ' @> 1')).* FROM (VALUES ('clear'), ('missing')) v(name);
+TRUNCATE none;
+ANALYZE none;
+
+-- a domain, an index of an expression, what is not known yet, a long constant, and sets too long for the sample
+CREATE DOMAIN narrow AS bitset CHECK (length(VALUE) = 64);
+CREATE TABLE narrowed AS SELECT tags::narrow FROM tagged;
+CREATE INDEX ON tagged USING gin ((tags - '{0}/1'));
+ANALYZE narrowed, tagged;
+SELECT condition, (expected('narrowed', condition)).* FROM (VALUES ('tags @> 9'), ('tags && ''{1,2}/64''::narrow')) v(condition);
+SELECT condition, (expected('tagged', condition)).* FROM (VALUES ('tags - ''{0}/1'' @> 9'), ('tags @> (SELECT 9)'), ('tags @> id'),
+    ('tags @> ANY (''{1,9}''::bigint[])'), ('tags && ''{0-999999}/1000000'''), ('tags @> ''{0-999999}/1000000''')) v(condition);
+CREATE TABLE long AS SELECT insert_range(bitset(2000000), '[0,1000001)') AS tags FROM generate_series(1, 3);
+ANALYZE long;
+SELECT most_common_elems FROM pg_stats WHERE tablename = 'long';
+DROP TABLE tagged, few, none, narrowed, long;
+DROP DOMAIN narrow;
+DROP FUNCTION expected;

@@ -1,0 +1,72 @@
+--
+-- sets with another length, parts of sets, and sets moved by any number
+--
+\set s '\'{3,7,10-20,63}/64\'::bitset'
+\set t '\'{7,15-30,99}/100\'::bitset'
+
+-- another length
+SELECT n, grow(:s, n), truncate(:s, n), resize(:s, n) FROM unnest('{0,8,63,64,65,1000}'::bigint[]) n;
+SELECT resize('{0,960}/961', 960), resize('{0,959}/960', 961), truncate('{0-4999}/5000', 1025), resize('{}/0', 0);
+SELECT truncate(:s, -1);
+SELECT resize(:s, 4294967296);
+
+-- a part, and a part written over another one
+SELECT slice(:s, '[5,20)'), slice(:s, '[60,)'), slice(:s, '(,8]'), slice(:s, '(,)') = :s AS whole, slice(:s, 'empty'), slice('{}/0', '(,)');
+SELECT slice(:s, '[60,65)');
+SELECT slice(:s, '[-1,3)');
+SELECT at, copy_range(:s, :t, '[14,18)', at) FROM unnest('{0,1,58,60}'::bigint[]) at;
+SELECT copy_range(:s, :t, 'empty', 64) = :s AS same, copy_range(:t, :s, '(,)', 0), copy_range(:t, :s, '(,)', 36);
+SELECT copy_range(:s, :t, '(,)', 0);
+SELECT copy_range(:s, :t, '[14,18)', 61);
+SELECT copy_range(:s, :t, '[14,18)', -1);
+SELECT copy_range(:s, :t, '[14,101)', 0);
+SELECT copy_range(:s, :t, 'empty', 65);
+
+-- one set behind another
+SELECT append(:s, :t), append(:t, :s), append(:s, '{}/0') = :s AS same, append('{}/0', :t) = :t AS same_too, append('{}/0', '{}/0');
+SELECT append('{0}/960', '{0}/1'), append('{959}/960', '{}/1');
+
+-- moved: the length stays
+SELECT n, shift_up(:s, n), shift_down(:s, n) FROM unnest('{0,1,3,4,44,63,64,9223372036854775807}'::bigint[]) n;
+SELECT shift_up('{0-2}/1000', 997), shift_up('{0-2}/1000', 999), shift_down('{0,999}/1000', 999), shift_up('{}/0', 1);
+SELECT shift_up(:s, -1);
+SELECT shift_down(:s, -1);
+SELECT n, union_with_shifted(:s, :t, n), union_with_shifted(:t, :s, n) FROM unnest('{0,1,37,93,9223372036854775807}'::bigint[]) n;
+SELECT union_with_shifted(:s, :t, -1);
+
+-- how many stand below a position, which is the k-th, room for so many, and what is missing
+SELECT p, rank(:s, p) FROM unnest('{-9223372036854775808,-1,0,3,4,12,63,64,9223372036854775807}'::bigint[]) p;
+SELECT k, select_one(:s, k) FROM unnest('{-1,0,1,2,12,13,14,9223372036854775807}'::bigint[]) k;
+SELECT rank('{}/0'::bitset, 0), select_one('{}/0', 0), select_one('{}/1000', 0), select_one('{1-999}/1000', 998), select_one('{1-999}/1000', 999);
+SELECT bool_and(rank(s, select_one(s, k)) = k AND s @> select_one(s, k)) AS agrees
+FROM (SELECT bitset_agg(p * p % 9973, 9973) FROM generate_series(1, 2000) p) v(s), generate_series(0, count_ones(s) - 1) k;
+SELECT n, first_gap(:s, n), first_gap(:s, n, 5), first_gap(:s, n, 21) FROM unnest('{0,1,3,4,42,43,9223372036854775807}'::bigint[]) n;
+SELECT first_gap(:s, 1, -1), first_gap(:s, 0, 64), first_gap(:s, 0, 65), first_gap('{0-63}/64', 1), first_gap('{}/0', 1), first_gap('{}/64', 64);
+SELECT first_gap(:s, -1);
+SELECT first_lacking(:s, :t), first_lacking(:t, :s), first_lacking(:s, :s), first_lacking('{1}/5', '{1,99}/100'), first_lacking('{}/0', '{}/9');
+
+-- bytes of another length
+SELECT n, bitset_from_bytes('\x88fc1f', n) FROM unnest('{0,4,8,20,24,1000}'::bigint[]) n;
+SELECT bitset_from_bytes('', 0), bitset_from_bytes('', 10), bitset_from_bytes('\xff', 3);
+SELECT bitset_from_bytes('\x01', -1);
+SELECT bitset_from_bytes('\x01', 4294967296);
+
+-- rows of a range, and gaps
+SELECT p FROM ones(:s, '[7,12)') p;
+SELECT p FROM zeroes(:s, '[19,22]') p;
+SELECT count(*) FROM ones(:s, '(,)');
+SELECT ones(:s, '[62,)'), zeroes(:s, '(,3)');
+SELECT count(*) FROM ones(:s, 'empty');
+SELECT ones(:s, '[62,65)');
+SELECT r FROM zero_runs(:s) r;
+SELECT zero_runs('{}/10'), zero_runs('{}/0'), zero_runs('{0-9}/10');
+SELECT zero_runs('{0,3}/4'), runs('{0,3}/4'), ones('{0,3}/4', '[1,)'), zeroes('{0,3}/4', '[1,)');
+
+\set VERBOSITY sqlstate
+SELECT resize(:s, 4294967296);
+SELECT slice(:s, '[60,65)');
+SELECT copy_range(:s, :t, '[14,18)', 61);
+SELECT shift_up(:s, -1);
+SELECT first_gap(:s, -1);
+SELECT bitset_from_bytes('\x01', 4294967296);
+\set VERBOSITY default

@@ -1,0 +1,129 @@
+/* What the planner knows of a column: in which share of the rows each position is set. PostgreSQL keeps such shares of arrays
+ * as the most common elements of a column, and has the estimates for `@>` and `&&` by them. Here positions are elements. */
+#include "fixedbitset.h"
+
+#include "catalog/pg_operator.h"
+#include "commands/vacuum.h"
+#include "nodes/makefuncs.h"
+#include "nodes/nodeFuncs.h"
+#include "optimizer/optimizer.h"
+#include "utils/array.h"
+#include "utils/fmgrprotos.h"
+#include "utils/typcache.h"
+
+/* As many positions are looked at of a sample of rows, and as many of a constant. */
+enum { MOST_OF_ROWS = 1000000, MOST_OF_CONSTANT = 1000 };
+
+/* A position, and in how many rows it is set. */
+typedef struct Tally {
+    int64 position;
+    int rows;
+} Tally;
+
+static int by_position(const void *a, const void *b) {
+    int64 first = ((const Tally *)a)->position, second = ((const Tally *)b)->position;
+    return first < second ? -1 : first > second;
+}
+
+static int by_rows(const void *a, const void *b) {
+    return ((const Tally *)b)->rows - ((const Tally *)a)->rows;
+}
+
+/* Stores the most frequent positions, as many as of the elements of an array: one for 30 rows that were asked for. Behind
+ * their shares stand the greatest share of the others, the greatest of all, and that of nulls among the elements. */
+static void store(VacAttrStats *stats, Tally *tallies, int kinds, float4 rows) {
+    int kept = Min(kinds, stats->minrows / 30), slot = 0;
+    float4 *shares = MemoryContextAllocZero(stats->anl_context, (kept + 3) * sizeof(float4));
+    Datum *values = MemoryContextAlloc(stats->anl_context, kept * sizeof(Datum));
+    qsort(tallies, kinds, sizeof(Tally), by_rows);
+    shares[kept] = (kinds > kept ? tallies[kept].rows : 1) / rows;
+    shares[kept + 1] = tallies[0].rows / rows;
+    qsort(tallies, kept, sizeof(Tally), by_position);
+    for (int k = 0; k < kept; k++) {
+        shares[k] = tallies[k].rows / rows;
+        values[k] = Int64GetDatum(tallies[k].position);
+    }
+    while (stats->stakind[slot] != 0)
+        slot++;
+    stats->stakind[slot] = STATISTIC_KIND_MCELEM;
+    stats->staop[slot] = lookup_type_cache(INT8OID, TYPECACHE_EQ_OPR)->eq_opr;
+    stats->stanumbers[slot] = shares;
+    stats->numnumbers[slot] = kept + 3;
+    stats->stavalues[slot] = values;
+    stats->numvalues[slot] = kept;
+    stats->statypid[slot] = INT8OID;
+    stats->statyplen[slot] = sizeof(int64);
+    stats->statypbyval[slot] = FLOAT8PASSBYVAL;
+}
+
+/* The server's own statistics, and then those of the positions. The sample has the rows in the order of the table; they are
+ * looked at in a mixed one, as a prime is no divisor of their number. */
+static void compute(VacAttrStats *stats, AnalyzeAttrFetchFunc fetch, int sampled, double total) {
+    Tally *tallies = palloc(MOST_OF_ROWS * sizeof(Tally));
+    int filled = 0, kinds = 0, rows = 0;
+    std_typanalyze(stats);
+    stats->compute_stats(stats, fetch, sampled, total);
+    for (int k = 0; k < sampled; k++) {
+        bool is_null;
+        Datum value = fetch(stats, k * INT64CONST(15485863) % sampled, &is_null);
+        Reading reading;
+        const bits *set = is_null ? NULL : read_set(&reading, value);
+        vacuum_delay_point();
+        if (is_null)
+            continue;
+        if (filled + bits_count_ones(set, 0, set->length) > MOST_OF_ROWS)
+            break;
+        BITS_FOR_EACH(position, set) tallies[filled++] = (Tally){position, 1};
+        done_reading(&reading);
+        rows++;
+    }
+    qsort(tallies, filled, sizeof(Tally), by_position);
+    for (int k = 0; k < filled; k++)
+        if (kinds > 0 && tallies[kinds - 1].position == tallies[k].position)
+            tallies[kinds - 1].rows++;
+        else
+            tallies[kinds++] = tallies[k];
+    if (kinds > 0)
+        store(stats, tallies, kinds, rows);
+}
+
+FUNCTION(bitset_typanalyze) {
+    VacAttrStats *stats = (VacAttrStats *)PG_GETARG_POINTER(0);
+    std_typanalyze(stats);
+    stats->compute_stats = compute;
+    PG_RETURN_BOOL(true);
+}
+
+/* An operand as PostgreSQL's estimate takes it: a constant as an array of its positions, and all else as if it were one. A
+ * position is passed by value, and a set is not. */
+static Node *as_array(PlannerInfo *root, Node *operand) {
+    Const *constant = (Const *)estimate_expression_value(root, operand);
+    Datum positions[MOST_OF_CONSTANT], array;
+    int count = 0;
+    Reading reading;
+    if (!IsA(constant, Const) || constant->constisnull)
+        return (Node *)makeRelabelType((Expr *)strip_implicit_coercions(operand), INT8ARRAYOID, -1, InvalidOid,
+                                       COERCE_IMPLICIT_CAST);
+    if (constant->constbyval)
+        positions[count++] = constant->constvalue;
+    else
+        BITS_FOR_EACH(position, read_set(&reading, constant->constvalue)) {
+            if (count == MOST_OF_CONSTANT)
+                break;
+            positions[count++] = Int64GetDatum(position);
+        }
+    array = PointerGetDatum(construct_array(positions, count, INT8OID, sizeof(int64), FLOAT8PASSBYVAL, TYPALIGN_DOUBLE));
+    return (Node *)makeConst(INT8ARRAYOID, -1, InvalidOid, -1, array, false, false);
+}
+
+/* The share of the rows for which an operator holds: that of the operator of arrays. */
+static Datum share(FunctionCallInfo fcinfo, Oid of_arrays) {
+    PlannerInfo *root = (PlannerInfo *)PG_GETARG_POINTER(0);
+    List *operands = (List *)PG_GETARG_POINTER(2);
+    List *arrays = list_make2(as_array(root, linitial(operands)), as_array(root, lsecond(operands)));
+    return DirectFunctionCall4(arraycontsel, PointerGetDatum(root), of_arrays, PointerGetDatum(arrays), PG_GETARG_DATUM(3));
+}
+
+BY(bitset_contains_share, share, OID_ARRAY_CONTAINS_OP)
+BY(bitset_contained_share, share, OID_ARRAY_CONTAINED_OP)
+BY(bitset_overlap_share, share, OID_ARRAY_OVERLAP_OP)
