@@ -3,3 +3,4 @@ pub mod Given
 pub mod Passing
 pub mod Ranked
 pub mod Tables
+pub mod Takes

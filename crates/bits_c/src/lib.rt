@@ -18,6 +18,7 @@ ghost use Rattle.fixedbitset.specs.Bits.{of_words};
 ghost use Rattle.fixedbitset.specs.Stored.{IsClean};
 
 pub mod bytes;
+pub mod handfuls;
 pub mod neighbours;
 pub mod pairs;
 pub mod ranges;
