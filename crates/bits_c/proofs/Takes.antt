@@ -1,5 +1,5 @@
 -- Positions that are written to the front of a list, one after the other.
-use Rattle.std.proofs.Common.{◌≡◌, ℕ, ◌+◌, ◌-◌, ◌<◌, ◌≤◌, min, List, [], ◌∷◌, ◌++◌, length, take, drop, reverse, get_or, refl, sym, ap, ◌∙◌, ⊎_elim, arith, suc, add-one, length-drop, length-append, drop-cons, append-nil, append_assoc}
+use Rattle.std.proofs.Common.{◌≡◌, ℕ, ◌+◌, ◌-◌, ◌<◌, ◌≤◌, min, List, ◌∷◌, ◌++◌, length, take, drop, reverse, get_or, refl, sym, ap, ◌∙◌, ⊎_elim, arith, suc, add-one, length-drop, length-append, drop-cons, append-nil, append_assoc}
 use Rattle.std.proofs.Math.Seq.{take-append_seam, drop-append_seam, take-append-add, drop-append-add, take-length, drop-length}
 use Rattle.std.proofs.lemmas.Bool.{cases_lt}
 use Rattle.std.proofs.lemmas.List.{take-append-le, drop-append-le, length-take-le, drop-drop, take-append-drop, reverse-reverse, reverse-append, length-reverse}
@@ -8,15 +8,15 @@ use Rattle.std.proofs.Math.ListN.{set}
 use Rattle.std.proofs.lemmas.List.Edits.{paste_more}
 use Rattle.std.proofs.Math.Nat.{zero-add}
 
-module _ (xs ps : List ℕ) (k : ℕ) (room : k < length ps) where
-  -- what a further position makes of what is written
-  pub more_written : (x : ℕ) (rest : List ℕ) → drop k xs ≡ x ∷ rest → (k + 1 ≤ length xs) × (set (take k xs ++ drop k ps) k x ≡ take (k + 1) xs ++ drop (k + 1) ps) × (rest ≡ drop (k + 1) xs)
+module _ {A : Type 0} (xs ps : List A) (k : ℕ) (room : k < length ps) where
+  -- what a further item makes of what is written
+  pub more_written : (x : A) (rest : List A) → drop k xs ≡ x ∷ rest → (k + 1 ≤ length xs) × (set (take k xs ++ drop k ps) k x ≡ take (k + 1) xs ++ drop (k + 1) ps) × (rest ≡ drop (k + 1) xs)
   more_written x rest is =
       let below : k < length xs = omega (arith, length-drop k xs, ap length is) in
-      let heads : drop k xs ≡ get_or xs k 0 ∷ drop (suc k) xs = drop-cons xs k 0 below in
-      let head : get_or xs k 0 ≡ x = cc in
+      let heads : drop k xs ≡ get_or xs k x ∷ drop (suc k) xs = drop-cons xs k x below in
+      let head : get_or xs k x ≡ x = cc in
       let tail : rest ≡ drop (k + 1) xs = rw add-one (cc) in
-      let write = simp zero-add at (paste_more ps 0 xs k 0 (omega arith) below) in
+      let write = simp zero-add at (paste_more ps 0 xs k x (omega arith) below) in
       (omega arith, ap (set (take k xs ++ drop k ps) k) (sym head) ∙ write, tail)
 
 -- what is taken of two lists in turn is taken of the two joined

@@ -161,9 +161,9 @@ impl<'a, const SHARED: bool> Passing<'a, SHARED> {
 pub extern "C" fn bits_ones_take(walk: &mut Ones<'_>, positions: &mut [usize]) -> usize
     ensures { TakesFirst ones_left walk.old positions.old result positions.new walk.new }
 {
-    let mut cursor = walk.cursor();
-    let count = fill(&mut cursor, positions);
-    *walk = Ones::of(cursor);
+    let mut ones = walk.cursor();
+    let count = fill(&mut ones, positions);
+    *walk = Ones::of(ones);
     count
 }
 
@@ -173,8 +173,8 @@ pub extern "C" fn bits_ones_take(walk: &mut Ones<'_>, positions: &mut [usize]) -
 pub extern "C" fn bits_ones_take_back(walk: &mut Ones<'_>, positions: &mut [usize]) -> usize
     ensures { TakesLast ones_left walk.old positions.old result positions.new walk.new }
 {
-    let (count, cursor) = fill_back(walk.cursor(), positions);
-    *walk = Ones::of(cursor);
+    let (count, ones) = fill_back(walk.cursor(), positions);
+    *walk = Ones::of(ones);
     count
 }
 
@@ -184,9 +184,9 @@ pub extern "C" fn bits_ones_take_back(walk: &mut Ones<'_>, positions: &mut [usiz
 pub extern "C" fn bits_zeroes_take(walk: &mut Zeroes<'_>, positions: &mut [usize]) -> usize
     ensures { TakesFirst zeroes_left walk.old positions.old result positions.new walk.new }
 {
-    let mut cursor = walk.cursor();
-    let count = fill(&mut cursor, positions);
-    *walk = Zeroes::of(cursor);
+    let mut zeroes = walk.cursor();
+    let count = fill(&mut zeroes, positions);
+    *walk = Zeroes::of(zeroes);
     count
 }
 
@@ -196,8 +196,8 @@ pub extern "C" fn bits_zeroes_take(walk: &mut Zeroes<'_>, positions: &mut [usize
 pub extern "C" fn bits_zeroes_take_back(walk: &mut Zeroes<'_>, positions: &mut [usize]) -> usize
     ensures { TakesLast zeroes_left walk.old positions.old result positions.new walk.new }
 {
-    let (count, cursor) = fill_back(walk.cursor(), positions);
-    *walk = Zeroes::of(cursor);
+    let (count, zeroes) = fill_back(walk.cursor(), positions);
+    *walk = Zeroes::of(zeroes);
     count
 }
 

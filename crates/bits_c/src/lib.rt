@@ -19,6 +19,7 @@ ghost use Rattle.fixedbitset.specs.Stored.{IsClean};
 
 pub mod bytes;
 pub mod handfuls;
+pub mod lists;
 pub mod neighbours;
 pub mod pairs;
 pub mod ranges;
