@@ -751,8 +751,8 @@ left! {
         bits_symmetric_difference_take, bits_symmetric_difference_take_back;
 }
 
-/// How many positions a walk gives in one call at most.
-const HANDFUL: usize = 32;
+/// How many positions a walk gives in one call at most. Where the calls become part of the program one is quicker.
+const HANDFUL: usize = if cfg!(bits_inlined) { 1 } else { 32 };
 
 /// Places for positions.
 type Places = [MaybeUninit<usize>; HANDFUL];
