@@ -4,3 +4,4 @@ pub mod Passing
 pub mod Ranked
 pub mod Tables
 pub mod Takes
+pub mod Words

@@ -12,6 +12,7 @@ ghost use Rattle.bits_c.specs.Walks.{shared_left, lacked_left, joined_left, spli
 use crate::sieves::{first_passing, last_passing};
 use crate::structs::{Ones, Pair, Sieve, Zeroes};
 use bitlanes::Block;
+use bitlanes::word::take_lowest_bit;
 use bitwords::cursors::{Cursor, Middle, Plain};
 
 // What gives positions from both ends.
@@ -36,6 +37,30 @@ impl<M: Middle + Drop> Giver for Cursor<M> {
     #[inline(always)]
     fn take_last(&mut self) -> Option<usize> {
         self.next_back()
+    }
+}
+
+// The next bit of the first word lies at hand. Only the way to a further word asks the cursor.
+impl<'a> Giver for Ones<'a> {
+    ghost left = { ones_left };
+
+    #[inline(always)]
+    fn take_first(&mut self) -> Option<usize> {
+        if self.front != 0 {
+            return Some(self.front_at + take_lowest_bit(&mut self.front));
+        }
+        let mut cursor = self.cursor();
+        let item = cursor.next();
+        *self = Ones::of(cursor);
+        item
+    }
+
+    #[inline(always)]
+    fn take_last(&mut self) -> Option<usize> {
+        let mut cursor = self.cursor();
+        let item = cursor.next_back();
+        *self = Ones::of(cursor);
+        item
     }
 }
 
@@ -161,9 +186,9 @@ impl<'a, const SHARED: bool> Passing<'a, SHARED> {
 pub extern "C" fn bits_ones_take(walk: &mut Ones<'_>, positions: &mut [usize]) -> usize
     ensures { TakesFirst ones_left walk.old positions.old result positions.new walk.new }
 {
-    let mut ones = walk.cursor();
+    let mut ones = Ones::of(walk.cursor());
     let count = fill(&mut ones, positions);
-    *walk = Ones::of(ones);
+    *walk = ones;
     count
 }
 

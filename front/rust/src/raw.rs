@@ -752,7 +752,7 @@ left! {
 }
 
 /// How many positions a walk gives in one call at most. Where the calls become part of the program one is quicker.
-const HANDFUL: usize = if cfg!(bits_inlined) { 1 } else { 32 };
+const HANDFUL: usize = if cfg!(bits_inlined) { 1 } else { 64 };
 
 /// Places for positions.
 type Places = [MaybeUninit<usize>; HANDFUL];
