@@ -16,11 +16,11 @@ TOP = pathlib.Path(__file__).resolve().parent.parent
 KINDS = {
     "usize": "word", "Block": "word", "size_t": "word", "uint64_t": "word",
     "isize": "signed", "ptrdiff_t": "signed",
-    "bool": "bool", "&mut bool": "bool*", "bool *": "bool*", "": "none", "void": "none",
+    "bool": "bool", "&mut bool": "bool*", "bool *": "bool*", "&mut [bool]": "bool* word", "NonNull<bool>": "bool*", "": "none", "void": "none",
     "&mut usize": "word*", "&mut Block": "word*", "uint64_t *": "word*", "size_t *": "word*",
     "&mut [Block]": "word* word", "&[Block]": "const word* word",
     "&mut [usize]": "word* word", "&[usize]": "const word* word", "const size_t *": "const word*",
-    "NonNull<usize>": "word*", "const uint64_t *": "const word*",
+    "NonNull<usize>": "word*", "*const usize": "const word*", "const uint64_t *": "const word*",
     "&Set": "const set*", "&Lent": "const set*", "const bits *": "const set*",
     "&mut Set": "set*", "&mut Lent": "set*", "bits *": "set*",
     "&mut Ones": "walk*", "&mut Zeroes": "walk*", "&mut Walk": "walk*", "bits_walk *": "walk*",

@@ -157,6 +157,11 @@ bool bits_set(bits *set, size_t bit, bool enabled);
 /* Makes word `index` the given one, without its bits past the length. It answers whether the length needs such a word; else
  * nothing is changed. */
 bool bits_set_block(bits *set, size_t index, uint64_t value);
+/* Sets each of `count` positions, and answers whether all of them are below the length; else nothing is changed. */
+bool bits_insert_all(bits *set, const size_t *positions, size_t count);
+/* Writes for each of `count` positions whether it is set: false at or past the length. It answers whether there are as many
+ * places; else nothing is written. */
+bool bits_contains_each(const bits *set, const size_t *positions, size_t count, bool *answers, size_t places);
 /* Clears all positions. */
 void bits_clear(bits *set);
 /* The least position that is set, or BITS_NONE. */
@@ -302,16 +307,23 @@ bool bits_rows_ones(bits_walk *walk, const bits_rows *rows, size_t row);
 void bits_rows_close(bits_rows *rows);
 
 /* ---- walks: each call of one gives a position and true, or false where none is left, and then for good.
- *      `next` gives the first that is left, `next_back` the last one, in any mix. */
+ *      `next` gives the first that is left, `next_back` the last one, in any mix.
+ *      `take` writes the first that are left to `positions`, as many as there is `room` for or as are left, and answers how
+ *      many; `take_back` writes the last ones, the last one first. The other places stay as they are. Both may be mixed with
+ *      the calls for one position. */
 
 /* Begins the walk over the positions that are set, in ascending order. */
 void bits_ones(bits_walk *walk, const bits *set);
 bool bits_ones_next(bits_walk *walk, size_t *position);
 bool bits_ones_next_back(bits_walk *walk, size_t *position);
+size_t bits_ones_take(bits_walk *walk, size_t *positions, size_t room);
+size_t bits_ones_take_back(bits_walk *walk, size_t *positions, size_t room);
 /* Begins the walk over the positions below the length that are not set, in ascending order. */
 void bits_zeroes(bits_walk *walk, const bits *set);
 bool bits_zeroes_next(bits_walk *walk, size_t *position);
 bool bits_zeroes_next_back(bits_walk *walk, size_t *position);
+size_t bits_zeroes_take(bits_walk *walk, size_t *positions, size_t room);
+size_t bits_zeroes_take_back(bits_walk *walk, size_t *positions, size_t room);
 /* Begins the walk over the positions from `start` up to and without `end` that are set, or that are not. It answers whether
  * the range is valid; else the walk gives none. */
 bool bits_ones_in(bits_walk *walk, const bits *set, size_t start, size_t end);
@@ -326,18 +338,26 @@ bool bits_runs_next_back(bits_run_walk *walk, size_t *start, size_t *end);
 void bits_intersection(bits_sieve *walk, const bits *set, const bits *other);
 bool bits_intersection_next(bits_sieve *walk, size_t *position);
 bool bits_intersection_next_back(bits_sieve *walk, size_t *position);
+size_t bits_intersection_take(bits_sieve *walk, size_t *positions, size_t room);
+size_t bits_intersection_take_back(bits_sieve *walk, size_t *positions, size_t room);
 /* Begins the walk over the positions of the first set that the second lacks, in ascending order. */
 void bits_difference(bits_sieve *walk, const bits *set, const bits *other);
 bool bits_difference_next(bits_sieve *walk, size_t *position);
 bool bits_difference_next_back(bits_sieve *walk, size_t *position);
+size_t bits_difference_take(bits_sieve *walk, size_t *positions, size_t room);
+size_t bits_difference_take_back(bits_sieve *walk, size_t *positions, size_t room);
 /* Begins the walk over the positions of the first set, ascending, and then those that the second alone has, ascending. */
 void bits_union(bits_pair *walk, const bits *set, const bits *other);
 bool bits_union_next(bits_pair *walk, size_t *position);
 bool bits_union_next_back(bits_pair *walk, size_t *position);
+size_t bits_union_take(bits_pair *walk, size_t *positions, size_t room);
+size_t bits_union_take_back(bits_pair *walk, size_t *positions, size_t room);
 /* Begins the walk over the positions that the first set alone has, ascending, and then those that the second alone has. */
 void bits_symmetric_difference(bits_pair *walk, const bits *set, const bits *other);
 bool bits_symmetric_difference_next(bits_pair *walk, size_t *position);
 bool bits_symmetric_difference_next_back(bits_pair *walk, size_t *position);
+size_t bits_symmetric_difference_take(bits_pair *walk, size_t *positions, size_t room);
+size_t bits_symmetric_difference_take_back(bits_pair *walk, size_t *positions, size_t room);
 
 #ifdef __cplusplus
 }

@@ -3,6 +3,7 @@
 #include "bits.h"
 #include <assert.h>
 #include <stdlib.h>
+#include <string.h>
 
 static bits empty(size_t length) {
     bits set = BITS_OF((uint64_t *)calloc(bits_words(length) + 1, sizeof(uint64_t)), length);
@@ -42,6 +43,14 @@ static void positions(void) {
     assert(bits_previous_zero(&set, 70) == 68 && bits_previous_zero(&set, 0) == BITS_NONE);
     assert(bits_remove(&set, 69) && !bits_remove(&set, 70) && bits_maximum(&set) == 5);
     assert(bits_set_block(&set, 1, UINT64_MAX) && set.words[1] == 63 && !bits_set_block(&set, 2, 1));
+    const size_t list[] = {69, 2, 69, 70};
+    bool answers[] = {false, true, false, true};
+    bits_clear(&set);
+    assert(bits_insert_all(&set, list, 3) && bits_minimum(&set) == 2 && bits_count_ones(&set, 0, 70) == 2);
+    assert(!bits_insert_all(&set, list, 4) && bits_insert_all(&set, list, 0) && bits_count_ones(&set, 0, 70) == 2);
+    assert(!bits_contains_each(&set, list, 4, answers, 3) && !answers[0]);
+    assert(bits_remove(&set, 2) && bits_contains_each(&set, list, 4, answers, 4));
+    assert(answers[0] && !answers[1] && answers[2] && !answers[3]);
     bits_clear(&set);
     assert(bits_is_clear(&set) && set.length == 70);
     free(set.words);
@@ -202,6 +211,20 @@ static void ranks(void) {
         assert(!name##_next_back(&walk, &p));                             \
     } while (0)
 
+/* The same by the handful: the last one, then the first two and what is left, with a place behind it that stays. */
+#define TAKES(walk, name, last, ...)                                                  \
+    do {                                                                              \
+        const size_t wanted[] = {__VA_ARGS__, SIZE_MAX};                              \
+        const size_t all = sizeof wanted / sizeof *wanted - 1, first = all < 2 ? all : 2; \
+        size_t taken[] = {__VA_ARGS__, SIZE_MAX}, p = 0;                              \
+        memset(taken, 255, sizeof taken);                                             \
+        assert(name##_take_back(&walk, &p, 1) == 1 && p == last);                     \
+        assert(name##_take(&walk, taken, 2) == first);                                \
+        assert(name##_take(&walk, taken + first, all + 1 - first) == all - first);    \
+        assert(!memcmp(taken, wanted, sizeof wanted));                                \
+        assert(name##_take(&walk, &p, 1) == 0 && name##_take_back(&walk, &p, 1) == 0 && p == last); \
+    } while (0)
+
 static void walks(void) {
     const size_t few[] = {1, 3, 5}, more[] = {1, 3, 69, 70};
     bits a = of(6, 3, few), b = of(71, 4, more);
@@ -211,8 +234,12 @@ static void walks(void) {
     bits_pair pair = BITS_PAIR;
     bits_ones(&walk, &b);
     GIVES(walk, bits_ones, 70, 1, 3, 69);
+    bits_ones(&walk, &b);
+    TAKES(walk, bits_ones, 70, 1, 3, 69);
     bits_zeroes(&walk, &a);
     GIVES(walk, bits_zeroes, 4, 0, 2);
+    bits_zeroes(&walk, &a);
+    TAKES(walk, bits_zeroes, 4, 0, 2);
     bits_run_walk runs = BITS_RUNS;
     size_t end = 0;
     bits_runs(&runs, &b);
@@ -231,12 +258,20 @@ static void walks(void) {
     assert(!bits_zeroes_in(&walk, &b, 4, 3) && !bits_zeroes_next_back(&walk, &start));
     bits_intersection(&sieve, &a, &b);
     GIVES(sieve, bits_intersection, 3, 1);
+    bits_intersection(&sieve, &a, &b);
+    TAKES(sieve, bits_intersection, 3, 1);
     bits_difference(&sieve, &b, &a);
     GIVES(sieve, bits_difference, 70, 69);
+    bits_difference(&sieve, &b, &a);
+    TAKES(sieve, bits_difference, 70, 69);
     bits_union(&pair, &a, &b);
     GIVES(pair, bits_union, 70, 1, 3, 5, 69);
+    bits_union(&pair, &a, &b);
+    TAKES(pair, bits_union, 70, 1, 3, 5, 69);
     bits_symmetric_difference(&pair, &a, &b);
     GIVES(pair, bits_symmetric_difference, 70, 5, 69);
+    bits_symmetric_difference(&pair, &a, &b);
+    TAKES(pair, bits_symmetric_difference, 70, 5, 69);
     BITS_FOR_EACH(p, &b) sum += p;
     assert(sum == 143);
     free(a.words);

@@ -3,3 +3,5 @@ pub mod Given
 pub mod Passing
 pub mod Ranked
 pub mod Tables
+pub mod Takes
+pub mod Words

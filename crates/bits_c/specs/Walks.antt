@@ -1,5 +1,5 @@
 -- What a contract sees of a walk that a caller keeps: the positions left.
-use Rattle.std.specs.Prelude.{ℕ, Bool, true, false, not, if◌then◌else◌, Option, Some, None, List, ◌++◌, map, filter}
+use Rattle.std.specs.Prelude.{ℕ, ◌≡◌, ◌-◌, min, Bool, true, false, not, if◌then◌else◌, Option, Some, None, List, ◌++◌, length, take, drop, reverse, map, filter}
 use Rattle.std.specs.Int.{bit_not, w64}
 use Rattle.bitwords.specs.Rows.{has_bit}
 use Rattle.bitwords.specs.Runs.{stretches, is_like}
@@ -53,3 +53,15 @@ joined_left walk = ones_left walk.first.walk ++ lacked_left walk.second
 -- the positions left of the first set that the second lacks, and then those of the second that the first lacks
 abbrev pub split_left : Pair → List ℕ
 split_left walk = lacked_left walk.first ++ lacked_left walk.second
+
+-- A call wrote the first positions left, as many as are left or as there is room for, and left those behind them.
+pub record TakesFirst {S : Type 0} (left : S → List ℕ) (old : S) (before : List ℕ) (count : ℕ) (after : List ℕ) (new : S) : Type 0 where
+  pub told : count ≡ min (length before) (length (left old))
+  pub written : after ≡ take count (left old) ++ drop count before
+  pub rest : left new ≡ drop count (left old)
+
+-- The same from the end: the last position is written first.
+pub record TakesLast {S : Type 0} (left : S → List ℕ) (old : S) (before : List ℕ) (count : ℕ) (after : List ℕ) (new : S) : Type 0 where
+  pub told : count ≡ min (length before) (length (left old))
+  pub written : after ≡ take count (reverse (left old)) ++ drop count before
+  pub rest : left new ≡ take (length (left old) - count) (left old)

@@ -18,6 +18,8 @@ ghost use Rattle.fixedbitset.specs.Bits.{of_words};
 ghost use Rattle.fixedbitset.specs.Stored.{IsClean};
 
 pub mod bytes;
+pub mod handfuls;
+pub mod lists;
 pub mod neighbours;
 pub mod pairs;
 pub mod ranges;

@@ -56,7 +56,11 @@ impl<'a> Sieve<'a> {
 }
 
 #[inline(always)]
-fn first_passing(cursor: &mut Cursor<Plain<'_>>, other: &[Block], shared: bool) -> Option<usize>
+pub(crate) fn first_passing(
+    cursor: &mut Cursor<Plain<'_>>,
+    other: &[Block],
+    shared: bool,
+) -> Option<usize>
     ensures { YieldsFirst (λ walk. filter (λ p. passes shared (has_bit other.now p)) walk.items)
         cursor.old result cursor.new }
 {
@@ -69,7 +73,11 @@ fn first_passing(cursor: &mut Cursor<Plain<'_>>, other: &[Block], shared: bool) 
 }
 
 #[inline(always)]
-fn last_passing(cursor: &mut Cursor<Plain<'_>>, other: &[Block], shared: bool) -> Option<usize>
+pub(crate) fn last_passing(
+    cursor: &mut Cursor<Plain<'_>>,
+    other: &[Block],
+    shared: bool,
+) -> Option<usize>
     ensures { YieldsLast (λ walk. filter (λ p. passes shared (has_bit other.now p)) walk.items)
         cursor.old result cursor.new }
 {

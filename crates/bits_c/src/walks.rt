@@ -70,7 +70,7 @@ impl<'a> Ones<'a> {
 
 impl<'a> Zeroes<'a> {
     #[inline(always)]
-    fn of(cursor: Cursor<Inverted<'a>>) -> Zeroes<'a>
+    pub(crate) fn of(cursor: Cursor<Inverted<'a>>) -> Zeroes<'a>
         ensures { zeroes_left result ≡ cursor.entry.items }
     {
         let held = cursor.into_held();
@@ -84,7 +84,7 @@ impl<'a> Zeroes<'a> {
     }
 
     #[inline(always)]
-    fn cursor(&self) -> Cursor<Inverted<'a>>
+    pub(crate) fn cursor(&self) -> Cursor<Inverted<'a>>
         ensures { result.items ≡ zeroes_left self.now }
     {
         let plain = Plain { words: self.words };

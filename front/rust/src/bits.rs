@@ -117,6 +117,44 @@ impl FixedBitSet {
         self.assert_done(done, "copy to", to);
     }
 
+    /// Sets each of the positions, in any order.
+    ///
+    /// **Panics** where one is at or past the length, with the first that is. Then nothing is set.
+    ///
+    /// ```
+    /// # use fixedbitset::FixedBitSet;
+    /// let mut set = FixedBitSet::with_capacity(10);
+    /// set.insert_all(&[7, 3, 7]);
+    /// assert_eq!(set.ones().collect::<Vec<_>>(), [3, 7]);
+    /// ```
+    #[inline]
+    #[track_caller]
+    pub fn insert_all(&mut self, positions: &[usize]) {
+        if !self.words.insert_all(positions) {
+            let past = positions.iter().find(|bit| **bit >= self.len());
+            self.assert_done(false, "insert at", *past.expect("one is past the length"));
+        }
+    }
+
+    /// Writes for each of the positions whether it is set. At or past the length none is.
+    ///
+    /// **Panics** where there are not as many answers as positions.
+    ///
+    /// ```
+    /// # use fixedbitset::FixedBitSet;
+    /// let set: FixedBitSet = [3, 7].into_iter().collect();
+    /// let mut answers = [false; 3];
+    /// set.contains_each(&[7, 4, 1000], &mut answers);
+    /// assert_eq!(answers, [true, false, false]);
+    /// ```
+    #[inline]
+    #[track_caller]
+    pub fn contains_each(&self, positions: &[usize], answers: &mut [bool]) {
+        let (count, places) = (positions.len(), answers.len());
+        let done = self.words.contains_each(positions, answers);
+        assert!(done, "{places} answers for {count} positions");
+    }
+
     /// The panic of upstream's calls on a position at or past the length.
     #[inline]
     #[track_caller]

@@ -5,9 +5,11 @@
 //! the declarations are `safe`. They stand on this: [`Words`], [`Lent`] and the walks have private fields, and what
 //! makes or changes them stands here. A table is the words of a set for each row; [`Table`] and [`Rows`] are to it what
 //! [`Words`] and [`Lent`] are to a set.
+use crate::handful::Handfuls;
 use alloc::vec;
 use alloc::vec::Vec;
 use core::marker::PhantomData;
+use core::mem::MaybeUninit;
 use core::ops::Deref;
 use core::ptr::NonNull;
 use core::slice;
@@ -117,6 +119,14 @@ unsafe extern "C" {
     pub safe fn bits_put(set: &mut Lent<'_>, bit: usize) -> bool;
     pub safe fn bits_set(set: &mut Lent<'_>, bit: usize, enabled: bool) -> bool;
     pub safe fn bits_set_block(set: &mut Lent<'_>, index: usize, value: usize) -> bool;
+    fn bits_insert_all(set: &mut Lent<'_>, positions: *const usize, count: usize) -> bool;
+    fn bits_contains_each(
+        set: &Lent<'_>,
+        positions: *const usize,
+        count: usize,
+        answers: NonNull<bool>,
+        places: usize,
+    ) -> bool;
     pub safe fn bits_clear(set: &mut Lent<'_>);
     pub safe fn bits_minimum(set: &Lent<'_>) -> usize;
     pub safe fn bits_maximum(set: &Lent<'_>) -> usize;
@@ -211,9 +221,13 @@ unsafe extern "C" {
     fn bits_ones(walk: &mut Walk<'_>, set: &Lent<'_>);
     pub safe fn bits_ones_next(walk: &mut Walk<'_>, position: &mut usize) -> bool;
     pub safe fn bits_ones_next_back(walk: &mut Walk<'_>, position: &mut usize) -> bool;
+    fn bits_ones_take(walk: &mut Walk<'_>, positions: NonNull<usize>, room: usize) -> usize;
+    fn bits_ones_take_back(walk: &mut Walk<'_>, positions: NonNull<usize>, room: usize) -> usize;
     fn bits_zeroes(walk: &mut Walk<'_>, set: &Lent<'_>);
     pub safe fn bits_zeroes_next(walk: &mut Walk<'_>, position: &mut usize) -> bool;
     pub safe fn bits_zeroes_next_back(walk: &mut Walk<'_>, position: &mut usize) -> bool;
+    fn bits_zeroes_take(walk: &mut Walk<'_>, positions: NonNull<usize>, room: usize) -> usize;
+    fn bits_zeroes_take_back(walk: &mut Walk<'_>, positions: NonNull<usize>, room: usize) -> usize;
     fn bits_ones_in(walk: &mut Walk<'_>, set: &Lent<'_>, start: usize, end: usize) -> bool;
     fn bits_zeroes_in(walk: &mut Walk<'_>, set: &Lent<'_>, start: usize, end: usize) -> bool;
     fn bits_runs(walk: &mut Runs<'_>, set: &Lent<'_>);
@@ -227,18 +241,46 @@ unsafe extern "C" {
     fn bits_intersection(walk: &mut Sieve<'_>, set: &Lent<'_>, other: &Lent<'_>);
     pub safe fn bits_intersection_next(walk: &mut Sieve<'_>, position: &mut usize) -> bool;
     pub safe fn bits_intersection_next_back(walk: &mut Sieve<'_>, position: &mut usize) -> bool;
+    fn bits_intersection_take(
+        walk: &mut Sieve<'_>,
+        positions: NonNull<usize>,
+        room: usize,
+    ) -> usize;
+    fn bits_intersection_take_back(
+        walk: &mut Sieve<'_>,
+        positions: NonNull<usize>,
+        room: usize,
+    ) -> usize;
     fn bits_difference(walk: &mut Sieve<'_>, set: &Lent<'_>, other: &Lent<'_>);
     pub safe fn bits_difference_next(walk: &mut Sieve<'_>, position: &mut usize) -> bool;
     pub safe fn bits_difference_next_back(walk: &mut Sieve<'_>, position: &mut usize) -> bool;
+    fn bits_difference_take(walk: &mut Sieve<'_>, positions: NonNull<usize>, room: usize) -> usize;
+    fn bits_difference_take_back(
+        walk: &mut Sieve<'_>,
+        positions: NonNull<usize>,
+        room: usize,
+    ) -> usize;
     fn bits_union(walk: &mut Pair<'_>, set: &Lent<'_>, other: &Lent<'_>);
     pub safe fn bits_union_next(walk: &mut Pair<'_>, position: &mut usize) -> bool;
     pub safe fn bits_union_next_back(walk: &mut Pair<'_>, position: &mut usize) -> bool;
+    fn bits_union_take(walk: &mut Pair<'_>, positions: NonNull<usize>, room: usize) -> usize;
+    fn bits_union_take_back(walk: &mut Pair<'_>, positions: NonNull<usize>, room: usize) -> usize;
     fn bits_symmetric_difference(walk: &mut Pair<'_>, set: &Lent<'_>, other: &Lent<'_>);
     pub safe fn bits_symmetric_difference_next(walk: &mut Pair<'_>, position: &mut usize) -> bool;
     pub safe fn bits_symmetric_difference_next_back(
         walk: &mut Pair<'_>,
         position: &mut usize,
     ) -> bool;
+    fn bits_symmetric_difference_take(
+        walk: &mut Pair<'_>,
+        positions: NonNull<usize>,
+        room: usize,
+    ) -> usize;
+    fn bits_symmetric_difference_take_back(
+        walk: &mut Pair<'_>,
+        positions: NonNull<usize>,
+        room: usize,
+    ) -> usize;
 }
 
 /// The position that a call answered, where `usize::MAX` is none.
@@ -313,6 +355,23 @@ impl Words {
         bytes
     }
 
+    /// Sets each of the positions, and answers whether all of them are below the length; else nothing is changed.
+    #[inline]
+    pub fn insert_all(&mut self, positions: &[usize]) -> bool {
+        // SAFETY: so many positions are lent, and nothing changes them while the call reads them. It changes the set alone.
+        unsafe { bits_insert_all(&mut self.lent_mut(), positions.as_ptr(), positions.len()) }
+    }
+
+    /// Writes for each of the positions whether it is set, and answers whether there are as many places; else nothing is
+    /// written.
+    #[inline]
+    pub fn contains_each(&self, positions: &[usize], answers: &mut [bool]) -> bool {
+        let (lent, places) = (NonNull::from(&mut *answers).cast(), answers.len());
+        let (list, count) = (positions.as_ptr(), positions.len());
+        // SAFETY: so many positions and places are lent, and nothing else changes either during the call. It writes answers.
+        unsafe { bits_contains_each(&self.lent(), list, count, lent, places) }
+    }
+
     /// Makes any words those of a set: it drops the positions past the length.
     fn settle(&mut self) {
         let (length, count) = (self.length, LANE * self.lanes.len());
@@ -384,37 +443,37 @@ impl Words {
     }
 
     #[inline(always)]
-    pub fn ones(&self) -> Walk<'_> {
+    pub fn ones(&self) -> OnesLeft<'_> {
         let mut walk = Walk::NONE;
         // SAFETY: the walk keeps the words, which are lent as long as it lives.
         unsafe { bits_ones(&mut walk, &self.lent()) };
-        walk
+        OnesLeft(walk)
     }
 
     #[inline(always)]
-    pub fn zeroes(&self) -> Walk<'_> {
+    pub fn zeroes(&self) -> ZeroesLeft<'_> {
         let mut walk = Walk::NONE;
         // SAFETY: as above.
         unsafe { bits_zeroes(&mut walk, &self.lent()) };
-        walk
+        ZeroesLeft(walk)
     }
 
     /// The walk over the positions of the range that are set, and whether the range is valid.
     #[inline(always)]
-    pub fn ones_in(&self, start: usize, end: usize) -> (Walk<'_>, bool) {
+    pub fn ones_in(&self, start: usize, end: usize) -> (OnesLeft<'_>, bool) {
         let mut walk = Walk::NONE;
         // SAFETY: as above.
         let is_valid = unsafe { bits_ones_in(&mut walk, &self.lent(), start, end) };
-        (walk, is_valid)
+        (OnesLeft(walk), is_valid)
     }
 
     /// The walk over the positions of the range that are not set, and whether the range is valid.
     #[inline(always)]
-    pub fn zeroes_in(&self, start: usize, end: usize) -> (Walk<'_>, bool) {
+    pub fn zeroes_in(&self, start: usize, end: usize) -> (ZeroesLeft<'_>, bool) {
         let mut walk = Walk::NONE;
         // SAFETY: as above.
         let is_valid = unsafe { bits_zeroes_in(&mut walk, &self.lent(), start, end) };
-        (walk, is_valid)
+        (ZeroesLeft(walk), is_valid)
     }
 
     #[inline(always)]
@@ -434,35 +493,35 @@ impl Words {
     }
 
     #[inline(always)]
-    pub fn intersection<'a>(&'a self, other: &'a Words) -> Sieve<'a> {
+    pub fn intersection<'a>(&'a self, other: &'a Words) -> SharedLeft<'a> {
         let mut walk = Sieve::NONE;
         // SAFETY: the walk keeps the words of both sets, which are lent as long as it lives.
         unsafe { bits_intersection(&mut walk, &self.lent(), &other.lent()) };
-        walk
+        SharedLeft(walk)
     }
 
     #[inline(always)]
-    pub fn difference<'a>(&'a self, other: &'a Words) -> Sieve<'a> {
+    pub fn difference<'a>(&'a self, other: &'a Words) -> LackedLeft<'a> {
         let mut walk = Sieve::NONE;
         // SAFETY: as above.
         unsafe { bits_difference(&mut walk, &self.lent(), &other.lent()) };
-        walk
+        LackedLeft(walk)
     }
 
     #[inline(always)]
-    pub fn union<'a>(&'a self, other: &'a Words) -> Pair<'a> {
+    pub fn union<'a>(&'a self, other: &'a Words) -> JoinedLeft<'a> {
         let mut walk = Pair::NONE;
         // SAFETY: as above.
         unsafe { bits_union(&mut walk, &self.lent(), &other.lent()) };
-        walk
+        JoinedLeft(walk)
     }
 
     #[inline(always)]
-    pub fn symmetric_difference<'a>(&'a self, other: &'a Words) -> Pair<'a> {
+    pub fn symmetric_difference<'a>(&'a self, other: &'a Words) -> SplitLeft<'a> {
         let mut walk = Pair::NONE;
         // SAFETY: as above.
         unsafe { bits_symmetric_difference(&mut walk, &self.lent(), &other.lent()) };
-        walk
+        SplitLeft(walk)
     }
 
     /// The set with a new directory of its words.
@@ -485,7 +544,10 @@ impl Words {
         let mut walk = Walk::NONE;
         // SAFETY: the walk keeps the words, which stay where they are, unchanged, as long as the `Owned` lives.
         unsafe { bits_ones(&mut walk, &self.lent()) };
-        Owned { walk, _words: self }
+        Owned {
+            walk: Handfuls::of(OnesLeft(walk)),
+            _words: self,
+        }
     }
 }
 
@@ -562,34 +624,30 @@ impl Table {
 
     /// The walk over the columns of a row, and whether the table has the row.
     #[inline(always)]
-    pub fn ones(&self, row: usize) -> (Walk<'_>, bool) {
+    pub fn ones(&self, row: usize) -> (OnesLeft<'_>, bool) {
         let mut walk = Walk::NONE;
         // SAFETY: the walk keeps the words, which are lent as long as it lives.
         let is_there = unsafe { bits_rows_ones(&mut walk, &self.lent(), row) };
-        (walk, is_there)
+        (OnesLeft(walk), is_there)
     }
 }
 
 /// A walk, and the words that it reads.
 pub struct Owned {
-    walk: Walk<'static>,
+    walk: Handfuls<OnesLeft<'static>>,
     _words: Words,
 }
 
 impl Owned {
-    #[inline]
-    pub fn next(&mut self) -> Option<usize> {
-        given(|position| bits_ones_next(&mut self.walk, position))
-    }
-
-    #[inline]
-    pub fn next_back(&mut self) -> Option<usize> {
-        given(|position| bits_ones_next_back(&mut self.walk, position))
+    /// A call of the walk, which keeps nothing of it.
+    #[inline(always)]
+    pub fn with<T>(&mut self, call: impl FnOnce(&mut Handfuls<OnesLeft<'_>>) -> T) -> T {
+        call(&mut self.walk)
     }
 
     /// The walk as it stands, lent.
-    #[inline]
-    pub fn walk(&self) -> &Walk<'_> {
+    #[inline(always)]
+    pub fn lent(&self) -> &Handfuls<OnesLeft<'_>> {
         &self.walk
     }
 }
@@ -623,6 +681,166 @@ impl Walk<'_> {
     #[inline]
     pub fn most(&self) -> Option<usize> {
         self.count.checked_add(2)?.checked_mul(usize::BITS as usize)
+    }
+}
+
+/// What a walk has left, and the calls that give it from both ends.
+pub trait Left: Clone {
+    /// Whether each position is greater than the one before.
+    const ASCENDS: bool;
+
+    /// The first position left, and with it a handful of those behind it.
+    fn take(&mut self, handful: &mut Handful) -> Option<usize>;
+
+    /// The last position left, and with it a handful of those before it, the last one first.
+    fn take_back(&mut self, handful: &mut Handful) -> Option<usize>;
+
+    /// Not less than how many positions are left.
+    fn most(&self) -> Option<usize>;
+}
+
+/// What is left by the four calls of a walk.
+macro_rules! left {
+    ($($name:ident of $walk:ident, $ascends:literal, by $next:ident, $next_back:ident, $take:ident, $take_back:ident;)*) => { $(
+        #[derive(Clone)]
+        pub struct $name<'a>($walk<'a>);
+
+        impl Left for $name<'_> {
+            const ASCENDS: bool = $ascends;
+
+            #[inline(always)]
+            fn take(&mut self, handful: &mut Handful) -> Option<usize> {
+                #[inline(never)]
+                fn taken(walk: &mut $walk<'_>, count: &mut usize) -> Places {
+                    let mut places = [MaybeUninit::uninit(); HANDFUL];
+                    // SAFETY: so many places are lent. The call writes the first of them, as many as it answers.
+                    *count = unsafe { $take(walk, NonNull::from(&mut places).cast(), HANDFUL) };
+                    places
+                }
+                handful.next(&mut self.0, |walk| given(|position| $next(walk, position)), taken)
+            }
+
+            #[inline(always)]
+            fn take_back(&mut self, handful: &mut Handful) -> Option<usize> {
+                #[inline(never)]
+                fn taken(walk: &mut $walk<'_>, count: &mut usize) -> Places {
+                    let mut places = [MaybeUninit::uninit(); HANDFUL];
+                    // SAFETY: as above.
+                    *count = unsafe { $take_back(walk, NonNull::from(&mut places).cast(), HANDFUL) };
+                    places
+                }
+                handful.next(&mut self.0, |walk| given(|position| $next_back(walk, position)), taken)
+            }
+
+            #[inline]
+            fn most(&self) -> Option<usize> {
+                self.0.most()
+            }
+        }
+    )* };
+}
+left! {
+    OnesLeft of Walk, true, by bits_ones_next, bits_ones_next_back, bits_ones_take, bits_ones_take_back;
+    ZeroesLeft of Walk, true, by bits_zeroes_next, bits_zeroes_next_back, bits_zeroes_take, bits_zeroes_take_back;
+    SharedLeft of Sieve, true, by bits_intersection_next, bits_intersection_next_back, bits_intersection_take,
+        bits_intersection_take_back;
+    LackedLeft of Sieve, true, by bits_difference_next, bits_difference_next_back, bits_difference_take,
+        bits_difference_take_back;
+    JoinedLeft of Pair, false, by bits_union_next, bits_union_next_back, bits_union_take, bits_union_take_back;
+    SplitLeft of Pair, false, by bits_symmetric_difference_next, bits_symmetric_difference_next_back,
+        bits_symmetric_difference_take, bits_symmetric_difference_take_back;
+}
+
+/// How many positions a walk gives in one call at most. Where the calls become part of the program one is quicker.
+const HANDFUL: usize = if cfg!(bits_inlined) { 1 } else { 64 };
+
+/// Places for positions.
+type Places = [MaybeUninit<usize>; HANDFUL];
+
+/// Positions that a walk gave in one call, those from `next` up to `end` not yet handed out, and how many the next call is
+/// asked for.
+#[derive(Clone)]
+pub struct Handful {
+    places: Places,
+    next: usize,
+    end: usize,
+    room: usize,
+}
+
+impl Handful {
+    /// With no position. The first call is asked for one alone, for many walks are asked for no more.
+    #[inline(always)]
+    pub fn new() -> Self {
+        Handful {
+            places: [MaybeUninit::uninit(); HANDFUL],
+            next: HANDFUL,
+            end: HANDFUL,
+            room: 1,
+        }
+    }
+
+    /// The next position of a walk, where the handful is empty. A call that gives fewer positions than it was asked for left
+    /// none. Calls are made on copies, so that the compiler may keep what is copied in registers.
+    #[inline(always)]
+    fn next<W: Clone>(
+        &mut self,
+        left: &mut W,
+        next: impl FnOnce(&mut W) -> Option<usize>,
+        taken: impl FnOnce(&mut W, &mut usize) -> Places,
+    ) -> Option<usize> {
+        let mut walk = left.clone();
+        if self.room == 1 {
+            self.room = HANDFUL;
+            let first = next(&mut walk);
+            *left = walk;
+            return first;
+        }
+        if self.room == 0 {
+            return None;
+        }
+        let mut end = 0;
+        self.places = taken(&mut walk, &mut end);
+        *left = walk;
+        (self.next, self.end) = (0, end);
+        self.room = if end < HANDFUL { 0 } else { HANDFUL };
+        self.take_first()
+    }
+
+    /// How many positions are left in it.
+    #[inline(always)]
+    pub fn count(&self) -> usize {
+        self.end - self.next
+    }
+
+    /// The first position.
+    #[inline(always)]
+    pub fn take_first(&mut self) -> Option<usize> {
+        if self.next == self.end {
+            return None;
+        }
+        // SAFETY: a call wrote the places below `end`.
+        let position = unsafe { self.places.get_unchecked(self.next).assume_init() };
+        self.next += 1;
+        Some(position)
+    }
+
+    /// The last position.
+    #[inline(always)]
+    pub fn take_last(&mut self) -> Option<usize> {
+        if self.next == self.end {
+            return None;
+        }
+        self.end -= 1;
+        // SAFETY: as above.
+        Some(unsafe { self.places.get_unchecked(self.end).assume_init() })
+    }
+
+    /// Drops so many of the first positions, or all, and answers how many.
+    #[inline(always)]
+    pub fn skip(&mut self, count: usize) -> usize {
+        let count = count.min(self.count());
+        self.next += count;
+        count
     }
 }
 

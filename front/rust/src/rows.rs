@@ -137,7 +137,7 @@ impl BitRows {
         let (walk, is_there) = self.table.ones(row);
         let rows = self.rows();
         assert!(is_there, "row {row} exceeds a table of {rows} rows");
-        Ones { walk }
+        Ones::of(walk)
     }
 
     /// The transitive closure of the graph that has an edge from each row to each column at which the row has a bit:

@@ -1,5 +1,8 @@
 //! The walks over positions. Each call of one is a proved call.
-use crate::raw::{self, Owned, Pair, Sieve, Walk};
+use crate::handful::Handfuls;
+use crate::raw::{
+    self, JoinedLeft, LackedLeft, OnesLeft, Owned, SharedLeft, SplitLeft, ZeroesLeft,
+};
 use crate::{Block, FixedBitSet, IndexRange};
 use core::fmt::{Debug, Formatter, Result};
 use core::iter::FusedIterator;
@@ -14,9 +17,7 @@ impl FixedBitSet {
     /// ```
     #[inline]
     pub fn ones(&self) -> Ones<'_> {
-        Ones {
-            walk: self.words.ones(),
-        }
+        Ones::of(self.words.ones())
     }
 
     /// The positions that are set, in ascending order. The walk owns the set.
@@ -29,7 +30,7 @@ impl FixedBitSet {
     #[inline]
     pub fn into_ones(self) -> IntoOnes {
         IntoOnes {
-            owned: self.words.into_ones(),
+            walk: self.words.into_ones(),
         }
     }
 
@@ -43,7 +44,7 @@ impl FixedBitSet {
     #[inline]
     pub fn zeroes(&self) -> Zeroes<'_> {
         Zeroes {
-            walk: self.words.zeroes(),
+            walk: Handfuls::of(self.words.zeroes()),
         }
     }
 
@@ -63,7 +64,7 @@ impl FixedBitSet {
         let (start, end) = self.ends(&range);
         let (walk, is_valid) = self.words.ones_in(start, end);
         self.assert_valid(is_valid, start, end);
-        Ones { walk }
+        Ones::of(walk)
     }
 
     /// The positions of the range that are not set, in ascending order. It takes only the words that hold a position of
@@ -82,7 +83,9 @@ impl FixedBitSet {
         let (start, end) = self.ends(&range);
         let (walk, is_valid) = self.words.zeroes_in(start, end);
         self.assert_valid(is_valid, start, end);
-        Zeroes { walk }
+        Zeroes {
+            walk: Handfuls::of(walk),
+        }
     }
 
     /// The positions of both sets, in ascending order.
@@ -95,7 +98,7 @@ impl FixedBitSet {
     #[inline]
     pub fn intersection<'a>(&'a self, other: &'a FixedBitSet) -> Intersection<'a> {
         Intersection {
-            walk: self.words.intersection(&other.words),
+            walk: Handfuls::of(self.words.intersection(&other.words)),
         }
     }
 
@@ -109,7 +112,7 @@ impl FixedBitSet {
     #[inline]
     pub fn union<'a>(&'a self, other: &'a FixedBitSet) -> Union<'a> {
         Union {
-            walk: self.words.union(&other.words),
+            walk: Handfuls::of(self.words.union(&other.words)),
         }
     }
 
@@ -123,7 +126,7 @@ impl FixedBitSet {
     #[inline]
     pub fn difference<'a>(&'a self, other: &'a FixedBitSet) -> Difference<'a> {
         Difference {
-            walk: self.words.difference(&other.words),
+            walk: Handfuls::of(self.words.difference(&other.words)),
         }
     }
 
@@ -137,7 +140,7 @@ impl FixedBitSet {
     #[inline]
     pub fn symmetric_difference<'a>(&'a self, other: &'a FixedBitSet) -> SymmetricDifference<'a> {
         SymmetricDifference {
-            walk: self.words.symmetric_difference(&other.words),
+            walk: Handfuls::of(self.words.symmetric_difference(&other.words)),
         }
     }
 }
@@ -152,7 +155,7 @@ impl FixedBitSet {
 /// ```
 #[derive(Clone)]
 pub struct Ones<'a> {
-    pub(crate) walk: Walk<'a>,
+    walk: Handfuls<OnesLeft<'a>>,
 }
 
 /// The walk of [`FixedBitSet::into_ones`].
@@ -163,7 +166,7 @@ pub struct Ones<'a> {
 /// assert_eq!(walk.count(), 0);
 /// ```
 pub struct IntoOnes {
-    owned: Owned,
+    walk: Owned,
 }
 
 /// The walk of [`FixedBitSet::zeroes`] and of [`FixedBitSet::zeroes_in`].
@@ -175,7 +178,7 @@ pub struct IntoOnes {
 /// ```
 #[derive(Clone)]
 pub struct Zeroes<'a> {
-    walk: Walk<'a>,
+    walk: Handfuls<ZeroesLeft<'a>>,
 }
 
 /// The walk of [`FixedBitSet::intersection`].
@@ -187,7 +190,7 @@ pub struct Zeroes<'a> {
 /// ```
 #[derive(Clone)]
 pub struct Intersection<'a> {
-    walk: Sieve<'a>,
+    walk: Handfuls<SharedLeft<'a>>,
 }
 
 /// The walk of [`FixedBitSet::difference`].
@@ -199,7 +202,7 @@ pub struct Intersection<'a> {
 /// ```
 #[derive(Clone)]
 pub struct Difference<'a> {
-    walk: Sieve<'a>,
+    walk: Handfuls<LackedLeft<'a>>,
 }
 
 /// The walk of [`FixedBitSet::union`]. From the back it begins with what the second set alone has.
@@ -211,7 +214,7 @@ pub struct Difference<'a> {
 /// ```
 #[derive(Clone)]
 pub struct Union<'a> {
-    walk: Pair<'a>,
+    walk: Handfuls<JoinedLeft<'a>>,
 }
 
 /// The walk of [`FixedBitSet::symmetric_difference`]. From the back it begins with what the second set alone has.
@@ -223,82 +226,89 @@ pub struct Union<'a> {
 /// ```
 #[derive(Clone)]
 pub struct SymmetricDifference<'a> {
-    walk: Pair<'a>,
+    walk: Handfuls<SplitLeft<'a>>,
 }
 
-/// The traits of a walk by its two calls.
+/// The traits of a walk by its handfuls.
 macro_rules! walks {
-    ($($name:ident by $next:ident, $next_back:ident;)*) => { $(
-        impl Iterator for $name<'_> {
+    ($($name:ty),*) => { $(
+        impl Iterator for $name {
             type Item = usize;
 
             #[inline]
             fn next(&mut self) -> Option<usize> {
-                raw::given(|position| raw::$next(&mut self.walk, position))
+                self.walk.with(|walk| walk.next())
             }
 
             #[inline]
             fn size_hint(&self) -> (usize, Option<usize>) {
-                (0, self.walk.most())
+                self.walk.lent().size_hint()
+            }
+
+            #[inline]
+            fn nth(&mut self, n: usize) -> Option<usize> {
+                self.walk.with(|walk| walk.nth(n))
+            }
+
+            #[inline]
+            fn fold<B, F: FnMut(B, usize) -> B>(mut self, init: B, f: F) -> B {
+                self.walk.with(|walk| walk.fold(init, f))
+            }
+
+            #[inline]
+            fn count(mut self) -> usize {
+                self.walk.with(|walk| walk.count())
+            }
+
+            #[inline]
+            fn last(mut self) -> Option<usize> {
+                self.next_back()
+            }
+
+            #[inline]
+            fn min(mut self) -> Option<usize> {
+                self.walk.with(|walk| walk.min())
+            }
+
+            #[inline]
+            fn max(mut self) -> Option<usize> {
+                self.walk.with(|walk| walk.max())
             }
         }
 
-        impl DoubleEndedIterator for $name<'_> {
+        impl DoubleEndedIterator for $name {
             #[inline]
             fn next_back(&mut self) -> Option<usize> {
-                raw::given(|position| raw::$next_back(&mut self.walk, position))
+                self.walk.with(|walk| walk.next_back())
             }
         }
 
-        impl FusedIterator for $name<'_> {}
+        impl FusedIterator for $name {}
 
-        impl Debug for $name<'_> {
+        impl Debug for $name {
             /// The positions that are left.
             fn fmt(&self, f: &mut Formatter<'_>) -> Result {
-                f.debug_set().entries(self.clone()).finish()
+                self.walk.lent().fmt(f)
             }
         }
     )* };
 }
-walks! {
-    Ones by bits_ones_next, bits_ones_next_back;
-    Zeroes by bits_zeroes_next, bits_zeroes_next_back;
-    Intersection by bits_intersection_next, bits_intersection_next_back;
-    Difference by bits_difference_next, bits_difference_next_back;
-    Union by bits_union_next, bits_union_next_back;
-    SymmetricDifference by bits_symmetric_difference_next, bits_symmetric_difference_next_back;
-}
+walks!(
+    Ones<'_>,
+    Zeroes<'_>,
+    Intersection<'_>,
+    Difference<'_>,
+    Union<'_>,
+    SymmetricDifference<'_>,
+    IntoOnes
+);
 
-impl Iterator for IntoOnes {
-    type Item = usize;
-
-    #[inline]
-    fn next(&mut self) -> Option<usize> {
-        self.owned.next()
-    }
-
-    #[inline]
-    fn size_hint(&self) -> (usize, Option<usize>) {
-        (0, self.owned.walk().most())
-    }
-}
-
-impl DoubleEndedIterator for IntoOnes {
-    #[inline]
-    fn next_back(&mut self) -> Option<usize> {
-        self.owned.next_back()
-    }
-}
-
-impl FusedIterator for IntoOnes {}
-
-impl Debug for IntoOnes {
-    /// The positions that are left.
-    fn fmt(&self, f: &mut Formatter<'_>) -> Result {
+impl<'a> Ones<'a> {
+    #[inline(always)]
+    pub(crate) fn of(left: OnesLeft<'a>) -> Self {
         Ones {
-            walk: self.owned.walk().clone(),
+            walk: Handfuls::of(left),
         }
-        .fmt(f)
     }
 }
 

@@ -13,6 +13,28 @@ fn ranks(set: &Set, n: &Numbers) -> String {
 
 /// The calls by their names. Numbers go past the lengths, to the greatest one.
 pub const BEYOND: &[(&str, Call)] = &[
+    // lists
+    (
+        "insert_all",
+        Changes(|s, _, n| s.insert_all(&[n.p, n.q % 64, n.q])),
+    ),
+    (
+        "insert_all below the length",
+        Changes(|s, t, n| {
+            let below = t.ones().filter(|bit| *bit < s.len());
+            let list: Vec<usize> = below.chain(s.len().checked_sub(1 + n.p % 2)).collect();
+            s.insert_all(&list);
+        }),
+    ),
+    (
+        "contains_each",
+        Asks(|s, t, n| {
+            let list: Vec<usize> = t.ones().chain([n.p, n.q, usize::MAX]).collect();
+            let mut answers = vec![n.flag; list.len()];
+            s.contains_each(&list, &mut answers);
+            format!("{answers:?}")
+        }),
+    ),
     // positions moved
     ("shift_up", Changes(|s, _, n| s.shift_up(n.p))),
     ("shift_down", Changes(|s, _, n| s.shift_down(n.p))),

@@ -132,6 +132,20 @@ impl Set {
         self.enable(to, self.contains(from));
     }
 
+    pub fn insert_all(&mut self, bits: &[usize]) {
+        bits.iter()
+            .for_each(|bit| self.assert_below(*bit, "insert at"));
+        self.ones.extend(bits);
+    }
+
+    pub fn contains_each(&self, bits: &[usize], answers: &mut [bool]) {
+        let found = bits.iter().map(|bit| self.contains(*bit));
+        answers
+            .iter_mut()
+            .zip(found)
+            .for_each(|(answer, found)| *answer = found);
+    }
+
     fn enable(&mut self, bit: usize, enabled: bool) {
         if enabled {
             self.ones.insert(bit);

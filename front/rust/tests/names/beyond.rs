@@ -4,7 +4,7 @@ use std::fmt::Debug;
 use std::ops::Range;
 use std::panic::{RefUnwindSafe, UnwindSafe};
 
-/// Positions moved, parts, and bytes.
+/// Positions moved, parts, bytes, and lists.
 pub fn calls() -> Vec<&'static str> {
     typed! {
         "shift_up" is Set::shift_up, fn(&mut Set, usize);
@@ -18,6 +18,8 @@ pub fn calls() -> Vec<&'static str> {
         "resize" is Set::resize, fn(&mut Set, usize, bool);
         "from_bytes" is Set::from_bytes, fn(usize, &[u8]) -> Set;
         "to_bytes" is Set::to_bytes, fn(&Set) -> Vec<u8>;
+        "insert_all" is Set::insert_all, fn(&mut Set, &[usize]);
+        "contains_each" is Set::contains_each, fn(&Set, &[usize], &mut [bool]);
     }
 }
 

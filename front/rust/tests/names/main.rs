@@ -44,7 +44,7 @@ fn each_public_call_has_upstreams_type() {
 
 #[test]
 fn each_call_beyond_upstreams_has_its_type() {
-    assert_eq!(beyond::calls().len(), 11);
+    assert_eq!(beyond::calls().len(), 13);
     assert_eq!(beyond::rank_calls().len(), 4);
     assert_eq!(beyond::row_calls().len(), 8);
     assert!(beyond::have_traits());

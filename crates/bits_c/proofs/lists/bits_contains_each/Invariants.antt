@@ -1,0 +1,8 @@
+use Rattle.std.proofs.Common.{◌≡◌, ◌++◌, map, take, drop}
+use Rattle.fixedbitset.specs.Bits.{contains}
+use Rattle.bits_c.specs.Sets.{value}
+use Rattle.bits_c.proofs.lists.bits_contains_each.Given as goal
+
+-- the answers for the positions that came are written
+abbrev pub invariant-loop-index : goal.invariant-loop-index
+invariant-loop-index l = l.answers ≡ map (contains (value l.set)) (take l.index l.positions) ++ drop l.index l.fn.answers

@@ -1,0 +1,338 @@
+//! Positions of a walk by the handful: a call gives as many as there is room for, or as are left.
+//!
+//! Such a call leaves the walk where as many calls for one position leave it, and both may be mixed. Places that it has
+//! no position for stay as they are.
+
+ghost use Rattle.std.specs.Prelude.{◌≡◌, ◌++◌, ℕ, List, filter, reverse};
+ghost use Rattle.std.specs.Iterator.{YieldsFirst, YieldsLast};
+ghost use Rattle.bitwords.specs.Rows.{has_bit};
+ghost use Rattle.bits_c.specs.Walks.{TakesFirst, TakesLast, passes, sieved, ones_left, zeroes_left};
+ghost use Rattle.bits_c.specs.Walks.{shared_left, lacked_left, joined_left, split_left};
+
+use crate::sieves::{first_passing, last_passing};
+use crate::structs::{Ones, Pair, Sieve, Zeroes};
+use bitlanes::Block;
+use bitlanes::word::take_lowest_bit;
+use bitwords::cursors::{Cursor, Middle, Plain};
+
+// What gives positions from both ends.
+trait Giver {
+    ghost left: { Self → List ℕ };
+
+    fn take_first(&mut self) -> Option<usize>
+        ensures { YieldsFirst left self.old result self.new };
+
+    fn take_last(&mut self) -> Option<usize>
+        ensures { YieldsLast left self.old result self.new };
+}
+
+impl<M: Middle + Drop> Giver for Cursor<M> {
+    ghost left = { λ walk. walk.items };
+
+    #[inline(always)]
+    fn take_first(&mut self) -> Option<usize> {
+        self.next()
+    }
+
+    #[inline(always)]
+    fn take_last(&mut self) -> Option<usize> {
+        self.next_back()
+    }
+}
+
+// The next bit of the first word lies at hand. Only the way to a further word asks the cursor.
+impl<'a> Giver for Ones<'a> {
+    ghost left = { ones_left };
+
+    #[inline(always)]
+    fn take_first(&mut self) -> Option<usize> {
+        if self.front != 0 {
+            return Some(self.front_at + take_lowest_bit(&mut self.front));
+        }
+        let mut cursor = self.cursor();
+        let item = cursor.next();
+        *self = Ones::of(cursor);
+        item
+    }
+
+    #[inline(always)]
+    fn take_last(&mut self) -> Option<usize> {
+        let mut cursor = self.cursor();
+        let item = cursor.next_back();
+        *self = Ones::of(cursor);
+        item
+    }
+}
+
+// The positions of a walk that other words have, or those that they lack.
+#[derive(Drop)]
+struct Passing<'a, const SHARED: bool> {
+    cursor: Cursor<Plain<'a>>,
+    other: &'a [Block],
+}
+
+impl<'a, const SHARED: bool> Giver for Passing<'a, SHARED> {
+    ghost left = { λ it. filter (λ p. passes SHARED (has_bit it.other.now p)) it.cursor.items };
+
+    #[inline(always)]
+    fn take_first(&mut self) -> Option<usize> {
+        first_passing(&mut self.cursor, self.other, SHARED)
+    }
+
+    #[inline(always)]
+    fn take_last(&mut self) -> Option<usize> {
+        last_passing(&mut self.cursor, self.other, SHARED)
+    }
+}
+
+// The positions of a giver, the last one first.
+#[derive(Drop)]
+struct Reversed<G> {
+    giver: G,
+}
+
+impl<G: Giver + Drop> Giver for Reversed<G> {
+    ghost left = { λ reversed. reverse (G.left reversed.giver) };
+
+    #[inline(always)]
+    fn take_first(&mut self) -> Option<usize> {
+        self.giver.take_last()
+    }
+
+    #[inline(always)]
+    fn take_last(&mut self) -> Option<usize> {
+        self.giver.take_first()
+    }
+}
+
+// Writes the first positions left, and answers how many.
+#[inline(always)]
+fn fill<G: Giver>(giver: &mut G, positions: &mut [usize]) -> usize
+    ensures { TakesFirst G.left giver.old positions.old result positions.new giver.new }
+{
+    for (index, place) in positions.iter_mut().enumerate() {
+        match giver.take_first() {
+            Some(position) => *place = position,
+            None => return index,
+        }
+    }
+    positions.len()
+}
+
+// Writes the last positions left, the last one first, and answers how many.
+#[inline(always)]
+fn fill_back<G: Giver + Drop>(giver: G, positions: &mut [usize]) -> (usize, G)
+    ensures { TakesLast G.left giver positions.old result.0 positions.new result.1 }
+{
+    let mut reversed = Reversed { giver };
+    let count = fill(&mut reversed, positions);
+    (count, reversed.giver)
+}
+
+// The same as `fill`, where the positions of a second giver stand behind those of the first.
+#[inline(always)]
+fn fill_both<A: Giver, B: Giver>(first: &mut A, second: &mut B, positions: &mut [usize]) -> usize
+    ensures { TakesFirst (λ all. all) (A.left first.old ++ B.left second.old) positions.old result
+        positions.new (A.left first.new ++ B.left second.new) }
+{
+    let count = fill(first, positions);
+    let (_, room) = positions.split_at_mut(count);
+    count + fill(second, room)
+}
+
+// The same from the end, the last position of the second giver first.
+#[inline(always)]
+fn fill_both_back<A: Giver + Drop, B: Giver + Drop>(
+    first: A,
+    second: B,
+    positions: &mut [usize],
+) -> (usize, A, B)
+    ensures { TakesLast (λ all. all) (A.left first ++ B.left second) positions.old result.0
+        positions.new (A.left result.1 ++ B.left result.2) }
+{
+    let mut front = Reversed { giver: second };
+    let mut back = Reversed { giver: first };
+    let count = fill_both(&mut front, &mut back, positions);
+    (count, back.giver, front.giver)
+}
+
+impl<'a, const SHARED: bool> Passing<'a, SHARED> {
+    #[inline(always)]
+    fn of(sieve: &Sieve<'a>) -> Passing<'a, SHARED>
+        ensures { filter (λ p. passes SHARED (has_bit result.other.now p)) result.cursor.items
+            ≡ sieved SHARED sieve.now }
+    {
+        Passing {
+            cursor: sieve.walk.cursor(),
+            other: sieve.other,
+        }
+    }
+
+    #[inline(always)]
+    fn into_sieve(self) -> Sieve<'a>
+        ensures { sieved SHARED result
+            ≡ filter (λ p. passes SHARED (has_bit self.entry.other.now p)) self.entry.cursor.items }
+    {
+        Sieve {
+            walk: Ones::of(self.cursor),
+            other: self.other,
+        }
+    }
+}
+
+/// Writes the first positions left to `positions`, from its front on and in ascending order: as many as there is room
+/// for, or as are left. It answers how many.
+#[unsafe(no_mangle)]
+pub extern "C" fn bits_ones_take(walk: &mut Ones<'_>, positions: &mut [usize]) -> usize
+    ensures { TakesFirst ones_left walk.old positions.old result positions.new walk.new }
+{
+    let mut ones = Ones::of(walk.cursor());
+    let count = fill(&mut ones, positions);
+    *walk = ones;
+    count
+}
+
+/// Writes the last positions left to `positions`, from its front on and in descending order: as many as there is room
+/// for, or as are left. It answers how many.
+#[unsafe(no_mangle)]
+pub extern "C" fn bits_ones_take_back(walk: &mut Ones<'_>, positions: &mut [usize]) -> usize
+    ensures { TakesLast ones_left walk.old positions.old result positions.new walk.new }
+{
+    let (count, ones) = fill_back(walk.cursor(), positions);
+    *walk = Ones::of(ones);
+    count
+}
+
+/// Writes the first positions left to `positions`, from its front on and in ascending order: as many as there is room
+/// for, or as are left. It answers how many.
+#[unsafe(no_mangle)]
+pub extern "C" fn bits_zeroes_take(walk: &mut Zeroes<'_>, positions: &mut [usize]) -> usize
+    ensures { TakesFirst zeroes_left walk.old positions.old result positions.new walk.new }
+{
+    let mut zeroes = walk.cursor();
+    let count = fill(&mut zeroes, positions);
+    *walk = Zeroes::of(zeroes);
+    count
+}
+
+/// Writes the last positions left to `positions`, from its front on and in descending order: as many as there is room
+/// for, or as are left. It answers how many.
+#[unsafe(no_mangle)]
+pub extern "C" fn bits_zeroes_take_back(walk: &mut Zeroes<'_>, positions: &mut [usize]) -> usize
+    ensures { TakesLast zeroes_left walk.old positions.old result positions.new walk.new }
+{
+    let (count, zeroes) = fill_back(walk.cursor(), positions);
+    *walk = Zeroes::of(zeroes);
+    count
+}
+
+/// Writes the first positions left to `positions`, from its front on and in ascending order: as many as there is room
+/// for, or as are left. It answers how many.
+#[unsafe(no_mangle)]
+pub extern "C" fn bits_intersection_take(walk: &mut Sieve<'_>, positions: &mut [usize]) -> usize
+    ensures { TakesFirst shared_left walk.old positions.old result positions.new walk.new }
+{
+    let mut passing = Passing::<true>::of(walk);
+    let count = fill(&mut passing, positions);
+    *walk = passing.into_sieve();
+    count
+}
+
+/// Writes the last positions left to `positions`, from its front on and in descending order: as many as there is room
+/// for, or as are left. It answers how many.
+#[unsafe(no_mangle)]
+pub extern "C" fn bits_intersection_take_back(
+    walk: &mut Sieve<'_>,
+    positions: &mut [usize],
+) -> usize
+    ensures { TakesLast shared_left walk.old positions.old result positions.new walk.new }
+{
+    let (count, passing) = fill_back(Passing::<true>::of(walk), positions);
+    *walk = passing.into_sieve();
+    count
+}
+
+/// Writes the first positions left to `positions`, from its front on and in ascending order: as many as there is room
+/// for, or as are left. It answers how many.
+#[unsafe(no_mangle)]
+pub extern "C" fn bits_difference_take(walk: &mut Sieve<'_>, positions: &mut [usize]) -> usize
+    ensures { TakesFirst lacked_left walk.old positions.old result positions.new walk.new }
+{
+    let mut passing = Passing::<false>::of(walk);
+    let count = fill(&mut passing, positions);
+    *walk = passing.into_sieve();
+    count
+}
+
+/// Writes the last positions left to `positions`, from its front on and in descending order: as many as there is room
+/// for, or as are left. It answers how many.
+#[unsafe(no_mangle)]
+pub extern "C" fn bits_difference_take_back(walk: &mut Sieve<'_>, positions: &mut [usize]) -> usize
+    ensures { TakesLast lacked_left walk.old positions.old result positions.new walk.new }
+{
+    let (count, passing) = fill_back(Passing::<false>::of(walk), positions);
+    *walk = passing.into_sieve();
+    count
+}
+
+/// Writes the first positions left to `positions`, from its front on and in the order of the walk: as many as there is
+/// room for, or as are left. It answers how many.
+#[unsafe(no_mangle)]
+pub extern "C" fn bits_union_take(walk: &mut Pair<'_>, positions: &mut [usize]) -> usize
+    ensures { TakesFirst joined_left walk.old positions.old result positions.new walk.new }
+{
+    let mut first = walk.first.walk.cursor();
+    let mut second = Passing::<false>::of(&walk.second);
+    let count = fill_both(&mut first, &mut second, positions);
+    walk.first.walk = Ones::of(first);
+    walk.second = second.into_sieve();
+    count
+}
+
+/// Writes the last positions left to `positions`, from its front on and against the order of the walk: as many as there is
+/// room for, or as are left. It answers how many.
+#[unsafe(no_mangle)]
+pub extern "C" fn bits_union_take_back(walk: &mut Pair<'_>, positions: &mut [usize]) -> usize
+    ensures { TakesLast joined_left walk.old positions.old result positions.new walk.new }
+{
+    let first = walk.first.walk.cursor();
+    let second = Passing::<false>::of(&walk.second);
+    let (count, first, second) = fill_both_back(first, second, positions);
+    walk.first.walk = Ones::of(first);
+    walk.second = second.into_sieve();
+    count
+}
+
+/// Writes the first positions left to `positions`, from its front on and in the order of the walk: as many as there is
+/// room for, or as are left. It answers how many.
+#[unsafe(no_mangle)]
+pub extern "C" fn bits_symmetric_difference_take(
+    walk: &mut Pair<'_>,
+    positions: &mut [usize],
+) -> usize
+    ensures { TakesFirst split_left walk.old positions.old result positions.new walk.new }
+{
+    let mut first = Passing::<false>::of(&walk.first);
+    let mut second = Passing::<false>::of(&walk.second);
+    let count = fill_both(&mut first, &mut second, positions);
+    walk.first = first.into_sieve();
+    walk.second = second.into_sieve();
+    count
+}
+
+/// Writes the last positions left to `positions`, from its front on and against the order of the walk: as many as there is
+/// room for, or as are left. It answers how many.
+#[unsafe(no_mangle)]
+pub extern "C" fn bits_symmetric_difference_take_back(
+    walk: &mut Pair<'_>,
+    positions: &mut [usize],
+) -> usize
+    ensures { TakesLast split_left walk.old positions.old result positions.new walk.new }
+{
+    let first = Passing::<false>::of(&walk.first);
+    let second = Passing::<false>::of(&walk.second);
+    let (count, first, second) = fill_both_back(first, second, positions);
+    walk.first = first.into_sieve();
+    walk.second = second.into_sieve();
+    count
+}

@@ -1,0 +1,113 @@
+//! A walk that takes its positions by the handful. A call of its own for each would cost more than the position.
+use crate::raw::{Handful, Left};
+use core::fmt::{Formatter, Result};
+use core::iter::from_fn;
+
+/// What a walk has left, and for each end the positions that it gave in one call and that are not handed out yet.
+#[derive(Clone)]
+pub struct Handfuls<L> {
+    left: L,
+    front: Handful,
+    back: Handful,
+}
+
+impl<L: Left> Handfuls<L> {
+    #[inline(always)]
+    pub fn of(left: L) -> Self {
+        let (front, back) = (Handful::new(), Handful::new());
+        Handfuls { left, front, back }
+    }
+
+    /// The first position left: of the front's handful, of a new one, or of what the back has, which gives it last.
+    #[inline(always)]
+    pub fn next(&mut self) -> Option<usize> {
+        let Handfuls { left, front, back } = self;
+        let next = front.take_first().or_else(|| left.take(front));
+        next.or_else(|| back.take_last())
+    }
+
+    /// The last position left, likewise.
+    #[inline(always)]
+    pub fn next_back(&mut self) -> Option<usize> {
+        let Handfuls { left, front, back } = self;
+        let next = back.take_first().or_else(|| left.take_back(back));
+        next.or_else(|| front.take_last())
+    }
+
+    /// The position behind so many of the first ones.
+    pub fn nth(&mut self, mut skipped: usize) -> Option<usize> {
+        loop {
+            skipped -= self.front.skip(skipped);
+            let next = self.next()?;
+            if skipped == 0 {
+                return Some(next);
+            }
+            skipped -= 1;
+        }
+    }
+
+    /// How many positions are left. It takes them.
+    pub fn count(&mut self) -> usize {
+        let mut count = self.front.count() + self.back.count();
+        while self.left.take(&mut self.front).is_some() {
+            count += 1 + self.front.count();
+        }
+        count
+    }
+
+    /// What the positions left make, one by one. It takes them.
+    #[inline(always)]
+    pub fn fold<T>(&mut self, begun: T, mut join: impl FnMut(T, usize) -> T) -> T {
+        let mut made = begun;
+        while let Some(position) = self.next() {
+            made = join(made, position);
+        }
+        made
+    }
+
+    /// The least position left. It takes some.
+    #[inline]
+    pub fn min(&mut self) -> Option<usize> {
+        if L::ASCENDS {
+            return self.next();
+        }
+        let first = self.next()?;
+        Some(self.fold(first, usize::min))
+    }
+
+    /// The greatest position left. It takes some.
+    #[inline]
+    pub fn max(&mut self) -> Option<usize> {
+        if L::ASCENDS {
+            return self.next_back();
+        }
+        let first = self.next()?;
+        Some(self.fold(first, usize::max))
+    }
+
+    /// The positions that are left, in order.
+    pub fn fmt(&self, f: &mut Formatter<'_>) -> Result {
+        let mut walk = self.clone();
+        f.debug_set().entries(from_fn(|| walk.next())).finish()
+    }
+
+    /// The walk as it stands.
+    #[inline(always)]
+    pub fn lent(&self) -> &Self {
+        self
+    }
+
+    /// A call of the walk.
+    #[inline(always)]
+    pub fn with<T>(&mut self, call: impl FnOnce(&mut Self) -> T) -> T {
+        call(self)
+    }
+
+    /// Not more and not less than how many positions are left.
+    #[inline]
+    pub fn size_hint(&self) -> (usize, Option<usize>) {
+        let held = self.front.count() + self.back.count();
+        let most = self.left.most().and_then(|most| most.checked_add(held));
+        (held, most)
+    }
+}
