@@ -22,6 +22,13 @@ pub fn known(rt: &impl Abort, condition: bool)
     assert!(*rt; condition);
 }
 
+/// The assertion that these are equal, so that the rest of a test may build on it.
+pub fn known_equal<T: PartialEq + Debug + Drop>(rt: &impl Abort, left: T, right: T)
+    ensures { IsTrue (T.eq left right) }
+{
+    assert_eq!(*rt; left, right);
+}
+
 /// The assertion that these are equal.
 pub fn equal<T: PartialEq + Debug + Drop>(rt: &impl Abort, left: T, right: T) {
     assert_eq!(*rt; left, right);

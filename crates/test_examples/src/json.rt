@@ -1,6 +1,6 @@
 //! The examples in the docs of `fixedbitset::json`. docs/make_examples writes this file.
 
-use crate::calls::{equal, known, ok, set_of};
+use crate::calls::{equal, known_equal, ok, set_of};
 use fixedbitset::{FixedBitSet, JsonFault};
 use serde_json::Value;
 
@@ -34,6 +34,6 @@ fn from_value(rt: HostRuntime) {
     let alloc = rt.alloc();
     let value = ok(&rt, Value::from_str(alloc, "[10,[76,255]]"));
     let set = ok(&rt, FixedBitSet::from_value(alloc, &value));
-    known(&rt, set.len() == 10);
+    known_equal(&rt, set.len(), 10);
     equal(&rt, set.as_slice(), [844].as_slice());
 }

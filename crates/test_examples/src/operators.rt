@@ -1,13 +1,13 @@
 //! The examples in the docs of `fixedbitset::operators`. docs/make_examples writes this file.
 
-use crate::calls::{equal, holds, known, set_of};
+use crate::calls::{equal, holds, known_equal, set_of};
 
 #[test]
 fn bitand_assign(rt: HostRuntime) {
     let alloc = rt.alloc();
     let mut set = set_of(&rt, alloc, &[1, 3, 64]);
     set &= set_of(&rt, alloc, &[3, 5]);
-    known(&rt, set.len() == 65);
+    known_equal(&rt, set.len(), 65);
     equal(&rt, set.as_slice(), [8, 0].as_slice());
 }
 

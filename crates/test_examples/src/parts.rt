@@ -1,13 +1,13 @@
 //! The examples in the docs of `fixedbitset::parts`. docs/make_examples writes this file.
 
-use crate::calls::{cleared, equal, gives, known, ok, set_of};
+use crate::calls::{cleared, equal, gives, known, known_equal, ok, set_of};
 use fixedbitset::FixedBitSet;
 
 #[test]
 fn slice(rt: HostRuntime) {
     let alloc = rt.alloc();
     let set = set_of(&rt, alloc, &[1, 63, 65, 69]);
-    known(&rt, set.len() == 70);
+    known_equal(&rt, set.len(), 70);
     let part = ok(&rt, set.slice(alloc, 63..68));
     gives(&rt, part.ones(), &[0, 2]);
 }
@@ -39,7 +39,7 @@ fn truncate(rt: HostRuntime) {
     let mut set = set_of(&rt, alloc, &[1, 3, 64]);
     set.truncate(3);
     set.truncate(70);
-    known(&rt, set.len() == 3);
+    known_equal(&rt, set.len(), 3);
     equal(&rt, set.as_slice(), [2].as_slice());
 }
 
@@ -57,7 +57,7 @@ fn resize(rt: HostRuntime) {
 fn from_bytes(rt: HostRuntime) {
     let alloc = rt.alloc();
     let set = ok(&rt, FixedBitSet::from_bytes(alloc, 10, &[76, 255]));
-    known(&rt, set.len() == 10);
+    known_equal(&rt, set.len(), 10);
     equal(&rt, set.as_slice(), [844].as_slice());
 }
 

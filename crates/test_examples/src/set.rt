@@ -1,13 +1,13 @@
 //! The examples in the docs of `fixedbitset::set`. docs/make_examples writes this file.
 
-use crate::calls::{cleared, equal, holds, known, ok, set_of};
+use crate::calls::{cleared, equal, holds, known_equal, ok, set_of};
 use fixedbitset::{Block, FixedBitSet};
 
 #[test]
 fn new(rt: HostRuntime) {
     let alloc = rt.alloc();
     let mut set = FixedBitSet::new(alloc);
-    known(&rt, set.len() == 0);
+    known_equal(&rt, set.len(), 0);
     ok(&rt, set.grow_and_insert(64));
     equal(&rt, set.as_slice(), [0, 1].as_slice());
 }
@@ -17,7 +17,7 @@ fn new(rt: HostRuntime) {
 fn with_capacity(rt: HostRuntime) {
     let alloc = rt.alloc();
     let set = ok(&rt, FixedBitSet::with_capacity(alloc, 70));
-    known(&rt, set.len() == 70);
+    known_equal(&rt, set.len(), 70);
     equal(&rt, set.as_slice(), [0, 0].as_slice());
 }
 
@@ -45,7 +45,7 @@ fn grow(rt: HostRuntime) {
     let mut set = ok(&rt, FixedBitSet::with_capacity_and_blocks(alloc, 2, [3]));
     ok(&rt, set.grow(70));
     ok(&rt, set.grow(9));
-    known(&rt, set.len() == 70);
+    known_equal(&rt, set.len(), 70);
     equal(&rt, set.as_slice(), [3, 0].as_slice());
 }
 
@@ -58,7 +58,7 @@ fn clone_from(rt: HostRuntime) {
         FixedBitSet::with_capacity_and_blocks(alloc, 70, [8, 1]),
     );
     ok(&rt, set.clone_from(&source));
-    known(&rt, set.len() == 3);
+    known_equal(&rt, set.len(), 3);
     equal(&rt, set.as_slice(), [5].as_slice());
 }
 
@@ -67,7 +67,7 @@ fn clone_from(rt: HostRuntime) {
 fn set_block(rt: HostRuntime) {
     let alloc = rt.alloc();
     let mut set = cleared(&rt, alloc, 70);
-    equal(&rt, set.as_slice().len(), 2);
+    known_equal(&rt, set.as_slice().len(), 2);
     set.set_block(1, Block::MAX);
     equal(&rt, set.as_slice(), [0, 63].as_slice());
 }
@@ -80,7 +80,7 @@ fn clear(rt: HostRuntime) {
         FixedBitSet::with_capacity_and_blocks(alloc, 70, [8, 1]),
     );
     set.clear();
-    known(&rt, set.len() == 70);
+    known_equal(&rt, set.len(), 70);
     equal(&rt, set.as_slice(), [0, 0].as_slice());
 }
 
@@ -88,7 +88,7 @@ fn clear(rt: HostRuntime) {
 fn len(rt: HostRuntime) {
     let alloc = rt.alloc();
     let set = set_of(&rt, alloc, &[3, 70]);
-    known(&rt, set.len() == 71);
+    known_equal(&rt, set.len(), 71);
     equal(&rt, set.count_ones(..), 2);
 }
 
@@ -105,6 +105,6 @@ fn clone(rt: HostRuntime) {
     let set = set_of(&rt, alloc, &[3, 64]);
     let mut copy = ok(&rt, set.clone());
     copy.clear();
-    known(&rt, copy.len() == 65);
+    known_equal(&rt, copy.len(), 65);
     holds(&rt, set.contains(64) && !copy.contains(64));
 }

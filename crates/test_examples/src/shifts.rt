@@ -1,6 +1,6 @@
 //! The examples in the docs of `fixedbitset::shifts`. docs/make_examples writes this file.
 
-use crate::calls::{cleared, equal, gives, known, set_of};
+use crate::calls::{cleared, equal, gives, known, known_equal, set_of};
 
 #[test]
 fn shift_up(rt: HostRuntime) {
@@ -18,7 +18,7 @@ fn shift_down(rt: HostRuntime) {
     let mut set = set_of(&rt, alloc, &[0, 3, 69]);
     set.shift_down(3);
     equal(&rt, set.as_slice(), [1, 4].as_slice());
-    known(&rt, set.len() == 70);
+    known_equal(&rt, set.len(), 70);
 }
 
 #[test]

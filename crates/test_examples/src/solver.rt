@@ -1,6 +1,6 @@
 //! The examples in the docs of `flow::solver`. docs/make_examples writes this file.
 
-use crate::calls::{cleared, equal, holds, ok, set_of};
+use crate::calls::{cleared, equal, known, ok, set_of};
 use fixedbitset::Steps;
 
 #[test]
@@ -10,7 +10,7 @@ fn solve(rt: HostRuntime) {
     let none = cleared(&rt, alloc, 2);
     let gens = [set_of(&rt, alloc, &[0, 1]), ok(&rt, none.clone())];
     let kills = [none, set_of(&rt, alloc, &[1])];
-    holds(&rt, flow::is_problem(2, &[(0, 1)], &gens, &kills));
+    known(&rt, flow::is_problem(2, &[(0, 1)], &gens, &kills));
     let answer = ok(
         &rt,
         flow::solve(alloc, 2, &[(0, 1)], &gens, &kills, &mut Steps::new()),

@@ -1,6 +1,6 @@
 //! The examples in the docs of `fixedbitset::whole`. docs/make_examples writes this file.
 
-use crate::calls::{cleared, equal, holds, known, ok, set_of};
+use crate::calls::{cleared, equal, holds, known_equal, ok, set_of};
 
 #[test]
 fn union_with(rt: HostRuntime) {
@@ -8,7 +8,7 @@ fn union_with(rt: HostRuntime) {
     let mut set = set_of(&rt, alloc, &[1, 3]);
     let other = set_of(&rt, alloc, &[3, 64]);
     ok(&rt, set.union_with(&other));
-    known(&rt, set.len() == 65);
+    known_equal(&rt, set.len(), 65);
     equal(&rt, set.as_slice(), [10, 1].as_slice());
 }
 
@@ -18,7 +18,7 @@ fn symmetric_difference_with(rt: HostRuntime) {
     let mut set = set_of(&rt, alloc, &[1, 3]);
     let other = set_of(&rt, alloc, &[3, 64]);
     ok(&rt, set.symmetric_difference_with(&other));
-    known(&rt, set.len() == 65);
+    known_equal(&rt, set.len(), 65);
     equal(&rt, set.as_slice(), [2, 1].as_slice());
 }
 
@@ -28,7 +28,7 @@ fn intersect_with(rt: HostRuntime) {
     let mut set = set_of(&rt, alloc, &[1, 3, 64]);
     let other = set_of(&rt, alloc, &[3, 5]);
     set.intersect_with(&other);
-    known(&rt, set.len() == 65);
+    known_equal(&rt, set.len(), 65);
     equal(&rt, set.as_slice(), [8, 0].as_slice());
 }
 
@@ -100,7 +100,7 @@ fn bitand(rt: HostRuntime) {
     let set = set_of(&rt, alloc, &[1, 3, 64]);
     let other = set_of(&rt, alloc, &[3, 5]);
     let both = ok(&rt, set.bitand(&other));
-    known(&rt, both.len() == 6);
+    known_equal(&rt, both.len(), 6);
     equal(&rt, both.as_slice(), [8].as_slice());
 }
 
@@ -110,7 +110,7 @@ fn bitor(rt: HostRuntime) {
     let set = set_of(&rt, alloc, &[1, 3, 64]);
     let other = set_of(&rt, alloc, &[3, 5]);
     let either = ok(&rt, other.bitor(&set));
-    known(&rt, either.len() == 65);
+    known_equal(&rt, either.len(), 65);
     equal(&rt, either.as_slice(), [42, 1].as_slice());
 }
 
@@ -120,7 +120,7 @@ fn bitxor(rt: HostRuntime) {
     let set = set_of(&rt, alloc, &[1, 3, 64]);
     let other = set_of(&rt, alloc, &[3, 5]);
     let one = ok(&rt, other.bitxor(&set));
-    known(&rt, one.len() == 65);
+    known_equal(&rt, one.len(), 65);
     equal(&rt, one.as_slice(), [34, 1].as_slice());
 }
 

@@ -1,6 +1,6 @@
 //! The examples in the docs of `bitlaws::laws`. docs/make_examples writes this file.
 
-use crate::calls::{cleared, equal, gives, holds, ok, set_of};
+use crate::calls::{cleared, equal, gives, holds, known, known_equal, ok, set_of};
 use bitlanes::word;
 use bitlaws::laws;
 use fixedbitset::{FixedBitSet, Steps, counted};
@@ -81,7 +81,7 @@ fn one_more_or_fewer(rt: HostRuntime) {
     let alloc = rt.alloc();
     let mut set = cleared(&rt, alloc, 70);
     let before = set.count_ones(..);
-    holds(&rt, !set.put(64));
+    known(&rt, !set.put(64));
     laws::one_more_or_fewer();
     prove!(set.count_ones(..) == before + 1);
 }
@@ -126,7 +126,7 @@ fn counts_of_range_add_up(rt: HostRuntime) {
     let alloc = rt.alloc();
     let mut set = cleared(&rt, alloc, 70);
     set.insert(64);
-    equal(&rt, set.count_ones(60..), 1);
+    known_equal(&rt, set.count_ones(60..), 1);
     laws::counts_of_range_add_up();
     prove!(set.count_zeroes(60..) == 9);
 }
@@ -137,7 +137,7 @@ fn tests_of_range(rt: HostRuntime) {
     let alloc = rt.alloc();
     let mut set = cleared(&rt, alloc, 70);
     set.insert_range(60..66);
-    holds(&rt, set.contains_all_in_range(60..66));
+    known(&rt, set.contains_all_in_range(60..66));
     laws::tests_of_range();
     prove!(set.contains(64));
 }
@@ -147,8 +147,8 @@ fn counts_add_up(rt: HostRuntime) {
     let alloc = rt.alloc();
     let set = set_of(&rt, alloc, &[1, 3]);
     let other = set_of(&rt, alloc, &[3, 64]);
-    holds(&rt, set.count_ones(..) == 2 && other.count_ones(..) == 2);
-    equal(&rt, set.intersection_count(&other), 1);
+    known(&rt, set.count_ones(..) == 2 && other.count_ones(..) == 2);
+    known_equal(&rt, set.intersection_count(&other), 1);
     laws::counts_add_up();
     prove_eq!(set.union_count(&other), 3);
 }
@@ -178,7 +178,7 @@ fn tests_of_two_sets(rt: HostRuntime) {
     let alloc = rt.alloc();
     let set = set_of(&rt, alloc, &[3, 64]);
     let other = set_of(&rt, alloc, &[3, 64, 200]);
-    holds(&rt, set.contains(64) && set.is_subset(&other));
+    known(&rt, set.contains(64) && set.is_subset(&other));
     laws::tests_of_two_sets();
     prove!(other.contains(64));
 }

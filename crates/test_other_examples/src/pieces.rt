@@ -1,13 +1,13 @@
 //! The examples in the docs of `bitlaws::pieces`. docs/make_examples writes this file.
 
-use crate::calls::{cleared, gives, holds, known, ok, set_of};
+use crate::calls::{cleared, gives, holds, known, known_equal, ok, set_of};
 use bitlaws::pieces;
 
 #[test]
 fn pieces_are_the_set(rt: HostRuntime) {
     let alloc = rt.alloc();
     let set = set_of(&rt, alloc, &[3, 64]);
-    known(&rt, set.len() == 65);
+    known_equal(&rt, set.len(), 65);
     let (mut low, high) = (
         ok(&rt, set.slice(alloc, ..40)),
         ok(&rt, set.slice(alloc, 40..)),
@@ -36,7 +36,7 @@ fn joins_by_pieces(rt: HostRuntime) {
 fn counts_by_pieces(rt: HostRuntime) {
     let alloc = rt.alloc();
     let set = set_of(&rt, alloc, &[3, 9, 64]);
-    known(&rt, set.len() == 65);
+    known_equal(&rt, set.len(), 65);
     let (low, high) = (
         ok(&rt, set.slice(alloc, ..40)),
         ok(&rt, set.slice(alloc, 40..)),
@@ -63,7 +63,7 @@ fn tests_by_pieces(rt: HostRuntime) {
 fn members_by_pieces(rt: HostRuntime) {
     let alloc = rt.alloc();
     let set = set_of(&rt, alloc, &[3, 64]);
-    known(&rt, set.len() == 65);
+    known_equal(&rt, set.len(), 65);
     let high = ok(&rt, set.slice(alloc, 40..));
     pieces::members_by_pieces();
     holds(&rt, set.contains(64) && high.contains(64 - 40));
@@ -75,7 +75,7 @@ fn changes_by_pieces(rt: HostRuntime) {
     let alloc = rt.alloc();
     let mut set = cleared(&rt, alloc, 65);
     let mut high = ok(&rt, set.slice(alloc, 40..));
-    known(&rt, high.len() == 25);
+    known_equal(&rt, high.len(), 25);
     set.insert(64);
     high.insert(64 - 40);
     pieces::changes_by_pieces();
@@ -86,7 +86,7 @@ fn changes_by_pieces(rt: HostRuntime) {
 fn order_by_pieces(rt: HostRuntime) {
     let alloc = rt.alloc();
     let set = set_of(&rt, alloc, &[49, 64]);
-    known(&rt, set.len() == 65);
+    known_equal(&rt, set.len(), 65);
     let (low, high) = (
         ok(&rt, set.slice(alloc, ..40)),
         ok(&rt, set.slice(alloc, 40..)),
@@ -103,7 +103,7 @@ fn order_by_pieces(rt: HostRuntime) {
 fn missing_pieces(rt: HostRuntime) {
     let alloc = rt.alloc();
     let set = set_of(&rt, alloc, &[3, 64]);
-    known(&rt, set.len() == 65);
+    known_equal(&rt, set.len(), 65);
     let middle = ok(&rt, set.slice(alloc, 9..40));
     pieces::missing_pieces();
     holds(&rt, middle == cleared(&rt, alloc, 31));

@@ -184,11 +184,11 @@ pub fn copy_range<R: IndexRange<usize> + Drop>(
 /// [`FixedBitSet::append`], with the steps that it takes.
 ///
 /// ```
-/// let mut set = FixedBitSet::from_iter(alloc, [3])?;
-/// let other = FixedBitSet::from_iter(alloc, [0, 64])?;
+/// let mut set = FixedBitSet::with_capacity(alloc, 4)?;
+/// let mut other = FixedBitSet::with_capacity(alloc, 65)?;
+/// other.insert(64);
 /// counted::append(&mut set, &other, &mut Steps::new())?;
-/// assert_eq!(rt; set.len(), 69);
-/// assert_eq!(rt; set.as_slice(), [24, 16].as_slice());
+/// assert_eq!(rt; set.as_slice(), [0, 16].as_slice());
 /// ```
 #[tactic(auto, using(crate::proofs::Moves::append_grown))]
 pub fn append(
