@@ -10,6 +10,8 @@ SELECT name, count_ones(tags), count_ones(tags, '[10,20)') AS in_range FROM peop
 UPDATE people SET tags = insert_range(tags, '[50,55)') WHERE name = 'Cy' RETURNING tags;
 SELECT p FROM people, ones(tags) p WHERE name = 'Cy' AND p > 50;
 SELECT name, minimum(tags), next_zero(tags, 15), previous_one(tags, 15) FROM people ORDER BY name;
+SELECT name, rank(tags, 16), select_one(tags, 2), first_gap(tags, 20), slice(tags, '[8,16)') FROM people ORDER BY name;
+SELECT name, first_lacking(tags, '{7,16}/64') AS missing FROM people ORDER BY name;
 SELECT r FROM people, runs(tags) r WHERE name = 'Ann';
 SELECT bitset_agg(p, 100) FROM generate_series(0, 99, 7) p;
 SELECT bytes(tags), tags::bit varying FROM people WHERE name = 'Cy';
