@@ -1,7 +1,61 @@
 //! A walk that takes its positions by the handful. A call of its own for each would cost more than the position.
-use crate::raw::{Handful, Left};
+use crate::raw::{self, Handful};
 use core::fmt::{Formatter, Result};
 use core::iter::from_fn;
+
+/// What a walk has left, and the calls that give it from both ends.
+pub trait Left: Clone {
+    /// Whether each position is greater than the one before.
+    const ASCENDS: bool;
+
+    /// The first position left, and with it a handful of those behind it.
+    fn take(&mut self, handful: &mut Handful) -> Option<usize>;
+
+    /// The last position left, and with it a handful of those before it, the last one first.
+    fn take_back(&mut self, handful: &mut Handful) -> Option<usize>;
+
+    /// Not less than how many positions are left.
+    fn most(&self) -> Option<usize>;
+}
+
+/// What is left by the four calls of a walk.
+macro_rules! left {
+    ($($name:ident of $walk:ident, $ascends:literal: $next:ident $next_back:ident $take:ident $take_back:ident;)*) => { $(
+        #[derive(Clone)]
+        pub struct $name<'a>(pub raw::$walk<'a>);
+
+        impl Left for $name<'_> {
+            const ASCENDS: bool = $ascends;
+
+            #[inline(always)]
+            fn take(&mut self, handful: &mut Handful) -> Option<usize> {
+                handful.next(&mut self.0, raw::$next, raw::$take)
+            }
+
+            #[inline(always)]
+            fn take_back(&mut self, handful: &mut Handful) -> Option<usize> {
+                handful.next(&mut self.0, raw::$next_back, raw::$take_back)
+            }
+
+            #[inline]
+            fn most(&self) -> Option<usize> {
+                self.0.most()
+            }
+        }
+    )* };
+}
+left! {
+    OnesLeft of Walk, true: bits_ones_next bits_ones_next_back bits_ones_take bits_ones_take_back;
+    ZeroesLeft of Walk, true: bits_zeroes_next bits_zeroes_next_back bits_zeroes_take bits_zeroes_take_back;
+    SharedLeft of Sieve, true:
+        bits_intersection_next bits_intersection_next_back bits_intersection_take bits_intersection_take_back;
+    LackedLeft of Sieve, true:
+        bits_difference_next bits_difference_next_back bits_difference_take bits_difference_take_back;
+    JoinedLeft of Pair, false: bits_union_next bits_union_next_back bits_union_take bits_union_take_back;
+    SplitLeft of Pair, false:
+        bits_symmetric_difference_next bits_symmetric_difference_next_back
+        bits_symmetric_difference_take bits_symmetric_difference_take_back;
+}
 
 /// What a walk has left, and for each end the positions that it gave in one call and that are not handed out yet.
 #[derive(Clone)]
