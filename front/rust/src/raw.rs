@@ -692,7 +692,7 @@ impl Handful {
             return None;
         }
         self.room = HANDFUL.min(16 * room);
-        if room == 1 {
+        if HANDFUL == 1 || room == 1 {
             let first = given(|position| next(&mut walk, position));
             *left = walk;
             return first;
