@@ -642,7 +642,7 @@ impl Walk<'_> {
     }
 }
 
-/// The call of a walk for one position, and the one for a handful.
+/// The call of a walk for one position, and the one for a handful. No other function of this type is there.
 pub type Next<W> = extern "C" fn(&mut W, &mut usize) -> bool;
 pub type Take<W> = unsafe extern "C" fn(&mut W, NonNull<usize>, usize) -> usize;
 
