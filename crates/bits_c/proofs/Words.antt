@@ -22,10 +22,10 @@ module _ (words : List ℕ) where
   lowest_first start old new k is clears =
       let at : start + k - start ≡ k = omega arith in
       let stays = λ (i : ℕ) (other : i ≢ k).
-          ⊎_elim
-          (λ (lt : i < 64). here new i lt ∙ ap (λ b. b == 1) (clears.others i lt other) ∙ sym (here old i lt))
-          (λ (ge : 64 ≤ i). behind new old i ge)
-          (cases_lt i 64) in
+      ⊎_elim
+      (λ (lt : i < 64). here new i lt ∙ ap (λ b. b == 1) (clears.others i lt other) ∙ sym (here old i lt))
+      (λ (ge : 64 ≤ i). behind new old i ge)
+      (cases_lt i 64) in
       ascending-first _ _ start (64 * suc (length words)) (start + k)
       (record {
         from = omega arith;

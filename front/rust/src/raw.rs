@@ -5,7 +5,7 @@
 //! the declarations are `safe`. They stand on this: [`Words`], [`Lent`] and the walks have private fields, and what
 //! makes or changes them stands here. A table is the words of a set for each row; [`Table`] and [`Rows`] are to it what
 //! [`Words`] and [`Lent`] are to a set.
-use crate::handful::Handfuls;
+use crate::handful::{Handfuls, OnesLeft};
 use alloc::vec;
 use alloc::vec::Vec;
 use core::marker::PhantomData;
@@ -221,13 +221,13 @@ unsafe extern "C" {
     fn bits_ones(walk: &mut Walk<'_>, set: &Lent<'_>);
     pub safe fn bits_ones_next(walk: &mut Walk<'_>, position: &mut usize) -> bool;
     pub safe fn bits_ones_next_back(walk: &mut Walk<'_>, position: &mut usize) -> bool;
-    fn bits_ones_take(walk: &mut Walk<'_>, positions: NonNull<usize>, room: usize) -> usize;
-    fn bits_ones_take_back(walk: &mut Walk<'_>, positions: NonNull<usize>, room: usize) -> usize;
+    pub fn bits_ones_take(walk: &mut Walk<'_>, to: NonNull<usize>, room: usize) -> usize;
+    pub fn bits_ones_take_back(walk: &mut Walk<'_>, to: NonNull<usize>, room: usize) -> usize;
     fn bits_zeroes(walk: &mut Walk<'_>, set: &Lent<'_>);
     pub safe fn bits_zeroes_next(walk: &mut Walk<'_>, position: &mut usize) -> bool;
     pub safe fn bits_zeroes_next_back(walk: &mut Walk<'_>, position: &mut usize) -> bool;
-    fn bits_zeroes_take(walk: &mut Walk<'_>, positions: NonNull<usize>, room: usize) -> usize;
-    fn bits_zeroes_take_back(walk: &mut Walk<'_>, positions: NonNull<usize>, room: usize) -> usize;
+    pub fn bits_zeroes_take(walk: &mut Walk<'_>, to: NonNull<usize>, room: usize) -> usize;
+    pub fn bits_zeroes_take_back(walk: &mut Walk<'_>, to: NonNull<usize>, room: usize) -> usize;
     fn bits_ones_in(walk: &mut Walk<'_>, set: &Lent<'_>, start: usize, end: usize) -> bool;
     fn bits_zeroes_in(walk: &mut Walk<'_>, set: &Lent<'_>, start: usize, end: usize) -> bool;
     fn bits_runs(walk: &mut Runs<'_>, set: &Lent<'_>);
@@ -241,44 +241,40 @@ unsafe extern "C" {
     fn bits_intersection(walk: &mut Sieve<'_>, set: &Lent<'_>, other: &Lent<'_>);
     pub safe fn bits_intersection_next(walk: &mut Sieve<'_>, position: &mut usize) -> bool;
     pub safe fn bits_intersection_next_back(walk: &mut Sieve<'_>, position: &mut usize) -> bool;
-    fn bits_intersection_take(
+    pub fn bits_intersection_take(walk: &mut Sieve<'_>, to: NonNull<usize>, room: usize) -> usize;
+    pub fn bits_intersection_take_back(
         walk: &mut Sieve<'_>,
-        positions: NonNull<usize>,
-        room: usize,
-    ) -> usize;
-    fn bits_intersection_take_back(
-        walk: &mut Sieve<'_>,
-        positions: NonNull<usize>,
+        to: NonNull<usize>,
         room: usize,
     ) -> usize;
     fn bits_difference(walk: &mut Sieve<'_>, set: &Lent<'_>, other: &Lent<'_>);
     pub safe fn bits_difference_next(walk: &mut Sieve<'_>, position: &mut usize) -> bool;
     pub safe fn bits_difference_next_back(walk: &mut Sieve<'_>, position: &mut usize) -> bool;
-    fn bits_difference_take(walk: &mut Sieve<'_>, positions: NonNull<usize>, room: usize) -> usize;
-    fn bits_difference_take_back(
+    pub fn bits_difference_take(walk: &mut Sieve<'_>, to: NonNull<usize>, room: usize) -> usize;
+    pub fn bits_difference_take_back(
         walk: &mut Sieve<'_>,
-        positions: NonNull<usize>,
+        to: NonNull<usize>,
         room: usize,
     ) -> usize;
     fn bits_union(walk: &mut Pair<'_>, set: &Lent<'_>, other: &Lent<'_>);
     pub safe fn bits_union_next(walk: &mut Pair<'_>, position: &mut usize) -> bool;
     pub safe fn bits_union_next_back(walk: &mut Pair<'_>, position: &mut usize) -> bool;
-    fn bits_union_take(walk: &mut Pair<'_>, positions: NonNull<usize>, room: usize) -> usize;
-    fn bits_union_take_back(walk: &mut Pair<'_>, positions: NonNull<usize>, room: usize) -> usize;
+    pub fn bits_union_take(walk: &mut Pair<'_>, to: NonNull<usize>, room: usize) -> usize;
+    pub fn bits_union_take_back(walk: &mut Pair<'_>, to: NonNull<usize>, room: usize) -> usize;
     fn bits_symmetric_difference(walk: &mut Pair<'_>, set: &Lent<'_>, other: &Lent<'_>);
     pub safe fn bits_symmetric_difference_next(walk: &mut Pair<'_>, position: &mut usize) -> bool;
     pub safe fn bits_symmetric_difference_next_back(
         walk: &mut Pair<'_>,
         position: &mut usize,
     ) -> bool;
-    fn bits_symmetric_difference_take(
+    pub fn bits_symmetric_difference_take(
         walk: &mut Pair<'_>,
-        positions: NonNull<usize>,
+        to: NonNull<usize>,
         room: usize,
     ) -> usize;
-    fn bits_symmetric_difference_take_back(
+    pub fn bits_symmetric_difference_take_back(
         walk: &mut Pair<'_>,
-        positions: NonNull<usize>,
+        to: NonNull<usize>,
         room: usize,
     ) -> usize;
 }
@@ -442,86 +438,22 @@ impl Words {
         }
     }
 
-    #[inline(always)]
-    pub fn ones(&self) -> OnesLeft<'_> {
-        let mut walk = Walk::NONE;
-        // SAFETY: the walk keeps the words, which are lent as long as it lives.
-        unsafe { bits_ones(&mut walk, &self.lent()) };
-        OnesLeft(walk)
-    }
-
-    #[inline(always)]
-    pub fn zeroes(&self) -> ZeroesLeft<'_> {
-        let mut walk = Walk::NONE;
-        // SAFETY: as above.
-        unsafe { bits_zeroes(&mut walk, &self.lent()) };
-        ZeroesLeft(walk)
-    }
-
     /// The walk over the positions of the range that are set, and whether the range is valid.
     #[inline(always)]
-    pub fn ones_in(&self, start: usize, end: usize) -> (OnesLeft<'_>, bool) {
+    pub fn ones_in(&self, start: usize, end: usize) -> (Walk<'_>, bool) {
         let mut walk = Walk::NONE;
-        // SAFETY: as above.
+        // SAFETY: the walk keeps the words, which are lent as long as it lives.
         let is_valid = unsafe { bits_ones_in(&mut walk, &self.lent(), start, end) };
-        (OnesLeft(walk), is_valid)
+        (walk, is_valid)
     }
 
     /// The walk over the positions of the range that are not set, and whether the range is valid.
     #[inline(always)]
-    pub fn zeroes_in(&self, start: usize, end: usize) -> (ZeroesLeft<'_>, bool) {
+    pub fn zeroes_in(&self, start: usize, end: usize) -> (Walk<'_>, bool) {
         let mut walk = Walk::NONE;
         // SAFETY: as above.
         let is_valid = unsafe { bits_zeroes_in(&mut walk, &self.lent(), start, end) };
-        (ZeroesLeft(walk), is_valid)
-    }
-
-    #[inline(always)]
-    pub fn runs(&self) -> Runs<'_> {
-        let mut walk = Runs::NONE;
-        // SAFETY: as above.
-        unsafe { bits_runs(&mut walk, &self.lent()) };
-        walk
-    }
-
-    #[inline(always)]
-    pub fn zero_runs(&self) -> Runs<'_> {
-        let mut walk = Runs::NONE;
-        // SAFETY: as above.
-        unsafe { bits_zero_runs(&mut walk, &self.lent()) };
-        walk
-    }
-
-    #[inline(always)]
-    pub fn intersection<'a>(&'a self, other: &'a Words) -> SharedLeft<'a> {
-        let mut walk = Sieve::NONE;
-        // SAFETY: the walk keeps the words of both sets, which are lent as long as it lives.
-        unsafe { bits_intersection(&mut walk, &self.lent(), &other.lent()) };
-        SharedLeft(walk)
-    }
-
-    #[inline(always)]
-    pub fn difference<'a>(&'a self, other: &'a Words) -> LackedLeft<'a> {
-        let mut walk = Sieve::NONE;
-        // SAFETY: as above.
-        unsafe { bits_difference(&mut walk, &self.lent(), &other.lent()) };
-        LackedLeft(walk)
-    }
-
-    #[inline(always)]
-    pub fn union<'a>(&'a self, other: &'a Words) -> JoinedLeft<'a> {
-        let mut walk = Pair::NONE;
-        // SAFETY: as above.
-        unsafe { bits_union(&mut walk, &self.lent(), &other.lent()) };
-        JoinedLeft(walk)
-    }
-
-    #[inline(always)]
-    pub fn symmetric_difference<'a>(&'a self, other: &'a Words) -> SplitLeft<'a> {
-        let mut walk = Pair::NONE;
-        // SAFETY: as above.
-        unsafe { bits_symmetric_difference(&mut walk, &self.lent(), &other.lent()) };
-        SplitLeft(walk)
+        (walk, is_valid)
     }
 
     /// The set with a new directory of its words.
@@ -548,6 +480,32 @@ impl Words {
             walk: Handfuls::of(OnesLeft(walk)),
             _words: self,
         }
+    }
+}
+
+/// The walks over one set and over two, each with the call that begins it.
+macro_rules! begins {
+    ($($name:ident($($other:ident)?) gives $walk:ident by $call:ident;)*) => { $(
+        #[inline(always)]
+        pub fn $name<'a>(&'a self $(, $other: &'a Words)?) -> $walk<'a> {
+            let mut walk = $walk::NONE;
+            // SAFETY: the walk keeps the words of each set, which are lent as long as it lives.
+            unsafe { $call(&mut walk, &self.lent() $(, &$other.lent())?) };
+            walk
+        }
+    )* };
+}
+
+impl Words {
+    begins! {
+        ones() gives Walk by bits_ones;
+        zeroes() gives Walk by bits_zeroes;
+        runs() gives Runs by bits_runs;
+        zero_runs() gives Runs by bits_zero_runs;
+        intersection(other) gives Sieve by bits_intersection;
+        difference(other) gives Sieve by bits_difference;
+        union(other) gives Pair by bits_union;
+        symmetric_difference(other) gives Pair by bits_symmetric_difference;
     }
 }
 
@@ -624,11 +582,11 @@ impl Table {
 
     /// The walk over the columns of a row, and whether the table has the row.
     #[inline(always)]
-    pub fn ones(&self, row: usize) -> (OnesLeft<'_>, bool) {
+    pub fn ones(&self, row: usize) -> (Walk<'_>, bool) {
         let mut walk = Walk::NONE;
         // SAFETY: the walk keeps the words, which are lent as long as it lives.
         let is_there = unsafe { bits_rows_ones(&mut walk, &self.lent(), row) };
-        (OnesLeft(walk), is_there)
+        (walk, is_there)
     }
 }
 
@@ -684,78 +642,24 @@ impl Walk<'_> {
     }
 }
 
-/// What a walk has left, and the calls that give it from both ends.
-pub trait Left: Clone {
-    /// Whether each position is greater than the one before.
-    const ASCENDS: bool;
+/// The call of a walk for one position, and the one for a handful. No other function of this type is there.
+pub type Next<W> = extern "C" fn(&mut W, &mut usize) -> bool;
+pub type Take<W> = unsafe extern "C" fn(&mut W, NonNull<usize>, usize) -> usize;
 
-    /// The first position left, and with it a handful of those behind it.
-    fn take(&mut self, handful: &mut Handful) -> Option<usize>;
-
-    /// The last position left, and with it a handful of those before it, the last one first.
-    fn take_back(&mut self, handful: &mut Handful) -> Option<usize>;
-
-    /// Not less than how many positions are left.
-    fn most(&self) -> Option<usize>;
-}
-
-/// What is left by the four calls of a walk.
-macro_rules! left {
-    ($($name:ident of $walk:ident, $ascends:literal, by $next:ident, $next_back:ident, $take:ident, $take_back:ident;)*) => { $(
-        #[derive(Clone)]
-        pub struct $name<'a>($walk<'a>);
-
-        impl Left for $name<'_> {
-            const ASCENDS: bool = $ascends;
-
-            #[inline(always)]
-            fn take(&mut self, handful: &mut Handful) -> Option<usize> {
-                #[inline(never)]
-                fn taken(walk: &mut $walk<'_>, count: &mut usize) -> Places {
-                    let mut places = [MaybeUninit::uninit(); HANDFUL];
-                    // SAFETY: so many places are lent. The call writes the first of them, as many as it answers.
-                    *count = unsafe { $take(walk, NonNull::from(&mut places).cast(), HANDFUL) };
-                    places
-                }
-                handful.next(&mut self.0, |walk| given(|position| $next(walk, position)), taken)
-            }
-
-            #[inline(always)]
-            fn take_back(&mut self, handful: &mut Handful) -> Option<usize> {
-                #[inline(never)]
-                fn taken(walk: &mut $walk<'_>, count: &mut usize) -> Places {
-                    let mut places = [MaybeUninit::uninit(); HANDFUL];
-                    // SAFETY: as above.
-                    *count = unsafe { $take_back(walk, NonNull::from(&mut places).cast(), HANDFUL) };
-                    places
-                }
-                handful.next(&mut self.0, |walk| given(|position| $next_back(walk, position)), taken)
-            }
-
-            #[inline]
-            fn most(&self) -> Option<usize> {
-                self.0.most()
-            }
-        }
-    )* };
-}
-left! {
-    OnesLeft of Walk, true, by bits_ones_next, bits_ones_next_back, bits_ones_take, bits_ones_take_back;
-    ZeroesLeft of Walk, true, by bits_zeroes_next, bits_zeroes_next_back, bits_zeroes_take, bits_zeroes_take_back;
-    SharedLeft of Sieve, true, by bits_intersection_next, bits_intersection_next_back, bits_intersection_take,
-        bits_intersection_take_back;
-    LackedLeft of Sieve, true, by bits_difference_next, bits_difference_next_back, bits_difference_take,
-        bits_difference_take_back;
-    JoinedLeft of Pair, false, by bits_union_next, bits_union_next_back, bits_union_take, bits_union_take_back;
-    SplitLeft of Pair, false, by bits_symmetric_difference_next, bits_symmetric_difference_next_back,
-        bits_symmetric_difference_take, bits_symmetric_difference_take_back;
-}
-
-/// How many positions a walk gives in one call at most. Where the calls become part of the program one is quicker.
+/// How many positions a walk gives in one call at most. Where the calls become part of the program, one is quicker.
 const HANDFUL: usize = if cfg!(bits_inlined) { 1 } else { 64 };
 
 /// Places for positions.
 type Places = [MaybeUninit<usize>; HANDFUL];
+
+/// The positions that a call gives, at most `room` of them. How many they are is written to `count`.
+#[inline(never)]
+fn taken<W>(walk: &mut W, take: Take<W>, room: usize, count: &mut usize) -> Places {
+    let mut places = [MaybeUninit::uninit(); HANDFUL];
+    // SAFETY: so many places are lent. The call writes the first of them, as many as it answers, and that is at most `room`.
+    *count = unsafe { take(walk, NonNull::from(&mut places).cast(), room.min(HANDFUL)) };
+    places
+}
 
 /// Positions that a walk gave in one call, those from `next` up to `end` not yet handed out, and how many the next call is
 /// asked for.
@@ -768,7 +672,7 @@ pub struct Handful {
 }
 
 impl Handful {
-    /// With no position. The first call is asked for one alone, for many walks are asked for no more.
+    /// With no position. The first call is asked for one alone, for of many walks no more is wanted.
     #[inline(always)]
     pub fn new() -> Self {
         Handful {
@@ -782,27 +686,24 @@ impl Handful {
     /// The next position of a walk, where the handful is empty. A call that gives fewer positions than it was asked for left
     /// none. Calls are made on copies, so that the compiler may keep what is copied in registers.
     #[inline(always)]
-    fn next<W: Clone>(
-        &mut self,
-        left: &mut W,
-        next: impl FnOnce(&mut W) -> Option<usize>,
-        taken: impl FnOnce(&mut W, &mut usize) -> Places,
-    ) -> Option<usize> {
-        let mut walk = left.clone();
-        if self.room == 1 {
-            self.room = HANDFUL;
-            let first = next(&mut walk);
+    pub fn next<W: Clone>(&mut self, left: &mut W, next: Next<W>, take: Take<W>) -> Option<usize> {
+        let (mut walk, room) = (left.clone(), self.room);
+        if room == 0 {
+            return None;
+        }
+        self.room = HANDFUL.min(16 * room);
+        if HANDFUL == 1 || room == 1 {
+            let first = given(|position| next(&mut walk, position));
             *left = walk;
             return first;
         }
-        if self.room == 0 {
-            return None;
-        }
         let mut end = 0;
-        self.places = taken(&mut walk, &mut end);
+        self.places = taken(&mut walk, take, room, &mut end);
         *left = walk;
         (self.next, self.end) = (0, end);
-        self.room = if end < HANDFUL { 0 } else { HANDFUL };
+        if end < room {
+            self.room = 0;
+        }
         self.take_first()
     }
 

@@ -1,8 +1,8 @@
 //! The walks over positions. Each call of one is a proved call.
-use crate::handful::Handfuls;
-use crate::raw::{
-    self, JoinedLeft, LackedLeft, OnesLeft, Owned, SharedLeft, SplitLeft, ZeroesLeft,
+use crate::handful::{
+    Handfuls, JoinedLeft, LackedLeft, OnesLeft, SharedLeft, SplitLeft, ZeroesLeft,
 };
+use crate::raw::{self, Owned, Walk};
 use crate::{Block, FixedBitSet, IndexRange};
 use core::fmt::{Debug, Formatter, Result};
 use core::iter::FusedIterator;
@@ -44,7 +44,7 @@ impl FixedBitSet {
     #[inline]
     pub fn zeroes(&self) -> Zeroes<'_> {
         Zeroes {
-            walk: Handfuls::of(self.words.zeroes()),
+            walk: Handfuls::of(ZeroesLeft(self.words.zeroes())),
         }
     }
 
@@ -84,7 +84,7 @@ impl FixedBitSet {
         let (walk, is_valid) = self.words.zeroes_in(start, end);
         self.assert_valid(is_valid, start, end);
         Zeroes {
-            walk: Handfuls::of(walk),
+            walk: Handfuls::of(ZeroesLeft(walk)),
         }
     }
 
@@ -98,7 +98,7 @@ impl FixedBitSet {
     #[inline]
     pub fn intersection<'a>(&'a self, other: &'a FixedBitSet) -> Intersection<'a> {
         Intersection {
-            walk: Handfuls::of(self.words.intersection(&other.words)),
+            walk: Handfuls::of(SharedLeft(self.words.intersection(&other.words))),
         }
     }
 
@@ -112,7 +112,7 @@ impl FixedBitSet {
     #[inline]
     pub fn union<'a>(&'a self, other: &'a FixedBitSet) -> Union<'a> {
         Union {
-            walk: Handfuls::of(self.words.union(&other.words)),
+            walk: Handfuls::of(JoinedLeft(self.words.union(&other.words))),
         }
     }
 
@@ -126,7 +126,7 @@ impl FixedBitSet {
     #[inline]
     pub fn difference<'a>(&'a self, other: &'a FixedBitSet) -> Difference<'a> {
         Difference {
-            walk: Handfuls::of(self.words.difference(&other.words)),
+            walk: Handfuls::of(LackedLeft(self.words.difference(&other.words))),
         }
     }
 
@@ -140,7 +140,7 @@ impl FixedBitSet {
     #[inline]
     pub fn symmetric_difference<'a>(&'a self, other: &'a FixedBitSet) -> SymmetricDifference<'a> {
         SymmetricDifference {
-            walk: Handfuls::of(self.words.symmetric_difference(&other.words)),
+            walk: Handfuls::of(SplitLeft(self.words.symmetric_difference(&other.words))),
         }
     }
 }
@@ -305,9 +305,9 @@ walks!(
 
 impl<'a> Ones<'a> {
     #[inline(always)]
-    pub(crate) fn of(left: OnesLeft<'a>) -> Self {
+    pub(crate) fn of(walk: Walk<'a>) -> Self {
         Ones {
-            walk: Handfuls::of(left),
+            walk: Handfuls::of(OnesLeft(walk)),
         }
     }
 }
