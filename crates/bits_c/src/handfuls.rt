@@ -49,18 +49,12 @@ impl<'a> Giver for Ones<'a> {
         if self.front != 0 {
             return Some(self.front_at + take_lowest_bit(&mut self.front));
         }
-        let mut cursor = self.cursor();
-        let item = cursor.next();
-        *self = Ones::of(cursor);
-        item
+        Ones::take_first(self)
     }
 
     #[inline(always)]
     fn take_last(&mut self) -> Option<usize> {
-        let mut cursor = self.cursor();
-        let item = cursor.next_back();
-        *self = Ones::of(cursor);
-        item
+        Ones::take_last(self)
     }
 }
 
