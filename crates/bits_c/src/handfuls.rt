@@ -58,6 +58,30 @@ impl<'a> Giver for Ones<'a> {
     }
 }
 
+impl<'a> Giver for Zeroes<'a> {
+    ghost left = { zeroes_left };
+
+    #[inline(always)]
+    fn take_first(&mut self) -> Option<usize> {
+        if self.front == 0 {
+            let mut cursor = self.cursor();
+            let item = cursor.next();
+            *self = Zeroes::of(cursor);
+            return item;
+        }
+        let lowest = take_lowest_bit(&mut self.front);
+        Some(self.front_at + lowest)
+    }
+
+    #[inline(always)]
+    fn take_last(&mut self) -> Option<usize> {
+        let mut cursor = self.cursor();
+        let item = cursor.next_back();
+        *self = Zeroes::of(cursor);
+        item
+    }
+}
+
 // The positions of a walk that other words have, or those that they lack.
 #[derive(Drop)]
 struct Passing<'a, const SHARED: bool> {
@@ -203,9 +227,9 @@ pub extern "C" fn bits_ones_take_back(walk: &mut Ones<'_>, positions: &mut [usiz
 pub extern "C" fn bits_zeroes_take(walk: &mut Zeroes<'_>, positions: &mut [usize]) -> usize
     ensures { TakesFirst zeroes_left walk.old positions.old result positions.new walk.new }
 {
-    let mut zeroes = walk.cursor();
+    let mut zeroes = Zeroes::of(walk.cursor());
     let count = fill(&mut zeroes, positions);
-    *walk = Zeroes::of(zeroes);
+    *walk = zeroes;
     count
 }
 
