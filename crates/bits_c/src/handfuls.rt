@@ -49,17 +49,35 @@ impl<'a> Giver for Ones<'a> {
         if self.front != 0 {
             return Some(self.front_at + take_lowest_bit(&mut self.front));
         }
-        let mut cursor = self.cursor();
-        let item = cursor.next();
-        *self = Ones::of(cursor);
-        item
+        Ones::take_first(self)
+    }
+
+    #[inline(always)]
+    fn take_last(&mut self) -> Option<usize> {
+        Ones::take_last(self)
+    }
+}
+
+impl<'a> Giver for Zeroes<'a> {
+    ghost left = { zeroes_left };
+
+    #[inline(always)]
+    fn take_first(&mut self) -> Option<usize> {
+        if self.front == 0 {
+            let mut cursor = self.cursor();
+            let item = cursor.next();
+            *self = Zeroes::of(cursor);
+            return item;
+        }
+        let lowest = take_lowest_bit(&mut self.front);
+        Some(self.front_at + lowest)
     }
 
     #[inline(always)]
     fn take_last(&mut self) -> Option<usize> {
         let mut cursor = self.cursor();
         let item = cursor.next_back();
-        *self = Ones::of(cursor);
+        *self = Zeroes::of(cursor);
         item
     }
 }
@@ -209,9 +227,9 @@ pub extern "C" fn bits_ones_take_back(walk: &mut Ones<'_>, positions: &mut [usiz
 pub extern "C" fn bits_zeroes_take(walk: &mut Zeroes<'_>, positions: &mut [usize]) -> usize
     ensures { TakesFirst zeroes_left walk.old positions.old result positions.new walk.new }
 {
-    let mut zeroes = walk.cursor();
+    let mut zeroes = Zeroes::of(walk.cursor());
     let count = fill(&mut zeroes, positions);
-    *walk = Zeroes::of(zeroes);
+    *walk = zeroes;
     count
 }
 
