@@ -1,4 +1,4 @@
-"""What a must-fail edit changes: a crate's sources, its edits, and the functions that each of them turns.
+"""What a must-fail edit changes: a crate's sources, its edits, the functions that each of them turns, and how many stand together.
 
 refuse/edits stands on it.
 """
@@ -27,6 +27,16 @@ class Crate:
         files = (it for part in ("src", "specs", "proofs") for it in sorted(self.folder.glob(f"{part}/**/*.*")))
         return {str(it.relative_to(self.folder)): it.read_text() for it in files}
 
+    @functools.cached_property
+    def lines(self):
+        """Each line of the sources: its file, its number from 0, and the line."""
+        return [(file, number, line) for file, text in self.sources.items() for number, line in enumerate(text.split("\n"))]
+
+    def proof_of(self, function):
+        """The files of the folder of proofs/ that is the function's."""
+        place = f"/{function.symbol.replace('::', '/')}/"
+        return [it for it in self.sources if it.startswith("proofs/") and place in it]
+
     def edits(self):
         return [Edit(self, it) for it in sorted(self.folder.glob("must-fail/*.edit"))]
 
@@ -42,18 +52,23 @@ def symbol_of_impl(heading):
 
 
 class Function:
-    """A function by the line of its head: its lines with those of its attributes, from 1, and the end of its symbol.
-    In rt fmt's layout it ends at the first brace with its own indent."""
+    """A function by the line of its head: its lines with those of its attributes, from 1, its text, the end of its symbol,
+    and by how many lines it stands behind the one that it copies. In rt fmt's layout it ends at the first brace with its own
+    indent. It is plain where it may have another name: it is no method of a trait, and does not call itself."""
     def __init__(self, path, lines, at):
         indent, name = FUNCTION.match(lines[at]).groups()
         body = next((it for it in range(at, len(lines)) if lines[it].endswith((";", "{", "{}"))), at)
         ends = (indent + "}", indent + "{}", *[lines[body]] * (lines[body][-1] == ";"))
         last = next((it for it in range(body, len(lines)) if lines[it] in ends), at)
         first = next(it for it in range(at, -1, -1) if it == 0 or not lines[it - 1].startswith(indent + "#["))
-        impl = next((it for it in map(IMPL.match, lines[at::-1]) if it), None)
+        impl = next((it for it in map(IMPL.match, lines[at::-1]) if it), None) if indent else None
         module = "::".join(it for it in path.removesuffix(".rt").split("/")[1:] if it not in ("lib", "main", "mod"))
-        place = symbol_of_impl(impl[1]) if indent and impl else module
+        place = symbol_of_impl(impl[1]) if impl else module
         self.path, self.lines, self.symbol = path, range(first + 1, last + 2), f"{place}::{name}".removeprefix("::")
+        self.name, self.text, self.moved = name, "\n".join(lines[first : last + 1]), 0
+        is_of_trait = indent and (not impl or "trait" in impl[0].split()[:2] or " for " in impl[0])
+        calls_itself = re.search(rf"(?<!fn )(?<![\w:.]){name}\(|\b[sS]elf(\.|::){name}\(", self.text)
+        self.is_plain = not is_of_trait and name != "main" and not calls_itself
 
 
 class Edit:
@@ -67,10 +82,26 @@ class Edit:
                 self.pairs.append((path, old, line.removeprefix("new:").removeprefix(" ")))
         places = []
         self.is_bad = self.applied({}, places) is None
-        self.functions = [it for found, _ in places for it in found]
-        self.is_lone = not all(is_own for _, is_own in places)
+        self.functions = [it for found, _, _ in places for it in found]
+        self.is_lone = not all(is_own for _, is_own, _ in places)
         symbols, named = {it.symbol for it in self.functions}, self.name.rpartition("-")[0].replace("-", "::")
         self.symbols = {named} if self.is_lone and named in symbols else symbols
+        self.reach = None if any(it is None for _, _, it in places) else {*symbols}.union(*(it for _, _, it in places))
+
+    @functools.cached_property
+    def wrong_body(self):
+        """The function's text with this edit in it, where it can stand beside the function under another name, or None."""
+        first = self.functions[0] if self.functions else None
+        if self.is_lone or not first or not first.is_plain or len(self.symbols) > 1:
+            return None
+        if len({it.rpartition("/")[0] for it in self.crate.proof_of(first)}) > 1:
+            return None
+        text = first.text
+        for path, old, new in self.pairs:
+            if path != first.path or text.count(old) != 1:
+                return None
+            text = text.replace(old, new)
+        return text
 
     def applied(self, texts, places=None):
         """The texts by their paths, with this edit in them, or None where it cannot be applied. `places` gets what it changes."""
@@ -87,14 +118,15 @@ class Edit:
 
 
 def changed_at(crate, path, text, old):
-    """The functions that a change of the old text changes, and whether it changes one function and nothing else. In src/ it
-    is the function that has the text: the last that begins before it, unless that has ended there."""
+    """The functions that a change of the old text changes, whether it changes one function and nothing else, and all that
+    rests on what it changes, or None where that is not known. In src/ it is the function that has the text: the last that
+    begins before it, unless that has ended there."""
     if path.startswith("specs/"):
-        return functions_below(crate, path, text, old)
+        return resting_on(crate, text, old)
     lines, at = text.split("\n"), text[: text.index(old)].count("\n")
     heads = [it for it in range(at + 1) if path.endswith(".rt") and FUNCTION.match(lines[it])]
     found = [it for it in (Function(path, lines, head) for head in heads[-1:]) if at + 1 in it.lines]
-    return found, bool(found)
+    return found, bool(found), {it.symbol for it in found} if found else None
 
 
 def definition_at(lines, at):
@@ -111,28 +143,77 @@ def definition_at(lines, at):
     return None
 
 
-def functions_below(crate, path, text, old):
-    """The functions whose lines name the definition in specs/ that has the old text, or one that names it, and whether one
-    function alone rests on it: then no other file names these but specs/ and its own proof. What only brings a name is no
-    use of it."""
+def resting_on(crate, text, old):
+    """The functions whose lines name the definition in specs/ that has the old text, or one that names it; whether one
+    function alone rests on it: then no other file names these but specs/ and its own proof; and the symbols of all functions
+    and the files of lemmas that rest on it, also by a file of lemmas. What only brings a name is no use of it."""
     names, found, looked = {definition_at(text.split("\n"), text[: text.index(old)].count("\n"))}, [], set()
     while (left := names - looked) and None not in names:
         looked |= names
-        for file, number, line in ((file, k, it) for file, it in crate.sources.items() for k, it in enumerate(it.split("\n"))):
+        for file, number, line in crate.lines:
             if not left & {*re.findall(r"\w+", line)} or re.match(r" *(?:(?:pub |ghost )*use\b|//|--)", line):
                 continue
             if file.startswith("specs/"):
                 names.add(definition_at(crate.sources[file].split("\n"), number))
             else:
                 found.append(user_at(crate, file, number))
-    functions = {it.symbol: it for it in found if isinstance(it, Function)} if None not in names else {}
-    return [*functions.values()], len(functions) == 1 and {it for it in found if not isinstance(it, Function)} <= {*functions}
+    if None in names:
+        return [], False, None
+    functions = {it.symbol: it for it in found if isinstance(it, Function)}
+    is_own = len(functions) == 1 and {it for it in found if not isinstance(it, Function)} <= {*functions}
+    reach, looked = {getattr(it, "symbol", it) for it in found}, set()
+    while left := {it for it in reach - looked if it.endswith(".antt")}:
+        looked |= left
+        cites = re.compile(rf"\bproofs\b.*\b(?:{'|'.join(pathlib.Path(it).stem for it in left)})\b")
+        users = (user_at(crate, file, number) for file, number, line in crate.lines if cites.search(line) and file[:5] != "specs")
+        reach |= {getattr(it, "symbol", it) for it in users}
+    return [*functions.values()], is_own, reach
 
 
 def user_at(crate, file, number):
-    """The function whose line this is, or the symbol of the one whose proof this is; None where it is neither."""
+    """The function whose line this is, or the symbol of the one whose proof this is, or else the file."""
     lines = crate.sources[file].split("\n")
     if file.startswith("proofs/"):
-        return file.rpartition("/")[0].removeprefix("proofs/").replace("/", "::") if file.count("/") > 1 else None
-    heads = (Function(file, lines, it) for it in range(len(lines)) if FUNCTION.match(lines[it]))
-    return next((it for it in heads if number + 1 in it.lines), None)
+        return file.rpartition("/")[0].removeprefix("proofs/").replace("/", "::") if file.count("/") > 1 else file
+    return next((it for it in functions_of(file, lines) if number + 1 in it.lines), file)
+
+
+def taken_together(edits, most):
+    """Edits for one round, at most so many: those of specs/ that more than a function rests on come last, and by themselves."""
+    now, texts, taken = [], {}, set()
+    for it in sorted(edits, key=lambda it: (it.is_lone, it.wrong_body is not None)):
+        is_alike = not now or it.is_lone == now[0].is_lone and None not in (it.reach, now[0].reach) and len(now) < most
+        if is_alike and it.wrong_body is not None:
+            now.append(it)
+        elif is_alike and not (it.reach or set()) & taken and (made := it.applied(texts)) is not None:
+            now, texts, taken = [*now, it], made, taken | (it.reach or set())
+    return now
+
+
+def together(edits):
+    """The texts of a crate with all these edits in them, and the functions that judge each. A wrong body that can stands
+    behind its function under a name of its own, with a copy of its proof, so that one check judges many of one function."""
+    texts = functools.reduce(lambda made, it: it.applied(made), (it for it in edits if it.wrong_body is None), {})
+    beside = {it: (it.functions[0], f"edit{number}") for number, it in enumerate(edits) if it.wrong_body is not None}
+    for edit, (function, word) in beside.items():
+        lines = texts.get(function.path, edit.crate.sources[function.path]).split("\n")
+        end = next(it.lines.stop for it in functions_of(function.path, lines) if it.symbol == function.symbol) - 1
+        body = re.sub(rf"\bfn {function.name}\b", f"fn {function.name}_{word}", edit.wrong_body, count=1)
+        texts[function.path] = "\n".join([*lines[:end], "", body, *lines[end:]])
+        for path in edit.crate.proof_of(function):
+            own, _, file = path.removeprefix("proofs/").rpartition("/")
+            place = f".proofs.{own.replace('/', '.')}"
+            texts[f"proofs/{own}_{word}/{file}"] = edit.crate.sources[path].replace(f"{place}.", f"{place}_{word}.")
+    judges = {}
+    for edit in edits:
+        word, judges[edit] = f"_{beside[edit][1]}" if edit in beside else "", []
+        for function in edit.functions:
+            found = functions_of(function.path, texts.get(function.path, edit.crate.sources[function.path]).split("\n"))
+            for it in (it for it in found if it.symbol == function.symbol + word):
+                it.moved = it.lines.start - function.lines.start
+                judges[edit].append(it)
+    return texts, judges
+
+
+def functions_of(path, lines):
+    return (Function(path, lines, it) for it in range(len(lines)) if FUNCTION.match(lines[it]))
