@@ -8,7 +8,7 @@ refuse() {
 }
 
 wanted_kit() {
-  grep -om 1 'rattle-kit-[^`]*' "$top/README.md"
+  grep -om 1 'logic [0-9a-f]\{16\}' "$top/README.md"
 }
 
 # The crates that the program stands on and the program itself, the lowest first, by crates.txt.
@@ -37,9 +37,9 @@ is_current() {
 need_kit() {
   local wanted found
   wanted=$(wanted_kit)
-  command -v rt >/dev/null || refuse "to build it takes the kit '$wanted', and its command rt is not here"
+  command -v rt >/dev/null || refuse "to build it takes the kit of '$wanted', and its command rt is not here"
   found=$(rt version 2>/dev/null | head -n 1) || true
-  [ "$found" = "$wanted" ] || refuse "to build it takes the kit '$wanted', and rt is of '$found'"
+  [[ $found == *"$wanted" ]] || refuse "to build it takes the kit of '$wanted', and rt is of '$found'"
 }
 
 # Tells how far the build is, by what the checker says. The crate at work is the one whose folder was touched last.
