@@ -3,7 +3,7 @@
 ghost use Rattle.std.specs.Prelude.{◌≡◌, ◌≢◌, ◌↔◌, IsTrue, IfOk, None, Some};
 
 use fixedbitset::FixedBitSet;
-use std::alloc::Global;
+use std::alloc::{AllocError, Global};
 use std::cmp::Ordering;
 use std::collections::{BTreeMap, BTreeSet, HashMap, HashSet};
 use std::fmt::{self, Binary, Display};
@@ -103,36 +103,37 @@ fn maps_keep_each_key_once(rt: HostRuntime) -> Result<(), Fail> {
     let mut tree_map = BTreeMap::new(rt.alloc());
     let mut table = HashSet::new(rt.alloc());
     let mut table_map = HashMap::new(rt.alloc());
+    let sets = ascending(rt.alloc())?;
     for _ in 0..2 {
-        for (place, set) in ascending(rt.alloc())?.into_iter().enumerate() {
+        for (place, set) in sets.iter().enumerate() {
             tree.insert(set.clone()?)?;
             tree_map.insert(set.clone()?, place)?;
             table.insert(set.clone()?)?;
-            table_map.insert(set, place)?;
+            table_map.insert(set.clone()?, place)?;
         }
     }
     assert_eq!(rt; (tree.len(), tree_map.len()), (7, 7));
     assert_eq!(rt; (table.len(), table_map.len()), (7, 7));
-    for (place, set) in ascending(rt.alloc())?.iter().enumerate() {
+    for (place, set) in sets.iter().enumerate() {
         assert!(rt; tree.contains(set) && table.contains(set));
         assert_eq!(rt; tree_map.get(set), Some(&place));
         assert_eq!(rt; table_map.get(set), Some(&place));
     }
-    assert!(rt; tree.iter().eq(ascending(rt.alloc())?.iter()));
+    assert!(rt; tree.iter().eq(sets.iter()));
     assert!(rt; tree_map.values().copied().eq(0..7));
     Ok(())
 }
 
 #[test]
 fn a_list_of_sets_is_sorted_and_searched(rt: HostRuntime) -> Result<(), Fail> {
+    let wanted = ascending(rt.alloc())?;
     let mut sets = ascending(rt.alloc())?;
-    for set in ascending(rt.alloc())? {
-        sets.push(set)?;
+    for set in &wanted {
+        sets.push(set.clone()?)?;
     }
     sets.reverse();
     sets.sort()?;
     sets.dedup();
-    let wanted = ascending(rt.alloc())?;
     assert!(rt; sets == wanted);
     assert!(rt; sets.iter().max() == wanted.last());
     assert!(rt; sets.iter().min() == wanted.first());
@@ -259,6 +260,11 @@ impl Display for InBinary<'_> {
     }
 }
 
+// Whether a text was made, and is the one that is wanted.
+fn is_said(made: Result<String, AllocError>, wanted: &str) -> Result<bool, AllocError> {
+    Ok(made?.as_str() == wanted)
+}
+
 // The text of a set, and of `Binary`, is `wanted`, whatever width is asked for, and `marked` where `#` is.
 fn assert_text(
     rt: &impl Abort,
@@ -268,12 +274,21 @@ fn assert_text(
     marked: &str,
 ) -> Result<(), Fail> {
     let binary = InBinary { set };
-    assert_eq!(rt; set.to_string(alloc)?.as_str(), wanted);
-    assert_eq!(rt; format!(in alloc; "{set:>20}")?.as_str(), wanted);
-    assert_eq!(rt; format!(in alloc; "{set:020}")?.as_str(), wanted);
-    assert_eq!(rt; format!(in alloc; "{set:#}")?.as_str(), marked);
-    assert_eq!(rt; format!(in alloc; "{binary}")?.as_str(), wanted);
-    assert_eq!(rt; format!(in alloc; "{binary:#}")?.as_str(), marked);
+    assert!(rt; is_said(set.to_string(alloc), wanted)?, "{wanted}");
+    assert!(rt;
+        is_said(format!(in alloc; "{set:>20}"), wanted)?,
+        "{wanted}"
+    );
+    assert!(rt;
+        is_said(format!(in alloc; "{set:020}"), wanted)?,
+        "{wanted}"
+    );
+    assert!(rt; is_said(format!(in alloc; "{set:#}"), marked)?, "{marked}");
+    assert!(rt; is_said(format!(in alloc; "{binary}"), wanted)?, "{wanted}");
+    assert!(rt;
+        is_said(format!(in alloc; "{binary:#}"), marked)?,
+        "{marked}"
+    );
     Ok(())
 }
 

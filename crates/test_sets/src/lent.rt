@@ -56,11 +56,15 @@ fn items_behind_the_last_one_asked_for_are_left(rt: HostRuntime) {
     ] {
         let mut lent = Pausing { steps: &steps };
         let made = FixedBitSet::from_iter(rt.alloc(), lent.by_ref());
-        assert_eq!(rt; made.is_ok(), is_whole, "{steps:?}");
-        assert_eq!(rt; lent.steps.len(), left, "{steps:?}");
+        assert_eq!(rt; made.is_ok(), is_whole, "{is_whole}, {left} left");
+        assert_eq!(rt; lent.steps.len(), left, "{is_whole}, {left} left");
         let mut lent = Pausing { steps: &steps };
         let mut set = FixedBitSet::new(rt.alloc());
-        assert_eq!(rt; set.extend(lent.by_ref()).is_ok(), is_whole, "{steps:?}");
-        assert_eq!(rt; lent.steps.len(), left, "{steps:?}");
+        assert_eq!(rt;
+            set.extend(lent.by_ref()).is_ok(),
+            is_whole,
+            "{is_whole}, {left} left"
+        );
+        assert_eq!(rt; lent.steps.len(), left, "{is_whole}, {left} left");
     }
 }
