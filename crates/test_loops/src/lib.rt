@@ -1,5 +1,5 @@
 //! Loops and chains over the positions of a set, as a user writes them: each is proved by the public contracts alone. The
-//! crate `test_walks` runs them.
+//! crate `test_structures` runs them.
 #![tactic(auto)]
 
 pub mod chains;

@@ -1,8 +1,11 @@
-//! Tests of lines and of the program: what it writes for an input, and how it calls readers and writers that fail.
+//! Tests of commands, of lines and of the program: what it writes for an input, and how it calls readers and writers that
+//! fail.
 #![tactic(auto)]
 
 #[cfg(test)]
 mod calls;
+#[cfg(test)]
+mod commands;
 #[cfg(test)]
 mod json;
 #[cfg(test)]

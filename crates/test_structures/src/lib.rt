@@ -1,0 +1,14 @@
+//! Tests of what goes beyond one set: two sets, walks, the data-flow solver, ranks, and tables. They share a crate, so that
+//! the libraries are read once for all of them.
+#![tactic(auto)]
+
+#[cfg(test)]
+mod flow;
+#[cfg(test)]
+mod pairs;
+#[cfg(test)]
+mod ranks;
+#[cfg(test)]
+mod rows;
+#[cfg(test)]
+mod walks;

@@ -1,0 +1,98 @@
+//! Tables beside flags, for several numbers of columns.
+
+use crate::rows::slow::{flag, join, rows};
+use bitrows::BitRows;
+use std::alloc::{AllocError, Global};
+use std::process::Abort;
+use std::test::Fail;
+
+// At the ends of words and of lanes of four, and beside them.
+const COLUMNS: [usize; 11] = [0, 1, 3, 63, 64, 65, 128, 255, 256, 257, 513];
+
+// Sets or clears each bit as the flags say.
+fn fill(rt: &impl Abort, table: &mut BitRows, wanted: &[Vec<bool>]) {
+    for row in 0..wanted.len() {
+        for column in 0..table.columns() {
+            assert!(rt; row < table.rows() && column < table.columns());
+            table.set(row, column, flag(wanted, row, column));
+        }
+    }
+}
+
+fn filled(
+    rt: &impl Abort,
+    alloc: Global,
+    columns: usize,
+    wanted: &[Vec<bool>],
+) -> Result<BitRows, AllocError> {
+    let mut table = BitRows::new(alloc, wanted.len(), columns)?;
+    fill(rt, &mut table, wanted);
+    Ok(table)
+}
+
+// The table has these sizes, these bits, and no other; each walk gives them in order.
+fn assert_same(rt: &impl Abort, table: &BitRows, columns: usize, wanted: &[Vec<bool>]) {
+    assert_eq!(rt; table.rows(), wanted.len());
+    assert_eq!(rt; table.columns(), columns);
+    for row in 0..table.rows() {
+        let mut walk = table.row(row);
+        for column in 0..columns {
+            let is_set = flag(wanted, row, column);
+            assert_eq!(rt; table.get(row, column), is_set, "{row} {column}");
+            if is_set {
+                assert_eq!(rt; walk.next(), Some(column), "{row}");
+            }
+        }
+        assert_eq!(rt; walk.next(), None, "{row}");
+        for past in [columns, columns.saturating_add(300), usize::MAX] {
+            assert!(rt; !table.get(row, past), "{row} {past}");
+        }
+    }
+}
+
+#[test]
+fn each_bit_set_and_cleared(rt: HostRuntime) -> Result<(), Fail> {
+    let alloc = rt.alloc();
+    for columns in COLUMNS {
+        let mut wanted = rows(alloc, columns)?;
+        let mut table = filled(&rt, alloc, columns, &wanted)?;
+        assert_same(&rt, &table, columns, &wanted);
+        wanted.reverse();
+        fill(&rt, &mut table, &wanted);
+        assert_same(&rt, &table, columns, &wanted);
+    }
+    Ok(())
+}
+
+#[test]
+fn each_row_joined_with_each(rt: HostRuntime) -> Result<(), Fail> {
+    let alloc = rt.alloc();
+    for columns in COLUMNS {
+        for from in 0..4 {
+            for into in 0..4 {
+                let mut wanted = rows(alloc, columns)?;
+                let mut table = filled(&rt, alloc, columns, &wanted)?;
+                assert!(rt; from < table.rows() && into < table.rows());
+                let changed = join(&mut wanted, columns, from, into);
+                assert_eq!(rt;
+                    table.union_rows(from, into),
+                    changed,
+                    "{columns} {from} {into}"
+                );
+                assert_same(&rt, &table, columns, &wanted);
+                assert!(rt; !table.union_rows(from, into), "{columns} {from} {into}");
+            }
+        }
+    }
+    Ok(())
+}
+
+#[test]
+fn no_rows_and_too_many(rt: HostRuntime) -> Result<(), Fail> {
+    let mut table = BitRows::new(rt.alloc(), 0, 70)?;
+    assert_same(&rt, &table, 70, &[]);
+    table.close();
+    assert_same(&rt, &table, 70, &[]);
+    assert!(rt; BitRows::new(rt.alloc(), usize::MAX, 65).is_err());
+    Ok(())
+}
