@@ -49,6 +49,7 @@ fn answers(alloc: Global, text: &str) -> Result<String, Fault> {
         ));
     };
     let mut slots = Slots::new(alloc, many)?;
+    // A law of the calls that the lines make. It does nothing.
     never_twice();
     let mut answers = carry_out(alloc, &mut slots, others)?;
     move_to_front(&mut slots, many, &mut answers)?;
