@@ -1,4 +1,4 @@
--- What the lines of the two policies and of the questions say.
+-- What the lines of the two policies, of what is denied and of the questions say.
 use Rattle.std.specs.Prelude.{◌≡◌, ℕ, ◌<◌, ◌↔◌, List, [], ◌∷◌, All, Contains, length, map, slice_index}
 use Rattle.use_text.specs.declared.Row.{Row}
 use Rattle.use_access.specs.declared.Answer.{Answer}
@@ -14,6 +14,11 @@ IsGrant roles rights numbers =
 abbrev pub HasGrants : List Row → Rights → Type 0
 HasGrants rows policy =
     (role right : ℕ) → Has policy role right ↔ Contains (map (λ (row : Row). row.numbers.items) rows) (role ∷ right ∷ [])
+
+-- a role has a right exactly where it had it and none of the rows is these two
+abbrev pub IsWithout : List Row → Rights → Rights → Type 0
+IsWithout rows old new =
+    (role right : ℕ) → Has new role right ↔ (Has old role right × ¬ (Contains (map (λ (row : Row). row.numbers.items) rows) (role ∷ right ∷ [])))
 
 -- there is a role
 abbrev pub IsQuestion : List ℕ → Type 0

@@ -1,17 +1,20 @@
 //! Reads two policies from standard input, and answers by their intersection who may do what.
 //!
-//! The first line is how many roles and how many rights there are, at most 10,000 of each. Three parts follow, each with an
-//! empty line before it: what the first policy grants, what the second one grants, and the questions. A line of the first
-//! two is a role and a right that there are. A question is a role and the rights asked for. The answer is `yes`, or `no` and
-//! the least of the rights asked for that the role lacks. It is `no` alone where there is no such role or right.
+//! The first line is how many roles and how many rights there are, at most 10,000 of each. Four parts follow, each with an
+//! empty line before it: what the first policy grants, what the second one grants, what is denied although both grant it,
+//! and the questions. A line of the first three is a role and a right that there are. A question is a role and the rights
+//! asked for. The answer is `yes`, or `no` and the least of the rights asked for that the role lacks. It is `no` alone where
+//! there is no such role or right.
 //!
-//! Each policy has exactly the grants of its lines. Where some line is not as said here, nothing is answered but one
-//! sentence on standard error with the number of that line, and the status is 1.
+//! Each policy has exactly the grants of its lines, and exactly the lines of the third part are denied. Where some line is
+//! not as said here, nothing is answered but one sentence on standard error with the number of that line, and the status
+//! is 1.
 #![tactic(auto)]
 
 ghost use Rattle.std.specs.Prelude.{◌≡◌, ◌∷◌, [], MatchOption, IfOk, IfErr, OnOk, length};
 ghost use Rattle.use_text.specs.Faults.{AreAll, IsFaultOfRow};
-ghost use Rattle.use_access.specs.Lines.{IsGrant, IsQuestion, HasGrants, IsAnswer};
+ghost use Rattle.use_access.specs.Lines.{IsGrant, IsQuestion, HasGrants, IsWithout, IsAnswer};
+ghost use Rattle.use_access.specs.Policies.{HaveSameSize};
 
 use policies::Policy;
 use std::alloc::{AllocError, Global};
@@ -22,8 +25,6 @@ use use_text::sets::set_of;
 use use_text::{Fault, Row};
 
 mod policies;
-#[cfg(test)]
-mod tests;
 
 // How many roles there may be, and how many rights.
 const LIMIT: usize = 10_000;
@@ -43,22 +44,23 @@ fn answers(alloc: Global, text: &str) -> Result<String, Fault> {
         let wanted = "there have to be two numbers, of roles and of rights, up to 10,000";
         return Err(Fault::Line(size.line, wanted));
     };
-    let mut parts = others.splitn(4, |row| row.numbers.is_empty());
-    let (first, second, questions) = match (
+    let mut parts = others.splitn(5, |row| row.numbers.is_empty());
+    if let Some([row, ..]) = parts.next() {
+        return Err(Fault::Line(row.line, "an empty line has to stand here"));
+    }
+    let (Some(first), Some(second), Some(denied), Some(questions)) = (
         parts.next(),
         parts.next(),
         parts.next(),
         parts.next(),
-    ) {
-        (Some([]), Some(first), Some(second), Some(questions)) => (first, second, questions),
-        (Some([row, ..]), _, _, _) => {
-            return Err(Fault::Line(row.line, "an empty line has to stand here"));
-        }
-        _ => return Err(Fault::Line(rows.len() + 1, "a part is missing")),
+    ) else {
+        return Err(Fault::Line(rows.len() + 1, "a part is missing"));
     };
     let first = policy_of(alloc, roles, rights, first)?;
     let second = policy_of(alloc, roles, rights, second)?;
-    answers_of(alloc, &first.both(alloc, &second)?, questions)
+    let mut both = first.both(alloc, &second)?;
+    deny(&mut both, denied)?;
+    answers_of(alloc, &both, questions)
 }
 
 // The policy that gives exactly what these rows grant. The fault has the first row that is no grant.
@@ -88,6 +90,24 @@ fn grant_of(numbers: &[usize], roles: usize, rights: usize) -> Option<(usize, us
         [role, right] if role < roles && right < rights => Some((role, right)),
         _ => None,
     }
+}
+
+// Takes from the policy what these rows deny. The fault has the first row that denies nothing.
+fn deny(policy: &mut Policy, rows: &[Row]) -> Result<(), Fault>
+    ensures size { HaveSameSize policy.old policy.new }
+    ensures denied { OnOk result (IsWithout rows.now policy.old policy.new) }
+    ensures each { OnOk result
+        (AreAll (IsGrant (length policy.old.roles) policy.old.rights) rows.now) }
+    ensures fault { IfErr result
+        (IsFaultOfRow (IsGrant (length policy.old.roles) policy.old.rights) rows.now) }
+{
+    for row in rows {
+        let Some((role, right)) = grant_of(&row.numbers, policy.roles(), policy.rights()) else {
+            return Err(Fault::Line(row.line, "what is denied has to be a role and a right"));
+        };
+        policy.revoke(role, right);
+    }
+    Ok(())
 }
 
 // What a policy says to a question.
@@ -135,7 +155,9 @@ fn answer_to(
     let Some(asked) = set_of(alloc, policy.rights(), rights)? else {
         return Ok(Answer::Unknown);
     };
-    match policy.missing(role, &asked) {
+    let missing = policy.missing(role, &asked);
+    prove!(policy.allows(role, &asked) == missing.is_none());
+    match missing {
         Some(right) => Ok(Answer::Lacking(right)),
         None => Ok(Answer::Allowed),
     }

@@ -13,8 +13,6 @@ use use_text::Fault;
 use use_text::program::{finish, read};
 
 mod graph;
-#[cfg(test)]
-mod tests;
 
 // How many nodes there may be.
 const LIMIT: usize = 10_000;

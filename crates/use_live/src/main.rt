@@ -12,8 +12,6 @@ ghost use Rattle.flow.specs.Flow.{IsProblem};
 ghost use Rattle.use_live.specs.Lines.{AreLetters, AreVariables};
 
 mod live;
-#[cfg(test)]
-mod tests;
 
 use crate::live::live_before;
 use fixedbitset::FixedBitSet;

@@ -12,8 +12,6 @@ use use_text::Fault;
 use use_text::program::{finish, read};
 
 mod sieve;
-#[cfg(test)]
-mod tests;
 
 fn main(rt: HostRuntime) -> ExitCode {
     let alloc = rt.alloc();

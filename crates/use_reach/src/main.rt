@@ -10,7 +10,7 @@ ghost use Rattle.use_text.specs.Faults.{IsFaultOfRow};
 ghost use Rattle.use_reach.specs.Reach.{IsGraph, AreNodes};
 
 use fixedbitset::Steps;
-use reach::{are_nodes, reachable};
+use reach::{are_nodes, is_graph, reachable};
 use std::alloc::Global;
 use std::fmt::Write;
 use std::process::ExitCode;
@@ -18,8 +18,6 @@ use use_text::program::{finish, read};
 use use_text::{Fault, Row};
 
 mod reach;
-#[cfg(test)]
-mod tests;
 
 fn main(rt: HostRuntime) -> ExitCode {
     let alloc = rt.alloc();
@@ -37,6 +35,7 @@ fn answer(alloc: Global, text: &str) -> Result<String, Fault> {
         _ => return Err(Fault::Line(first.line, "the start has to be one node")),
     };
     let graph = graph_of(alloc, others)?;
+    prove!(is_graph(&graph));
     let reached = reachable(alloc, &graph, start, &mut Steps::new(), &mut Steps::new())?;
     let mut answer = String::new(alloc);
     for node in reached.ones() {

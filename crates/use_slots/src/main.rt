@@ -3,25 +3,30 @@
 //! The first line is how many slots there are, at most 1,000,000. A line without a number takes a slot, and the answer is
 //! the slot or `full`. A line with a number gives that slot back, and the answer is `ok`, or `free` where it was not taken.
 //! A line of two numbers takes a stretch: as many slots as the first says, one behind the other, from the least start at or
-//! past the second where all of them are free. The answer is that start, or `full`. Each slot of it is given back by a line
-//! of its own. Where some line is not as said here, nothing is answered but one sentence on standard error with the number
-//! of that line, and the status is 1.
+//! past the second where all of them are free. The answer is that start, or `full`. A third number is the end: where the
+//! stretch goes past it, nothing is taken, and the answer is `full`. Each slot of a stretch is given back by a line of its
+//! own.
+//!
+//! At the end what is in the slots moves to the front, the least slot first, with a line like `5 to 0` for each that moves.
+//! The last line is how many slots are free then, and the two least of them where there are two, as in `4 free: 5 6`.
+//!
+//! Where some line is not as said here, nothing is answered but one sentence on standard error with the number of that
+//! line, and the status is 1.
 #![tactic(auto)]
 
-ghost use Rattle.std.specs.Prelude.{OnOk, IfErr};
+ghost use Rattle.std.specs.Prelude.{◌+◌, ◌≤◌, OnOk, IfErr, IfSome};
 ghost use Rattle.use_text.specs.Faults.{AreAll, IsFaultOfRow};
 ghost use Rattle.use_slots.specs.Commands.{IsCommand};
+ghost use Rattle.use_slots.specs.Pool.{IsTakenStretch};
 
-use slots::Slots;
-use std::alloc::Global;
+use slots::{Slots, never_twice, take_two};
+use std::alloc::{AllocError, Global};
 use std::fmt::Write;
 use std::process::ExitCode;
 use use_text::program::{finish, read};
 use use_text::{Fault, Row};
 
 mod slots;
-#[cfg(test)]
-mod tests;
 
 // How many slots there may be.
 const LIMIT: usize = 1_000_000;
@@ -44,7 +49,11 @@ fn answers(alloc: Global, text: &str) -> Result<String, Fault> {
         ));
     };
     let mut slots = Slots::new(alloc, many)?;
-    carry_out(alloc, &mut slots, others)
+    // A law of the calls that the lines make. It does nothing.
+    never_twice();
+    let mut answers = carry_out(alloc, &mut slots, others)?;
+    move_to_front(&mut slots, many, &mut answers)?;
+    Ok(answers)
 }
 
 // Carries out the command of each row, and answers a line for each. The fault has the first row that is no command.
@@ -68,8 +77,43 @@ fn carry_out(alloc: Global, slots: &mut Slots, rows: &[Row]) -> Result<String, F
                 Some(start) => writeln!(answers, "{start}")?,
                 None => answers.push_str("full\n")?,
             },
-            _ => return Err(Fault::Line(row.line, "a command has to be two numbers at most")),
+            [count, from, end] => match take_before(slots, count, from, end) {
+                Some(start) => writeln!(answers, "{start}")?,
+                None => answers.push_str("full\n")?,
+            },
+            _ => return Err(Fault::Line(row.line, "a command has to be three numbers at most")),
         }
     }
     Ok(answers)
+}
+
+// Takes the stretch that `take_stretch` takes, if it does not go past `end`.
+fn take_before(slots: &mut Slots, count: usize, from: usize, end: usize) -> Option<usize>
+    ensures { IfSome result (λ start.
+        IsTakenStretch slots.new count start × (start + count ≤ end)) }
+{
+    let start = slots.take_stretch(count, from)?;
+    if end < start || end - start < count {
+        slots.give_back_stretch(start, count);
+        return None;
+    }
+    Some(start)
+}
+
+// Moves what is in the slots to the front, and adds the lines that say so and what is free then.
+fn move_to_front(slots: &mut Slots, many: usize, answers: &mut String) -> Result<(), AllocError> {
+    for slot in 0..many {
+        if slots.is_taken(slot) {
+            let front = slots.lower(slot);
+            if front < slot {
+                writeln!(answers, "{slot} to {front}")?;
+            }
+        }
+    }
+    write!(answers, "{} free", slots.free())?;
+    if let Some((first, second)) = take_two(slots) {
+        write!(answers, ": {first} {second}")?;
+    }
+    answers.push_str("\n")?;
+    Ok(())
 }

@@ -1,9 +1,13 @@
-//! Reads a nondeterministic automaton from standard input, makes it deterministic, and prints which words it accepts.
+//! Reads a nondeterministic automaton from standard input, makes it deterministic, and prints it and which words it accepts.
 //!
-//! The first line is how many states and how many letters there are, at most 1,000 and at most 100. The second line is the
-//! start states, and the third the accepting states. Then come the edges, each as a state, a letter and a state, and an
-//! empty line. Each further line is a word. The first line of the answer is how many states the deterministic automaton
-//! has, 1,000 at most, and the others are `yes` or `no`, one a word.
+//! The first line is how many states and how many letters there are, at most 1,000 and at most 100. A third number may
+//! follow: how many states the deterministic automaton may have, at most 1,000. Without it they are 1,000. The second line
+//! is the start states, and the third the accepting states. Then come the edges, each as a state, a letter and a state, and
+//! an empty line. Each further line is a word.
+//!
+//! The first line of the answer is how many states the deterministic automaton has. A line for each of them follows, as
+//! `0 2 -> 0 1`: the set of states that it is, and the state after it by each letter. The others are `yes` or `no`, one a
+//! word.
 //!
 //! The automaton has exactly the states and edges of its lines. Where some line is not as said here, nothing is answered
 //! but one sentence on standard error with the number of that line, and the status is 1. An automaton that would have too
@@ -15,9 +19,9 @@ ghost use Rattle.use_text.specs.Faults.{IsFaultOfRow};
 ghost use Rattle.use_text.specs.Sets.{AreBelow, IsSetOf};
 ghost use Rattle.use_subsets.specs.Lines.{IsEdge, IsBetween};
 
-use automata::{Edge, Nfa};
+use automata::{Dfa, Edge, Nfa};
 use fixedbitset::FixedBitSet;
-use std::alloc::Global;
+use std::alloc::{AllocError, Global};
 use std::fmt::Write;
 use std::process::ExitCode;
 use subsets::determinize;
@@ -27,8 +31,6 @@ use use_text::{Fault, Row};
 
 mod automata;
 mod subsets;
-#[cfg(test)]
-mod tests;
 
 // How many states either automaton may have, and how many letters there may be.
 const STATES: usize = 1_000;
@@ -46,10 +48,7 @@ fn answers(alloc: Global, text: &str) -> Result<String, Fault> {
     let [size, start, accepting, others @ ..] = rows.as_slice() else {
         return Err(Fault::Line(rows.len() + 1, "a line is missing"));
     };
-    let [states @ 0..=STATES, letters @ 0..=LETTERS] = *size.numbers.as_slice() else {
-        let wanted = "there have to be two numbers, of states up to 1,000 and of letters up to 100";
-        return Err(Fault::Line(size.line, wanted));
-    };
+    let (states, letters, limit) = sizes_of(size)?;
     let start = states_of(alloc, states, start)?;
     let accepting = states_of(alloc, states, accepting)?;
     let mut parts = others.splitn(2, |row| row.numbers.is_empty());
@@ -63,16 +62,52 @@ fn answers(alloc: Global, text: &str) -> Result<String, Fault> {
         start,
         accepting,
     };
-    let Some(dfa) = determinize(alloc, &nfa, STATES)? else {
-        return Err(Fault::Line(size.line, "the automaton would have more than 1,000 states"));
+    prove!(nfa.is_valid());
+    let Some(dfa) = determinize(alloc, &nfa, limit)? else {
+        return Err(Fault::Line(size.line, "the automaton would have too many states"));
     };
     let mut answers = String::new(alloc);
-    writeln!(answers, "{}", dfa.sets.len())?;
+    write_states(&mut answers, &dfa)?;
     for word in words {
         let answer = dfa.accepts(&word.numbers);
         answers.push_str(if answer { "yes\n" } else { "no\n" })?;
     }
     Ok(answers)
+}
+
+// How many states and letters there are, and how many states the deterministic automaton may have.
+fn sizes_of(row: &Row) -> Result<(usize, usize, usize), Fault> {
+    match *row.numbers.as_slice() {
+        [states @ 0..=STATES, letters @ 0..=LETTERS] => Ok((states, letters, STATES)),
+        [
+            states @ 0..=STATES,
+            letters @ 0..=LETTERS,
+            limit @ 0..=STATES,
+        ] => Ok((states, letters, limit)),
+        _ => {
+            let wanted =
+                "there have to be the numbers of states up to 1,000 and of letters up to 100, \
+                and perhaps a limit up to 1,000";
+            Err(Fault::Line(row.line, wanted))
+        }
+    }
+}
+
+// How many states there are, and a line for each: the set that it is, and the state after it by each letter.
+fn write_states(answers: &mut String, dfa: &Dfa) -> Result<(), AllocError> {
+    writeln!(answers, "{}", dfa.sets.len())?;
+    let mut next = dfa.next.iter();
+    for set in &dfa.sets {
+        for state in set.ones() {
+            write!(answers, "{state} ")?;
+        }
+        answers.push_str("->")?;
+        for state in next.by_ref().take(dfa.letters) {
+            write!(answers, " {state}")?;
+        }
+        answers.push_str("\n")?;
+    }
+    Ok(())
 }
 
 // The set of the states of a row. The fault has the row, some number of which is no state.

@@ -17,8 +17,6 @@ use use_text::program::{finish, read};
 use use_text::{Fault, Row};
 
 mod sums;
-#[cfg(test)]
-mod tests;
 
 // The greatest limit that the program takes.
 const LIMIT: usize = 10_000_000;

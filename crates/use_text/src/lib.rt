@@ -18,8 +18,6 @@ use thiserror::Error;
 
 pub mod program;
 pub mod sets;
-#[cfg(test)]
-mod tests;
 
 /// The numbers of a line.
 #[derive(Debug, Drop)]

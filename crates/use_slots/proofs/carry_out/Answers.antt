@@ -2,7 +2,7 @@ use Rattle.std.proofs.Common.{length, ap, arith}
 use Rattle.use_text.specs.FaultFacts.{row_more, each_row, other_row}
 use Rattle.use_slots.specs.Commands.{IsCommand}
 use Rattle.use_slots.proofs.carry_out.Goals as goal
-use Rattle.use_slots.proofs.carry_out.Goals.{in-empty+in-Some+in_ok-writeln-in-Some, in-empty+in-None+in_ok-push_str-in-None, in-len1+in_ok-push_str-in-len1, in-len1-2+in_ok-push_str-in-len1-2, in-len2+in-Some-take_stretch+in_ok-writeln-in-Some-take_stretch, in-len2+in-None-take_stretch+in_ok-push_str-in-None-take_stretch}
+use Rattle.use_slots.proofs.carry_out.Goals.{in-empty+in-Some+in_ok-writeln-in-Some, in-empty+in-None+in_ok-push_str-in-None, in-len1+in_ok-push_str-in-len1, in-len1-2+in_ok-push_str-in-len1-2, in-len2+in-Some-take_stretch+in_ok-writeln-in-Some-take_stretch, in-len2+in-None-take_stretch+in_ok-push_str-in-None-take_stretch, in-len3+in-Some-take_before+in_ok-writeln-in-Some-take_before, in-len3+in-None-take_before+in_ok-push_str-in-None-take_before}
 
 pub loop-row-preserved : goal.loop-row-preserved
 loop-row-preserved c =
@@ -15,6 +15,8 @@ loop-row-preserved c =
       | in-len1-2+in_ok-push_str-in-len1-2 w ↦ omega (arith, w.in-len1.len_below, long)
       | in-len2+in-Some-take_stretch+in_ok-writeln-in-Some-take_stretch w ↦ omega (arith, w.in-len2.len_below, long)
       | in-len2+in-None-take_stretch+in_ok-push_str-in-None-take_stretch w ↦ omega (arith, w.in-len2.len_below, long)
+      | in-len3+in-Some-take_before+in_ok-writeln-in-Some-take_before w ↦ omega (arith, w.in-len3.len_below, long)
+      | in-len3+in-None-take_before+in_ok-push_str-in-None-take_before w ↦ omega (arith, w.in-len3.len_below, long)
     ])
 
 pub returns-clause-each : goal.returns-clause-each
