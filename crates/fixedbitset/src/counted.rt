@@ -8,7 +8,7 @@ mod ranges;
 mod shifts;
 mod whole;
 
-pub use alone::{clear, is_full};
+pub use alone::{clear, is_clear, is_full, maximum, minimum};
 pub use changes::{
     difference_with_change, intersect_with_change, union_with_change, union_with_difference,
 };
