@@ -335,6 +335,7 @@ fn counted_calls(starts: &mut Starts) -> Result<bool, Fault> {
         && !counted::is_subset(short, long, steps)
         && counted::first_lacking(short, long, steps) == Some(LONG - 1)
         && !counted::is_equal(short, long, steps)
+        && counted::cmp(short, long, steps) == short.cmp(long)
         && !counted::is_full(short, steps)
         && !counted::is_clear(short, steps)
         && counted::minimum(short, steps) == short.minimum()
