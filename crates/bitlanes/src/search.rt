@@ -24,15 +24,18 @@ const FOUR: usize = 4 * LANE;
 /// that have the word, and then at single words, which are four at most.
 ///
 /// ```
-/// assert_eq!(rt; search::first_one(&[0, 0, 8, 1, 0]), Some(2));
-/// assert_eq!(rt; search::first_one(&[0; 9]), None);
+/// let mut steps = Steps::new();
+/// assert_eq!(rt; search::first_one(&[0, 0, 8, 1, 0], &mut steps), Some(2));
+/// assert_eq!(rt; search::first_one(&[0; 9], &mut steps), None);
 /// ```
 #[inline(always)]
-pub fn first_one(words: &[Block]) -> Option<usize>
+pub fn first_one(words: &[Block], steps: &mut Steps) -> Option<usize>
     ensures found { IfSome result (IsFirstOne words.now) }
     ensures none { IfNone result (AreZeros words.now) }
+    ensures cost { IfSome result (λ at. steps.new ≡ steps.old + lane_steps (at + 1)) }
+    ensures whole { IfNone result (steps.new ≡ steps.old + lane_steps (length words.now)) }
 {
-    next_one::<And>(Block::MAX, words, 0, &mut Steps::new())
+    next_one::<And>(Block::MAX, words, 0, steps)
 }
 
 /// The place of the last word that is not 0, or `None` where each word is 0.
@@ -41,15 +44,19 @@ pub fn first_one(words: &[Block]) -> Option<usize>
 /// time down to those that have the word, and then at single words, which are four at most.
 ///
 /// ```
-/// assert_eq!(rt; search::last_one(&[0, 0, 8, 1, 0]), Some(3));
-/// assert_eq!(rt; search::last_one(&[0; 9]), None);
+/// let mut steps = Steps::new();
+/// assert_eq!(rt; search::last_one(&[0, 0, 8, 1, 0], &mut steps), Some(3));
+/// assert_eq!(rt; search::last_one(&[0; 9], &mut steps), None);
 /// ```
 #[inline(always)]
-pub fn last_one(words: &[Block]) -> Option<usize>
+pub fn last_one(words: &[Block], steps: &mut Steps) -> Option<usize>
     ensures found { IfSome result (IsLastOne words.now) }
     ensures none { IfNone result (AreZeros words.now) }
+    ensures cost { IfSome result
+        (λ at. steps.new ≡ steps.old + lane_steps (length words.now - at)) }
+    ensures whole { IfNone result (steps.new ≡ steps.old + lane_steps (length words.now)) }
 {
-    previous_one::<And>(Block::MAX, words, words.len(), &mut Steps::new())
+    previous_one::<And>(Block::MAX, words, words.len(), steps)
 }
 
 /// The place of the first word, from place `from` on, that is not 0 when `mask` is joined with it by `O`; `None` where

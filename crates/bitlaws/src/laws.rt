@@ -4,7 +4,7 @@ ghost use Rattle.bitlaws.specs.AscendingLaws.{OneAscendingList};
 ghost use Rattle.bitlaws.specs.JoinLaws.{Commutes, Associates, IsIdempotent, Absorbs, Distributes, IntersectionIsBitand};
 ghost use Rattle.bitlaws.specs.JoinLaws.{SubsetOfItself, SubsetThrough, SameSubsets, UnionIsLeast, IntersectionIsGreatest};
 ghost use Rattle.bitlaws.specs.JoinLaws.{ComplementTwice, ComplementOfUnion, ComplementOfIntersection, DifferenceByComplement};
-ghost use Rattle.bitlaws.specs.JsonLaws.{WrittenReadsBack, TextIsExact, HasWholeNumbers, NestsTwice};
+ghost use Rattle.bitlaws.specs.JsonLaws.{FormTells, WrittenReadsBack, TextIsExact, HasWholeNumbers, NestsTwice};
 ghost use Rattle.bitlaws.specs.OrderLaws.{EqualTells, CompareTells, MinimumIsLeast, MaximumIsGreatest};
 ghost use Rattle.bitlaws.specs.RangeLaws.{WordsOfRange, NumberOfRangeWords, RangeWordsBound, SearchBound, TogglingTwice, RangeCountsAddUp, IsValidTells, ContainsAllTells, ContainsAnyTells};
 ghost use Rattle.bitlaws.specs.RunLaws.{RunsAreTheSet, ZeroRunsAreTheOthers, RoomTells, GapIsLeast};
@@ -64,6 +64,18 @@ pub fn runs_are_the_set()
 pub fn first_gap_is_least()
     ensures room { RoomTells }
     ensures least { GapIsLeast }
+{}
+
+/// Which JSON values are in the form, and which fault the others have. It is the first of these that applies, in the order
+/// of `JsonFault`.
+///
+/// ```
+/// let value = Value::from_str(alloc, "{\"length\":-1,\"data\":[256]}")?;
+/// laws::one_form();
+/// assert_eq!(rt; FixedBitSet::check_value(&value), Err(JsonFault::Length));
+/// ```
+pub fn one_form()
+    ensures { FormTells }
 {}
 
 /// What is written of a set as JSON is in the form and means that set.

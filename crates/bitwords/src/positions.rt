@@ -30,39 +30,48 @@ pub fn contains(words: &[Block], position: usize) -> bool
 
 /// The first position that is set, or `None` where none is.
 ///
-/// It looks at four words at a time from the first on, up to the one that has this position. The number of positions of
-/// the row, 64 for each word, may be at most 2 ^ 64.
+/// It takes one step for each lane of four words from the first on, up to the one that has this position. The number of
+/// positions of the row, 64 for each word, may be at most 2 ^ 64.
 ///
 /// ```
-/// assert_eq!(rt; positions::first(&[0, 12]), Some(66));
-/// assert_eq!(rt; positions::first(&[0; 5]), None);
+/// let mut steps = Steps::new();
+/// assert_eq!(rt; positions::first(&[0, 12], &mut steps), Some(66));
+/// assert_eq!(rt; positions::first(&[0; 5], &mut steps), None);
 /// ```
 #[inline]
 #[tactic(auto, using(crate::proofs::FirstAndLast::first_position, crate::proofs::FirstAndLast::no_first_position))]
-pub fn first(words: &[Block]) -> Option<usize>
+pub fn first(words: &[Block], steps: &mut Steps) -> Option<usize>
     requires { 64 * length words.now ≤ 2 ^ 64 }
-    ensures { result ≡ slice_get (ascending (has_bit words.now) 0 (64 * length words.now)) 0 }
+    ensures value { result
+        ≡ slice_get (ascending (has_bit words.now) 0 (64 * length words.now)) 0 }
+    ensures cost { IfSome result (λ p. steps.new ≡ steps.old + lane_steps (p / 64 + 1)) }
+    ensures whole { IfNone result (steps.new ≡ steps.old + lane_steps (length words.now)) }
 {
-    let at = first_one(words)?;
+    let at = first_one(words, steps)?;
     Some(BITS * at + lowest_bit(words[at]))
 }
 
 /// The last position that is set, or `None` where none is.
 ///
-/// It looks at four words at a time from the last on, down to the one that has this position. The number of positions of
-/// the row, 64 for each word, may be at most 2 ^ 64.
+/// It takes one step for each lane of four words from the last on, down to the one that has this position. The number of
+/// positions of the row, 64 for each word, may be at most 2 ^ 64.
 ///
 /// ```
-/// assert_eq!(rt; positions::last(&[12, 12, 0]), Some(67));
-/// assert_eq!(rt; positions::last(&[0; 5]), None);
+/// let mut steps = Steps::new();
+/// assert_eq!(rt; positions::last(&[12, 12, 0], &mut steps), Some(67));
+/// assert_eq!(rt; positions::last(&[0; 5], &mut steps), None);
 /// ```
 #[inline]
 #[tactic(auto, using(crate::proofs::FirstAndLast::last_position, crate::proofs::FirstAndLast::no_last_position))]
-pub fn last(words: &[Block]) -> Option<usize>
+pub fn last(words: &[Block], steps: &mut Steps) -> Option<usize>
     requires { 64 * length words.now ≤ 2 ^ 64 }
-    ensures { result ≡ last_or None (ascending (has_bit words.now) 0 (64 * length words.now)) }
+    ensures value { result
+        ≡ last_or None (ascending (has_bit words.now) 0 (64 * length words.now)) }
+    ensures cost { IfSome result
+        (λ p. steps.new ≡ steps.old + lane_steps (length words.now - p / 64)) }
+    ensures whole { IfNone result (steps.new ≡ steps.old + lane_steps (length words.now)) }
 {
-    let at = last_one(words)?;
+    let at = last_one(words, steps)?;
     Some(BITS * at + highest_bit(words[at]))
 }
 

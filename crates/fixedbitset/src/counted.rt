@@ -8,7 +8,7 @@ mod ranges;
 mod shifts;
 mod whole;
 
-pub use alone::{clear, is_full};
+pub use alone::{clear, is_clear, is_full, maximum, minimum};
 pub use changes::{
     difference_with_change, intersect_with_change, union_with_change, union_with_difference,
 };
@@ -23,7 +23,7 @@ pub use shifts::{
     union_with_shifted,
 };
 pub use whole::{
-    difference_count, difference_with, first_lacking, intersect_with, intersection_count,
+    cmp, difference_count, difference_with, first_lacking, intersect_with, intersection_count,
     is_disjoint, is_equal, is_subset, symmetric_difference_count, symmetric_difference_with,
     union_count, union_with,
 };

@@ -6,7 +6,7 @@
 //! same names take, and what a call looks at is the same too. No call takes memory. The calls of `FixedBitSet`
 //! that take none hand its words over to these, and the static library `bits_c` lends those of a caller in C or in Rust.
 
-ghost use Rattle.std.specs.Prelude.{◌≡◌, ◌<◌, ◌≤◌, ◌+◌, ◌-◌, ◌*◌, min};
+ghost use Rattle.std.specs.Prelude.{◌≡◌, ◌<◌, ◌≤◌, ◌+◌, ◌-◌, ◌*◌, ◌/◌, min, IfSome, IfNone};
 ghost use Rattle.std.specs.Prelude as prelude;
 ghost use Rattle.bitlanes.specs.Words.{lane_steps};
 ghost use Rattle.fixedbitset.specs.Bits as model;
@@ -245,12 +245,11 @@ pub fn is_clear(words: &[Block], length: usize) -> bool
 /// assert_eq!(rt; lent::minimum(&words, 70), Some(65));
 /// ```
 #[inline(always)]
-#[tactic(auto, using(crate::proofs::Positions::row_minimum))]
 pub fn minimum(words: &[Block], length: usize) -> Option<usize>
     requires { IsClean length words.now }
     ensures { result ≡ model.minimum (of_words length words.now) }
 {
-    positions::first(words)
+    minimum_counted(words, length, &mut Steps::new())
 }
 
 /// The last position that is set, or `None` where none is.
@@ -261,12 +260,38 @@ pub fn minimum(words: &[Block], length: usize) -> Option<usize>
 /// assert_eq!(rt; lent::maximum(&words, 70), Some(69));
 /// ```
 #[inline(always)]
-#[tactic(auto, using(crate::proofs::Positions::row_maximum))]
 pub fn maximum(words: &[Block], length: usize) -> Option<usize>
     requires { IsClean length words.now }
     ensures { result ≡ model.maximum (of_words length words.now) }
 {
-    positions::last(words)
+    maximum_counted(words, length, &mut Steps::new())
+}
+
+// `minimum`, with the steps that it takes.
+#[inline(always)]
+#[tactic(auto, using(crate::proofs::Positions::row_minimum))]
+pub(crate) fn minimum_counted(words: &[Block], length: usize, steps: &mut Steps) -> Option<usize>
+    requires { IsClean length words.now }
+    ensures value { result ≡ model.minimum (of_words length words.now) }
+    ensures cost { IfSome result (λ p. steps.new ≡ steps.old + lane_steps (p / 64 + 1)) }
+    ensures whole { IfNone result
+        (steps.new ≡ steps.old + lane_steps (model.storage_words length)) }
+{
+    positions::first(words, steps)
+}
+
+// `maximum`, with the steps that it takes.
+#[inline(always)]
+#[tactic(auto, using(crate::proofs::Positions::row_maximum))]
+pub(crate) fn maximum_counted(words: &[Block], length: usize, steps: &mut Steps) -> Option<usize>
+    requires { IsClean length words.now }
+    ensures value { result ≡ model.maximum (of_words length words.now) }
+    ensures cost { IfSome result
+        (λ p. steps.new ≡ steps.old + lane_steps (model.storage_words length - p / 64)) }
+    ensures whole { IfNone result
+        (steps.new ≡ steps.old + lane_steps (model.storage_words length)) }
+{
+    positions::last(words, steps)
 }
 
 // `clear`, with the steps that it takes.

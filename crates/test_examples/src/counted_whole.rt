@@ -2,6 +2,7 @@
 
 use crate::calls::{equal, holds, ok, set_of};
 use fixedbitset::{Steps, counted};
+use std::cmp::Ordering;
 
 #[test]
 fn union_with(rt: HostRuntime) {
@@ -122,4 +123,16 @@ fn is_equal(rt: HostRuntime) {
     let other = set_of(&rt, alloc, &[3, 64, 200]);
     holds(&rt, counted::is_equal(&set, &set, &mut Steps::new()));
     holds(&rt, !counted::is_equal(&set, &other, &mut Steps::new()));
+}
+
+#[test]
+fn cmp(rt: HostRuntime) {
+    let alloc = rt.alloc();
+    let set = set_of(&rt, alloc, &[3, 64]);
+    let other = set_of(&rt, alloc, &[9, 64]);
+    equal(
+        &rt,
+        counted::cmp(&set, &other, &mut Steps::new()),
+        Ordering::Less,
+    );
 }

@@ -3,7 +3,8 @@
 use crate::calls::{cleared, equal, gives, holds, known, known_equal, ok, set_of};
 use bitlanes::word;
 use bitlaws::laws;
-use fixedbitset::{FixedBitSet, Steps, counted};
+use fixedbitset::{FixedBitSet, JsonFault, Steps, counted};
+use serde_json::Value;
 
 #[test]
 fn one_ascending_list(rt: HostRuntime) {
@@ -40,6 +41,21 @@ fn first_gap_is_least(rt: HostRuntime) {
     let set = set_of(&rt, alloc, &[3, 4, 9]);
     laws::first_gap_is_least();
     equal(&rt, set.first_gap(4, 0), Some(5));
+}
+
+#[test]
+fn one_form(rt: HostRuntime) {
+    let alloc = rt.alloc();
+    let value = ok(
+        &rt,
+        Value::from_str(alloc, "{\"length\":-1,\"data\":[256]}"),
+    );
+    laws::one_form();
+    equal(
+        &rt,
+        FixedBitSet::check_value(&value),
+        Err(JsonFault::Length),
+    );
 }
 
 #[test]

@@ -14,14 +14,16 @@ fn contains(rt: HostRuntime) {
 
 #[test]
 fn first(rt: HostRuntime) {
-    equal(&rt, positions::first(&[0, 12]), Some(66));
-    equal(&rt, positions::first(&[0; 5]), None);
+    let mut steps = Steps::new();
+    equal(&rt, positions::first(&[0, 12], &mut steps), Some(66));
+    equal(&rt, positions::first(&[0; 5], &mut steps), None);
 }
 
 #[test]
 fn last(rt: HostRuntime) {
-    equal(&rt, positions::last(&[12, 12, 0]), Some(67));
-    equal(&rt, positions::last(&[0; 5]), None);
+    let mut steps = Steps::new();
+    equal(&rt, positions::last(&[12, 12, 0], &mut steps), Some(67));
+    equal(&rt, positions::last(&[0; 5], &mut steps), None);
 }
 
 #[test]

@@ -7,14 +7,20 @@ use fixedbitset::{Block, Steps};
 
 #[test]
 fn first_one(rt: HostRuntime) {
-    equal(&rt, search::first_one(&[0, 0, 8, 1, 0]), Some(2));
-    equal(&rt, search::first_one(&[0; 9]), None);
+    let mut steps = Steps::new();
+    equal(
+        &rt,
+        search::first_one(&[0, 0, 8, 1, 0], &mut steps),
+        Some(2),
+    );
+    equal(&rt, search::first_one(&[0; 9], &mut steps), None);
 }
 
 #[test]
 fn last_one(rt: HostRuntime) {
-    equal(&rt, search::last_one(&[0, 0, 8, 1, 0]), Some(3));
-    equal(&rt, search::last_one(&[0; 9]), None);
+    let mut steps = Steps::new();
+    equal(&rt, search::last_one(&[0, 0, 8, 1, 0], &mut steps), Some(3));
+    equal(&rt, search::last_one(&[0; 9], &mut steps), None);
 }
 
 #[test]

@@ -77,10 +77,7 @@ fn set_made(alloc: Global, starts: &Starts, call: Making) -> Result<bool, Fault>
     let (short, long) = (&starts.short, &starts.long);
     Ok(match call {
         Making::WithCapacity => is_value(&FixedBitSet::with_capacity(alloc, LONG)?, LONG, &[]),
-        Making::WithCapacityAndBlocks => {
-            let set = FixedBitSet::with_capacity_and_blocks(alloc, LONG, [8])?;
-            is_value(&set, LONG, &[3])
-        }
+        Making::WithCapacityAndBlocks => blocks_made(alloc)?,
         Making::FromIter => is_value(&FixedBitSet::from_iter(alloc, [LONG])?, LONG + 1, &[LONG]),
         Making::Clone => is_long(&long.clone()?),
         Making::Bitand => is_value(&long.bitand(short)?, 10, &[]),
@@ -96,6 +93,17 @@ fn set_made(alloc: Global, starts: &Starts, call: Making) -> Result<bool, Fault>
         Making::FromValue => is_short(&FixedBitSet::from_value(alloc, &starts.json)?),
         _ => false,
     })
+}
+
+// A call that is refused takes no item of an iterator that is lent.
+fn blocks_made(alloc: Global) -> Result<bool, Fault> {
+    let words = [8];
+    let mut lent = words.iter().copied();
+    let made = FixedBitSet::with_capacity_and_blocks(alloc, LONG, lent.by_ref());
+    if made.is_err() && lent.next() != Some(8) {
+        return Ok(false);
+    }
+    Ok(is_value(&made?, LONG, &[3]))
 }
 
 fn table_made(alloc: Global) -> Result<bool, Fault> {

@@ -39,8 +39,8 @@ fn kernels_ask() -> bool {
         && !lanes::none::<And>(&LEFT, &RIGHT, steps)
         && !lanes::none_one(&LEFT, steps)
         && lanes::none_masked::<And>(16, &LEFT, steps)
-        && search::first_one(&RIGHT) == Some(0)
-        && search::last_one(&RIGHT) == Some(4)
+        && search::first_one(&RIGHT, steps) == Some(0)
+        && search::last_one(&RIGHT, steps) == Some(4)
 }
 
 fn bits_of_a_word() -> bool {

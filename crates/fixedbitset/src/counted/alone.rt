@@ -1,12 +1,12 @@
 //! One whole set, with a counter of steps.
 
-ghost use Rattle.std.specs.Prelude.{◌≡◌, ◌≤◌, ◌+◌, IsTrue};
+ghost use Rattle.std.specs.Prelude.{◌≡◌, ◌≤◌, ◌+◌, ◌-◌, ◌/◌, IsTrue, IfSome, IfNone};
 ghost use Rattle.bitlanes.specs.Words.{lane_steps};
 ghost use Rattle.bitwords.specs.Steps.{search_steps};
 ghost use Rattle.fixedbitset.specs.Bits as model;
 
 use crate::counted::ranges::contains_all_in_range;
-use crate::lent::zero;
+use crate::lent::{maximum_counted, minimum_counted, zero};
 use crate::set::FixedBitSet;
 use bitlanes::Steps;
 
@@ -24,6 +24,63 @@ pub fn clear(set: &mut FixedBitSet, steps: &mut Steps)
     ensures cost { steps.new ≡ steps.old + lane_steps (model.storage_words set.old.length) }
 {
     zero(&mut set.words, set.length, steps);
+}
+
+/// [`FixedBitSet::is_clear`], with the steps that it takes: one for each lane of four words up to the first position that
+/// is set, or for all of them.
+///
+/// ```
+/// let mut set = FixedBitSet::with_capacity(alloc, 70)?;
+/// assert!(rt; counted::is_clear(&set, &mut Steps::new()));
+/// set.insert(69);
+/// assert!(rt; !counted::is_clear(&set, &mut Steps::new()));
+/// ```
+#[inline]
+pub fn is_clear(set: &FixedBitSet, steps: &mut Steps) -> bool
+    ensures told { result ≡ model.is_clear set.now }
+    ensures cost { IfSome (model.minimum set.now)
+        (λ p. steps.new ≡ steps.old + lane_steps (p / 64 + 1)) }
+    ensures whole { IsTrue result
+        → steps.new ≡ steps.old + lane_steps (model.storage_words set.now.length) }
+{
+    minimum(set, steps).is_none()
+}
+
+/// [`FixedBitSet::minimum`], with the steps that it takes: one for each lane of four words, from the first on up to the one
+/// that has the position.
+///
+/// ```
+/// let set = FixedBitSet::from_iter(alloc, [69, 130])?;
+/// assert_eq!(rt; counted::minimum(&set, &mut Steps::new()), Some(69));
+/// ```
+#[inline]
+#[tactic(auto, using(crate::proofs::Words::of_length))]
+pub fn minimum(set: &FixedBitSet, steps: &mut Steps) -> Option<usize>
+    ensures value { result ≡ model.minimum set.now }
+    ensures cost { IfSome result (λ p. steps.new ≡ steps.old + lane_steps (p / 64 + 1)) }
+    ensures whole { IfNone result
+        (steps.new ≡ steps.old + lane_steps (model.storage_words set.now.length)) }
+{
+    minimum_counted(&set.words, set.length, steps)
+}
+
+/// [`FixedBitSet::maximum`], with the steps that it takes: one for each lane of four words, from the last on down to the
+/// one that has the position.
+///
+/// ```
+/// let set = FixedBitSet::from_iter(alloc, [69, 130])?;
+/// assert_eq!(rt; counted::maximum(&set, &mut Steps::new()), Some(130));
+/// ```
+#[inline]
+#[tactic(auto, using(crate::proofs::Words::of_length))]
+pub fn maximum(set: &FixedBitSet, steps: &mut Steps) -> Option<usize>
+    ensures value { result ≡ model.maximum set.now }
+    ensures cost { IfSome result (λ p. steps.new
+        ≡ steps.old + lane_steps (model.storage_words set.now.length - p / 64)) }
+    ensures whole { IfNone result
+        (steps.new ≡ steps.old + lane_steps (model.storage_words set.now.length)) }
+{
+    maximum_counted(&set.words, set.length, steps)
 }
 
 /// [`FixedBitSet::is_full`], with the steps that it takes.

@@ -6,17 +6,20 @@
 //! where it answers `true`, or `first_lacking` answers `None`, exactly. What `grow` writes is not counted.
 
 ghost use Rattle.std.specs.Prelude.{◌≡◌, ◌≢◌, ◌<◌, ◌≤◌, ◌↔◌, ◌+◌, IsTrue, IsOk, OnOk, OnErr, IfNone, true, false};
+ghost use Rattle.std.specs.declared.cmp.Ordering.TheVariants.{Equal};
 ghost use Rattle.bitlanes.specs.Words.{lane_steps};
 ghost use Rattle.bitwords.specs.Steps.{join_steps, both_steps};
 ghost use Rattle.fixedbitset.specs.Bits as model;
+ghost use Rattle.fixedbitset.specs.Order.{compare};
 ghost use Rattle.fixedbitset.specs.Stored.{joined};
 ghost use Rattle.fixedbitset.specs.TwoSets as sets;
 
-use crate::lent::whole::{count, equal, join, lacking, none};
+use crate::lent::whole::{count, equal, join, lacking, none, ordering};
 use crate::set::FixedBitSet;
 use bitlanes::Steps;
 use bitlanes::ops::{And, AndNot, Or, WordOp, Xor};
 use std::alloc::AllocError;
+use std::cmp::Ordering;
 
 /// [`FixedBitSet::union_with`], with the steps that it takes.
 ///
@@ -307,6 +310,27 @@ pub fn is_equal(set: &FixedBitSet, other: &FixedBitSet, steps: &mut Steps) -> bo
     ensures unlike { set.now.length ≢ other.now.length → steps.new ≡ steps.old }
 {
     equal(&set.words, set.length, &other.words, other.length, steps)
+}
+
+/// `cmp` of two sets, with the steps that it takes at most: none where the lengths differ.
+///
+/// std compares the words, and may stop before all that are counted.
+///
+/// ```
+/// let set = FixedBitSet::from_iter(alloc, [3, 64])?;
+/// let other = FixedBitSet::from_iter(alloc, [9, 64])?;
+/// assert_eq!(rt; counted::cmp(&set, &other, &mut Steps::new()), Ordering::Less);
+/// ```
+#[inline]
+#[tactic(auto, using(crate::proofs::Words::viewed_length))]
+pub fn cmp(set: &FixedBitSet, other: &FixedBitSet, steps: &mut Steps) -> Ordering
+    ensures value { result ≡ compare set.now other.now }
+    ensures cost { steps.new ≤ steps.old + lane_steps (model.storage_words set.now.length) }
+    ensures whole { result ≡ Equal
+        → steps.new ≡ steps.old + lane_steps (model.storage_words set.now.length) }
+    ensures unlike { set.now.length ≢ other.now.length → steps.new ≡ steps.old }
+{
+    ordering(&set.words, set.length, &other.words, other.length, steps)
 }
 
 // Joins the longer set `other` to `set`, which grows before. It is a call of its own, so that a set which is as long

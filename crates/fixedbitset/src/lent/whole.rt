@@ -1,6 +1,7 @@
 //! Two whole sets, of any two lengths.
 
 ghost use Rattle.std.specs.Prelude.{◌≡◌, ◌≢◌, ◌≤◌, ◌+◌, ◌==◌, IsTrue, IfNone, true, false};
+ghost use Rattle.std.specs.declared.cmp.Ordering.TheVariants.{Equal};
 ghost use Rattle.bitlanes.specs.Words.{lane_steps};
 ghost use Rattle.bitwords.specs.Steps.{join_steps, both_steps};
 ghost use Rattle.fixedbitset.specs.Bits as model;
@@ -286,17 +287,13 @@ pub fn is_equal(words: &[Block], length: usize, other: &[Block], other_length: u
 /// assert_eq!(rt; lent::compare(&words, 70, &other, 9), Ordering::Greater);
 /// ```
 #[inline(always)]
-#[tactic(auto, using(crate::proofs::Words::of_length), unfolding(crate::specs::Order::compare, crate::specs::Order::key))]
 pub fn compare(words: &[Block], length: usize, other: &[Block], other_length: usize) -> Ordering
     requires lent { IsClean length words.now }
     requires lent_other { IsClean other_length other.now }
     ensures { result
         ≡ order.compare (of_words length words.now) (of_words other_length other.now) }
 {
-    match length.cmp(&other_length) {
-        Ordering::Equal => used_words(words, length).cmp(used_words(other, other_length)),
-        unequal => unequal,
-    }
+    ordering(words, length, other, other_length, &mut Steps::new())
 }
 
 // `first_lacking`, with the steps that it takes.
@@ -340,6 +337,34 @@ pub(crate) fn equal(
     ensures unlike { length ≢ other_length → steps.new ≡ steps.old }
 {
     length == other_length && none::<Xor>(words, length, other, other_length, steps)
+}
+
+// `compare`, with the steps that it takes at most: std compares the words, and stops at the first that differ.
+#[inline(always)]
+#[tactic(auto, using(crate::proofs::Words::of_length), unfolding(crate::specs::Order::compare, crate::specs::Order::key))]
+pub(crate) fn ordering(
+    words: &[Block],
+    length: usize,
+    other: &[Block],
+    other_length: usize,
+    steps: &mut Steps,
+) -> Ordering
+    requires lent { IsClean length words.now }
+    requires lent_other { IsClean other_length other.now }
+    ensures value { result
+        ≡ order.compare (of_words length words.now) (of_words other_length other.now) }
+    ensures cost { steps.new ≤ steps.old + lane_steps (model.storage_words length) }
+    ensures whole { result ≡ Equal
+        → steps.new ≡ steps.old + lane_steps (model.storage_words length) }
+    ensures unlike { length ≢ other_length → steps.new ≡ steps.old }
+{
+    match length.cmp(&other_length) {
+        Ordering::Equal => {
+            steps.tick_lanes(words.len());
+            used_words(words, length).cmp(used_words(other, other_length))
+        }
+        unequal => unequal,
+    }
 }
 
 // Joins the second words to the first.
