@@ -4,7 +4,7 @@
  * word p / 64. What the caller keeps, for every call:
  *   - A set points to `count` words, which is bits_words(length). No bit past the length is set.
  *   - Nothing else reads or writes these words during a call that changes them.
- *   - The words of two sets do not overlap, where a call changes one of them.
+ *   - The words of a set that a call changes overlap those of no other set. A set that is only read may stand twice.
  * Zeros are the set without a position. bits_settle makes any words those of a set. Each call leaves them so.
  *
  * No call asks anything of its numbers: a position or a range past the length is refused by the answer. No call takes or
@@ -32,6 +32,14 @@ typedef struct bits {
     size_t count;
     size_t length;
 } bits;
+
+/* A set of words that are only read. bits_of_view lends it to each call that takes a `const bits *`, so no caller has to cast
+ * away a `const`. */
+typedef struct bits_view {
+    const uint64_t *words;
+    size_t count;
+    size_t length;
+} bits_view;
 
 /* A walk over the positions of a set. Make it BITS_WALK, and begin it by bits_ones, bits_zeroes, bits_ones_in,
  * bits_zeroes_in or bits_rows_ones. Until its last call the set may not change. */
@@ -99,6 +107,9 @@ typedef struct bits_ranks {
 /* The set of length n with these words, which are bits_words(n). */
 #define BITS_OF(w, n) BITS_VALUE(bits, (w), bits_words(n), (n))
 
+/* The same of words that are only read. */
+#define BITS_VIEW_OF(w, n) BITS_VALUE(bits_view, (w), bits_words(n), (n))
+
 /* The table of so many rows and columns with these words, which are bits_rows_words(r, n). */
 #define BITS_ROWS_OF(w, r, n) BITS_VALUE(bits_rows, (w), bits_rows_words((r), (n)), (r), (n))
 
@@ -125,6 +136,11 @@ typedef struct bits_ranks {
 extern "C" {
 #endif
 
+/* The view as the calls take it that change nothing: they write no word of it. */
+static inline const bits *bits_of_view(const bits_view *view) {
+    return (const bits *)view;
+}
+
 /* ---- words */
 
 /* How many words a set of this length has: whole lanes of four. */
@@ -135,6 +151,9 @@ size_t bits_blocks(size_t length);
  * it did, which is where `count` is bits_words(length) and `kept` is at most the length. Else nothing is changed. So 0
  * empties, the length takes words from elsewhere, and the old length makes a set longer in memory that has room. */
 bool bits_settle(uint64_t *words, size_t count, size_t length, size_t kept);
+/* Whether the words are those of a set of `length` positions as they stand: `count` is bits_words(length), and no bit past the
+ * length is set. So words from elsewhere can be refused, where bits_settle would drop what does not fit. */
+bool bits_is_clean(const uint64_t *words, size_t count, size_t length);
 /* Clears the lowest bit of the word that is set, and answers its index. Of 0 the answer is BITS_NONE. */
 size_t bits_take_lowest_bit(uint64_t *word);
 
@@ -241,6 +260,20 @@ bool bits_equal(const bits *set, const bits *other);
 /* -1 where the first comes before the second, 0 where they are equal, 1 where it comes after: by their lengths, and then by
  * their words from the first on. */
 ptrdiff_t bits_compare(const bits *set, const bits *other);
+
+/* ---- sets written over words that may hold anything. `to` has the length of the set to be, and bits_words of it for its words.
+ *      Each call answers whether it did its work; else nothing is changed. It writes each word once. */
+
+/* Makes `to` the positions of the set that are below the length of `to`, which may be any. */
+bool bits_copy(bits *to, const bits *set);
+/* Makes `to` the positions of either set. Its length has to be the greater of theirs. */
+bool bits_union_of(bits *to, const bits *set, const bits *other);
+/* Makes `to` the positions of exactly one set. Its length has to be the greater of theirs. */
+bool bits_symmetric_difference_of(bits *to, const bits *set, const bits *other);
+/* Makes `to` the positions of both sets. Its length has to be the smaller of theirs. */
+bool bits_intersection_of(bits *to, const bits *set, const bits *other);
+/* Makes `to` the positions of the first set that the second lacks. Its length has to be that of the first. */
+bool bits_difference_of(bits *to, const bits *set, const bits *other);
 
 /* ---- positions moved by any number, and parts. What is not below the length then falls away, and the length stays.
  *      To put one set behind another, make the first longer by bits_settle, and take the second in, moved by the old

@@ -9,7 +9,7 @@
 
 FUNCTION(bitset_empty) {
     bits set = new_set(checked_length(PG_GETARG_INT64(0)));
-    PG_RETURN_DATUM(stored_set(&set));
+    return stored_set(&set);
 }
 
 FUNCTION(bitset_from_positions) {
@@ -18,36 +18,17 @@ FUNCTION(bitset_from_positions) {
     const int64 *positions = (const int64 *)ARR_DATA_PTR(array);
     int count = ArrayGetNItems(ARR_NDIM(array), ARR_DIMS(array));
     if (array_contains_nulls(array))
-        ereport(ERROR, (errcode(ERRCODE_NULL_VALUE_NOT_ALLOWED), errmsg("positions of a bitset must not be null")));
+        REFUSE(NULL_VALUE_NOT_ALLOWED, "positions of a bitset must not be null");
     for (int i = 0; i < count; i++)
-        insert_checked(&set, positions[i]);
-    PG_RETURN_DATUM(stored_set(&set));
+        change_at(&set, bits_insert, positions[i]);
+    return stored_set(&set);
 }
 
-/* An array without nulls has its items side by side, so they are written where they belong. */
 FUNCTION(bitset_to_positions) {
     READ(set, 0);
-    size_t count = bits_count_ones(set, 0, set->length);
-    size_t size = ARR_OVERHEAD_NONULLS(1) + count * sizeof(int64);
-    int64 *positions;
-    ArrayType *array;
-    if (count == 0)
-        PG_RETURN_ARRAYTYPE_P(construct_empty_array(INT8OID));
-    if (count > MaxArraySize || !AllocSizeIsValid(size))
-        ereport(ERROR, (errcode(ERRCODE_PROGRAM_LIMIT_EXCEEDED), errmsg("%zu positions are too many for an array", count),
-                        errhint("ones(bitset) gives them as rows.")));
-    array = palloc0(size);
-    SET_VARSIZE(array, size);
-    array->ndim = 1;
-    array->elemtype = INT8OID;
-    ARR_DIMS(array)[0] = count;
-    ARR_LBOUND(array)[0] = 1;
-    positions = (int64 *)ARR_DATA_PTR(array);
-    BITS_FOR_EACH(position, set) {
-        CHECK_FOR_INTERRUPTS();
-        *positions++ = position;
-    }
-    PG_RETURN_ARRAYTYPE_P(array);
+    int32 count;
+    Datum *positions = positions_of(set, &count, "an array; ones(bitset) gives them as rows");
+    PG_RETURN_ARRAYTYPE_P(construct_array(positions, count, INT8OID, sizeof(int64), FLOAT8PASSBYVAL, TYPALIGN_DOUBLE));
 }
 
 /* The positions below a length that bytes say, eight a byte, least first. */
@@ -77,8 +58,8 @@ FUNCTION(bitset_from_varbit) {
     bits set = new_set(VARBITLEN(PG_GETARG_VARBIT_P(0)));
     char *digits = DatumGetCString(DirectFunctionCall1(varbit_out, PG_GETARG_DATUM(0)));
     for (char *one = strchr(digits, '1'); one; one = strchr(one + 1, '1'))
-        insert_checked(&set, one - digits);
-    PG_RETURN_DATUM(stored_set(&set));
+        change_at(&set, bits_insert, one - digits);
+    return stored_set(&set);
 }
 
 FUNCTION(bitset_to_varbit) {
@@ -87,8 +68,7 @@ FUNCTION(bitset_to_varbit) {
     bits_run_walk walk = BITS_RUNS;
     char *digits;
     if (!AllocSizeIsValid(set->length + 2))
-        ereport(ERROR, (errcode(ERRCODE_PROGRAM_LIMIT_EXCEEDED),
-                        errmsg("length %zu is too great for a cast to bit varying", set->length)));
+        REFUSE(PROGRAM_LIMIT_EXCEEDED, "length %zu is too great for a cast to bit varying", set->length);
     digits = palloc(set->length + 2);
     digits[0] = 'b';
     memset(digits + 1, '0', set->length);
@@ -98,5 +78,5 @@ FUNCTION(bitset_to_varbit) {
         CHECK_FOR_INTERRUPTS();
         memset(digits + 1 + start, '1', end - start);
     }
-    PG_RETURN_DATUM(DirectFunctionCall3(varbit_in, CStringGetDatum(digits), ObjectIdGetDatum(InvalidOid), Int32GetDatum(-1)));
+    return DirectFunctionCall3(varbit_in, CStringGetDatum(digits), ObjectIdGetDatum(InvalidOid), Int32GetDatum(-1));
 }
