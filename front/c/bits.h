@@ -132,6 +132,13 @@ typedef struct bits_ranks {
          bits_once_; bits_once_ = NULL)                                                           \
         for (size_t p = 0; bits_ones_next(&bits_walk_, &p);)
 
+/* A loop over the stretches of positions of the set, each from `start` up to and without `end`, in ascending order. */
+#define BITS_FOR_EACH_RUN(start, end, set)                                                        \
+    for (bits_run_walk bits_runs_ = BITS_RUNS,                                                    \
+                       *bits_once_ = (bits_runs(&bits_runs_, (set)), &bits_runs_);                \
+         bits_once_; bits_once_ = NULL)                                                           \
+        for (size_t start = 0, end = 0; bits_runs_next(&bits_runs_, &start, &end);)
+
 #ifdef __cplusplus
 extern "C" {
 #endif
@@ -304,6 +311,9 @@ size_t bits_bytes(size_t length);
 void bits_from_bytes(bits *set, const uint8_t *bytes, size_t count);
 /* Writes the bytes of the set, and answers whether `count` is bits_bytes of its length; else nothing is changed. */
 bool bits_to_bytes(const bits *set, uint8_t *bytes, size_t count);
+/* Reverses the bits of each byte. So bytes that have the first of eight positions in the uppermost bit become those that have it
+ * in the lowest, as the two calls above take and write them, and the other way round. */
+void bits_reverse_each_byte(uint8_t *bytes, size_t count);
 
 /* ---- how many positions stand below a given one, and which is the k-th */
 

@@ -55,9 +55,8 @@ static Datum state_after(FunctionCallInfo fcinfo, Join join, const bits *set) {
     else if (set)
         state = hold(copy_set(set, set->length));
     MemoryContextSwitchTo(old);
-    if (state == NULL)
-        PG_RETURN_NULL();
-    PG_RETURN_POINTER(state);
+    fcinfo->isnull = state == NULL;
+    return PointerGetDatum(state);
 }
 
 /* The state after one more row. A null adds none. */
@@ -94,14 +93,11 @@ FUNCTION(bitset_agg_step) {
     PG_RETURN_POINTER(state);
 }
 
-/* The state stays as it is, for a window may go on with it. Between processes it travels as a stored set too, under the name
- * of bytea. */
+/* It is strict, so there is a state. This stays as it is, for a window may go on with it. Between processes it travels as a
+ * stored set too, under the name of bytea. */
 FUNCTION(bitset_final) {
-    bits *state = get_state(fcinfo, 0);
-    bits copy;
-    if (state == NULL)
-        PG_RETURN_NULL();
-    copy = copy_set(state, state->length);
+    const bits *state = get_state(fcinfo, 0);
+    bits copy = copy_set(state, state->length);
     return stored_set(&copy);
 }
 

@@ -14,36 +14,33 @@ FUNCTION(bitset_length) {
 
 /* A position, or null where there is none. */
 static Datum position_or_null(FunctionCallInfo fcinfo, size_t position) {
-    if (position == BITS_NONE)
-        PG_RETURN_NULL();
-    PG_RETURN_INT64(position);
+    fcinfo->isnull = position == BITS_NONE;
+    return Int64GetDatum(position);
 }
+
+#define FOUND(position) position_or_null(fcinfo, position)
 
 /* The number of an argument. A negative one is before all positions, as 0 is. */
 #define FROM_ZERO(n) ((size_t)Max(PG_GETARG_INT64(n), 0))
 
-/* A function that asks something of a set, and one that asks for a position. */
-#define ASK(name, type, answer) FUNCTION(name) { READ(set, 0); return type##GetDatum(answer); }
-#define FIND(name, answer) FUNCTION(name) { READ(set, 0); return position_or_null(fcinfo, answer); }
+/* A function that asks something of a set: its answer is made a datum by Int64GetDatum or its kin, or by FOUND. */
+#define ASK(name, ...) ASK_OF(name, 0, __VA_ARGS__)
+#define ASK_OF(name, n, datum_of, answer) FUNCTION(name) { READ(set, n); return datum_of(answer); }
 
-ASK(bitset_contains, Bool, bits_contains(set, PG_GETARG_INT64(1)))
-ASK(bitset_is_clear, Bool, bits_is_clear(set))
-ASK(bitset_is_full, Bool, bits_is_full(set))
-ASK(bitset_count_ones, Int64, bits_count_ones(set, 0, set->length))
+ASK(bitset_contains, BoolGetDatum, bits_contains(set, PG_GETARG_INT64(1)))
+ASK_OF(bitset_contained_position, 1, BoolGetDatum, bits_contains(set, PG_GETARG_INT64(0)))
+ASK(bitset_is_clear, BoolGetDatum, bits_is_clear(set))
+ASK(bitset_is_full, BoolGetDatum, bits_is_full(set))
+ASK(bitset_count_ones, Int64GetDatum, bits_count_ones(set, 0, set->length))
 /* (Past the length all that are set are below.) */
-ASK(bitset_rank, Int64, bits_count_ones(set, 0, Min(FROM_ZERO(1), set->length)))
-FIND(bitset_minimum, bits_minimum(set))
-FIND(bitset_maximum, bits_maximum(set))
-FIND(bitset_next_one, bits_next_one(set, FROM_ZERO(1)))
-FIND(bitset_next_zero, bits_next_zero(set, FROM_ZERO(1)))
-FIND(bitset_previous_one, bits_previous_one(set, FROM_ZERO(1)))
-FIND(bitset_previous_zero, bits_previous_zero(set, FROM_ZERO(1)))
-FIND(bitset_first_gap, bits_first_gap(set, not_negative(PG_GETARG_INT64(1), "count of positions"), FROM_ZERO(2)))
-
-FUNCTION(bitset_contained_position) {
-    READ(set, 1);
-    PG_RETURN_BOOL(bits_contains(set, PG_GETARG_INT64(0)));
-}
+ASK(bitset_rank, Int64GetDatum, bits_count_ones(set, 0, Min(FROM_ZERO(1), set->length)))
+ASK(bitset_minimum, FOUND, bits_minimum(set))
+ASK(bitset_maximum, FOUND, bits_maximum(set))
+ASK(bitset_next_one, FOUND, bits_next_one(set, FROM_ZERO(1)))
+ASK(bitset_next_zero, FOUND, bits_next_zero(set, FROM_ZERO(1)))
+ASK(bitset_previous_one, FOUND, bits_previous_one(set, FROM_ZERO(1)))
+ASK(bitset_previous_zero, FOUND, bits_previous_zero(set, FROM_ZERO(1)))
+ASK(bitset_first_gap, FOUND, bits_first_gap(set, not_negative(PG_GETARG_INT64(1), "count of positions"), FROM_ZERO(2)))
 
 /* The position that has so many below it. The directory is made for this one question: a pass over the words, as a count
  * is. */
@@ -52,7 +49,7 @@ FUNCTION(bitset_select_one) {
     size_t entries = bits_ranks_entries(set->length);
     bits_ranks ranks = BITS_RANKS;
     sure(bits_ranks_fill(&ranks, set, palloc(entries * sizeof(size_t)), entries));
-    return position_or_null(fcinfo, bits_select(&ranks, PG_GETARG_INT64(1)));
+    return FOUND(bits_select(&ranks, PG_GETARG_INT64(1)));
 }
 
 CHANGE(bitset_insert, change_at(&changed, bits_insert, PG_GETARG_INT64(1)))
@@ -69,17 +66,17 @@ CHANGE(bitset_remove_range, change_in(&changed, bits_remove_range, read_span(fci
 CHANGE(bitset_toggle_range, change_in(&changed, bits_toggle_range, read_span(fcinfo, 1, set)))
 
 /* A function that asks about a range. */
-#define ASK_RANGE(name, type, call)                                                                                    \
+#define ASK_RANGE(name, datum_of, call)                                                                                \
     FUNCTION(name) {                                                                                                   \
         READ(set, 0);                                                                                                  \
         Span span = read_span(fcinfo, 1, set);                                                                         \
-        return type##GetDatum(call(set, span.start, span.end));                                                        \
+        return datum_of(call(set, span.start, span.end));                                                              \
     }
 
-ASK_RANGE(bitset_count_ones_range, Int64, bits_count_ones)
-ASK_RANGE(bitset_count_zeroes_range, Int64, bits_count_zeroes)
-ASK_RANGE(bitset_contains_all, Bool, bits_contains_all_in_range)
-ASK_RANGE(bitset_contains_any, Bool, bits_contains_any_in_range)
+ASK_RANGE(bitset_count_ones_range, Int64GetDatum, bits_count_ones)
+ASK_RANGE(bitset_count_zeroes_range, Int64GetDatum, bits_count_zeroes)
+ASK_RANGE(bitset_contains_all, BoolGetDatum, bits_contains_all_in_range)
+ASK_RANGE(bitset_contains_any, BoolGetDatum, bits_contains_any_in_range)
 
 /* A function that joins two sets, with the length that its set has. */
 #define JOIN(name, call, length_of_join)                                                                               \
@@ -97,36 +94,31 @@ JOIN(bitset_and, bits_intersection_of, Min(a->length, b->length))
 JOIN(bitset_minus, bits_difference_of, a->length)
 
 /* A function that asks about two sets. */
-#define ASK_PAIR(name, type, answer)                                                                                   \
+#define ASK_PAIR(name, datum_of, answer)                                                                               \
     FUNCTION(name) {                                                                                                   \
         READ(a, 0);                                                                                                    \
         READ(b, 1);                                                                                                    \
-        Datum result = type##GetDatum(answer);                                                                         \
+        Datum result = datum_of(answer);                                                                               \
         DONE(a);                                                                                                       \
         DONE(b);                                                                                                       \
         return result;                                                                                                 \
     }
 
-ASK_PAIR(bitset_union_count, Int64, bits_union_count(a, b))
-ASK_PAIR(bitset_intersection_count, Int64, bits_intersection_count(a, b))
-ASK_PAIR(bitset_difference_count, Int64, bits_difference_count(a, b))
-ASK_PAIR(bitset_symmetric_difference_count, Int64, bits_symmetric_difference_count(a, b))
-ASK_PAIR(bitset_superset, Bool, bits_is_subset(b, a))
-ASK_PAIR(bitset_subset, Bool, bits_is_subset(a, b))
-ASK_PAIR(bitset_overlap, Bool, !bits_is_disjoint(a, b))
-ASK_PAIR(bitset_eq, Bool, bits_equal(a, b))
-ASK_PAIR(bitset_ne, Bool, !bits_equal(a, b))
-ASK_PAIR(bitset_cmp, Int32, bits_compare(a, b))
-ASK_PAIR(bitset_lt, Bool, bits_compare(a, b) < 0)
-ASK_PAIR(bitset_le, Bool, bits_compare(a, b) <= 0)
-ASK_PAIR(bitset_gt, Bool, bits_compare(a, b) > 0)
-ASK_PAIR(bitset_ge, Bool, bits_compare(a, b) >= 0)
-
-FUNCTION(bitset_first_lacking) {
-    READ(a, 0);
-    READ(b, 1);
-    return position_or_null(fcinfo, bits_first_lacking(a, b));
-}
+ASK_PAIR(bitset_union_count, Int64GetDatum, bits_union_count(a, b))
+ASK_PAIR(bitset_intersection_count, Int64GetDatum, bits_intersection_count(a, b))
+ASK_PAIR(bitset_difference_count, Int64GetDatum, bits_difference_count(a, b))
+ASK_PAIR(bitset_symmetric_difference_count, Int64GetDatum, bits_symmetric_difference_count(a, b))
+ASK_PAIR(bitset_first_lacking, FOUND, bits_first_lacking(a, b))
+ASK_PAIR(bitset_superset, BoolGetDatum, bits_is_subset(b, a))
+ASK_PAIR(bitset_subset, BoolGetDatum, bits_is_subset(a, b))
+ASK_PAIR(bitset_overlap, BoolGetDatum, !bits_is_disjoint(a, b))
+ASK_PAIR(bitset_eq, BoolGetDatum, bits_equal(a, b))
+ASK_PAIR(bitset_ne, BoolGetDatum, !bits_equal(a, b))
+ASK_PAIR(bitset_cmp, Int32GetDatum, bits_compare(a, b))
+ASK_PAIR(bitset_lt, BoolGetDatum, bits_compare(a, b) < 0)
+ASK_PAIR(bitset_le, BoolGetDatum, bits_compare(a, b) <= 0)
+ASK_PAIR(bitset_gt, BoolGetDatum, bits_compare(a, b) > 0)
+ASK_PAIR(bitset_ge, BoolGetDatum, bits_compare(a, b) >= 0)
 
 /* Equal sets have equal bytes, so the bytes are hashed as they are stored. With a second argument the hash is the extended
  * one, which begins at it. */

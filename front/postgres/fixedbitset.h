@@ -29,9 +29,8 @@ typedef struct Stored {
 #define MAX_LENGTH PG_UINT32_MAX
 #define WORD_SIZE sizeof(uint64_t)
 
-/* As many blocks as fit behind a header of one byte, and the words of so many. */
+/* As many blocks as fit behind a header of one byte. One more makes whole lanes of them. */
 #define SHORT_WORDS 15
-#define SHORT_LANES 16
 
 StaticAssertDecl(VARHDRSZ_SHORT + sizeof(uint32) + SHORT_WORDS * WORD_SIZE <= VARATT_SHORT_MAX,
                  "a short set fits behind the short header");
@@ -45,7 +44,7 @@ StaticAssertDecl(offsetof(Stored, words) + ((Size)MAX_LENGTH + 256) / BITS_PER_B
 typedef struct Reading {
     bits set;
     void *copy;
-    uint64_t room[SHORT_LANES];
+    uint64_t room[SHORT_WORDS + 1];
 } Reading;
 
 /* Ends the query by an error: the name of its code, and its message. */
@@ -64,7 +63,7 @@ typedef struct Reading {
     FUNCTION(name) {                                                                                                   \
         READ(set, 0);                                                                                                  \
         bits changed = copy_set(set, set->length);                                                                     \
-        call;                                                                                                          \
+        { call; }                                                                                                      \
         return stored_set(&changed);                                                                                   \
     }
 

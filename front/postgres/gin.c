@@ -16,12 +16,10 @@ FUNCTION(bitset_gin_value) {
 FUNCTION(bitset_gin_query) {
     int32 *count = (int32 *)PG_GETARG_POINTER(1);
     StrategyNumber operator = PG_GETARG_UINT16(2);
-    Datum *keys;
-    if (operator == CONTAINS_POSITION) {
-        keys = palloc(sizeof(Datum));
-        keys[0] = PG_GETARG_DATUM(0);
-        *count = 1;
-    } else {
+    Datum *keys = palloc(sizeof(Datum));
+    keys[0] = PG_GETARG_DATUM(0);
+    *count = 1;
+    if (operator != CONTAINS_POSITION) {
         READ(set, 0);
         keys = positions_of(set, count, "an index");
         if (operator == CONTAINS && *count == 0)
@@ -37,11 +35,8 @@ FUNCTION(bitset_gin_consistent) {
     int32 count = PG_GETARG_INT32(3);
     GinTernaryValue decides = one ? GIN_TRUE : GIN_FALSE;
     GinTernaryValue answer = one ? GIN_FALSE : GIN_TRUE;
-    for (int32 i = 0; i < count; i++) {
-        if (has[i] == decides)
-            PG_RETURN_GIN_TERNARY_VALUE(decides);
-        if (has[i] == GIN_MAYBE)
-            answer = GIN_MAYBE;
-    }
+    for (int32 i = 0; i < count && answer != decides; i++)
+        if (has[i] == decides || has[i] == GIN_MAYBE)
+            answer = has[i];
     PG_RETURN_GIN_TERNARY_VALUE(answer);
 }

@@ -21,16 +21,14 @@ FUNCTION(bitset_slice) {
     return stored_set(&part);
 }
 
-/* Writes the positions of a range of the set in argument n over those of another set from a position on. */
-static void copy_in(FunctionCallInfo fcinfo, bits *changed, int n, int64 at) {
-    READ(other, n);
-    Span span = read_span(fcinfo, n + 1, other);
+/* Writes the positions of a range over those of another set from a position on. */
+static void copy_in(bits *changed, const bits *other, Span span, int64 at) {
     if (!bits_copy_range(changed, other, span.start, span.end, at))
         REFUSE(ARRAY_SUBSCRIPT_ERROR, "%zu positions from %lld on are not within the length %zu", span.end - span.start,
                (long long)at, changed->length);
 }
 
-CHANGE(bitset_copy_range, copy_in(fcinfo, &changed, 1, PG_GETARG_INT64(3)))
+CHANGE(bitset_copy_range, READ(other, 1); copy_in(&changed, other, read_span(fcinfo, 2, other), PG_GETARG_INT64(3)))
 
 /* The second set behind the first. */
 FUNCTION(bitset_append) {
@@ -41,15 +39,9 @@ FUNCTION(bitset_append) {
     return stored_set(&joined);
 }
 
-/* Adds the positions of the set in argument n moved up. */
-static void add_shifted(FunctionCallInfo fcinfo, bits *changed, int n, size_t by) {
-    READ(other, n);
-    bits_union_with_shifted(changed, other, by);
-}
-
 /* By how many positions a set is moved. Its length stays, and what does not fit falls away. */
 #define SHIFT(n) not_negative(PG_GETARG_INT64(n), "shift of a bitset")
 
 CHANGE(bitset_shift_up, bits_shift_up(&changed, SHIFT(1)))
 CHANGE(bitset_shift_down, bits_shift_down(&changed, SHIFT(1)))
-CHANGE(bitset_union_with_shifted, add_shifted(fcinfo, &changed, 1, SHIFT(2)))
+CHANGE(bitset_union_with_shifted, READ(other, 1); bits_union_with_shifted(&changed, other, SHIFT(2)))

@@ -119,12 +119,10 @@ Span read_span(FunctionCallInfo fcinfo, int argument, const bits *set) {
     RangeType *range = PG_GETARG_RANGE_P(argument);
     RangeBound lower, upper;
     bool empty;
-    Span span = {0, 0};
+    Span span;
     range_deserialize(lookup_type_cache(RangeTypeGetOid(range), TYPECACHE_RANGE_INFO), range, &lower, &upper, &empty);
-    if (empty)
-        return span;
-    span.start = lower.infinite ? 0 : (size_t)DatumGetInt64(lower.val);
-    span.end = upper.infinite ? set->length : (size_t)DatumGetInt64(upper.val);
+    span.start = empty || lower.infinite ? 0 : (size_t)DatumGetInt64(lower.val);
+    span.end = empty ? 0 : upper.infinite ? set->length : (size_t)DatumGetInt64(upper.val);
     if (!bits_range_is_valid(set, span.start, span.end))
         REFUSE(ARRAY_SUBSCRIPT_ERROR, "range [%lld,%lld) is not within the length %zu", (long long)span.start,
                (long long)span.end, set->length);

@@ -34,16 +34,14 @@ void _PG_init(void);
 void _PG_init(void) {
     DefineCustomEnumVariable("fixedbitset.output", "How a bitset is written as text.", NULL, &output_form, OUTPUT_RUNS,
                              output_forms, PGC_USERSET, 0, NULL, NULL, NULL);
-#if PG_VERSION_NUM >= 150000
-    MarkGUCPrefixReserved("fixedbitset");
-#else
     EmitWarningsOnPlaceholders("fixedbitset");
-#endif
 }
 
+/* The text, where it is read, and whether spaces may stand between its parts. */
 typedef struct Parser {
     const char *text;
     const char *at;
+    bool with_spaces;
 } Parser;
 
 /* Refuses the text, and says at which character. */
@@ -60,17 +58,14 @@ static void expect(const Parser *parser, bool is_right, const char *what) {
 }
 
 static void skip_spaces(Parser *parser) {
-    while (scanner_isspace(*parser->at))
+    while (parser->with_spaces && scanner_isspace(*parser->at))
         parser->at++;
 }
 
 /* Whether the wanted character comes next, behind spaces; then it is taken. */
 static bool take(Parser *parser, char wanted) {
     skip_spaces(parser);
-    if (*parser->at != wanted)
-        return false;
-    parser->at++;
-    return true;
+    return *parser->at == wanted && parser->at++ != NULL;
 }
 
 /* A number that is neither past `greatest` nor, at the end of a run, before its start. (One that no `uint64` holds is read as
@@ -99,14 +94,12 @@ static void take_item(Parser *parser, bits *set) {
     sure(bits_insert_range(set, first, last + 1));
 }
 
-/* The length, which is the last part of both forms, and nothing behind it but spaces where these may stand. */
-static size_t take_length(Parser *parser, bool with_spaces) {
+/* The length, which is the last part of both forms. */
+static size_t take_length(Parser *parser) {
     size_t length;
-    if (with_spaces)
-        skip_spaces(parser);
+    skip_spaces(parser);
     length = take_number(parser, 0, MAX_LENGTH, "The length is past the greatest, 4294967295,");
-    if (with_spaces)
-        skip_spaces(parser);
+    skip_spaces(parser);
     expect(parser, *parser->at == '\0', "The end is expected");
     return length;
 }
@@ -117,7 +110,7 @@ static bits take_runs(Parser *parser) {
     bits set;
     parser->at = slash ? slash + 1 : parser->text + strlen(parser->text);
     expect(parser, slash != NULL, "\"/\" and the length are expected");
-    set = new_set(take_length(parser, true));
+    set = new_set(take_length(parser));
 
     parser->at = parser->text;
     expect(parser, take(parser, '{'), "\"{\" is expected");
@@ -141,7 +134,7 @@ static bits take_hex(Parser *parser) {
     parser->at = digits + count;
     expect(parser, *parser->at == '/', "A hexadecimal digit or \"/\" is expected");
     parser->at++;
-    length = take_length(parser, false);
+    length = take_length(parser);
     wanted = 2 * OCTETS(length);
     parser->at = digits + Min(count, wanted);
     expect(parser, count >= wanted, "More digits are expected");
@@ -158,23 +151,19 @@ static bits take_hex(Parser *parser) {
 
 FUNCTION(bitset_in) {
     char *text = PG_GETARG_CSTRING(0);
-    Parser parser = {text, text};
-    bits set = strncmp(text, "x:", strlen("x:")) == 0 ? take_hex(&parser) : take_runs(&parser);
+    Parser parser = {text, text, strncmp(text, "x:", strlen("x:")) != 0};
+    bits set = parser.with_spaces ? take_runs(&parser) : take_hex(&parser);
     return stored_set(&set);
 }
 
 static void append_number(StringInfo text, size_t number) {
-    enlargeStringInfo(text, MAXINT8LEN + 1);
-    text->len += pg_ulltoa_n(number, text->data + text->len);
-    text->data[text->len] = '\0';
+    char digits[MAXINT8LEN + 1];
+    appendBinaryStringInfo(text, digits, pg_ulltoa_n(number, digits));
 }
 
 static void append_runs(StringInfo text, const bits *set) {
-    size_t start, end;
-    bits_run_walk walk = BITS_RUNS;
-    bits_runs(&walk, set);
     appendStringInfoChar(text, '{');
-    while (bits_runs_next(&walk, &start, &end)) {
+    BITS_FOR_EACH_RUN(start, end, set) {
         CHECK_FOR_INTERRUPTS();
         if (text->len > 1)
             appendStringInfoChar(text, ',');
@@ -198,10 +187,7 @@ FUNCTION(bitset_out) {
     READ(set, 0);
     StringInfoData text;
     initStringInfo(&text);
-    if (output_form == OUTPUT_HEX)
-        append_hex(&text, set);
-    else
-        append_runs(&text, set);
+    (output_form == OUTPUT_HEX ? append_hex : append_runs)(&text, set);
     appendStringInfoChar(&text, '/');
     append_number(&text, set->length);
     PG_RETURN_CSTRING(text.data);
