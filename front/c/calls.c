@@ -187,6 +187,10 @@ static void bytes(void) {
     IS(set, 10, 2, 3, 6);
     bits_from_bytes(&set, source, 0);
     assert(bits_is_clear(&set));
+    bits_reverse_each_byte(made, 1);
+    assert(made[0] == 32 && made[1] == 2);
+    bits_reverse_each_byte(made, 8);
+    assert(made[0] == 4 && made[1] == 64 && made[7] == 0);
     free(set.words);
 }
 
@@ -276,6 +280,9 @@ static void walks(void) {
     bits_runs(&runs, &b);
     assert(bits_runs_next_back(&runs, &start, &end) && start == 69 && end == 71);
     assert(bits_runs_next(&runs, &start, &end) && start == 1 && end == 2);
+    size_t total = 0;
+    BITS_FOR_EACH_RUN(first, past, &b) total += past * 100 + first;
+    assert(total == 201 + 403 + 7169);
     bits_zero_runs(&runs, &a);
     assert(bits_runs_next(&runs, &start, &end) && start == 0 && end == 1);
     assert(bits_runs_next(&runs, &start, &end) && bits_runs_next(&runs, &start, &end) && start == 4);

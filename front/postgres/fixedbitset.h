@@ -15,6 +15,9 @@
 #include "bits.h"
 #include "fmgr.h"
 #include "utils/memutils.h"
+#if PG_VERSION_NUM >= 160000
+#include "varatt.h"
+#endif
 
 #ifdef WORDS_BIGENDIAN
 #error "the binary forms take the words' bytes least first; libbits_c.a is built for x86-64"
@@ -39,6 +42,9 @@ StaticAssertDecl(offsetof(Stored, words) + ((Size)MAX_LENGTH + 256) / BITS_PER_B
 
 /* How many bytes of eight positions each a length takes. */
 #define OCTETS(length) (((size_t)(length) + BITS_PER_BYTE - 1) / BITS_PER_BYTE)
+
+/* Whether the words are those of a set, as the library asks of each that is given to it. */
+#define IS_SET(set) bits_is_clean((set)->words, (set)->count, (set)->length)
 
 /* A set that is read: it, what has to be freed, and room for one that is stored short. */
 typedef struct Reading {
@@ -76,7 +82,6 @@ typedef struct Span {
 /* What the module's files call of each other is not for other modules, so it is called directly. */
 #pragma GCC visibility push(hidden)
 
-extern bool is_set(const bits *set);
 extern const bits *read_set(Reading *reading, Datum datum);
 extern void done_reading(Reading *reading);
 

@@ -67,11 +67,10 @@ static void compute(VacAttrStats *stats, AnalyzeAttrFetchFunc fetch, int sampled
         bool is_null;
         Datum value = fetch(stats, k * INT64CONST(15485863) % sampled, &is_null);
         Reading reading;
-        const bits *set;
+        const bits *set = is_null ? NULL : read_set(&reading, value);
         vacuum_delay_point();
-        if (is_null)
+        if (set == NULL)
             continue;
-        set = read_set(&reading, value);
         if (filled + bits_count_ones(set, 0, set->length) > MOST_OF_ROWS)
             break;
         BITS_FOR_EACH(position, set) tallies[filled++] = (Tally){position, 1};

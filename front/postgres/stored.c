@@ -13,11 +13,6 @@ static size_t stored_words(const bits *set) {
     return blocks <= SHORT_WORDS ? blocks : set->count;
 }
 
-/* Whether the words are those of a set, as the library asks of each that is given to it. */
-bool is_set(const bits *set) {
-    return bits_is_clean(set->words, set->count, set->length);
-}
-
 /* The set of a datum. Its words are those of the datum itself, or a copy, which done_reading frees. What the library asks of
  * a set is looked at here, so that no damaged value gets past. */
 const bits *read_set(Reading *reading, Datum datum) {
@@ -39,7 +34,7 @@ const bits *read_set(Reading *reading, Datum datum) {
         set->words = memcpy(reading->room, set->words, stored * WORD_SIZE);
     }
     Assert(PointerIsAligned(set->words, uint64_t));
-    if (!is_set(set))
+    if (!IS_SET(set))
         REFUSE(DATA_CORRUPTED, "bitset of length %u has a position past its length", length);
     return set;
 }

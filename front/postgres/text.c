@@ -141,7 +141,7 @@ static bits take_hex(Parser *parser) {
     expect(parser, count <= wanted, "The length has no room for the digit");
     set = new_set(length);
     hex_decode(digits, count, (char *)set.words);
-    if (!is_set(&set)) {
+    if (!IS_SET(&set)) {
         /* There are no more digits than the length needs, so the last byte has the position. */
         parser->at -= 2;
         fail(parser, ERRCODE_NUMERIC_VALUE_OUT_OF_RANGE, "A position is not below the length");
@@ -212,7 +212,7 @@ FUNCTION(bitset_recv) {
         REFUSE(INVALID_BINARY_REPRESENTATION, "external bitset of length %lld has %d bytes", (long long)length, count);
     set = new_set(length);
     pq_copymsgbytes(message, (char *)set.words, count);
-    if (!is_set(&set))
+    if (!IS_SET(&set))
         REFUSE(INVALID_BINARY_REPRESENTATION, "external bitset of length %lld has a position past its length",
                (long long)length);
     return stored_set(&set);
