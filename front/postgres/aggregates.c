@@ -80,13 +80,10 @@ BY(bitset_intersection_combine, state_after, join_intersection, get_state(fcinfo
 FUNCTION(bitset_agg_step) {
     MemoryContext old = enter_aggregate(fcinfo);
     bits *state = get_state(fcinfo, 0);
-    size_t length;
     if (PG_ARGISNULL(2))
         REFUSE(NULL_VALUE_NOT_ALLOWED, "length of a bitset must not be null");
-    length = checked_length(PG_GETARG_INT64(2));
-    if (state == NULL)
-        state = hold(new_set(length));
-    set_length(state, Max(state->length, length));
+    state = state ? state : hold(new_set(0));
+    set_length(state, Max(state->length, checked_length(PG_GETARG_INT64(2))));
     if (!PG_ARGISNULL(1))
         change_at(state, bits_insert, PG_GETARG_INT64(1));
     MemoryContextSwitchTo(old);
@@ -97,7 +94,9 @@ FUNCTION(bitset_agg_step) {
  * stored set too, under the name of bytea. */
 FUNCTION(bitset_final) {
     const bits *state = get_state(fcinfo, 0);
-    bits copy = copy_set(state, state->length);
+    bits copy;
+    MemoryContextSwitchTo(enter_aggregate(fcinfo));
+    copy = copy_set(state, state->length);
     return stored_set(&copy);
 }
 

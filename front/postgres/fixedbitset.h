@@ -32,8 +32,9 @@ typedef struct Stored {
 #define MAX_LENGTH PG_UINT32_MAX
 #define WORD_SIZE sizeof(uint64_t)
 
-/* As many blocks as fit behind a header of one byte. One more makes whole lanes of them. */
+/* As many blocks as fit behind a header of one byte, and how many words a lane can have behind its first. */
 #define SHORT_WORDS 15
+#define LANE_REST 3
 
 StaticAssertDecl(VARHDRSZ_SHORT + sizeof(uint32) + SHORT_WORDS * WORD_SIZE <= VARATT_SHORT_MAX,
                  "a short set fits behind the short header");
@@ -50,7 +51,7 @@ StaticAssertDecl(offsetof(Stored, words) + ((Size)MAX_LENGTH + 256) / BITS_PER_B
 typedef struct Reading {
     bits set;
     void *copy;
-    uint64_t room[SHORT_WORDS + 1];
+    uint64_t room[SHORT_WORDS + LANE_REST];
 } Reading;
 
 /* Ends the query by an error: the name of its code, and its message. */

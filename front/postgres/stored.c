@@ -30,8 +30,8 @@ const bits *read_set(Reading *reading, Datum datum) {
 
     reading->copy = flat == given ? NULL : flat;
     if (stored <= SHORT_WORDS) {
-        memset(reading->room, 0, sizeof(reading->room));
         set->words = memcpy(reading->room, set->words, stored * WORD_SIZE);
+        memset(reading->room + stored, 0, LANE_REST * WORD_SIZE);
     }
     Assert(PointerIsAligned(set->words, uint64_t));
     if (!IS_SET(set))
