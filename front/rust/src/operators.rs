@@ -1,6 +1,7 @@
 //! Operators, and sets from positions, put together from the calls.
-use crate::FixedBitSet;
-use crate::raw::{self, Lent, Words};
+//!
+//! `|` and `^` join a copy of the longer set with the shorter one. So nothing has to grow, and the call refuses nothing.
+use crate::{FixedBitSet, raw};
 use core::ops::{BitAnd, BitAndAssign, BitOr, BitOrAssign, BitXor, BitXorAssign, Index};
 
 impl BitAnd for &FixedBitSet {
@@ -8,8 +9,10 @@ impl BitAnd for &FixedBitSet {
 
     /// The positions of both sets, with the length of the shorter.
     fn bitand(self, other: &FixedBitSet) -> FixedBitSet {
-        let length = self.len().min(other.len());
-        joined(raw::bits_intersection_of, length, self, other)
+        let (shorter, longer) = by_length(self, other);
+        let mut set = shorter.clone();
+        set.intersect_with(longer);
+        set
     }
 }
 
@@ -18,8 +21,10 @@ impl BitOr for &FixedBitSet {
 
     /// The positions of either set, with the length of the longer.
     fn bitor(self, other: &FixedBitSet) -> FixedBitSet {
-        let length = self.len().max(other.len());
-        joined(raw::bits_union_of, length, self, other)
+        let (shorter, longer) = by_length(self, other);
+        let mut set = longer.clone();
+        raw::bits_union_with(&mut set.words.lent_mut(), &shorter.words.lent());
+        set
     }
 }
 
@@ -28,27 +33,23 @@ impl BitXor for &FixedBitSet {
 
     /// The positions of exactly one set, with the length of the longer.
     fn bitxor(self, other: &FixedBitSet) -> FixedBitSet {
-        let length = self.len().max(other.len());
-        joined(raw::bits_symmetric_difference_of, length, self, other)
+        let (shorter, longer) = by_length(self, other);
+        let mut set = longer.clone();
+        raw::bits_symmetric_difference_with(&mut set.words.lent_mut(), &shorter.words.lent());
+        set
     }
 }
 
-/// A new set, which the call makes of two others. The length is the one that the call asks for.
-#[inline]
-fn joined(
-    call: extern "C" fn(&mut Lent<'_>, &Lent<'_>, &Lent<'_>) -> bool,
-    length: usize,
-    set: &FixedBitSet,
-    other: &FixedBitSet,
-) -> FixedBitSet {
-    let mut words = Words::with_length(length);
-    let done = call(
-        &mut words.lent_mut(),
-        &set.words.lent(),
-        &other.words.lent(),
-    );
-    assert!(done);
-    FixedBitSet { words }
+/// The shorter set, and the longer one.
+fn by_length<'a>(
+    set: &'a FixedBitSet,
+    other: &'a FixedBitSet,
+) -> (&'a FixedBitSet, &'a FixedBitSet) {
+    if set.len() <= other.len() {
+        (set, other)
+    } else {
+        (other, set)
+    }
 }
 
 impl BitAndAssign for FixedBitSet {

@@ -174,14 +174,6 @@ unsafe extern "C" {
     pub safe fn bits_equal(set: &Lent<'_>, other: &Lent<'_>) -> bool;
     pub safe fn bits_compare(set: &Lent<'_>, other: &Lent<'_>) -> isize;
 
-    pub safe fn bits_union_of(to: &mut Lent<'_>, set: &Lent<'_>, other: &Lent<'_>) -> bool;
-    pub safe fn bits_symmetric_difference_of(
-        to: &mut Lent<'_>,
-        set: &Lent<'_>,
-        other: &Lent<'_>,
-    ) -> bool;
-    pub safe fn bits_intersection_of(to: &mut Lent<'_>, set: &Lent<'_>, other: &Lent<'_>) -> bool;
-
     pub safe fn bits_shift_up(set: &mut Lent<'_>, by: usize);
     pub safe fn bits_shift_down(set: &mut Lent<'_>, by: usize);
     pub safe fn bits_union_with_shifted(set: &mut Lent<'_>, other: &Lent<'_>, by: usize);
