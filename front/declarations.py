@@ -22,7 +22,7 @@ KINDS = {
     "&mut [usize]": "word* word", "&[usize]": "const word* word", "const size_t *": "const word*",
     "NonNull<usize>": "word*", "*const usize": "const word*", "const uint64_t *": "const word*",
     "&Set": "const set*", "&Lent": "const set*", "const bits *": "const set*",
-    "&mut Set": "set*", "&mut Lent": "set*", "bits *": "set*",
+    "&mut Set": "set*", "&mut Room": "set*", "&mut Lent": "set*", "bits *": "set*",
     "&mut Ones": "walk*", "&mut Zeroes": "walk*", "&mut Walk": "walk*", "bits_walk *": "walk*",
     "&mut Runs": "runs*", "bits_run_walk *": "runs*",
     "&mut Sieve": "sieve*", "bits_sieve *": "sieve*",
@@ -35,6 +35,7 @@ KINDS = {
 # The struct that each of the three has, by its name in bits.h.
 STRUCTS = {
     "bits": ("Set", "Lent"),
+    "bits_view": ("Set", "Lent"),
     "bits_walk": ("Ones", "Walk"),
     "bits_run_walk": ("Runs", "Runs"),
     "bits_sieve": ("Sieve", "Sieve"),
@@ -97,8 +98,9 @@ def main():
         fields = [fields_of(sources, of_sources), fields_of(raw, of_raw), fields_of(header, name)]
         if len(set(fields)) != 1:
             wrong.append(f"struct {name} is {fields[0]}, in raw.rs {fields[1]}, in bits.h {fields[2]}")
-    if fields_of(sources, "Zeroes") != fields_of(sources, "Ones"):
-        wrong.append("the structs Ones and Zeroes differ, and bits_walk stands for both")
+    for one, other, name in (("Ones", "Zeroes", "bits_walk"), ("Set", "Room", "bits")):
+        if fields_of(sources, one) != fields_of(sources, other):
+            wrong.append(f"the structs {one} and {other} differ, and {name} stands for both")
     print("\n".join([*wrong, f"{len(exported)} exports and {len(STRUCTS)} structs, {len(wrong)} wrong declarations"]))
     return bool(wrong)
 

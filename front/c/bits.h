@@ -4,7 +4,7 @@
  * word p / 64. What the caller keeps, for every call:
  *   - A set points to `count` words, which is bits_words(length). No bit past the length is set.
  *   - Nothing else reads or writes these words during a call that changes them.
- *   - The words of two sets do not overlap, where a call changes one of them.
+ *   - The words of a set that a call changes overlap those of no other set. A set that is only read may stand twice.
  * Zeros are the set without a position. bits_settle makes any words those of a set. Each call leaves them so.
  *
  * No call asks anything of its numbers: a position or a range past the length is refused by the answer. No call takes or
@@ -32,6 +32,14 @@ typedef struct bits {
     size_t count;
     size_t length;
 } bits;
+
+/* A set of words that are only read. bits_of_view lends it to each call that takes a `const bits *`, so no caller has to cast
+ * away a `const`. */
+typedef struct bits_view {
+    const uint64_t *words;
+    size_t count;
+    size_t length;
+} bits_view;
 
 /* A walk over the positions of a set. Make it BITS_WALK, and begin it by bits_ones, bits_zeroes, bits_ones_in,
  * bits_zeroes_in or bits_rows_ones. Until its last call the set may not change. */
@@ -99,6 +107,9 @@ typedef struct bits_ranks {
 /* The set of length n with these words, which are bits_words(n). */
 #define BITS_OF(w, n) BITS_VALUE(bits, (w), bits_words(n), (n))
 
+/* The same of words that are only read. */
+#define BITS_VIEW_OF(w, n) BITS_VALUE(bits_view, (w), bits_words(n), (n))
+
 /* The table of so many rows and columns with these words, which are bits_rows_words(r, n). */
 #define BITS_ROWS_OF(w, r, n) BITS_VALUE(bits_rows, (w), bits_rows_words((r), (n)), (r), (n))
 
@@ -121,9 +132,21 @@ typedef struct bits_ranks {
          bits_once_; bits_once_ = NULL)                                                           \
         for (size_t p = 0; bits_ones_next(&bits_walk_, &p);)
 
+/* A loop over the stretches of positions of the set, each from `start` up to and without `end`, in ascending order. */
+#define BITS_FOR_EACH_RUN(start, end, set)                                                        \
+    for (bits_run_walk bits_runs_ = BITS_RUNS,                                                    \
+                       *bits_once_ = (bits_runs(&bits_runs_, (set)), &bits_runs_);                \
+         bits_once_; bits_once_ = NULL)                                                           \
+        for (size_t start = 0, end = 0; bits_runs_next(&bits_runs_, &start, &end);)
+
 #ifdef __cplusplus
 extern "C" {
 #endif
+
+/* The view as the calls take it that change nothing: they write no word of it. */
+static inline const bits *bits_of_view(const bits_view *view) {
+    return (const bits *)view;
+}
 
 /* ---- words */
 
@@ -135,6 +158,9 @@ size_t bits_blocks(size_t length);
  * it did, which is where `count` is bits_words(length) and `kept` is at most the length. Else nothing is changed. So 0
  * empties, the length takes words from elsewhere, and the old length makes a set longer in memory that has room. */
 bool bits_settle(uint64_t *words, size_t count, size_t length, size_t kept);
+/* Whether the words are those of a set of `length` positions as they stand: `count` is bits_words(length), and no bit past the
+ * length is set. So words from elsewhere can be refused, where bits_settle would drop what does not fit. */
+bool bits_is_clean(const uint64_t *words, size_t count, size_t length);
 /* Clears the lowest bit of the word that is set, and answers its index. Of 0 the answer is BITS_NONE. */
 size_t bits_take_lowest_bit(uint64_t *word);
 
@@ -242,6 +268,20 @@ bool bits_equal(const bits *set, const bits *other);
  * their words from the first on. */
 ptrdiff_t bits_compare(const bits *set, const bits *other);
 
+/* ---- sets written over words that may hold anything. `to` has the length of the set to be, and bits_words of it for its words.
+ *      Each call answers whether it did its work; else nothing is changed. It writes each word once. */
+
+/* Makes `to` the positions of the set that are below the length of `to`, which may be any. */
+bool bits_copy(bits *to, const bits *set);
+/* Makes `to` the positions of either set. Its length has to be the greater of theirs. */
+bool bits_union_of(bits *to, const bits *set, const bits *other);
+/* Makes `to` the positions of exactly one set. Its length has to be the greater of theirs. */
+bool bits_symmetric_difference_of(bits *to, const bits *set, const bits *other);
+/* Makes `to` the positions of both sets. Its length has to be the smaller of theirs. */
+bool bits_intersection_of(bits *to, const bits *set, const bits *other);
+/* Makes `to` the positions of the first set that the second lacks. Its length has to be that of the first. */
+bool bits_difference_of(bits *to, const bits *set, const bits *other);
+
 /* ---- positions moved by any number, and parts. What is not below the length then falls away, and the length stays.
  *      To put one set behind another, make the first longer by bits_settle, and take the second in, moved by the old
  *      length. To cut a set, have bits_settle make fewer of its words those of a lesser length. */
@@ -271,6 +311,9 @@ size_t bits_bytes(size_t length);
 void bits_from_bytes(bits *set, const uint8_t *bytes, size_t count);
 /* Writes the bytes of the set, and answers whether `count` is bits_bytes of its length; else nothing is changed. */
 bool bits_to_bytes(const bits *set, uint8_t *bytes, size_t count);
+/* Reverses the bits of each byte. So bytes that have the first of eight positions in the uppermost bit become those that have it
+ * in the lowest, as the two calls above take and write them, and the other way round. */
+void bits_reverse_each_byte(uint8_t *bytes, size_t count);
 
 /* ---- how many positions stand below a given one, and which is the k-th */
 

@@ -26,7 +26,12 @@ static void words(void) {
     assert(bits_take_lowest_bit(&word) == 3 && bits_take_lowest_bit(&word) == BITS_NONE);
     uint64_t any[4] = {7, 7, 7, 7};
     assert(!bits_settle(any, 3, 70, 70) && !bits_settle(any, 4, 70, 71) && any[1] == 7);
+    assert(!bits_is_clean(any, 4, 66) && !bits_is_clean(any, 3, 66));
     assert(bits_settle(any, 4, 66, 65) && any[0] == 7 && any[1] == 1 && any[2] == 0 && any[3] == 0);
+    assert(bits_is_clean(any, 4, 66) && bits_is_clean(any, 4, 65) && !bits_is_clean(any, 4, 64) && bits_is_clean(any, 0, 0));
+    const uint64_t read[4] = {7, 1, 0, 0};
+    const bits_view view = BITS_VIEW_OF(read, 66);
+    assert(bits_maximum(bits_of_view(&view)) == 64 && bits_union_count(bits_of_view(&view), bits_of_view(&view)) == 4);
 }
 
 static void positions(void) {
@@ -108,6 +113,32 @@ static void pairs(void) {
         free(other.words);                                                         \
     } while (0)
 
+static void copies(void) {
+    const size_t few[] = {1, 3}, more[] = {2, 3, 69};
+    bits a = of(10, 2, few), b = of(70, 3, more);
+    uint64_t any[4] = {UINT64_MAX, 7, UINT64_MAX, 7};
+    bits shorter = {any, 4, 10}, longer = {any, 4, 70}, wrong = {any, 3, 70};
+    assert(!bits_copy(&wrong, &b) && !bits_union_of(&wrong, &a, &b) && !bits_difference_of(&wrong, &b, &a));
+    assert(!bits_union_of(&shorter, &a, &b) && !bits_symmetric_difference_of(&shorter, &a, &b));
+    assert(!bits_intersection_of(&longer, &a, &b) && !bits_difference_of(&longer, &a, &b) && any[1] == 7);
+    assert(bits_copy(&longer, &b) && bits_equal(&longer, &b));
+    assert(bits_copy(&shorter, &b));
+    IS(shorter, 10, 2, 3);
+    assert(bits_copy(&longer, &a));
+    IS(longer, 70, 1, 3);
+    assert(bits_union_of(&longer, &a, &b));
+    IS(longer, 70, 1, 2, 3, 69);
+    assert(bits_symmetric_difference_of(&longer, &b, &a));
+    IS(longer, 70, 1, 2, 69);
+    assert(bits_difference_of(&longer, &b, &a));
+    IS(longer, 70, 2, 69);
+    assert(bits_intersection_of(&shorter, &b, &a));
+    IS(shorter, 10, 3);
+    assert(bits_union_of(&shorter, &a, &a) && bits_equal(&shorter, &a));
+    free(a.words);
+    free(b.words);
+}
+
 static void parts(void) {
     const size_t some[] = {0, 3, 69}, one[] = {5};
     bits a = of(70, 3, some), b = of(70, 3, some), part = of(68, 1, one);
@@ -156,6 +187,10 @@ static void bytes(void) {
     IS(set, 10, 2, 3, 6);
     bits_from_bytes(&set, source, 0);
     assert(bits_is_clear(&set));
+    bits_reverse_each_byte(made, 1);
+    assert(made[0] == 32 && made[1] == 2);
+    bits_reverse_each_byte(made, 8);
+    assert(made[0] == 4 && made[1] == 64 && made[7] == 0);
     free(set.words);
 }
 
@@ -245,6 +280,9 @@ static void walks(void) {
     bits_runs(&runs, &b);
     assert(bits_runs_next_back(&runs, &start, &end) && start == 69 && end == 71);
     assert(bits_runs_next(&runs, &start, &end) && start == 1 && end == 2);
+    size_t total = 0;
+    BITS_FOR_EACH_RUN(first, past, &b) total += past * 100 + first;
+    assert(total == 201 + 403 + 7169);
     bits_zero_runs(&runs, &a);
     assert(bits_runs_next(&runs, &start, &end) && start == 0 && end == 1);
     assert(bits_runs_next(&runs, &start, &end) && bits_runs_next(&runs, &start, &end) && start == 4);
@@ -283,6 +321,7 @@ int main(void) {
     positions();
     ranges();
     pairs();
+    copies();
     parts();
     bytes();
     tables();

@@ -5,122 +5,105 @@
  */
 #include "fixedbitset.h"
 
-typedef bits *(*Join)(MemoryContext context, bits *state, const bits *set);
-
-static MemoryContext aggregate_context(FunctionCallInfo fcinfo) {
-    MemoryContext context;
-    if (!AggCheckCallContext(fcinfo, &context))
-        elog(ERROR, "aggregate function called in non-aggregate context");
-    return context;
-}
-
 /* The state, or NULL where there was no row yet. */
 static bits *get_state(FunctionCallInfo fcinfo, int argument) {
     return PG_ARGISNULL(argument) ? NULL : (bits *)PG_GETARG_POINTER(argument);
 }
 
-/* A state that is the set's positions below a length. */
-static bits *hold(MemoryContext context, const bits *set, size_t length) {
-    MemoryContext old = MemoryContextSwitchTo(context);
-    bits *held = palloc(sizeof(bits));
-    *held = copy_set(set, length);
-    MemoryContextSwitchTo(old);
-    return held;
+/* Goes over to the memory of the aggregate, and gives the one of before. */
+static MemoryContext enter_aggregate(FunctionCallInfo fcinfo) {
+    MemoryContext context;
+    if (!AggCheckCallContext(fcinfo, &context))
+        elog(ERROR, "aggregate function called in non-aggregate context");
+    return MemoryContextSwitchTo(context);
 }
 
-/* The state, made longer or shorter. */
-static bits *with_length(MemoryContext context, bits *state, size_t length) {
-    bits *held;
-    if (state->length == length)
-        return state;
-    held = hold(context, state, length);
-    free_set(state);
-    pfree(state);
-    return held;
-}
-
-static bits *join_union(MemoryContext context, bits *state, const bits *set) {
-    state = with_length(context, state, Max(state->length, set->length));
-    bits_union_with(state, set);
+/* A state that is this set. */
+static bits *hold(bits set) {
+    bits *state = palloc(sizeof(bits));
+    *state = set;
     return state;
 }
 
-static bits *join_intersection(MemoryContext context, bits *state, const bits *set) {
-    state = with_length(context, state, Min(state->length, set->length));
+/* Makes the state longer or shorter. */
+static void set_length(bits *state, size_t length) {
+    bits old = *state;
+    if (length == old.length)
+        return;
+    *state = copy_set(&old, length);
+    free_set(&old);
+}
+
+static void join_union(bits *state, const bits *set) {
+    set_length(state, Max(state->length, set->length));
+    sure(bits_union_with(state, set));
+}
+
+static void join_intersection(bits *state, const bits *set) {
+    set_length(state, Min(state->length, set->length));
     bits_intersect_with(state, set);
-    return state;
+}
+
+typedef void (*Join)(bits *state, const bits *set);
+
+/* The state after one more set, or after none. */
+static Datum state_after(FunctionCallInfo fcinfo, Join join, const bits *set) {
+    MemoryContext old = enter_aggregate(fcinfo);
+    bits *state = get_state(fcinfo, 0);
+    if (set && state)
+        join(state, set);
+    else if (set)
+        state = hold(copy_set(set, set->length));
+    MemoryContextSwitchTo(old);
+    fcinfo->isnull = state == NULL;
+    return PointerGetDatum(state);
 }
 
 /* The state after one more row. A null adds none. */
 static Datum step(FunctionCallInfo fcinfo, Join join) {
-    MemoryContext context = aggregate_context(fcinfo);
-    bits *state = get_state(fcinfo, 0);
-    if (!PG_ARGISNULL(1)) {
-        READ(set, 1);
-        state = state ? join(context, state, set) : hold(context, set, set->length);
-        DONE(set);
-    }
-    if (state == NULL)
-        PG_RETURN_NULL();
-    PG_RETURN_POINTER(state);
-}
-
-/* The state of the rows of two processes. */
-static Datum combine(FunctionCallInfo fcinfo, Join join) {
-    MemoryContext context = aggregate_context(fcinfo);
-    bits *state = get_state(fcinfo, 0);
-    bits *other = get_state(fcinfo, 1);
-    if (other)
-        state = state ? join(context, state, other) : hold(context, other, other->length);
-    if (state == NULL)
-        PG_RETURN_NULL();
-    PG_RETURN_POINTER(state);
+    Reading reading;
+    const bits *set = PG_ARGISNULL(1) ? NULL : read_set(&reading, PG_GETARG_DATUM(1));
+    Datum state = state_after(fcinfo, join, set);
+    if (set)
+        done_reading(&reading);
+    return state;
 }
 
 BY(bitset_union_step, step, join_union)
-BY(bitset_union_combine, combine, join_union)
 BY(bitset_intersection_step, step, join_intersection)
-BY(bitset_intersection_combine, combine, join_intersection)
+
+/* The state of the rows of two processes. */
+BY(bitset_union_combine, state_after, join_union, get_state(fcinfo, 1))
+BY(bitset_intersection_combine, state_after, join_intersection, get_state(fcinfo, 1))
 
 /* A row is a position and a length. A null position adds none; the greatest length is the set's. */
 FUNCTION(bitset_agg_step) {
-    MemoryContext context = aggregate_context(fcinfo);
+    MemoryContext old = enter_aggregate(fcinfo);
     bits *state = get_state(fcinfo, 0);
-    size_t length;
     if (PG_ARGISNULL(2))
-        ereport(ERROR, (errcode(ERRCODE_NULL_VALUE_NOT_ALLOWED), errmsg("length of a bitset must not be null")));
-    length = checked_length(PG_GETARG_INT64(2));
-    if (state == NULL) {
-        bits none = new_set(0);
-        state = hold(context, &none, length);
-    }
-    state = with_length(context, state, Max(state->length, length));
+        REFUSE(NULL_VALUE_NOT_ALLOWED, "length of a bitset must not be null");
+    state = state ? state : hold(new_set(0));
+    set_length(state, Max(state->length, checked_length(PG_GETARG_INT64(2))));
     if (!PG_ARGISNULL(1))
-        insert_checked(state, PG_GETARG_INT64(1));
+        change_at(state, bits_insert, PG_GETARG_INT64(1));
+    MemoryContextSwitchTo(old);
     PG_RETURN_POINTER(state);
 }
 
-/* The state stays as it is, for a window may go on with it. */
+/* It is strict, so there is a state. This stays as it is, for a window may go on with it. Between processes it travels as a
+ * stored set too, under the name of bytea. */
 FUNCTION(bitset_final) {
-    bits *state = get_state(fcinfo, 0);
+    const bits *state = get_state(fcinfo, 0);
     bits copy;
-    if (state == NULL)
-        PG_RETURN_NULL();
+    MemoryContextSwitchTo(enter_aggregate(fcinfo));
     copy = copy_set(state, state->length);
-    PG_RETURN_DATUM(stored_set(&copy));
-}
-
-/* Between processes a state travels as a stored set, under the name of bytea. */
-FUNCTION(bitset_serial) {
-    aggregate_context(fcinfo);
-    return bitset_final(fcinfo);
+    return stored_set(&copy);
 }
 
 /* A bytea in a tuple is aligned for its length alone, and its copy for words. */
 FUNCTION(bitset_deserial) {
-    bytea *bytes = PG_GETARG_BYTEA_P_COPY(0);
     Reading reading;
-    const bits *set = read_set(&reading, PointerGetDatum(bytes));
-    aggregate_context(fcinfo);
-    PG_RETURN_POINTER(hold(CurrentMemoryContext, set, set->length));
+    const bits *set = read_set(&reading, PointerGetDatum(PG_GETARG_BYTEA_P_COPY(0)));
+    MemoryContextSwitchTo(enter_aggregate(fcinfo));
+    PG_RETURN_POINTER(hold(copy_set(set, set->length)));
 }

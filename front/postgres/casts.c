@@ -2,14 +2,13 @@
 #include "fixedbitset.h"
 
 #include "catalog/pg_type.h"
-#include "miscadmin.h"
 #include "utils/array.h"
 #include "utils/builtins.h"
 #include "utils/varbit.h"
 
 FUNCTION(bitset_empty) {
     bits set = new_set(checked_length(PG_GETARG_INT64(0)));
-    PG_RETURN_DATUM(stored_set(&set));
+    return stored_set(&set);
 }
 
 FUNCTION(bitset_from_positions) {
@@ -18,52 +17,26 @@ FUNCTION(bitset_from_positions) {
     const int64 *positions = (const int64 *)ARR_DATA_PTR(array);
     int count = ArrayGetNItems(ARR_NDIM(array), ARR_DIMS(array));
     if (array_contains_nulls(array))
-        ereport(ERROR, (errcode(ERRCODE_NULL_VALUE_NOT_ALLOWED), errmsg("positions of a bitset must not be null")));
+        REFUSE(NULL_VALUE_NOT_ALLOWED, "positions of a bitset must not be null");
     for (int i = 0; i < count; i++)
-        insert_checked(&set, positions[i]);
-    PG_RETURN_DATUM(stored_set(&set));
-}
-
-/* An array without nulls has its items side by side, so they are written where they belong. */
-FUNCTION(bitset_to_positions) {
-    READ(set, 0);
-    size_t count = bits_count_ones(set, 0, set->length);
-    size_t size = ARR_OVERHEAD_NONULLS(1) + count * sizeof(int64);
-    int64 *positions;
-    ArrayType *array;
-    if (count == 0)
-        PG_RETURN_ARRAYTYPE_P(construct_empty_array(INT8OID));
-    if (count > MaxArraySize || !AllocSizeIsValid(size))
-        ereport(ERROR, (errcode(ERRCODE_PROGRAM_LIMIT_EXCEEDED), errmsg("%zu positions are too many for an array", count),
-                        errhint("ones(bitset) gives them as rows.")));
-    array = palloc0(size);
-    SET_VARSIZE(array, size);
-    array->ndim = 1;
-    array->elemtype = INT8OID;
-    ARR_DIMS(array)[0] = count;
-    ARR_LBOUND(array)[0] = 1;
-    positions = (int64 *)ARR_DATA_PTR(array);
-    BITS_FOR_EACH(position, set) {
-        CHECK_FOR_INTERRUPTS();
-        *positions++ = position;
-    }
-    PG_RETURN_ARRAYTYPE_P(array);
-}
-
-/* The positions below a length that bytes say, eight a byte, least first. */
-static Datum set_of_bytes(const bytea *bytes, int64 length) {
-    bits set = new_set(checked_length(length));
-    bits_from_bytes(&set, (const uint8_t *)VARDATA_ANY(bytes), VARSIZE_ANY_EXHDR(bytes));
+        change_at(&set, bits_insert, positions[i]);
     return stored_set(&set);
 }
 
-FUNCTION(bitset_from_bytea) {
-    const bytea *bytes = PG_GETARG_BYTEA_PP(0);
-    return set_of_bytes(bytes, (int64)VARSIZE_ANY_EXHDR(bytes) * BITS_PER_BYTE);
+FUNCTION(bitset_to_positions) {
+    READ(set, 0);
+    int32 count;
+    Datum *positions = positions_of(set, &count, "an array; ones(bitset) gives them as rows");
+    PG_RETURN_ARRAYTYPE_P(construct_array(positions, count, INT8OID, sizeof(int64), FLOAT8PASSBYVAL, TYPALIGN_DOUBLE));
 }
 
+/* The positions that bytes say, eight a byte, least first, below a length where one is given. */
 FUNCTION(bitset_from_bytes) {
-    return set_of_bytes(PG_GETARG_BYTEA_PP(0), PG_GETARG_INT64(1));
+    const bytea *bytes = PG_GETARG_BYTEA_PP(0);
+    int64 count = VARSIZE_ANY_EXHDR(bytes);
+    bits set = new_set(checked_length(PG_NARGS() == 2 ? PG_GETARG_INT64(1) : count * BITS_PER_BYTE));
+    bits_from_bytes(&set, (const uint8_t *)VARDATA_ANY(bytes), count);
+    return stored_set(&set);
 }
 
 FUNCTION(bitset_to_bytea) {
@@ -71,32 +44,24 @@ FUNCTION(bitset_to_bytea) {
     PG_RETURN_BYTEA_P(cstring_to_text_with_len((char *)set->words, OCTETS(set->length)));
 }
 
-/* A bit string has its first bit uppermost in its byte, and a set has position 0 lowest. Rather than turn bytes round here,
- * both casts go by the digits that varbit reads and writes. */
+/* A bit string has its first bit uppermost in its byte, and a set has position 0 lowest. */
 FUNCTION(bitset_from_varbit) {
-    bits set = new_set(VARBITLEN(PG_GETARG_VARBIT_P(0)));
-    char *digits = DatumGetCString(DirectFunctionCall1(varbit_out, PG_GETARG_DATUM(0)));
-    for (char *one = strchr(digits, '1'); one; one = strchr(one + 1, '1'))
-        insert_checked(&set, one - digits);
-    PG_RETURN_DATUM(stored_set(&set));
+    VarBit *string = PG_GETARG_VARBIT_P_COPY(0);
+    bits set = new_set(VARBITLEN(string));
+    bits_reverse_each_byte(VARBITS(string), VARBITBYTES(string));
+    bits_from_bytes(&set, VARBITS(string), VARBITBYTES(string));
+    return stored_set(&set);
 }
 
 FUNCTION(bitset_to_varbit) {
     READ(set, 0);
-    size_t start, end;
-    bits_run_walk walk = BITS_RUNS;
-    char *digits;
-    if (!AllocSizeIsValid(set->length + 2))
-        ereport(ERROR, (errcode(ERRCODE_PROGRAM_LIMIT_EXCEEDED),
-                        errmsg("length %zu is too great for a cast to bit varying", set->length)));
-    digits = palloc(set->length + 2);
-    digits[0] = 'b';
-    memset(digits + 1, '0', set->length);
-    digits[set->length + 1] = '\0';
-    bits_runs(&walk, set);
-    while (bits_runs_next(&walk, &start, &end)) {
-        CHECK_FOR_INTERRUPTS();
-        memset(digits + 1 + start, '1', end - start);
-    }
-    PG_RETURN_DATUM(DirectFunctionCall3(varbit_in, CStringGetDatum(digits), ObjectIdGetDatum(InvalidOid), Int32GetDatum(-1)));
+    VarBit *string;
+    if (set->length > VARBITMAXLEN)
+        REFUSE(PROGRAM_LIMIT_EXCEEDED, "length %zu is too great for a cast to bit varying", set->length);
+    string = palloc(VARBITTOTALLEN(set->length));
+    SET_VARSIZE(string, VARBITTOTALLEN(set->length));
+    VARBITLEN(string) = set->length;
+    memcpy(VARBITS(string), set->words, OCTETS(set->length));
+    bits_reverse_each_byte(VARBITS(string), OCTETS(set->length));
+    PG_RETURN_VARBIT_P(string);
 }

@@ -15,6 +15,9 @@
 #include "bits.h"
 #include "fmgr.h"
 #include "utils/memutils.h"
+#if PG_VERSION_NUM >= 160000
+#include "varatt.h"
+#endif
 
 #ifdef WORDS_BIGENDIAN
 #error "the binary forms take the words' bytes least first; libbits_c.a is built for x86-64"
@@ -29,9 +32,9 @@ typedef struct Stored {
 #define MAX_LENGTH PG_UINT32_MAX
 #define WORD_SIZE sizeof(uint64_t)
 
-/* As many blocks as fit behind a header of one byte, and the words of so many. */
+/* As many blocks as fit behind a header of one byte, and how many words a lane can have behind its first. */
 #define SHORT_WORDS 15
-#define SHORT_LANES 16
+#define LANE_REST 3
 
 StaticAssertDecl(VARHDRSZ_SHORT + sizeof(uint32) + SHORT_WORDS * WORD_SIZE <= VARATT_SHORT_MAX,
                  "a short set fits behind the short header");
@@ -41,39 +44,35 @@ StaticAssertDecl(offsetof(Stored, words) + ((Size)MAX_LENGTH + 256) / BITS_PER_B
 /* How many bytes of eight positions each a length takes. */
 #define OCTETS(length) (((size_t)(length) + BITS_PER_BYTE - 1) / BITS_PER_BYTE)
 
+/* Whether the words are those of a set, as the library asks of each that is given to it. */
+#define IS_SET(set) bits_is_clean((set)->words, (set)->count, (set)->length)
+
 /* A set that is read: it, what has to be freed, and room for one that is stored short. */
 typedef struct Reading {
     bits set;
     void *copy;
-    uint64_t room[SHORT_LANES];
+    uint64_t room[SHORT_WORDS + LANE_REST];
 } Reading;
 
-/* What the module's files call of each other is not for other modules, so it is called directly. */
-#pragma GCC visibility push(hidden)
+/* Ends the query by an error: the name of its code, and its message. */
+#define REFUSE(code, ...) ereport(ERROR, (errcode(ERRCODE_##code), errmsg(__VA_ARGS__)))
 
-extern const bits *read_set(Reading *reading, Datum datum);
-extern void done_reading(Reading *reading);
+/* A function that SQL calls. BY makes one that leaves all to another function. */
+#define FUNCTION(name) PG_FUNCTION_INFO_V1(name); Datum name(PG_FUNCTION_ARGS)
+#define BY(name, function, ...) FUNCTION(name) { return function(fcinfo, __VA_ARGS__); }
 
-/* A function that SQL calls. In it READ(set, n) declares `set` and reads it from argument n, and DONE(set) frees it. BY makes
- * one that leaves all to another function. */
-#define FUNCTION(name)                                                                                                 \
-    PG_FUNCTION_INFO_V1(name);                                                                                         \
-    Datum name(PG_FUNCTION_ARGS)
-#define BY(name, function, ...)                                                                                        \
-    FUNCTION(name) {                                                                                                   \
-        return function(fcinfo, __VA_ARGS__);                                                                          \
-    }
-#define READ(set, n)                                                                                                   \
-    Reading set##_reading;                                                                                             \
-    const bits *set = read_set(&set##_reading, PG_GETARG_DATUM(n))
+/* In such a function READ(set, n) declares `set` and reads it from argument n, and DONE(set) frees it. */
+#define READ(set, n) Reading set##_reading; const bits *set = read_set(&set##_reading, PG_GETARG_DATUM(n))
 #define DONE(set) done_reading(&set##_reading)
 
-/* Sets that are made. Before their words is room for the header of a stored set, which stored_set fills in. After that the
- * set may not be used. */
-extern bits new_set(size_t length);
-extern bits copy_set(const bits *set, size_t length);
-extern void free_set(bits *set);
-extern Datum stored_set(bits *set);
+/* A function that gives its first argument, the set `set`, after a call that changes the copy `changed`. */
+#define CHANGE(name, call)                                                                                             \
+    FUNCTION(name) {                                                                                                   \
+        READ(set, 0);                                                                                                  \
+        bits changed = copy_set(set, set->length);                                                                     \
+        { call; }                                                                                                      \
+        return stored_set(&changed);                                                                                   \
+    }
 
 /* The positions of a range, from `start` up to and without `end`. */
 typedef struct Span {
@@ -81,12 +80,26 @@ typedef struct Span {
     size_t end;
 } Span;
 
-extern size_t past_length(const bits *set);
+/* What the module's files call of each other is not for other modules, so it is called directly. */
+#pragma GCC visibility push(hidden)
+
+extern const bits *read_set(Reading *reading, Datum datum);
+extern void done_reading(Reading *reading);
+
+/* Sets that are made. Before their words is room for the header of a stored set, which stored_set fills in. After that the
+ * set may not be used. */
+extern bits room_for(size_t length);
+extern bits new_set(size_t length);
+extern bits copy_set(const bits *set, size_t length);
+extern void free_set(bits *set);
+extern Datum stored_set(bits *set);
+
+extern void sure(bool done);
 extern size_t not_negative(int64 number, const char *name);
 extern size_t checked_length(int64 length);
-extern void wrong_position(const bits *set, int64 position) pg_attribute_noreturn();
-extern void insert_checked(bits *set, int64 position);
+extern void change_at(bits *set, bool (*call)(bits *, size_t), int64 position);
 extern Span read_span(FunctionCallInfo fcinfo, int argument, const bits *set);
+extern Datum *positions_of(const bits *set, int32 *count, const char *where);
 
 #pragma GCC visibility pop
 

@@ -7,36 +7,21 @@
 /* The operators of the class, by their numbers in the SQL. */
 enum { OVERLAPS = 1, CONTAINS = 2, CONTAINS_POSITION = 3 };
 
-/* The positions of a set. */
-static Datum *keys_of(const bits *set, int32 *count) {
-    size_t ones = bits_count_ones(set, 0, set->length);
-    Datum *keys, *key;
-    if (!AllocSizeIsValid(ones * sizeof(Datum)))
-        ereport(ERROR,
-                (errcode(ERRCODE_PROGRAM_LIMIT_EXCEEDED), errmsg("%zu positions are too many for an index", ones)));
-    keys = key = palloc(ones * sizeof(Datum));
-    BITS_FOR_EACH(position, set) *key++ = Int64GetDatum(position);
-    *count = ones;
-    return keys;
-}
-
 FUNCTION(bitset_gin_value) {
     READ(set, 0);
-    PG_RETURN_POINTER(keys_of(set, (int32 *)PG_GETARG_POINTER(1)));
+    PG_RETURN_POINTER(positions_of(set, (int32 *)PG_GETARG_POINTER(1), "an index"));
 }
 
 /* The right side of an operator: a set or a position. Each set contains the one without positions, so all are asked for. */
 FUNCTION(bitset_gin_query) {
     int32 *count = (int32 *)PG_GETARG_POINTER(1);
     StrategyNumber operator = PG_GETARG_UINT16(2);
-    Datum *keys;
-    if (operator == CONTAINS_POSITION) {
-        keys = palloc(sizeof(Datum));
-        keys[0] = PG_GETARG_DATUM(0);
-        *count = 1;
-    } else {
+    Datum *keys = palloc(sizeof(Datum));
+    keys[0] = PG_GETARG_DATUM(0);
+    *count = 1;
+    if (operator != CONTAINS_POSITION) {
         READ(set, 0);
-        keys = keys_of(set, count);
+        keys = positions_of(set, count, "an index");
         if (operator == CONTAINS && *count == 0)
             *(int32 *)PG_GETARG_POINTER(6) = GIN_SEARCH_MODE_ALL;
     }
@@ -50,11 +35,8 @@ FUNCTION(bitset_gin_consistent) {
     int32 count = PG_GETARG_INT32(3);
     GinTernaryValue decides = one ? GIN_TRUE : GIN_FALSE;
     GinTernaryValue answer = one ? GIN_FALSE : GIN_TRUE;
-    for (int32 i = 0; i < count; i++) {
-        if (has[i] == decides)
-            PG_RETURN_GIN_TERNARY_VALUE(decides);
-        if (has[i] == GIN_MAYBE)
-            answer = GIN_MAYBE;
-    }
+    for (int32 i = 0; i < count && answer != decides; i++)
+        if (has[i] == decides || has[i] == GIN_MAYBE)
+            answer = has[i];
     PG_RETURN_GIN_TERNARY_VALUE(answer);
 }

@@ -17,23 +17,18 @@ FUNCTION(bitset_slice) {
     READ(set, 0);
     Span span = read_span(fcinfo, 1, set);
     bits part = new_set(span.end - span.start);
-    bits_slice(&part, set, span.start, span.end);
-    PG_RETURN_DATUM(stored_set(&part));
+    sure(bits_slice(&part, set, span.start, span.end));
+    return stored_set(&part);
 }
 
-/* The first set, with the positions of a range of the second over its own from a position on. */
-FUNCTION(bitset_copy_range) {
-    READ(set, 0);
-    READ(other, 1);
-    Span span = read_span(fcinfo, 2, other);
-    int64 at = PG_GETARG_INT64(3);
-    bits changed = copy_set(set, set->length);
-    if (!bits_copy_range(&changed, other, span.start, span.end, at))
-        ereport(ERROR, (errcode(ERRCODE_ARRAY_SUBSCRIPT_ERROR),
-                        errmsg("%zu positions from %lld on are not within the length %zu", span.end - span.start,
-                               (long long)at, set->length)));
-    PG_RETURN_DATUM(stored_set(&changed));
+/* Writes the positions of a range over those of another set from a position on. */
+static void copy_in(bits *changed, const bits *other, Span span, int64 at) {
+    if (!bits_copy_range(changed, other, span.start, span.end, at))
+        REFUSE(ARRAY_SUBSCRIPT_ERROR, "%zu positions from %lld on are not within the length %zu", span.end - span.start,
+               (long long)at, changed->length);
 }
+
+CHANGE(bitset_copy_range, READ(other, 1); copy_in(&changed, other, read_span(fcinfo, 2, other), PG_GETARG_INT64(3)))
 
 /* The second set behind the first. */
 FUNCTION(bitset_append) {
@@ -41,30 +36,12 @@ FUNCTION(bitset_append) {
     READ(b, 1);
     bits joined = copy_set(a, checked_length((int64)a->length + (int64)b->length));
     bits_union_with_shifted(&joined, b, a->length);
-    PG_RETURN_DATUM(stored_set(&joined));
+    return stored_set(&joined);
 }
 
-/* By how many positions a set is moved. */
-static size_t read_shift(FunctionCallInfo fcinfo, int argument) {
-    return not_negative(PG_GETARG_INT64(argument), "shift of a bitset");
-}
+/* By how many positions a set is moved. Its length stays, and what does not fit falls away. */
+#define SHIFT(n) not_negative(PG_GETARG_INT64(n), "shift of a bitset")
 
-/* The set moved. Its length stays, and what does not fit falls away. */
-static Datum shift(FunctionCallInfo fcinfo, void (*call)(bits *, size_t)) {
-    READ(set, 0);
-    bits moved = copy_set(set, set->length);
-    call(&moved, read_shift(fcinfo, 1));
-    return stored_set(&moved);
-}
-
-BY(bitset_shift_up, shift, bits_shift_up)
-BY(bitset_shift_down, shift, bits_shift_down)
-
-/* The first set, with the positions of the second moved up. */
-FUNCTION(bitset_union_with_shifted) {
-    READ(set, 0);
-    READ(other, 1);
-    bits joined = copy_set(set, set->length);
-    bits_union_with_shifted(&joined, other, read_shift(fcinfo, 2));
-    PG_RETURN_DATUM(stored_set(&joined));
-}
+CHANGE(bitset_shift_up, bits_shift_up(&changed, SHIFT(1)))
+CHANGE(bitset_shift_down, bits_shift_down(&changed, SHIFT(1)))
+CHANGE(bitset_union_with_shifted, READ(other, 1); bits_union_with_shifted(&changed, other, SHIFT(2)))

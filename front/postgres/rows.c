@@ -17,36 +17,31 @@ typedef struct Rows {
     bits set;
     bits_walk walk;
     bits_run_walk runs;
-    TypeCacheEntry *ranges;
 } Rows;
 
-/* The rows of this call. The first one keeps a copy of the set, which the later ones walk over. */
-static Rows *rows_of(FunctionCallInfo fcinfo, FuncCallContext **call) {
-    if (SRF_IS_FIRSTCALL()) {
-        READ(set, 0);
-        FuncCallContext *first = SRF_FIRSTCALL_INIT();
-        MemoryContext old = MemoryContextSwitchTo(first->multi_call_memory_ctx);
-        Rows *rows = palloc(sizeof(Rows));
-        *rows = (Rows){copy_set(set, set->length), BITS_WALK, BITS_RUNS, lookup_type_cache(INT8RANGEOID, TYPECACHE_RANGE_INFO)};
-        first->user_fctx = rows;
-        MemoryContextSwitchTo(old);
-    }
-    *call = SRF_PERCALL_SETUP();
-    return (*call)->user_fctx;
+/* What the first call of several keeps for the others. */
+static Rows *first_call(FunctionCallInfo fcinfo) {
+    READ(set, 0);
+    FuncCallContext *call = SRF_FIRSTCALL_INIT();
+    MemoryContext old = MemoryContextSwitchTo(call->multi_call_memory_ctx);
+    Rows *rows = call->user_fctx = palloc(sizeof(Rows));
+    *rows = (Rows){copy_set(set, set->length), BITS_WALK, BITS_RUNS};
+    MemoryContextSwitchTo(old);
+    return rows;
 }
 
 /* A row for each position of a walk, over the whole set or over a range. */
 static Datum rows_of_walk(FunctionCallInfo fcinfo, bool (*begin)(bits_walk *, const bits *, size_t, size_t),
                           bool (*next)(bits_walk *, size_t *)) {
-    bool first = SRF_IS_FIRSTCALL();
     FuncCallContext *call;
-    Rows *rows = rows_of(fcinfo, &call);
     size_t position;
-    if (first) {
+    if (SRF_IS_FIRSTCALL()) {
+        Rows *rows = first_call(fcinfo);
         Span span = PG_NARGS() == 2 ? read_span(fcinfo, 1, &rows->set) : (Span){0, rows->set.length};
-        begin(&rows->walk, &rows->set, span.start, span.end);
+        sure(begin(&rows->walk, &rows->set, span.start, span.end));
     }
-    if (next(&rows->walk, &position))
+    call = SRF_PERCALL_SETUP();
+    if (next(&((Rows *)call->user_fctx)->walk, &position))
         SRF_RETURN_NEXT(call, Int64GetDatum(position));
     SRF_RETURN_DONE(call);
 }
@@ -56,16 +51,18 @@ BY(bitset_zeroes, rows_of_walk, bits_zeroes_in, bits_zeroes_next)
 
 /* A row for each run, as long as it goes: [start,end). */
 static Datum rows_of_runs(FunctionCallInfo fcinfo, void (*begin)(bits_run_walk *, const bits *)) {
-    bool first = SRF_IS_FIRSTCALL();
     FuncCallContext *call;
-    Rows *rows = rows_of(fcinfo, &call);
     size_t start, end;
-    if (first)
+    if (SRF_IS_FIRSTCALL()) {
+        Rows *rows = first_call(fcinfo);
         begin(&rows->runs, &rows->set);
-    if (bits_runs_next(&rows->runs, &start, &end)) {
+    }
+    call = SRF_PERCALL_SETUP();
+    if (bits_runs_next(&((Rows *)call->user_fctx)->runs, &start, &end)) {
         RangeBound lower = {.val = Int64GetDatum(start), .inclusive = true, .lower = true};
         RangeBound upper = {.val = Int64GetDatum(end)};
-        SRF_RETURN_NEXT(call, RangeTypePGetDatum(RANGE_OF(rows->ranges, &lower, &upper)));
+        TypeCacheEntry *type = lookup_type_cache(INT8RANGEOID, TYPECACHE_RANGE_INFO);
+        SRF_RETURN_NEXT(call, RangeTypePGetDatum(RANGE_OF(type, &lower, &upper)));
     }
     SRF_RETURN_DONE(call);
 }

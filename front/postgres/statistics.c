@@ -69,7 +69,7 @@ static void compute(VacAttrStats *stats, AnalyzeAttrFetchFunc fetch, int sampled
         Reading reading;
         const bits *set = is_null ? NULL : read_set(&reading, value);
         vacuum_delay_point();
-        if (is_null)
+        if (set == NULL)
             continue;
         if (filled + bits_count_ones(set, 0, set->length) > MOST_OF_ROWS)
             break;
@@ -99,19 +99,17 @@ FUNCTION(bitset_typanalyze) {
 static Node *as_array(PlannerInfo *root, Node *operand) {
     Const *constant = (Const *)estimate_expression_value(root, operand);
     Datum positions[MOST_OF_CONSTANT], array;
-    int count = 0;
+    int count = 1;
+    bits_walk walk = BITS_WALK;
     Reading reading;
     if (!IsA(constant, Const) || constant->constisnull)
         return (Node *)makeRelabelType((Expr *)strip_implicit_coercions(operand), INT8ARRAYOID, -1, InvalidOid,
                                        COERCE_IMPLICIT_CAST);
-    if (constant->constbyval)
-        positions[count++] = constant->constvalue;
-    else
-        BITS_FOR_EACH(position, read_set(&reading, constant->constvalue)) {
-            if (count == MOST_OF_CONSTANT)
-                break;
-            positions[count++] = Int64GetDatum(position);
-        }
+    positions[0] = constant->constvalue;
+    if (!constant->constbyval) {
+        bits_ones(&walk, read_set(&reading, constant->constvalue));
+        count = bits_ones_take(&walk, positions, MOST_OF_CONSTANT);
+    }
     array = PointerGetDatum(construct_array(positions, count, INT8OID, sizeof(int64), FLOAT8PASSBYVAL, TYPALIGN_DOUBLE));
     return (Node *)makeConst(INT8ARRAYOID, -1, InvalidOid, -1, array, false, false);
 }

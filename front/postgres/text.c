@@ -34,16 +34,14 @@ void _PG_init(void);
 void _PG_init(void) {
     DefineCustomEnumVariable("fixedbitset.output", "How a bitset is written as text.", NULL, &output_form, OUTPUT_RUNS,
                              output_forms, PGC_USERSET, 0, NULL, NULL, NULL);
-#if PG_VERSION_NUM >= 150000
-    MarkGUCPrefixReserved("fixedbitset");
-#else
     EmitWarningsOnPlaceholders("fixedbitset");
-#endif
 }
 
+/* The text, where it is read, and whether spaces may stand between its parts. */
 typedef struct Parser {
     const char *text;
     const char *at;
+    bool with_spaces;
 } Parser;
 
 /* Refuses the text, and says at which character. */
@@ -53,131 +51,99 @@ static void pg_attribute_noreturn() fail(const Parser *parser, int code, const c
                     errdetail("%s at character %d.", what, before + 1)));
 }
 
-/* Refuses the text for its form. */
-static void pg_attribute_noreturn() expected(const Parser *parser, const char *what) {
-    fail(parser, ERRCODE_INVALID_TEXT_REPRESENTATION, what);
-}
-
-static bool is_digit(char c) {
-    return c >= '0' && c <= '9';
+/* Refuses the text for its form, unless it is as it should be. */
+static void expect(const Parser *parser, bool is_right, const char *what) {
+    if (!is_right)
+        fail(parser, ERRCODE_INVALID_TEXT_REPRESENTATION, what);
 }
 
 static void skip_spaces(Parser *parser) {
-    while (scanner_isspace(*parser->at))
+    while (parser->with_spaces && scanner_isspace(*parser->at))
         parser->at++;
 }
 
 /* Whether the wanted character comes next, behind spaces; then it is taken. */
 static bool take(Parser *parser, char wanted) {
     skip_spaces(parser);
-    if (*parser->at != wanted)
-        return false;
-    parser->at++;
-    return true;
+    return *parser->at == wanted && parser->at++ != NULL;
 }
 
-/* A number that is not past `greatest`. */
-static size_t take_number(Parser *parser, size_t greatest, const char *past) {
-    const char *start = parser->at;
-    size_t value = 0;
-    if (!is_digit(*start))
-        expected(parser, "A number is expected");
-    for (; is_digit(*parser->at); parser->at++) {
-        value = value * 10 + (*parser->at - '0');
-        if (value > greatest) {
-            parser->at = start;
-            fail(parser, ERRCODE_NUMERIC_VALUE_OUT_OF_RANGE, past);
-        }
-    }
+/* A number that is neither past `greatest` nor, at the end of a run, before its start. (One that no `uint64` holds is read as
+ * the greatest of these, which is past any length.) */
+static size_t take_number(Parser *parser, size_t least, size_t greatest, const char *past) {
+    char *end;
+    uint64 value = strtoull(parser->at, &end, 10);
+    expect(parser, strspn(parser->at, "0123456789") > 0, "A number is expected");
+    if (value > greatest)
+        fail(parser, ERRCODE_NUMERIC_VALUE_OUT_OF_RANGE, past);
+    expect(parser, value >= least, "A run ends before it starts");
+    parser->at = end;
     return value;
+}
+
+/* A position from `least` on. The set has one, so its length is not 0. */
+static size_t take_position(Parser *parser, const bits *set, size_t least) {
+    skip_spaces(parser);
+    return take_number(parser, least, set->length - 1, "A position is not below the length");
 }
 
 /* A position or a run of them, which are inserted. */
 static void take_item(Parser *parser, bits *set) {
-    const char *past = "A position is not below the length";
-    size_t first, last;
-    skip_spaces(parser);
-    first = last = take_number(parser, set->length - 1, past);
-    if (take(parser, '-')) {
-        const char *start;
-        skip_spaces(parser);
-        start = parser->at;
-        last = take_number(parser, set->length - 1, past);
-        if (last < first) {
-            parser->at = start;
-            expected(parser, "A run ends before it starts");
-        }
-    }
-    bits_insert_range(set, first, last + 1);
+    size_t first = take_position(parser, set, 0);
+    size_t last = take(parser, '-') ? take_position(parser, set, first) : first;
+    sure(bits_insert_range(set, first, last + 1));
 }
 
 /* The length, which is the last part of both forms. */
 static size_t take_length(Parser *parser) {
-    return take_number(parser, MAX_LENGTH, "The length is past the greatest, 4294967295,");
-}
-
-/* Refuses what stands behind the last part. */
-static void take_end(const Parser *parser) {
-    if (*parser->at != '\0')
-        expected(parser, "The end is expected");
+    size_t length;
+    skip_spaces(parser);
+    length = take_number(parser, 0, MAX_LENGTH, "The length is past the greatest, 4294967295,");
+    skip_spaces(parser);
+    expect(parser, *parser->at == '\0', "The end is expected");
+    return length;
 }
 
 /* The form in runs. Its length is read first, so that each item is checked and inserted as it is read. */
 static bits take_runs(Parser *parser) {
     const char *slash = strrchr(parser->text, '/');
     bits set;
-    if (slash == NULL) {
-        parser->at = parser->text + strlen(parser->text);
-        expected(parser, "\"/\" and the length are expected");
-    }
-    parser->at = slash + 1;
-    skip_spaces(parser);
+    parser->at = slash ? slash + 1 : parser->text + strlen(parser->text);
+    expect(parser, slash != NULL, "\"/\" and the length are expected");
     set = new_set(take_length(parser));
-    skip_spaces(parser);
-    take_end(parser);
 
     parser->at = parser->text;
-    if (!take(parser, '{'))
-        expected(parser, "\"{\" is expected");
+    expect(parser, take(parser, '{'), "\"{\" is expected");
     if (!take(parser, '}')) {
-        /* A set of length 0 takes no item: take_item counts down from the length. */
-        if (set.length == 0)
-            expected(parser, "\"}\" is expected");
+        expect(parser, set.length > 0, "\"}\" is expected");
         do {
             CHECK_FOR_INTERRUPTS();
             take_item(parser, &set);
         } while (take(parser, ','));
-        if (!take(parser, '}'))
-            expected(parser, "\",\" or \"}\" is expected");
+        expect(parser, take(parser, '}'), "\",\" or \"}\" is expected");
     }
-    if (!take(parser, '/') || parser->at != slash + 1)
-        expected(parser, "\"/\" and the length are expected");
+    expect(parser, take(parser, '/') && parser->at == slash + 1, "\"/\" and the length are expected");
     return set;
 }
 
 /* The form in hexadecimal digits. */
 static bits take_hex(Parser *parser) {
     const char *digits = parser->text + strlen("x:");
-    size_t count = strspn(digits, "0123456789abcdefABCDEF");
-    size_t length, wanted, stray;
+    size_t count = strspn(digits, "0123456789abcdefABCDEF"), length, wanted;
     bits set;
     parser->at = digits + count;
-    if (*parser->at++ != '/') {
-        parser->at--;
-        expected(parser, "A hexadecimal digit or \"/\" is expected");
-    }
+    expect(parser, *parser->at == '/', "A hexadecimal digit or \"/\" is expected");
+    parser->at++;
     length = take_length(parser);
-    take_end(parser);
     wanted = 2 * OCTETS(length);
-    if (count != wanted) {
-        parser->at = digits + Min(count, wanted);
-        expected(parser, count < wanted ? "More digits are expected" : "The length has no room for the digit");
-    }
+    parser->at = digits + Min(count, wanted);
+    expect(parser, count >= wanted, "More digits are expected");
+    expect(parser, count <= wanted, "The length has no room for the digit");
     set = new_set(length);
     hex_decode(digits, count, (char *)set.words);
-    stray = past_length(&set);
-    if (stray != BITS_NONE) {
-        parser->at = digits + stray / BITS_PER_BYTE * 2;
+    if (!IS_SET(&set)) {
+        /* There are no more digits than the length needs, so the last byte has the position. */
+        parser->at -= 2;
         fail(parser, ERRCODE_NUMERIC_VALUE_OUT_OF_RANGE, "A position is not below the length");
     }
     return set;
@@ -185,23 +151,19 @@ static bits take_hex(Parser *parser) {
 
 FUNCTION(bitset_in) {
     char *text = PG_GETARG_CSTRING(0);
-    Parser parser = {text, text};
-    bits set = strncmp(text, "x:", strlen("x:")) == 0 ? take_hex(&parser) : take_runs(&parser);
-    PG_RETURN_DATUM(stored_set(&set));
+    Parser parser = {text, text, strncmp(text, "x:", strlen("x:")) != 0};
+    bits set = parser.with_spaces ? take_runs(&parser) : take_hex(&parser);
+    return stored_set(&set);
 }
 
 static void append_number(StringInfo text, size_t number) {
-    enlargeStringInfo(text, MAXINT8LEN + 1);
-    text->len += pg_ulltoa_n(number, text->data + text->len);
-    text->data[text->len] = '\0';
+    char digits[MAXINT8LEN + 1];
+    appendBinaryStringInfo(text, digits, pg_ulltoa_n(number, digits));
 }
 
 static void append_runs(StringInfo text, const bits *set) {
-    size_t start, end;
-    bits_run_walk walk = BITS_RUNS;
-    bits_runs(&walk, set);
     appendStringInfoChar(text, '{');
-    while (bits_runs_next(&walk, &start, &end)) {
+    BITS_FOR_EACH_RUN(start, end, set) {
         CHECK_FOR_INTERRUPTS();
         if (text->len > 1)
             appendStringInfoChar(text, ',');
@@ -225,10 +187,7 @@ FUNCTION(bitset_out) {
     READ(set, 0);
     StringInfoData text;
     initStringInfo(&text);
-    if (output_form == OUTPUT_HEX)
-        append_hex(&text, set);
-    else
-        append_runs(&text, set);
+    (output_form == OUTPUT_HEX ? append_hex : append_runs)(&text, set);
     appendStringInfoChar(&text, '/');
     append_number(&text, set->length);
     PG_RETURN_CSTRING(text.data);
@@ -250,12 +209,11 @@ FUNCTION(bitset_recv) {
     int count = message->len - message->cursor;
     bits set;
     if (length < 0 || length > (int64)MAX_LENGTH || OCTETS(length) != (size_t)count)
-        ereport(ERROR, (errcode(ERRCODE_INVALID_BINARY_REPRESENTATION),
-                        errmsg("external bitset of length %lld has %d bytes", (long long)length, count)));
+        REFUSE(INVALID_BINARY_REPRESENTATION, "external bitset of length %lld has %d bytes", (long long)length, count);
     set = new_set(length);
-    memcpy(set.words, pq_getmsgbytes(message, count), count);
-    if (past_length(&set) != BITS_NONE)
-        ereport(ERROR, (errcode(ERRCODE_INVALID_BINARY_REPRESENTATION),
-                        errmsg("external bitset of length %lld has a position past its length", (long long)length)));
-    PG_RETURN_DATUM(stored_set(&set));
+    pq_copymsgbytes(message, (char *)set.words, count);
+    if (!IS_SET(&set))
+        REFUSE(INVALID_BINARY_REPRESENTATION, "external bitset of length %lld has a position past its length",
+               (long long)length);
+    return stored_set(&set);
 }

@@ -3,5 +3,6 @@ pub mod Given
 pub mod Passing
 pub mod Ranked
 pub mod Tables
+pub mod Turned
 pub mod Takes
 pub mod Words

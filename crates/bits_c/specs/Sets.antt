@@ -6,12 +6,17 @@ use Rattle.fixedbitset.specs.Bits.{Bits, of_words}
 use Rattle.bitrows.specs.Stored.{table_in}
 use Rattle.bitrows.specs.Tables.{Table}
 use Rattle.bits_c.specs.declared.structs.Ranks.{Ranks}
+use Rattle.bits_c.specs.declared.structs.Room.{Room}
 use Rattle.bits_c.specs.declared.structs.Rows.{Rows}
 use Rattle.bits_c.specs.declared.structs.Set.{Set}
 
 -- the value of the words and the length
 abbrev pub value : Set → Bits
 value set = of_words set.length set.words.now
+
+-- the value of the words and the length of room for a set
+abbrev pub written : Room → Bits
+written room = of_words room.length room.words.now
 
 -- the value of the set that is lent with its directory
 abbrev pub ranked : Ranks → Bits

@@ -1,6 +1,7 @@
 //! A set as bytes: position `p` is bit `p % 8` of byte `p / 8`.
 
-ghost use Rattle.std.specs.Prelude.{◌≡◌, ◌*◌, ◌==◌, if◌then◌else◌, length};
+ghost use Rattle.std.specs.Prelude.{◌≡◌, ◌*◌, ◌==◌, if◌then◌else◌, length, map};
+ghost use Rattle.std.specs.Int.{reverse_bits, w8};
 ghost use Rattle.bits_c.specs.Sets.{value};
 ghost use Rattle.fixedbitset.specs.Bits.{words_needed};
 ghost use Rattle.fixedbitset.specs.Json as json;
@@ -36,5 +37,16 @@ pub extern "C" fn bits_to_bytes(set: &Set<'_>, bytes: &mut [u8]) -> bool
         true
     } else {
         false
+    }
+}
+
+/// Reverses the bits of each byte. So bytes that have the first of eight positions in the uppermost bit become those that
+/// have it in the lowest, and the other way round.
+#[unsafe(no_mangle)]
+pub extern "C" fn bits_reverse_each_byte(bytes: &mut [u8])
+    ensures { bytes.new ≡ map (reverse_bits w8) bytes.old }
+{
+    for byte in bytes.iter_mut() {
+        *byte = byte.reverse_bits();
     }
 }

@@ -9,7 +9,7 @@
 //! `value`, a length and the positions below it.
 #![tactic(auto)]
 
-ghost use Rattle.std.specs.Prelude.{◌≡◌, ◌≢◌, ◌<◌, ◌≤◌, ◌-◌, ◌^◌, ◌&&◌, ◌==◌, nat_lt, nat_le, unwrap_or, if◌then◌else◌};
+ghost use Rattle.std.specs.Prelude.{◌≡◌, ◌≢◌, ◌↔◌, IsTrue, ◌<◌, ◌≤◌, ◌-◌, ◌^◌, ◌&&◌, ◌==◌, nat_lt, nat_le, unwrap_or, if◌then◌else◌};
 ghost use Rattle.std.specs.Prelude as prelude;
 ghost use Rattle.bitlanes.specs.Word.{ClearsBit, IsLowestBit};
 ghost use Rattle.bits_c.specs.Sets.{value};
@@ -18,6 +18,7 @@ ghost use Rattle.fixedbitset.specs.Bits.{of_words};
 ghost use Rattle.fixedbitset.specs.Stored.{IsClean};
 
 pub mod bytes;
+pub mod copies;
 pub mod handfuls;
 pub mod lists;
 pub mod neighbours;
@@ -74,6 +75,15 @@ pub extern "C" fn bits_settle(words: &mut [Block], length: usize, kept: usize) -
     } else {
         false
     }
+}
+
+/// Whether the words are those of a set of `length` positions as they stand: `bits_words(length)` words, and no bit past
+/// the length.
+#[unsafe(no_mangle)]
+pub extern "C" fn bits_is_clean(words: &[Block], length: usize) -> bool
+    ensures { IsTrue result ↔ IsClean length words.now }
+{
+    lent::is_clean(words, length)
 }
 
 /// Whether the position is set: `false` at or past the length.

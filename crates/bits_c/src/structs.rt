@@ -21,6 +21,14 @@ pub struct Set<'a> {
     pub ghost clean: { IsClean length words.now },
 }
 
+/// Room for a set: words that may hold anything, and the length in bits of the set to be.
+#[repr(C)]
+#[derive(Drop)]
+pub struct Room<'a> {
+    pub words: &'a mut [Block],
+    pub length: usize,
+}
+
 /// A walk over the positions that are set: the first and the last word of those left, without the bits that were given,
 /// the positions of their bits 0, and the words between them.
 #[repr(C)]

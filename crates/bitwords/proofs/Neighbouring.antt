@@ -1,6 +1,8 @@
 -- The position next to a given one, found in its own word or in the first word behind it that has one.
-use Rattle.std.proofs.Common.{◌≡◌, ℕ, ◌+◌, ◌-◌, ◌*◌, ◌/◌, ◌%◌, ◌^◌, ◌<◌, ◌≤◌, Bool, true, false, ◌&&◌, ◌==◌, nat_lt, nat_le, List, length, get_or, map, sym, ap, ◌∙◌, subst, arith, ⊎_elim}
+use Rattle.std.proofs.Common.{◌≡◌, ℕ, ◌+◌, ◌-◌, ◌*◌, ◌/◌, ◌%◌, ◌^◌, ◌<◌, ◌≤◌, Bool, true, false, ◌&&◌, ◌==◌, nat_lt, nat_le, List, length, get_or, map, Option, Some, None, refl, sym, ap, ◌∙◌, subst, arith, ⊎_elim}
+use Rattle.std.specs.Prelude.{◌↔◌, IsTrue, IfSome, IfNone}
 use Rattle.std.specs.Int.{bit_at}
+use Rattle.std.specs.Option.{is_none}
 use Rattle.std.proofs.lemmas.Bool.{cases_lt, lt-ltb, le-leb, and_from, and_parts, ltb-true, leb-true, true≢false}
 use Rattle.std.proofs.lemmas.Bool.Decides.{nat_tests}
 use Rattle.std.proofs.lemmas.List.{get_or-map, length-map}
@@ -10,8 +12,8 @@ use Rattle.bitlanes.specs.Ops.{IsWordOp}
 use Rattle.bitlanes.specs.Search.{IsNextOne, IsPreviousOne, AreZerosFrom, AreZerosBelow}
 use Rattle.bitlanes.specs.Word.{IsLowestBit, IsHighestBit}
 use Rattle.bitwords.specs.Neighbours.{IsNext, IsPrevious, NonePasses}
-use Rattle.bitwords.specs.Rows.{in_range, bit_test}
-use Rattle.bitwords.specs.RowFacts.{AreWords}
+use Rattle.bitwords.specs.Rows.{has_bit, in_range, bit_test}
+use Rattle.bitwords.specs.RowFacts.{AreWords, has_bit-past}
 use Rattle.bitwords.proofs.Counted.{word-bits}
 use Rattle.bitwords.proofs.Parts.{masked_whole}
 
@@ -154,3 +156,16 @@ module _ {f : ℕ → ℕ → ℕ} {t : Bool → Bool → Bool} {keep take_right
 
     pub none_upto : w ≡ 0 → NonePasses passes (64 * (last / 64)) (last + 1)
     none_upto zero = none_in_word (last / 64) mask (64 * (last / 64)) (last + 1) fits (omega arith) (omega arith) (masked_upto last mask bits) (sym is ∙ zero)
+
+-- there is no position from one on exactly if no next one is found up to the end of the words
+pub none_is_left : (ws : List ℕ) (start : ℕ) (next : Option ℕ) → IfSome next (IsNext (bit_test (λ y. y) ws) start (64 * length ws)) → IfNone next (NonePasses (bit_test (λ y. y) ws) start (64 * length ws))
+    → IsTrue (is_none next) ↔ ((p : ℕ) → start ≤ p → has_bit ws p ≡ false)
+unfolding bit_test
+none_is_left ws start None found none = (
+  λ _ p from. ⊎_elim (λ (lt : p < 64 * length ws). none p from lt) (λ (ge : 64 * length ws ≤ p). has_bit-past ws p ge) (cases_lt p (64 * length ws)),
+  λ _. refl,
+)
+none_is_left ws start (Some q) found none = (
+  λ told. absurd (true≢false (sym told)),
+  λ all. absurd (true≢false (sym found.passes ∙ all q found.after)),
+)

@@ -15,7 +15,7 @@ map_zip f (x ∷ xs) [] = refl
 map_zip f (x ∷ xs) (y ∷ ys) = ap (λ t. f x y ∷ t) (map_zip f xs ys)
 
 -- joined as far as both rows go, and then the rest
-with_rest : (f : ℕ → ℕ → ℕ) (xs ys : List ℕ) → zip2 f xs ys ++ drop (length ys) xs ≡ zip_longest f true false xs ys
+pub with_rest : (f : ℕ → ℕ → ℕ) (xs ys : List ℕ) → zip2 f xs ys ++ drop (length ys) xs ≡ zip_longest f true false xs ys
 with_rest f [] ys = drop-nil (length ys)
 with_rest f (x ∷ xs) [] = refl
 with_rest f (x ∷ xs) (y ∷ ys) = ap (λ t. f x y ∷ t) (with_rest f xs ys)

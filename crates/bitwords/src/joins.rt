@@ -14,7 +14,7 @@ ghost use Rattle.bitwords.specs.Ascending.{ascending};
 ghost use Rattle.bitwords.specs.Rows.{has_bit, IsJoined, count_below, bits_test};
 ghost use Rattle.bitwords.specs.Steps.{join_steps, both_steps};
 
-use bitlanes::ops::{AndNot, Or, WordOp};
+use bitlanes::ops::{AndNot, Or, Second, WordOp};
 use bitlanes::search::{first_joined, next_one};
 use bitlanes::word::{BITS, lowest_bit};
 use bitlanes::{Block, Steps, changes, lanes};
@@ -71,6 +71,34 @@ pub fn join_with_change<O: WordOp>(words: &mut [Block], other: &[Block], steps: 
         return joined || cleared;
     }
     joined
+}
+
+/// Writes each position of `words`, joined with that of `other` by `O`, over the words `to`, which are as many as `words`.
+///
+/// With `m` words that both have and `t` that only `words` has it takes exactly `m / 4` steps, rounded up, and `t / 4`,
+/// rounded up, more: each word is read once and written once.
+///
+/// ```
+/// let mut to = [7; 3];
+/// joins::join_to::<Xor>(&mut to, &[11, 3, 1], &[9, 6], &mut Steps::new());
+/// assert_eq!(rt; to, [2, 5, 1]);
+/// ```
+#[inline(always)]
+pub fn join_to<O: WordOp>(to: &mut [Block], words: &[Block], other: &[Block], steps: &mut Steps)
+    requires long { length to.old ≡ length words.now }
+    ensures bits { IsJoined O.truth words.now (has_bit other.now) to.new }
+    ensures cost { steps.new ≡ steps.old
+        + both_steps true false (length words.now) (length other.now) }
+{
+    changes::apply_joined::<Second, O>(to, words, other, steps);
+    let common = other.len();
+    if common < words.len() {
+        if O::KEEP {
+            lanes::apply::<Second>(&mut to[common..], &words[common..], steps);
+        } else {
+            lanes::zero(&mut to[common..], steps);
+        }
+    }
 }
 
 /// Takes in the positions of `gens` that `kills` lacks, and answers whether one came in. `gens` may not be longer than

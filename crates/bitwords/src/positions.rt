@@ -1,12 +1,12 @@
 //! Single positions of a row of words, the first and the last of them, and those from one position on.
-ghost use Rattle.std.specs.Prelude.{◌≡◌, ◌+◌, ◌-◌, ◌*◌, ◌/◌, ◌^◌, ◌<◌, ◌≤◌, ◌&&◌, nat_lt, length, slice_get, None, IfSome, IfNone, true, false};
+ghost use Rattle.std.specs.Prelude.{◌≡◌, ◌↔◌, ℕ, ◌+◌, ◌-◌, ◌*◌, ◌/◌, ◌^◌, ◌<◌, ◌≤◌, ◌&&◌, nat_lt, length, slice_get, None, IfSome, IfNone, IsTrue, true, false};
 ghost use Rattle.std.specs.List.{last_or};
 ghost use Rattle.bitlanes.specs.Words.{lane_steps};
 ghost use Rattle.bitwords.specs.Ascending.{ascending};
 ghost use Rattle.bitwords.specs.Neighbours.{IsNext, IsPrevious, NonePasses};
 ghost use Rattle.bitwords.specs.Rows.{has_bit, bit_test, IsJoined};
 
-use bitlanes::ops::WordOp;
+use bitlanes::ops::{And, WordOp};
 use bitlanes::search::{first_one, last_one, next_one, previous_one};
 use bitlanes::word::{BITS, Block, highest_bit, lowest_bit, ones_below, stretch};
 use bitlanes::{Steps, lanes};
@@ -139,6 +139,24 @@ pub fn previous<O: WordOp>(words: &[Block], below: usize, steps: &mut Steps) -> 
     }
     let at = previous_one::<O>(Block::MAX, words, at, steps)?;
     Some(BITS * at + highest_bit(O::word(Block::MAX, words[at])))
+}
+
+/// Whether no position of the row from `start` on is set.
+///
+/// It looks at the word of `start`, and at four words at a time behind it up to the first that has a position. The number of
+/// positions of the row, 64 for each word, may be at most 2 ^ 64.
+///
+/// ```
+/// assert!(rt; positions::none_from(&[9, 2, 0], 66));
+/// assert!(rt; !positions::none_from(&[9, 2, 0], 65));
+/// assert!(rt; positions::none_from(&[Block::MAX], 64));
+/// ```
+#[inline]
+pub fn none_from(words: &[Block], start: usize) -> bool
+    requires fits { 64 * length words.now ≤ 2 ^ 64 }
+    ensures { IsTrue result ↔ ((p : ℕ) → start ≤ p → has_bit words.now p ≡ false) }
+{
+    start / BITS >= words.len() || next_in_row::<And>(words, start, &mut Steps::new()).is_none()
 }
 
 /// Clears each position of the row from `start` on. It writes the word of `start` and those behind it.

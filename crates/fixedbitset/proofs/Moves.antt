@@ -76,6 +76,11 @@ module _ (n : ℕ) (ws : List ℕ) (clean : IsClean n ws) where
   unfolding slice
   having_slice start end = λ i. having (end - start) (λ p. same (start + p) i)
 
+  -- copied to another length
+  pub having_copy : (m : ℕ) → having m (has_bit ws) ≡ resize (of_words n ws) m false
+  unfolding resize
+  having_copy m = having-same m (has_bit ws) (λ p. contains (of_words n ws) p || false) (λ p _. same p ∙ sym (or_nothing (contains (of_words n ws) p)))
+
   -- moved down, no position stands past the length
   module _ (by : ℕ) (new : List ℕ) (moved : IsJoined (λ x y. y) ws (λ p. has_bit ws (by + p)) new) where
     bits_down : (p : ℕ) → has_bit new p ≡ has_bit ws (by + p)

@@ -6,7 +6,11 @@
 //! same names take, and what a call looks at is the same too. No call takes memory. The calls of `FixedBitSet`
 //! that take none hand its words over to these, and the static library `bits_c` lends those of a caller in C or in Rust.
 
+<<<<<<< HEAD
 ghost use Rattle.std.specs.Prelude.{◌≡◌, ◌<◌, ◌≤◌, ◌+◌, ◌-◌, ◌*◌, ◌/◌, min, IfSome, IfNone};
+=======
+ghost use Rattle.std.specs.Prelude.{◌≡◌, ◌↔◌, IsTrue, ◌<◌, ◌≤◌, ◌+◌, ◌-◌, ◌*◌, min};
+>>>>>>> pg
 ghost use Rattle.std.specs.Prelude as prelude;
 ghost use Rattle.bitlanes.specs.Words.{lane_steps};
 ghost use Rattle.fixedbitset.specs.Bits as model;
@@ -15,6 +19,7 @@ ghost use Rattle.fixedbitset.specs.Stored.{IsClean};
 
 pub(crate) mod bytes;
 pub(crate) mod changes;
+mod copies;
 pub(crate) mod gaps;
 pub(crate) mod neighbours;
 pub(crate) mod ranges;
@@ -22,6 +27,7 @@ pub(crate) mod shifts;
 mod walks;
 pub(crate) mod whole;
 
+use crate::set::storage_words;
 use bitlanes::word::{BITS, Block, ones_below};
 use bitlanes::{Steps, lanes};
 use bitwords::positions;
@@ -29,6 +35,7 @@ pub use bytes::{from_bytes, to_bytes};
 pub use changes::{
     difference_with_change, intersect_with_change, union_with_change, union_with_difference,
 };
+pub use copies::{copy, difference_of, intersection_of, symmetric_difference_of, union_of};
 pub use gaps::first_gap;
 pub use neighbours::{next_one, next_zero, previous_one, previous_zero};
 pub use ranges::{
@@ -64,6 +71,23 @@ pub fn settle(words: &mut [Block], length: usize, kept: usize)
     ensures clean { IsClean length words.new }
 {
     positions::clear_from(words, kept);
+}
+
+/// Whether the words are those of a set of `length` positions as they stand: as many whole lanes as the length needs, and
+/// no bit past it. So words from elsewhere can be refused, where `settle` would clear what does not fit.
+///
+/// It looks at the word of the length and at those behind it, which are at most one lane.
+///
+/// ```
+/// assert!(rt; lent::is_clean(&[8, 63, 0, 0], 70));
+/// assert!(rt; !lent::is_clean(&[8, 64, 0, 0], 70));
+/// assert!(rt; !lent::is_clean(&[8, 63], 70));
+/// ```
+#[inline]
+pub fn is_clean(words: &[Block], length: usize) -> bool
+    ensures { IsTrue result ↔ IsClean length words.now }
+{
+    words.len() == storage_words(length) && positions::none_from(words, length)
 }
 
 /// Whether the position is set: `false` at or past the length.

@@ -11,6 +11,13 @@ fn settle(rt: HostRuntime) {
 }
 
 #[test]
+fn is_clean(rt: HostRuntime) {
+    holds(&rt, lent::is_clean(&[8, 63, 0, 0], 70));
+    holds(&rt, !lent::is_clean(&[8, 64, 0, 0], 70));
+    holds(&rt, !lent::is_clean(&[8, 63], 70));
+}
+
+#[test]
 fn contains(rt: HostRuntime) {
     let mut words = [8, 1, 0, 0];
     lent::settle(&mut words, 70, 70);

@@ -31,6 +31,8 @@ mod lent_bytes;
 #[cfg(test)]
 mod lent_changes;
 #[cfg(test)]
+mod lent_copies;
+#[cfg(test)]
 mod lent_gaps;
 #[cfg(test)]
 mod lent_neighbours;

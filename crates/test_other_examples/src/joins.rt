@@ -23,6 +23,13 @@ fn join_with_change(rt: HostRuntime) {
 }
 
 #[test]
+fn join_to(rt: HostRuntime) {
+    let mut to = [7; 3];
+    joins::join_to::<Xor>(&mut to, &[11, 3, 1], &[9, 6], &mut Steps::new());
+    equal(&rt, to, [2, 5, 1]);
+}
+
+#[test]
 fn union_with_difference(rt: HostRuntime) {
     let mut words = [1, 0, 8];
     let mut steps = Steps::new();

@@ -77,6 +77,13 @@ fn previous(rt: HostRuntime) {
 }
 
 #[test]
+fn none_from(rt: HostRuntime) {
+    holds(&rt, positions::none_from(&[9, 2, 0], 66));
+    holds(&rt, !positions::none_from(&[9, 2, 0], 65));
+    holds(&rt, positions::none_from(&[Block::MAX], 64));
+}
+
+#[test]
 fn clear_from(rt: HostRuntime) {
     let mut words = [Block::MAX; 3];
     positions::clear_from(&mut words, 67);

@@ -1,0 +1,116 @@
+//! Sets written over words that may hold anything: a copy, and two sets joined, of any two lengths. Each word is written
+//! once. The words that are written may not be those of the other sets.
+
+ghost use Rattle.std.specs.Prelude.{◌≡◌, ◌==◌, ◌&&◌, max, min, true, false, length};
+ghost use Rattle.bits_c.specs.Sets.{value, written};
+ghost use Rattle.fixedbitset.specs.Bits.{storage_words};
+ghost use Rattle.fixedbitset.specs.Parts as parts;
+ghost use Rattle.fixedbitset.specs.Stored.{IsClean};
+ghost use Rattle.fixedbitset.specs.TwoSets as sets;
+
+use crate::bits_words;
+use crate::structs::{Room, Set};
+use fixedbitset::lent;
+
+/// Makes the words those of the set's positions that are below the length of the room, and answers whether it did: where
+/// there are `bits_words` of this length. Else nothing is changed.
+#[unsafe(no_mangle)]
+pub extern "C" fn bits_copy(to: &mut Room<'_>, set: &Set<'_>) -> bool
+    ensures told { result ≡ (length to.old.words.now == storage_words to.old.length) }
+    ensures clean { result ≡ true → IsClean to.new.length to.new.words.now }
+    ensures value { result ≡ true
+        → written to.new ≡ parts.resize (value set.now) to.old.length false }
+    ensures stays { result ≡ false → to.new.words.now ≡ to.old.words.now }
+    ensures length { to.new.length ≡ to.old.length }
+{
+    if to.words.len() == bits_words(to.length) {
+        lent::copy(to.words, to.length, set.words, set.length);
+        true
+    } else {
+        false
+    }
+}
+
+/// Makes the words those of the positions of either set, and answers whether it did: where the room has the greater of their
+/// lengths, and `bits_words` of it. Else nothing is changed.
+#[unsafe(no_mangle)]
+pub extern "C" fn bits_union_of(to: &mut Room<'_>, set: &Set<'_>, other: &Set<'_>) -> bool
+    ensures told { result ≡ (length to.old.words.now == storage_words to.old.length
+        && to.old.length == max set.now.length other.now.length) }
+    ensures clean { result ≡ true → IsClean to.new.length to.new.words.now }
+    ensures value { result ≡ true
+        → written to.new ≡ sets.union (value set.now) (value other.now) }
+    ensures stays { result ≡ false → to.new.words.now ≡ to.old.words.now }
+    ensures length { to.new.length ≡ to.old.length }
+{
+    if to.words.len() == bits_words(to.length) && to.length == set.length.max(other.length) {
+        lent::union_of(to.words, set.words, set.length, other.words, other.length);
+        true
+    } else {
+        false
+    }
+}
+
+/// Makes the words those of the positions of exactly one set, and answers whether it did: where the room has the greater of
+/// their lengths, and `bits_words` of it. Else nothing is changed.
+#[unsafe(no_mangle)]
+pub extern "C" fn bits_symmetric_difference_of(
+    to: &mut Room<'_>,
+    set: &Set<'_>,
+    other: &Set<'_>,
+) -> bool
+    ensures told { result ≡ (length to.old.words.now == storage_words to.old.length
+        && to.old.length == max set.now.length other.now.length) }
+    ensures clean { result ≡ true → IsClean to.new.length to.new.words.now }
+    ensures value { result ≡ true
+        → written to.new ≡ sets.symmetric_difference (value set.now) (value other.now) }
+    ensures stays { result ≡ false → to.new.words.now ≡ to.old.words.now }
+    ensures length { to.new.length ≡ to.old.length }
+{
+    if to.words.len() == bits_words(to.length) && to.length == set.length.max(other.length) {
+        lent::symmetric_difference_of(to.words, set.words, set.length, other.words, other.length);
+        true
+    } else {
+        false
+    }
+}
+
+/// Makes the words those of the positions of both sets, and answers whether it did: where the room has the smaller of their
+/// lengths, and `bits_words` of it. Else nothing is changed.
+#[unsafe(no_mangle)]
+pub extern "C" fn bits_intersection_of(to: &mut Room<'_>, set: &Set<'_>, other: &Set<'_>) -> bool
+    ensures told { result ≡ (length to.old.words.now == storage_words to.old.length
+        && to.old.length == min set.now.length other.now.length) }
+    ensures clean { result ≡ true → IsClean to.new.length to.new.words.now }
+    ensures value { result ≡ true
+        → written to.new ≡ sets.bitand (value set.now) (value other.now) }
+    ensures stays { result ≡ false → to.new.words.now ≡ to.old.words.now }
+    ensures length { to.new.length ≡ to.old.length }
+{
+    if to.words.len() == bits_words(to.length) && to.length == set.length.min(other.length) {
+        lent::intersection_of(to.words, set.words, set.length, other.words, other.length);
+        true
+    } else {
+        false
+    }
+}
+
+/// Makes the words those of the positions of the first set that the second lacks, and answers whether it did: where the room
+/// has the length of the first, and `bits_words` of it. Else nothing is changed.
+#[unsafe(no_mangle)]
+pub extern "C" fn bits_difference_of(to: &mut Room<'_>, set: &Set<'_>, other: &Set<'_>) -> bool
+    ensures told { result ≡ (length to.old.words.now == storage_words to.old.length
+        && to.old.length == set.now.length) }
+    ensures clean { result ≡ true → IsClean to.new.length to.new.words.now }
+    ensures value { result ≡ true
+        → written to.new ≡ sets.difference (value set.now) (value other.now) }
+    ensures stays { result ≡ false → to.new.words.now ≡ to.old.words.now }
+    ensures length { to.new.length ≡ to.old.length }
+{
+    if to.words.len() == bits_words(to.length) && to.length == set.length {
+        lent::difference_of(to.words, set.words, set.length, other.words, other.length);
+        true
+    } else {
+        false
+    }
+}
