@@ -101,9 +101,41 @@ fn print_table(rows: &[(&str, Times)]) {
     println!();
 }
 
-/// Prints the times alone, or with files of such times the table of the least of all.
+/// How many rounds of each row are counted.
+const COUNTED: usize = 64;
+
+/// Does nothing. `count` has the instructions before each call of it and behind it counted by themselves.
+#[unsafe(no_mangle)]
+#[inline(never)]
+extern "C" fn count_apart() {
+    std::hint::black_box(());
+}
+
+/// Runs the rows of both sides at the two lower lengths, and prints for each how many items are counted.
+fn run_counted() {
+    for bits in &LENGTHS[..2] {
+        for (one, other) in ours::rows::rows(*bits)
+            .into_iter()
+            .zip(theirs::rows::rows(*bits))
+        {
+            println!("{}|{bits}|{}", one.name, COUNTED * one.items.max(1));
+            for mut row in [one, other] {
+                (row.run)(COUNTED);
+                count_apart();
+                (row.run)(COUNTED);
+                count_apart();
+            }
+        }
+    }
+}
+
+/// Prints the times alone, or with files of such times the table of the least of all. With `count` it prints what
+/// `count` reads.
 fn main() {
     let files: Vec<String> = std::env::args().skip(1).collect();
+    if files == ["count"] {
+        return run_counted();
+    }
     let mut rows = timed();
     if files.is_empty() {
         for (_, times) in &rows {
