@@ -3,6 +3,7 @@
 mod ours;
 mod theirs;
 
+use std::array;
 use std::time::{Duration, Instant};
 
 /// How often each side is timed, and for how long at least.
@@ -40,33 +41,114 @@ impl Row {
     }
 }
 
-/// The least times of an item on both sides, in ns.
-fn least(one: &mut Row, other: &mut Row) -> [f64; 2] {
-    let rounds = one.rounds().max(other.rounds());
+/// The least times of an item on both sides, in ns. Each side makes as many rounds as it needs by itself.
+fn least(mut sides: [Row; 2]) -> [f64; 2] {
+    let rounds = sides.each_mut().map(Row::rounds);
     let mut least = [Duration::MAX; 2];
     for _ in 0..TURNS {
-        for (row, least) in [&mut *one, other].into_iter().zip(&mut least) {
+        for ((row, rounds), least) in sides.iter_mut().zip(rounds).zip(&mut least) {
             *least = row.time(rounds).min(*least);
         }
     }
-    least.map(|time| time.as_nanos() as f64 / (rounds * one.items.max(1)) as f64)
+    array::from_fn(|side| {
+        let items = rounds[side] * sides[side].items.max(1);
+        least[side].as_nanos() as f64 / items as f64
+    })
 }
 
-fn main() {
+/// The least times on both sides at each length, in ns.
+type Times = [[f64; 2]; LENGTHS.len()];
+
+/// Times each row.
+fn timed() -> Vec<(&'static str, Times)> {
+    let sides = LENGTHS.map(|bits| (ours::rows::rows(bits), theirs::rows::rows(bits)));
+    let mut columns = sides.map(|(ours, theirs)| ours.into_iter().zip(theirs));
+    let mut rows = Vec::new();
+    while let [Some(first), Some(second), Some(third)] = columns.each_mut().map(Iterator::next) {
+        let times = |(one, other): (Row, Row)| {
+            assert_eq!(one.items, other.items);
+            least([one, other])
+        };
+        rows.push((first.0.name, [first, second, third].map(times)));
+    }
+    rows
+}
+
+/// Keeps the less of each time and the one that stands in the line.
+fn take_less(times: &mut Times, line: &str) {
+    let earlier = line
+        .split_whitespace()
+        .map(|it| it.parse().expect("a time"));
+    times
+        .as_flattened_mut()
+        .iter_mut()
+        .zip(earlier)
+        .for_each(|(time, it)| *time = time.min(it));
+}
+
+fn print_table(rows: &[(&str, Times)]) {
     print!("| Call |");
     LENGTHS
         .iter()
         .for_each(|bits| print!(" {bits} bits: ours, upstream | ratio |"));
     print!("\n|---|{}", "---|---|".repeat(LENGTHS.len()));
-    let sides = LENGTHS.map(|bits| (ours::rows::rows(bits), theirs::rows::rows(bits)));
-    let mut columns = sides.map(|(ours, theirs)| ours.into_iter().zip(theirs));
-    while let [Some(first), Some(second), Some(third)] = columns.each_mut().map(Iterator::next) {
-        print!("\n| {} |", first.0.name);
-        for (mut one, mut other) in [first, second, third] {
-            assert_eq!(one.items, other.items);
-            let [ours, theirs] = least(&mut one, &mut other);
+    for (name, times) in rows {
+        print!("\n| {name} |");
+        for [ours, theirs] in times {
             print!(" {ours:.2}, {theirs:.2} | {:.2} |", ours / theirs);
         }
     }
     println!();
+}
+
+/// How many rounds of each row are counted.
+const COUNTED: usize = 64;
+
+/// Does nothing. `count` has the instructions before each call of it and behind it counted by themselves.
+#[unsafe(no_mangle)]
+#[inline(never)]
+extern "C" fn count_apart() {
+    std::hint::black_box(());
+}
+
+/// Runs the rows of both sides at the two lower lengths, and prints for each how many items are counted.
+fn run_counted() {
+    for bits in &LENGTHS[..2] {
+        for (one, other) in ours::rows::rows(*bits)
+            .into_iter()
+            .zip(theirs::rows::rows(*bits))
+        {
+            println!("{}|{bits}|{}", one.name, COUNTED * one.items.max(1));
+            for mut row in [one, other] {
+                (row.run)(COUNTED);
+                count_apart();
+                (row.run)(COUNTED);
+                count_apart();
+            }
+        }
+    }
+}
+
+/// Prints the times alone, or with files of such times the table of the least of all. With `count` it prints what
+/// `count` reads.
+fn main() {
+    let files: Vec<String> = std::env::args().skip(1).collect();
+    if files == ["count"] {
+        return run_counted();
+    }
+    let mut rows = timed();
+    if files.is_empty() {
+        for (_, times) in &rows {
+            let line: Vec<_> = times.as_flattened().iter().map(f64::to_string).collect();
+            println!("{}", line.join(" "));
+        }
+        return;
+    }
+    for file in files {
+        let text = std::fs::read_to_string(file).expect("the times of another program");
+        for ((_, times), line) in rows.iter_mut().zip(text.lines()) {
+            take_less(times, line);
+        }
+    }
+    print_table(&rows);
 }

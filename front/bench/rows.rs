@@ -240,6 +240,12 @@ fn whole(bits: usize) -> Vec<Row> {
             set.hash(&mut hasher);
             hasher.finish()
         }),
+        ask(
+            "to_string and drop",
+            one_of(bits, 2),
+            Set::new(),
+            |set, _| set.to_string(),
+        ),
         ask("==", lower(bits), lower(bits), |set, other| set == other),
         ask("cmp", lower(bits), lower(bits), |set, other| set.cmp(other)),
     ]
@@ -316,6 +322,21 @@ fn walks(bits: usize) -> Vec<Row> {
         two("union, an item", |set, other| sum_of(set.union(other))),
         two("symmetric_difference, an item", |set, other| {
             sum_of(set.symmetric_difference(other))
+        }),
+        two("intersection from the back", |set, other| {
+            sum_of(set.intersection(other).rev())
+        }),
+        two("difference from the back", |set, other| {
+            sum_of(set.difference(other).rev())
+        }),
+        two("union from the back", |set, other| {
+            sum_of(set.union(other).rev())
+        }),
+        two("symmetric_difference from the back", |set, other| {
+            sum_of(set.symmetric_difference(other).rev())
+        }),
+        one("into_ones of a copy, 10 %", 10, |set| {
+            sum_of(set.clone().into_ones())
         }),
     ]
 }

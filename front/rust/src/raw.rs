@@ -87,21 +87,14 @@ pub struct Ranks<'a> {
     lent: PhantomData<&'a [usize]>,
 }
 
-// SAFETY: a walk reads words that are lent to it, as a slice does, and changes itself alone.
+// SAFETY: walks and ranks read words that are lent to them, ranks a directory too, as slices do, and change themselves alone.
 unsafe impl Send for Walk<'_> {}
-// SAFETY: as above.
 unsafe impl Sync for Walk<'_> {}
-// SAFETY: as above.
 unsafe impl Send for Runs<'_> {}
-// SAFETY: as above.
 unsafe impl Sync for Runs<'_> {}
-// SAFETY: as above.
 unsafe impl Send for Sieve<'_> {}
-// SAFETY: as above.
 unsafe impl Sync for Sieve<'_> {}
-// SAFETY: ranks read words and a directory that are lent to them, as slices do.
 unsafe impl Send for Ranks<'_> {}
-// SAFETY: as above.
 unsafe impl Sync for Ranks<'_> {}
 
 // SAFETY: names and types are those of crates/bits_c, which front/declarations.py compares. Each call that is `safe` is so
@@ -318,8 +311,9 @@ impl Words {
     /// With no position: zeros have no bit past any length. (`vec![..]` takes longer for short sets.)
     #[inline]
     pub fn with_length(length: usize) -> Self {
-        let mut lanes = Vec::with_capacity(lanes_of(length));
-        lanes.resize(lanes_of(length), Lane([0; LANE]));
+        let count = lanes_of(length);
+        let mut lanes = Vec::with_capacity(count);
+        lanes.resize(count, Lane([0; LANE]));
         Words { lanes, length }
     }
 
@@ -379,12 +373,21 @@ impl Words {
     }
 
     /// Makes the length greater by zeros, and leaves the positions.
-    #[cold]
-    #[inline(never)]
+    #[inline]
     pub fn lengthen(&mut self, length: usize) {
         assert!(length >= self.length);
-        self.lanes.resize(lanes_of(length), Lane([0; LANE]));
+        let count = lanes_of(length);
+        if count > self.lanes.len() {
+            self.add_lanes(count);
+        }
         self.length = length;
+    }
+
+    /// Adds lanes of zeros, so that there are so many.
+    #[cold]
+    #[inline(never)]
+    fn add_lanes(&mut self, count: usize) {
+        self.lanes.resize(count, Lane([0; LANE]));
     }
 
     /// Makes the length less, and drops the positions past it. The memory stays.
@@ -688,22 +691,20 @@ impl Handful {
     #[inline(always)]
     pub fn next<W: Clone>(&mut self, left: &mut W, next: Next<W>, take: Take<W>) -> Option<usize> {
         let (mut walk, room) = (left.clone(), self.room);
-        if room == 0 {
-            return None;
-        }
-        self.room = HANDFUL.min(16 * room);
         if HANDFUL == 1 || room == 1 {
+            self.room = HANDFUL.min(16);
             let first = given(|position| next(&mut walk, position));
             *left = walk;
             return first;
+        }
+        if room == 0 {
+            return None;
         }
         let mut end = 0;
         self.places = taken(&mut walk, take, room, &mut end);
         *left = walk;
         (self.next, self.end) = (0, end);
-        if end < room {
-            self.room = 0;
-        }
+        self.room = if end < room { 0 } else { HANDFUL };
         self.take_first()
     }
 
@@ -713,10 +714,10 @@ impl Handful {
         self.end - self.next
     }
 
-    /// The first position.
+    /// The first position. Where the calls become part of the program, each gives one, and none is left here.
     #[inline(always)]
     pub fn take_first(&mut self) -> Option<usize> {
-        if self.next == self.end {
+        if HANDFUL == 1 || self.next == self.end {
             return None;
         }
         // SAFETY: a call wrote the places below `end`.
@@ -728,7 +729,7 @@ impl Handful {
     /// The last position.
     #[inline(always)]
     pub fn take_last(&mut self) -> Option<usize> {
-        if self.next == self.end {
+        if HANDFUL == 1 || self.next == self.end {
             return None;
         }
         self.end -= 1;
