@@ -3,12 +3,12 @@
 #![tactic(auto)]
 
 #[cfg(test)]
-mod flow;
-#[cfg(test)]
 mod pairs;
 #[cfg(test)]
 mod ranks;
 #[cfg(test)]
 mod rows;
+#[cfg(test)]
+mod solver;
 #[cfg(test)]
 mod walks;

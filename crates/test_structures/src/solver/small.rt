@@ -1,6 +1,6 @@
 //! Small problems by chance, beside a solver that tries all solutions.
 
-use crate::flow::slow::{FACTS, NODES, Sets, Small, least};
+use crate::solver::slow::{FACTS, NODES, Sets, Small, least};
 use fixedbitset::{FixedBitSet, Steps};
 use flow::{is_problem, solve};
 use std::alloc::{AllocError, Global};
