@@ -6,11 +6,7 @@
 //! same names take, and what a call looks at is the same too. No call takes memory. The calls of `FixedBitSet`
 //! that take none hand its words over to these, and the static library `bits_c` lends those of a caller in C or in Rust.
 
-<<<<<<< HEAD
-ghost use Rattle.std.specs.Prelude.{◌≡◌, ◌<◌, ◌≤◌, ◌+◌, ◌-◌, ◌*◌, ◌/◌, min, IfSome, IfNone};
-=======
-ghost use Rattle.std.specs.Prelude.{◌≡◌, ◌↔◌, IsTrue, ◌<◌, ◌≤◌, ◌+◌, ◌-◌, ◌*◌, min};
->>>>>>> pg
+ghost use Rattle.std.specs.Prelude.{◌≡◌, ◌↔◌, IsTrue, ◌<◌, ◌≤◌, ◌+◌, ◌-◌, ◌*◌, ◌/◌, min, IfSome, IfNone};
 ghost use Rattle.std.specs.Prelude as prelude;
 ghost use Rattle.bitlanes.specs.Words.{lane_steps};
 ghost use Rattle.fixedbitset.specs.Bits as model;
