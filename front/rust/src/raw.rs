@@ -313,7 +313,7 @@ impl Words {
     pub fn with_length(length: usize) -> Self {
         let count = lanes_of(length);
         let mut lanes = Vec::with_capacity(count);
-        lanes.resize(count, Lane([0; LANE]));
+        lanes.resize_with(count, || Lane([0; LANE]));
         Words { lanes, length }
     }
 
