@@ -52,9 +52,9 @@ next d k below not g low a =
     ⊎_elim
     (λ (lt : place g < k). below g lt a)
     (λ (ge : k ≤ place g).
-      let e : place g ≡ k = omega (arith, low, ge) in
-      let is : g ≡ fault_at k = sym (at_place d g a) ∙ ap fault_at e in
-      not (subst (Applies d) is a))
+    let e : place g ≡ k = omega (arith, low, ge) in
+    let is : g ≡ fault_at k = sym (at_place d g a) ∙ ap fault_at e in
+    not (subst (Applies d) is a))
     (cases_lt (place g) k)
 
 -- past the fault of the data come those of the items
@@ -104,9 +104,9 @@ module _ (d l x : Data) (has : HasParts d l x) where
   is_no_other_list a =
       ⊎_elim
       (λ (list : d ≡ array (item l (item x no_items))).
-        let e : array (item l (item x no_items)) ≡ array a.0 = sym list ∙ a.1 in
-        let same : item l (item x no_items) ≡ a.0 = cc in
-        a.2 (ap items_len (sym same)))
+      let e : array (item l (item x no_items)) ≡ array a.0 = sym list ∙ a.1 in
+      let same : item l (item x no_items) ≡ a.0 = cc in
+      a.2 (ap items_len (sym same)))
       (λ o. let e : object o.0 ≡ array a.0 = sym o.1 ∙ a.1 in absurd cc)
       has
 
@@ -117,9 +117,9 @@ module _ (d l x : Data) (has : HasParts d l x) where
       ⊎_elim
       (λ (list : d ≡ array (item l (item x no_items))). let e : array (item l (item x no_items)) ≡ object ms = sym list ∙ is in absurd cc)
       (λ o.
-        let e : object o.0 ≡ object ms = sym o.1 ∙ is in
-        let same : o.0 ≡ ms = cc in
-        subst P same (holds o.0 o.2 o.3 o.4))
+      let e : object o.0 ≡ object ms = sym o.1 ∙ is in
+      let same : o.0 ≡ ms = cc in
+      subst P same (holds o.0 o.2 o.3 o.4))
       has
 
   -- where a value has two parts, no fault before those of the parts applies
@@ -228,12 +228,15 @@ module _ (d : Data) where
   of_items n ds (Ok bs) has read = (rw (sym read.0) has, read.1)
   of_items n ds (Err f) has read =
       let is : f ≡ fault.Item read.0 = read.1 ∙ ap fault.Item (omega arith) in
-      rw is ((number (unsigned n), ds, has, read.2), λ g low.
-        let less : place g < 7 + read.0 = low in
-        ⊎_elim
-        (λ (early : place g < 7). all_but_items n ds has g early)
-        (λ (late : 7 ≤ place g). no_item n ds has g late (read.3 (place g - 7) (omega (arith, less, late))))
-        (cases_lt (place g) 7))
+      rw is (
+        (number (unsigned n), ds, has, read.2),
+        λ g low.
+            let less : place g < 7 + read.0 = low in
+            ⊎_elim
+            (λ (early : place g < 7). all_but_items n ds has g early)
+            (λ (late : 7 ≤ place g). no_item n ds has g late (read.3 (place g - 7) (omega (arith, less, late))))
+            (cases_lt (place g) 7),
+      )
 
   of_bytes : (n : ℕ) (x : Data) → HasParts d (number (unsigned n)) x → Tells d (bytes x >>= λ bs. Ok (n, bs))
   unfolding bytes
