@@ -32,6 +32,11 @@ class Crate:
         """Each line of the sources: its file, its number from 0, and the line."""
         return [(file, number, line) for file, text in self.sources.items() for number, line in enumerate(text.split("\n"))]
 
+    @functools.cached_property
+    def functions(self):
+        files = ((file, text.split("\n")) for file, text in self.sources.items() if file.endswith(".rt"))
+        return [it for file, lines in files for it in functions_of(file, lines)]
+
     def proof_of(self, function):
         """The files of the folder of proofs/ that is the function's."""
         place = f"/{function.symbol.replace('::', '/')}/"
@@ -146,7 +151,7 @@ def definition_at(lines, at):
 def resting_on(crate, text, old):
     """The functions whose lines name the definition in specs/ that has the old text, or one that names it; whether one
     function alone rests on it: then no other file names these but specs/ and its own proof; and the symbols of all functions
-    and the files of lemmas that rest on it, also by a file of lemmas. What only brings a name is no use of it."""
+    and the files of lemmas that rest on it, also by a file of lemmas or by a call. What only brings a name is no use of it."""
     names, found, looked = {definition_at(text.split("\n"), text[: text.index(old)].count("\n"))}, [], set()
     while (left := names - looked) and None not in names:
         looked |= names
@@ -167,6 +172,10 @@ def resting_on(crate, text, old):
         cites = re.compile(rf"\bproofs\b.*\b(?:{'|'.join(pathlib.Path(it).stem for it in left)})\b")
         users = (user_at(crate, file, number) for file, number, line in crate.lines if cites.search(line) and file[:5] != "specs")
         reach |= {getattr(it, "symbol", it) for it in users}
+    while left := {it.rpartition("::")[2] for it in reach if not it.endswith(".antt")} - looked:
+        looked |= left
+        calls = re.compile(rf"\b(?:{'|'.join(left)})\b")
+        reach |= {it.symbol for it in crate.functions if calls.search(it.text)}
     return [*functions.values()], is_own, reach
 
 
@@ -179,14 +188,17 @@ def user_at(crate, file, number):
 
 
 def taken_together(edits, most):
-    """Edits for one round, at most so many: those of specs/ that more than a function rests on come last, and by themselves."""
-    now, texts, taken = [], {}, set()
-    for it in sorted(edits, key=lambda it: (it.is_lone, it.wrong_body is not None)):
-        is_alike = not now or it.is_lone == now[0].is_lone and None not in (it.reach, now[0].reach) and len(now) < most
-        if is_alike and it.wrong_body is not None:
-            now.append(it)
-        elif is_alike and not (it.reach or set()) & taken and (made := it.applied(texts)) is not None:
+    """Edits for one round, at most so many. Nothing rests on what two of them change, and no wrong body that stands beside its
+    function rests on a definition that one changes. An edit on which nobody knows what rests is by itself."""
+    now, texts, taken, shaken = [], {}, set(), set()
+    for it in sorted(edits, key=lambda it: (it.reach is None, it.wrong_body is not None)):
+        if now and (None in (it.reach, now[0].reach) or len(now) == most):
+            continue
+        if it.wrong_body is not None:
+            now += [it] * (not it.reach & shaken)
+        elif not (it.reach or set()) & taken and (made := it.applied(texts)) is not None:
             now, texts, taken = [*now, it], made, taken | (it.reach or set())
+            shaken |= taken if any(path.startswith("specs/") for path, _, _ in it.pairs) else set()
     return now
 
 
