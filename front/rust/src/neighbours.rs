@@ -12,7 +12,7 @@ impl FixedBitSet {
     /// ```
     #[inline]
     pub fn next_one(&self, from: usize) -> Option<usize> {
-        raw::position(raw::bits_next_one(&self.words.lent(), from))
+        crate::position(raw::bits_next_one(&self.words.lent(), from))
     }
 
     /// The least position at or past `from` and below the length that is not set, if there is one.
@@ -24,7 +24,7 @@ impl FixedBitSet {
     /// ```
     #[inline]
     pub fn next_zero(&self, from: usize) -> Option<usize> {
-        raw::position(raw::bits_next_zero(&self.words.lent(), from))
+        crate::position(raw::bits_next_zero(&self.words.lent(), from))
     }
 
     /// The greatest position below `below` that is set, if there is one. Any number may be given.
@@ -36,7 +36,7 @@ impl FixedBitSet {
     /// ```
     #[inline]
     pub fn previous_one(&self, below: usize) -> Option<usize> {
-        raw::position(raw::bits_previous_one(&self.words.lent(), below))
+        crate::position(raw::bits_previous_one(&self.words.lent(), below))
     }
 
     /// The greatest position below `below` and below the length that is not set, if there is one.
@@ -48,6 +48,6 @@ impl FixedBitSet {
     /// ```
     #[inline]
     pub fn previous_zero(&self, below: usize) -> Option<usize> {
-        raw::position(raw::bits_previous_zero(&self.words.lent(), below))
+        crate::position(raw::bits_previous_zero(&self.words.lent(), below))
     }
 }

@@ -130,6 +130,79 @@ impl FixedBitSet {
         changed
     }
 
+    /// Becomes the positions of either set. The length is that of the longer. It writes each word once, and takes memory
+    /// only where it needs more words than it has. Upstream has no such call.
+    ///
+    /// ```
+    /// # use fixedbitset::FixedBitSet;
+    /// let mut set = FixedBitSet::with_capacity(100);
+    /// set.union_of(&[1, 2].into_iter().collect(), &[2, 4].into_iter().collect());
+    /// assert_eq!(set.to_string(), "01101");
+    /// ```
+    #[inline]
+    pub fn union_of(&mut self, set: &FixedBitSet, other: &FixedBitSet) {
+        self.fit(set.len().max(other.len()));
+        let (set, other) = (set.words.lent(), other.words.lent());
+        raw::bits_union_of(&mut self.words.lent_mut(), &set, &other);
+    }
+
+    /// Becomes the positions of exactly one of both sets. The length is that of the longer. It writes each word once, and
+    /// takes memory only where it needs more words than it has. Upstream has no such call.
+    ///
+    /// ```
+    /// # use fixedbitset::FixedBitSet;
+    /// let mut set = FixedBitSet::with_capacity(100);
+    /// set.symmetric_difference_of(&[1, 2].into_iter().collect(), &[2, 4].into_iter().collect());
+    /// assert_eq!(set.to_string(), "01001");
+    /// ```
+    #[inline]
+    pub fn symmetric_difference_of(&mut self, set: &FixedBitSet, other: &FixedBitSet) {
+        self.fit(set.len().max(other.len()));
+        let (set, other) = (set.words.lent(), other.words.lent());
+        raw::bits_symmetric_difference_of(&mut self.words.lent_mut(), &set, &other);
+    }
+
+    /// Becomes the positions of both sets. The length is that of the shorter. It writes each word once, and takes memory
+    /// only where it needs more words than it has. Upstream has no such call.
+    ///
+    /// ```
+    /// # use fixedbitset::FixedBitSet;
+    /// let mut set = FixedBitSet::with_capacity(100);
+    /// set.intersection_of(&[1, 2].into_iter().collect(), &[2, 4].into_iter().collect());
+    /// assert_eq!(set.to_string(), "001");
+    /// ```
+    #[inline]
+    pub fn intersection_of(&mut self, set: &FixedBitSet, other: &FixedBitSet) {
+        self.fit(set.len().min(other.len()));
+        let (set, other) = (set.words.lent(), other.words.lent());
+        raw::bits_intersection_of(&mut self.words.lent_mut(), &set, &other);
+    }
+
+    /// Becomes the positions of `set` that `other` lacks. The length is that of `set`. It writes each word once, and takes
+    /// memory only where it needs more words than it has. Upstream has no such call.
+    ///
+    /// ```
+    /// # use fixedbitset::FixedBitSet;
+    /// let mut set = FixedBitSet::with_capacity(100);
+    /// set.difference_of(&[1, 2].into_iter().collect(), &[2, 4].into_iter().collect());
+    /// assert_eq!(set.to_string(), "010");
+    /// ```
+    #[inline]
+    pub fn difference_of(&mut self, set: &FixedBitSet, other: &FixedBitSet) {
+        self.fit(set.len());
+        let (set, other) = (set.words.lent(), other.words.lent());
+        raw::bits_difference_of(&mut self.words.lent_mut(), &set, &other);
+    }
+
+    /// Makes the length `length`, for a call that writes over all positions.
+    #[inline]
+    fn fit(&mut self, length: usize) {
+        if length < self.len() {
+            self.words.shorten(length);
+        }
+        self.grow(length);
+    }
+
     /// How many positions are in either set.
     ///
     /// ```
@@ -224,7 +297,7 @@ impl FixedBitSet {
     /// ```
     #[inline]
     pub fn first_lacking(&self, other: &FixedBitSet) -> Option<usize> {
-        raw::position(raw::bits_first_lacking(
+        crate::position(raw::bits_first_lacking(
             &self.words.lent(),
             &other.words.lent(),
         ))

@@ -71,7 +71,7 @@ impl<'a> Ranks<'a> {
     /// ```
     #[inline]
     pub fn select(&self, index: usize) -> Option<usize> {
-        raw::position(raw::bits_select(self.directory.ranks(), index))
+        crate::position(raw::bits_select(self.directory.ranks(), index))
     }
 }
 

@@ -6,8 +6,7 @@
 //! makes or changes them stands here. A table is the words of a set for each row; [`Table`] and [`Rows`] are to it what
 //! [`Words`] and [`Lent`] are to a set.
 use crate::handful::{Handfuls, OnesLeft};
-use alloc::vec;
-use alloc::vec::Vec;
+use alloc::{vec, vec::Vec};
 use core::marker::PhantomData;
 use core::mem::MaybeUninit;
 use core::ops::Deref;
@@ -157,6 +156,14 @@ unsafe extern "C" {
         kills: &Lent<'_>,
         changed: &mut bool,
     ) -> bool;
+    pub safe fn bits_union_of(to: &mut Lent<'_>, set: &Lent<'_>, other: &Lent<'_>) -> bool;
+    pub safe fn bits_symmetric_difference_of(
+        to: &mut Lent<'_>,
+        set: &Lent<'_>,
+        other: &Lent<'_>,
+    ) -> bool;
+    pub safe fn bits_intersection_of(to: &mut Lent<'_>, set: &Lent<'_>, other: &Lent<'_>) -> bool;
+    pub safe fn bits_difference_of(to: &mut Lent<'_>, set: &Lent<'_>, other: &Lent<'_>) -> bool;
     pub safe fn bits_union_count(set: &Lent<'_>, other: &Lent<'_>) -> usize;
     pub safe fn bits_intersection_count(set: &Lent<'_>, other: &Lent<'_>) -> usize;
     pub safe fn bits_difference_count(set: &Lent<'_>, other: &Lent<'_>) -> usize;
@@ -270,12 +277,6 @@ unsafe extern "C" {
         to: NonNull<usize>,
         room: usize,
     ) -> usize;
-}
-
-/// The position that a call answered, where `usize::MAX` is none.
-#[inline]
-pub fn position(answer: usize) -> Option<usize> {
-    (answer != usize::MAX).then_some(answer)
 }
 
 /// The position that a call of a walk gave, if it gave one.

@@ -44,7 +44,7 @@ impl FixedBitSet {
     /// ```
     #[inline]
     pub fn first_gap(&self, count: usize, from: usize) -> Option<usize> {
-        raw::position(raw::bits_first_gap(&self.words.lent(), count, from))
+        crate::position(raw::bits_first_gap(&self.words.lent(), count, from))
     }
 }
 

@@ -325,7 +325,7 @@ impl Ones<'_> {
     #[inline]
     #[track_caller]
     pub fn last_positive_bit_and_unset(n: &mut Block) -> usize {
-        raw::position(raw::bits_take_lowest_bit(n)).expect("the word is 0")
+        crate::position(raw::bits_take_lowest_bit(n)).expect("the word is 0")
     }
 }
 
