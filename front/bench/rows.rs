@@ -16,6 +16,7 @@ pub fn rows(bits: usize) -> Vec<Row> {
         neighbours(bits),
         stretches(bits),
         telling(bits),
+        written(bits),
         moved(bits),
         ranks(bits),
         tables(bits),
@@ -436,6 +437,20 @@ fn telling(bits: usize) -> Vec<Row> {
                 black_box(&kills),
             ));
         }),
+    ]
+}
+
+/// Two sets joined into a third, which has their length and is not made anew.
+fn written(bits: usize) -> Vec<Row> {
+    let with = |name, call: fn(&mut Set, &Set, &Set)| {
+        let (low, high) = (lower(bits), upper(bits));
+        change(name, one_of(bits, 2), move |set| {
+            call(set, black_box(&low), black_box(&high));
+        })
+    };
+    vec![
+        with("union_of", beyond::union_of),
+        with("difference_of", beyond::difference_of),
     ]
 }
 
