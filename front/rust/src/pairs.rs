@@ -130,7 +130,7 @@ impl FixedBitSet {
         changed
     }
 
-    /// Becomes the positions of either set. The length is that of the longer. It writes each word once, and takes memory
+    /// Becomes the positions of either set. The length is that of the longer. It goes over both sets once, and takes memory
     /// only where it needs more words than it has. Upstream has no such call.
     ///
     /// ```
@@ -146,8 +146,8 @@ impl FixedBitSet {
         raw::bits_union_of(&mut self.words.lent_mut(), &set, &other);
     }
 
-    /// Becomes the positions of exactly one of both sets. The length is that of the longer. It writes each word once, and
-    /// takes memory only where it needs more words than it has. Upstream has no such call.
+    /// Becomes the positions of exactly one of both sets. The length is that of the longer. It goes over both sets
+    /// once, and takes memory only where it needs more words than it has. Upstream has no such call.
     ///
     /// ```
     /// # use fixedbitset::FixedBitSet;
@@ -162,8 +162,8 @@ impl FixedBitSet {
         raw::bits_symmetric_difference_of(&mut self.words.lent_mut(), &set, &other);
     }
 
-    /// Becomes the positions of both sets. The length is that of the shorter. It writes each word once, and takes memory
-    /// only where it needs more words than it has. Upstream has no such call.
+    /// Becomes the positions of both sets. The length is that of the shorter. It goes over both sets once, and takes
+    /// memory only where it needs more words than it has. Upstream has no such call.
     ///
     /// ```
     /// # use fixedbitset::FixedBitSet;
@@ -178,8 +178,8 @@ impl FixedBitSet {
         raw::bits_intersection_of(&mut self.words.lent_mut(), &set, &other);
     }
 
-    /// Becomes the positions of `set` that `other` lacks. The length is that of `set`. It writes each word once, and takes
-    /// memory only where it needs more words than it has. Upstream has no such call.
+    /// Becomes the positions of `set` that `other` lacks. The length is that of `set`. It goes over both sets once, and
+    /// takes memory only where it needs more words than it has. Upstream has no such call.
     ///
     /// ```
     /// # use fixedbitset::FixedBitSet;
