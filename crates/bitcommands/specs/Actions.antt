@@ -25,73 +25,26 @@ abbrev pub Range : Type 0
 Range = Option ℕ × Option ℕ
 
 -- Numbers of sets, positions, lengths, words, ranges, lists, JSON values and ends of walks, in the order in which a line
--- has them.
+-- has them. A line below has the commands of one shape.
 pub data Action : Type 0 where
-  new : ℕ → Action
-  default : ℕ → Action
-  with_capacity : ℕ → ℕ → Action
-  with_capacity_and_blocks : ℕ → ℕ → List ℕ → Action
-  clone : ℕ → ℕ → Action
-  clone_from : ℕ → ℕ → Action
-  from_iter : ℕ → List ℕ → Action
-  from_value : ℕ → Data → Action
-  bitand : ℕ → ℕ → ℕ → Action
-  bitor : ℕ → ℕ → ℕ → Action
-  bitxor : ℕ → ℕ → ℕ → Action
-  len : ℕ → Action
-  is_empty : ℕ → Action
-  is_clear : ℕ → Action
-  is_full : ℕ → Action
-  minimum : ℕ → Action
-  maximum : ℕ → Action
-  as_slice : ℕ → Action
-  contains : ℕ → ℕ → Action
-  index : ℕ → ℕ → Action
-  text : ℕ → Action
-  to_value : ℕ → Action
-  clear : ℕ → Action
-  grow : ℕ → ℕ → Action
-  grow_and_insert : ℕ → ℕ → Action
-  insert : ℕ → ℕ → Action
-  remove : ℕ → ℕ → Action
-  toggle : ℕ → ℕ → Action
-  put : ℕ → ℕ → Action
+  new default len is_empty is_clear is_full minimum maximum : ℕ → Action
+  as_slice text to_value clear : ℕ → Action
+  with_capacity contains index grow grow_and_insert insert remove toggle put : ℕ → ℕ → Action
+  copy_bit set_block : ℕ → ℕ → ℕ → Action
   set : ℕ → ℕ → Bool → Action
-  copy_bit : ℕ → ℕ → ℕ → Action
-  set_block : ℕ → ℕ → ℕ → Action
-  extend : ℕ → List ℕ → Action
-  count_ones : ℕ → Range → Action
-  count_zeroes : ℕ → Range → Action
+  from_iter extend : ℕ → List ℕ → Action
+  with_capacity_and_blocks : ℕ → ℕ → List ℕ → Action
+  from_value : ℕ → Data → Action
+  clone clone_from union_with symmetric_difference_with bitor_assign bitxor_assign : ℕ → ℕ → Action
+  intersect_with difference_with bitand_assign : ℕ → ℕ → Action
+  union_count intersection_count difference_count symmetric_difference_count : ℕ → ℕ → Action
+  is_disjoint is_subset is_superset eq cmp : ℕ → ℕ → Action
+  bitand bitor bitxor : ℕ → ℕ → ℕ → Action
+  count_ones count_zeroes insert_range remove_range toggle_range : ℕ → Range → Action
+  contains_all_in_range contains_any_in_range range_is_valid : ℕ → Range → Action
   set_range : ℕ → Range → Bool → Action
-  insert_range : ℕ → Range → Action
-  remove_range : ℕ → Range → Action
-  toggle_range : ℕ → Range → Action
-  contains_all_in_range : ℕ → Range → Action
-  contains_any_in_range : ℕ → Range → Action
-  range_is_valid : ℕ → Range → Action
-  union_with : ℕ → ℕ → Action
-  symmetric_difference_with : ℕ → ℕ → Action
-  bitor_assign : ℕ → ℕ → Action
-  bitxor_assign : ℕ → ℕ → Action
-  intersect_with : ℕ → ℕ → Action
-  difference_with : ℕ → ℕ → Action
-  bitand_assign : ℕ → ℕ → Action
-  union_count : ℕ → ℕ → Action
-  intersection_count : ℕ → ℕ → Action
-  difference_count : ℕ → ℕ → Action
-  symmetric_difference_count : ℕ → ℕ → Action
-  is_disjoint : ℕ → ℕ → Action
-  is_subset : ℕ → ℕ → Action
-  is_superset : ℕ → ℕ → Action
-  eq : ℕ → ℕ → Action
-  cmp : ℕ → ℕ → Action
-  ones : ℕ → List End → Action
-  into_ones : ℕ → List End → Action
-  zeroes : ℕ → List End → Action
-  union : ℕ → ℕ → List End → Action
-  intersection : ℕ → ℕ → List End → Action
-  difference : ℕ → ℕ → List End → Action
-  symmetric_difference : ℕ → ℕ → List End → Action
+  ones into_ones zeroes : ℕ → List End → Action
+  union intersection difference symmetric_difference : ℕ → ℕ → List End → Action
 
 -- what a command that makes a set means
 abbrev pub make_action : Make → Action

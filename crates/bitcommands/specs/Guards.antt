@@ -30,21 +30,13 @@ no_sets s a b = option_or (no_set s a) (no_set s b)
 
 -- ---- positions and lengths
 
--- the position isn't below the length
-abbrev pub past_length : Bits → ℕ → Option Refusal
-past_length v p = refuse refusal.Position (not (nat_lt p v.length))
-
 -- there is no such set, or the position isn't below its length
 abbrev pub no_position : Sets → ℕ → ℕ → Option Refusal
-no_position s k p = option_or (no_set s k) (past_length (at s k) p)
-
--- the set has no such word
-abbrev pub past_words : Bits → ℕ → Option Refusal
-past_words v i = refuse refusal.Position (not (nat_lt i (length (model.words v))))
+no_position s k p = option_or (no_set s k) (refuse refusal.Position (not (nat_lt p (at s k).length)))
 
 -- there is no such set, or it has no such word
 abbrev pub no_word : Sets → ℕ → ℕ → Option Refusal
-no_word s k i = option_or (no_set s k) (past_words (at s k) i)
+no_word s k i = option_or (no_set s k) (refuse refusal.Position (not (nat_lt i (length (model.words (at s k))))))
 
 -- a length above the limit is asked for
 abbrev pub past_limit : ℕ → ℕ → Option Refusal
@@ -77,28 +69,16 @@ before_greatest items = take_while (λ p. not (is_greatest p)) items
 unfoldable pub has_greatest : List ℕ → Bool
 has_greatest items = list_any is_greatest items
 
--- the position is the greatest number, or isn't below the limit
-abbrev pub past_greatest : ℕ → ℕ → Option Refusal
-past_greatest limit p = option_or (refuse refusal.Greatest (is_greatest p)) (refuse refusal.Limit (not (nat_lt p limit)))
-
 -- there is no such set, or the position is the greatest number, or it isn't below the limit
 abbrev pub no_item : ℕ → Sets → ℕ → ℕ → Option Refusal
-no_item limit s k p = option_or (no_set s k) (past_greatest limit p)
-
--- of the items before the first greatest number one isn't below the limit
-abbrev pub items_past_limit : ℕ → List ℕ → Option Refusal
-items_past_limit limit items = refuse refusal.Limit (not (list_all (λ p. nat_lt p limit) (before_greatest items)))
+no_item limit s k p = option_or (no_set s k) (option_or (refuse refusal.Greatest (is_greatest p)) (refuse refusal.Limit (not (nat_lt p limit))))
 
 -- there is no such set, or one of those items isn't below the limit
 abbrev pub no_items : ℕ → Sets → ℕ → List ℕ → Option Refusal
-no_items limit s k items = option_or (no_set s k) (items_past_limit limit items)
+no_items limit s k items = option_or (no_set s k) (refuse refusal.Limit (not (list_all (λ p. nat_lt p limit) (before_greatest items))))
 
 -- ---- ranges
 
--- the range isn't valid for the set
-abbrev pub not_valid : Bits → Range → Option Refusal
-not_valid v r = refuse refusal.Range (not (over is_valid v r.0 r.1))
-
 -- there is no such set, or the range isn't valid for it
 abbrev pub no_range : Sets → ℕ → Range → Option Refusal
-no_range s k r = option_or (no_set s k) (not_valid (at s k) r)
+no_range s k r = option_or (no_set s k) (refuse refusal.Range (not (over is_valid (at s k) r.0 r.1)))

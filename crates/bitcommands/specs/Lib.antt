@@ -1,5 +1,6 @@
 -- to believe
 pub mod Actions
+pub mod Arguments
 pub mod Answers
 pub mod Sets
 pub mod Guards

@@ -33,5 +33,4 @@ Step m old c r new = MatchOption (row_of m old c).refusal
 abbrev pub Run : ℕ → Sets → List Action → List Answer → Sets → Type 0
 Run m old [] [] new = new ≡ old
 Run m old (c ∷ cs) (r ∷ rs) new = (mid : Sets) × Step m old c r mid × Run m mid cs rs new
-Run m old [] (r ∷ rs) new = ⊥
-Run m old (c ∷ cs) [] new = ⊥
+Run m old cs rs new = ⊥

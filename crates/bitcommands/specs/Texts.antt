@@ -50,10 +50,6 @@ item_text (Some n) = decimal n
 abbrev pub spaced_text : {A : Type 0} → (A → List ℕ) → List A → List ℕ
 spaced_text text list = join_with_byte 32 (map text list)
 
--- one text an item, one space between two of them
-abbrev pub items_text : List (Option ℕ) → List ℕ
-items_text list = spaced_text item_text list
-
 -- one number a word, one space between two of them, or `-` where there are none
 abbrev pub words_text : List ℕ → List ℕ
 words_text [] = codes "-"
@@ -71,7 +67,7 @@ answer_text answer.done = codes "ok"
 answer_text (answer.bool e) = flag_text e
 answer_text (answer.number n) = decimal n
 answer_text (answer.position p) = item_text p
-answer_text (answer.items list) = items_text list
+answer_text (answer.items list) = spaced_text item_text list
 answer_text (answer.words list) = words_text list
 answer_text (answer.order o) = order_text o
 answer_text (answer.text characters) = characters

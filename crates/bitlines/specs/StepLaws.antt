@@ -7,7 +7,8 @@ use Rattle.bitcommands.specs.Answers as answer
 use Rattle.bitcommands.specs.Answers.{Answer}
 use Rattle.bitcommands.specs.Sets.{Sets, at}
 use Rattle.bitcommands.specs.Steps.{Step}
-use Rattle.bitlines.specs.Written.{Argument, number, spelled}
+use Rattle.bitcommands.specs.Arguments.{Argument, number}
+use Rattle.bitlines.specs.Written.{spelled}
 
 -- the number that stands first
 abbrev pub first_number : List Argument → ℕ
