@@ -2,6 +2,7 @@
 //! source, and beside loops in Rust, and prints the least times as tables. `run` builds and starts it, once for each
 //! processor.
 
+mod flows;
 mod kernels;
 mod large;
 mod memory;
@@ -38,23 +39,24 @@ fn main() {
         return large::print();
     }
     memory::keep_freed();
-    let mut sets = sets::rows();
-    let mut walks = walks::rows();
-    let mut kernels = kernels::rows();
+    let mut tables: Vec<(&str, Vec<table::Row>)> = vec![
+        ("Calls of a set", sets::rows()),
+        ("A position of a walk", walks::rows()),
+        ("The data-flow solver", flows::rows()),
+        ("Kernels", kernels::rows()),
+    ];
+    memory::lay_as_malloc();
+    tables.push(("Calls of a set elsewhere in memory", sets::laid()));
     let Some(file) = std::env::args().nth(1) else {
-        table::print_times(&sets);
-        table::print_times(&walks);
-        table::print_times(&kernels);
+        for (_, rows) in &tables {
+            table::print_times(rows);
+        }
         return;
     };
     let times = std::fs::read_to_string(file).expect("the times of the other program");
-    let rows = sets.iter_mut().chain(&mut walks).chain(&mut kernels);
+    let rows = tables.iter_mut().flat_map(|(_, rows)| rows);
     for (row, line) in rows.zip(times.lines()) {
         row.take_less(line);
     }
-    table::print_tables(&[
-        ("Calls of a set", &sets),
-        ("A position of a walk", &walks),
-        ("Kernels", &kernels),
-    ]);
+    table::print_tables(&tables);
 }

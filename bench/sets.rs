@@ -252,7 +252,11 @@ const WHOLE: [Call; 29] = [
 /// Calls of one position or one word, which are timed at the first length alone.
 const SINGLE: [Call; 8] = [
     call!("contains", contains, EachPosition),
-    call!("contains, in the caller's loop", contains_in_loop, EachPosition),
+    call!(
+        "contains, in the caller's loop",
+        contains_in_loop,
+        EachPosition
+    ),
     call!("put", put, EachPosition),
     call!("remove", remove, EachPosition),
     call!("grow_and_insert", grow_and_insert, EachPosition),
@@ -323,4 +327,23 @@ pub fn rows() -> Vec<Row> {
         .iter()
         .flat_map(|&bits| WHOLE.iter().map(move |call| row(bits, call)));
     single.chain(whole).collect()
+}
+
+/// Calls whose loops go over whole rows, at two lengths, for memory that begins elsewhere.
+pub fn laid() -> Vec<Row> {
+    let names = [
+        "union_with",
+        "intersect_with",
+        "union_count",
+        "is_subset",
+        "bitor",
+        "clone",
+    ];
+    let calls = WHOLE.iter().filter(|call| names.contains(&call.name));
+    let rows = calls.flat_map(|call| [1_024, 1_000_000].map(|bits| row(bits, call)));
+    rows.map(|row| Row {
+        call: format!("{}, as malloc lays words", row.call),
+        ..row
+    })
+    .collect()
 }

@@ -111,7 +111,7 @@ fn print_nanoseconds(subject: &str, rows: &[Row]) {
 }
 
 /// Prints the ratios of each subject, and then all times.
-pub fn print_tables(subjects: &[(&str, &[Row])]) {
+pub fn print_tables(subjects: &[(&str, Vec<Row>)]) {
     for (subject, rows) in subjects {
         for side in &SIDES {
             print_ratios(subject, rows, side);

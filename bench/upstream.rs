@@ -183,7 +183,7 @@ pub mod walks {
     use fixedbitset::FixedBitSet;
 
     /// The set of so many positions, with each for which a number below `limit` is drawn.
-    fn scattered(bits: usize, limit: u64, first: u64) -> FixedBitSet {
+    pub fn scattered(bits: usize, limit: u64, first: u64) -> FixedBitSet {
         let mut set = FixedBitSet::with_capacity(bits);
         let mut drawn = first;
         for bit in 0..bits {
@@ -241,4 +241,60 @@ pub mod walks {
             total = total.wrapping_add(bit);
         }
     });
+}
+
+/// The data-flow solver of crates/flow, in Rust: the same algorithm, with the calls that upstream has.
+pub mod flows {
+    use super::walks::scattered;
+    use crate::flows::Ends;
+    use fixedbitset::FixedBitSet;
+
+    #[inline(never)]
+    fn solved(
+        facts: usize,
+        edges: &[(usize, usize)],
+        gens: &[FixedBitSet],
+        kills: &[FixedBitSet],
+    ) -> usize {
+        let mut ins = vec![FixedBitSet::with_capacity(facts); gens.len()];
+        let mut outs = gens.to_vec();
+        let mut spared = FixedBitSet::with_capacity(facts);
+        let mut due = FixedBitSet::with_capacity(gens.len());
+        due.insert_range(..);
+        let mut next = FixedBitSet::with_capacity(gens.len());
+        loop {
+            let mut changed = false;
+            for &(from, to) in edges {
+                if !due.contains(from) || outs[from].is_subset(&ins[to]) {
+                    continue;
+                }
+                ins[to].union_with(&outs[from]);
+                spared.clone_from(&ins[to]);
+                spared.difference_with(&kills[to]);
+                outs[to].union_with(&spared);
+                due.insert(to);
+                next.insert(to);
+                changed = true;
+            }
+            if !changed {
+                return outs[0].count_ones(..);
+            }
+            std::mem::swap(&mut due, &mut next);
+            next.clear();
+        }
+    }
+
+    pub fn solve(facts: usize, nodes: usize, from: &Ends, to: &Ends, rounds: usize) -> usize {
+        let edges: Vec<_> = from.iter().copied().zip(to.iter().copied()).collect();
+        let sets = |limit| -> Vec<_> {
+            let nodes = 0..nodes as u64;
+            nodes.map(|node| scattered(facts, limit, node)).collect()
+        };
+        let (gens, kills) = (sets(u64::MAX / 100), sets(1 << 63));
+        let mut count = solved(facts, &edges, &gens, &kills);
+        for _ in 0..rounds {
+            count = solved(facts, &edges, &gens, &kills);
+        }
+        count
+    }
 }

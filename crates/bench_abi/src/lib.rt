@@ -1,5 +1,5 @@
-//! The kernels under C names, and in `changes`, `questions`, `growing` and `walks` the calls of a set, for the program
-//! in bench/ that times them. Nothing else uses it.
+//! The kernels under C names, in `changes`, `questions`, `growing` and `walks` the calls of a set, and in `flows` the
+//! data-flow solver, for the program in bench/ that times them. Nothing else uses it.
 //!
 //! Each slice of a kernel is the first words of an array of `MOST`, with its length beside it. A slice itself
 //! would be tested for null as it comes from C, which the kernels as Rattle calls them do not pay.
@@ -12,6 +12,7 @@ ghost use Rattle.std.specs.Simd.Lanes.{zip2};
 ghost use Rattle.bitlanes.specs.Words.{zip_longest};
 
 pub mod changes;
+pub mod flows;
 pub mod growing;
 pub mod questions;
 pub mod sets;

@@ -101,7 +101,12 @@ const FACTOR: u64 = 6_364_136_223_846_793_005;
 const SUMMAND: u64 = 1_442_695_040_888_963_407;
 
 // A set of so many positions, with each for which a number below `limit` is drawn, from this first number on.
-fn scattered(alloc: Global, bits: usize, limit: u64, first: u64) -> Result<FixedBitSet, AllocError>
+pub(crate) fn scattered(
+    alloc: Global,
+    bits: usize,
+    limit: u64,
+    first: u64,
+) -> Result<FixedBitSet, AllocError>
     ensures { IfOk result (λ set. set ≡ scattered bits limit first) }
 {
     let mut set = FixedBitSet::with_capacity(alloc, bits)?;
