@@ -97,6 +97,28 @@ fn ascending(alloc: Global) -> Result<Vec<FixedBitSet>, Fail> {
     Ok(sets)
 }
 
+fn add_to_trees(
+    sets: &mut BTreeSet<FixedBitSet>,
+    places: &mut BTreeMap<FixedBitSet, usize>,
+    place: usize,
+    set: &FixedBitSet,
+) -> Result<(), Fail> {
+    sets.insert(set.clone()?)?;
+    places.insert(set.clone()?, place)?;
+    Ok(())
+}
+
+fn add_to_tables(
+    sets: &mut HashSet<FixedBitSet>,
+    places: &mut HashMap<FixedBitSet, usize>,
+    place: usize,
+    set: &FixedBitSet,
+) -> Result<(), Fail> {
+    sets.insert(set.clone()?)?;
+    places.insert(set.clone()?, place)?;
+    Ok(())
+}
+
 #[test]
 fn maps_keep_each_key_once(rt: HostRuntime) -> Result<(), Fail> {
     let mut tree = BTreeSet::new(rt.alloc());
@@ -106,10 +128,8 @@ fn maps_keep_each_key_once(rt: HostRuntime) -> Result<(), Fail> {
     let sets = ascending(rt.alloc())?;
     for _ in 0..2 {
         for (place, set) in sets.iter().enumerate() {
-            tree.insert(set.clone()?)?;
-            tree_map.insert(set.clone()?, place)?;
-            table.insert(set.clone()?)?;
-            table_map.insert(set.clone()?, place)?;
+            add_to_trees(&mut tree, &mut tree_map, place, set)?;
+            add_to_tables(&mut table, &mut table_map, place, set)?;
         }
     }
     assert_eq!(rt; (tree.len(), tree_map.len()), (7, 7));
@@ -174,10 +194,11 @@ fn slow_order(a: &[bool], b: &[bool]) -> Ordering {
     if a.len() != b.len() {
         return a.len().cmp(&b.len());
     }
-    for (first, second) in a.chunks(64).zip(b.chunks(64)) {
-        for (has, wants) in first.iter().zip(second.iter()).rev() {
-            if has != wants {
-                return has.cmp(wants);
+    for stretch in 0..a.len() / 64 + 1 {
+        for back in 0..64 {
+            let position = 64 * stretch + (63 - back);
+            if position < a.len() && position < b.len() && a[position] != b[position] {
+                return a[position].cmp(&b[position]);
             }
         }
     }
