@@ -25,7 +25,7 @@ abbrev pub Range : Type 0
 Range = Option ℕ × Option ℕ
 
 -- Numbers of sets, positions, lengths, words, ranges, lists, JSON values and ends of walks, in the order in which a line
--- has them. A line below has the commands of one shape.
+-- has them. A line below has commands of one shape.
 pub data Action : Type 0 where
   new default len is_empty is_clear is_full minimum maximum : ℕ → Action
   as_slice text to_value clear : ℕ → Action

@@ -4,9 +4,10 @@
 mod in_turn;
 pub mod pairs;
 pub mod runs;
-mod sieve;
+pub mod sieve;
 pub mod walks;
 
 pub use pairs::{Difference, Intersection, SymmetricDifference, Union};
 pub use runs::Runs;
+pub use sieve::{Lacked, Shared, Sieve};
 pub use walks::{IntoOnes, Ones, Zeroes};

@@ -11,7 +11,7 @@ ghost use Rattle.std.specs.Prelude.{◌≡◌, ◌+◌, ◌*◌, ◌^◌, ◌<�
 ghost use Rattle.std.specs.Iterator.{item_count, UpTo};
 ghost use Rattle.std.specs.Iterator.SizeHint.{IsWithinCount};
 ghost use Rattle.bitwords.specs.Walk.{over_row};
-ghost use Rattle.bitwalks.specs.Pairs.{sieve_over, SievesFirst, SievesLast, joined_items, JoinsFirst, JoinsLast, split_items, SplitsFirst, SplitsLast};
+ghost use Rattle.bitwalks.specs.Pairs.{sieve_over, joined_items, JoinsFirst, JoinsLast, split_items, SplitsFirst, SplitsLast};
 
 use crate::in_turn::InTurn;
 use crate::sieve::{Lacked, Shared, Sieve};
@@ -29,24 +29,7 @@ use std::marker::Model;
 /// assert_eq!(rt; walk.next_back(), Some(64));
 /// assert!(rt; walk.eq([3]));
 /// ```
-pub struct Intersection<'a> {
-    shared: Sieve<'a, Shared>,
-}
-
-impl<'a> Model for Intersection<'a> {
-    ghost use Rattle.bitwalks.specs.Pairs.{Sieved};
-
-    ghost Value = { Sieved };
-
-    ghost view = { λ walk. walk.shared };
-}
-
-impl<'a> Drop for Intersection<'a> {
-    #[inline]
-    fn drop(self) {
-        let Intersection { shared: _ } = self;
-    }
-}
+pub type Intersection<'a> = Sieve<'a, Shared>;
 
 /// The positions of a row that another one lacks, in ascending order. A set makes it by `difference`.
 ///
@@ -57,24 +40,7 @@ impl<'a> Drop for Intersection<'a> {
 /// assert_eq!(rt; walk.next_back(), Some(200));
 /// assert!(rt; walk.eq([1]));
 /// ```
-pub struct Difference<'a> {
-    lacked: Sieve<'a, Lacked>,
-}
-
-impl<'a> Model for Difference<'a> {
-    ghost use Rattle.bitwalks.specs.Pairs.{Sieved};
-
-    ghost Value = { Sieved };
-
-    ghost view = { λ walk. walk.lacked };
-}
-
-impl<'a> Drop for Difference<'a> {
-    #[inline]
-    fn drop(self) {
-        let Difference { lacked: _ } = self;
-    }
-}
+pub type Difference<'a> = Sieve<'a, Lacked>;
 
 /// The positions of a row, and then those of another one that the first lacks. A set makes it by `union`.
 ///
@@ -132,124 +98,6 @@ impl<'a> Drop for SymmetricDifference<'a> {
         let SymmetricDifference { sides: _ } = self;
     }
 }
-
-impl<'a> Intersection<'a> {
-    /// The walk over the positions of `words` and `other`.
-    ///
-    /// ```
-    /// let (words, other) = ([11, 1], [8]);
-    /// let walk = Intersection::over(&words, &other);
-    /// assert!(rt; walk.eq([3]));
-    /// ```
-    #[inline]
-    pub fn over(words: &'a [Block], other: &'a [Block]) -> Intersection<'a>
-        requires { 64 * length words.now ≤ 2 ^ 64 }
-        ensures { result ≡ sieve_over (λ b. b) words.now other.now }
-    {
-        Intersection {
-            shared: Sieve::over(words, other),
-        }
-    }
-}
-
-impl<'a> Iterator for Intersection<'a> {
-    type Item = usize;
-
-    ghost next_gives = { SievesFirst };
-
-    ghost remaining = { item_count (λ sieved. sieved.items) };
-
-    /// The first position left, or `None` where none is, and then for good. Each item that a source gives is looked up
-    /// once; a source is called once for each, and once more at most.
-    #[inline]
-    fn next(&mut self) -> Option<usize> {
-        self.shared.next()
-    }
-
-    /// At least 0, and at most 64 for each word that the source holds or has not yet taken. The latter is `None` where it
-    /// is no `usize`.
-    #[inline]
-    fn size_hint(&self) -> (usize, Option<usize>)
-        ensures zero { result.0 ≡ 0 }
-        ensures lower { IsWithinCount result.0 (item_count (λ sieved. sieved.items) self.now) }
-        ensures upper { IfSome result.1 (UpTo (item_count (λ sieved. sieved.items) self.now)) }
-        ensures known { 64 * (length self.now.source.words + 2) < 2 ^ 64
-            → result.1 ≡ Some (64 * (length self.now.source.words + 2)) }
-    {
-        self.shared.size_hint()
-    }
-}
-
-impl<'a> DoubleEndedIterator for Intersection<'a> {
-    ghost next_back_gives = { SievesLast };
-
-    /// The last position left, or `None` where none is, and then for good.
-    #[inline]
-    fn next_back(&mut self) -> Option<usize> {
-        self.shared.next_back()
-    }
-}
-
-impl<'a> FusedIterator for Intersection<'a> {}
-
-impl<'a> Difference<'a> {
-    /// The walk over the positions of `words` and `other`.
-    ///
-    /// ```
-    /// let (words, other) = ([11, 1], [8]);
-    /// let walk = Difference::over(&words, &other);
-    /// assert!(rt; walk.eq([0, 1, 64]));
-    /// ```
-    #[inline]
-    pub fn over(words: &'a [Block], other: &'a [Block]) -> Difference<'a>
-        requires { 64 * length words.now ≤ 2 ^ 64 }
-        ensures { result ≡ sieve_over not words.now other.now }
-    {
-        Difference {
-            lacked: Sieve::over(words, other),
-        }
-    }
-}
-
-impl<'a> Iterator for Difference<'a> {
-    type Item = usize;
-
-    ghost next_gives = { SievesFirst };
-
-    ghost remaining = { item_count (λ sieved. sieved.items) };
-
-    /// The first position left, or `None` where none is, and then for good. Each item that a source gives is looked up
-    /// once; a source is called once for each, and once more at most.
-    #[inline]
-    fn next(&mut self) -> Option<usize> {
-        self.lacked.next()
-    }
-
-    /// At least 0, and at most 64 for each word that the source holds or has not yet taken. The latter is `None` where it
-    /// is no `usize`.
-    #[inline]
-    fn size_hint(&self) -> (usize, Option<usize>)
-        ensures zero { result.0 ≡ 0 }
-        ensures lower { IsWithinCount result.0 (item_count (λ sieved. sieved.items) self.now) }
-        ensures upper { IfSome result.1 (UpTo (item_count (λ sieved. sieved.items) self.now)) }
-        ensures known { 64 * (length self.now.source.words + 2) < 2 ^ 64
-            → result.1 ≡ Some (64 * (length self.now.source.words + 2)) }
-    {
-        self.lacked.size_hint()
-    }
-}
-
-impl<'a> DoubleEndedIterator for Difference<'a> {
-    ghost next_back_gives = { SievesLast };
-
-    /// The last position left, or `None` where none is, and then for good.
-    #[inline]
-    fn next_back(&mut self) -> Option<usize> {
-        self.lacked.next_back()
-    }
-}
-
-impl<'a> FusedIterator for Difference<'a> {}
 
 impl<'a> Union<'a> {
     /// The walk over the positions of `words` and `other`.

@@ -10,9 +10,15 @@ use crate::walks::Ones;
 use bitlanes::counter::Steps;
 use bitlanes::word::Block;
 use bitwords::positions::contains;
+use std::iter::FusedIterator;
 use std::marker::{Model, PhantomData};
 
 /// Which positions a sieve lets through.
+///
+/// ```
+/// assert!(rt; <Shared as Choice>::passes(true));
+/// assert!(rt; <Lacked as Choice>::passes(false));
+/// ```
 pub trait Choice {
     /// Whether a position passes, by whether the other row has it.
     ghost passes: { Bool → Bool };
@@ -45,7 +51,7 @@ impl Choice for Lacked {
     }
 }
 
-/// The positions of one row that pass, in ascending order. Each item that the source gives is looked up once.
+/// The positions of one row that pass, in ascending order.
 pub struct Sieve<'a, C: Choice> {
     source: Ones<'a>,
     other: &'a [Block],
@@ -80,7 +86,13 @@ impl<'a, C: Choice> Drop for Sieve<'a, C> {
 }
 
 impl<'a, C: Choice> Sieve<'a, C> {
-    /// The positions set in `words`, sieved by `other`.
+    /// The walk over the positions of `words`, sieved by `other`.
+    ///
+    /// ```
+    /// let (words, other) = ([11, 1], [8]);
+    /// assert!(rt; Intersection::over(&words, &other).eq([3]));
+    /// assert!(rt; Difference::over(&words, &other).eq([0, 1, 64]));
+    /// ```
     #[inline]
     pub fn over(words: &'a [Block], other: &'a [Block]) -> Sieve<'a, C>
         requires { 64 * length words.now ≤ 2 ^ 64 }
@@ -102,6 +114,8 @@ impl<'a, C: Choice> Iterator for Sieve<'a, C> {
 
     ghost remaining = { item_count (λ sieved. sieved.items) };
 
+    /// The first position left, or `None` where none is, and then for good. Each item that the source gives is looked up
+    /// once; the source is called once for each, and once more at most.
     #[inline]
     fn next(&mut self) -> Option<usize> {
         while let Some(position) = self.source.next() {
@@ -113,7 +127,8 @@ impl<'a, C: Choice> Iterator for Sieve<'a, C> {
         None
     }
 
-    /// As the source's.
+    /// At least 0, and at most 64 for each word that the source holds or has not yet taken. The latter is `None` where it
+    /// is no `usize`.
     #[inline]
     fn size_hint(&self) -> (usize, Option<usize>)
         ensures zero { result.0 ≡ 0 }
@@ -129,6 +144,7 @@ impl<'a, C: Choice> Iterator for Sieve<'a, C> {
 impl<'a, C: Choice> DoubleEndedIterator for Sieve<'a, C> {
     ghost next_back_gives = { SievesLast };
 
+    /// The last position left, or `None` where none is, and then for good.
     #[inline]
     fn next_back(&mut self) -> Option<usize> {
         while let Some(position) = self.source.next_back() {
@@ -140,3 +156,5 @@ impl<'a, C: Choice> DoubleEndedIterator for Sieve<'a, C> {
         None
     }
 }
+
+impl<'a, C: Choice> FusedIterator for Sieve<'a, C> {}

@@ -1,6 +1,6 @@
 -- The steps of a search for a gap, by the stretches of clear positions that it has come to.
-use Rattle.std.proofs.Common.{◌≡◌, ℕ, zero, suc, ◌+◌, ◌-◌, ◌*◌, ◌/◌, ◌<◌, ◌≤◌, ◌⊎◌, inl, inr, Bool, true, false, cond, not, ◌&&◌, nat_lt, Option, Some, None, IfSome, unwrap_or, List, [], ◌∷◌, length, map, refl, sym, ap, ◌∙◌, arith, ⊎_elim, length-append}
-use Rattle.std.proofs.lemmas.Bool.{lt-ltb, cases_Bool, and_from, true≢false}
+use Rattle.std.proofs.Common.{◌≡◌, ℕ, zero, suc, ◌+◌, ◌-◌, ◌*◌, ◌/◌, ◌<◌, ◌≤◌, Bool, true, false, cond, not, ◌&&◌, nat_lt, Option, Some, None, IfSome, unwrap_or, [], ◌∷◌, length, refl, sym, ap, ◌∙◌, arith, ⊎_elim, length-append}
+use Rattle.std.proofs.lemmas.Bool.{lt-ltb, cases_Bool, and_from}
 use Rattle.std.proofs.lemmas.List.{length-map}
 use Rattle.bitlanes.specs.Words.{lane_steps}
 use Rattle.bitwords.specs.Ascending.{ascending}

@@ -1,5 +1,5 @@
 -- Positions moved up or down, and parts of a value.
-use Rattle.std.specs.Prelude.{ℕ, ◌+◌, ◌-◌, min, Bool, ◌&&◌, ◌||◌, nat_le, nat_lt, if◌then◌else◌}
+use Rattle.std.specs.Prelude.{ℕ, ◌+◌, ◌-◌, min, Bool, ◌&&◌, ◌||◌, nat_le, if◌then◌else◌}
 use Rattle.bitwords.specs.Rows.{in_range}
 use Rattle.fixedbitset.specs.Bits.{Bits, pair, having, contains}
 

@@ -69,6 +69,8 @@ mod search;
 #[cfg(test)]
 mod shifts;
 #[cfg(test)]
+mod sieve;
+#[cfg(test)]
 mod table;
 #[cfg(test)]
 mod walks;

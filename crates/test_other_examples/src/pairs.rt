@@ -1,7 +1,7 @@
 //! The examples in the docs of `bitwalks::pairs`. docs/make_examples writes this file.
 
 use crate::calls::{equal, gives, set_of};
-use bitwalks::{Difference, Intersection, SymmetricDifference, Union};
+use bitwalks::{SymmetricDifference, Union};
 
 #[test]
 fn intersection(rt: HostRuntime) {
@@ -41,20 +41,6 @@ fn symmetric_difference(rt: HostRuntime) {
     let mut walk = set.symmetric_difference(&other);
     equal(&rt, walk.next_back(), Some(3));
     gives(&rt, walk, &[200]);
-}
-
-#[test]
-fn intersection_over(rt: HostRuntime) {
-    let (words, other) = ([11, 1], [8]);
-    let walk = Intersection::over(&words, &other);
-    gives(&rt, walk, &[3]);
-}
-
-#[test]
-fn difference_over(rt: HostRuntime) {
-    let (words, other) = ([11, 1], [8]);
-    let walk = Difference::over(&words, &other);
-    gives(&rt, walk, &[0, 1, 64]);
 }
 
 #[test]

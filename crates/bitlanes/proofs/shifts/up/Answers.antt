@@ -1,7 +1,6 @@
-use Rattle.std.proofs.Common.{◌≡◌, ℕ, ◌+◌, ◌-◌, ◌*◌, ◌/◌, ◌%◌, ◌<◌, ◌≤◌, ◌∙◌, arith, ap, sym, subst, get_or, set, List, length}
+use Rattle.std.proofs.Common.{◌≡◌, ℕ, ◌+◌, ◌-◌, ◌*◌, ◌%◌, ◌<◌, ◌∙◌, arith, ap, sym, subst, get_or, List, length}
 use Rattle.bitlanes.specs.Shifts.{straddle, window}
 use Rattle.bitlanes.proofs.Moved.{AreJoined, IsLaneJoined, lane_before, word_before, lane_joined, window_below}
-use Rattle.bitlanes.proofs.shifts.up.Given.{Over}
 use Rattle.bitlanes.proofs.shifts.up.Goals as goal
 
 pub loop-lane-preserved : goal.loop-lane-preserved

@@ -1,4 +1,4 @@
-use Rattle.std.proofs.Common.{◌≡◌, ◌<◌, ◌≤◌, ℕ, unwrap_or, sym, ◌∙◌, arith}
+use Rattle.std.proofs.Common.{unwrap_or, sym, ◌∙◌, arith}
 use Rattle.fixedbitset.specs.Bits.{of_words}
 use Rattle.fixedbitset.specs.WordsFacts.{length-of_words}
 use Rattle.fixedbitset.specs.NeighbourFacts.{next_zero_least}

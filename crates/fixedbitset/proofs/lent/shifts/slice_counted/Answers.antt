@@ -1,4 +1,4 @@
-use Rattle.std.proofs.Common.{◌<◌, ◌-◌, ◌^◌, ◌∙◌, arith}
+use Rattle.std.proofs.Common.{◌-◌, ◌∙◌, arith}
 use Rattle.fixedbitset.proofs.Moves.{IsClean_moved, of_moved, having_slice}
 use Rattle.fixedbitset.proofs.lent.shifts.slice_counted.Goals as goal
 

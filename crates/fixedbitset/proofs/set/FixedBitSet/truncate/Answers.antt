@@ -1,4 +1,4 @@
-use Rattle.std.proofs.Common.{◌≤◌, ◌∙◌, ap, arith, refl}
+use Rattle.std.proofs.Common.{◌∙◌, ap, arith, refl}
 use Rattle.fixedbitset.specs.Parts.{truncate}
 use Rattle.fixedbitset.proofs.Moves.{IsClean_truncated, of_truncated, truncate_longer}
 use Rattle.fixedbitset.proofs.Words.{viewed_length}
