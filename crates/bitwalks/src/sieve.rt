@@ -52,6 +52,12 @@ impl Choice for Lacked {
 }
 
 /// The positions of one row that pass, in ascending order.
+///
+/// ```
+/// let (words, other) = ([11, 1], [8]);
+/// let mut walk = Difference::over(&words, &other);
+/// assert_eq!(rt; (walk.next_back(), walk.next()), (Some(64), Some(0)));
+/// ```
 pub struct Sieve<'a, C: Choice> {
     source: Ones<'a>,
     other: &'a [Block],

@@ -1,6 +1,6 @@
 //! The examples in the docs of `bitwalks::sieve`. docs/make_examples writes this file.
 
-use crate::calls::{gives, holds};
+use crate::calls::{equal, gives, holds};
 use bitwalks::sieve::Choice;
 use bitwalks::{Difference, Intersection, Lacked, Shared};
 
@@ -8,6 +8,13 @@ use bitwalks::{Difference, Intersection, Lacked, Shared};
 fn choice(rt: HostRuntime) {
     holds(&rt, <Shared as Choice>::passes(true));
     holds(&rt, <Lacked as Choice>::passes(false));
+}
+
+#[test]
+fn sieve(rt: HostRuntime) {
+    let (words, other) = ([11, 1], [8]);
+    let mut walk = Difference::over(&words, &other);
+    equal(&rt, (walk.next_back(), walk.next()), (Some(64), Some(0)));
 }
 
 #[test]

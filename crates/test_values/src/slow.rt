@@ -66,8 +66,8 @@ fn has_none_past(set: &FixedBitSet, length: usize) -> bool {
     !set.contains(usize::MAX)
 }
 
-// Whether these are the flags' words: one for each 64 flags, rounded up.
-fn are_words(words: &[Block], flags: &[bool]) -> bool {
+/// Whether these are the flags' words: one for each 64 flags, rounded up.
+pub fn are_words(words: &[Block], flags: &[bool]) -> bool {
     if words.len() != flags.len().div_ceil(BITS) {
         return false;
     }

@@ -1,0 +1,324 @@
+//! Shifts and parts at every length up to 200, beside slow values.
+
+use crate::questions::fillings;
+use fixedbitset::FixedBitSet;
+use std::alloc::{AllocError, Global};
+use std::process::Abort;
+use std::test::Fail;
+use test_values::slow::{are_words, filled, is_same, multiples};
+
+// The calls that move positions by a number.
+#[derive(Clone, Copy, Debug)]
+enum Move {
+    Up,
+    Down,
+    WithOwn,
+}
+
+fn moved(set: &mut FixedBitSet, call: Move, by: usize) {
+    match call {
+        Move::Up => set.shift_up(by),
+        Move::Down => set.shift_down(by),
+        Move::WithOwn => set.union_with_own_shift(by),
+    }
+}
+
+// Whether a position is among flags that were moved up.
+fn is_above(flags: &[bool], by: usize, position: usize) -> bool {
+    match position.checked_sub(by) {
+        Some(below) => below < flags.len() && flags[below],
+        None => false,
+    }
+}
+
+fn slow_moved(
+    alloc: Global,
+    flags: &[bool],
+    call: Move,
+    by: usize,
+) -> Result<Vec<bool>, AllocError> {
+    let mut new = Vec::new(alloc);
+    for position in 0..flags.len() {
+        let above = position.saturating_add(by);
+        new.push(match call {
+            Move::Up => is_above(flags, by, position),
+            Move::Down => above < flags.len() && flags[above],
+            Move::WithOwn => flags[position] || is_above(flags, by, position),
+        })?;
+    }
+    Ok(new)
+}
+
+fn assert_moved(rt: &impl Abort, alloc: Global, flags: &[bool]) -> Result<(), AllocError> {
+    for call in [Move::Up, Move::Down, Move::WithOwn] {
+        for by in [0, 1, 63, 64, 65, 127, 130, 256, usize::MAX] {
+            let mut set = filled(alloc, flags)?;
+            moved(&mut set, call, by);
+            let wanted = slow_moved(alloc, flags, call, by)?;
+            assert!(rt;
+                is_same(&set, &wanted),
+                "{call:?} by {by} at {}",
+                flags.len()
+            );
+        }
+    }
+    Ok(())
+}
+
+#[test]
+fn moved_at_every_length(rt: HostRuntime) -> Result<(), Fail> {
+    for length in 0..201 {
+        for flags in fillings(rt.alloc(), length)? {
+            assert_moved(&rt, rt.alloc(), &flags)?;
+        }
+    }
+    Ok(())
+}
+
+// Rows of several lanes, with a second set that is moved into the first.
+#[test]
+fn joined_with_a_moved_set(rt: HostRuntime) -> Result<(), Fail> {
+    for (length, other_length) in [
+        (0, 70),
+        (70, 0),
+        (64, 64),
+        (700, 130),
+        (130, 700),
+        (600, 599),
+    ] {
+        let flags = multiples(rt.alloc(), length, 5)?;
+        let other = multiples(rt.alloc(), other_length, 3)?;
+        for by in [0, 1, 63, 64, 100, 320, 513, usize::MAX] {
+            let mut set = filled(rt.alloc(), &flags)?;
+            set.union_with_shifted(&filled(rt.alloc(), &other)?, by);
+            let mut wanted = Vec::new(rt.alloc());
+            for position in 0..length {
+                wanted.push(
+                    position < flags.len() && flags[position] || is_above(&other, by, position),
+                )?;
+            }
+            assert!(rt;
+                is_same(&set, &wanted),
+                "{other_length} by {by} at {length}"
+            );
+        }
+    }
+    Ok(())
+}
+
+// The set has these flags. The words and the number tell in which case it was looked at.
+fn assert_same(rt: &impl Abort, set: &FixedBitSet, flags: &[bool], case: &str, number: usize) {
+    assert!(rt;
+        is_same(set, flags),
+        "{case} {number}, {} flags",
+        flags.len()
+    );
+}
+
+fn assert_cut(rt: &impl Abort, alloc: Global, flags: &[bool]) -> Result<(), AllocError> {
+    let set = filled(alloc, flags)?;
+    for cut in [0, 1, 63, 64, 65, 127, 128, 129] {
+        if cut <= flags.len() && cut <= set.len() {
+            let mut first = set.slice(alloc, ..cut)?;
+            let second = set.slice(alloc, cut..)?;
+            assert_same(rt, &first, &flags[..cut], "to", cut);
+            assert_same(rt, &second, &flags[cut..], "from", cut);
+            if first.len() <= 200 && second.len() <= 200 {
+                first.append(&second)?;
+                assert_same(rt, &first, flags, "put together at", cut);
+            }
+        }
+    }
+    Ok(())
+}
+
+#[test]
+fn cut_and_put_together_at_every_length(rt: HostRuntime) -> Result<(), Fail> {
+    for length in 0..201 {
+        for flags in fillings(rt.alloc(), length)? {
+            assert_cut(&rt, rt.alloc(), &flags)?;
+        }
+    }
+    Ok(())
+}
+
+// The flags, where those of a part are written over them from `at` on.
+fn slow_copied(
+    alloc: Global,
+    flags: &[bool],
+    part: &[bool],
+    at: usize,
+) -> Result<Vec<bool>, AllocError> {
+    let mut new = flags.to_vec(alloc)?;
+    for position in 0..part.len() {
+        new[at + position] = part[position];
+    }
+    Ok(new)
+}
+
+// A set and the slow value that it was made of.
+#[derive(Drop)]
+struct Pair<'a> {
+    set: FixedBitSet,
+    flags: &'a [bool],
+}
+
+fn paired(alloc: Global, flags: &[bool]) -> Result<Pair<'_>, AllocError> {
+    Ok(Pair {
+        set: filled(alloc, flags)?,
+        flags,
+    })
+}
+
+// The range of the other set, copied to place `at` of a copy of the set.
+fn assert_copied(
+    rt: &impl Abort,
+    alloc: Global,
+    one: &Pair<'_>,
+    other: &Pair<'_>,
+    start: usize,
+    end: usize,
+    at: usize,
+) -> Result<(), AllocError> {
+    let mut set = one.set.clone()?;
+    set.copy_range(&other.set, start..end, at);
+    let wanted = slow_copied(alloc, one.flags, &other.flags[start..end], at)?;
+    assert!(rt;
+        set.len() == wanted.len() && are_words(set.as_slice(), &wanted),
+        "{start}..{end} of {} to {at} of {}",
+        other.flags.len(),
+        wanted.len()
+    );
+    Ok(())
+}
+
+// The range at each place.
+fn assert_copied_everywhere(
+    rt: &impl Abort,
+    alloc: Global,
+    one: &Pair<'_>,
+    other: &Pair<'_>,
+    start: usize,
+    end: usize,
+) -> Result<(), AllocError> {
+    if end - start <= one.flags.len() {
+        for at in 0..one.flags.len() - (end - start) + 1 {
+            assert_copied(rt, alloc, one, other, start, end, at)?;
+        }
+    }
+    Ok(())
+}
+
+// Longer ones are copied in front/rust, where nothing is checked as it runs.
+#[test]
+fn every_range_is_copied_to_every_place(rt: HostRuntime) -> Result<(), Fail> {
+    for (length, other_length) in [(0, 0), (1, 1), (65, 63)] {
+        let flags = multiples(rt.alloc(), length, 3)?;
+        let other = multiples(rt.alloc(), other_length, 7)?;
+        let (one, other) = (paired(rt.alloc(), &flags)?, paired(rt.alloc(), &other)?);
+        for end in 0..other_length + 1 {
+            for start in 0..end + 1 {
+                assert_copied_everywhere(&rt, rt.alloc(), &one, &other, start, end)?;
+            }
+        }
+    }
+    Ok(())
+}
+
+// Rows of several lanes.
+#[test]
+fn long_ranges_are_copied(rt: HostRuntime) -> Result<(), Fail> {
+    let flags = multiples(rt.alloc(), 1300, 3)?;
+    let other = multiples(rt.alloc(), 1100, 7)?;
+    let (one, other) = (paired(rt.alloc(), &flags)?, paired(rt.alloc(), &other)?);
+    for start in [0, 1, 63, 64, 65, 130, 320] {
+        for end in [
+            63, 64, 65, 130, 200, 320, 448, 512, 640, 705, 1024, 1099, 1100,
+        ] {
+            for at in [0, 1, 63, 64, 65, 192, 200] {
+                if start <= end && end <= 1100 && at + (end - start) <= 1300 {
+                    assert_copied(&rt, rt.alloc(), &one, &other, start, end, at)?;
+                }
+            }
+        }
+    }
+    Ok(())
+}
+
+// The parts of a set that is cut, copied back to where they stood: in an empty set, and in the set itself.
+fn assert_copied_back(rt: &impl Abort, alloc: Global, flags: &[bool]) -> Result<(), AllocError> {
+    let set = filled(alloc, flags)?;
+    for cut in [0, 1, 63, 64, 65, 127, 128, 129] {
+        if cut <= set.len() {
+            let (first, second) = (set.slice(alloc, ..cut)?, set.slice(alloc, cut..)?);
+            assert!(rt; first.len() == cut && second.len() == set.len() - cut);
+            let mut new = filled(alloc, flags)?;
+            new.copy_range(&first, .., 0);
+            assert_same(rt, &new, flags, "copied up to", cut);
+            new.clear();
+            assert!(rt; new.len() == set.len());
+            new.copy_range(&second, .., cut);
+            assert!(rt; new.len() == set.len());
+            new.copy_range(&first, .., 0);
+            assert_same(rt, &new, flags, "copied at", cut);
+        }
+    }
+    Ok(())
+}
+
+#[test]
+fn slices_are_copied_back_at_every_length(rt: HostRuntime) -> Result<(), Fail> {
+    for length in 0..201 {
+        for flags in fillings(rt.alloc(), length)? {
+            assert_copied_back(&rt, rt.alloc(), &flags)?;
+        }
+    }
+    Ok(())
+}
+
+fn assert_resized(rt: &impl Abort, alloc: Global, flags: &[bool]) -> Result<(), AllocError> {
+    for bits in [0, 1, 63, 64, 65, 128, 200] {
+        for enabled in [false, true] {
+            let mut wanted = Vec::new(alloc);
+            for position in 0..bits {
+                wanted.push(if position < flags.len() {
+                    flags[position]
+                } else {
+                    enabled
+                })?;
+            }
+            let mut set = filled(alloc, flags)?;
+            set.resize(bits, enabled)?;
+            assert_same(rt, &set, &wanted, "resized from", flags.len());
+            set.truncate(64);
+            assert_same(rt, &set, &wanted[..wanted.len().min(64)], "cut from", bits);
+        }
+    }
+    Ok(())
+}
+
+#[test]
+fn resized_at_every_length(rt: HostRuntime) -> Result<(), Fail> {
+    for length in 0..201 {
+        for flags in fillings(rt.alloc(), length)? {
+            assert_resized(&rt, rt.alloc(), &flags)?;
+        }
+    }
+    Ok(())
+}
+
+// The bytes of a set make it again, also where those at the end are missing.
+#[test]
+fn bytes_read_back_at_every_length(rt: HostRuntime) -> Result<(), Fail> {
+    for length in 0..201 {
+        for flags in fillings(rt.alloc(), length)? {
+            let bytes = filled(rt.alloc(), &flags)?.to_bytes(rt.alloc())?;
+            let set = FixedBitSet::from_bytes(rt.alloc(), length, &bytes)?;
+            assert_same(&rt, &set, &flags, "bytes of", length);
+            let needed = bytes.len().min(length.div_ceil(8));
+            let set = FixedBitSet::from_bytes(rt.alloc(), length, &bytes[..needed])?;
+            assert_same(&rt, &set, &flags, "bytes as needed,", needed);
+        }
+    }
+    Ok(())
+}

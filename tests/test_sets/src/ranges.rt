@@ -1,0 +1,419 @@
+//! Ranges of positions: worked values, every range of some lengths beside slow values, inclusive ranges of every length to
+//! 130, and steps that a caller knows of.
+
+use crate::spans::{
+    Change, Fact, Span, assert_facts, change_all, change_range, change_span, changed, holds,
+    holds_of_span,
+};
+use bitlanes::word::Block;
+use fixedbitset::{FixedBitSet, Steps, counted};
+use std::alloc::{AllocError, Global};
+use std::process::Abort;
+use std::test::Fail;
+use test_callers::spans::{Endless, FromThree, Window};
+use test_callers::steps::counted_calls;
+use test_values::slow::{are_words, count_in, filled};
+
+// ---- worked values
+
+// The set positions, found one by one.
+fn positions(alloc: Global, set: &FixedBitSet) -> Result<Vec<usize>, AllocError> {
+    let mut list = Vec::new(alloc);
+    for position in 0..set.len() {
+        if set.contains(position) {
+            list.push(position)?;
+        }
+    }
+    Ok(list)
+}
+
+fn assert_positions(
+    rt: &impl Abort,
+    alloc: Global,
+    set: &FixedBitSet,
+    expected: &[usize],
+) -> Result<(), AllocError> {
+    let found = positions(alloc, set)?;
+    assert_eq!(rt; found.as_slice(), expected);
+    Ok(())
+}
+
+fn assert_words(rt: &impl Abort, set: &FixedBitSet, expected: &[Block]) {
+    assert_eq!(rt; set.as_slice(), expected);
+}
+
+#[test]
+fn counts(rt: HostRuntime) -> Result<(), Fail> {
+    let mut set = FixedBitSet::with_capacity(rt.alloc(), 100)?;
+    for position in [7, 11, 12, 35, 40, 50, 77, 95, 99] {
+        assert!(rt; position < set.len());
+        set.insert(position);
+    }
+    let facts = [
+        (Span::To(8), Fact::Ones(1)),
+        (Span::From(50), Fact::Ones(4)),
+        (Span::Between(70, 95), Fact::Ones(1)),
+        (Span::Between(70, 96), Fact::Ones(2)),
+        (Span::Between(100, 100), Fact::Ones(0)),
+        (Span::To(11), Fact::Zeroes(10)),
+        (Span::From(50), Fact::Zeroes(46)),
+        (Span::Between(70, 99), Fact::Zeroes(27)),
+        (Span::Full, Fact::Zeroes(91)),
+    ];
+    assert_facts(&rt, &set, &facts);
+    Ok(())
+}
+
+#[test]
+fn inserted_and_toggled(rt: HostRuntime) -> Result<(), Fail> {
+    let changes = [
+        (Span::To(10), Change::Insert),
+        (Span::Between(34, 38), Change::Insert),
+        (Span::Between(5, 12), Change::Toggle),
+        (Span::From(30), Change::Toggle),
+    ];
+    let mut set = FixedBitSet::with_capacity(rt.alloc(), 40)?;
+    change_all(&rt, &mut set, &changes);
+    assert_positions(
+        &rt,
+        rt.alloc(),
+        &set,
+        &[0, 1, 2, 3, 4, 10, 11, 30, 31, 32, 33, 38, 39],
+    )?;
+    Ok(())
+}
+
+#[test]
+fn whole_words(rt: HostRuntime) -> Result<(), Fail> {
+    let mut set = FixedBitSet::with_capacity(rt.alloc(), 128)?;
+    change_range(&rt, &mut set, 64..128, Change::Insert);
+    assert_words(&rt, &set, &[0, Block::MAX]);
+    let facts = [
+        (Span::Between(128, 128), Fact::All(true)),
+        (Span::Between(128, 128), Fact::Any(false)),
+        (Span::Between(0, 129), Fact::IsNotValid),
+        (Span::Between(90, 80), Fact::IsNotValid),
+    ];
+    assert_facts(&rt, &set, &facts);
+
+    let mut wide = FixedBitSet::with_capacity(rt.alloc(), 192)?;
+    change_range(&rt, &mut wide, 63..129, Change::Insert);
+    assert_words(&rt, &wide, &[1 << 63, Block::MAX, 1]);
+    Ok(())
+}
+
+#[test]
+fn grown_behind_the_last_position(rt: HostRuntime) -> Result<(), Fail> {
+    let mut set = FixedBitSet::with_capacity(rt.alloc(), 70)?;
+    assert!(rt; set.len() == 70);
+    set.insert(69);
+    set.grow(256)?;
+    assert!(rt; set.len() == 256);
+    assert!(rt; !set.contains_any_in_range(70..256));
+    Ok(())
+}
+
+#[test]
+fn length_zero(rt: HostRuntime) {
+    let facts = [
+        (Span::Full, Fact::Ones(0)),
+        (Span::Full, Fact::All(true)),
+        (Span::Full, Fact::Any(false)),
+    ];
+    assert_facts(&rt, &FixedBitSet::new(rt.alloc()), &facts);
+}
+
+#[test]
+fn removed_and_set(rt: HostRuntime) -> Result<(), Fail> {
+    let mut set = FixedBitSet::with_capacity(rt.alloc(), 48)?;
+    let changes = [
+        (Span::Full, Change::Insert),
+        (Span::To(32), Change::Remove),
+        (Span::From(37), Change::Remove),
+    ];
+    change_all(&rt, &mut set, &changes);
+    let facts = [
+        (Span::Between(32, 37), Fact::All(true)),
+        (Span::From(32), Fact::All(false)),
+        (Span::From(37), Fact::Any(false)),
+    ];
+    assert_facts(&rt, &set, &facts);
+    let changes = [
+        (Span::Between(5, 9), Change::Set(true)),
+        (Span::Between(40, 40), Change::Set(true)),
+    ];
+    change_all(&rt, &mut set, &changes);
+    assert_positions(&rt, rt.alloc(), &set, &[5, 6, 7, 8, 32, 33, 34, 35, 36])?;
+    change_range(&rt, &mut set, .., Change::Remove);
+    assert_words(&rt, &set, &[0]);
+    Ok(())
+}
+
+// A range ends behind its last position, and behind `usize::MAX` there is none.
+#[test]
+fn inclusive_ranges(rt: HostRuntime) -> Result<(), Fail> {
+    let changes = [
+        (Span::UpThrough(4), Change::Insert),
+        (Span::Through(2, 2), Change::Remove),
+        (Span::Through(9, 8), Change::Toggle),
+        (Span::Through(8, 9), Change::Set(true)),
+    ];
+    let mut set = FixedBitSet::with_capacity(rt.alloc(), 10)?;
+    change_all(&rt, &mut set, &changes);
+    assert_positions(&rt, rt.alloc(), &set, &[0, 1, 3, 4, 8, 9])?;
+    let facts = [
+        (Span::UpThrough(4), Fact::Ones(4)),
+        (Span::UpThrough(9), Fact::Zeroes(4)),
+        (Span::Through(2, 2), Fact::Zeroes(1)),
+        (Span::Through(3, 2), Fact::Ones(0)),
+        (Span::Through(3, 4), Fact::All(true)),
+        (Span::Through(5, 7), Fact::Any(false)),
+        (Span::Through(4, 2), Fact::IsNotValid),
+        (Span::UpThrough(10), Fact::IsNotValid),
+        (Span::UpThrough(usize::MAX), Fact::IsNotValid),
+        (Span::Through(0, usize::MAX), Fact::IsNotValid),
+        (Span::Through(usize::MAX, usize::MAX), Fact::IsNotValid),
+    ];
+    assert_facts(&rt, &set, &facts);
+    Ok(())
+}
+
+// A length that is the start of a range makes it empty, and a lesser one makes it not valid.
+#[test]
+fn range_types_without_an_end(rt: HostRuntime) -> Result<(), Fail> {
+    let mut set = FixedBitSet::with_capacity(rt.alloc(), 5)?;
+    change_range(&rt, &mut set, FromThree, Change::Insert);
+    assert_positions(&rt, rt.alloc(), &set, &[3, 4])?;
+    change_range(&rt, &mut set, Endless, Change::Toggle);
+    assert_positions(&rt, rt.alloc(), &set, &[0, 1, 2])?;
+    assert!(rt; holds(&set, Endless, Fact::Zeroes(2)));
+    let three = FixedBitSet::with_capacity(rt.alloc(), 3)?;
+    assert!(rt; holds(&three, FromThree, Fact::Zeroes(0)));
+    assert!(rt; holds(&three, FromThree, Fact::All(true)));
+    assert!(rt; holds(&three, FromThree, Fact::Any(false)));
+    let two = FixedBitSet::with_capacity(rt.alloc(), 2)?;
+    assert!(rt; holds(&two, FromThree, Fact::IsNotValid));
+    assert!(rt; holds(&two, Endless, Fact::Ones(0)));
+    Ok(())
+}
+
+fn window(from: usize, size: usize) -> Span {
+    Span::Own(Window { from, size })
+}
+
+#[test]
+fn a_range_type_of_the_callers_own(rt: HostRuntime) -> Result<(), Fail> {
+    let changes = [
+        (window(60, 10), Change::Insert),
+        (window(62, 2), Change::Remove),
+        (window(68, 3), Change::Toggle),
+        (window(100, 0), Change::Set(true)),
+    ];
+    let mut set = FixedBitSet::with_capacity(rt.alloc(), 100)?;
+    change_all(&rt, &mut set, &changes);
+    assert_positions(&rt, rt.alloc(), &set, &[60, 61, 64, 65, 66, 67, 70])?;
+    let facts = [
+        (window(61, 4), Fact::Ones(2)),
+        (window(61, 4), Fact::Zeroes(2)),
+        (window(64, 4), Fact::All(true)),
+        (window(71, 29), Fact::Any(false)),
+        (window(71, 30), Fact::IsNotValid),
+    ];
+    assert_facts(&rt, &set, &facts);
+    Ok(())
+}
+
+// ---- ranges of every length to 130
+
+fn is_chosen(position: usize) -> bool {
+    position % 3 == 0 || position % 7 > 4 || (60 <= position && position < 80)
+}
+
+fn chosen(alloc: Global, bits: usize) -> Result<Vec<bool>, AllocError> {
+    let mut flags = Vec::new(alloc);
+    for position in 0..bits {
+        flags.push(is_chosen(position))?;
+    }
+    Ok(flags)
+}
+
+// The slow value with the positions of the range changed.
+fn changed_between(
+    alloc: Global,
+    flags: &[bool],
+    start: usize,
+    end: usize,
+    change: Change,
+) -> Result<Vec<bool>, AllocError> {
+    let mut left = flags.to_vec(alloc)?;
+    for position in start..end.min(left.len()) {
+        left[position] = changed(left[position], change);
+    }
+    Ok(left)
+}
+
+fn assert_answers(rt: &impl Abort, flags: &[bool], set: &FixedBitSet, span: Span) {
+    let (start, end) = span.ends(flags.len());
+    let ones = count_in(flags, start, end, true);
+    let zeroes = count_in(flags, start, end, false);
+    for fact in [
+        Fact::Ones(ones),
+        Fact::Zeroes(zeroes),
+        Fact::All(zeroes == 0),
+        Fact::Any(ones != 0),
+    ] {
+        assert!(rt;
+            holds_of_span(set, span, fact),
+            "{span:?} of {}",
+            flags.len()
+        );
+    }
+}
+
+fn assert_changes(
+    rt: &impl Abort,
+    alloc: Global,
+    flags: &[bool],
+    set: &FixedBitSet,
+    span: Span,
+) -> Result<(), AllocError> {
+    let (start, end) = span.ends(flags.len());
+    for change in [
+        Change::Insert,
+        Change::Remove,
+        Change::Toggle,
+        Change::Set(true),
+        Change::Set(false),
+    ] {
+        let mut new = set.clone()?;
+        change_span(rt, &mut new, span, change);
+        let expected = changed_between(alloc, flags, start, end, change)?;
+        assert!(rt;
+            new.len() == flags.len() && are_words(new.as_slice(), &expected),
+            "{change:?} of {span:?} of {}",
+            flags.len()
+        );
+    }
+    Ok(())
+}
+
+// Each call on the range, or that it is not valid.
+fn assert_range(
+    rt: &impl Abort,
+    alloc: Global,
+    flags: &[bool],
+    set: &FixedBitSet,
+    span: Span,
+) -> Result<(), AllocError> {
+    let (start, end) = span.ends(flags.len());
+    if start <= end && end <= flags.len() {
+        assert_answers(rt, flags, set, span);
+        return assert_changes(rt, alloc, flags, set, span);
+    }
+    assert!(rt;
+        holds_of_span(set, span, Fact::IsNotValid),
+        "{span:?} of {}",
+        flags.len()
+    );
+    Ok(())
+}
+
+// All lengths to 130 are swept over the same calls in front/rust, where nothing is checked as it runs.
+#[test]
+fn every_range_of_six_lengths(rt: HostRuntime) -> Result<(), Fail> {
+    for bits in [0, 1, 63, 64, 65, 130] {
+        let flags = chosen(rt.alloc(), bits)?;
+        let set = filled(rt.alloc(), &flags)?;
+        for start in 0..bits + 2 {
+            for end in 0..bits + 2 {
+                assert_range(&rt, rt.alloc(), &flags, &set, Span::Between(start, end))?;
+            }
+        }
+    }
+    Ok(())
+}
+
+// The calls on the range that has its last position too are those on the range up to the next position.
+fn assert_alike(
+    rt: &impl Abort,
+    set: &FixedBitSet,
+    start: usize,
+    last: usize,
+) -> Result<(), AllocError> {
+    let end = last + 1;
+    assert_eq!(rt; set.count_ones(start..=last), set.count_ones(start..end));
+    assert_eq!(rt;
+        set.count_zeroes(start..=last),
+        set.count_zeroes(start..end)
+    );
+    assert_eq!(rt;
+        set.contains_all_in_range(start..=last),
+        set.contains_all_in_range(start..end)
+    );
+    assert_eq!(rt;
+        set.contains_any_in_range(start..=last),
+        set.contains_any_in_range(start..end)
+    );
+    for change in [
+        Change::Insert,
+        Change::Remove,
+        Change::Toggle,
+        Change::Set(true),
+        Change::Set(false),
+    ] {
+        let (mut one, mut other) = (set.clone()?, set.clone()?);
+        change_range(rt, &mut one, start..=last, change);
+        change_range(rt, &mut other, start..end, change);
+        assert!(rt;
+            one == other,
+            "{change:?} of {start}..={last} of {}",
+            set.len()
+        );
+    }
+    Ok(())
+}
+
+#[test]
+fn every_inclusive_range_of_every_length_to_130(rt: HostRuntime) -> Result<(), Fail> {
+    for bits in 0..131 {
+        let set = filled(rt.alloc(), &chosen(rt.alloc(), bits)?)?;
+        for last in 0..bits {
+            for start in 0..last + 2 {
+                assert_alike(&rt, &set, start, last)?;
+            }
+        }
+    }
+    Ok(())
+}
+
+#[test]
+fn which_ranges_are_valid_at_every_length_to_130(rt: HostRuntime) -> Result<(), Fail> {
+    for bits in 0..131 {
+        let set = FixedBitSet::with_capacity(rt.alloc(), bits)?;
+        for start in 0..bits + 2 {
+            for end in 0..bits + 2 {
+                let is_valid = start <= end && end <= bits;
+                assert_eq!(rt;
+                    set.range_is_valid(&(start..end)),
+                    is_valid,
+                    "{start}..{end} of {bits}"
+                );
+                assert_eq!(rt;
+                    set.range_is_valid(&(start..=end)),
+                    start <= end + 1 && end < bits
+                );
+            }
+        }
+    }
+    Ok(())
+}
+
+// ---- steps
+
+#[test]
+fn steps_are_summed_up(rt: HostRuntime) -> Result<(), Fail> {
+    let mut set = FixedBitSet::with_capacity(rt.alloc(), 192)?;
+    assert!(rt; 129 <= set.len());
+    assert_eq!(rt; counted_calls(&mut set, &mut Steps::new()), 66);
+    Ok(())
+}
