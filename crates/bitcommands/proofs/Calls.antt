@@ -3,8 +3,8 @@ use Rattle.std.proofs.Common.{◌≡◌, ℕ, ◌+◌, ◌-◌, ◌<◌, ◌≤�
 use Rattle.std.proofs.lemmas.Grind.{common_steps}
 use Rattle.std.proofs.lemmas.List.{at_drop_more, at_drop_all}
 use Rattle.std.proofs.Math.Seq.{take-append_seam}
-use Rattle.bitcommands.specs.declared.commands.walking.End.{End}
-use Rattle.bitcommands.specs.declared.commands.walking.End.TheVariants.{Front, Back}
+use Rattle.bitcommands.specs.declared.commands.arguments.End.{End}
+use Rattle.bitcommands.specs.declared.commands.arguments.End.TheVariants.{Front, Back}
 use Rattle.bitcommands.specs.Calls.{calls, item_at, without_item_at}
 
 -- a call gave the item at this end, and left the others

@@ -22,7 +22,7 @@ use Rattle.bitcommands.specs.Answers as answer
 use Rattle.bitcommands.specs.Answers.{Answer}
 use Rattle.bitcommands.specs.Sets.{Sets, at, place}
 use Rattle.bitcommands.specs.Guards.{refuse, no_set, is_greatest, before_greatest, has_greatest, no_items}
-use Rattle.bitcommands.specs.Table.{met}
+use Rattle.bitcommands.specs.Table.{outcome_of_items}
 use Rattle.bitcommands.specs.Steps.{StopsAtItem, Step}
 use Rattle.bitcommands.specs.Outcomes.{Passes, replied, fault_refusal}
 
@@ -133,10 +133,10 @@ guard_passed r x None h e = refl
 guard_passed (Ok y) x (Some f) h e = absurd (true≢false (ap is_ok h))
 guard_passed (Err g) x (Some f) h e = absurd (true≢false (ap is_ok (sym e)))
 
-met_none : (items : List ℕ) → has_greatest items ≡ false → met items ≡ answer.done
+met_none : (items : List ℕ) → has_greatest items ≡ false → outcome_of_items items ≡ answer.done
 met_none items e = rw e refl
 
-met_one : (items : List ℕ) → has_greatest items ≡ true → met items ≡ answer.refused refusal.Greatest
+met_one : (items : List ℕ) → has_greatest items ≡ true → outcome_of_items items ≡ answer.refused refusal.Greatest
 met_one items e = rw e refl
 
 known_set : (s : Sets) (k : ℕ) (later : Option Refusal) → option_or (no_set s k) later ≡ None → k < length s

@@ -16,7 +16,7 @@ use Rattle.bitcommands.specs.declared.commands.joining.Whole.{Whole}
 use Rattle.bitcommands.specs.declared.commands.joining.Whole.TheVariants as wholes
 use Rattle.bitcommands.specs.declared.commands.comparing.Compare.{Compare}
 use Rattle.bitcommands.specs.declared.commands.comparing.Compare.TheVariants as compares
-use Rattle.bitcommands.specs.declared.commands.walking.End.{End}
+use Rattle.bitcommands.specs.declared.commands.arguments.End.{End}
 use Rattle.bitcommands.specs.declared.commands.walking.Walk.{Walk}
 use Rattle.bitcommands.specs.declared.commands.walking.Walk.TheVariants as walks
 

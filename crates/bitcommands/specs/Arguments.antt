@@ -1,7 +1,7 @@
 -- The arguments of commands, as lines have them.
 use Rattle.std.specs.Prelude.{ℕ, Bool, List}
 use Rattle.serde_json.specs.Data.{Data}
-use Rattle.bitcommands.specs.declared.commands.walking.End.{End}
+use Rattle.bitcommands.specs.declared.commands.arguments.End.{End}
 use Rattle.bitcommands.specs.Actions.{Range}
 
 -- an argument of a command

@@ -1,7 +1,7 @@
 -- The calls of a walk, each from its front or from its back.
 use Rattle.std.specs.Prelude.{ℕ, ◌-◌, List, [], ◌∷◌, length, take, drop, slice_get, Option}
-use Rattle.bitcommands.specs.declared.commands.walking.End.{End}
-use Rattle.bitcommands.specs.declared.commands.walking.End.TheVariants.{Front, Back}
+use Rattle.bitcommands.specs.declared.commands.arguments.End.{End}
+use Rattle.bitcommands.specs.declared.commands.arguments.End.TheVariants.{Front, Back}
 
 -- the first or the last of the items that are left, or `None` where none is left
 abbrev pub item_at : End → List ℕ → Option ℕ

@@ -8,12 +8,12 @@ use Rattle.bitcommands.specs.declared.commands.joining.Joint.TheVariants.{Union,
 use Rattle.bitcommands.specs.Guards.{needs_more_words}
 
 -- the value that is left
-abbrev pub combined : Joint → Bits → Bits → Bits
-combined Union v w = sets.union v w
-combined SymmetricDifference v w = sets.symmetric_difference v w
-combined Intersection v w = sets.intersection v w
-combined Difference v w = sets.difference v w
-combined Copy v w = w
+abbrev pub combination : Joint → Bits → Bits → Bits
+combination Union v w = sets.union v w
+combination SymmetricDifference v w = sets.symmetric_difference v w
+combination Intersection v w = sets.intersection v w
+combination Difference v w = sets.difference v w
+combination Copy v w = w
 
 -- whether memory may be refused
 abbrev pub joint_may_lack_memory : Joint → Bits → Bits → Bool

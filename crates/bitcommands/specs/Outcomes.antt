@@ -41,6 +41,6 @@ json_refusal json.Memory = refusal.Memory
 json_refusal f = refusal.Json f
 
 -- a number behind a text, or nothing
-abbrev pub behind : Option ℕ → List ℕ
-behind None = []
-behind (Some n) = decimal n
+abbrev pub number_text : Option ℕ → List ℕ
+number_text None = []
+number_text (Some n) = decimal n

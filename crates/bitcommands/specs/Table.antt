@@ -13,7 +13,7 @@ use Rattle.fixedbitset.specs.Text as printed
 use Rattle.fixedbitset.specs.Json.{meaning, written}
 use Rattle.bitcommands.specs.declared.commands.refusals.Refusal.{Refusal}
 use Rattle.bitcommands.specs.declared.commands.refusals.Refusal.TheVariants as refusal
-use Rattle.bitcommands.specs.declared.commands.walking.End.{End}
+use Rattle.bitcommands.specs.declared.commands.arguments.End.{End}
 use Rattle.bitcommands.specs.Actions as action
 use Rattle.bitcommands.specs.Actions.{Action, Range}
 use Rattle.bitcommands.specs.Arguments.{Argument, number, flag, range, ends, json}
@@ -57,8 +57,8 @@ abbrev pub copies : String → ℕ → ℕ → (Bits → Bits → Bool) → Entr
 copies word d k test = entry word (number d ∷ number k ∷ []) (λ m s. row (no_sets s d k) answer.done (place s d (at s k)) (test (at s d) (at s k)))
 
 -- the greatest number was met among the items, or all of them were taken in
-abbrev pub met : List ℕ → Answer
-met items = if has_greatest items then answer.refused refusal.Greatest else answer.done
+abbrev pub outcome_of_items : List ℕ → Answer
+outcome_of_items items = if has_greatest items then answer.refused refusal.Greatest else answer.done
 
 -- set k is asked, with these other arguments, and nothing changes
 abbrev pub asks : String → ℕ → List Argument → (Bits → Answer) → Entry
@@ -110,7 +110,7 @@ entry_of (action.with_capacity d n) = makes "with_capacity" d n [] (model.empty 
 entry_of (action.with_capacity_and_blocks d n ws) = makes "with_capacity_and_blocks" d n ws (model.of_words n ws)
 entry_of (action.clone d k) = copies "clone" d k (λ v w. true)
 entry_of (action.clone_from d k) = copies "clone_from" d k (λ v w. needs_more_words v w.length)
-entry_of (action.from_iter d items) = entry "from_iter" (number d ∷ map number items) (λ m s. row (no_items m s d items) (met items) (if has_greatest items then s else place s d (model.add_all (model.empty 0) items)) (nat_lt 0 (length (before_greatest items))))
+entry_of (action.from_iter d items) = entry "from_iter" (number d ∷ map number items) (λ m s. row (no_items m s d items) (outcome_of_items items) (if has_greatest items then s else place s d (model.add_all (model.empty 0) items)) (nat_lt 0 (length (before_greatest items))))
 entry_of (action.from_value d value) = entry "from_value" (number d ∷ json value ∷ []) (λ m s. row (no_value m s d value) answer.done (place s d (result_unwrap_or (meaning value) (model.empty 0))) true)
 entry_of (action.bitand d a b) = makes_of "bitand" d a b sets.bitand
 entry_of (action.bitor d a b) = makes_of "bitor" d a b sets.union
@@ -136,7 +136,7 @@ entry_of (action.put k p) = entry "put" (number k ∷ number p ∷ []) (λ m s. 
 entry_of (action.set k p e) = changes_at "set" (number k ∷ number p ∷ flag e ∷ []) k p (λ v q. model.set_bit v q e)
 entry_of (action.copy_bit k from to) = changes_at "copy_bit" (number k ∷ number from ∷ number to ∷ []) k to (λ v q. model.copy_bit v from q)
 entry_of (action.set_block k i w) = entry "set_block" (number k ∷ number i ∷ number w ∷ []) (λ m s. row (no_word s k i) answer.done (place s k (model.set_block (at s k) i w)) false)
-entry_of (action.extend k items) = entry "extend" (number k ∷ map number items) (λ m s. row (no_items m s k items) (met items) (place s k (model.add_all (at s k) (before_greatest items))) true)
+entry_of (action.extend k items) = entry "extend" (number k ∷ map number items) (λ m s. row (no_items m s k items) (outcome_of_items items) (place s k (model.add_all (at s k) (before_greatest items))) true)
 entry_of (action.count_ones k r) = asks_range "count_ones" k r answer.number ranges.count_ones
 entry_of (action.count_zeroes k r) = asks_range "count_zeroes" k r answer.number ranges.count_zeroes
 entry_of (action.set_range k r e) = changes_range "set_range" k r (flag e ∷ []) (λ v start end. ranges.set_range v start end e)

@@ -5,6 +5,7 @@ ghost use Rattle.bitcommands.specs.Answers.{answer_of};
 ghost use Rattle.bitcommands.specs.Steps.{Step, Run};
 ghost use Rattle.bitcommands.specs.Outcomes.{replied};
 
+mod arguments;
 mod calling;
 mod changing;
 mod comparing;
@@ -18,6 +19,7 @@ mod replies;
 mod values;
 mod walking;
 
+pub use arguments::{End, Span};
 pub use changing::Change;
 use changing::apply_change;
 pub use comparing::Compare;
@@ -29,13 +31,13 @@ pub use looking::Look;
 use looking::apply_look;
 pub use making::Make;
 use making::apply_make;
+pub use ranging::Ranged;
 use ranging::apply_ranged;
-pub use ranging::{Ranged, Span};
 pub use refusals::Refusal;
 pub use replies::Reply;
 use std::alloc::{AllocError, Global};
+pub use walking::Walk;
 use walking::apply_walk;
-pub use walking::{End, Walk};
 
 /// A command over sets that are named by their numbers, from 0 on.
 #[derive(Debug, Drop)]

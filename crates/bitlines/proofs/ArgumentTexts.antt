@@ -11,8 +11,8 @@ use Rattle.std.proofs.lemmas.Str.Parse.{IsNumeralModel, numerals_by_value, tells
 use Rattle.std.proofs.lemmas.Grind.{common_steps}
 use Rattle.std.proofs.lemmas.Fmt.{digits_decimal, digits_value-decimal, decimal_nonempty}
 use Rattle.std.proofs.lemmas.List.Splits.{slice_split-cons_yes, slice_split-cons_no}
-use Rattle.bitcommands.specs.declared.commands.walking.End.{End}
-use Rattle.bitcommands.specs.declared.commands.walking.End.TheVariants.{Front, Back}
+use Rattle.bitcommands.specs.declared.commands.arguments.End.{End}
+use Rattle.bitcommands.specs.declared.commands.arguments.End.TheVariants.{Front, Back}
 use Rattle.bitcommands.specs.Texts.{flag_text}
 use Rattle.bitlines.specs.Words.{number_of}
 use Rattle.bitlines.specs.Arguments.{flag_of, end_of, ends_from, ends_of}

@@ -12,8 +12,8 @@ use Rattle.bitcommands.specs.Steps.{Step}
 use Rattle.bitlines.specs.Lines.{command_of}
 use Rattle.bitlines.specs.Output.{fault_text, IsOutputFrom, lines_of, without_empty_last, texts}
 use Rattle.bitlines.specs.Reads.{Reads}
-use Rattle.bitlines.specs.declared.lines.LineFault.{LineFault}
-use Rattle.bitlines.specs.declared.lines.LineFault.TheVariants.{NotACommand}
+use Rattle.bitlines.specs.declared.fault.LineFault.{LineFault}
+use Rattle.bitlines.specs.declared.fault.LineFault.TheVariants.{NotACommand}
 use Rattle.bitlines.specs.OneLine.{AnswersLine, AnswersCommand}
 use Rattle.bitlines.proofs.LineSplits.{parts, cut_found, cut_none}
 

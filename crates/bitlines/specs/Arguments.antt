@@ -6,8 +6,8 @@ use Rattle.serde_json.specs.Data.{Data}
 use Rattle.serde_json.specs.Read.{read}
 use Rattle.bitlanes.specs.Range.{behind}
 use Rattle.bitlines.specs.Words.{◌>>=◌, number_of, number_at, at_end}
-use Rattle.bitcommands.specs.declared.commands.walking.End.{End}
-use Rattle.bitcommands.specs.declared.commands.walking.End.TheVariants.{Front, Back}
+use Rattle.bitcommands.specs.declared.commands.arguments.End.{End}
+use Rattle.bitcommands.specs.declared.commands.arguments.End.TheVariants.{Front, Back}
 use Rattle.bitcommands.specs.Actions.{Range}
 
 -- ---- one argument

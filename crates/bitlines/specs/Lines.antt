@@ -1,6 +1,6 @@
 -- Which command a line stands for.
 use Rattle.std.specs.Prelude.{ℕ, Bool, true, false, List, [], ◌∷◌, Option, Some, None}
-use Rattle.bitcommands.specs.declared.commands.walking.End.{End}
+use Rattle.bitcommands.specs.declared.commands.arguments.End.{End}
 use Rattle.bitcommands.specs.Actions as action
 use Rattle.bitcommands.specs.Actions.{Action, Range}
 use Rattle.bitlines.specs.Words.{◌>>=◌, words}

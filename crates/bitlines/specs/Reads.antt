@@ -1,7 +1,7 @@
 -- What a reader of a line answers.
 use Rattle.std.specs.Prelude.{◌≡◌, Bool, IsTrue, Option, Some, None, Result, Ok, Err}
-use Rattle.bitlines.specs.declared.lines.LineFault.{LineFault}
-use Rattle.bitlines.specs.declared.lines.LineFault.TheVariants as fault
+use Rattle.bitlines.specs.declared.fault.LineFault.{LineFault}
+use Rattle.bitlines.specs.declared.fault.LineFault.TheVariants as fault
 
 -- What a reader of a line answers, seen by view, is what the definition gives: a value, or none; or memory is
 -- lacking, where it may be.

@@ -8,7 +8,7 @@ use Rattle.bitcommands.specs.Answers.{Answer}
 use Rattle.bitcommands.specs.Sets.{Sets, at}
 use Rattle.bitcommands.specs.Steps.{Step}
 use Rattle.bitcommands.specs.Arguments.{Argument, number}
-use Rattle.bitlines.specs.Written.{spelled}
+use Rattle.bitlines.specs.Written.{spelling}
 
 -- the number that stands first
 abbrev pub first_number : List Argument → ℕ
@@ -17,7 +17,7 @@ first_number xs = 0
 
 -- the set that a command makes, changes or asks first: its first number
 abbrev pub target : Action → ℕ
-target c = first_number (spelled c).1
+target c = first_number (spelling c).1
 
 -- there are as many sets, and each but the one with this number is as it was
 abbrev pub LeavesOthers : ℕ → Sets → Sets → Type 0

@@ -2,8 +2,8 @@
 use Rattle.std.specs.Prelude.{◌≡◌, ℕ, ◌^◌, ◌<◌, List, [], ◌∷◌, ◌++◌, map, length, Option, Some, None, MatchOption, codes, decimal}
 use Rattle.std.specs.List.{join_with_byte}
 use Rattle.serde_json.specs.Written.{compact_text}
-use Rattle.bitcommands.specs.declared.commands.walking.End.{End}
-use Rattle.bitcommands.specs.declared.commands.walking.End.TheVariants.{Front, Back}
+use Rattle.bitcommands.specs.declared.commands.arguments.End.{End}
+use Rattle.bitcommands.specs.declared.commands.arguments.End.TheVariants.{Front, Back}
 use Rattle.bitcommands.specs.Actions.{Action}
 use Rattle.bitcommands.specs.Arguments.{Argument, number, flag, range, ends, json}
 use Rattle.bitcommands.specs.Table.{entry_of}
@@ -46,9 +46,9 @@ AllFit [] = Unit {0}
 AllFit (x ∷ xs) = Fits x × AllFit xs
 
 -- the word and the arguments of a command
-abbrev pub spelled : Action → List ℕ × List Argument
-spelled c = ((entry_of c).word, (entry_of c).arguments)
+abbrev pub spelling : Action → List ℕ × List Argument
+spelling c = ((entry_of c).word, (entry_of c).arguments)
 
 -- the word, and the arguments with a space before each
 abbrev pub line_of : Action → List ℕ
-line_of c = join_with_byte 32 ((spelled c).0 ∷ map argument_text (spelled c).1)
+line_of c = join_with_byte 32 ((spelling c).0 ∷ map argument_text (spelling c).1)

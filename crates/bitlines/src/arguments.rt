@@ -4,7 +4,7 @@ ghost use Rattle.serde_json.specs.View.{view};
 ghost use Rattle.bitlines.specs.Reads.{Reads};
 ghost use Rattle.bitlines.specs.Arguments.{bound_of, end_bound_of, bounds_of, range_of, range_at, end_of, ends_of, ends_at, one, two, three, two_and_flag, one_and_range, range_and_flag, one_and_ends, two_and_ends, numbers_of, one_and_list, two_and_list, one_and_json};
 
-use crate::lines::LineFault;
+use crate::fault::LineFault;
 use crate::words::{Words, find, number};
 use bitcommands::commands::{End, Span};
 use fixedbitset::IndexRange;

@@ -2,6 +2,7 @@
 #![tactic(auto)]
 
 mod arguments;
+mod fault;
 pub mod laws;
 pub mod lines;
 mod names;

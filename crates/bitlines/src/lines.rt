@@ -9,6 +9,7 @@ use crate::arguments::{
     one, one_and_ends, one_and_json, one_and_list, one_and_range, range_and_flag, three, two,
     two_and_ends, two_and_flag, two_and_list,
 };
+pub use crate::fault::LineFault;
 use crate::names::{
     Name, OneSet, SetAndEnds, SetAndList, SetAndNumber, SetAndRange, SetAndTwoNumbers, ThreeSets,
     TwoSets, TwoSetsAndEnds, name_of,
@@ -16,15 +17,6 @@ use crate::names::{
 use crate::words::Words;
 use bitcommands::commands::{Change, Command, Compare, End, Look, Make, Ranged, Span, Walk, Whole};
 use std::alloc::Global;
-
-/// Why a line gives no command.
-#[derive(Debug, Drop)]
-pub enum LineFault {
-    /// F8: the line stands for no command.
-    NotACommand,
-    /// Memory for the command was refused.
-    Memory,
-}
 
 /// The command that a line stands for: a command word and its arguments, with exactly one space between two of them
 /// and none at the ends (`docs/COMMANDS.md`). The JSON of `from_value` is all the rest of the line, with whatever spaces it

@@ -7,7 +7,7 @@ ghost use Rattle.bitlines.specs.Arguments.{is, flag_of, flag_at, json_of, json_a
 ghost use Rattle.bitlines.specs.Cursor.{words_left};
 ghost use Rattle.bitlines.specs.Reads.{Reads};
 
-use crate::lines::LineFault;
+use crate::fault::LineFault;
 use serde_json::Value;
 use std::alloc::Global;
 use std::marker::Model;

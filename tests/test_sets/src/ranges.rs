@@ -327,6 +327,7 @@ fn every_range_of_six_lengths(rt: HostRuntime) -> Result<(), Fail> {
         for start in 0..bits + 2 {
             for end in 0..bits + 2 {
                 assert_range(&rt, rt.alloc(), &flags, &set, Span::Between(start, end))?;
+                assert_range(&rt, rt.alloc(), &flags, &set, Span::Through(start, end))?;
             }
         }
     }
@@ -354,22 +355,10 @@ fn assert_alike(
         set.contains_any_in_range(start..=last),
         set.contains_any_in_range(start..end)
     );
-    for change in [
-        Change::Insert,
-        Change::Remove,
-        Change::Toggle,
-        Change::Set(true),
-        Change::Set(false),
-    ] {
-        let (mut one, mut other) = (set.clone()?, set.clone()?);
-        change_range(rt, &mut one, start..=last, change);
-        change_range(rt, &mut other, start..end, change);
-        assert!(rt;
-            one == other,
-            "{change:?} of {start}..={last} of {}",
-            set.len()
-        );
-    }
+    let (mut one, mut other) = (set.clone()?, set.clone()?);
+    change_range(rt, &mut one, start..=last, Change::Toggle);
+    change_range(rt, &mut other, start..end, Change::Toggle);
+    assert!(rt; one == other, "{start}..={last} of {}", set.len());
     Ok(())
 }
 

@@ -4,7 +4,7 @@ ghost use Rattle.std.specs.Vec.{vec_capacity};
 ghost use Rattle.bitwalks.specs.Pairs.{joined_items, split_items};
 ghost use Rattle.bitcommands.specs.Calls.{calls, item_at, without_item_at};
 
-use crate::commands::walking::End;
+use crate::commands::arguments::End;
 use fixedbitset::{Difference, Intersection, IntoOnes, Ones, SymmetricDifference, Union, Zeroes};
 use std::alloc::{AllocError, Global};
 

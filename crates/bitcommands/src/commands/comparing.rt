@@ -32,9 +32,9 @@ pub enum Compare {
 pub(super) fn apply_compare(
     sets: &[FixedBitSet],
     command: &Compare,
-    _limit: usize,
+    limit: usize,
 ) -> Result<Reply, Refusal>
-    ensures { Answers _limit sets.now (compare_action command.now) result sets.now }
+    ensures { Answers limit sets.now (compare_action command.now) result sets.now }
 {
     match command {
         Compare::UnionCount { a, b } => {

@@ -2,7 +2,7 @@
 ghost use Rattle.std.specs.Prelude.{◌≡◌, ◌<◌, length, IsTrue, OnOk, OnErr};
 ghost use Rattle.bitcommands.specs.Actions as action;
 ghost use Rattle.bitcommands.specs.Actions.{whole_action};
-ghost use Rattle.bitcommands.specs.Joints.{combined, joint_may_lack_memory};
+ghost use Rattle.bitcommands.specs.Joints.{combination, joint_may_lack_memory};
 ghost use Rattle.bitcommands.specs.Sets.{at, place};
 ghost use Rattle.bitcommands.specs.Outcomes.{Answers, AnswersAlways};
 
@@ -35,9 +35,9 @@ pub(super) fn apply_whole(
     alloc: Global,
     sets: &mut [FixedBitSet],
     command: &Whole,
-    _limit: usize,
+    limit: usize,
 ) -> Result<Reply, Refusal>
-    ensures { Answers _limit sets.old (whole_action command.now) result sets.new }
+    ensures { Answers limit sets.old (whole_action command.now) result sets.new }
 {
     match command {
         Whole::UnionWith { a, b } => union_with(alloc, sets, *a, *b),
@@ -118,7 +118,7 @@ pub(super) fn join(
 ) -> Result<(), AllocError>
     requires first { target < length sets.old }
     requires second { other < length sets.old }
-    ensures ok { OnOk result (sets.new ≡ place sets.old target (combined joint (at sets.old target) (at sets.old other))) }
+    ensures ok { OnOk result (sets.new ≡ place sets.old target (combination joint (at sets.old target) (at sets.old other))) }
     ensures err { OnErr result (sets.new ≡ sets.old) }
     ensures lacks { OnErr result (IsTrue (joint_may_lack_memory joint (at sets.old target) (at sets.old other))) }
 {
@@ -133,7 +133,7 @@ pub(super) fn join(
 }
 
 fn combine(target: &mut FixedBitSet, other: &FixedBitSet, joint: &Joint) -> Result<(), AllocError>
-    ensures ok { OnOk result (target.new ≡ combined joint.now target.old other.now) }
+    ensures ok { OnOk result (target.new ≡ combination joint.now target.old other.now) }
     ensures err { OnErr result (target.new ≡ target.old) }
     ensures lacks { OnErr result (IsTrue (joint_may_lack_memory joint.now target.old other.now)) }
 {
@@ -155,7 +155,7 @@ fn combine(target: &mut FixedBitSet, other: &FixedBitSet, joint: &Joint) -> Resu
 // A set combined with itself stays as it is, or becomes clear.
 #[tactic(auto, using(crate::proofs::JoinedWithItself::same_union, crate::proofs::JoinedWithItself::same_intersection, crate::proofs::JoinedWithItself::same_symmetric_difference, crate::proofs::JoinedWithItself::same_difference))]
 fn with_itself(target: &mut FixedBitSet, joint: &Joint)
-    ensures { target.new ≡ combined joint.now target.old target.old }
+    ensures { target.new ≡ combination joint.now target.old target.old }
 {
     match joint {
         Joint::Union | Joint::Intersection | Joint::Copy => {}

@@ -38,9 +38,9 @@ pub(super) fn apply_look(
     alloc: Global,
     sets: &[FixedBitSet],
     command: &Look,
-    _limit: usize,
+    limit: usize,
 ) -> Result<Reply, Refusal>
-    ensures { Answers _limit sets.now (look_action command.now) result sets.now }
+    ensures { Answers limit sets.now (look_action command.now) result sets.now }
 {
     match command {
         Look::Len { set } => Ok(Reply::Number(set_at(sets, *set)?.len())),

@@ -4,7 +4,7 @@ ghost use Rattle.std.specs.Fmt.{decimal};
 ghost use Rattle.serde_json.specs.View.{view};
 ghost use Rattle.serde_json.specs.Written.{has_float, compact_text};
 ghost use Rattle.bitcommands.specs.Texts.{flag_text, spaced_text, words_text, order_text, PutsValue};
-ghost use Rattle.bitcommands.specs.Outcomes.{behind};
+ghost use Rattle.bitcommands.specs.Outcomes.{number_text};
 
 use fixedbitset::Block;
 use serde_json::Value;
@@ -53,7 +53,7 @@ pub(super) fn push_numbered(
     number: Option<usize>,
     output: &mut Vec<u8>,
 ) -> Result<(), AllocError>
-    ensures ok { OnOk result (output.new.items ≡ output.old.items ++ (text.now ++ behind number)) }
+    ensures ok { OnOk result (output.new.items ≡ output.old.items ++ (text.now ++ number_text number)) }
     ensures err { OnErr result (output.new.items ≡ output.old.items) }
 {
     let start = output.len();

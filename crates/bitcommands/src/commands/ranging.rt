@@ -3,39 +3,10 @@ ghost use Rattle.bitcommands.specs.Actions as action;
 ghost use Rattle.bitcommands.specs.Actions.{ranged_action};
 ghost use Rattle.bitcommands.specs.Outcomes.{Answers, AnswersAlways};
 
+use crate::commands::arguments::Span;
 use crate::commands::refusals::{Refusal, check_range, check_set};
 use crate::commands::replies::Reply;
-use fixedbitset::{FixedBitSet, IndexRange};
-
-/// A range of positions: from `start`, or 0, up to and without `end`, or the length.
-///
-/// ```
-/// let set = FixedBitSet::with_capacity(alloc, 70)?;
-/// let span = Span {
-///     start: Some(60),
-///     end: None,
-/// };
-/// assert_eq!(rt; set.count_zeroes(span), 10);
-/// ```
-#[derive(Clone, Copy, Debug)]
-pub struct Span {
-    pub start: Option<usize>,
-    pub end: Option<usize>,
-}
-
-impl IndexRange<usize> for Span {
-    ghost start_of = { λ span. span.start };
-
-    ghost end_of = { λ span. span.end };
-
-    fn start(&self) -> Option<usize> {
-        self.start
-    }
-
-    fn end(&self) -> Option<usize> {
-        self.end
-    }
-}
+use fixedbitset::FixedBitSet;
 
 /// A command over a range of the set `set`.
 #[derive(Debug, Drop)]
@@ -91,9 +62,9 @@ pub enum Ranged {
 pub(super) fn apply_ranged(
     sets: &mut [FixedBitSet],
     command: &Ranged,
-    _limit: usize,
+    limit: usize,
 ) -> Result<Reply, Refusal>
-    ensures { Answers _limit sets.old (ranged_action command.now) result sets.new }
+    ensures { Answers limit sets.old (ranged_action command.now) result sets.new }
 {
     match command {
         Ranged::CountOnes { set, range } => count_ones(sets, *set, *range),

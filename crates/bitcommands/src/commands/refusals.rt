@@ -7,9 +7,9 @@ ghost use Rattle.bitcommands.specs.Sets.{at};
 ghost use Rattle.bitcommands.specs.Guards.{no_set, no_sets, no_position, no_word, no_range, no_item, no_items, no_value, past_limit, before_greatest};
 ghost use Rattle.bitcommands.specs.declared.commands.refusals.Refusal.TheVariants.{Json};
 ghost use Rattle.bitcommands.specs.Texts.{refusal_text};
-ghost use Rattle.bitcommands.specs.Outcomes.{Passes, behind};
+ghost use Rattle.bitcommands.specs.Outcomes.{Passes, number_text};
 
-use crate::commands::ranging::Span;
+use crate::commands::arguments::Span;
 use fixedbitset::{ExtendFault, FixedBitSet, JsonFault};
 use serde_json::Value;
 use std::alloc::AllocError;
@@ -46,11 +46,11 @@ pub enum Refusal {
 impl Refusal {
     ghost use Rattle.std.specs.Prelude.{◌≡◌, ◌++◌};
     ghost use Rattle.bitcommands.specs.Texts.{refusal_text};
-    ghost use Rattle.bitcommands.specs.Outcomes.{behind};
+    ghost use Rattle.bitcommands.specs.Outcomes.{number_text};
 
     /// The text that `Display` prints, and the number that stands behind it, if one does.
     pub(super) fn text(&self) -> (&'static str, Option<usize>)
-        ensures { refusal_text self.now ≡ result.0.now ++ behind result.1 }
+        ensures { refusal_text self.now ≡ result.0.now ++ number_text result.1 }
     {
         match self {
             Refusal::NoSet => ("F1 no such set", None),
@@ -79,7 +79,7 @@ impl fmt::Display for Refusal {
 }
 
 fn json_text(fault: JsonFault) -> (&'static str, Option<usize>)
-    ensures { refusal_text (Json fault) ≡ result.0.now ++ behind result.1 }
+    ensures { refusal_text (Json fault) ≡ result.0.now ++ number_text result.1 }
 {
     match fault {
         JsonFault::Shape => ("F5 J1", None),

@@ -3,21 +3,13 @@ ghost use Rattle.bitcommands.specs.Actions as action;
 ghost use Rattle.bitcommands.specs.Actions.{walk_action};
 ghost use Rattle.bitcommands.specs.Outcomes.{Answers, AnswersAlways};
 
+use crate::commands::arguments::End;
 use crate::commands::calling::{call_all, call_each};
 use crate::commands::refusals::{Refusal, check_set, check_sets};
 use crate::commands::replies::Reply;
 use fixedbitset::FixedBitSet;
 use std::alloc::Global;
 use std::mem;
-
-/// The end of a walk from which an item is asked.
-#[derive(Debug, Drop)]
-pub enum End {
-    /// The first of the items that are left.
-    Front,
-    /// The last of them.
-    Back,
-}
 
 /// A command that walks over positions, and answers what each call of the walk gives, in order.
 ///
@@ -44,9 +36,9 @@ pub(super) fn apply_walk(
     alloc: Global,
     sets: &mut [FixedBitSet],
     command: &Walk,
-    _limit: usize,
+    limit: usize,
 ) -> Result<Reply, Refusal>
-    ensures { Answers _limit sets.old (walk_action command.now) result sets.new }
+    ensures { Answers limit sets.old (walk_action command.now) result sets.new }
 {
     match command {
         Walk::Ones { set, ends } => ones(alloc, sets, *set, ends.as_slice()),

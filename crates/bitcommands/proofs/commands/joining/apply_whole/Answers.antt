@@ -1,10 +1,10 @@
 use Rattle.bitcommands.proofs.commands.joining.apply_whole.Goals as goal
 
 pub returns-in-BitorAssign : goal.returns-in-BitorAssign
-returns-in-BitorAssign c = rw c.in-BitorAssign.is (c.union_with-in-BitorAssign.ensures c.args._limit)
+returns-in-BitorAssign c = rw c.in-BitorAssign.is (c.union_with-in-BitorAssign.ensures c.args.limit)
 
 pub returns-in-BitxorAssign : goal.returns-in-BitxorAssign
-returns-in-BitxorAssign c = rw c.in-BitxorAssign.is (c.symmetric_difference_with-in-BitxorAssign.ensures c.args._limit)
+returns-in-BitxorAssign c = rw c.in-BitxorAssign.is (c.symmetric_difference_with-in-BitxorAssign.ensures c.args.limit)
 
 pub returns-in-BitandAssign : goal.returns-in-BitandAssign
-returns-in-BitandAssign c = rw c.in-BitandAssign.is (c.intersect_with-in-BitandAssign.ensures c.args._limit)
+returns-in-BitandAssign c = rw c.in-BitandAssign.is (c.intersect_with-in-BitandAssign.ensures c.args.limit)
