@@ -2,7 +2,7 @@
 #![tactic(auto)]
 
 mod arguments;
-mod fault;
+pub mod fault;
 pub mod laws;
 pub mod lines;
 mod names;

@@ -19,7 +19,7 @@ mod changes;
 #[cfg(test)]
 mod commands;
 #[cfg(test)]
-mod commands_ranging;
+mod commands_arguments;
 #[cfg(test)]
 mod commands_refusals;
 #[cfg(test)]

@@ -2,8 +2,8 @@
 
 use crate::calls::{holds, ok};
 use bitcommands::commands::{Change, Command};
+use bitlines::fault::LineFault;
 use bitlines::lines;
-use bitlines::lines::LineFault;
 
 #[test]
 fn parse_line(rt: HostRuntime) {
