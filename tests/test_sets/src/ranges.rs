@@ -355,10 +355,22 @@ fn assert_alike(
         set.contains_any_in_range(start..=last),
         set.contains_any_in_range(start..end)
     );
-    let (mut one, mut other) = (set.clone()?, set.clone()?);
-    change_range(rt, &mut one, start..=last, Change::Toggle);
-    change_range(rt, &mut other, start..end, Change::Toggle);
-    assert!(rt; one == other, "{start}..={last} of {}", set.len());
+    for change in [
+        Change::Insert,
+        Change::Remove,
+        Change::Toggle,
+        Change::Set(true),
+        Change::Set(false),
+    ] {
+        let (mut one, mut other) = (set.clone()?, set.clone()?);
+        change_range(rt, &mut one, start..=last, change);
+        change_range(rt, &mut other, start..end, change);
+        assert!(rt;
+            one == other,
+            "{change:?} of {start}..={last} of {}",
+            set.len()
+        );
+    }
     Ok(())
 }
 
