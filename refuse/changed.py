@@ -7,7 +7,8 @@ import pathlib
 import re
 
 TOP = pathlib.Path(__file__).resolve().parent.parent
-FUNCTION = re.compile(r"( *)(?:pub(?:\(\w+\))? )?(?:const |unsafe |extern \"C\" )*fn (\w+)")
+# The head of a function, or the line of a constant in an `impl`, which a check proves as it does a function.
+FUNCTION = re.compile(r"( *)(?:pub(?:\(\w+\))? )?(?:(?:const |unsafe |extern \"C\" )*fn|(?<= {4})const(?=.*;)) (\w+)")
 DEFINITION = re.compile(r"( *)((?:pub |abbrev |unfoldable |opaque )*)((?:record |data )?)(\S*)(.*)")
 IMPL = re.compile(r"(?:pub )?(?:unsafe )?(?:impl|trait)\b ?(.*)")
 
@@ -62,8 +63,8 @@ class Function:
     indent. It is plain where it may have another name: it is no method of a trait, and does not call itself."""
     def __init__(self, path, lines, at):
         indent, name = FUNCTION.match(lines[at]).groups()
-        body = next((it for it in range(at, len(lines)) if lines[it].endswith((";", "{", "{}"))), at)
-        ends = (indent + "}", indent + "{}", *[lines[body]] * (lines[body][-1] == ";"))
+        body = next((it for it in range(at, len(lines)) if re.search(r"(?:;|\{|\{\})(?: //.*)?$", lines[it])), at)
+        ends = (indent + "}", indent + "{}", *[lines[body]] * (lines[body][-1] not in "{}"))
         last = next((it for it in range(body, len(lines)) if lines[it] in ends), at)
         first = next(it for it in range(at, -1, -1) if it == 0 or not lines[it - 1].startswith(indent + "#["))
         impl = next((it for it in map(IMPL.match, lines[at::-1]) if it), None) if indent else None
@@ -125,9 +126,9 @@ class Edit:
 def changed_at(crate, path, text, old):
     """The functions that a change of the old text changes, whether it changes one function and nothing else, and all that
     rests on what it changes, or None where that is not known. In src/ it is the function that has the text: the last that
-    begins before it, unless that has ended there."""
+    begins before it, unless that has ended there. On a line of specs/ that only brings names nothing rests."""
     if path.startswith("specs/"):
-        return resting_on(crate, text, old)
+        return ([], True, set()) if old.startswith("use ") else resting_on(crate, text, old)
     lines, at = text.split("\n"), text[: text.index(old)].count("\n")
     heads = [it for it in range(at + 1) if path.endswith(".rt") and FUNCTION.match(lines[it])]
     found = [it for it in (Function(path, lines, head) for head in heads[-1:]) if at + 1 in it.lines]
