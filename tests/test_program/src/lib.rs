@@ -10,8 +10,6 @@ mod json;
 #[cfg(test)]
 mod json_sessions;
 #[cfg(test)]
-mod mutants;
-#[cfg(test)]
 mod program;
 #[cfg(test)]
 mod sessions;
