@@ -14,11 +14,12 @@ IMPL = re.compile(r"(?:pub )?(?:unsafe )?(?:impl|trait)\b ?(.*)")
 
 
 class Crate:
-    """A line of crates.txt."""
-    def __init__(self, line):
+    """A line of crates.txt, with the edits of the crate below a folder."""
+    def __init__(self, line, top=TOP):
         head, _, deps = line.partition(":")
         self.name, *kind = head.split()
         self.folder, self.deps, self.is_static = TOP / "crates" / self.name, deps.split(), "staticlib" in kind
+        self.must_fail = top / "crates" / self.name / "must-fail"
         self.root = "src/main.rt" if (self.folder / "src/main.rt").is_file() else "src/lib.rt"
         self.rlib, self.is_library = self.folder / "out/rlib", self.root == "src/lib.rt" and not self.is_static
 
@@ -43,8 +44,15 @@ class Crate:
         place = f"/{function.symbol.replace('::', '/')}/"
         return [it for it in self.sources if it.startswith("proofs/") and place in it]
 
+    def root_without_main(self, texts):
+        """The root of a program with empty lines in place of `main`, by its path: then it is a library."""
+        lines = texts.get(self.root, self.sources[self.root]).split("\n")
+        for it in [it.lines for it in functions_of(self.root, lines) if it.name == "main"]:
+            lines[it.start - 1 : it.stop - 1] = [""] * len(it)
+        return {self.root: "\n".join(lines)}
+
     def edits(self):
-        return [Edit(self, it) for it in sorted(self.folder.glob("must-fail/*.edit"))]
+        return [Edit(self, it) for it in sorted(self.must_fail.glob("*.edit"))]
 
 
 def symbol_of_impl(heading):
