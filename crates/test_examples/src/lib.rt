@@ -1,4 +1,4 @@
-//! The examples in the docs of the public calls of a set and of `flow`, as tests, and the blocks of the documents.
+//! The examples in the docs of the public calls of a set and of `flow`, as tests.
 //! docs/make_examples writes each file of this crate but `calls.rt`.
 #![tactic(auto)]
 
@@ -60,8 +60,6 @@ mod problem;
 mod questions;
 #[cfg(test)]
 mod ranges;
-#[cfg(test)]
-mod readme_1;
 #[cfg(test)]
 mod set;
 #[cfg(test)]

@@ -3,12 +3,6 @@
 #![tactic(auto)]
 
 #[cfg(test)]
-mod bitlines_laws;
-#[cfg(test)]
-mod bitranks_laws;
-#[cfg(test)]
-mod bitrows_counted;
-#[cfg(test)]
 mod bitwords_shifts;
 #[cfg(test)]
 mod bytes;
@@ -31,8 +25,6 @@ mod counter;
 #[cfg(test)]
 mod cursors;
 #[cfg(test)]
-mod directory;
-#[cfg(test)]
 mod fault;
 #[cfg(test)]
 mod form;
@@ -51,8 +43,6 @@ mod ops;
 #[cfg(test)]
 mod pairs;
 #[cfg(test)]
-mod pieces;
-#[cfg(test)]
 mod positions;
 #[cfg(test)]
 mod program;
@@ -60,8 +50,6 @@ mod program;
 mod range;
 #[cfg(test)]
 mod ranges;
-#[cfg(test)]
-mod ranks;
 #[cfg(test)]
 mod runs;
 #[cfg(test)]

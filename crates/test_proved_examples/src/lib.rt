@@ -1,0 +1,20 @@
+//! The examples in the docs of the laws of sets, and of ranks with their laws, as tests, and the blocks of the documents.
+//! docs/make_examples writes each file of this crate.
+#![tactic(auto)]
+
+#[cfg(test)]
+mod bitranks_laws;
+#[cfg(test)]
+mod calls;
+#[cfg(test)]
+mod counted;
+#[cfg(test)]
+mod directory;
+#[cfg(test)]
+mod laws;
+#[cfg(test)]
+mod pieces;
+#[cfg(test)]
+mod ranks;
+#[cfg(test)]
+mod readme_1;
