@@ -40,25 +40,20 @@ abbrev Stepped : Option Refusal → Answer → Answer → Sets → Sets → Sets
 Stepped test answer r left old new Kept =
     MatchOption test (((r ≡ answer) × (new ≡ left)) ⊎ ((r ≡ refused Memory) × Kept)) (λ f. (r ≡ refused f) × (new ≡ old))
 
-asked : (k : ℕ) (c : Action) (r : Answer) (old new : Sets) (test : Option Refusal) (answer : Answer) (may : Bool)
-    → Stepped test answer r old old new (IsTrue may × (new ≡ old)) → Keeps k c r old new
-asked k c r old new (Some f) answer may s = keeps_all k c r old new s.1
-asked k c r old new None answer may (inl s) = keeps_all k c r old new s.1
-asked k c r old new None answer may (inr s) = keeps_all k c r old new s.1.1
-
-placed : (k : ℕ) (c : Action) (r : Answer) (old new : Sets) (test : Option Refusal) (answer : Answer) (v : Bits) (may : Bool)
-    → is_refused answer ≡ false → Stepped test answer r (place old k v) old new (IsTrue may × (new ≡ old)) → Keeps k c r old new
-placed k c r old new (Some f) answer v may plain s = keeps_all k c r old new s.1
-placed k c r old new None answer v may plain (inl s) =
-    (changed k old new v s.1, λ f is other. absurd (true≢false (ap is_refused (sym is ∙ s.0) ∙ plain)))
-placed k c r old new None answer v may plain (inr s) = keeps_all k c r old new s.1.1
+-- what is left is what the row leaves, or what was there
+stepped : (k : ℕ) (c : Action) (r : Answer) (old new : Sets) (test : Option Refusal) (answer : Answer) (left : Sets) (may : Bool)
+    → LeavesOthers k old left → ((f : Refusal) → answer ≡ refused f → left ≡ old) → Stepped test answer r left old new (IsTrue may × (new ≡ old))
+    → Keeps k c r old new
+stepped k c r old new (Some f) answer left may others plain s = keeps_all k c r old new s.1
+stepped k c r old new None answer left may others plain (inl s) = rw s.1 (others, λ f is other. plain f (sym s.0 ∙ is))
+stepped k c r old new None answer left may others plain (inr s) = keeps_all k c r old new s.1.1
 
 -- `from_iter` leaves the sets where it meets the greatest number
 made_of : (k : ℕ) (c : Action) (met : Bool) (r : Answer) (old new : Sets) (test : Option Refusal) (v : Bits) (may : Bool)
     → Stepped test (if met then refused Greatest else answer.done) r (if met then old else place old k v) old new (IsTrue may × (new ≡ old))
     → Keeps k c r old new
-made_of k c true r old new test v may s = asked k c r old new test (refused Greatest) may s
-made_of k c false r old new test v may s = placed k c r old new test answer.done v may refl s
+made_of k c true r old new test v may s = stepped k c r old new test _ old may (refl, λ j apart. refl) (λ f is. refl) s
+made_of k c false r old new test v may s = stepped k c r old new test _ _ may (changed k old _ v refl) (λ f is. cc) s
 
 -- `extend` keeps the items before the one that memory was refused for
 taken_in : (k : ℕ) (r : Answer) (old new : Sets) (test : Option Refusal) (answer : Answer) (v : Bits) (Taken : Bits → Type 0)
@@ -70,41 +65,10 @@ taken_in k r old new None answer v Taken (inr s) = changed k old new s.1.0 s.1.2
 -- ---- the rows
 
 of_row : (m : ℕ) (c : Action) (r : Answer) (old new : Sets) → Step m old c r new → Keeps (target c) c r old new
-of_row m (action.new a) r old new s = placed a _ r old new _ _ _ _ refl s
-of_row m (action.default a) r old new s = placed a _ r old new _ _ _ _ refl s
-of_row m (action.with_capacity a b) r old new s = placed a _ r old new _ _ _ _ refl s
-of_row m (action.with_capacity_and_blocks a b c) r old new s = placed a _ r old new _ _ _ _ refl s
-of_row m (action.clone a b) r old new s = placed a _ r old new _ _ _ _ refl s
-of_row m (action.clone_from a b) r old new s = placed a _ r old new _ _ _ _ refl s
 of_row m (action.from_iter a b) r old new s = made_of a _ (has_greatest b) r old new _ _ _ s
-of_row m (action.from_value a b) r old new s = placed a _ r old new _ _ _ _ refl s
-of_row m (action.bitand a b c) r old new s = placed a _ r old new _ _ _ _ refl s
-of_row m (action.bitor a b c) r old new s = placed a _ r old new _ _ _ _ refl s
-of_row m (action.bitxor a b c) r old new s = placed a _ r old new _ _ _ _ refl s
-of_row m (action.clear a) r old new s = placed a _ r old new _ _ _ _ refl s
-of_row m (action.grow a b) r old new s = placed a _ r old new _ _ _ _ refl s
-of_row m (action.grow_and_insert a b) r old new s = placed a _ r old new _ _ _ _ refl s
-of_row m (action.insert a b) r old new s = placed a _ r old new _ _ _ _ refl s
-of_row m (action.remove a b) r old new s = placed a _ r old new _ _ _ _ refl s
-of_row m (action.toggle a b) r old new s = placed a _ r old new _ _ _ _ refl s
-of_row m (action.put a b) r old new s = placed a _ r old new _ _ _ _ refl s
-of_row m (action.set a b c) r old new s = placed a _ r old new _ _ _ _ refl s
-of_row m (action.copy_bit a b c) r old new s = placed a _ r old new _ _ _ _ refl s
-of_row m (action.set_block a b c) r old new s = placed a _ r old new _ _ _ _ refl s
 of_row m (action.extend a b) r old new s = (taken_in a r old new _ _ _ _ s, λ f is other. absurd (other a b refl))
-of_row m (action.set_range a b c) r old new s = placed a _ r old new _ _ _ _ refl s
-of_row m (action.insert_range a b) r old new s = placed a _ r old new _ _ _ _ refl s
-of_row m (action.remove_range a b) r old new s = placed a _ r old new _ _ _ _ refl s
-of_row m (action.toggle_range a b) r old new s = placed a _ r old new _ _ _ _ refl s
-of_row m (action.union_with a b) r old new s = placed a _ r old new _ _ _ _ refl s
-of_row m (action.symmetric_difference_with a b) r old new s = placed a _ r old new _ _ _ _ refl s
-of_row m (action.bitor_assign a b) r old new s = placed a _ r old new _ _ _ _ refl s
-of_row m (action.bitxor_assign a b) r old new s = placed a _ r old new _ _ _ _ refl s
-of_row m (action.intersect_with a b) r old new s = placed a _ r old new _ _ _ _ refl s
-of_row m (action.difference_with a b) r old new s = placed a _ r old new _ _ _ _ refl s
-of_row m (action.bitand_assign a b) r old new s = placed a _ r old new _ _ _ _ refl s
-of_row m (action.into_ones a b) r old new s = placed a _ r old new _ _ _ _ refl s
-of_row m c r old new s = asked (target c) c r old new _ _ _ s
+of_row m c r old new s =
+    stepped (target c) c r old new _ _ _ _ (search (length-set, get_or-set_other)) (λ f is. cc) s
 
 pub only_target_changes : OnlyTargetChanges
 only_target_changes m c r old new s = (of_row m c r old new s).0
