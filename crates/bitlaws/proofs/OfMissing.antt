@@ -14,7 +14,8 @@ use Rattle.fixedbitset.specs.TwoSets.{union, intersection, difference, symmetric
 use Rattle.fixedbitset.specs.TwoSetsFacts.{length-union, length-intersection, length-difference, length-symmetric_difference, contains-union, contains-intersection, contains-difference, contains-symmetric_difference}
 use Rattle.bitlaws.specs.SetLaws.{size}
 use Rattle.bitlaws.specs.PieceLaws.{MissingIsEmpty, WithNothing}
-use Rattle.bitlaws.proofs.OfPieces.{and_true, union-size, intersection-size, difference-size, symmetric_difference-size, subset-clear, disjoint-clear}
+use Rattle.bitlaws.proofs.OfJoins.{lengths, members}
+use Rattle.bitlaws.proofs.OfPieces.{and_true}
 
 pub missing_is_empty : MissingIsEmpty
 missing_is_empty v start end = (
@@ -38,98 +39,34 @@ missing_is_empty v start end = (
 
 -- ---- joins
 
-or_false : (a b : Bool) → b ≡ false → (a || b) ≡ a
-or_false a b f = grind arith
-
-false_or : (a b : Bool) → a ≡ false → (a || b) ≡ b
-false_or a b f = grind arith
-
-either_false : (a b : Bool) → b ≡ false → either a b ≡ a
-either_false a b f = grind arith
-
-false_either : (a b : Bool) → a ≡ false → either a b ≡ b
-false_either a b f = grind arith
-
-and_false : (a b : Bool) → b ≡ false → (a && b) ≡ false
-and_false a b f = grind arith
-
-false_and : (a b : Bool) → a ≡ false → (a && b) ≡ false
-false_and a b f = grind arith
-
-not_false : (a b : Bool) → b ≡ false → (a && not b) ≡ a
-not_false a b f = grind arith
-
 pub union_with_nothing : WithNothing union (λ v. v) (λ v. v)
-union_with_nothing v =
-    let nothing = empty v.length in
-    let none = contains-empty v.length in (
-      same_bits _ _ (omega (arith, length-union v nothing, length-empty v.length)) (λ p. contains-union v nothing p ∙ or_false _ _ (none p)),
-      same_bits _ _ (omega (arith, length-union nothing v, length-empty v.length)) (λ p. contains-union nothing v p ∙ false_or _ _ (none p)),
-    )
+union_with_nothing v = (
+  same_bits _ _ (simp lengths (omega arith)) (λ p. simp members (grind arith)),
+  same_bits _ _ (simp lengths (omega arith)) (λ p. simp members (grind arith)),
+)
 
 pub symmetric_difference_with_nothing : WithNothing symmetric_difference (λ v. v) (λ v. v)
-symmetric_difference_with_nothing v =
-    let nothing = empty v.length in
-    let none = contains-empty v.length in (
-      same_bits _ _ (omega (arith, length-symmetric_difference v nothing, length-empty v.length)) (λ p. contains-symmetric_difference v nothing p ∙ either_false _ _ (none p)),
-      same_bits _ _ (omega (arith, length-symmetric_difference nothing v, length-empty v.length)) (λ p. contains-symmetric_difference nothing v p ∙ false_either _ _ (none p)),
-    )
+symmetric_difference_with_nothing v = (
+  same_bits _ _ (simp lengths (omega arith)) (λ p. simp members (grind arith)),
+  same_bits _ _ (simp lengths (omega arith)) (λ p. simp members (grind arith)),
+)
 
 pub intersection_with_nothing : WithNothing intersection (λ v. empty v.length) (λ v. empty v.length)
-intersection_with_nothing v =
-    let nothing = empty v.length in
-    let none = contains-empty v.length in (
-      same_bits _ _ (length-intersection v nothing ∙ sym (length-empty v.length)) (λ p. contains-intersection v nothing p ∙ and_false _ _ (none p) ∙ sym (none p)),
-      same_bits _ _ (length-intersection nothing v) (λ p. contains-intersection nothing v p ∙ false_and _ _ (none p) ∙ sym (none p)),
-    )
+intersection_with_nothing v = (
+  same_bits _ _ (simp lengths) (λ p. simp members (grind arith)),
+  same_bits _ _ (simp lengths) (λ p. simp members (grind arith)),
+)
 
 pub difference_with_nothing : WithNothing difference (λ v. v) (λ v. empty v.length)
-difference_with_nothing v =
-    let nothing = empty v.length in
-    let none = contains-empty v.length in (
-      same_bits _ _ (length-difference v nothing) (λ p. contains-difference v nothing p ∙ not_false _ _ (none p)),
-      same_bits _ _ (length-difference nothing v) (λ p. contains-difference nothing v p ∙ false_and _ _ (none p) ∙ sym (none p)),
-    )
+difference_with_nothing v = (
+  same_bits _ _ (simp lengths) (λ p. simp members (grind arith)),
+  same_bits _ _ (simp lengths) (λ p. simp members (grind arith)),
+)
 
 -- ---- counts and questions
 
-size-empty : (n : ℕ) → size (empty n) ≡ 0
+pub size-empty : (n : ℕ) → size (empty n) ≡ 0
 size-empty n = ap (count_ones (empty n) 0) (length-empty n) ∙ count_ones-empty n
 
-is_clear-empty : (n : ℕ) → is_clear (empty n) ≡ true
+pub is_clear-empty : (n : ℕ) → is_clear (empty n) ≡ true
 is_clear-empty n = (is_clear-tells (empty n)).1 (contains-empty n)
-
-pub union_count_with_nothing : WithNothing union_count size size
-union_count_with_nothing v =
-    let nothing = empty v.length in
-    (union-size v nothing ∙ ap size (union_with_nothing v).0, union-size nothing v ∙ ap size (union_with_nothing v).1)
-
-pub symmetric_difference_count_with_nothing : WithNothing symmetric_difference_count size size
-symmetric_difference_count_with_nothing v =
-    let nothing = empty v.length in
-    let both = symmetric_difference_with_nothing v in
-    (symmetric_difference-size v nothing ∙ ap size both.0, symmetric_difference-size nothing v ∙ ap size both.1)
-
-pub intersection_count_with_nothing : WithNothing intersection_count (λ v. 0) (λ v. 0)
-intersection_count_with_nothing v =
-    let nothing = empty v.length in
-    let both = intersection_with_nothing v in
-    (intersection-size v nothing ∙ ap size both.0 ∙ size-empty v.length, intersection-size nothing v ∙ ap size both.1 ∙ size-empty v.length)
-
-pub difference_count_with_nothing : WithNothing difference_count size (λ v. 0)
-difference_count_with_nothing v =
-    let nothing = empty v.length in
-    let both = difference_with_nothing v in
-    (difference-size v nothing ∙ ap size both.0, difference-size nothing v ∙ ap size both.1 ∙ size-empty v.length)
-
-pub subset_with_nothing : WithNothing is_subset is_clear (λ v. true)
-subset_with_nothing v =
-    let nothing = empty v.length in
-    let both = difference_with_nothing v in
-    (subset-clear v nothing ∙ ap is_clear both.0, subset-clear nothing v ∙ ap is_clear both.1 ∙ is_clear-empty v.length)
-
-pub disjoint_with_nothing : WithNothing is_disjoint (λ v. true) (λ v. true)
-disjoint_with_nothing v =
-    let nothing = empty v.length in
-    let both = intersection_with_nothing v in
-    (disjoint-clear v nothing ∙ ap is_clear both.0 ∙ is_clear-empty v.length, disjoint-clear nothing v ∙ ap is_clear both.1 ∙ is_clear-empty v.length)

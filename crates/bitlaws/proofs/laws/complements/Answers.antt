@@ -1,14 +1,13 @@
-use Rattle.bitlaws.proofs.OfJoins.{complement_twice, complement_of_union, complement_of_intersection, difference_by_complement}
+use Rattle.std.proofs.Common.{arith}
+use Rattle.std.proofs.lemmas.Bool.Decides.{nat_tests}
+use Rattle.fixedbitset.specs.BitsFacts.{same_bits, contains_below}
+use Rattle.bitlaws.proofs.OfJoins.{lengths, members}
 use Rattle.bitlaws.proofs.laws.complements.Goals as goal
 
-pub returns-clause-twice : goal.returns-clause-twice
-returns-clause-twice c = complement_twice
-
-pub returns-clause-of_union : goal.returns-clause-of_union
-returns-clause-of_union c = complement_of_union
-
-pub returns-clause-of_intersection : goal.returns-clause-of_intersection
-returns-clause-of_intersection c = complement_of_intersection
-
-pub returns-clause-difference : goal.returns-clause-difference
-returns-clause-difference c = difference_by_complement
+pub returns : goal.returns
+returns c = record {
+  twice = λ v. same_bits _ _ (simp lengths) (λ p. simp (members, lengths) (grind (arith, nat_tests, contains_below v p)));
+  of_union = λ v w long. same_bits _ _ (simp lengths (omega arith)) (λ p. simp (members, lengths, ← long) (grind arith));
+  of_intersection = λ v w long. same_bits _ _ (simp lengths (omega arith)) (λ p. simp (members, lengths, ← long) (grind arith));
+  difference = λ v w shorter. same_bits _ _ (simp lengths) (λ p. simp members (grind (arith, nat_tests, contains_below v p)));
+}

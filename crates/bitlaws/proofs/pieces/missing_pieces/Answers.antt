@@ -1,35 +1,18 @@
-use Rattle.bitlaws.proofs.OfMissing.{missing_is_empty, union_with_nothing, intersection_with_nothing, difference_with_nothing, symmetric_difference_with_nothing, union_count_with_nothing, intersection_count_with_nothing, difference_count_with_nothing, symmetric_difference_count_with_nothing, subset_with_nothing, disjoint_with_nothing}
+use Rattle.bitlaws.proofs.OfPieces.{union-size, intersection-size, difference-size, symmetric_difference-size, subset-clear, disjoint-clear}
+use Rattle.bitlaws.proofs.OfMissing.{missing_is_empty, union_with_nothing, intersection_with_nothing, difference_with_nothing, symmetric_difference_with_nothing, size-empty, is_clear-empty}
 use Rattle.bitlaws.proofs.pieces.missing_pieces.Goals as goal
 
-pub returns-clause-empty : goal.returns-clause-empty
-returns-clause-empty c = missing_is_empty
-
-pub returns-clause-union : goal.returns-clause-union
-returns-clause-union c = union_with_nothing
-
-pub returns-clause-intersection : goal.returns-clause-intersection
-returns-clause-intersection c = intersection_with_nothing
-
-pub returns-clause-difference : goal.returns-clause-difference
-returns-clause-difference c = difference_with_nothing
-
-pub returns-clause-symmetric_difference : goal.returns-clause-symmetric_difference
-returns-clause-symmetric_difference c = symmetric_difference_with_nothing
-
-pub returns-clause-union_count : goal.returns-clause-union_count
-returns-clause-union_count c = union_count_with_nothing
-
-pub returns-clause-intersection_count : goal.returns-clause-intersection_count
-returns-clause-intersection_count c = intersection_count_with_nothing
-
-pub returns-clause-difference_count : goal.returns-clause-difference_count
-returns-clause-difference_count c = difference_count_with_nothing
-
-pub returns-clause-symmetric_difference_count : goal.returns-clause-symmetric_difference_count
-returns-clause-symmetric_difference_count c = symmetric_difference_count_with_nothing
-
-pub returns-clause-subset : goal.returns-clause-subset
-returns-clause-subset c = subset_with_nothing
-
-pub returns-clause-disjoint : goal.returns-clause-disjoint
-returns-clause-disjoint c = disjoint_with_nothing
+pub returns : goal.returns
+returns c = record {
+  empty = missing_is_empty;
+  union = union_with_nothing;
+  intersection = intersection_with_nothing;
+  difference = difference_with_nothing;
+  symmetric_difference = symmetric_difference_with_nothing;
+  union_count = λ v. let both = union_with_nothing v in (simp (union-size, both.0), simp (union-size, both.1));
+  intersection_count = λ v. let both = intersection_with_nothing v in (simp (intersection-size, both.0, size-empty), simp (intersection-size, both.1, size-empty));
+  difference_count = λ v. let both = difference_with_nothing v in (simp (difference-size, both.0), simp (difference-size, both.1, size-empty));
+  symmetric_difference_count = λ v. let both = symmetric_difference_with_nothing v in (simp (symmetric_difference-size, both.0), simp (symmetric_difference-size, both.1));
+  subset = λ v. let both = difference_with_nothing v in (simp (subset-clear, both.0), simp (subset-clear, both.1, is_clear-empty));
+  disjoint = λ v. let both = intersection_with_nothing v in (simp (disjoint-clear, both.0, is_clear-empty), simp (disjoint-clear, both.1, is_clear-empty));
+}
