@@ -1,5 +1,6 @@
 -- The laws of a set in pieces are proved: for two slices that meet, and then for any cuts.
-use Rattle.std.proofs.Common.{◌≡◌, ℕ, ◌+◌, ◌-◌, ◌<◌, ◌≤◌, max, Bool, true, false, not, ◌&&◌, ◌||◌, ◌==◌, nat_lt, nat_le, List, [], ◌∷◌, map, sum, sum_by, zip, refl, sym, ap, ◌∙◌, arith, ⊎_elim}
+use Rattle.std.proofs.Math.Bool.{and-true, and-false}
+use Rattle.std.proofs.Common.{zero-add, ◌≡◌, ℕ, ◌+◌, ◌-◌, ◌<◌, ◌≤◌, max, Bool, true, false, not, ◌&&◌, ◌||◌, ◌==◌, nat_lt, nat_le, List, [], ◌∷◌, map, sum, sum_by, zip, refl, sym, ap, ◌∙◌, arith, ⊎_elim}
 use Rattle.std.specs.Cmp.{nat_cmp_total}
 use Rattle.std.specs.FinSet as set
 use Rattle.std.specs.List.{list_all}
@@ -29,63 +30,24 @@ use Rattle.bitlaws.specs.PieceLaws.{PiecesAreTheSet, AnySetsArePieces, JoinsByPi
 pub and_true : (a b : Bool) → b ≡ true → (a && b) ≡ a
 and_true a b f = grind arith
 
--- of a slice up to the length, and of a longer one
-contains-rest : (v : Bits) (start end p : ℕ) → v.length ≤ end → contains (slice v start end) p ≡ contains v (start + p)
-contains-rest v start end p long =
-    contains-slice v start end p ∙ last_holds true (contains v (start + p)) _ (λ one. let below : start + p < v.length = contains_below v (start + p) one in lt-ltb _ _ (omega arith))
+-- of a slice up to the length
+contains-rest : (v : Bits) (start p : ℕ) → contains (slice v start v.length) p ≡ contains v (start + p)
+contains-rest v start p = simp contains-slice (grind (arith, nat_tests, contains_below v (start + p)))
 
 slice-whole : (v : Bits) → slice v 0 v.length ≡ v
-slice-whole v = same_bits _ _ (length-slice v 0 v.length ∙ omega arith) (λ p.
-    contains-rest v 0 v.length p (omega arith) ∙ (let same : 0 + p ≡ p = omega arith in ap (contains v) same))
+slice-whole v = same_bits _ _ (simp length-slice (omega arith)) (λ p. simp (contains-rest, zero-add))
 
 append-nothing : (v : Bits) → append v (empty 0) ≡ v
-append-nothing v = same_bits _ _ (length-append v (empty 0) ∙ omega (arith, length-empty 0)) (λ p.
-    contains-append v (empty 0) p ∙ by_place p (contains-empty 0 (p - v.length)) (omega (arith, length-empty 0)))
-  where
-    no_more : (a b c d : Bool) → c ≡ false → (a ≡ true → d ≡ true) → ((a || (b && c)) && d) ≡ a
-    no_more a b c d none low = grind arith
-
-    by_place : (p : ℕ) → contains (empty 0) (p - v.length) ≡ false → v.length + (empty 0).length ≡ v.length → ((contains v p || (nat_le v.length p && contains (empty 0) (p - v.length))) && nat_lt p (v.length + (empty 0).length)) ≡ contains v p
-    by_place p none long = no_more _ _ _ _ none (λ one. let below : p < v.length = contains_below v p one in lt-ltb _ _ (omega arith))
-
-in_first : (a b c l m h : Bool) → l ≡ true → m ≡ false → h ≡ true → (((a && l) || (m && (b && c))) && h) ≡ (a && h)
-in_first a b c l m h e f g = grind arith
-
-in_second : (a b c l m h : Bool) → l ≡ false → m ≡ true → (h ≡ true → c ≡ true) → (((b && l) || (m && (a && c))) && h) ≡ (a && h)
-in_second a b c l m h e f g = grind arith
+append-nothing v =
+    same_bits _ _ (simp (length-append, length-empty) (omega arith))
+    (λ p. simp (contains-append, contains-empty, length-empty) (grind (arith, nat_tests, contains_below v p)))
 
 -- two slices that meet, appended
-module _ (v : Bits) (start cut end : ℕ) (first : start ≤ cut) (second : cut ≤ end) where
-  member_of_either : (p : ℕ) → (((contains v (start + p) && nat_lt p (cut - start)) || (nat_le (cut - start) p && (contains v (cut + (p - (cut - start))) && nat_lt (p - (cut - start)) (end - cut)))) && nat_lt p (end - start))
-      ≡ (contains v (start + p) && nat_lt p (end - start))
-  member_of_either p =
-      let here = contains v (start + p) in
-      let there = contains v (cut + (p - (cut - start))) in
-      let low = nat_lt p (cut - start) in
-      let high = nat_le (cut - start) p in
-      let inside = nat_lt (p - (cut - start)) (end - cut) in
-      let below = nat_lt p (end - start) in
-      ⊎_elim
-      (λ (less : p < cut - start).
-      let not_high : high ≡ false = grind (arith, nat_tests) in
-      in_first here there inside low high below (lt-ltb p (cut - start) less) not_high (lt-ltb p (end - start) (omega arith)))
-      (λ (more : cut - start ≤ p).
-      let at : cut + (p - (cut - start)) ≡ start + p = omega arith in
-      ap (λ q. ((here && low) || (high && (contains v q && inside))) && below) at
-      ∙ in_second here here inside low high below (le-ltb p (cut - start) more) (le-leb (cut - start) p more) (λ one. let less : p < end - start = ltb-true p (end - start) one in lt-ltb (p - (cut - start)) (end - cut) (omega arith)))
-      (cases_lt p (cut - start))
-
-  append-slices : append (slice v start cut) (slice v cut end) ≡ slice v start end
-  append-slices =
-      let low = slice v start cut in
-      let high = slice v cut end in
-      let low_long = length-slice v start cut in
-      let long : low.length + high.length ≡ end - start = omega (arith, low_long, length-slice v cut end) in
-      same_bits _ _ (length-append low high ∙ long ∙ sym (length-slice v start end)) (λ p.
-      contains-append low high p
-      ∙ (λ i. (contains-slice v start cut p i || (nat_le (low_long i) p && contains-slice v cut end (p - low_long i) i)) && nat_lt p (long i))
-      ∙ member_of_either p
-      ∙ sym (contains-slice v start end p))
+append-slices : (v : Bits) (start cut end : ℕ) → start ≤ cut → cut ≤ end → append (slice v start cut) (slice v cut end) ≡ slice v start end
+append-slices v start cut end first second =
+    same_bits _ _ (simp (length-append, length-slice) (omega arith)) (λ p.
+    let at : cut - start ≤ p → cut + (p - (cut - start)) ≡ start + p = λ more. omega arith in
+    simp (contains-append, contains-slice, length-slice) (grind (arith, nat_tests)))
 
 -- ---- put together
 
@@ -105,25 +67,12 @@ pieces_are_the_set v cuts are = together v 0 cuts are ∙ slice-whole v
 -- ---- any sets put together
 
 contains-append_low : (v w : Bits) (p : ℕ) → p < v.length → contains (append v w) p ≡ contains v p
-contains-append_low v w p below =
-    let not_high : nat_le v.length p ≡ false = grind (arith, nat_tests) in
-    contains-append v w p ∙ first_part (contains v p) (contains w (p - v.length)) (nat_le v.length p) (nat_lt p (v.length + w.length)) not_high (lt-ltb p (v.length + w.length) (omega arith))
-  where
-    first_part : (a b m h : Bool) → m ≡ false → h ≡ true → ((a || (m && b)) && h) ≡ a
-    first_part a b m h f g = grind arith
+contains-append_low v w p below = simp contains-append (grind (arith, nat_tests))
 
 contains-append_high : (v w : Bits) (p : ℕ) → contains (append v w) (v.length + p) ≡ contains w p
 contains-append_high v w p =
     let at : (v.length + p) - v.length ≡ p = omega arith in
-    contains-append v w (v.length + p)
-    ∙ ap (λ q. (contains v (v.length + p) || (nat_le v.length (v.length + p) && contains w q)) && nat_lt (v.length + p) (v.length + w.length)) at
-    ∙ second_part (contains v (v.length + p)) (contains w p) _ _
-    (contains-past v (v.length + p) (omega arith))
-    (le-leb v.length (v.length + p) (omega arith))
-    (λ one. let below : p < w.length = contains_below w p one in lt-ltb (v.length + p) (v.length + w.length) (omega arith))
-  where
-    second_part : (a b m h : Bool) → a ≡ false → m ≡ true → (b ≡ true → h ≡ true) → ((a || (m && b)) && h) ≡ b
-    second_part a b m h e f g = grind arith
+    simp (contains-append, at) (grind (arith, nat_tests, contains-past v (v.length + p), contains_below w p))
 
 -- where the part of u behind `start` is what the sets make, they are its pieces
 are_pieces : (u : Bits) (start : ℕ) (piece : Bits) (others : List Bits) → u.length ≡ start + (put_together (piece ∷ others)).length
@@ -133,24 +82,16 @@ are_pieces u start piece [] long same =
     let alone = append-nothing piece in
     let length : (append piece (empty 0)).length ≡ piece.length = ap (λ v. v.length) alone in (
       omega arith,
-      ap (λ v. v ∷ []) (same_bits _ _ (length-slice u start u.length ∙ omega arith) (λ p. contains-rest u start u.length p (omega arith) ∙ same p ∙ ap (λ v. contains v p) alone)),
+      ap (λ v. v ∷ []) (same_bits _ _ (length-slice u start u.length ∙ omega arith) (λ p. contains-rest u start p ∙ same p ∙ ap (λ v. contains v p) alone)),
     )
 are_pieces u start piece (next ∷ others) long same =
     let rest = put_together (next ∷ others) in
     let cut : ℕ = start + piece.length in
     let further : u.length ≡ cut + rest.length = omega (arith, long, length-append piece rest) in
-    let first : slice u start cut ≡ piece = same_bits _ _ (length-slice u start cut ∙ omega arith) (λ p. contains-slice u start cut p ∙ by_place p) in
+    let first : slice u start cut ≡ piece = same_bits _ _ (length-slice u start cut ∙ omega arith) (λ p.
+    simp contains-slice (grind (arith, nat_tests, same p, contains-append_low piece rest p, contains-past piece p))) in
     let later = are_pieces u cut next others further (λ p. let at : cut + p ≡ start + (piece.length + p) = omega arith in ap (contains u) at ∙ same (piece.length + p) ∙ contains-append_high piece rest p) in
     ((omega arith, later.0), λ i. first i ∷ later.1 i)
-  where
-    by_place : (p : ℕ) → (contains u (start + p) && nat_lt p ((start + piece.length) - start)) ≡ contains piece p
-    by_place p = ⊎_elim
-        (λ (low : p < piece.length).
-        and_true (contains u (start + p)) _ (lt-ltb p ((start + piece.length) - start) (omega arith)) ∙ same p ∙ contains-append_low piece (put_together (next ∷ others)) p low)
-        (λ (high : piece.length ≤ p).
-        and_right (contains u (start + p)) _ (le-ltb p ((start + piece.length) - start) (omega arith)) ∙ sym (contains-past piece p high))
-        (cases_lt p piece.length)
-
 pub any_sets_are_pieces : AnySetsArePieces
 any_sets_are_pieces piece others = are_pieces (put_together (piece ∷ others)) 0 piece others (omega arith) (λ p. let at : 0 + p ≡ p = omega arith in ap (contains (put_together (piece ∷ others))) at)
 
@@ -167,33 +108,16 @@ pub record IsJoin (join : Bits → Bits → Bits) (f : Bool → Bool → Bool) (
 
 module _ {join : Bits → Bits → Bits} {f : Bool → Bool → Bool} {long : ℕ → ℕ → ℕ} (law : IsJoin join f long) where
   both_kept : (a b l : Bool) → (f a b && l) ≡ f (a && l) (b && l)
-  both_kept a b true = and_true (f a b) true refl ∙ sym (λ i. f (and_true a true refl i) (and_true b true refl i))
-  both_kept a b false = and_right (f a b) false refl ∙ sym ((λ i. f (and_right a false refl i) (and_right b false refl i)) ∙ law.neither)
+  both_kept a b true = simp and-true
+  both_kept a b false = simp (and-false, law.neither)
 
   slice-join : (v w : Bits) (start end : ℕ) → slice (join v w) start end ≡ join (slice v start end) (slice w start end)
   slice-join v w start end =
-      let first = slice v start end in
-      let second = slice w start end in
-      same_bits _ _
-      (length-slice (join v w) start end ∙ sym (law.lengths first second ∙ (λ i. long (length-slice v start end i) (length-slice w start end i)) ∙ law.alike (end - start)))
-      (λ p.
-      contains-slice (join v w) start end p
-      ∙ ap (λ b. b && nat_lt p (end - start)) (law.members v w (start + p))
-      ∙ both_kept (contains v (start + p)) (contains w (start + p)) (nat_lt p (end - start))
-      ∙ sym (law.members first second p ∙ (λ i. f (contains-slice v start end p i) (contains-slice w start end p i))))
+      same_bits _ _ (simp (length-slice, law.lengths, law.alike)) (λ p. simp (contains-slice, law.members, both_kept))
 
   rest-join : (v w : Bits) (start : ℕ) → slice (join v w) start (join v w).length ≡ join (slice v start v.length) (slice w start w.length)
   rest-join v w start =
-      let first = slice v start v.length in
-      let second = slice w start w.length in
-      same_bits _ _
-      (length-slice (join v w) start (join v w).length
-      ∙ ap (λ n. n - start) (law.lengths v w)
-      ∙ sym (law.lengths first second ∙ (λ i. long (length-slice v start v.length i) (length-slice w start w.length i)) ∙ law.less v.length w.length start))
-      (λ p.
-      contains-rest (join v w) start (join v w).length p (omega arith)
-      ∙ law.members v w (start + p)
-      ∙ sym (law.members first second p ∙ (λ i. f (contains-rest v start v.length p (omega arith) i) (contains-rest w start w.length p (omega arith) i))))
+      same_bits _ _ (simp (length-slice, law.lengths, law.less)) (λ p. simp (contains-rest, law.members))
 
   pieces-join : (v w : Bits) (start : ℕ) (cuts : List ℕ) → pieces (join v w) start cuts ≡ map (λ both. join both.0 both.1) (zip (pieces v start cuts) (pieces w start cuts))
   pieces-join v w start [] = ap (λ u. u ∷ []) (rest-join v w start)
