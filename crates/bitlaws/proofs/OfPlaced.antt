@@ -57,15 +57,11 @@ IsToldBy v p at = IsTrue (lies_in p at) → contains v p ≡ contains at.1 (p - 
 
 contains-within : (v : Bits) (start end p : ℕ) → start ≤ p → p < end → contains v p ≡ contains (slice v start end) (p - start)
 contains-within v start end p from to =
-    let at : p ≡ start + (p - start) = omega arith in
-    ap (contains v) at ∙ sym (contains-slice v start end (p - start) ∙ and_true (contains v (start + (p - start))) _ (lt-ltb (p - start) (end - start) (omega arith)))
+    let at : start + (p - start) ≡ p = omega arith in
+    simp (contains-slice, at) (grind (arith, nat_tests))
 
 told_by_slice : (v : Bits) (start end p : ℕ) → IsToldBy v p (start, slice v start end)
-told_by_slice v start end p lies =
-    let ends = and_parts (nat_le start p) _ lies in
-    let from : start ≤ p = leb-true start p ends.0 in
-    let to : p < start + (slice v start end).length = ltb-true p _ ends.1 in
-    contains-within v start end p from (omega (arith, length-slice v start end))
+told_by_slice v start end p lies = grind (arith, nat_tests, contains-within v start end p, length-slice v start end)
 
 members : (v : Bits) (start : ℕ) (cuts : List ℕ) (p : ℕ) → All (IsToldBy v p) (placed_from v start cuts)
 members v start [] p = All-cons (IsToldBy v p) (start, slice v start v.length) [] (told_by_slice v start v.length p) (All-nil (IsToldBy v p))
@@ -76,36 +72,14 @@ members_by_pieces v cuts p = members v 0 cuts p
 
 -- ---- a change of one position
 
--- what a test chooses is kept, where what it chooses is within
-chosen : (e on c l : Bool) → (e ≡ true → l ≡ true) → (cond e on c && l) ≡ cond e on (c && l)
-chosen e on c l f = grind arith
-
--- and what lies outside does not count
-outside : (e on c l : Bool) → (e ≡ true → l ≡ false) → (cond e on c && l) ≡ (c && l)
-outside e on c l f = grind arith
-
 module _ (v : Bits) (start end p : ℕ) (on : Bool) (below : p < v.length) where
-  changed-slice : (q : ℕ) → contains (slice (set_bit v p on) start end) q ≡ (cond ((start + q) == p) on (contains v (start + q)) && nat_lt q (end - start))
-  changed-slice q = contains-slice (set_bit v p on) start end q ∙ ap (λ b. b && nat_lt q (end - start)) (contains-set_bit v p on (start + q) below)
-
   slice-changed : start ≤ p → p < end → slice (set_bit v p on) start end ≡ set_bit (slice v start end) (p - start) on
   slice-changed from to =
-      let part = slice v start end in
-      let within : p - start < part.length = omega (arith, length-slice v start end) in
-      same_bits _ _ (length-slice (set_bit v p on) start end ∙ sym (length-set_bit part (p - start) on ∙ length-slice v start end)) (λ q.
-      let same : ((start + q) == p) ≡ (q == (p - start)) = grind (arith, nat_tests) in
-      changed-slice q
-      ∙ ap (λ b. cond b on (contains v (start + q)) && nat_lt q (end - start)) same
-      ∙ chosen (q == (p - start)) on (contains v (start + q)) (nat_lt q (end - start)) (λ here. let at : q ≡ p - start = eqb-true q (p - start) here in lt-ltb q (end - start) (omega arith))
-      ∙ sym (contains-set_bit part (p - start) on q within ∙ ap (cond (q == (p - start)) on) (contains-slice v start end q)))
+      let within : p - start < (slice v start end).length = omega (arith, length-slice v start end) in
+      same_bits _ _ (simp (length-slice, length-set_bit)) (λ q. simp (contains-slice, contains-set_bit) (grind (arith, nat_tests)))
 
   slice-kept : in_range start end p ≡ false → slice (set_bit v p on) start end ≡ slice v start end
-  slice-kept out = same_bits _ _ (length-slice (set_bit v p on) start end ∙ sym (length-slice v start end)) (λ q.
-      changed-slice q
-      ∙ outside ((start + q) == p) on (contains v (start + q)) (nat_lt q (end - start)) (λ here. let at : start + q ≡ p = eqb-true (start + q) p here in false_from_ne_true _ (λ one.
-      let less : q < end - start = ltb-true q (end - start) one in
-      true≢false (sym (and_from _ _ (le-leb start p (omega arith)) (lt-ltb p end (omega arith))) ∙ out)))
-      ∙ sym (contains-slice v start end q))
+  slice-kept out = same_bits _ _ (simp length-slice) (λ q. simp (contains-slice, contains-set_bit) (grind (arith, nat_tests)))
 
 -- a change that keeps the length, and changes a slice in which the position lies as it changes the set
 pub record IsChange (change : Bits → ℕ → Bits) : Type 0 where
@@ -143,13 +117,12 @@ module _ {change : Bits → ℕ → Bits} (law : IsChange change) where
   piece-changed : (v : Bits) (start end p : ℕ) → p < v.length → start ≤ end
       → slice (change v p) start end ≡ cond (lies_in p (start, slice v start end)) (change (slice v start end) (p - start)) (slice v start end)
   piece-changed v start end p below order =
-      let part = slice v start end in
       let lies = lies_in-slice v start end p order in
       ⊎_elim
       (λ (one : in_range start end p ≡ true).
       let ends = and_parts (nat_le start p) _ one in
-      law.inside v start end p below (leb-true start p ends.0) (ltb-true p end ends.1) ∙ ap (λ b. cond b (change part (p - start)) part) (sym (lies ∙ one)))
-      (λ (out : in_range start end p ≡ false). law.others v start end p below out ∙ ap (λ b. cond b (change part (p - start)) part) (sym (lies ∙ out)))
+      rw (lies, one) (law.inside v start end p below (leb-true start p ends.0) (ltb-true p end ends.1)))
+      (λ (out : in_range start end p ≡ false). rw (lies, out) (law.others v start end p below out))
       (cases_Bool (in_range start end p))
 
   changed : (v : Bits) (start : ℕ) (cuts : List ℕ) (p : ℕ) → AreCuts v start cuts → p < v.length

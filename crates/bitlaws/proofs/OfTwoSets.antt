@@ -18,22 +18,11 @@ use Rattle.bitlaws.specs.TwoSetLaws.{SubsetBothWays, StepsBound, StepsOfEqual}
 
 -- the parts of a union and of a symmetric difference
 module _ (n : ℕ) (s t : FinSet nat_cmp) (below_s : (p : ℕ) → set.contains s p ≡ true → p < n) (below_t : (p : ℕ) → set.contains t p ≡ true → p < n) where
-  in_second : (a b : Bool) → ((a || b) && b) ≡ b
-  in_second a b = grind arith
-
-  in_first_alone : (a b : Bool) → ((a || b) && not b) ≡ (a && not b)
-  in_first_alone a b = grind arith
-
   union-inside : set.intersection (set.union s t) t ≡ t
-  union-inside = same_set _ _ (λ p.
-      set.contains-intersection nat_cmp_total _ t p ∙ ap (λ b. b && set.contains t p) (set.contains-union nat_cmp_total s t p) ∙ in_second (set.contains s p) (set.contains t p))
+  union-inside = same_set _ _ (λ p. simp (set.contains-intersection nat_cmp_total, set.contains-union nat_cmp_total) (grind arith))
 
   union-outside : set.difference (set.union s t) t ≡ set.difference s t
-  union-outside = same_set _ _ (λ p.
-      set.contains-difference nat_cmp_total _ t p
-      ∙ ap (λ b. b && not (set.contains t p)) (set.contains-union nat_cmp_total s t p)
-      ∙ in_first_alone (set.contains s p) (set.contains t p)
-      ∙ sym (set.contains-difference nat_cmp_total s t p))
+  union-outside = same_set _ _ (λ p. simp (set.contains-difference nat_cmp_total, set.contains-union nat_cmp_total) (grind arith))
 
   pub union-sizes : set.len (set.union s t) + set.len (set.intersection s t) ≡ set.len s + set.len t
   union-sizes =
@@ -41,25 +30,13 @@ module _ (n : ℕ) (s t : FinSet nat_cmp) (below_s : (p : ℕ) → set.contains 
       len-split n (set.union s t) t (λ p one. ⊎_elim (below_s p) (below_t p) (or_cases _ _ (sym (set.contains-union nat_cmp_total s t p) ∙ one))) ∙ (λ i. set.len (union-inside i) + set.len (union-outside i)) in
       omega (arith, whole, len-split n s t below_s)
 
-  one_inside : (a b : Bool) → (either a b && a) ≡ (a && not b)
-  one_inside a b = grind arith
-
-  one_outside : (a b : Bool) → (either a b && not a) ≡ (b && not a)
-  one_outside a b = grind arith
-
   symmetric_difference-inside : set.intersection (symmetric_difference s t) s ≡ set.difference s t
-  symmetric_difference-inside = same_set _ _ (λ p.
-      set.contains-intersection nat_cmp_total _ s p
-      ∙ ap (λ b. b && set.contains s p) (contains-symmetric_difference s t p)
-      ∙ one_inside (set.contains s p) (set.contains t p)
-      ∙ sym (set.contains-difference nat_cmp_total s t p))
+  symmetric_difference-inside =
+      same_set _ _ (λ p. simp (set.contains-intersection nat_cmp_total, set.contains-difference nat_cmp_total, contains-symmetric_difference) (grind arith))
 
   symmetric_difference-outside : set.difference (symmetric_difference s t) s ≡ set.difference t s
-  symmetric_difference-outside = same_set _ _ (λ p.
-      set.contains-difference nat_cmp_total _ s p
-      ∙ ap (λ b. b && not (set.contains s p)) (contains-symmetric_difference s t p)
-      ∙ one_outside (set.contains s p) (set.contains t p)
-      ∙ sym (set.contains-difference nat_cmp_total t s p))
+  symmetric_difference-outside =
+      same_set _ _ (λ p. simp (set.contains-difference nat_cmp_total, contains-symmetric_difference) (grind arith))
 
   in_some : (a b : Bool) → either a b ≡ true → (a || b) ≡ true
   in_some a b f = grind arith
@@ -94,13 +71,7 @@ subsets v w = (
 -- ---- the steps
 
 pub steps_bound : StepsBound
-steps_bound true true n m = (omega arith, omega arith)
-steps_bound true false n m = (omega arith, omega arith)
-steps_bound false true n m = (omega arith, omega arith)
-steps_bound false false n m = (omega arith, omega arith)
+steps_bound a b n m = (grind arith, grind arith)
 
 pub steps_of_equal : StepsOfEqual
-steps_of_equal true true n m same = (omega arith, omega arith)
-steps_of_equal true false n m same = (omega arith, omega arith)
-steps_of_equal false true n m same = (omega arith, omega arith)
-steps_of_equal false false n m same = (omega arith, omega arith)
+steps_of_equal a b n m same = (grind arith, grind arith)
