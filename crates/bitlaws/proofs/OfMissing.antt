@@ -1,7 +1,6 @@
 -- A piece in which nothing is set, and what joins, counts and questions answer of it.
-use Rattle.std.proofs.Common.{◌≡◌, ℕ, ◌+◌, ◌-◌, ◌<◌, ◌≤◌, Bool, true, false, not, ◌&&◌, ◌||◌, sym, ap, ◌∙◌, arith}
+use Rattle.std.proofs.Common.{◌≡◌, ℕ, ◌+◌, ◌-◌, ◌<◌, ◌≤◌, true, sym, ap, ◌∙◌, arith}
 use Rattle.std.proofs.lemmas.Bool.{lt-ltb, ltb-true, and_parts, true≢false, false_from_ne_true}
-use Rattle.bitlanes.specs.Bits.{either}
 use Rattle.fixedbitset.specs.Bits.{contains, empty, is_clear}
 use Rattle.fixedbitset.specs.BitsFacts.{same_bits, length-empty, contains-empty}
 use Rattle.fixedbitset.specs.MemberFacts.{is_clear-tells}
@@ -10,8 +9,7 @@ use Rattle.fixedbitset.specs.PartsFacts.{length-slice, contains-slice}
 use Rattle.fixedbitset.specs.Ranges.{count_ones}
 use Rattle.fixedbitset.specs.RangesFacts.{contains_any-tells}
 use Rattle.fixedbitset.specs.SizeFacts.{count_ones-empty}
-use Rattle.fixedbitset.specs.TwoSets.{union, intersection, difference, symmetric_difference, union_count, intersection_count, difference_count, symmetric_difference_count, is_subset, is_disjoint}
-use Rattle.fixedbitset.specs.TwoSetsFacts.{length-union, length-intersection, length-difference, length-symmetric_difference, contains-union, contains-intersection, contains-difference, contains-symmetric_difference}
+use Rattle.fixedbitset.specs.TwoSets.{union, intersection, difference, symmetric_difference}
 use Rattle.bitlaws.specs.SetLaws.{size}
 use Rattle.bitlaws.specs.PieceLaws.{MissingIsEmpty, WithNothing}
 use Rattle.bitlaws.proofs.OfJoins.{lengths, members}

@@ -1,5 +1,5 @@
 -- Equality, the order and the ends of a set by positions.
-use Rattle.std.proofs.Common.{◌≡◌, ℕ, ◌<◌, ◌≤◌, false, IsTrue, List, [], ◌∷◌, Option, Some, None, refl, sym, ap, ◌∙◌, arith, ⊎_elim}
+use Rattle.std.proofs.Common.{◌≡◌, ℕ, ◌<◌, ◌≤◌, true, false, IsTrue, List, [], ◌∷◌, Option, Some, None, refl, sym, ap, ◌∙◌, arith, ⊎_elim}
 use Rattle.std.specs.List.{Contains, last_or}
 use Rattle.std.proofs.lemmas.Bool.{true≢false}
 use Rattle.std.proofs.lemmas.List.Kept.{AllPairs-from_increasing}
@@ -23,17 +23,19 @@ compare_tells v w = ordered v w (compare v w) refl
 
 -- ---- the ends
 
+-- what is found in a set is p, where p is in it and what is found can only be p
+found : (v : Bits) (o : Option ℕ) (p : ℕ) → contains v p ≡ true → (o ≡ None → (q : ℕ) → contains v q ≡ false)
+    → ((q : ℕ) → o ≡ Some q → q ≡ p) → o ≡ Some p
+found v None p one none only = absurd (true≢false (sym one ∙ none refl p))
+found v (Some q) p one none only = ap Some (only q refl)
+
 pub minimum_is_least : MinimumIsLeast
-minimum_is_least v p = (minimum_least v p, λ least. found (minimum v) refl least)
-  where
-    found : (o : Option ℕ) → minimum v ≡ o → IsTrue (contains v p) × ((q : ℕ) → IsTrue (contains v q) → p ≤ q) → minimum v ≡ Some p
-    found None none least = absurd (true≢false (sym least.0 ∙ minimum_none v none p))
-    found (Some q) is least =
-        let other = minimum_least v q is in
-        let low : p ≤ q = least.1 q other.0 in
-        let high : q ≤ p = other.1 p least.0 in
-        let same : q ≡ p = omega arith in
-        is ∙ ap Some same
+minimum_is_least v p = (
+  minimum_least v p,
+  λ least. found v (minimum v) p least.0 (minimum_none v) (λ q is.
+      let other = minimum_least v q is in
+      omega (arith, least.1 q other.0, other.1 p least.0)),
+)
 
 -- the last of an ascending list is one of its members, and none is greater
 last_greatest : (x : ℕ) (xs : List ℕ) (p : ℕ) → Ascends (x ∷ xs) → last_or (Some x) xs ≡ Some p
@@ -76,13 +78,9 @@ unfolding maximum
 maximum_none v e = no_item v (has_none (asc v) e)
 
 pub maximum_is_greatest : MaximumIsGreatest
-maximum_is_greatest v p = (maximum_greatest v p, λ greatest. found (maximum v) refl greatest)
-  where
-    found : (o : Option ℕ) → maximum v ≡ o → IsTrue (contains v p) × ((q : ℕ) → IsTrue (contains v q) → q ≤ p) → maximum v ≡ Some p
-    found None none greatest = absurd (true≢false (sym greatest.0 ∙ maximum_none v none p))
-    found (Some q) is greatest =
-        let other = maximum_greatest v q is in
-        let high : q ≤ p = greatest.1 q other.0 in
-        let low : p ≤ q = other.1 p greatest.0 in
-        let same : q ≡ p = omega arith in
-        is ∙ ap Some same
+maximum_is_greatest v p = (
+  maximum_greatest v p,
+  λ greatest. found v (maximum v) p greatest.0 (maximum_none v) (λ q is.
+      let other = maximum_greatest v q is in
+      omega (arith, greatest.1 q other.0, other.1 p greatest.0)),
+)

@@ -1,10 +1,10 @@
 -- The laws of a set in pieces are proved: for two slices that meet, and then for any cuts.
 use Rattle.std.proofs.Math.Bool.{and-true, and-false}
-use Rattle.std.proofs.Common.{zero-add, ◌≡◌, ℕ, ◌+◌, ◌-◌, ◌<◌, ◌≤◌, max, Bool, true, false, not, ◌&&◌, ◌||◌, ◌==◌, nat_lt, nat_le, List, [], ◌∷◌, map, sum, sum_by, zip, refl, sym, ap, ◌∙◌, arith, ⊎_elim}
+use Rattle.std.proofs.Common.{zero-add, ◌≡◌, ℕ, ◌+◌, ◌-◌, ◌<◌, ◌≤◌, max, Bool, true, false, not, ◌&&◌, ◌||◌, ◌==◌, List, [], ◌∷◌, map, sum, sum_by, zip, refl, sym, ap, ◌∙◌, arith}
 use Rattle.std.specs.Cmp.{nat_cmp_total}
 use Rattle.std.specs.FinSet as set
 use Rattle.std.specs.List.{list_all}
-use Rattle.std.proofs.lemmas.Bool.{cases_lt, lt-ltb, le-ltb, le-leb, ltb-true, and_right}
+use Rattle.std.proofs.lemmas.Bool.{lt-ltb}
 use Rattle.std.proofs.lemmas.Bool.Decides.{nat_tests}
 use Rattle.std.proofs.lemmas.List.Sums.{sum_by-cons}
 use Rattle.std.proofs.lemmas.List.Folds.{sum_by-zero, list_all-map}
@@ -12,7 +12,7 @@ use Rattle.bitlanes.specs.Bits.{either}
 use Rattle.bitwords.specs.Rows.{count_below}
 use Rattle.bitwords.specs.CountFacts.{count-zero, count-same, count-append}
 use Rattle.fixedbitset.specs.Bits.{Bits, contains, empty, is_clear}
-use Rattle.fixedbitset.specs.BitsFacts.{same_bits, contains_below, contains-past, last_holds, length-empty, contains-empty}
+use Rattle.fixedbitset.specs.BitsFacts.{same_bits, contains_below, contains-past, length-empty, contains-empty}
 use Rattle.fixedbitset.specs.NumbersFacts as numbers
 use Rattle.fixedbitset.specs.NumbersFacts.{same_set, same_truth, len-below}
 use Rattle.fixedbitset.specs.MemberFacts.{is_clear-tells}

@@ -1,19 +1,16 @@
 -- The laws of ranges are proved.
-use Rattle.std.proofs.Common.{◌≡◌, ℕ, ◌-◌, ◌*◌, ◌/◌, ◌<◌, ◌≤◌, max, Bool, true, cond, ◌&&◌, nat_lt, nat_le, sym, ap, ◌∙◌, arith, ⊎_elim}
+use Rattle.std.proofs.Common.{◌≡◌, ℕ, ◌-◌, ◌*◌, ◌/◌, ◌<◌, ◌≤◌, max, true, cond, nat_le, sym, ap, ◌∙◌, arith, ⊎_elim}
 use Rattle.std.specs.FinSet as set
 use Rattle.std.proofs.lemmas.Bool.{cases_lt, lt-ltb, le-ltb, le-leb, ltb-true, leb-true, and_from, and_parts}
 use Rattle.std.proofs.lemmas.Bool.Decides.{nat_tests}
-use Rattle.bitlanes.specs.Bits.{either}
-use Rattle.fixedbitset.specs.Bits.{contains, words_needed}
+use Rattle.fixedbitset.specs.Bits.{words_needed}
 use Rattle.fixedbitset.specs.BitsFacts.{same_bits, contains_below}
-use Rattle.bitwords.specs.Rows.{in_range}
 use Rattle.bitwords.specs.CountFacts.{count-zero}
 use Rattle.fixedbitset.specs.Numbers.{numbers_between}
 use Rattle.fixedbitset.specs.NumbersFacts.{contains-numbers_between, len-below, same_set, same_truth}
-use Rattle.fixedbitset.specs.Ranges.{toggle_range}
 use Rattle.fixedbitset.specs.SizeFacts.{len-numbers_between}
 use Rattle.fixedbitset.specs.RangesFacts.{length-toggle_range, contains-toggle_range}
-use Rattle.bitlaws.specs.RangeLaws.{WordsOfRange, NumberOfRangeWords, RangeWordsBound, SearchBound, TogglingTwice, IsValidTells}
+use Rattle.bitlaws.specs.RangeLaws.{WordsOfRange, NumberOfRangeWords, TogglingTwice, IsValidTells}
 
 -- ---- the words of a range
 
@@ -42,27 +39,12 @@ number_of_range_words start end words same =
 
 -- ---- a change undone
 
-twice : (a r l : Bool) → (a ≡ true → l ≡ true) → (either (either a r && l) r && l) ≡ a
-twice a r l f = grind arith
-
 pub toggling_twice : TogglingTwice
-toggling_twice v start end = same_bits _ _ (length-toggle_range _ start end ∙ length-toggle_range v start end) (λ p.
-    contains-toggle_range (toggle_range v start end) start end p
-    ∙ (let a = contains-toggle_range v start end p in let b = length-toggle_range v start end in λ i. either (a i) (in_range start end p) && nat_lt p (b i))
-    ∙ twice (contains v p) (in_range start end p) (nat_lt p v.length) (λ one. lt-ltb _ _ (contains_below v p one)))
-
--- ---- the steps
-
-pub range_words_bound : RangeWordsBound
-range_words_bound start end = grind (arith, nat_tests)
-
-pub search_bound : SearchBound
-search_bound start end = grind (arith, nat_tests)
+toggling_twice v start end =
+    same_bits _ _ (simp length-toggle_range)
+    (λ p. simp (contains-toggle_range, length-toggle_range) (grind (arith, nat_tests, contains_below v p)))
 
 -- ---- the tests
 
 pub is_valid_tells : IsValidTells
-is_valid_tells v start end = (
-  λ valid. let both = and_parts (nat_le start end) _ valid in (leb-true start end both.0, leb-true end v.length both.1),
-  λ ends. and_from _ _ (le-leb start end ends.0) (le-leb end v.length ends.1),
-)
+is_valid_tells v start end = (λ valid. (grind (arith, nat_tests), grind (arith, nat_tests)), λ ends. grind (arith, nat_tests))

@@ -1,6 +1,6 @@
 -- The stretches of the numbers that pass, one after the other.
-use Rattle.std.proofs.Common.{inl, inr, ◌⊎◌, ◌≡◌, ℕ, zero, suc, ◌+◌, ◌-◌, ◌<◌, ◌≤◌, Bool, true, false, not, ◌&&◌, nat_le, nat_lt, IsTrue, MatchOption, slice_get, ◌∷◌, ◌++◌, map, refl, sym, ap, ◌∙◌, subst, arith, ⊎_elim}
-use Rattle.std.proofs.lemmas.Bool.{cases_eq, cases_lt, le-leb, leb-true, and_parts, and_from, true≢false, false_from_ne_true}
+use Rattle.std.proofs.Common.{inl, inr, ◌⊎◌, ◌≡◌, ℕ, zero, suc, ◌+◌, ◌-◌, ◌<◌, ◌≤◌, Bool, true, false, not, ◌&&◌, nat_le, nat_lt, ◌∷◌, ◌++◌, map, refl, sym, ap, ◌∙◌, subst, arith, ⊎_elim}
+use Rattle.std.proofs.lemmas.Bool.{cases_eq, le-leb, leb-true, and_parts, and_from, true≢false, false_from_ne_true}
 use Rattle.bitwords.specs.Ascending.{ascending}
 use Rattle.bitwords.specs.AscendingFacts.{ascending-none, first-from}
 use Rattle.bitwords.specs.Neighbours.{IsNext, NonePasses}
@@ -13,17 +13,17 @@ use Rattle.fixedbitset.specs.RangesFacts.{contains_any-tells}
 use Rattle.fixedbitset.specs.Runs.{runs, zero_runs, has_room, first_gap}
 
 -- the least number that passes, if there is one
-least : (test : ℕ → Bool) (low k : ℕ) → NonePasses test low (low + k) ⊎ ((p : ℕ) × IsNext test low (low + k) p)
-least test low zero = inl (λ i above below. absurd (omega (arith, above, below)))
-least test low (suc k) = at_low (test low) refl (least test (low + 1) k)
+least : (test : ℕ → Bool) (k low end : ℕ) → low + k ≡ end → NonePasses test low end ⊎ ((p : ℕ) × IsNext test low end p)
+least test zero low end is = inl (λ i above below. absurd (omega (arith, above, below)))
+least test (suc k) low end is = at_low (test low) refl (least test k (low + 1) end (omega arith))
   where
     one_more : test low ≡ false → (end : ℕ) → NonePasses test (low + 1) end → NonePasses test low end
     one_more fails end none i above below = ⊎_elim (λ (here : low ≡ i). ap test (sym here) ∙ fails) (λ later. none i (omega (arith, above, later)) below) (cases_eq low i)
 
-    at_low : (b : Bool) → test low ≡ b → NonePasses test (low + 1) (low + 1 + k) ⊎ ((p : ℕ) × IsNext test (low + 1) (low + 1 + k) p) → NonePasses test low (low + suc k) ⊎ ((p : ℕ) × IsNext test low (low + suc k) p)
+    at_low : (b : Bool) → test low ≡ b → NonePasses test (low + 1) end ⊎ ((p : ℕ) × IsNext test (low + 1) end p) → NonePasses test low end ⊎ ((p : ℕ) × IsNext test low end p)
     at_low true passes rest = inr (low, record { after = omega arith; below = omega arith; passes = passes; none = λ i above below. absurd (omega (arith, above, below)) })
-    at_low false fails (inl none) = inl (one_more fails (low + suc k) (λ i above below. none i above (omega (arith, below))))
-    at_low false fails (inr next) = inr (next.0, record { after = omega (arith, next.1.after); below = omega (arith, next.1.below); passes = next.1.passes; none = one_more fails next.0 next.1.none })
+    at_low false fails (inl none) = inl (one_more fails end none)
+    at_low false fails (inr next) = inr (next.0, record { after = omega (arith, next.1.after); below = next.1.below; passes = next.1.passes; none = one_more fails next.0 next.1.none })
 
 not_true : (b : Bool) → not b ≡ true → b ≡ false
 not_true b e = grind arith
@@ -68,31 +68,23 @@ module _ (test : ℕ → Bool) (n : ℕ) where
 
   all_stretches : (fuel low : ℕ) → n ≤ low + fuel → low ≤ n → IsEdge low → AreStretches test low n (stretches test n low n)
   all_stretches zero low short within edge = no_stretch low (λ i above below. absurd (omega (arith, short, above, below)))
-  all_stretches (suc fuel) low short within edge = from_least (all_stretches fuel) (least test low (n - low))
+  all_stretches (suc fuel) low short within edge = from_least (all_stretches fuel) (least test (n - low) low n (omega arith))
     where
-      whole : low + (n - low) ≡ n
-      whole = omega (arith, within)
-
-      from_end : ((next : ℕ) → n ≤ next + fuel → next ≤ n → IsEdge next → AreStretches test next n (stretches test n next n)) → (start : ℕ) → IsNext test low n start → NonePasses (λ q. not (test q)) start (start + (n - start)) ⊎ ((q : ℕ) × IsNext (λ q. not (test q)) start (start + (n - start)) q) → AreStretches test low n (stretches test n low n)
+      from_end : ((next : ℕ) → n ≤ next + fuel → next ≤ n → IsEdge next → AreStretches test next n (stretches test n next n)) → (start : ℕ) → IsNext test low n start → NonePasses (λ q. not (test q)) start n ⊎ ((q : ℕ) × IsNext (λ q. not (test q)) start n q) → AreStretches test low n (stretches test n low n)
       from_end more start next (inl none) =
-          one_stretch low start n edge next next.below (omega arith) (λ p above below. not_false (test p) (none p above (omega (arith, below)))) (λ less. absurd (omega (arith, less)))
+          one_stretch low start n edge next next.below (omega arith) (λ p above below. not_false (test p) (none p above below)) (λ less. absurd (omega (arith, less)))
           (more n (omega arith) (omega arith) (λ less. absurd (omega (arith, less))))
       from_end more start next (inr found) =
           let end : ℕ = found.0 in
           let fails : test end ≡ false = not_true (test end) found.1.passes in
-          let some : start < end =
-          elim (cases_eq start end) [
-            | inl same ↦ absurd (true≢false (sym next.passes ∙ ap test same ∙ fails))
-            | inr other ↦ omega (arith, other, found.1.after)
-          ] in
-          one_stretch low start end edge next some (omega (arith, found.1.below, next.below)) (λ p above below. not_false (test p) (found.1.none p above below)) (λ less. fails)
-          (more end (omega (arith, short, some, next.after)) (omega (arith, found.1.below, next.below)) (λ less passes. absurd (true≢false (sym passes ∙ fails))))
+          let apart : ¬ (start ≡ end) = λ same. true≢false (sym next.passes ∙ ap test same ∙ fails) in
+          let some : start < end = omega (arith, found.1.after) in
+          one_stretch low start end edge next some (omega (arith, found.1.below)) (λ p above below. not_false (test p) (found.1.none p above below)) (λ less. fails)
+          (more end (omega (arith, short, some, next.after)) (omega (arith, found.1.below)) (λ less passes. absurd (true≢false (sym passes ∙ fails))))
 
-      from_least : ((next : ℕ) → n ≤ next + fuel → next ≤ n → IsEdge next → AreStretches test next n (stretches test n next n)) → NonePasses test low (low + (n - low)) ⊎ ((p : ℕ) × IsNext test low (low + (n - low)) p) → AreStretches test low n (stretches test n low n)
-      from_least more (inl none) = no_stretch low (λ i above below. none i above (omega (arith, below, whole)))
-      from_least more (inr found) =
-          let next : IsNext test low n found.0 = record { after = found.1.after; below = omega (arith, found.1.below, whole); passes = found.1.passes; none = found.1.none } in
-          from_end more found.0 next (least (λ q. not (test q)) found.0 (n - found.0))
+      from_least : ((next : ℕ) → n ≤ next + fuel → next ≤ n → IsEdge next → AreStretches test next n (stretches test n next n)) → NonePasses test low n ⊎ ((p : ℕ) × IsNext test low n p) → AreStretches test low n (stretches test n low n)
+      from_least more (inl none) = no_stretch low none
+      from_least more (inr found) = from_end more found.0 found.1 (least (λ q. not (test q)) (n - found.0) found.0 n (omega (arith, found.1.below)))
 
   pub stretches_of : AreStretches test 0 n (stretches test n 0 n)
   stretches_of = all_stretches n 0 (omega arith) (omega arith) (λ _ one. at_zero (test 0) (test (0 - 1)) one)
@@ -124,18 +116,18 @@ room_tells v count p = (
 
 pub gap_is_least : GapIsLeast
 unfolding first_gap
-gap_is_least v count from = by_least (least (has_room v count) from (v.length + 1 - from))
+gap_is_least v count from =
+    let room = has_room v count in
+    let steps : ℕ = v.length + 1 - from in
+    ⊎_elim
+    (λ (none : NonePasses room from (from + steps)).
+    rw (ascending-none room from steps none) (λ p above holds. true≢false (sym holds ∙ none p above (omega (arith, past p holds)))))
+    (λ (found : (p : ℕ) × IsNext room from (from + steps) p).
+    let next = found.1 in
+    rw (first-from room from steps found.0 next.after next.below next.passes next.none) (next.after, next.passes, λ q above holds.
+    let not_less : ¬ (q < found.0) = λ less. true≢false (sym holds ∙ next.none q above less) in
+    omega arith))
+    (least room steps from (from + steps) refl)
   where
     past : (q : ℕ) → has_room v count q ≡ true → q < v.length + 1
-    past q room = let fits : q + count ≤ v.length = ((room_tells v count q).0 room).0 in omega (arith, fits)
-
-    by_least : NonePasses (has_room v count) from (from + (v.length + 1 - from)) ⊎ ((p : ℕ) × IsNext (has_room v count) from (from + (v.length + 1 - from)) p)
-        → MatchOption (slice_get (ascending (has_room v count) from (v.length + 1 - from)) 0) ((p : ℕ) → from ≤ p → ¬ (IsTrue (has_room v count p))) (λ p. (from ≤ p) × IsTrue (has_room v count p) × ((q : ℕ) → from ≤ q → IsTrue (has_room v count q) → p ≤ q))
-    by_least (inl none) =
-        rw (ascending-none (has_room v count) from (v.length + 1 - from) none)
-        (λ p above room. true≢false (sym room ∙ none p above (let h = past p room in omega (arith, above, h))))
-    by_least (inr found) =
-        let p : ℕ = found.0 in
-        let next = found.1 in
-        rw (first-from (has_room v count) from (v.length + 1 - from) p next.after next.below next.passes next.none)
-        (next.after, next.passes, λ q above room. ⊎_elim (λ (less : q < p). absurd (true≢false (sym room ∙ next.none q above less))) (λ (more : p ≤ q). more) (cases_lt q p))
+    past q holds = omega (arith, ((room_tells v count q).0 holds).0)

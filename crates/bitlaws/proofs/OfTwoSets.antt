@@ -1,5 +1,5 @@
 -- The counts of two sets against one another, and sets that are within one another.
-use Rattle.std.proofs.Common.{◌≡◌, ℕ, ◌+◌, ◌<◌, max, ⊎_elim, Bool, true, false, not, ◌&&◌, ◌||◌, sym, ap, ◌∙◌, arith}
+use Rattle.std.proofs.Common.{◌≡◌, ℕ, ◌+◌, ◌<◌, max, ⊎_elim, Bool, true, ◌||◌, sym, ap, ◌∙◌, arith}
 use Rattle.std.specs.Ordering.{nat_cmp}
 use Rattle.std.specs.Cmp.{nat_cmp_total}
 use Rattle.std.specs.FinSet as set
@@ -14,7 +14,7 @@ use Rattle.fixedbitset.specs.Ranges.{count_ones}
 use Rattle.fixedbitset.specs.SizeFacts.{len-split, count_ones-all}
 use Rattle.fixedbitset.specs.TwoSets.{union_count, intersection_count, difference_count, symmetric_difference_count}
 use Rattle.fixedbitset.specs.TwoSetsFacts.{is_subset-tells}
-use Rattle.bitlaws.specs.TwoSetLaws.{SubsetBothWays, StepsBound, StepsOfEqual}
+use Rattle.bitlaws.specs.TwoSetLaws.{SubsetBothWays}
 
 -- the parts of a union and of a symmetric difference
 module _ (n : ℕ) (s t : FinSet nat_cmp) (below_s : (p : ℕ) → set.contains s p ≡ true → p < n) (below_t : (p : ℕ) → set.contains t p ≡ true → p < n) where
@@ -67,11 +67,3 @@ subsets v w = (
   λ within. same_set v.positions w.positions (λ p. same_truth _ _ ((is_subset-tells v w).0 within.0 p) ((is_subset-tells w v).0 within.1 p)),
   λ same. ((is_subset-tells v w).1 (λ p one. sym (ap (λ s. set.contains s p) same) ∙ one), (is_subset-tells w v).1 (λ p one. ap (λ s. set.contains s p) same ∙ one)),
 )
-
--- ---- the steps
-
-pub steps_bound : StepsBound
-steps_bound a b n m = (grind arith, grind arith)
-
-pub steps_of_equal : StepsOfEqual
-steps_of_equal a b n m same = (grind arith, grind arith)

@@ -1,10 +1,10 @@
 -- Calls of a walk from its two ends, in any order.
-use Rattle.std.proofs.Common.{◌≡◌, ℕ, ◌+◌, ◌≤◌, List, [], ◌∷◌, ◌++◌, length, reverse, Option, Some, None, sym, ap, ◌∙◌, arith, append_assoc, append-nil}
+use Rattle.std.proofs.Common.{◌≡◌, ℕ, suc, refl, ◌+◌, ◌≤◌, List, [], ◌∷◌, ◌++◌, length, reverse, Option, Some, None, sym, ap, ◌∙◌, arith, append_assoc, append-nil}
 use Rattle.std.proofs.lemmas.List.{length-append, reverse-append}
 use Rattle.std.specs.Iterator.{YieldsFirst, YieldsLast}
 use Rattle.bitwords.specs.Walk.{Walk, TakesFromFront, TakesFromBack}
 use Rattle.bitwalks.specs.Pairs.{Sieved, AsksFront, AsksBack}
-use Rattle.bitlaws.specs.WalkLaws.{Call, from_front, from_back, given_front, given_back, PartsAreTheList, TookWords, TurnsOfCalls, LooksUpOnce, JoinsOnce, SplitsOnce, effort}
+use Rattle.bitlaws.specs.WalkLaws.{from_front, from_back, given_front, given_back, PartsAreTheList, TookWords, TurnsOfCalls, LooksUpOnce, JoinsOnce, SplitsOnce, effort}
 
 module _ {S : Type 0} (items : S → List ℕ) (first last : S → Option ℕ → S → Type 0)
     (gives_first : (s : S) (r : Option ℕ) (t : S) → first s r t → YieldsFirst items s r t) (gives_last : (s : S) (r : Option ℕ) (t : S) → last s r t → YieldsLast items s r t) where
@@ -27,7 +27,7 @@ module _ {S : Type 0} (items : S → List ℕ) (first last : S → Option ℕ �
 
 -- ---- turns
 
-took_front : (calls : ℕ) (s u t : Walk) → TakesFromFront 1 s u → TookWords calls u t → TookWords (calls + 1) s t
+took_front : (calls : ℕ) (s u t : Walk) → TakesFromFront 1 s u → TookWords calls u t → TookWords (suc calls) s t
 took_front calls s u t one rest = record {
   front = one.words ++ rest.front;
   back = rest.back;
@@ -36,7 +36,7 @@ took_front calls s u t one rest = record {
   turns = omega (arith, one.counts.turns, rest.turns, length-append one.words rest.front);
 }
 
-took_back : (calls : ℕ) (s u t : Walk) → TakesFromBack 1 s u → TookWords calls u t → TookWords (calls + 1) s t
+took_back : (calls : ℕ) (s u t : Walk) → TakesFromBack 1 s u → TookWords calls u t → TookWords (suc calls) s t
 took_back calls s u t one rest = record {
   front = rest.front;
   back = rest.back ++ one.words;
@@ -47,19 +47,10 @@ took_back calls s u t one rest = record {
   turns = omega (arith, one.counts.turns, rest.turns, length-append rest.back one.words);
 }
 
-one_more : (s t : Walk) (calls : List Call) (c : Call) → TookWords (length calls + 1) s t → TookWords (length (c ∷ calls)) s t
-one_more s t calls c took = record { front = took.front; back = took.back; stretch = took.stretch; taken = took.taken; turns = omega (arith, took.turns) }
-
 pub turns_of_calls : TurnsOfCalls
-turns_of_calls [] s t same = record {
-  front = [];
-  back = [];
-  stretch = ap (λ walk. walk.words) same ∙ sym (append-nil t.words);
-  taken = omega (arith, ap (λ walk. walk.taken) same);
-  turns = omega (arith, ap (λ walk. walk.turns) same);
-}
-turns_of_calls (from_front r ∷ calls) s t call = one_more s t calls (from_front r) (took_front (length calls) s call.0 t call.1.1 (turns_of_calls calls call.0 t call.2))
-turns_of_calls (from_back r ∷ calls) s t call = one_more s t calls (from_back r) (took_back (length calls) s call.0 t call.1.1 (turns_of_calls calls call.0 t call.2))
+turns_of_calls [] s t same = rw same (record { front = []; back = []; stretch = sym (append-nil t.words); taken = omega arith; turns = omega arith })
+turns_of_calls (from_front r ∷ calls) s t call = took_front (length calls) s call.0 t call.1.1 (turns_of_calls calls call.0 t call.2)
+turns_of_calls (from_back r ∷ calls) s t call = took_back (length calls) s call.0 t call.1.1 (turns_of_calls calls call.0 t call.2)
 
 -- what calls from one end add to the turns of a source, and take from its words
 spent_front : (calls : ℕ) (s t : Walk) → TakesFromFront calls s t → t.turns + length t.words ≡ s.turns + calls + length s.words
@@ -75,55 +66,38 @@ effort_back : (s t : Sieved) → AsksBack s t → effort t ≤ effort s + 1
 effort_back s t asks = omega (arith, spent_back asks.calls s.source t.source asks.takes, asks.asks.few)
 
 pub looks_up_once : LooksUpOnce
-looks_up_once [] s t same = record { asked = omega (arith, ap (λ v. v.asked) same, ap (λ v. length v.source.items) same); turns = omega (arith, ap effort same) }
+looks_up_once [] s t same = rw same (record { asked = refl; turns = omega arith })
 looks_up_once (from_front r ∷ calls) s t call =
     let rest = looks_up_once calls call.0 t call.2 in
-    record { asked = omega (arith, rest.asked, call.1.1.asks.asked); turns = omega (arith, rest.turns, effort_front s call.0 call.1.1) }
+    let effort = effort_front s call.0 call.1.1 in
+    record { asked = omega arith; turns = omega arith }
 looks_up_once (from_back r ∷ calls) s t call =
     let rest = looks_up_once calls call.0 t call.2 in
-    record { asked = omega (arith, rest.asked, call.1.1.asks.asked); turns = omega (arith, rest.turns, effort_back s call.0 call.1.1) }
+    let effort = effort_back s call.0 call.1.1 in
+    record { asked = omega arith; turns = omega arith }
 
 pub joins_once : JoinsOnce
-joins_once [] s t same = record {
-  asked = omega (arith, ap (λ v. v.second.asked) same, ap (λ v. length v.second.source.items) same);
-  turns = omega (arith, ap (λ v. v.first.turns + length v.first.words + effort v.second) same);
-}
+joins_once [] s t same = rw same (record { asked = refl; turns = omega arith })
 joins_once (from_front r ∷ calls) s t call =
-    let u = call.0 in
-    let rest = joins_once calls u t call.2 in
-    let one = call.1.1.0 in
-    record {
-      asked = omega (arith, rest.asked, call.1.1.1.asks.asked);
-      turns = omega (arith, rest.turns, spent_front one.calls s.first u.first one.takes, one.few, effort_front s.second u.second call.1.1.1);
-    }
+    let rest = joins_once calls call.0 t call.2 in
+    let first = spent_front _ s.first call.0.first call.1.1.0.takes in
+    let second = effort_front s.second call.0.second call.1.1.1 in
+    record { asked = omega arith; turns = omega arith }
 joins_once (from_back r ∷ calls) s t call =
-    let u = call.0 in
-    let rest = joins_once calls u t call.2 in
-    let one = call.1.1.0 in
-    record {
-      asked = omega (arith, rest.asked, call.1.1.1.asks.asked);
-      turns = omega (arith, rest.turns, spent_back one.calls s.first u.first one.takes, one.few, effort_back s.second u.second call.1.1.1);
-    }
+    let rest = joins_once calls call.0 t call.2 in
+    let first = spent_back _ s.first call.0.first call.1.1.0.takes in
+    let second = effort_back s.second call.0.second call.1.1.1 in
+    record { asked = omega arith; turns = omega arith }
 
 pub splits_once : SplitsOnce
-splits_once [] s t same = record {
-  asked_first = omega (arith, ap (λ v. v.first.asked) same, ap (λ v. length v.first.source.items) same);
-  asked_second = omega (arith, ap (λ v. v.second.asked) same, ap (λ v. length v.second.source.items) same);
-  turns = omega (arith, ap (λ v. effort v.first + effort v.second) same);
-}
+splits_once [] s t same = rw same (record { asked_first = refl; asked_second = refl; turns = omega arith })
 splits_once (from_front r ∷ calls) s t call =
-    let u = call.0 in
-    let rest = splits_once calls u t call.2 in
-    record {
-      asked_first = omega (arith, rest.asked_first, call.1.1.0.asks.asked);
-      asked_second = omega (arith, rest.asked_second, call.1.1.1.asks.asked);
-      turns = omega (arith, rest.turns, effort_front s.first u.first call.1.1.0, effort_front s.second u.second call.1.1.1);
-    }
+    let rest = splits_once calls call.0 t call.2 in
+    let first = effort_front s.first call.0.first call.1.1.0 in
+    let second = effort_front s.second call.0.second call.1.1.1 in
+    record { asked_first = omega arith; asked_second = omega arith; turns = omega arith }
 splits_once (from_back r ∷ calls) s t call =
-    let u = call.0 in
-    let rest = splits_once calls u t call.2 in
-    record {
-      asked_first = omega (arith, rest.asked_first, call.1.1.0.asks.asked);
-      asked_second = omega (arith, rest.asked_second, call.1.1.1.asks.asked);
-      turns = omega (arith, rest.turns, effort_back s.first u.first call.1.1.0, effort_back s.second u.second call.1.1.1);
-    }
+    let rest = splits_once calls call.0 t call.2 in
+    let first = effort_back s.first call.0.first call.1.1.0 in
+    let second = effort_back s.second call.0.second call.1.1.1 in
+    record { asked_first = omega arith; asked_second = omega arith; turns = omega arith }

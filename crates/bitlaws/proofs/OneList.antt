@@ -37,22 +37,25 @@ head_below x xs p ascends member =
 pub Ascends-tail : (x : ℕ) (xs : List ℕ) → Ascends (x ∷ xs) → Ascends xs
 Ascends-tail x xs ascends = λ i j d before within. ascends (suc i) (suc j) d (omega arith) (omega arith)
 
+-- so a member is the head or greater, and a greater one is a member of the others
+head_least : (x : ℕ) (xs : List ℕ) (p : ℕ) → Ascends (x ∷ xs) → Contains (x ∷ xs) p → (x ≤ p) × (x < p → Contains xs p)
+head_least x xs p ascends member = ⊎_elim
+    (λ (here : x ≡ p). (omega arith, λ less. absurd (omega arith)))
+    (λ later. (omega (arith, head_below x xs p ascends later), λ less. later))
+    (Contains-cases x xs p member)
+
 -- two ascending lists with the same members are one list
 same_lists : (xs ys : List ℕ) → Ascends xs → Ascends ys → ((p : ℕ) → Contains xs p → Contains ys p) → ((p : ℕ) → Contains ys p → Contains xs p) → xs ≡ ys
 same_lists [] [] a b to from = refl
 same_lists [] (y ∷ ys) a b to from = absurd (omega (arith, (from y (Contains-head y ys)).1))
 same_lists (x ∷ xs) [] a b to from = absurd (omega (arith, (to x (Contains-head x xs)).1))
 same_lists (x ∷ xs) (y ∷ ys) a b to from =
-    let low : y ≤ x = ⊎_elim (λ (e : y ≡ x). omega arith) (λ h. let l : y < x = head_below y ys x b h in omega arith) (Contains-cases y ys x (to x (Contains-head x xs))) in
-    let high : x ≤ y = ⊎_elim (λ (e : x ≡ y). omega arith) (λ h. let l : x < y = head_below x xs y a h in omega arith) (Contains-cases x xs y (from y (Contains-head y ys))) in
-    let heads : x ≡ y = omega arith in
-    let to_tail : (p : ℕ) → Contains xs p → Contains ys p = λ p h.
-    let l : x < p = head_below x xs p a h in
-    ⊎_elim (λ (e : y ≡ p). absurd (omega arith)) (λ there. there) (Contains-cases y ys p (to p (Contains-later x xs p h))) in
-    let from_tail : (p : ℕ) → Contains ys p → Contains xs p = λ p h.
-    let l : y < p = head_below y ys p b h in
-    ⊎_elim (λ (e : x ≡ p). absurd (omega arith)) (λ there. there) (Contains-cases x xs p (from p (Contains-later y ys p h))) in
-    let tails = same_lists xs ys (Ascends-tail x xs a) (Ascends-tail y ys b) to_tail from_tail in
+    let in_ys = λ (p : ℕ) (h : Contains (x ∷ xs) p). head_least y ys p b (to p h) in
+    let in_xs = λ (p : ℕ) (h : Contains (y ∷ ys) p). head_least x xs p a (from p h) in
+    let heads : x ≡ y = omega (arith, (in_ys x (Contains-head x xs)).0, (in_xs y (Contains-head y ys)).0) in
+    let tails = same_lists xs ys (Ascends-tail x xs a) (Ascends-tail y ys b)
+    (λ p h. (in_ys p (Contains-later x xs p h)).1 (omega (arith, heads, head_below x xs p a h)))
+    (λ p h. (in_xs p (Contains-later y ys p h)).1 (omega (arith, heads, head_below y ys p b h))) in
     λ i. heads i ∷ tails i
 
 -- each number that passes is listed

@@ -2,10 +2,4 @@ use Rattle.bitlaws.proofs.OfPieces.{size_by_pieces, counts_by_pieces, of_union, 
 use Rattle.bitlaws.proofs.pieces.counts_by_pieces.Goals as goal
 
 pub returns : goal.returns
-returns c = record {
-  ones = size_by_pieces;
-  union = counts_by_pieces of_union union-size;
-  intersection = counts_by_pieces of_intersection intersection-size;
-  difference = counts_by_pieces of_difference difference-size;
-  symmetric_difference = counts_by_pieces of_symmetric_difference symmetric_difference-size;
-}
+returns c = search (size_by_pieces, counts_by_pieces, of_union, of_intersection, of_difference, of_symmetric_difference, union-size, intersection-size, difference-size, symmetric_difference-size)
