@@ -1,6 +1,7 @@
 -- A piece in which nothing is set, and what joins, counts and questions answer of it.
-use Rattle.std.proofs.Common.{◌≡◌, ℕ, ◌+◌, ◌-◌, ◌<◌, ◌≤◌, true, sym, ap, ◌∙◌, arith}
+use Rattle.std.proofs.Common.{◌≡◌, ℕ, ◌+◌, ◌-◌, ◌<◌, ◌≤◌, true, false, sym, ap, ◌∙◌, arith}
 use Rattle.std.proofs.lemmas.Bool.{lt-ltb, ltb-true, and_parts, true≢false, false_from_ne_true}
+use Rattle.std.proofs.lemmas.Bool.Decides.{nat_tests}
 use Rattle.fixedbitset.specs.Bits.{contains, empty, is_clear}
 use Rattle.fixedbitset.specs.BitsFacts.{same_bits, length-empty, contains-empty}
 use Rattle.fixedbitset.specs.MemberFacts.{is_clear-tells}
@@ -19,20 +20,12 @@ pub missing_is_empty : MissingIsEmpty
 missing_is_empty v start end = (
   λ same some.
       let one = (contains_any-tells v start end).0 some in
-      let p = one.0 in
-      let from : start ≤ p = one.1 in
-      let to : p < end = one.2 in
-      let at : start + (p - start) ≡ p = omega arith in
-      let here : contains (slice v start end) (p - start) ≡ true =
-      contains-slice v start end (p - start) ∙ and_true (contains v (start + (p - start))) _ (lt-ltb (p - start) (end - start) (omega arith)) ∙ ap (contains v) at ∙ one.3 in
-      true≢false (sym here ∙ ap (λ u. contains u (p - start)) same ∙ contains-empty (end - start) (p - start)),
-  λ none. same_bits _ _ (length-slice v start end ∙ sym (length-empty (end - start))) (λ p.
-      contains-slice v start end p
-      ∙ false_from_ne_true _ (λ one.
-      let both = and_parts (contains v (start + p)) _ one in
-      let below : p < end - start = ltb-true p (end - start) both.1 in
-      none ((contains_any-tells v start end).1 (start + p, omega arith, omega arith, both.0)))
-      ∙ sym (contains-empty (end - start) p)),
+      let at : start + (one.0 - start) ≡ one.0 = omega (arith, one.1) in
+      let clear : contains (slice v start end) (one.0 - start) ≡ false = rw same (contains-empty (end - start) (one.0 - start)) in
+      grind (arith, nat_tests, one.1, one.2, one.3, contains-slice v start end (one.0 - start)),
+  λ none. same_bits _ _ (simp (length-slice, length-empty)) (λ p.
+      let out : p < end - start → ¬ (contains v (start + p) ≡ true) = λ below one. none ((contains_any-tells v start end).1 (start + p, omega arith, omega arith, one)) in
+      simp (contains-slice, contains-empty) (grind (arith, nat_tests))),
 )
 
 -- ---- joins

@@ -27,14 +27,13 @@ number_of_range_words start end words same =
     let is = words_of_range start end in
     let first : ℕ = start / 64 in
     let past : ℕ = words_needed end in
-    let within : (k : ℕ) → set.contains words k ≡ true → (first ≤ k) × (k < past) = λ k one. (is k some).0 ((same k).0 one) in
     let all : words ≡ numbers_between first past = same_set _ _ (λ k. same_truth _ _
-    (λ one. contains-numbers_between first past k ∙ and_from _ _ (le-leb _ _ (within k one).0) (lt-ltb _ _ (within k one).1))
-    (λ one. let ends = and_parts (nat_le first k) _ (sym (contains-numbers_between first past k) ∙ one) in (same k).1 ((is k some).1 (leb-true _ _ ends.0, ltb-true _ _ ends.1)))) in
-    ap set.len all ∙ len-numbers_between first past ∙ sym (ap (λ b. cond b (past - first) 0) (lt-ltb _ _ some)))
+    (λ one. let within = (is k some).0 ((same k).0 one) in simp contains-numbers_between (grind (arith, nat_tests)))
+    (λ one. let within = simp contains-numbers_between at one in (same k).1 ((is k some).1 (grind (arith, nat_tests), grind (arith, nat_tests))))) in
+    simp (all, len-numbers_between) (grind (arith, nat_tests)))
     (λ (none : end ≤ start).
-    let out : (k : ℕ) → set.contains words k ≡ true → k < 0 = λ k one. let held = (same k).0 one in let a = held.1 in let b = held.2 in absurd (omega arith) in
-    len-below 0 words out ∙ count-zero (set.contains words) ∙ sym (ap (λ b. cond b (words_needed end - start / 64) 0) (le-ltb _ _ none)))
+    let out : (k : ℕ) → set.contains words k ≡ true → k < 0 = λ k one. let held = (same k).0 one in absurd (omega (arith, held.1, held.2)) in
+    len-below 0 words out ∙ count-zero (set.contains words) ∙ grind (arith, nat_tests))
     (cases_lt start end)
 
 -- ---- a change undone
