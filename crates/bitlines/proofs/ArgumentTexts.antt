@@ -5,7 +5,7 @@ use Rattle.std.specs.Char.{is_ascii_digit}
 use Rattle.std.specs.Str.{all_ascii_digits}
 use Rattle.std.specs.Str.Parse.{digits_value}
 use Rattle.std.specs.List.{slice_split, onto_first, list_all, position_or_len}
-use Rattle.std.proofs.lemmas.Bool.{lt-ltb, eq-eqb}
+use Rattle.std.proofs.lemmas.Bool.{lt-ltb, eq-eqb, not-true, and_from, and_parts}
 use Rattle.std.proofs.lemmas.Bool.Decides.{nat_tests}
 use Rattle.std.proofs.lemmas.Str.Parse.{IsNumeralModel, numerals_by_value, tells_all_ascii_digits}
 use Rattle.std.proofs.lemmas.Grind.{common_steps}
@@ -24,39 +24,23 @@ use Rattle.bitlines.specs.Written.{letter}
 abbrev pub lacks : ℕ → List ℕ → Bool
 lacks b text = list_all (λ x. not (eqb x b)) text
 
-both : (p q : Bool) → p ≡ true → q ≡ true → (p && q) ≡ true
-both true q e f = f
-both false q e f = e
-
-pub left_of : (p q : Bool) → (p && q) ≡ true → p ≡ true
-left_of true q e = refl
-left_of false q e = e
-
-pub right_of : (p q : Bool) → (p && q) ≡ true → q ≡ true
-right_of true q e = e
-right_of false q e = absurd (true≢false (sym e))
-
 pub lacks-append : (b : ℕ) (xs ys : List ℕ) → lacks b xs ≡ true → lacks b ys ≡ true → lacks b (xs ++ ys) ≡ true
 lacks-append b [] ys e f = f
-lacks-append b (x ∷ xs) ys e f = both _ _ (left_of _ _ e) (lacks-append b xs ys (right_of _ _ e) f)
-
-not_true : (p : Bool) → not p ≡ true → p ≡ false
-not_true false e = refl
-not_true true e = sym e
+lacks-append b (x ∷ xs) ys e f = and_from _ _ (and_parts _ _ e).0 (lacks-append b xs ys (and_parts _ _ e).1 f)
 
 -- a text is cut at the first byte
 pub cut_at : (b : ℕ) (xs ys : List ℕ) → lacks b xs ≡ true → slice_split (λ x. eqb x b) (xs ++ b ∷ ys) ≡ xs ∷ slice_split (λ x. eqb x b) ys
 cut_at b [] ys e = slice_split-cons_yes (λ x. eqb x b) b ys (eq-eqb b b refl)
 cut_at b (x ∷ xs) ys e =
-    slice_split-cons_no (λ x. eqb x b) x (xs ++ b ∷ ys) (not_true _ (left_of _ _ e)) ∙ ap (onto_first x) (cut_at b xs ys (right_of _ _ e))
+    slice_split-cons_no (λ x. eqb x b) x (xs ++ b ∷ ys) (not-true _ (and_parts _ _ e).0) ∙ ap (onto_first x) (cut_at b xs ys (and_parts _ _ e).1)
 
 pub not_cut : (b : ℕ) (xs : List ℕ) → lacks b xs ≡ true → slice_split (λ x. eqb x b) xs ≡ xs ∷ []
 not_cut b [] e = refl
-not_cut b (x ∷ xs) e = slice_split-cons_no (λ x. eqb x b) x xs (not_true _ (left_of _ _ e)) ∙ ap (onto_first x) (not_cut b xs (right_of _ _ e))
+not_cut b (x ∷ xs) e = slice_split-cons_no (λ x. eqb x b) x xs (not-true _ (and_parts _ _ e).0) ∙ ap (onto_first x) (not_cut b xs (and_parts _ _ e).1)
 
 -- ---- numbers
 
-own : IsNumeralModel (λ ds. all_ascii_digits ds ≡ true) (digits_value 10)
+pub own : IsNumeralModel (λ ds. all_ascii_digits ds ≡ true) (digits_value 10)
 own = numerals_by_value (λ ds. all_ascii_digits ds ≡ true) tells_all_ascii_digits
 
 pub number_read : (n : ℕ) → n < 2 ^ 64 → number_of (decimal n) ≡ Some n
@@ -66,9 +50,9 @@ number_read n h = rw (lt-ltb 0 (length (decimal n)) (decimal_nonempty n h), digi
 digits_lack : (b : ℕ) (ds : List ℕ) → is_ascii_digit b ≡ false → all_ascii_digits ds ≡ true → lacks b ds ≡ true
 digits_lack b [] none e = refl
 digits_lack b (d ∷ ds) none e =
-    let digit : is_ascii_digit d ≡ true = left_of _ _ e in
+    let digit : is_ascii_digit d ≡ true = (and_parts _ _ e).0 in
     let other : eqb d b ≡ false = grind (arith, nat_tests) in
-    rw other (digits_lack b ds none (right_of _ _ e))
+    rw other (digits_lack b ds none (and_parts _ _ e).1)
 
 -- a byte that is no digit is nowhere in a number
 pub decimal_lacks : (b n : ℕ) → is_ascii_digit b ≡ false → n < 2 ^ 64 → lacks b (decimal n) ≡ true
@@ -80,7 +64,7 @@ position_or_len_cut : (b : ℕ) (xs ys : List ℕ) → lacks b xs ≡ true → p
 position_or_len_cut b [] ys e = rw (eq-eqb b b refl) refl
 position_or_len_cut b (x ∷ xs) ys e =
     let more : 1 + length xs ≡ suc (length xs) = omega arith in
-    rw (not_true (eqb x b) (left_of (not (eqb x b)) (lacks b xs) e)) (ap (λ n. 1 + n) (position_or_len_cut b xs ys (right_of _ _ e)) ∙ more)
+    rw (not-true (eqb x b) (and_parts _ _ e).0) (ap (λ n. 1 + n) (position_or_len_cut b xs ys (and_parts _ _ e).1) ∙ more)
 
 pub found_at : (b : ℕ) (xs ys : List ℕ) → lacks b xs ≡ true → position (λ x. eqb x b) (xs ++ b ∷ ys) ≡ Some (length xs)
 found_at b xs ys e =
@@ -98,7 +82,7 @@ second_dot xs ys =
 
 pub not_first : (xs : List ℕ) → lacks 61 xs ≡ true → eqb (slice_index_or xs 0 0) 61 ≡ false
 not_first [] e = refl
-not_first (x ∷ xs) e = not_true _ (left_of _ _ e)
+not_first (x ∷ xs) e = not-true _ (and_parts _ _ e).0
 
 -- ---- flags and letters
 
