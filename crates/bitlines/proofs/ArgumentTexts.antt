@@ -10,6 +10,7 @@ use Rattle.std.proofs.lemmas.Bool.Decides.{nat_tests}
 use Rattle.std.proofs.lemmas.Str.Parse.{IsNumeralModel, numerals_by_value, tells_all_ascii_digits}
 use Rattle.std.proofs.lemmas.Grind.{common_steps}
 use Rattle.std.proofs.lemmas.Fmt.{digits_decimal, digits_value-decimal, decimal_nonempty}
+use Rattle.std.proofs.lemmas.List.Folds.{list_all-append}
 use Rattle.std.proofs.lemmas.List.Splits.{slice_split-cons_yes, slice_split-cons_no}
 use Rattle.bitcommands.specs.declared.commands.arguments.End.{End}
 use Rattle.bitcommands.specs.declared.commands.arguments.End.TheVariants.{Front, Back}
@@ -25,8 +26,7 @@ abbrev pub lacks : ℕ → List ℕ → Bool
 lacks b text = list_all (λ x. not (eqb x b)) text
 
 pub lacks-append : (b : ℕ) (xs ys : List ℕ) → lacks b xs ≡ true → lacks b ys ≡ true → lacks b (xs ++ ys) ≡ true
-lacks-append b [] ys e f = f
-lacks-append b (x ∷ xs) ys e f = and_from _ _ (and_parts _ _ e).0 (lacks-append b xs ys (and_parts _ _ e).1 f)
+lacks-append b xs ys e f = list_all-append (λ x. not (eqb x b)) xs ys ∙ and_from _ _ e f
 
 -- a text is cut at the first byte
 pub cut_at : (b : ℕ) (xs ys : List ℕ) → lacks b xs ≡ true → slice_split (λ x. eqb x b) (xs ++ b ∷ ys) ≡ xs ∷ slice_split (λ x. eqb x b) ys

@@ -3,15 +3,11 @@ use Rattle.std.proofs.Common.{◌≡◌, ℕ, ◌+◌, ◌<◌, ◌≤◌, List,
 use Rattle.std.proofs.lemmas.List.{at_drop_more, at_drop_all}
 use Rattle.bitcommands.specs.declared.commands.arguments.End.{End}
 use Rattle.bitlines.specs.Arguments.{end_of, ends_from, ends_of}
-use Rattle.bitlines.proofs.Lists.{onto, onto-onto, onto-nil}
+use Rattle.bitlines.proofs.Lists.{onto, onto-one, onto-onto, onto-nil}
 
 ends_cons_some : (c : ℕ) (cs : List ℕ) (x : End) → end_of c ≡ Some x → ends_from (c ∷ cs) ≡ onto (x ∷ []) (ends_from cs)
 unfolding ends_from
-ends_cons_some c cs x e = rw e (by_rest (ends_from cs))
-  where
-    by_rest : (o : Option (List End)) → option_and_then (λ es. Some (x ∷ es)) o ≡ onto (x ∷ []) o
-    by_rest (Some es) = refl
-    by_rest None = refl
+ends_cons_some c cs x e = rw e (onto-one x (ends_from cs))
 
 ends_cons_none : (c : ℕ) (cs : List ℕ) → end_of c ≡ None → ends_from (c ∷ cs) ≡ None
 unfolding ends_from

@@ -17,15 +17,15 @@ pub onto-nil : {A : Type 0} (o : Option (List A)) → o ≡ onto [] o
 onto-nil (Some ys) = refl
 onto-nil None = refl
 
+pub onto-one : {A : Type 0} (x : A) (o : Option (List A)) → option_and_then (λ xs. Some (x ∷ xs)) o ≡ onto (x ∷ []) o
+onto-one x (Some xs) = refl
+onto-one x None = refl
+
 -- ---- numbers
 
 cons_some : (w : List ℕ) (ws : List (List ℕ)) (n : ℕ) → number_of w ≡ Some n → numbers_of (w ∷ ws) ≡ onto (n ∷ []) (numbers_of ws)
 unfolding numbers_of
-cons_some w ws n e = rw e (by_rest (numbers_of ws))
-  where
-    by_rest : (o : Option (List ℕ)) → option_and_then (λ ns. Some (n ∷ ns)) o ≡ onto (n ∷ []) o
-    by_rest (Some ns) = refl
-    by_rest None = refl
+cons_some w ws n e = rw e (onto-one n (numbers_of ws))
 
 cons_none : (w : List ℕ) (ws : List (List ℕ)) → number_of w ≡ None → numbers_of (w ∷ ws) ≡ None
 unfolding numbers_of

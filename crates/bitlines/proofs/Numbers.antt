@@ -6,7 +6,7 @@ use Rattle.std.specs.Bool.{IsTrue}
 use Rattle.std.specs.Char.{is_ascii_digit, digit_value}
 use Rattle.std.specs.Str.{all_ascii_digits}
 use Rattle.std.specs.Str.Parse.{digits_value_after}
-use Rattle.std.proofs.lemmas.Bool.{lt-ltb}
+use Rattle.std.proofs.lemmas.Bool.{lt-ltb, true≢false}
 use Rattle.std.proofs.lemmas.Bool.Decides.{nat_tests}
 use Rattle.std.proofs.lemmas.List.{at_drop_more, at_drop_all}
 use Rattle.bitlines.specs.Words.{◌>>=◌, words, number_of, number_at}
@@ -17,8 +17,7 @@ number_after n cs = cond (all_ascii_digits cs && nat_lt (digits_value_after 10 n
 
 pub number_empty : (w : List ℕ) → length w ≡ 0 → None ≡ number_of w
 unfolding number_of
-number_empty [] e = refl
-number_empty (c ∷ cs) e = absurd (omega arith)
+number_empty w e = grind (arith, nat_tests)
 
 pub number_start : (w : List ℕ) → 0 < length w → number_of w ≡ number_after 0 w
 unfolding number_of number_after
@@ -27,28 +26,17 @@ number_start w some = rw (lt-ltb 0 (length w) some) refl
 after_digit : (n c : ℕ) (cs : List ℕ) → is_ascii_digit c ≡ true → number_after n (c ∷ cs) ≡ number_after (n * 10 + (c - 48)) cs
 unfolding number_after
 after_digit n c cs digit =
-    let low : 48 ≤ c = grind (arith, nat_tests) in
-    let high : c ≤ 57 = grind (arith, nat_tests) in
     let value : digit_value c ≡ c - 48 = grind (arith, nat_tests) in
     rw (digit, value) refl
-
-after_other : (n c : ℕ) (cs : List ℕ) → is_ascii_digit c ≡ false → number_after n (c ∷ cs) ≡ None
-unfolding number_after
-after_other n c cs other = rw other refl
 
 value-ge : (n : ℕ) (cs : List ℕ) → n ≤ digits_value_after 10 n cs
 value-ge n [] = omega arith
 value-ge n (c ∷ cs) = omega (arith, value-ge (n * 10 + digit_value c) cs)
 
-not_both : (a b : Bool) (x : Option ℕ) → b ≡ false → cond (a && b) x None ≡ None
-not_both true b x e = rw e refl
-not_both false b x e = refl
-
-after_large : (n : ℕ) (cs : List ℕ) → 2 ^ 64 ≤ n → number_after n cs ≡ None
+-- a digit that makes the number too large, or another byte
+after_refused : (n c : ℕ) (cs : List ℕ) → (IsTrue (is_ascii_digit c) → 2 ^ 64 ≤ n * 10 + (c - 48)) → number_after n (c ∷ cs) ≡ None
 unfolding number_after
-after_large n cs large =
-    let most = value-ge n cs in
-    not_both (all_ascii_digits cs) (nat_lt (digits_value_after 10 n cs) (2 ^ 64)) _ (grind (arith, nat_tests))
+after_refused n c cs large = grind (arith, nat_tests, value-ge (n * 10 + digit_value c) cs)
 
 after_end : (n : ℕ) → n < 2 ^ 64 → number_after n [] ≡ Some n
 unfolding number_after
@@ -60,20 +48,8 @@ pub number_digit : (all : Option ℕ) (n : ℕ) (w : List ℕ) (i : ℕ) → all
     → all ≡ number_after (n * 10 + (get_or w i 0 - 48)) (drop (i + 1) w)
 number_digit all n w i so_far lt digit = so_far ∙ at_drop_more (number_after n) w i 0 lt ∙ after_digit n _ _ digit
 
-number_other : (all : Option ℕ) (n : ℕ) (w : List ℕ) (i : ℕ) → all ≡ number_after n (drop i w) → i < length w → is_ascii_digit (get_or w i 0) ≡ false → None ≡ all
-number_other all n w i so_far lt other = sym (so_far ∙ at_drop_more (number_after n) w i 0 lt ∙ after_other n _ _ other)
-
-number_large : (all : Option ℕ) (n : ℕ) (w : List ℕ) (i : ℕ) → all ≡ number_after n (drop i w) → i < length w → is_ascii_digit (get_or w i 0) ≡ true
-    → 2 ^ 64 ≤ n * 10 + (get_or w i 0 - 48) → None ≡ all
-number_large all n w i so_far lt digit large = sym (number_digit all n w i so_far lt digit ∙ after_large _ _ large)
-
--- a digit that makes the number too large, or another byte
 pub number_refused : (all : Option ℕ) (n : ℕ) (w : List ℕ) (i : ℕ) → all ≡ number_after n (drop i w) → i < length w → (IsTrue (is_ascii_digit (get_or w i 0)) → 2 ^ 64 ≤ n * 10 + (get_or w i 0 - 48)) → None ≡ all
-number_refused all n w i so_far lt large = by_digit (is_ascii_digit (get_or w i 0)) refl
-  where
-    by_digit : (t : Bool) → is_ascii_digit (get_or w i 0) ≡ t → None ≡ all
-    by_digit true digit = number_large all n w i so_far lt digit (large digit)
-    by_digit false other = number_other all n w i so_far lt other
+number_refused all n w i so_far lt large = sym (so_far ∙ at_drop_more (number_after n) w i 0 lt ∙ after_refused n _ _ large)
 
 pub number_end : (all : Option ℕ) (n : ℕ) (w : List ℕ) (i : ℕ) → all ≡ number_after n (drop i w) → length w ≤ i → n < 2 ^ 64 → Some n ≡ all
 number_end all n w i so_far past fits = sym (so_far ∙ at_drop_all (number_after n) w i past ∙ after_end n fits)
@@ -89,13 +65,9 @@ on_digit : (n c : ℕ) (ws : List (List ℕ)) → is_ascii_digit c ≡ true → 
 on_digit n c [] digit = rw (after_digit n c [] digit) refl
 on_digit n c (w ∷ ws) digit = rw (after_digit n c w digit) refl
 
-on_other : (n c : ℕ) (ws : List (List ℕ)) → is_ascii_digit c ≡ false → number_on n (onto_first c ws) ≡ None
-on_other n c [] other = rw (after_other n c [] other) refl
-on_other n c (w ∷ ws) other = rw (after_other n c w other) refl
-
-on_large : (n : ℕ) (ws : List (List ℕ)) → 2 ^ 64 ≤ n → number_on n ws ≡ None
-on_large n [] large = rw (after_large n [] large) refl
-on_large n (w ∷ ws) large = rw (after_large n w large) refl
+on_refused : (n c : ℕ) (ws : List (List ℕ)) → (IsTrue (is_ascii_digit c) → 2 ^ 64 ≤ n * 10 + (c - 48)) → number_on n (onto_first c ws) ≡ None
+on_refused n c [] large = rw (after_refused n c [] large) refl
+on_refused n c (w ∷ ws) large = rw (after_refused n c w large) refl
 
 -- a first word that begins with a digit
 first_word : (c : ℕ) (ws : List (List ℕ)) → number_at (onto_first c ws) ≡ number_on 0 (onto_first c ws)
@@ -112,8 +84,8 @@ words_digit n c cs digit = ap (number_on n) (slice_split-cons_no (λ b. eqb b 32
 words_space : (n c : ℕ) (cs : List ℕ) → eqb c 32 ≡ true → n < 2 ^ 64 → number_on n (words (c ∷ cs)) ≡ Some (n, words cs)
 words_space n c cs space fits = rw space (rw (after_end n fits) refl)
 
-words_other : (n c : ℕ) (cs : List ℕ) → is_ascii_digit c ≡ false → eqb c 32 ≡ false → number_on n (words (c ∷ cs)) ≡ None
-words_other n c cs other full = ap (number_on n) (slice_split-cons_no (λ b. eqb b 32) c cs full) ∙ on_other n c (words cs) other
+words_refused : (n c : ℕ) (cs : List ℕ) → (IsTrue (is_ascii_digit c) → 2 ^ 64 ≤ n * 10 + (c - 48)) → eqb c 32 ≡ false → number_on n (words (c ∷ cs)) ≡ None
+words_refused n c cs large full = ap (number_on n) (slice_split-cons_no (λ b. eqb b 32) c cs full) ∙ on_refused n c (words cs) large
 
 pub words_start : (w : List ℕ) → 0 < length w → is_ascii_digit (get_or w 0 0) ≡ true → number_at (words w) ≡ number_on 0 (words (drop 0 w))
 words_start [] some digit = absurd (omega arith)
@@ -122,7 +94,7 @@ words_start (c ∷ cs) some digit = rw (slice_split-cons_no (λ b. eqb b 32) c c
 none_at_first : (c : ℕ) (cs : List ℕ) (t : Bool) → eqb c 32 ≡ t → is_ascii_digit c ≡ false → number_at (words (c ∷ cs)) ≡ None
 unfolding number_at number_of
 none_at_first c cs true space other = rw space refl
-none_at_first c cs false full other = rw (slice_split-cons_no (λ b. eqb b 32) c cs full) (first_word c (words cs) ∙ on_other 0 c (words cs) other)
+none_at_first c cs false full other = rw (slice_split-cons_no (λ b. eqb b 32) c cs full) (first_word c (words cs) ∙ on_refused 0 c (words cs) (λ digit. absurd (true≢false (sym digit ∙ other))))
 
 pub words_empty : (w : List ℕ) → length w ≡ 0 → number_at (words w) ≡ None
 unfolding number_at number_of
@@ -143,13 +115,9 @@ pub on_at_space : (all : Option (ℕ × List (List ℕ))) (n : ℕ) (w : List �
     → all ≡ Some (n, words (drop (i + 1) w))
 on_at_space all n w i so_far lt space fits = so_far ∙ at_drop_more (λ u. number_on n (words u)) w i 0 lt ∙ words_space n (get_or w i 0) (drop (i + 1) w) space fits
 
-refused_by : (n : ℕ) (c : ℕ) (cs : List ℕ) (t : Bool) → is_ascii_digit c ≡ t → (IsTrue (is_ascii_digit c) → 2 ^ 64 ≤ n * 10 + (c - 48)) → eqb c 32 ≡ false → number_on n (words (c ∷ cs)) ≡ None
-refused_by n c cs true digit large full = words_digit n c cs digit ∙ on_large _ (words cs) (large digit)
-refused_by n c cs false other large full = words_other n c cs other full
-
 pub on_at_refused : (all : Option (ℕ × List (List ℕ))) (n : ℕ) (w : List ℕ) (i : ℕ) → all ≡ number_on n (words (drop i w)) → i < length w
     → (IsTrue (is_ascii_digit (get_or w i 0)) → 2 ^ 64 ≤ n * 10 + (get_or w i 0 - 48)) → eqb (get_or w i 0) 32 ≡ false → all ≡ None
-on_at_refused all n w i so_far lt large full = so_far ∙ at_drop_more (λ u. number_on n (words u)) w i 0 lt ∙ refused_by n (get_or w i 0) (drop (i + 1) w) (is_ascii_digit (get_or w i 0)) refl large full
+on_at_refused all n w i so_far lt large full = so_far ∙ at_drop_more (λ u. number_on n (words u)) w i 0 lt ∙ words_refused n (get_or w i 0) (drop (i + 1) w) large full
 
 pub on_at_end : (all : Option (ℕ × List (List ℕ))) (n : ℕ) (w : List ℕ) (i : ℕ) → all ≡ number_on n (words (drop i w)) → length w ≤ i → n < 2 ^ 64 → all ≡ Some (n, [])
 on_at_end all n w i so_far past fits = so_far ∙ at_drop_all (λ u. number_on n (words u)) w i past ∙ rw (after_end n fits) refl

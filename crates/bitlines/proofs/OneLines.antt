@@ -11,39 +11,27 @@ use Rattle.bitcommands.specs.Texts.{answer_text}
 use Rattle.bitlines.specs.Lines.{command_of}
 use Rattle.bitlines.specs.Output.{commands_of, is_command, lines_of, texts, fault_text}
 use Rattle.bitlines.specs.OutputLaws.{replies_of, OneLineEach}
+use Rattle.bitlines.proofs.ArgumentTexts.{not_cut}
 use Rattle.bitlines.proofs.OneOutput.{lines_of-append}
 use Rattle.bitlines.proofs.Outputs.{lines_of_nil}
-
-both : (a b : Bool) → (not a && b) ≡ true → (a ≡ false) × (b ≡ true)
-both a b e = (grind (arith, e), grind (arith, e))
-
--- such a text is the one part between line ends
-one_part : (xs : List ℕ) → is_one_line xs ≡ true → slice_split (λ x. eqb x 10) xs ≡ xs ∷ []
-one_part [] e = refl
-one_part (x ∷ xs) e =
-    let h = both (eqb x 10) (is_one_line xs) e in
-    slice_split-cons_no (λ y. eqb y 10) x xs h.0 ∙ ap (onto_first x) (one_part xs h.1)
 
 -- ---- the lines of an output
 
 -- a text and a line end in front are one line in front
 one_more_line : (text rest : List ℕ) → is_one_line text ≡ true → lines_of (text ++ 10 ∷ rest) ≡ text ∷ lines_of rest
-one_more_line text rest line = lines_of-append text rest ∙ ap (λ part. part ++ lines_of rest) (one_part text line)
+one_more_line text rest line = lines_of-append text rest ∙ ap (λ part. part ++ lines_of rest) (not_cut 10 text line)
+
+-- the lines of the texts are the replies, and as many as n
+abbrev Replied : List Bool → List Answer → ℕ → Type 0
+Replied flags answers n = (lines_of (texts flags answers) ≡ replies_of flags answers) × (length (replies_of flags answers) ≡ n)
 
 -- the law for these lines, from any sets
 abbrev LinesAre : List (List ℕ) → Type 0
 LinesAre lines = (sets final : Sets) (answers : List Answer) → Run 1000000 sets (commands_of lines) answers final
-    → (lines_of (texts (map is_command lines) answers) ≡ replies_of (map is_command lines) answers) × (length (replies_of (map is_command lines) answers) ≡ length lines)
+    → Replied (map is_command lines) answers (length lines)
 
-fault_first : (lines : List (List ℕ)) → LinesAre lines → (sets final : Sets) (answers : List Answer) → Run 1000000 sets (commands_of lines) answers final
-    → (lines_of (texts (false ∷ map is_command lines) answers) ≡ replies_of (false ∷ map is_command lines) answers) × (length (replies_of (false ∷ map is_command lines) answers) ≡ suc (length lines))
-unfolding texts
-fault_first lines behind sets final answers ran =
-    let h = behind sets final answers ran in
-    (one_more_line fault_text _ refl ∙ ap (λ ls. fault_text ∷ ls) h.0, ap suc h.1)
-
-answer_first : (c : Action) (lines : List (List ℕ)) → LinesAre lines → (sets final : Sets) (answers : List Answer) → Run 1000000 sets (c ∷ commands_of lines) answers final
-    → (lines_of (texts (true ∷ map is_command lines) answers) ≡ replies_of (true ∷ map is_command lines) answers) × (length (replies_of (true ∷ map is_command lines) answers) ≡ suc (length lines))
+answer_first : (c : Action) (lines : List (List ℕ)) → LinesAre lines → (sets final : Sets) (answers : List Answer)
+    → Run 1000000 sets (c ∷ commands_of lines) answers final → Replied (true ∷ map is_command lines) answers (suc (length lines))
 unfolding texts
 answer_first c lines behind sets final [] ran = absurd ran
 answer_first c lines behind sets final (r ∷ rs) ran =
@@ -51,16 +39,15 @@ answer_first c lines behind sets final (r ∷ rs) ran =
     (one_more_line (answer_text r) _ (step_line 1000000 sets ran.0 c r ran.1) ∙ ap (λ ls. answer_text r ∷ ls) h.0, ap suc h.1)
 
 one_line_more : (line : List ℕ) (lines : List (List ℕ)) (o : Option Action) → command_of line ≡ o → LinesAre lines → LinesAre (line ∷ lines)
-one_line_more line lines None e behind = λ sets final answers ran. rw e (fault_first lines behind sets final answers (rw e at ran))
+unfolding texts
+one_line_more line lines None e behind = λ sets final answers ran.
+    let h = behind sets final answers (rw e at ran) in
+    rw e (one_more_line fault_text _ refl ∙ ap (λ ls. fault_text ∷ ls) h.0, ap suc h.1)
 one_line_more line lines (Some c) e behind = λ sets final answers ran. rw e (answer_first c lines behind sets final answers (rw e at ran))
 
--- where there are no lines nothing is put out
-no_answers : (sets final : Sets) (answers : List Answer) → Run 1000000 sets [] answers final → (lines_of (texts [] answers) ≡ replies_of [] answers) × (length (replies_of [] answers) ≡ 0)
-unfolding texts
-no_answers sets final answers ran = (lines_of_nil, refl)
-
 lines_are : (lines : List (List ℕ)) → LinesAre lines
-lines_are [] = no_answers
+unfolding texts
+lines_are [] = λ sets final answers ran. (lines_of_nil, refl)
 lines_are (line ∷ lines) = one_line_more line lines (command_of line) refl (lines_are lines)
 
 pub one_line_each : OneLineEach
