@@ -1,5 +1,5 @@
 -- Texts of arguments are read back.
-use Rattle.std.proofs.Common.{◌≡◌, ℕ, suc, ◌+◌, ◌^◌, ◌<◌, Bool, true, false, ◌&&◌, not, eqb, List, [], ◌∷◌, ◌++◌, length, map, Some, true≢false, refl, sym, ap, ◌∙◌, arith, decimal}
+use Rattle.std.proofs.Common.{◌≡◌, ℕ, suc, ◌+◌, ◌^◌, ◌<◌, Bool, true, false, not, eqb, List, [], ◌∷◌, ◌++◌, length, map, Some, refl, ap, ◌∙◌, arith, decimal}
 use Rattle.std.specs.Prelude.{slice_index_or, position}
 use Rattle.std.specs.Char.{is_ascii_digit}
 use Rattle.std.specs.Str.{all_ascii_digits}
@@ -47,16 +47,13 @@ pub number_read : (n : ℕ) → n < 2 ^ 64 → number_of (decimal n) ≡ Some n
 unfolding number_of
 number_read n h = rw (lt-ltb 0 (length (decimal n)) (decimal_nonempty n h), digits_decimal own n h, digits_value-decimal own n h, lt-ltb n (2 ^ 64) h) refl
 
-digits_lack : (b : ℕ) (ds : List ℕ) → is_ascii_digit b ≡ false → all_ascii_digits ds ≡ true → lacks b ds ≡ true
+-- a byte that is no digit is nowhere among digits
+pub digits_lack : (b : ℕ) (ds : List ℕ) → is_ascii_digit b ≡ false → all_ascii_digits ds ≡ true → lacks b ds ≡ true
 digits_lack b [] none e = refl
 digits_lack b (d ∷ ds) none e =
     let digit : is_ascii_digit d ≡ true = (and_parts _ _ e).0 in
     let other : eqb d b ≡ false = grind (arith, nat_tests) in
     rw other (digits_lack b ds none (and_parts _ _ e).1)
-
--- a byte that is no digit is nowhere in a number
-pub decimal_lacks : (b n : ℕ) → is_ascii_digit b ≡ false → n < 2 ^ 64 → lacks b (decimal n) ≡ true
-decimal_lacks b n none h = digits_lack b (decimal n) none (digits_decimal own n h)
 
 -- ---- a range
 
@@ -71,14 +68,8 @@ found_at b xs ys e =
     let inside : length xs < length (xs ++ b ∷ ys) = grind (arith, common_steps) in
     rw (position_or_len_cut b xs ys e, lt-ltb (length xs) (length (xs ++ b ∷ ys)) inside) refl
 
-second_at : (xs ys : List ℕ) → slice_index_or (xs ++ 46 ∷ 46 ∷ ys) (suc (length xs)) 0 ≡ 46
-second_at [] ys = refl
-second_at (x ∷ xs) ys = second_at xs ys
-
 pub second_dot : (xs ys : List ℕ) → slice_index_or (xs ++ 46 ∷ 46 ∷ ys) (length xs + 1) 0 ≡ 46
-second_dot xs ys =
-    let next : length xs + 1 ≡ suc (length xs) = omega arith in
-    ap (λ k. slice_index_or (xs ++ 46 ∷ 46 ∷ ys) k 0) next ∙ second_at xs ys
+second_dot xs ys = grind (arith, common_steps)
 
 pub not_first : (xs : List ℕ) → lacks 61 xs ≡ true → eqb (slice_index_or xs 0 0) 61 ≡ false
 not_first [] e = refl

@@ -1,7 +1,5 @@
 -- The law of replies is proved: no text of a reply has a line end, so each line of the input puts out one line.
-use Rattle.std.proofs.Common.{◌≡◌, ℕ, suc, List, [], ◌∷◌, ◌++◌, length, map, Option, Some, None, Bool, true, false, not, ◌&&◌, eqb, refl, ap, ◌∙◌, arith}
-use Rattle.std.specs.List.{slice_split, onto_first}
-use Rattle.std.proofs.lemmas.List.Splits.{slice_split-cons_no}
+use Rattle.std.proofs.Common.{◌≡◌, ℕ, suc, List, [], ◌∷◌, ◌++◌, length, map, Option, Some, None, Bool, true, refl, ap, ◌∙◌}
 use Rattle.bitcommands.specs.Actions.{Action}
 use Rattle.bitcommands.specs.Answers.{Answer}
 use Rattle.bitcommands.specs.OneLineFacts.{is_one_line, step_line}

@@ -1,6 +1,5 @@
 -- A command leaves each set but its target as it was, and a refused one every set.
-use Rattle.std.proofs.Common.{◌≡◌, ◌≢◌, ℕ, Bool, true, false, List, Option, Some, None, MatchOption, IsTrue, if◌then◌else◌, ◌⊎◌, inl, inr, refl, sym, ap, ◌∙◌}
-use Rattle.std.proofs.lemmas.Bool.{true≢false}
+use Rattle.std.proofs.Common.{◌≡◌, ◌≢◌, ℕ, Bool, true, false, List, Option, Some, None, MatchOption, IsTrue, if◌then◌else◌, ◌⊎◌, inl, inr, refl, sym, ◌∙◌}
 use Rattle.std.proofs.lemmas.List.{length-set, get_or-set_other}
 use Rattle.fixedbitset.specs.Bits as model
 use Rattle.fixedbitset.specs.Bits.{Bits}
