@@ -1,5 +1,5 @@
 -- The JSON value of a text, by whether it is UTF-8, and of words.
-use Rattle.std.proofs.Common.{◌≡◌, ℕ, List, [], Some, None, Bool, true, false, cond, refl, ap, ◌∙◌}
+use Rattle.std.proofs.Common.{arith, ◌≡◌, ℕ, List, [], Some, None, Bool, true, false, cond, refl, ap, ◌∙◌}
 use Rattle.std.specs.Prelude.{Option}
 use Rattle.std.specs.Str.{IsUtf8, is_utf8}
 use Rattle.std.proofs.lemmas.Str.{is_utf8-from_IsUtf8, IsUtf8-from_is_utf8}
@@ -14,24 +14,16 @@ pub read_here : (text : List ℕ) (d : Data) → IsUtf8 text → read text ≡ S
 unfolding json_of
 read_here text d utf8 e = ap (λ b. cond b (read text) None) (is_utf8-from_IsUtf8 text utf8) ∙ e
 
-none_at : (text : List ℕ) (b : Bool) → is_utf8 text ≡ b → (IsUtf8 text → read text ≡ None) → cond b (read text) None ≡ None
-none_at text true e h = h (IsUtf8-from_is_utf8 text e)
-none_at text false e h = refl
-
 pub not_read_here : (text : List ℕ) → (IsUtf8 text → read text ≡ None) → json_of text ≡ None
 unfolding json_of
-not_read_here text h = none_at text (is_utf8 text) refl h
+not_read_here text h = grind (arith, h, IsUtf8-from_is_utf8 text)
 
 -- the words of a text, with the spaces between them, are the text
 pub json_at_words : (text : List ℕ) → json_at (words text) ≡ json_of text
 unfolding json_at
 json_at_words text = ap json_of (join_with_byte-slice_split 32 text)
 
-none_either : (b : Bool) → ◌≡◌ {A = Option Data} (cond b None None) None
-none_either true = refl
-none_either false = refl
-
 -- no word gives no value
 pub json_at_none : json_at [] ≡ None
 unfolding json_at json_of serde_json_on_literals
-json_at_none = none_either (is_utf8 [])
+json_at_none = grind arith

@@ -18,9 +18,6 @@ use Rattle.bitlines.proofs.LineSplits.{parts}
 
 -- ---- a text cut at a byte 10
 
-onto_first-append : (x : ℕ) (first rest : List (List ℕ)) (p : List ℕ) (ps : List (List ℕ)) → first ≡ p ∷ ps → onto_first x (first ++ rest) ≡ onto_first x first ++ rest
-onto_first-append x first rest p ps e = rw e refl
-
 -- what stands before a byte and what stands behind it are cut by themselves
 slice_split-append : (b : ℕ) (xs ys : List ℕ) → slice_split (λ x. eqb x b) (xs ++ b ∷ ys) ≡ slice_split (λ x. eqb x b) xs ++ slice_split (λ x. eqb x b) ys
 slice_split-append b [] ys = slice_split-cons_yes (λ x. eqb x b) b ys (eq-eqb b b refl)
@@ -28,11 +25,8 @@ slice_split-append b (x ∷ xs) ys = at_head (eqb x b) refl (slice_split-append 
   where
     at_head : (t : Bool) → eqb x b ≡ t → slice_split (λ x. eqb x b) (xs ++ b ∷ ys) ≡ slice_split (λ x. eqb x b) xs ++ slice_split (λ x. eqb x b) ys
         → slice_split (λ x. eqb x b) (x ∷ xs ++ b ∷ ys) ≡ slice_split (λ x. eqb x b) (x ∷ xs) ++ slice_split (λ x. eqb x b) ys
-    at_head true e h = rw (slice_split-cons_yes (λ y. eqb y b) x (xs ++ b ∷ ys) e, slice_split-cons_yes (λ y. eqb y b) x xs e) (ap (λ l. [] ∷ l) h)
-    at_head false e h =
-        let first = parts b xs in
-        rw (slice_split-cons_no (λ y. eqb y b) x (xs ++ b ∷ ys) e, slice_split-cons_no (λ y. eqb y b) x xs e)
-        (ap (onto_first x) h ∙ onto_first-append x _ _ first.0 first.1 first.2)
+    at_head true e h = rw (e, h) refl
+    at_head false e h = rw (e, h, (parts b xs).2) refl
 
 without_empty_last-append : (first rest : List (List ℕ)) (p : List ℕ) (ps : List (List ℕ)) → rest ≡ p ∷ ps → without_empty_last (first ++ rest) ≡ first ++ without_empty_last rest
 without_empty_last-append [] rest p ps e = refl

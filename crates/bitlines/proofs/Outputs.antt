@@ -37,8 +37,7 @@ lines_of_nil = refl
 
 pub lines_of_empty : (xs : List ℕ) → length xs ≡ 0 → lines_of xs ≡ []
 unfolding lines_of
-lines_of_empty [] e = refl
-lines_of_empty (x ∷ xs) e = absurd (omega arith)
+lines_of_empty xs e = grind (arith, common_steps)
 
 -- ---- one line, before the lines left
 
