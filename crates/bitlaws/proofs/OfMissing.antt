@@ -1,6 +1,5 @@
 -- A piece in which nothing is set, and what joins, counts and questions answer of it.
-use Rattle.std.proofs.Common.{◌≡◌, ℕ, ◌+◌, ◌-◌, ◌<◌, ◌≤◌, true, false, sym, ap, ◌∙◌, arith}
-use Rattle.std.proofs.lemmas.Bool.{lt-ltb, ltb-true, and_parts, true≢false, false_from_ne_true}
+use Rattle.std.proofs.Common.{◌≡◌, ℕ, ◌+◌, ◌-◌, ◌<◌, true, false, ap, ◌∙◌, arith}
 use Rattle.std.proofs.lemmas.Bool.Decides.{nat_tests}
 use Rattle.fixedbitset.specs.Bits.{contains, empty, is_clear}
 use Rattle.fixedbitset.specs.BitsFacts.{same_bits, length-empty, contains-empty}
@@ -14,7 +13,6 @@ use Rattle.fixedbitset.specs.TwoSets.{union, intersection, difference, symmetric
 use Rattle.bitlaws.specs.SetLaws.{size}
 use Rattle.bitlaws.specs.PieceLaws.{MissingIsEmpty, WithNothing}
 use Rattle.bitlaws.proofs.OfJoins.{lengths, members}
-use Rattle.bitlaws.proofs.OfPieces.{and_true}
 
 pub missing_is_empty : MissingIsEmpty
 missing_is_empty v start end = (

@@ -1,6 +1,6 @@
 -- The laws of a set in pieces are proved: for two slices that meet, and then for any cuts.
 use Rattle.std.proofs.Math.Bool.{and-true, and-false}
-use Rattle.std.proofs.Common.{zero-add, ◌≡◌, ℕ, ◌+◌, ◌-◌, ◌<◌, ◌≤◌, max, Bool, true, false, not, ◌&&◌, ◌||◌, ◌==◌, List, [], ◌∷◌, map, sum, sum_by, zip, refl, sym, ap, ◌∙◌, arith}
+use Rattle.std.proofs.Common.{zero-add, ◌≡◌, ℕ, ◌+◌, ◌-◌, ◌≤◌, max, Bool, true, false, not, ◌&&◌, ◌||◌, ◌==◌, List, [], ◌∷◌, map, sum, sum_by, zip, refl, sym, ap, ◌∙◌, arith}
 use Rattle.std.specs.Cmp.{nat_cmp_total}
 use Rattle.std.specs.FinSet as set
 use Rattle.std.specs.List.{list_all}
@@ -66,9 +66,6 @@ pieces_are_the_set v cuts are = together v 0 cuts are ∙ slice-whole v
 
 -- ---- any sets put together
 
-contains-append_low : (v w : Bits) (p : ℕ) → p < v.length → contains (append v w) p ≡ contains v p
-contains-append_low v w p below = simp contains-append (grind (arith, nat_tests))
-
 contains-append_high : (v w : Bits) (p : ℕ) → contains (append v w) (v.length + p) ≡ contains w p
 contains-append_high v w p =
     let at : (v.length + p) - v.length ≡ p = omega arith in
@@ -89,7 +86,7 @@ are_pieces u start piece (next ∷ others) long same =
     let cut : ℕ = start + piece.length in
     let further : u.length ≡ cut + rest.length = omega (arith, long, length-append piece rest) in
     let first : slice u start cut ≡ piece = same_bits _ _ (length-slice u start cut ∙ omega arith) (λ p.
-    simp contains-slice (grind (arith, nat_tests, same p, contains-append_low piece rest p, contains-past piece p))) in
+    simp contains-slice (grind (arith, nat_tests, same p, contains-append piece rest p, contains-past piece p))) in
     let later = are_pieces u cut next others further (λ p. let at : cut + p ≡ start + (piece.length + p) = omega arith in ap (contains u) at ∙ same (piece.length + p) ∙ contains-append_high piece rest p) in
     ((omega arith, later.0), λ i. first i ∷ later.1 i)
 pub any_sets_are_pieces : AnySetsArePieces
@@ -236,14 +233,8 @@ symmetric_difference-size v w =
 
 pub subset-clear : (v w : Bits) → is_subset v w ≡ is_clear (difference v w)
 subset-clear v w = same_truth _ _
-    (λ all. (is_clear-tells (difference v w)).1 (λ p. contains-difference v w p ∙ no_other _ _ ((is_subset-tells v w).0 all p)))
-    (λ none. (is_subset-tells v w).1 (λ p one. held_too _ _ (sym (contains-difference v w p) ∙ (is_clear-tells (difference v w)).0 none p) one))
-  where
-    no_other : (a b : Bool) → (a ≡ true → b ≡ true) → (a && not b) ≡ false
-    no_other a b f = grind arith
-
-    held_too : (a b : Bool) → (a && not b) ≡ false → a ≡ true → b ≡ true
-    held_too a b f g = grind arith
+    (λ (all : is_subset v w ≡ true). (is_clear-tells (difference v w)).1 (λ p. simp contains-difference (grind (arith, (is_subset-tells v w).0 all p))))
+    (λ none. (is_subset-tells v w).1 (λ p one. grind (arith, contains-difference v w p, (is_clear-tells (difference v w)).0 none p)))
 
 pub disjoint-clear : (v w : Bits) → is_disjoint v w ≡ is_clear (intersection v w)
 unfolding is_disjoint

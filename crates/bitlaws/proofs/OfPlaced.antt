@@ -6,6 +6,7 @@ use Rattle.std.proofs.lemmas.Bool.Decides.{nat_tests}
 use Rattle.std.proofs.lemmas.List.{append-nil}
 use Rattle.std.proofs.lemmas.List.Elements.{All-nil, All-cons}
 use Rattle.std.proofs.lemmas.List.Sums.{sum_by-cons}
+use Rattle.std.proofs.lemmas.Option.{slice_get-map}
 use Rattle.bitwords.specs.Rows.{in_range}
 use Rattle.bitwords.specs.Ascending.{ascending}
 use Rattle.bitwords.specs.AscendingFacts.{ascending-append, ascending-same}
@@ -15,7 +16,7 @@ use Rattle.fixedbitset.specs.BitsFacts.{same_bits, length-insert, length-remove,
 use Rattle.fixedbitset.specs.Parts.{slice}
 use Rattle.fixedbitset.specs.PartsFacts.{length-slice, contains-slice}
 use Rattle.bitlaws.specs.Pieces.{AreCuts, pieces, placed, lies_in}
-use Rattle.bitlaws.specs.PieceLaws.{InOnePiece, MembersByPieces, ChangesByPieces, AscendingByPieces, MinimumByPieces, MaximumByPieces}
+use Rattle.bitlaws.specs.PieceLaws.{InOnePiece, ChangesByPieces, AscendingByPieces, MinimumByPieces, MaximumByPieces}
 use Rattle.bitlaws.proofs.OfPieces.{and_true, cuts_within}
 
 -- the pieces from `start` on, each behind the position at which it starts
@@ -63,12 +64,9 @@ contains-within v start end p from to =
 told_by_slice : (v : Bits) (start end p : ℕ) → IsToldBy v p (start, slice v start end)
 told_by_slice v start end p lies = grind (arith, nat_tests, contains-within v start end p, length-slice v start end)
 
-members : (v : Bits) (start : ℕ) (cuts : List ℕ) (p : ℕ) → All (IsToldBy v p) (placed_from v start cuts)
+pub members : (v : Bits) (start : ℕ) (cuts : List ℕ) (p : ℕ) → All (IsToldBy v p) (placed_from v start cuts)
 members v start [] p = All-cons (IsToldBy v p) (start, slice v start v.length) [] (told_by_slice v start v.length p) (All-nil (IsToldBy v p))
 members v start (cut ∷ cuts) p = All-cons (IsToldBy v p) (start, slice v start cut) (placed_from v cut cuts) (told_by_slice v start cut p) (members v cut cuts p)
-
-pub members_by_pieces : MembersByPieces
-members_by_pieces v cuts p = members v 0 cuts p
 
 -- ---- a change of one position
 
@@ -142,21 +140,16 @@ module _ {change : Bits → ℕ → Bits} (law : IsChange change) where
 moved : (test : ℕ → Bool) (by low n : ℕ) → map (λ p. by + p) (ascending (λ i. test (by + i)) low n) ≡ ascending test (by + low) n
 moved test by low zero = refl
 moved test by low (suc n) =
-    by_test (test (by + low)) (ascending (λ i. test (by + i)) (low + 1) n)
-    ∙ (let next : by + (low + 1) ≡ by + low + 1 = omega arith in
-    let others = moved test by (low + 1) n ∙ ap (λ from. ascending test from n) next in
-    λ i. cond (test (by + low)) ((by + low) ∷ others i) (others i))
-  where
-    by_test : (b : Bool) (xs : List ℕ) → map (λ p. by + p) (cond b (low ∷ xs) xs) ≡ cond b ((by + low) ∷ map (λ p. by + p) xs) (map (λ p. by + p) xs)
-    by_test true xs = refl
-    by_test false xs = refl
+    let next : by + (low + 1) ≡ by + low + 1 = omega arith in
+    let others = rw next at (moved test by (low + 1) n) in
+    grind (arith, others)
 
 -- the positions of a piece, moved up by its start
-moved_up : ℕ × Bits → List ℕ
+abbrev moved_up : ℕ × Bits → List ℕ
 moved_up at = map (λ p. at.0 + p) (asc at.1)
 
 moved_up-slice : (v : Bits) (start end : ℕ) → moved_up (start, slice v start end) ≡ ascending (contains v) start (end - start)
-unfolding moved_up asc
+unfolding asc
 moved_up-slice v start end =
     let part = slice v start end in
     let kept = ascending-same (contains part) (λ i. contains v (start + i)) 0 (end - start) (λ i from to. contains-slice v start end i ∙ and_true _ _ (lt-ltb i (end - start) (omega arith))) in
@@ -178,13 +171,9 @@ in_order v start (cut ∷ cuts) are =
     ∙ sym (ascending-append (contains v) start (cut - start) (v.length - cut))
     ∙ ap (ascending (contains v) start) both
 
-asc_by_pieces : (v : Bits) (cuts : List ℕ) → AreCuts v 0 cuts → asc v ≡ flat_map moved_up (placed v cuts)
-unfolding asc
-asc_by_pieces v cuts are = let whole : v.length ≡ v.length - 0 = omega arith in ap (ascending (contains v) 0) whole ∙ sym (in_order v 0 cuts are)
-
 pub ascending_by_pieces : AscendingByPieces
-unfolding moved_up
-ascending_by_pieces v cuts are = asc_by_pieces v cuts are
+unfolding asc
+ascending_by_pieces v cuts are = let whole : v.length ≡ v.length - 0 = omega arith in ap (ascending (contains v) 0) whole ∙ sym (in_order v 0 cuts are)
 
 -- ---- the first and the last
 
@@ -212,22 +201,18 @@ last_of items last is (at ∷ row) o = by_items (items at) (flat_map items row) 
     by_items [] others rest o same = same o
     by_items (x ∷ xs) others rest o same = behind_one x xs others rest o same
 
-first-map : (f : ℕ → ℕ) (xs : List ℕ) → slice_get (map f xs) 0 ≡ option_map f (slice_get xs 0)
-first-map f [] = refl
-first-map f (x ∷ xs) = refl
-
 last-map : (f : ℕ → ℕ) (xs : List ℕ) (o : Option ℕ) → last_or (option_map f o) (map f xs) ≡ option_map f (last_or o xs)
 last-map f [] o = refl
 last-map f (x ∷ xs) o = last-map f xs (Some x)
 
 pub minimum_by_pieces : MinimumByPieces
-unfolding minimum moved_up
+unfolding minimum
 minimum_by_pieces v cuts are =
-    ap (λ xs. slice_get xs 0) (asc_by_pieces v cuts are)
-    ∙ first_of moved_up (λ at. option_map (λ p. at.0 + p) (minimum at.1)) (λ at. first-map (λ p. at.0 + p) (asc at.1)) (placed v cuts)
+    ap (λ xs. slice_get xs 0) (ascending_by_pieces v cuts are)
+    ∙ first_of moved_up (λ at. option_map (λ p. at.0 + p) (minimum at.1)) (λ at. slice_get-map (λ p. at.0 + p) (asc at.1) 0) (placed v cuts)
 
 pub maximum_by_pieces : MaximumByPieces
-unfolding maximum moved_up
+unfolding maximum
 maximum_by_pieces v cuts are =
-    ap (last_or None) (asc_by_pieces v cuts are)
+    ap (last_or None) (ascending_by_pieces v cuts are)
     ∙ last_of moved_up (λ at. option_map (λ p. at.0 + p) (maximum at.1)) (λ at. last-map (λ p. at.0 + p) (asc at.1) None) (placed v cuts) None

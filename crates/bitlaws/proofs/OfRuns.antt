@@ -1,6 +1,6 @@
 -- The stretches of the numbers that pass, one after the other.
-use Rattle.std.proofs.Common.{inl, inr, ◌⊎◌, ◌≡◌, ℕ, zero, suc, ◌+◌, ◌-◌, ◌<◌, ◌≤◌, Bool, true, false, not, ◌&&◌, nat_le, nat_lt, ◌∷◌, ◌++◌, map, refl, sym, ap, ◌∙◌, subst, arith, ⊎_elim}
-use Rattle.std.proofs.lemmas.Bool.{cases_eq, le-leb, leb-true, and_parts, and_from, true≢false, false_from_ne_true}
+use Rattle.std.proofs.Common.{inl, inr, ◌⊎◌, ◌≡◌, ℕ, zero, suc, ◌+◌, ◌-◌, ◌<◌, ◌≤◌, Bool, true, false, not, nat_le, nat_lt, ◌∷◌, ◌++◌, map, refl, sym, ap, ◌∙◌, subst, arith, ⊎_elim}
+use Rattle.std.proofs.lemmas.Bool.{not-true, not-false, cases_eq, le-leb, leb-true, and_parts, and_from, true≢false, false_from_ne_true}
 use Rattle.bitwords.specs.Ascending.{ascending}
 use Rattle.bitwords.specs.AscendingFacts.{ascending-none, first-from}
 use Rattle.bitwords.specs.Neighbours.{IsNext, NonePasses}
@@ -24,12 +24,6 @@ least test (suc k) low end is = at_low (test low) refl (least test k (low + 1) e
     at_low true passes rest = inr (low, record { after = omega arith; below = omega arith; passes = passes; none = λ i above below. absurd (omega (arith, above, below)) })
     at_low false fails (inl none) = inl (one_more fails end none)
     at_low false fails (inr next) = inr (next.0, record { after = omega (arith, next.1.after); below = next.1.below; passes = next.1.passes; none = one_more fails next.0 next.1.none })
-
-not_true : (b : Bool) → not b ≡ true → b ≡ false
-not_true b e = grind arith
-
-not_false : (b : Bool) → not b ≡ false → b ≡ true
-not_false b e = grind arith
 
 module _ (test : ℕ → Bool) (n : ℕ) where
   -- what begins at `low` is not cut by it
@@ -72,14 +66,14 @@ module _ (test : ℕ → Bool) (n : ℕ) where
     where
       from_end : ((next : ℕ) → n ≤ next + fuel → next ≤ n → IsEdge next → AreStretches test next n (stretches test n next n)) → (start : ℕ) → IsNext test low n start → NonePasses (λ q. not (test q)) start n ⊎ ((q : ℕ) × IsNext (λ q. not (test q)) start n q) → AreStretches test low n (stretches test n low n)
       from_end more start next (inl none) =
-          one_stretch low start n edge next next.below (omega arith) (λ p above below. not_false (test p) (none p above below)) (λ less. absurd (omega (arith, less)))
+          one_stretch low start n edge next next.below (omega arith) (λ p above below. not-false (test p) (none p above below)) (λ less. absurd (omega (arith, less)))
           (more n (omega arith) (omega arith) (λ less. absurd (omega (arith, less))))
       from_end more start next (inr found) =
           let end : ℕ = found.0 in
-          let fails : test end ≡ false = not_true (test end) found.1.passes in
+          let fails : test end ≡ false = not-true (test end) found.1.passes in
           let apart : ¬ (start ≡ end) = λ same. true≢false (sym next.passes ∙ ap test same ∙ fails) in
           let some : start < end = omega (arith, found.1.after) in
-          one_stretch low start end edge next some (omega (arith, found.1.below)) (λ p above below. not_false (test p) (found.1.none p above below)) (λ less. fails)
+          one_stretch low start end edge next some (omega (arith, found.1.below)) (λ p above below. not-false (test p) (found.1.none p above below)) (λ less. fails)
           (more end (omega (arith, short, some, next.after)) (omega (arith, found.1.below)) (λ less passes. absurd (true≢false (sym passes ∙ fails))))
 
       from_least : ((next : ℕ) → n ≤ next + fuel → next ≤ n → IsEdge next → AreStretches test next n (stretches test n next n)) → NonePasses test low n ⊎ ((p : ℕ) × IsNext test low n p) → AreStretches test low n (stretches test n low n)
@@ -87,10 +81,7 @@ module _ (test : ℕ → Bool) (n : ℕ) where
       from_least more (inr found) = from_end more found.0 found.1 (least (λ q. not (test q)) (n - found.0) found.0 n (omega (arith, found.1.below)))
 
   pub stretches_of : AreStretches test 0 n (stretches test n 0 n)
-  stretches_of = all_stretches n 0 (omega arith) (omega arith) (λ _ one. at_zero (test 0) (test (0 - 1)) one)
-    where
-      at_zero : (a c : Bool) → a ≡ true → (a && not (nat_lt 0 0 && c)) ≡ true
-      at_zero a c one = grind arith
+  stretches_of = all_stretches n 0 (omega arith) (omega arith) (λ _ one. grind arith)
 
 pub runs_are_the_set : RunsAreTheSet
 unfolding runs
@@ -108,7 +99,7 @@ room_tells v count p = (
   λ room.
       let parts = and_parts (nat_le (p + count) v.length) _ room in (
         leb-true (p + count) v.length parts.0,
-        λ q above below one. true≢false (sym ((contains_any-tells v p (p + count)).1 (q, above, below, one)) ∙ not_true _ parts.1),
+        λ q above below one. true≢false (sym ((contains_any-tells v p (p + count)).1 (q, above, below, one)) ∙ not-true _ parts.1),
       ),
   λ free. and_from _ _ (le-leb (p + count) v.length free.0)
       (ap not (false_from_ne_true _ (λ some. let one = (contains_any-tells v p (p + count)).0 some in free.1 one.0 one.1 one.2 one.3))),

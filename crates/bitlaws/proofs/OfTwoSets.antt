@@ -1,11 +1,9 @@
 -- The counts of two sets against one another, and sets that are within one another.
-use Rattle.std.proofs.Common.{◌≡◌, ℕ, ◌+◌, ◌<◌, max, ⊎_elim, Bool, true, ◌||◌, sym, ap, ◌∙◌, arith}
+use Rattle.std.proofs.Common.{◌≤◌, ◌≡◌, ℕ, ◌+◌, ◌<◌, max, true, sym, ap, ◌∙◌, arith}
 use Rattle.std.specs.Ordering.{nat_cmp}
 use Rattle.std.specs.Cmp.{nat_cmp_total}
 use Rattle.std.specs.FinSet as set
 use Rattle.std.specs.FinSet.{FinSet}
-use Rattle.std.proofs.lemmas.Bool.{or_cases}
-use Rattle.bitlanes.specs.Bits.{either}
 use Rattle.fixedbitset.specs.Bits.{Bits, contains}
 use Rattle.fixedbitset.specs.BitsFacts.{contains_below}
 use Rattle.fixedbitset.specs.Numbers.{symmetric_difference}
@@ -27,7 +25,8 @@ module _ (n : ℕ) (s t : FinSet nat_cmp) (below_s : (p : ℕ) → set.contains 
   pub union-sizes : set.len (set.union s t) + set.len (set.intersection s t) ≡ set.len s + set.len t
   union-sizes =
       let whole : set.len (set.union s t) ≡ set.len t + set.len (set.difference s t) =
-      len-split n (set.union s t) t (λ p one. ⊎_elim (below_s p) (below_t p) (or_cases _ _ (sym (set.contains-union nat_cmp_total s t p) ∙ one))) ∙ (λ i. set.len (union-inside i) + set.len (union-outside i)) in
+      len-split n (set.union s t) t (λ p one. grind (arith, below_s p, below_t p, set.contains-union nat_cmp_total s t p))
+      ∙ (λ i. set.len (union-inside i) + set.len (union-outside i)) in
       omega (arith, whole, len-split n s t below_s)
 
   symmetric_difference-inside : set.intersection (symmetric_difference s t) s ≡ set.difference s t
@@ -38,28 +37,23 @@ module _ (n : ℕ) (s t : FinSet nat_cmp) (below_s : (p : ℕ) → set.contains 
   symmetric_difference-outside =
       same_set _ _ (λ p. simp (set.contains-difference nat_cmp_total, contains-symmetric_difference) (grind arith))
 
-  in_some : (a b : Bool) → either a b ≡ true → (a || b) ≡ true
-  in_some a b f = grind arith
-
   pub symmetric_difference-sizes : set.len (symmetric_difference s t) ≡ set.len (set.difference s t) + set.len (set.difference t s)
-  symmetric_difference-sizes = len-split n (symmetric_difference s t) s (λ p one. ⊎_elim (below_s p) (below_t p) (or_cases _ _ (in_some (set.contains s p) _ (sym (contains-symmetric_difference s t p) ∙ one)))) ∙ (λ i. set.len (symmetric_difference-inside i) + set.len (symmetric_difference-outside i))
+  symmetric_difference-sizes =
+      len-split n (symmetric_difference s t) s (λ p one. grind (arith, below_s p, below_t p, contains-symmetric_difference s t p))
+      ∙ (λ i. set.len (symmetric_difference-inside i) + set.len (symmetric_difference-outside i))
 
--- the positions of two values are below the greater of their lengths
-below_first : (v w : Bits) (p : ℕ) → set.contains v.positions p ≡ true → p < max v.length w.length
+-- the positions of a value are below its length, and below every greater number
+below : (v : Bits) (n : ℕ) → v.length ≤ n → (p : ℕ) → set.contains v.positions p ≡ true → p < n
 unfolding contains
-below_first v w p one = let h : p < v.length = contains_below v p one in omega arith
-
-below_second : (v w : Bits) (p : ℕ) → set.contains w.positions p ≡ true → p < max v.length w.length
-unfolding contains
-below_second v w p one = let h : p < w.length = contains_below w p one in omega arith
+below v n long p one = omega (arith, contains_below v p one)
 
 pub counts-sum : (v w : Bits) → union_count v w + intersection_count v w ≡ count_ones v 0 v.length + count_ones w 0 w.length
 unfolding union_count intersection_count
-counts-sum v w = omega (arith, union-sizes (max v.length w.length) v.positions w.positions (below_first v w) (below_second v w), count_ones-all v, count_ones-all w)
+counts-sum v w = omega (arith, union-sizes (max v.length w.length) v.positions w.positions (below v _ (omega arith)) (below w _ (omega arith)), count_ones-all v, count_ones-all w)
 
 pub symmetric_difference_count-sum : (v w : Bits) → symmetric_difference_count v w ≡ difference_count v w + difference_count w v
 unfolding symmetric_difference_count difference_count
-symmetric_difference_count-sum v w = symmetric_difference-sizes (max v.length w.length) v.positions w.positions (below_first v w) (below_second v w)
+symmetric_difference_count-sum v w = symmetric_difference-sizes (max v.length w.length) v.positions w.positions (below v _ (omega arith)) (below w _ (omega arith))
 
 pub subsets : SubsetBothWays
 unfolding contains
