@@ -1,5 +1,5 @@
 -- Texts of arguments are read back.
-use Rattle.std.proofs.Common.{◌≡◌, ℕ, suc, ◌+◌, ◌^◌, ◌<◌, Bool, true, false, not, eqb, List, [], ◌∷◌, ◌++◌, length, map, Some, refl, ap, ◌∙◌, arith, decimal}
+use Rattle.std.proofs.Common.{◌≡◌, ℕ, ◌+◌, ◌^◌, ◌<◌, Bool, true, false, not, eqb, List, [], ◌∷◌, ◌++◌, length, map, Some, refl, ap, ◌∙◌, arith, decimal}
 use Rattle.std.specs.Prelude.{slice_index_or, position}
 use Rattle.std.specs.Char.{is_ascii_digit}
 use Rattle.std.specs.Str.{all_ascii_digits}
@@ -59,14 +59,10 @@ digits_lack b (d ∷ ds) none e =
 
 position_or_len_cut : (b : ℕ) (xs ys : List ℕ) → lacks b xs ≡ true → position_or_len (λ x. eqb x b) (xs ++ b ∷ ys) ≡ length xs
 position_or_len_cut b [] ys e = rw (eq-eqb b b refl) refl
-position_or_len_cut b (x ∷ xs) ys e =
-    let more : 1 + length xs ≡ suc (length xs) = omega arith in
-    rw (not-true (eqb x b) (and_parts _ _ e).0) (ap (λ n. 1 + n) (position_or_len_cut b xs ys (and_parts _ _ e).1) ∙ more)
+position_or_len_cut b (x ∷ xs) ys e = grind (arith, nat_tests, position_or_len_cut b xs ys (and_parts (not (eqb x b)) (lacks b xs) e).1)
 
 pub found_at : (b : ℕ) (xs ys : List ℕ) → lacks b xs ≡ true → position (λ x. eqb x b) (xs ++ b ∷ ys) ≡ Some (length xs)
-found_at b xs ys e =
-    let inside : length xs < length (xs ++ b ∷ ys) = grind (arith, common_steps) in
-    rw (position_or_len_cut b xs ys e, lt-ltb (length xs) (length (xs ++ b ∷ ys)) inside) refl
+found_at b xs ys e = grind (arith, nat_tests, common_steps, position_or_len_cut b xs ys e)
 
 pub second_dot : (xs ys : List ℕ) → slice_index_or (xs ++ 46 ∷ 46 ∷ ys) (length xs + 1) 0 ≡ 46
 second_dot xs ys = grind (arith, common_steps)

@@ -5,14 +5,6 @@ use Rattle.bitcommands.specs.declared.commands.arguments.End.{End}
 use Rattle.bitlines.specs.Arguments.{end_of, ends_from, ends_of}
 use Rattle.bitlines.proofs.Lists.{onto, onto-one, onto-onto, onto-nil}
 
-ends_cons_some : (c : ℕ) (cs : List ℕ) (x : End) → end_of c ≡ Some x → ends_from (c ∷ cs) ≡ onto (x ∷ []) (ends_from cs)
-unfolding ends_from
-ends_cons_some c cs x e = rw e (onto-one x (ends_from cs))
-
-ends_cons_none : (c : ℕ) (cs : List ℕ) → end_of c ≡ None → ends_from (c ∷ cs) ≡ None
-unfolding ends_from
-ends_cons_none c cs e = rw e refl
-
 pub ends_empty : (w : List ℕ) → length w ≡ 0 → ends_of w ≡ None
 unfolding ends_of
 ends_empty [] e = refl
@@ -25,10 +17,12 @@ ends_start (c ∷ cs) lt = onto-nil (ends_from (c ∷ cs))
 
 pub ends_more : (all : Option (List End)) (xs : List End) (w : List ℕ) (i : ℕ) (x : End) → all ≡ onto xs (ends_from (drop i w)) → i < length w → end_of (get_or w i 0) ≡ Some x
     → all ≡ onto (xs ++ x ∷ []) (ends_from (drop (i + 1) w))
-ends_more all xs w i x e lt some = e ∙ at_drop_more (λ u. onto xs (ends_from u)) w i 0 lt ∙ ap (onto xs) (ends_cons_some _ _ x some) ∙ onto-onto xs x _
+unfolding ends_from
+ends_more all xs w i x e lt some = e ∙ at_drop_more (λ u. onto xs (ends_from u)) w i 0 lt ∙ rw some (ap (onto xs) (onto-one x _)) ∙ onto-onto xs x _
 
 pub ends_none : (all : Option (List End)) (xs : List End) (w : List ℕ) (i : ℕ) → all ≡ onto xs (ends_from (drop i w)) → i < length w → end_of (get_or w i 0) ≡ None → all ≡ None
-ends_none all xs w i e lt none = e ∙ at_drop_more (λ u. onto xs (ends_from u)) w i 0 lt ∙ ap (onto xs) (ends_cons_none _ _ none)
+unfolding ends_from
+ends_none all xs w i e lt none = e ∙ at_drop_more (λ u. onto xs (ends_from u)) w i 0 lt ∙ rw none refl
 
 pub ends_end : (all : Option (List End)) (xs : List End) (w : List ℕ) (i : ℕ) → all ≡ onto xs (ends_from (drop i w)) → length w ≤ i → all ≡ Some xs
 unfolding ends_from

@@ -1,7 +1,6 @@
 -- The JSON value of a text, by whether it is UTF-8, and of words.
-use Rattle.std.proofs.Common.{arith, ◌≡◌, ℕ, List, [], Some, None, Bool, true, false, cond, refl, ap, ◌∙◌}
-use Rattle.std.specs.Prelude.{Option}
-use Rattle.std.specs.Str.{IsUtf8, is_utf8}
+use Rattle.std.proofs.Common.{arith, ◌≡◌, ℕ, List, [], Some, None, cond, ap, ◌∙◌}
+use Rattle.std.specs.Str.{IsUtf8}
 use Rattle.std.proofs.lemmas.Str.{is_utf8-from_IsUtf8, IsUtf8-from_is_utf8}
 use Rattle.std.proofs.lemmas.List.Splits.{join_with_byte-slice_split}
 use Rattle.serde_json.specs.Data.{Data}

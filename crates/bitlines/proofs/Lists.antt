@@ -23,25 +23,17 @@ onto-one x None = refl
 
 -- ---- numbers
 
-cons_some : (w : List ℕ) (ws : List (List ℕ)) (n : ℕ) → number_of w ≡ Some n → numbers_of (w ∷ ws) ≡ onto (n ∷ []) (numbers_of ws)
-unfolding numbers_of
-cons_some w ws n e = rw e (onto-one n (numbers_of ws))
-
-cons_none : (w : List ℕ) (ws : List (List ℕ)) → number_of w ≡ None → numbers_of (w ∷ ws) ≡ None
-unfolding numbers_of
-cons_none w ws e = rw e refl
-
 pub numbers_start : (ws : List (List ℕ)) → numbers_of ws ≡ onto [] (numbers_of ws)
 numbers_start ws = onto-nil (numbers_of ws)
 
 -- the first word is read as a number
 pub numbers_more : (all : Option (List ℕ)) (xs : List ℕ) (ws rest : List (List ℕ)) (n : ℕ) → all ≡ onto xs (numbers_of ws) → number_at ws ≡ Some (n, rest) → all ≡ onto (xs ++ n ∷ []) (numbers_of rest)
-unfolding number_at
+unfolding number_at numbers_of
 numbers_more all xs [] rest n e read = absurd (none-some (n, rest) read)
 numbers_more all xs (w ∷ ws) rest n e read =
     option_and_then_some (λ m. Some (m, ws)) (number_of w) (n, rest) read (λ m is pair.
     let parts = some_pair_parts m n ws rest pair in
-    e ∙ ap (onto xs) (cons_some w ws m is) ∙ onto-onto xs m (numbers_of ws) ∙ ap (λ k. onto (xs ++ k ∷ []) (numbers_of ws)) parts.0 ∙ ap (λ u. onto (xs ++ n ∷ []) (numbers_of u)) parts.1)
+    e ∙ ap (onto xs) (rw is (onto-one m (numbers_of ws))) ∙ onto-onto xs m (numbers_of ws) ∙ ap (λ k. onto (xs ++ k ∷ []) (numbers_of ws)) parts.0 ∙ ap (λ u. onto (xs ++ n ∷ []) (numbers_of u)) parts.1)
 
 -- so a word fewer is left
 pub fewer_words : (ws rest : List (List ℕ)) (n : ℕ) → number_at ws ≡ Some (n, rest) → length rest < length ws
@@ -51,7 +43,8 @@ fewer_words (w ∷ ws) rest n read =
     option_and_then_some (λ m. Some (m, ws)) (number_of w) (n, rest) read (λ m is pair. omega (arith, ap length (some_pair_parts m n ws rest pair).1))
 
 none_first : (w : List ℕ) (ws : List (List ℕ)) (o : Option ℕ) → number_of w ≡ o → option_and_then {U = ℕ × List (List ℕ)} (λ m. Some (m, ws)) o ≡ None → numbers_of (w ∷ ws) ≡ None
-none_first w ws None is none = cons_none w ws is
+unfolding numbers_of
+none_first w ws None is none = rw is refl
 none_first w ws (Some m) is none = absurd (none-some (m, ws) (sym none))
 
 pub numbers_none : (all : Option (List ℕ)) (xs : List ℕ) (ws : List (List ℕ)) → all ≡ onto xs (numbers_of ws) → 0 < length ws → number_at ws ≡ None → all ≡ None

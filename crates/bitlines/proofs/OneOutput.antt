@@ -1,9 +1,9 @@
 -- The law of outputs is proved.
-use Rattle.std.proofs.Common.{◌≡◌, ◌≢◌, ℕ, List, [], ◌∷◌, ◌++◌, map, Option, Some, None, MatchOption, Bool, true, false, eqb, ◌⊎◌, inl, inr, refl, sym, ap, ◌∙◌, arith}
-use Rattle.std.specs.List.{slice_split, onto_first}
+use Rattle.std.proofs.Common.{◌≡◌, ◌≢◌, ℕ, List, [], ◌∷◌, ◌++◌, map, Option, Some, None, MatchOption, Bool, true, false, eqb, ◌⊎◌, refl, sym, ap, ◌∙◌, arith}
+use Rattle.std.specs.List.{slice_split}
 use Rattle.std.proofs.lemmas.Bool.{eq-eqb}
 use Rattle.std.proofs.lemmas.List.Elements.{Contains-append_left, Contains-append_right}
-use Rattle.std.proofs.lemmas.List.Splits.{slice_split-cons_yes, slice_split-cons_no}
+use Rattle.std.proofs.lemmas.List.Splits.{slice_split-cons_yes}
 use Rattle.bitcommands.specs.declared.commands.refusals.Refusal.{Refusal}
 use Rattle.bitcommands.specs.declared.commands.refusals.Refusal.TheVariants.{Memory}
 use Rattle.bitcommands.specs.Actions.{Action}
@@ -59,9 +59,7 @@ same_row : (test : Option Refusal) (answer r s : Answer) (left old new now : Set
     → MatchOption test (((s ≡ answer) × (now ≡ left)) ⊎ ((s ≡ refused Memory) × Q)) (λ f. (s ≡ refused f) × (now ≡ old))
     → r ≢ refused Memory → s ≢ refused Memory → (r ≡ s) × (new ≡ now)
 same_row (Some f) answer r s left old new now P Q a b no_first no_second = (a.0 ∙ sym b.0, a.1 ∙ sym b.1)
-same_row None answer r s left old new now P Q (inl a) (inl b) no_first no_second = (a.0 ∙ sym b.0, a.1 ∙ sym b.1)
-same_row None answer r s left old new now P Q (inl a) (inr b) no_first no_second = absurd (no_second b.0)
-same_row None answer r s left old new now P Q (inr a) b no_first no_second = absurd (no_first a.0)
+same_row None answer r s left old new now P Q a b no_first no_second = (grind arith, grind arith)
 
 same_step : (limit : ℕ) (old : Sets) (c : Action) (r s : Answer) (new now : Sets) → Step limit old c r new → Step limit old c s now
     → r ≢ refused Memory → s ≢ refused Memory → (r ≡ s) × (new ≡ now)
@@ -76,11 +74,9 @@ OneOutputOf lines = (sets : Sets) (first second : List ℕ) → IsOutputFrom set
 no_command : (line : List ℕ) (lines : List (List ℕ)) → command_of line ≡ None → OneOutputOf lines → OneOutputOf (line ∷ lines)
 unfolding texts
 no_command line lines none behind sets first second a b clean_first clean_second =
-    let ran : Run 1000000 sets (commands_of lines) a.0 a.1 = rw none at a.2 in
-    let runs : Run 1000000 sets (commands_of lines) b.0 b.1 = rw none at b.2 in
     let out : first ≡ fault_text ++ 10 ∷ texts (map is_command lines) a.0 = rw none at a.3 in
     let outs : second ≡ fault_text ++ 10 ∷ texts (map is_command lines) b.0 = rw none at b.3 in
-    let same = behind sets _ _ (a.0, a.1, ran, refl) (b.0, b.1, runs, refl)
+    let same = behind sets _ _ (a.0, a.1, rw none at a.2, refl) (b.0, b.1, rw none at b.2, refl)
     (lacks_nothing_behind fault_text _ first out clean_first) (lacks_nothing_behind fault_text _ second outs clean_second) in
     out ∙ ap (λ rest. fault_text ++ 10 ∷ rest) same ∙ sym outs
 

@@ -12,7 +12,7 @@ use Rattle.bitcommands.specs.Answers.{Answer, refused}
 use Rattle.bitcommands.specs.Guards.{has_greatest}
 use Rattle.bitcommands.specs.Sets.{Sets, place}
 use Rattle.bitcommands.specs.Steps.{Step}
-use Rattle.bitlines.specs.StepLaws.{LeavesOthers, target, OnlyTargetChanges, RefusedChangesNothing}
+use Rattle.bitlines.specs.StepLaws.{LeavesOthers, target}
 
 -- ---- the forms of rows
 
@@ -21,10 +21,6 @@ unchanged k old new is = rw is (refl, λ j apart. refl)
 
 changed : (k : ℕ) (old new : Sets) (v : Bits) → new ≡ place old k v → LeavesOthers k old new
 changed k old new v is = rw is (length-set old k v, λ j apart. get_or-set_other old k j v (model.empty 0) apart)
-
-abbrev is_refused : Answer → Bool
-is_refused (refused f) = true
-is_refused r = false
 
 -- what a command on set k leaves
 abbrev Keeps : ℕ → Action → Answer → Sets → Sets → Type 0
@@ -41,8 +37,8 @@ Stepped test answer r left old new Kept =
 
 -- what is left is what the row leaves, or what was there
 stepped : (k : ℕ) (c : Action) (r : Answer) (old new : Sets) (test : Option Refusal) (answer : Answer) (left : Sets) (may : Bool)
-    → LeavesOthers k old left → ((f : Refusal) → answer ≡ refused f → left ≡ old) → Stepped test answer r left old new (IsTrue may × (new ≡ old))
-    → Keeps k c r old new
+    → LeavesOthers k old left → ((f : Refusal) → answer ≡ refused f → left ≡ old)
+    → Stepped test answer r left old new (IsTrue may × (new ≡ old)) → Keeps k c r old new
 stepped k c r old new (Some f) answer left may others plain s = keeps_all k c r old new s.1
 stepped k c r old new None answer left may others plain (inl s) = rw s.1 (others, λ f is other. plain f (sym s.0 ∙ is))
 stepped k c r old new None answer left may others plain (inr s) = keeps_all k c r old new s.1.1
@@ -63,14 +59,8 @@ taken_in k r old new None answer v Taken (inr s) = changed k old new s.1.0 s.1.2
 
 -- ---- the rows
 
-of_row : (m : ℕ) (c : Action) (r : Answer) (old new : Sets) → Step m old c r new → Keeps (target c) c r old new
+pub of_row : (m : ℕ) (c : Action) (r : Answer) (old new : Sets) → Step m old c r new → Keeps (target c) c r old new
 of_row m (action.from_iter a b) r old new s = made_of a _ (has_greatest b) r old new _ _ _ s
 of_row m (action.extend a b) r old new s = (taken_in a r old new _ _ _ _ s, λ f is other. absurd (other a b refl))
 of_row m c r old new s =
     stepped (target c) c r old new _ _ _ _ (search (length-set, get_or-set_other)) (λ f is. cc) s
-
-pub only_target_changes : OnlyTargetChanges
-only_target_changes m c r old new s = (of_row m c r old new s).0
-
-pub refused_changes_nothing : RefusedChangesNothing
-refused_changes_nothing m c f old new s other = (of_row m c (refused f) old new s).1 f refl other
