@@ -87,8 +87,11 @@ are_pieces u start piece (next ∷ others) long same =
     let further : u.length ≡ cut + rest.length = omega (arith, long, length-append piece rest) in
     let first : slice u start cut ≡ piece = same_bits _ _ (length-slice u start cut ∙ omega arith) (λ p.
     simp contains-slice (grind (arith, nat_tests, same p, contains-append piece rest p, contains-past piece p))) in
-    let later = are_pieces u cut next others further (λ p. let at : cut + p ≡ start + (piece.length + p) = omega arith in ap (contains u) at ∙ same (piece.length + p) ∙ contains-append_high piece rest p) in
+    let later = are_pieces u cut next others further (λ p.
+    let at : cut + p ≡ start + (piece.length + p) = omega arith in
+    ap (contains u) at ∙ same (piece.length + p) ∙ contains-append_high piece rest p) in
     ((omega arith, later.0), λ i. first i ∷ later.1 i)
+
 pub any_sets_are_pieces : AnySetsArePieces
 any_sets_are_pieces piece others = are_pieces (put_together (piece ∷ others)) 0 piece others (omega arith) (λ p. let at : 0 + p ≡ p = omega arith in ap (contains (put_together (piece ∷ others))) at)
 
@@ -146,18 +149,13 @@ size-slice : (v : Bits) (start end : ℕ) → start ≤ end → size (slice v st
 size-slice v start end order =
     let part = slice v start end in
     let whole : end ≡ start + (end - start) = omega arith in
-    omega (
-      arith,
-      size-count part,
-      ap (count_below (contains part)) (length-slice v start end),
-      count-same (contains part) (λ p. contains v (start + p)) (end - start) (λ p below. contains-slice v start end p ∙ and_true _ _ (lt-ltb _ _ below)),
-      count-append (contains v) start (end - start),
-      ap (count_below (contains v)) whole,
-    )
+    let same = count-same (contains part) (λ p. contains v (start + p)) (end - start) (λ p below. contains-slice v start end p ∙ and_true _ _ (lt-ltb _ _ below)) in
+    let long = ap (count_below (contains part)) (length-slice v start end) in
+    omega (arith, size-count part, long, same, count-append (contains v) start (end - start), ap (count_below (contains v)) whole)
 
 sizes : (v : Bits) (start : ℕ) (cuts : List ℕ) → AreCuts v start cuts → sum_by size (pieces v start cuts) + count_below (contains v) start ≡ count_below (contains v) v.length
-sizes v start [] are = omega (arith, sum_by-cons size (slice v start v.length) [], size-slice v start v.length are)
-sizes v start (cut ∷ cuts) are = omega (arith, sum_by-cons size (slice v start cut) (pieces v cut cuts), size-slice v start cut are.0, sizes v cut cuts are.1)
+sizes v start [] are = omega (arith, sum_by-cons size, size-slice v start v.length are)
+sizes v start (cut ∷ cuts) are = omega (arith, sum_by-cons size, size-slice v start cut are.0, sizes v cut cuts are.1)
 
 pub size_by_pieces : SizeByPieces
 size_by_pieces v cuts are = omega (arith, size-count v, sizes v 0 cuts are, count-zero (contains v))
@@ -175,14 +173,7 @@ module _ {join : Bits → Bits → Bits} {f : Bool → Bool → Bool} {long : �
   module _ {count : Bits → Bits → ℕ} (is : (v w : Bits) → count v w ≡ size (join v w)) where
     totals : (pairs : List (Bits × Bits)) → sum_by size (map (λ both. join both.0 both.1) pairs) ≡ sum (map (λ both. count both.0 both.1) pairs)
     totals [] = refl
-    totals (pair ∷ pairs) =
-        omega (
-          arith,
-          sum_by-cons size (join pair.0 pair.1) (map (λ both. join both.0 both.1) pairs),
-          sum_by-cons (λ n. n) (count pair.0 pair.1) (map (λ both. count both.0 both.1) pairs),
-          is pair.0 pair.1,
-          totals pairs,
-        )
+    totals (pair ∷ pairs) = omega (arith, sum_by-cons size, sum_by-cons (λ n. n), is pair.0 pair.1, totals pairs)
 
     pub counts_by_pieces : CountsByPieces count
     counts_by_pieces v w cuts are =
@@ -195,20 +186,12 @@ module _ {join : Bits → Bits → Bits} {f : Bool → Bool → Bool} {long : �
   module _ {test : Bits → Bits → Bool} (is : (v w : Bits) → test v w ≡ is_clear (join v w)) where
     pub tests_by_pieces : TestsByPieces test
     tests_by_pieces v w cuts are =
-        let pairs : List (Bits × Bits) = zip (pieces v 0 cuts) (pieces w 0 cuts) in
         is v w
-        ∙ is_clear-pieces (join v w) cuts (joined_cuts v w cuts are)
-        ∙ ap (list_all is_clear) (pieces-join law v w 0 cuts)
-        ∙ list_all-map is_clear (λ both. join both.0 both.1) pairs
-        ∙ (λ i. list_all (λ both. sym (is both.0 both.1) i) pairs)
-        ∙ sym (list_all-map (λ answer. answer) (λ both. test both.0 both.1) pairs)
-      where
-        is_clear-pieces : (u : Bits) (cuts : List ℕ) → AreCuts u 0 cuts → is_clear u ≡ list_all is_clear (pieces u 0 cuts)
-        is_clear-pieces u cuts are =
-            is_clear-counts u
-            ∙ ap (λ n. n == 0) (size_by_pieces u cuts are)
-            ∙ sum_by-zero size (pieces u 0 cuts)
-            ∙ (λ i. list_all (λ piece. sym (is_clear-counts piece) i) (pieces u 0 cuts))
+        ∙ is_clear-counts (join v w)
+        ∙ ap (λ n. n == 0) (size_by_pieces (join v w) cuts (joined_cuts v w cuts are))
+        ∙ sum_by-zero size (pieces (join v w) 0 cuts)
+        ∙ ap (list_all (λ piece. size piece == 0)) (pieces-join law v w 0 cuts)
+        ∙ simp (list_all-map, is, is_clear-counts)
 
 -- ---- the counts and the questions of joins
 

@@ -35,19 +35,11 @@ one_of start cut p order = grind (arith, nat_tests)
 
 places : (v : Bits) (start : ℕ) (cuts : List ℕ) (p : ℕ) → AreCuts v start cuts → p < v.length → count_by (lies_in p) (placed_from v start cuts) ≡ indicator (nat_le start p)
 places v start [] p are below =
-    omega (
-      arith,
-      sum_by-cons (λ at. cond (lies_in p at) 1 0) (start, slice v start v.length) [],
-      ap indicator (lies_in-slice v start v.length p are ∙ and_true (nat_le start p) _ (lt-ltb p v.length below)),
-    )
+    let here = lies_in-slice v start v.length p are ∙ and_true (nat_le start p) _ (lt-ltb p v.length below) in
+    omega (arith, sum_by-cons (λ at. indicator (lies_in p at)), ap indicator here)
 places v start (cut ∷ cuts) p are below =
-    omega (
-      arith,
-      sum_by-cons (λ at. cond (lies_in p at) 1 0) (start, slice v start cut) (placed_from v cut cuts),
-      ap indicator (lies_in-slice v start cut p are.0),
-      places v cut cuts p are.1 below,
-      one_of start cut p are.0,
-    )
+    let here = lies_in-slice v start cut p are.0 in
+    omega (arith, sum_by-cons (λ at. indicator (lies_in p at)), ap indicator here, places v cut cuts p are.1 below, one_of start cut p are.0)
 
 pub in_one_piece : InOnePiece
 in_one_piece v cuts p are below = places v 0 cuts p are below ∙ ap indicator (le-leb 0 p (omega arith))
