@@ -146,10 +146,7 @@ moved_up-slice v start end =
     let part = slice v start end in
     let kept = ascending-same (contains part) (λ i. contains v (start + i)) 0 (end - start) (λ i from to. contains-slice v start end i ∙ and_true _ _ (lt-ltb i (end - start) (omega arith))) in
     let first : start + 0 ≡ start = omega arith in
-    ap (λ n. map (λ p. start + p) (ascending (contains part) 0 n)) (length-slice v start end)
-    ∙ ap (map (λ p. start + p)) kept
-    ∙ moved (contains v) start 0 (end - start)
-    ∙ ap (λ from. ascending (contains v) from (end - start)) first
+    simp (length-slice, kept) (rw first at (moved (contains v) start 0 (end - start)))
 
 in_order : (v : Bits) (start : ℕ) (cuts : List ℕ) → AreCuts v start cuts → flat_map moved_up (placed_from v start cuts) ≡ ascending (contains v) start (v.length - start)
 in_order v start [] are = append-nil (moved_up (start, slice v start v.length)) ∙ moved_up-slice v start v.length
@@ -158,10 +155,7 @@ in_order v start (cut ∷ cuts) are =
     let within : cut ≤ v.length = cuts_within v cut cuts are.1 in
     let at : start + (cut - start) ≡ cut = omega arith in
     let both : (cut - start) + (v.length - cut) ≡ v.length - start = omega arith in
-    (λ i. moved_up-slice v start cut i ++ in_order v cut cuts are.1 i)
-    ∙ ap (λ from. ascending (contains v) start (cut - start) ++ ascending (contains v) from (v.length - cut)) (sym at)
-    ∙ sym (ascending-append (contains v) start (cut - start) (v.length - cut))
-    ∙ ap (ascending (contains v) start) both
+    (λ i. moved_up-slice v start cut i ++ in_order v cut cuts are.1 i) ∙ rw (← both, ascending-append, at) refl
 
 pub ascending_by_pieces : AscendingByPieces
 unfolding asc
