@@ -6,5 +6,4 @@ mod OfJoins
 mod OfOrder
 mod OfPieces
 mod OfPlaced
-mod OfMissing
 pub mod OfWalks

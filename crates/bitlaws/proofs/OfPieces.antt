@@ -1,6 +1,7 @@
--- The laws of a set in pieces are proved: for two slices that meet, and then for any cuts.
+-- The laws of a set in pieces are proved: for two slices that meet, and then for any cuts; and what joins, counts and
+-- questions answer of a piece in which nothing is set.
 use Rattle.std.proofs.Math.Bool.{and-true, and-false}
-use Rattle.std.proofs.Common.{zero-add, ◌≡◌, ℕ, ◌+◌, ◌-◌, ◌≤◌, max, Bool, true, false, not, ◌&&◌, ◌||◌, ◌==◌, List, [], ◌∷◌, map, sum, sum_by, zip, refl, sym, ap, ◌∙◌, arith}
+use Rattle.std.proofs.Common.{zero-add, ◌≡◌, ℕ, ◌+◌, ◌-◌, ◌≤◌, max, Bool, true, false, not, ◌&&◌, ◌||◌, ◌==◌, List, [], ◌∷◌, map, sum, sum_by, zip, refl, sym, ap, ◌∙◌, arith, ◌<◌}
 use Rattle.std.specs.Cmp.{nat_cmp_total}
 use Rattle.std.specs.FinSet as set
 use Rattle.std.specs.List.{list_all}
@@ -18,12 +19,15 @@ use Rattle.fixedbitset.specs.NumbersFacts.{same_set, same_truth, len-below}
 use Rattle.fixedbitset.specs.MemberFacts.{is_clear-tells}
 use Rattle.fixedbitset.specs.Parts.{slice, append}
 use Rattle.fixedbitset.specs.PartsFacts.{length-slice, contains-slice, length-append, contains-append}
-use Rattle.fixedbitset.specs.SizeFacts.{count_ones-all, is_clear-counts}
+use Rattle.fixedbitset.specs.SizeFacts.{count_ones-all, is_clear-counts, count_ones-empty}
 use Rattle.fixedbitset.specs.TwoSets.{union, intersection, difference, symmetric_difference, union_count, intersection_count, difference_count, symmetric_difference_count, is_subset, is_disjoint}
 use Rattle.fixedbitset.specs.TwoSetsFacts.{length-union, length-intersection, length-difference, length-symmetric_difference, contains-union, contains-intersection, contains-difference, contains-symmetric_difference, is_subset-tells}
 use Rattle.bitlaws.specs.SetLaws.{size}
 use Rattle.bitlaws.specs.Pieces.{AreCuts, pieces, put_together, ends}
-use Rattle.bitlaws.specs.PieceLaws.{PiecesAreTheSet, AnySetsArePieces, JoinsByPieces, CountsByPieces, TestsByPieces, SizeByPieces}
+use Rattle.bitlaws.specs.PieceLaws.{PiecesAreTheSet, AnySetsArePieces, JoinsByPieces, CountsByPieces, TestsByPieces, SizeByPieces, MissingIsEmpty, WithNothing}
+use Rattle.fixedbitset.specs.Ranges.{count_ones}
+use Rattle.fixedbitset.specs.RangesFacts.{contains_any-tells}
+use Rattle.bitlaws.proofs.OfJoins.{lengths, members}
 
 -- ---- slices
 
@@ -222,3 +226,49 @@ subset-clear v w = same_truth _ _
 pub disjoint-clear : (v w : Bits) → is_disjoint v w ≡ is_clear (intersection v w)
 unfolding is_disjoint
 disjoint-clear v w = ap (λ n. n == 0) (intersection-size v w) ∙ sym (is_clear-counts (intersection v w))
+
+pub missing_is_empty : MissingIsEmpty
+missing_is_empty v start end = (
+  λ same some.
+      let one = (contains_any-tells v start end).0 some in
+      let at : start + (one.0 - start) ≡ one.0 = omega (arith, one.1) in
+      let clear : contains (slice v start end) (one.0 - start) ≡ false = rw same (contains-empty (end - start) (one.0 - start)) in
+      grind (arith, nat_tests, one.1, one.2, one.3, contains-slice v start end (one.0 - start)),
+  λ none. same_bits _ _ (simp (length-slice, length-empty)) (λ p.
+      let out : p < end - start → ¬ (contains v (start + p) ≡ true) = λ below one. none ((contains_any-tells v start end).1 (start + p, omega arith, omega arith, one)) in
+      simp (contains-slice, contains-empty) (grind (arith, nat_tests))),
+)
+
+-- ---- joins
+
+pub union_with_nothing : WithNothing union (λ v. v) (λ v. v)
+union_with_nothing v = (
+  same_bits _ _ (simp lengths (omega arith)) (λ p. simp members (grind arith)),
+  same_bits _ _ (simp lengths (omega arith)) (λ p. simp members (grind arith)),
+)
+
+pub symmetric_difference_with_nothing : WithNothing symmetric_difference (λ v. v) (λ v. v)
+symmetric_difference_with_nothing v = (
+  same_bits _ _ (simp lengths (omega arith)) (λ p. simp members (grind arith)),
+  same_bits _ _ (simp lengths (omega arith)) (λ p. simp members (grind arith)),
+)
+
+pub intersection_with_nothing : WithNothing intersection (λ v. empty v.length) (λ v. empty v.length)
+intersection_with_nothing v = (
+  same_bits _ _ (simp lengths) (λ p. simp members (grind arith)),
+  same_bits _ _ (simp lengths) (λ p. simp members (grind arith)),
+)
+
+pub difference_with_nothing : WithNothing difference (λ v. v) (λ v. empty v.length)
+difference_with_nothing v = (
+  same_bits _ _ (simp lengths) (λ p. simp members (grind arith)),
+  same_bits _ _ (simp lengths) (λ p. simp members (grind arith)),
+)
+
+-- ---- counts and questions
+
+pub size-empty : (n : ℕ) → size (empty n) ≡ 0
+size-empty n = ap (count_ones (empty n) 0) (length-empty n) ∙ count_ones-empty n
+
+pub is_clear-empty : (n : ℕ) → is_clear (empty n) ≡ true
+is_clear-empty n = (is_clear-tells (empty n)).1 (contains-empty n)

@@ -9,10 +9,7 @@ pub mod OneLines
 pub mod JsonTexts
 pub mod ArgumentTexts
 pub mod ReadBack
-pub mod GrammarNumbers
-pub mod GrammarRanges
-pub mod GrammarArguments
 pub mod GrammarShapes
-pub mod GrammarNames
 pub mod GrammarLines
 pub mod StepsOfTargets
+pub mod GrammarWords

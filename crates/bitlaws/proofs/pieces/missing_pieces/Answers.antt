@@ -1,5 +1,5 @@
 use Rattle.bitlaws.proofs.OfPieces.{union-size, intersection-size, difference-size, symmetric_difference-size, subset-clear, disjoint-clear}
-use Rattle.bitlaws.proofs.OfMissing.{missing_is_empty, union_with_nothing, intersection_with_nothing, difference_with_nothing, symmetric_difference_with_nothing, size-empty, is_clear-empty}
+use Rattle.bitlaws.proofs.OfPieces.{missing_is_empty, union_with_nothing, intersection_with_nothing, difference_with_nothing, symmetric_difference_with_nothing, size-empty, is_clear-empty}
 use Rattle.bitlaws.proofs.pieces.missing_pieces.Goals as goal
 
 pub returns : goal.returns
