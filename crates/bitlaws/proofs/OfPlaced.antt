@@ -1,7 +1,7 @@
 -- What a set in pieces tells position by position: where a position lies, and the positions in ascending order.
 use Rattle.std.proofs.Common.{◌≡◌, ℕ, zero, suc, ◌+◌, ◌-◌, ◌<◌, ◌≤◌, Bool, true, false, cond, not, nat_le, IsTrue, Option, Some, None, option_map, List, [], ◌∷◌, ◌++◌, map, zip, filter_map, flat_map, count_by, All, slice_get, refl, sym, ap, ◌∙◌, arith, ⊎_elim}
 use Rattle.std.specs.List.{last_or, cons_option}
-use Rattle.std.proofs.lemmas.Bool.{cases_Bool, lt-ltb, le-leb, ltb-true, leb-true, and_parts}
+use Rattle.std.proofs.lemmas.Bool.{cases_Bool, lt-ltb, le-leb}
 use Rattle.std.proofs.lemmas.Bool.Decides.{nat_tests}
 use Rattle.std.proofs.lemmas.List.{append-nil}
 use Rattle.std.proofs.lemmas.List.Elements.{All-nil, All-cons}
@@ -12,7 +12,7 @@ use Rattle.bitwords.specs.Ascending.{ascending}
 use Rattle.bitwords.specs.AscendingFacts.{ascending-append, ascending-same}
 use Rattle.bitwords.specs.CountFacts.{indicator}
 use Rattle.fixedbitset.specs.Bits.{Bits, contains, insert, remove, set_bit, toggle, asc, minimum, maximum}
-use Rattle.fixedbitset.specs.BitsFacts.{same_bits, length-insert, length-remove, length-set_bit, contains-set_bit, length-toggle}
+use Rattle.fixedbitset.specs.BitsFacts.{same_bits, length-set_bit, contains-set_bit}
 use Rattle.fixedbitset.specs.Parts.{slice}
 use Rattle.fixedbitset.specs.PartsFacts.{length-slice, contains-slice}
 use Rattle.bitlaws.specs.Pieces.{AreCuts, pieces, placed, lies_in}
@@ -71,53 +71,42 @@ module _ (v : Bits) (start end p : ℕ) (on : Bool) (below : p < v.length) where
   slice-kept : in_range start end p ≡ false → slice (set_bit v p on) start end ≡ slice v start end
   slice-kept out = same_bits _ _ (simp length-slice) (λ q. simp (contains-slice, contains-set_bit) (grind (arith, nat_tests)))
 
--- a change that keeps the length, and changes a slice in which the position lies as it changes the set
-pub record IsChange (change : Bits → ℕ → Bits) : Type 0 where
-  pub lengths : (v : Bits) (p : ℕ) → (change v p).length ≡ v.length
-  pub inside : (v : Bits) (start end p : ℕ) → p < v.length → start ≤ p → p < end → slice (change v p) start end ≡ change (slice v start end) (p - start)
-  pub others : (v : Bits) (start end p : ℕ) → p < v.length → in_range start end p ≡ false → slice (change v p) start end ≡ slice v start end
+-- a change that sets a position to what the slices in which it lies tell too
+pub record IsChange (change : Bits → ℕ → Bits) (on : Bits → ℕ → Bool) : Type 0 where
+  pub sets : (v : Bits) (p : ℕ) → change v p ≡ set_bit v p (on v p)
+  pub told : (v : Bits) (start end p : ℕ) → start ≤ p → p < end → on v p ≡ on (slice v start end) (p - start)
 
-pub of_insert : IsChange insert
+pub of_insert : IsChange insert (λ v p. true)
 unfolding set_bit
-of_insert = record {
-  lengths = length-insert;
-  inside = λ v start end p below from to. slice-changed v start end p true below from to;
-  others = λ v start end p below out. slice-kept v start end p true below out;
-}
+of_insert = record { sets = λ v p. refl; told = λ v start end p from to. refl }
 
-pub of_remove : IsChange remove
+pub of_remove : IsChange remove (λ v p. false)
 unfolding set_bit
-of_remove = record {
-  lengths = length-remove;
-  inside = λ v start end p below from to. slice-changed v start end p false below from to;
-  others = λ v start end p below out. slice-kept v start end p false below out;
-}
+of_remove = record { sets = λ v p. refl; told = λ v start end p from to. refl }
 
-pub of_toggle : IsChange toggle
+pub of_toggle : IsChange toggle (λ v p. not (contains v p))
 unfolding toggle
-of_toggle = record {
-  lengths = length-toggle;
-  inside = λ v start end p below from to.
-      let told = contains-within v start end p from to in
-      slice-changed v start end p (not (contains v p)) below from to ∙ ap (λ b. set_bit (slice v start end) (p - start) (not b)) told;
-  others = λ v start end p below out. slice-kept v start end p (not (contains v p)) below out;
-}
+of_toggle = record { sets = λ v p. refl; told = λ v start end p from to. ap not (contains-within v start end p from to) }
 
-module _ {change : Bits → ℕ → Bits} (law : IsChange change) where
+module _ {change : Bits → ℕ → Bits} {on : Bits → ℕ → Bool} (law : IsChange change on) where
   piece-changed : (v : Bits) (start end p : ℕ) → p < v.length → start ≤ end
       → slice (change v p) start end ≡ cond (lies_in p (start, slice v start end)) (change (slice v start end) (p - start)) (slice v start end)
   piece-changed v start end p below order =
       let lies = lies_in-slice v start end p order in
+      let sets = law.sets v p in
       ⊎_elim
       (λ (one : in_range start end p ≡ true).
-      let ends = and_parts (nat_le start p) _ one in
-      rw (lies, one) (law.inside v start end p below (leb-true start p ends.0) (ltb-true p end ends.1)))
-      (λ (out : in_range start end p ≡ false). rw (lies, out) (law.others v start end p below out))
+      let from : start ≤ p = grind (arith, nat_tests) in
+      let to : p < end = grind (arith, nat_tests) in
+      rw (lies, one, sets, law.sets (slice v start end) (p - start), ← law.told v start end p from to) (slice-changed v start end p (on v p) below from to))
+      (λ (out : in_range start end p ≡ false). rw (lies, out, sets) (slice-kept v start end p (on v p) below out))
       (cases_Bool (in_range start end p))
 
   changed : (v : Bits) (start : ℕ) (cuts : List ℕ) (p : ℕ) → AreCuts v start cuts → p < v.length
       → pieces (change v p) start cuts ≡ map (λ at. cond (lies_in p at) (change at.1 (p - at.0)) at.1) (placed_from v start cuts)
-  changed v start [] p are below = ap (λ n. slice (change v p) start n ∷ []) (law.lengths v p) ∙ ap (λ u. u ∷ []) (piece-changed v start v.length p below are)
+  changed v start [] p are below =
+      let long : (change v p).length ≡ v.length = rw law.sets (length-set_bit v p (on v p)) in
+      ap (λ n. slice (change v p) start n ∷ []) long ∙ ap (λ u. u ∷ []) (piece-changed v start v.length p below are)
   changed v start (cut ∷ cuts) p are below =
       let first = piece-changed v start cut p below are.0 in
       let others = changed v cut cuts p are.1 below in

@@ -8,6 +8,7 @@ use Rattle.std.specs.Str.{all_ascii_digits}
 use Rattle.std.specs.Str.Parse.{digits_value_after}
 use Rattle.std.proofs.lemmas.Bool.{lt-ltb, true≢false}
 use Rattle.std.proofs.lemmas.Bool.Decides.{nat_tests}
+use Rattle.std.proofs.lemmas.Grind.{common_steps}
 use Rattle.std.proofs.lemmas.List.{at_drop_more, at_drop_all}
 use Rattle.bitlines.specs.Words.{◌>>=◌, words, number_of, number_at}
 
@@ -98,8 +99,7 @@ none_at_first c cs false full other = rw (slice_split-cons_no (λ b. eqb b 32) c
 
 pub words_empty : (w : List ℕ) → length w ≡ 0 → number_at (words w) ≡ None
 unfolding number_at number_of
-words_empty [] e = refl
-words_empty (c ∷ cs) e = absurd (omega arith)
+words_empty w e = grind (arith, nat_tests, common_steps)
 
 pub words_no_digit : (w : List ℕ) → 0 < length w → is_ascii_digit (get_or w 0 0) ≡ false → number_at (words w) ≡ None
 words_no_digit [] some other = absurd (omega arith)
