@@ -4,7 +4,7 @@ use Rattle.std.proofs.lemmas.List.{length-append, reverse-append}
 use Rattle.std.specs.Iterator.{YieldsFirst, YieldsLast}
 use Rattle.bitwords.specs.Walk.{Walk, TakesFromFront, TakesFromBack}
 use Rattle.bitwalks.specs.Pairs.{Sieved, AsksFront, AsksBack}
-use Rattle.bitlaws.specs.WalkLaws.{from_front, from_back, given_front, given_back, PartsAreTheList, TookWords, TurnsOfCalls, LooksUpOnce, JoinsOnce, SplitsOnce, effort}
+use Rattle.bitlaws.specs.WalkLaws.{from_front, from_back, given_back, PartsAreTheList, TookWords, TurnsOfCalls, LooksUpOnce, JoinsOnce, SplitsOnce, effort}
 
 module _ {S : Type 0} (items : S → List ℕ) (first last : S → Option ℕ → S → Type 0)
     (gives_first : (s : S) (r : Option ℕ) (t : S) → first s r t → YieldsFirst items s r t) (gives_last : (s : S) (r : Option ℕ) (t : S) → last s r t → YieldsLast items s r t) where
@@ -16,14 +16,8 @@ module _ {S : Type 0} (items : S → List ℕ) (first last : S → Option ℕ �
   parts (from_back None ∷ calls) s t call =
       let gave = gives_last s None call.0 call.1 in parts calls call.0 t call.2 ∙ gave.1 ∙ sym gave.0
   parts (from_back (Some x) ∷ calls) s t call =
-      let front = given_front calls in
-      let back = reverse (given_back calls) in
-      let turned : reverse (x ∷ given_back calls) ≡ back ++ x ∷ [] = reverse-append (x ∷ []) (given_back calls) in
-      ap (λ xs. front ++ (items t ++ xs)) turned
-      ∙ ap (λ xs. front ++ xs) (sym (append_assoc (items t) back (x ∷ [])))
-      ∙ sym (append_assoc front (items t ++ back) (x ∷ []))
-      ∙ ap (λ xs. xs ++ x ∷ []) (parts calls call.0 t call.2)
-      ∙ sym (gives_last s (Some x) call.0 call.1)
+      let turned : reverse (x ∷ given_back calls) ≡ reverse (given_back calls) ++ x ∷ [] = reverse-append (x ∷ []) (given_back calls) in
+      rw (turned, gives_last s (Some x) call.0 call.1, ← parts calls call.0 t call.2) (simp append_assoc)
 
 -- ---- turns
 
@@ -31,7 +25,7 @@ took_front : (calls : ℕ) (s u t : Walk) → TakesFromFront 1 s u → TookWords
 took_front calls s u t one rest = record {
   front = one.words ++ rest.front;
   back = rest.back;
-  stretch = one.front ∙ ap (λ ws. one.words ++ ws) rest.stretch ∙ sym (append_assoc one.words rest.front (t.words ++ rest.back));
+  stretch = simp (one.front, rest.stretch, append_assoc);
   taken = omega (arith, one.counts.taken, rest.taken, length-append one.words rest.front);
   turns = omega (arith, one.counts.turns, rest.turns, length-append one.words rest.front);
 }
@@ -40,9 +34,7 @@ took_back : (calls : ℕ) (s u t : Walk) → TakesFromBack 1 s u → TookWords c
 took_back calls s u t one rest = record {
   front = rest.front;
   back = rest.back ++ one.words;
-  stretch =
-      one.back ∙ ap (λ ws. ws ++ one.words) rest.stretch ∙ append_assoc rest.front (t.words ++ rest.back) one.words
-      ∙ ap (λ ws. rest.front ++ ws) (append_assoc t.words rest.back one.words);
+  stretch = simp (one.back, rest.stretch, append_assoc);
   taken = omega (arith, one.counts.taken, rest.taken, length-append rest.back one.words);
   turns = omega (arith, one.counts.turns, rest.turns, length-append rest.back one.words);
 }

@@ -17,14 +17,9 @@ use Rattle.bitlines.specs.declared.fault.LineFault.TheVariants.{NotACommand}
 use Rattle.bitlines.specs.OneLine.{AnswersLine, AnswersCommand}
 use Rattle.bitlines.proofs.LineSplits.{parts, cut_found, cut_none}
 
-without_empty_last-cons : (t p : List ℕ) (ps qs : List (List ℕ)) → ps ≡ p ∷ qs → without_empty_last (t ∷ ps) ≡ t ∷ without_empty_last ps
-without_empty_last-cons t p ps qs e = rw e refl
-
 pub lines_of_found : (xs : List ℕ) (k : ℕ) → position (λ x. eqb x 10) xs ≡ Some k → lines_of xs ≡ take k xs ∷ lines_of (drop (k + 1) xs)
 unfolding lines_of
-lines_of_found xs k e =
-    let p = parts 10 (drop (k + 1) xs) in
-    ap without_empty_last (cut_found 10 xs k e) ∙ without_empty_last-cons (take k xs) p.0 _ p.1 p.2
+lines_of_found xs k e = rw (cut_found 10 xs k e, (parts 10 (drop (k + 1) xs)).2) refl
 
 pub lines_of_none : (xs : List ℕ) → 0 < length xs → position (λ x. eqb x 10) xs ≡ None → lines_of xs ≡ xs ∷ []
 unfolding lines_of
