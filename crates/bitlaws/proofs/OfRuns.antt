@@ -115,9 +115,13 @@ gap_is_least v count from =
     rw (ascending-none room from steps none) (λ p above holds. true≢false (sym holds ∙ none p above (omega (arith, past p holds)))))
     (λ (found : (p : ℕ) × IsNext room from (from + steps) p).
     let next = found.1 in
-    rw (first-from room from steps found.0 next.after next.below next.passes next.none) (next.after, next.passes, λ q above holds.
-    let not_less : ¬ (q < found.0) = λ less. true≢false (sym holds ∙ next.none q above less) in
-    omega arith))
+    rw (first-from room from steps found.0 next.after next.below next.passes next.none) (
+      next.after,
+      next.passes,
+      λ q above holds.
+          let not_less : ¬ (q < found.0) = λ less. true≢false (sym holds ∙ next.none q above less) in
+          omega arith,
+    ))
     (least room steps from (from + steps) refl)
   where
     past : (q : ℕ) → has_room v count q ≡ true → q < v.length + 1

@@ -1,7 +1,7 @@
 -- Numbers, ranges, flags, ends and JSON texts as the grammar spells them.
 use Rattle.std.proofs.Common.{◌≡◌, ℕ, zero, suc, ◌^◌, ◌<◌, Bool, true, false, eqb, nat_lt, List, [], ◌∷◌, ◌++◌, length}
 use Rattle.std.proofs.Common.{replicate, Some, true≢false, refl, sym, ap, subst, ◌∙◌, arith, decimal, ◌+◌, ◌⊎◌, inl}
-use Rattle.std.proofs.Common.{inr, cond, take, drop, Option, None, get_or, map, append-nil, option_and_then}
+use Rattle.std.proofs.Common.{inr, cond, take, drop, Option, None, get_or, map, append-nil}
 use Rattle.std.specs.Str.{all_ascii_digits, bytes_eq, is_utf8}
 use Rattle.std.specs.Str.Parse.{digits_value}
 use Rattle.std.proofs.lemmas.Bool.{eq-eqb, and_parts}
@@ -191,22 +191,12 @@ bounds_spelled r start end e =
 pub range_spelled : (r : Range) (w : List ℕ) → range_of w ≡ Some r → SpellsRange r w
 unfolding range_of
 range_spelled r w e =
-    option_and_then_some
-    (λ k. cond (eqb (slice_index_or w (k + 1) 0) 46)
-    (bounds_of (take k w) (drop (k + 2) w)) None) (position (λ c. eqb c 46) w) r e
-    (λ k found inner.
-    let dot = then_some (eqb (slice_index_or w (k + 1) 0) 46)
-    (bounds_of (take k w) (drop (k + 2) w)) r inner in
-    let is_dot = dot.0 in
-    let second : slice_index_or w (k + 1) 0 ≡ 46 = grind (arith, nat_tests) in
-    let bounds = bounds_spelled r (take k w) (drop (k + 2) w) dot.1 in (
-      take k w,
-      drop (k + 2) w,
-      cut_text 46 w k found
-          ∙ ap (λ t. take k w ++ 46 ∷ t) (second_cut w k second),
-      bounds.0,
-      bounds.1,
-    ))
+    option_and_then_some _ (position (λ c. eqb c 46) w) r e (λ k found inner.
+    let dot = then_some (eqb (slice_index_or w (k + 1) 0) 46) _ r inner in
+    let second : slice_index_or w (k + 1) 0 ≡ 46 = grind (arith, nat_tests, dot.0) in
+    let cut = cut_text 46 w k found ∙ ap (λ t. take k w ++ 46 ∷ t) (second_cut w k second) in
+    let bounds = bounds_spelled r (take k w) (drop (k + 2) w) dot.1 in
+    (take k w, drop (k + 2) w, cut, bounds.0, bounds.1))
 
 -- ---- texts
 
@@ -231,12 +221,9 @@ letters_spelled : (es : List End) (w : List ℕ) → ends_from w ≡ Some es →
 unfolding ends_from
 letters_spelled es [] e = ap (map letter) (same_Some [] es e)
 letters_spelled es (c ∷ cs) e =
-    option_and_then_some (λ x. option_and_then (λ xs. Some (x ∷ xs)) (ends_from cs))
-    (end_of c) es e (λ x f g.
-    option_and_then_some (λ xs. Some (x ∷ xs)) (ends_from cs) es g (λ xs h i.
-    ap (λ d. d ∷ cs) (letter_spelled x c f)
-    ∙ ap (λ ds. letter x ∷ ds) (letters_spelled xs cs h)
-    ∙ ap (map letter) (same_Some (x ∷ xs) es i)))
+    option_and_then_some _ (end_of c) es e (λ x f g.
+    option_and_then_some _ (ends_from cs) es g (λ xs h i.
+    rw (letter_spelled x c f, letters_spelled xs cs h) (ap (map letter) (same_Some (x ∷ xs) es i))))
 
 pub ends_spelled : (es : List End) (w : List ℕ) → ends_of w ≡ Some es
     → (w ≡ map letter es) × (0 < length es)
