@@ -1,5 +1,5 @@
 -- The position next to a given one, found in its own word or in the first word behind it that has one.
-use Rattle.std.proofs.Common.{◌≡◌, ℕ, ◌+◌, ◌-◌, ◌*◌, ◌/◌, ◌%◌, ◌^◌, ◌<◌, ◌≤◌, Bool, true, false, ◌&&◌, ◌==◌, nat_lt, nat_le, List, length, get_or, map, Option, Some, None, refl, sym, ap, ◌∙◌, subst, arith, ⊎_elim}
+use Rattle.std.proofs.Common.{◌≡◌, ℕ, ◌+◌, ◌-◌, ◌*◌, ◌/◌, ◌%◌, ◌^◌, ◌<◌, ◌≤◌, Bool, true, false, ◌&&◌, ◌==◌, nat_lt, nat_le, List, length, get_or, map, Option, Some, None, refl, sym, ap, ◌∙◌, arith, ⊎_elim}
 use Rattle.std.specs.Prelude.{◌↔◌, IsTrue, IfSome, IfNone}
 use Rattle.std.specs.Int.{bit_at}
 use Rattle.std.specs.Option.{is_none}
@@ -17,22 +17,9 @@ use Rattle.bitwords.specs.RowFacts.{AreWords, has_bit-past}
 use Rattle.bitwords.proofs.Counted.{word-bits}
 use Rattle.bitwords.proofs.Parts.{masked_whole}
 
--- what passes of a range passes, and lies in the range
-falls : (r c : Bool) → r ≡ true → (r && c) ≡ false → c ≡ false
-falls true c is none = none
-falls false c is none = absurd (true≢false (sym is))
-
--- the mask of the positions of a word from one on
-pub masked_from : (from mask : ℕ) → ((i : ℕ) → bit mask i ≡ (nat_le (from % 64) i && nat_lt i 64)) → (i : ℕ) → bit mask i ≡ (nat_lt i 64 && in_range from (64 * (from / 64 + 1)) (64 * (from / 64) + i))
-masked_from from mask bits i = bits i ∙ grind (arith, nat_tests)
-
--- the mask of the positions of a word up to one
-pub masked_upto : (last mask : ℕ) → ((i : ℕ) → bit mask i ≡ (nat_le 0 i && nat_lt i (last % 64 + 1))) → (i : ℕ) → bit mask i ≡ (nat_lt i 64 && in_range (64 * (last / 64)) (last + 1) (64 * (last / 64) + i))
-masked_upto last mask bits i = bits i ∙ grind (arith, nat_tests)
-
--- another end behind the position
-pub ends_at : (test : ℕ → Bool) (from far p end : ℕ) → IsNext test from far p → p < end → IsNext test from end p
-ends_at test from far p end next before = record { after = next.after; below = before; passes = next.passes; none = next.none }
+-- two stretches that pass nothing, one behind the other
+none-append : (passes : ℕ → Bool) (start middle end : ℕ) → NonePasses passes start middle → NonePasses passes middle end → NonePasses passes start end
+none-append passes start middle end one two i after below = ⊎_elim (λ (lt : i < middle). one i after lt) (λ (ge : middle ≤ i). two i ge below) (cases_lt i middle)
 
 module _ {f : ℕ → ℕ → ℕ} {t : Bool → Bool → Bool} {keep take_right : Bool} (law : IsWordOp f t keep take_right) (drops : take_right ≡ false) (ws : List ℕ) (words : AreWords ws) where
   abbrev passes : ℕ → Bool
@@ -48,38 +35,40 @@ module _ {f : ℕ → ℕ → ℕ} {t : Bool → Bool → Bool} {keep take_right
     clear_fails i after below clear =
         let at : 64 * k + (i - 64 * k) ≡ i = omega arith in
         let bits = word-bits law drops ws words k mask start end fits masked (i - 64 * k) (omega arith) in
-        falls (in_range start end i) (passes i) (and_from _ _ (le-leb start i after) (lt-ltb i end below))
-        (ap (λ p. in_range start end p && passes p) (sym at) ∙ sym bits ∙ ap (λ n. n == 1) clear)
+        falls _ _ (and_from _ _ (le-leb start i after) (lt-ltb i end below)) (ap (λ p. in_range start end p && passes p) (sym at) ∙ sym bits ∙ ap (λ n. n == 1) clear)
+      where
+        falls : (r c : Bool) → r ≡ true → (r && c) ≡ false → c ≡ false
+        falls r c is none = grind arith
 
     -- where the word is 0, no position of the range passes
-    pub none_in_word : word ≡ 0 → NonePasses passes start end
+    none_in_word : word ≡ 0 → NonePasses passes start end
     none_in_word zero i after below = clear_fails i after below (ap (λ w. bit_at w (i - 64 * k)) zero ∙ bit_at-zero (i - 64 * k))
 
     -- its bit j that is set is a position of the range that passes
-    set_passes : (j : ℕ) → j < 64 → bit_at word j ≡ 1 → (in_range start end (64 * k + j) && passes (64 * k + j)) ≡ true
-    set_passes j low set = sym (word-bits law drops ws words k mask start end fits masked j low) ∙ ap (λ n. n == 1) set
+    set_passes : (j : ℕ) → j < 64 → bit_at word j ≡ 1 → (start ≤ 64 * k + j) × ((64 * k + j < end) × (passes (64 * k + j) ≡ true))
+    set_passes j low set =
+        let both = and_parts _ _ (sym (word-bits law drops ws words k mask start end fits masked j low) ∙ ap (λ n. n == 1) set) in
+        (leb-true _ _ (and_parts _ _ both.0).0, (ltb-true _ _ (and_parts _ _ both.0).1, both.1))
 
     -- its lowest bit is the first position of the range that passes
-    pub lowest_next : (j : ℕ) → IsLowestBit word j → IsNext passes start end (64 * k + j)
+    lowest_next : (j : ℕ) → IsLowestBit word j → IsNext passes start end (64 * k + j)
     lowest_next j low =
-        let both = and_parts _ _ (set_passes j low.within low.set) in
-        let range = and_parts _ _ both.0 in
+        let at = set_passes j low.within low.set in
         record {
-          after = leb-true _ _ range.0;
-          below = ltb-true _ _ range.1;
-          passes = both.1;
-          none = λ i after before. clear_fails i after (omega (arith, ltb-true (64 * k + j) end range.1)) (low.lowest (i - 64 * k) (omega arith));
+          after = at.0;
+          below = at.1.0;
+          passes = at.1.1;
+          none = λ i after before. clear_fails i after (omega (arith, at)) (low.lowest (i - 64 * k) (omega arith));
         }
 
     -- its highest bit is the last one
-    pub highest_previous : (j : ℕ) → IsHighestBit word j → IsPrevious passes end (64 * k + j)
+    highest_previous : (j : ℕ) → IsHighestBit word j → IsPrevious passes end (64 * k + j)
     highest_previous j high =
-        let both = and_parts _ _ (set_passes j high.within high.set) in
-        let range = and_parts _ _ both.0 in
+        let at = set_passes j high.within high.set in
         record {
-          below = ltb-true _ _ range.1;
-          passes = both.1;
-          none = λ i after before. clear_fails i (omega (arith, leb-true start (64 * k + j) range.0)) before (high.highest (i - 64 * k) (omega arith));
+          below = at.1.0;
+          passes = at.1.1;
+          none = λ i after before. clear_fails i (omega (arith, at)) before (high.highest (i - 64 * k) (omega arith));
         }
 
   -- the words from place a up to and without b, where each is 0 once it is joined with all ones
@@ -89,73 +78,63 @@ module _ {f : ℕ → ℕ → ℕ} {t : Bool → Bool → Bool} {keep take_right
       none_in_word m (2 ^ 64 - 1) (64 * m) (64 * (m + 1)) (omega arith) (omega arith) (omega arith) (masked_whole m)
       (sym (get_or-map (f (2 ^ 64 - 1)) ws m 0 0 (omega arith)) ∙ zeros m (omega arith) (omega arith)) i (omega arith) (omega arith)
 
-  module _ (from : ℕ) (here : NonePasses passes from (64 * (from / 64 + 1))) where
-    -- the first position of a later word, where no word before it has one
-    pub later_next : (k w : ℕ) → w ≡ f (2 ^ 64 - 1) (get_or ws k 0) → (j : ℕ) → IsNextOne (map (f (2 ^ 64 - 1)) ws) (from / 64 + 1) k → IsLowestBit w j → IsNext passes from (64 * length ws) (64 * k + j)
-    later_next k w is j word low =
-        let within : k < length ws = omega (arith, word.within, length-map ws (f (2 ^ 64 - 1))) in
-        let first = lowest_next k (2 ^ 64 - 1) (64 * k) (64 * (k + 1)) (omega arith) (omega arith) (omega arith) (masked_whole k) j (subst (λ n. IsLowestBit n j) is low) in
-        record {
-          after = omega (arith, word.after);
-          below = omega (arith, first.below);
-          passes = first.passes;
-          none = λ i after before. ⊎_elim
-              (λ (own : i < 64 * (from / 64 + 1)). here i after own)
-              (λ (behind : 64 * (from / 64 + 1) ≤ i). ⊎_elim
-              (λ (between : i < 64 * k). none_in_words (from / 64 + 1) k (omega arith) word.zeros i behind between)
-              (λ (same : 64 * k ≤ i). first.none i same before)
-              (cases_lt i (64 * k)))
-              (cases_lt i (64 * (from / 64 + 1)));
-        }
-
-    -- where no later word has one
-    pub none_later : AreZerosFrom (map (f (2 ^ 64 - 1)) ws) (from / 64 + 1) → NonePasses passes from (64 * length ws)
-    none_later zeros i after below = ⊎_elim
-        (λ (own : i < 64 * (from / 64 + 1)). here i after own)
-        (λ (behind : 64 * (from / 64 + 1) ≤ i). none_in_words (from / 64 + 1) (length ws) (omega arith) (λ m from_m _. zeros m from_m) i behind below)
-        (cases_lt i (64 * (from / 64 + 1)))
-
-  module _ (a below : ℕ) (long : a ≤ length ws) (here : NonePasses passes (64 * a) below) where
-    -- the last position of an earlier word, where no word behind it has one
-    pub earlier_previous : (k w : ℕ) → w ≡ f (2 ^ 64 - 1) (get_or ws k 0) → (j : ℕ) → IsPreviousOne (map (f (2 ^ 64 - 1)) ws) a k → 64 * a < below → IsHighestBit w j → IsPrevious passes below (64 * k + j)
-    earlier_previous k w is j word some high =
-        let last = highest_previous k (2 ^ 64 - 1) (64 * k) (64 * (k + 1)) (omega arith) (omega arith) (omega arith) (masked_whole k) j (subst (λ n. IsHighestBit n j) is high) in
-        record {
-          below = omega (arith, word.before, last.below);
-          passes = last.passes;
-          none = λ i after before. ⊎_elim
-              (λ (earlier : i < 64 * a). ⊎_elim
-              (λ (same : i < 64 * (k + 1)). last.none i after same)
-              (λ (between : 64 * (k + 1) ≤ i). none_in_words (k + 1) a long (λ m from_m to_m. word.zeros m (omega arith) to_m) i between earlier)
-              (cases_lt i (64 * (k + 1))))
-              (λ (own : 64 * a ≤ i). here i own before)
-              (cases_lt i (64 * a));
-        }
-
-    -- where no earlier word has one
-    pub none_earlier : AreZerosBelow (map (f (2 ^ 64 - 1)) ws) a → NonePasses passes 0 below
-    none_earlier zeros i after before = ⊎_elim
-        (λ (earlier : i < 64 * a). none_in_words 0 a long (λ m _ to_m. zeros m to_m) i (omega arith) earlier)
-        (λ (own : 64 * a ≤ i). here i own before)
-        (cases_lt i (64 * a))
-
   -- what the word of `from` tells, joined with the mask of the positions of it from there on
   module _ (from mask w : ℕ) (fits : mask < 2 ^ 64) (bits : (i : ℕ) → bit mask i ≡ (nat_le (from % 64) i && nat_lt i 64)) (is : w ≡ f mask (get_or ws (from / 64) 0)) where
+    masked_from : (i : ℕ) → bit mask i ≡ (nat_lt i 64 && in_range from (64 * (from / 64 + 1)) (64 * (from / 64) + i))
+    masked_from i = bits i ∙ grind (arith, nat_tests)
+
     pub own_next : (j : ℕ) → IsLowestBit w j → from < 64 * length ws → IsNext passes from (64 * length ws) (64 * (from / 64) + j)
     own_next j low within =
-        let next = lowest_next (from / 64) mask from (64 * (from / 64 + 1)) fits (omega arith) (omega arith) (masked_from from mask bits) j (subst (λ n. IsLowestBit n j) is low) in
-        ends_at passes from (64 * (from / 64 + 1)) _ (64 * length ws) next (omega (arith, next.below))
+        let next = lowest_next (from / 64) mask from (64 * (from / 64 + 1)) fits (omega arith) (omega arith) masked_from j (rw is at low) in
+        record { after = next.after; below = omega (arith, next.below); passes = next.passes; none = next.none }
 
-    pub none_from : w ≡ 0 → NonePasses passes from (64 * (from / 64 + 1))
-    none_from zero = none_in_word (from / 64) mask from (64 * (from / 64 + 1)) fits (omega arith) (omega arith) (masked_from from mask bits) (sym is ∙ zero)
+    module _ (zero : w ≡ 0) where
+      here : NonePasses passes from (64 * (from / 64 + 1))
+      here = none_in_word (from / 64) mask from (64 * (from / 64 + 1)) fits (omega arith) (omega arith) masked_from (sym is ∙ zero)
+
+      -- the first position of a later word, where no word before it has one
+      pub later_next : (k v : ℕ) → v ≡ f (2 ^ 64 - 1) (get_or ws k 0) → (j : ℕ) → IsNextOne (map (f (2 ^ 64 - 1)) ws) (from / 64 + 1) k → IsLowestBit v j → IsNext passes from (64 * length ws) (64 * k + j)
+      later_next k v whole j word low =
+          let within : k < length ws = omega (arith, word.within, length-map ws (f (2 ^ 64 - 1))) in
+          let first = lowest_next k (2 ^ 64 - 1) (64 * k) (64 * (k + 1)) (omega arith) (omega arith) (omega arith) (masked_whole k) j (rw whole at low) in
+          let between = none_in_words (from / 64 + 1) k (omega arith) word.zeros in
+          record {
+            after = omega (arith, word.after);
+            below = omega (arith, first.below);
+            passes = first.passes;
+            none = none-append passes _ _ _ here (none-append passes _ _ _ between first.none);
+          }
+
+      -- where no later word has one
+      pub none_later : AreZerosFrom (map (f (2 ^ 64 - 1)) ws) (from / 64 + 1) → NonePasses passes from (64 * length ws)
+      none_later zeros = none-append passes _ _ _ here (none_in_words (from / 64 + 1) (length ws) (omega arith) (λ m from_m _. zeros m from_m))
 
   -- what the word of `last` tells, joined with the mask of the positions of it up to there
   module _ (last mask w : ℕ) (fits : mask < 2 ^ 64) (bits : (i : ℕ) → bit mask i ≡ (nat_le 0 i && nat_lt i (last % 64 + 1))) (is : w ≡ f mask (get_or ws (last / 64) 0)) where
-    pub own_previous : (j : ℕ) → IsHighestBit w j → IsPrevious passes (last + 1) (64 * (last / 64) + j)
-    own_previous j high = highest_previous (last / 64) mask (64 * (last / 64)) (last + 1) fits (omega arith) (omega arith) (masked_upto last mask bits) j (subst (λ n. IsHighestBit n j) is high)
+    masked_upto : (i : ℕ) → bit mask i ≡ (nat_lt i 64 && in_range (64 * (last / 64)) (last + 1) (64 * (last / 64) + i))
+    masked_upto i = bits i ∙ grind (arith, nat_tests)
 
-    pub none_upto : w ≡ 0 → NonePasses passes (64 * (last / 64)) (last + 1)
-    none_upto zero = none_in_word (last / 64) mask (64 * (last / 64)) (last + 1) fits (omega arith) (omega arith) (masked_upto last mask bits) (sym is ∙ zero)
+    pub own_previous : (j : ℕ) → IsHighestBit w j → IsPrevious passes (last + 1) (64 * (last / 64) + j)
+    own_previous j high = highest_previous (last / 64) mask (64 * (last / 64)) (last + 1) fits (omega arith) (omega arith) masked_upto j (rw is at high)
+
+    module _ (within : last < 64 * length ws) (zero : w ≡ 0) where
+      upto : NonePasses passes (64 * (last / 64)) (last + 1)
+      upto = none_in_word (last / 64) mask (64 * (last / 64)) (last + 1) fits (omega arith) (omega arith) masked_upto (sym is ∙ zero)
+
+      -- the last position of an earlier word, where no word behind it has one
+      pub earlier_previous : (k v : ℕ) → v ≡ f (2 ^ 64 - 1) (get_or ws k 0) → (j : ℕ) → IsPreviousOne (map (f (2 ^ 64 - 1)) ws) (last / 64) k → IsHighestBit v j → IsPrevious passes (last + 1) (64 * k + j)
+      earlier_previous k v whole j word high =
+          let found = highest_previous k (2 ^ 64 - 1) (64 * k) (64 * (k + 1)) (omega arith) (omega arith) (omega arith) (masked_whole k) j (rw whole at high) in
+          let between = none_in_words (k + 1) (last / 64) (omega arith) (λ m from_m to_m. word.zeros m (omega arith) to_m) in
+          record {
+            below = omega (arith, word.before, found.below);
+            passes = found.passes;
+            none = none-append passes _ _ _ found.none (none-append passes _ _ _ between upto);
+          }
+
+      -- where no earlier word has one
+      pub none_earlier : AreZerosBelow (map (f (2 ^ 64 - 1)) ws) (last / 64) → NonePasses passes 0 (last + 1)
+      none_earlier zeros = none-append passes _ _ _ (none_in_words 0 (last / 64) (omega arith) (λ m _ to_m. zeros m to_m)) upto
 
 -- there is no position from one on exactly if no next one is found up to the end of the words
 pub none_is_left : (ws : List ℕ) (start : ℕ) (next : Option ℕ) → IfSome next (IsNext (bit_test (λ y. y) ws) start (64 * length ws)) → IfNone next (NonePasses (bit_test (λ y. y) ws) start (64 * length ws))

@@ -1,7 +1,6 @@
-use Rattle.std.proofs.Common.{◌∙◌, ◌<◌, ◌^◌, ℕ, true, get_or, ap, sym, rules, length, replicate, arith}
+use Rattle.std.proofs.Common.{◌∙◌, true, ap, sym, rules, length, replicate, arith}
 use Rattle.std.specs.Bool.{if◌then◌else◌}
 use Rattle.std.proofs.lemmas.List.{length-take, length-drop}
-use Rattle.bitlanes.specs.Ops.{IsWordOp}
 use Rattle.bitwords.proofs.Changed.{changed-zeroed, changed-kept}
 use Rattle.bitwords.proofs.Cleared.{length-kept, IsJoined-kept, IsJoined-zeroed}
 use Rattle.bitwords.proofs.joins.join_with_change.Goals.{then-joined, else-joined}
@@ -9,17 +8,12 @@ use Rattle.bitwords.proofs.joins.join_with_change.Goals as goal
 
 pub returns-then-common-words-clause-bits : goal.returns-then-common-words-clause-bits
 returns-then-common-words-clause-bits g c =
-    let law : IsWordOp g.O.WordOp.joined g.O.WordOp.truth c.KEEP.result g.O.WordOp.TAKE = rw c.KEEP.ensures g.met.O.WordOp.laws in
-    let old : (k : ℕ) → get_or c.args.words.now k 0 < 2 ^ 64 = λ k. search rules in
-    let other : (k : ℕ) → get_or c.args.other.now k 0 < 2 ^ 64 = λ k. search rules in
-    rw c.apply-joined.ensures.words (IsJoined-zeroed law c.args.words.now c.args.other.now old other c.zero-cleared.new.dst c.if-not-KEEP.true (rw c.apply-joined.ensures.words at c.if-common-words.true) (c.zero-cleared.ensures.words ∙ ap (λ n. replicate n 0) (let e = length-kept g.O.WordOp.joined c.args.words.now c.args.other.now in let f = ap length c.apply-joined.ensures.words in simp (length-take, length-drop) (omega arith))))
+    rw c.apply-joined.ensures.words (IsJoined-zeroed g.met.O.WordOp.laws c.args.words.now c.args.other.now (λ k. search rules) (λ k. search rules) c.zero-cleared.new.dst (cc) (rw c.apply-joined.ensures.words at c.if-common-words.true)
+    (c.zero-cleared.ensures.words ∙ ap (λ n. replicate n 0) (let e = length-kept g.O.WordOp.joined c.args.words.now c.args.other.now in let f = ap length c.apply-joined.ensures.words in simp (length-take, length-drop) (omega arith))))
 
 pub returns-then-common-words-clause-changed : goal.returns-then-common-words-clause-changed
 returns-then-common-words-clause-changed g c =
-    let law : IsWordOp g.O.WordOp.joined g.O.WordOp.truth c.KEEP.result g.O.WordOp.TAKE = rw c.KEEP.ensures g.met.O.WordOp.laws in
-    let old : (k : ℕ) → get_or c.args.words.now k 0 < 2 ^ 64 = λ k. search rules in
-    let other : (k : ℕ) → get_or c.args.other.now k 0 < 2 ^ 64 = λ k. search rules in
-    let told = changed-zeroed law c.args.words.now c.args.other.now old other c.requires.shorter c.apply-joined.result c.zero-cleared.result c.apply-joined.new.dst c.if-not-KEEP.true c.apply-joined.ensures.changed c.apply-joined.ensures.words c.zero-cleared.ensures.changed in
+    let told = changed-zeroed g.met.O.WordOp.laws c.args.words.now c.args.other.now (λ k. search rules) (λ k. search rules) c.requires.shorter c.apply-joined.result c.zero-cleared.result c.apply-joined.new.dst (cc) c.apply-joined.ensures.changed c.apply-joined.ensures.words c.zero-cleared.ensures.changed in
     elim c.if-joined.branch [
       | then-joined w ↦ w.result-is ∙ w.if-joined.true ∙ sym (ap (λ b. if b then true else c.zero-cleared.result) w.if-joined.true) ∙ told
       | else-joined w ↦ w.result-is ∙ sym (ap (λ b. if b then true else c.zero-cleared.result) w.if-joined.false) ∙ told
@@ -27,14 +21,9 @@ returns-then-common-words-clause-changed g c =
 
 pub returns-clause-bits : goal.returns-clause-bits
 returns-clause-bits g c =
-    let law : IsWordOp g.O.WordOp.joined g.O.WordOp.truth c.KEEP.result g.O.WordOp.TAKE = rw c.KEEP.ensures g.met.O.WordOp.laws in
-    let old : (k : ℕ) → get_or c.args.words.now k 0 < 2 ^ 64 = λ k. search rules in
-    let other : (k : ℕ) → get_or c.args.other.now k 0 < 2 ^ 64 = λ k. search rules in
-    rw c.apply-joined.ensures.words (IsJoined-kept law c.args.words.now c.args.other.now old other (rw c.apply-joined.ensures.words at c.else-not-KEEP.either))
+    rw c.apply-joined.ensures.words (IsJoined-kept g.met.O.WordOp.laws c.args.words.now c.args.other.now (λ k. search rules) (λ k. search rules) (rw (c.apply-joined.ensures.words, c.KEEP.ensures) at c.else-not-KEEP.either))
 
 pub returns-clause-changed : goal.returns-clause-changed
 returns-clause-changed g c =
-    let law : IsWordOp g.O.WordOp.joined g.O.WordOp.truth c.KEEP.result g.O.WordOp.TAKE = rw c.KEEP.ensures g.met.O.WordOp.laws in
-    let old : (k : ℕ) → get_or c.args.words.now k 0 < 2 ^ 64 = λ k. search rules in
-    let other : (k : ℕ) → get_or c.args.other.now k 0 < 2 ^ 64 = λ k. search rules in
-    c.apply-joined.ensures.changed ∙ changed-kept law c.args.words.now c.args.other.now old other c.requires.shorter (rw c.apply-joined.ensures.words at c.else-not-KEEP.either)
+    c.apply-joined.ensures.changed
+    ∙ changed-kept g.met.O.WordOp.laws c.args.words.now c.args.other.now (λ k. search rules) (λ k. search rules) c.requires.shorter (rw (c.apply-joined.ensures.words, c.KEEP.ensures) at c.else-not-KEEP.either)
