@@ -1,9 +1,10 @@
 -- The words of a row joined with those of another one: the rest is kept, or cleared. And a row whose rest is made 0.
-use Rattle.std.proofs.Common.{◌≡◌, ℕ, zero, suc, ◌-◌, ◌*◌, ◌/◌, ◌%◌, ◌<◌, ◌≤◌, Bool, true, false, ◌&&◌, ◌==◌, List, [], ◌∷◌, ◌++◌, take, drop, length, get_or, replicate, refl, sym, ap, ◌∙◌, arith, ⊎_elim, ◌⊎◌}
+use Rattle.std.proofs.Common.{◌≡◌, ℕ, zero, suc, ◌-◌, ◌*◌, ◌/◌, ◌%◌, ◌<◌, ◌≤◌, Bool, true, false, ◌&&◌, ◌==◌, List, [], ◌∷◌, length, get_or, replicate, refl, sym, ap, ◌∙◌, arith, ⊎_elim, ◌⊎◌}
 use Rattle.std.proofs.lemmas.Bool.{cases_lt}
-use Rattle.std.proofs.lemmas.List.{get_or_append_left, get_or-append_right, get_or-take, length-append, length-take-le, length-drop, length-replicate, get_or-replicate}
+use Rattle.std.proofs.lemmas.List.{length-replicate, get_or-replicate}
 use Rattle.std.proofs.lemmas.Nat.Bits.{bit_at-zero}
-use borrow.Rule.Slice.PartMut.{put_mid, post_of}
+use borrow.Rule.Slice.PartMut.{put_mid}
+use Rattle.bitwords.proofs.PutRow.{length-put_row, put_row_below, put_row_within}
 use Rattle.bitlanes.specs.Bits.{bit}
 use Rattle.bitlanes.specs.Words.{zip_longest}
 use Rattle.bitwords.specs.Rows.{has_bit, IsJoined}
@@ -15,28 +16,19 @@ module _ (row zeros : List ℕ) (k : ℕ) (inside : k ≤ length row) (are : zer
   abbrev pub cut_row : List ℕ
   cut_row = put_mid k (length row - k) row zeros
 
-  front : length (take k row) ≡ k
-  front = length-take-le k row inside
-
   middle : length zeros ≡ length row - k
   middle = ap length are ∙ length-replicate (length row - k) 0
 
   pub length-cut_row : length cut_row ≡ length row
-  length-cut_row =
-      let rest : List ℕ = post_of k (length row - k) row in
-      let none : length rest ≡ 0 = length-drop (length row - k) (drop k row) ∙ (let e = length-drop k row in omega arith) in
-      length-append (take k row) (zeros ++ rest) ∙ (let e = length-append zeros rest in let f = front in let m = middle in omega arith)
+  length-cut_row = length-put_row row zeros k (length row - k) (omega arith) middle
 
   pub get_or-cut_row_below : (i : ℕ) → i < k → get_or cut_row i 0 ≡ get_or row i 0
-  get_or-cut_row_below i l = get_or_append_left (take k row) _ 0 i (let f = front in omega arith) ∙ get_or-take k row i 0 l
+  get_or-cut_row_below = put_row_below row zeros k (length row - k) (omega arith) middle
 
   pub get_or-cut_row_from : (i : ℕ) → k ≤ i → i < length row → get_or cut_row i 0 ≡ 0
-  get_or-cut_row_from i l h =
-      let m = middle in
-      get_or-append_right (take k row) _ k i 0 front l
-      ∙ get_or_append_left zeros (post_of k (length row - k) row) 0 (i - k) (omega arith)
-      ∙ ap (λ z. get_or z (i - k) 0) are
-      ∙ get_or-replicate (length row - k) (i - k) 0 0 (omega arith)
+  get_or-cut_row_from i from within =
+      put_row_within row zeros k (length row - k) (omega arith) middle i from (omega arith)
+      ∙ ap (λ z. get_or z (i - k) 0) are ∙ get_or-replicate (length row - k) (i - k) 0 0 (omega arith)
 
 pub length-kept : (f : ℕ → ℕ → ℕ) (xs ys : List ℕ) → length (zip_longest f true false xs ys) ≡ length xs
 length-kept f [] ys = refl

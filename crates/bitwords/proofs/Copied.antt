@@ -1,8 +1,9 @@
 -- Positions of a range that are written over with those of another row, part by part.
-use Rattle.std.proofs.Common.{◌≡◌, ◌≢◌, ℕ, ◌+◌, ◌-◌, ◌*◌, ◌/◌, ◌%◌, ◌^◌, ◌<◌, ◌≤◌, Bool, true, false, ◌&&◌, ◌||◌, not, nat_lt, List, ◌++◌, length, take, drop, get_or, set, bit_and, bit_or, sym, ap, ◌∙◌, refl, arith, subst, ⊎_elim}
+use Rattle.std.proofs.Common.{◌≡◌, ◌≢◌, ℕ, ◌+◌, ◌-◌, ◌*◌, ◌/◌, ◌%◌, ◌^◌, ◌<◌, ◌≤◌, Bool, true, false, ◌&&◌, ◌||◌, not, nat_lt, List, length, take, drop, get_or, set, bit_and, bit_or, sym, ap, ◌∙◌, refl, arith, subst, ⊎_elim}
 use Rattle.std.proofs.lemmas.Bool.{cases_lt, cases_eq, lt-ltb, le-leb, and_from}
-use Rattle.std.proofs.lemmas.List.{get_or-set_same, get_or-set_other, length-set, get_or_append_left, get_or-append_right, get_or-take, get_or-drop, length-append, length-take-le, length-drop}
-use borrow.Rule.Slice.PartMut.{put_mid, post_of}
+use Rattle.std.proofs.lemmas.List.{get_or-set_same, get_or-set_other, length-set, length-take-le, length-drop}
+use borrow.Rule.Slice.PartMut.{put_mid}
+use Rattle.bitwords.proofs.PutRow.{length-put_row, put_row_below, put_row_within, put_row_behind}
 use Rattle.bitlanes.specs.Bits.{bit, bit_without}
 use Rattle.bitlanes.specs.BitLaws.{bit-or, bit-and, bit-without}
 use Rattle.bitlanes.specs.Shifts.{window}
@@ -117,49 +118,19 @@ module _ (ws old part : List ℕ) (from first last : ℕ) (order : first ≤ las
   abbrev row : List ℕ
   row = put_mid first count old part
 
-  front : length (take first old) ≡ first
-  front = length-take-le first old (omega arith)
-
   long_cut : length (take count (drop first old)) ≡ count
   long_cut = length-take-le count (drop first old) (omega (arith, length-drop first old))
-
-  long : length part ≡ count
-  long = done.long ∙ long_cut
-
-  length-row : length row ≡ length old
-  length-row =
-      let rest : List ℕ = post_of first count old in
-      let back : length rest ≡ length old - last = length-drop count (drop first old) ∙ (let e = length-drop first old in omega arith) in
-      length-append (take first old) (part ++ rest) ∙ (let e = length-append part rest in let f = front in let l = long in omega arith)
-
-  row_before : (k : ℕ) → k < first → get_or row k 0 ≡ get_or old k 0
-  row_before k h = get_or_append_left (take first old) _ 0 k (let f = front in omega arith) ∙ get_or-take first old k 0 h
-
-  row_within : (k : ℕ) → first ≤ k → k < last → get_or row k 0 ≡ get_or part (k - first) 0
-  row_within k from to =
-      get_or-append_right (take first old) _ first k 0 front from
-      ∙ get_or_append_left part (post_of first count old) 0 (k - first) (let l = long in omega arith)
-
-  row_behind : (k : ℕ) → last ≤ k → get_or row k 0 ≡ get_or old k 0
-  row_behind k h =
-      let rest : List ℕ = post_of first count old in
-      let e : first + (count + (k - first - count)) ≡ k = omega arith in
-      get_or-append_right (take first old) _ first k 0 front (omega arith)
-      ∙ get_or-append_right part rest count (k - first) 0 long (omega arith)
-      ∙ get_or-drop count (drop first old) (k - first - count) 0
-      ∙ get_or-drop first old (count + (k - first - count)) 0
-      ∙ ap (λ j. get_or old j 0) e
 
   pub IsCopied-words : IsCopied ws from (64 * first) (64 * last) old row
   unfolding has_bit
   IsCopied-words = record {
-    long = length-row;
+    long = length-put_row old part first count (omega arith) (done.long ∙ long_cut);
     copied = λ p above below.
         let q : p / 64 - first ≡ (p - 64 * first) / 64 = omega arith in
         let r : p % 64 ≡ (p - 64 * first) % 64 = omega arith in
-        ap (λ w. bit w (p % 64)) (row_within (p / 64) (omega arith) (omega arith))
+        ap (λ w. bit w (p % 64)) (put_row_within old part first count (omega arith) (done.long ∙ long_cut) (p / 64) (omega arith) (omega arith))
         ∙ (λ i. bit (get_or part (q i) 0) (r i))
         ∙ done.bits (p - 64 * first) (let l = long_cut in omega arith);
-    before = λ p h. ap (λ w. bit w (p % 64)) (row_before (p / 64) (omega arith));
-    behind = λ p h. ap (λ w. bit w (p % 64)) (row_behind (p / 64) (omega arith));
+    before = λ p h. ap (λ w. bit w (p % 64)) (put_row_below old part first count (omega arith) (done.long ∙ long_cut) (p / 64) (omega arith));
+    behind = λ p h. ap (λ w. bit w (p % 64)) (put_row_behind old part first count (omega arith) (done.long ∙ long_cut) (p / 64) (omega arith));
   }

@@ -1,9 +1,10 @@
 -- Rows moved by a number of positions: their bits.
-use Rattle.std.proofs.Common.{◌≡◌, ℕ, ◌+◌, ◌-◌, ◌*◌, ◌/◌, ◌%◌, ◌^◌, ◌<◌, ◌≤◌, Bool, true, false, ◌&&◌, ◌||◌, ◌==◌, nat_le, List, ◌++◌, length, take, drop, get_or, sym, ap, ◌∙◌, arith, refl, inl, inr, ◌⊎◌, ⊎_elim}
-use Rattle.std.proofs.lemmas.Bool.{cases_lt, le-leb}
+use Rattle.std.proofs.Common.{◌≡◌, ℕ, ◌+◌, ◌-◌, ◌*◌, ◌/◌, ◌%◌, ◌^◌, ◌<◌, ◌≤◌, Bool, true, false, ◌&&◌, ◌||◌, ◌==◌, nat_le, List, length, take, drop, get_or, sym, ap, ◌∙◌, arith, inl, inr, ◌⊎◌, ⊎_elim}
+use Rattle.std.proofs.lemmas.Bool.{cases_lt, le-leb, lt-leb, and_left, and_right}
 use Rattle.std.proofs.lemmas.Bool.Decides.{nat_tests}
-use Rattle.std.proofs.lemmas.List.{get_or_append_left, get_or-append_right, get_or-take, length-append, length-take-le, length-drop}
-use borrow.Rule.Slice.PartMut.{put_mid, post_of}
+use Rattle.std.proofs.lemmas.List.{get_or-take, get_or-drop, length-take, length-drop}
+use borrow.Rule.Slice.PartMut.{put_mid}
+use Rattle.bitwords.proofs.PutRow.{length-put_row, put_row_below, put_row_within}
 use Rattle.std.proofs.lemmas.Nat.{shr-shr, shr_split, or_lt, shr_le, pow_pos}
 use Rattle.std.proofs.lemmas.Nat.Bits.{bit_at_above, bit_at_cat_low, bit_at_cat_high, bit_at-zero}
 use Rattle.bitlanes.specs.Bits.{bit}
@@ -29,12 +30,6 @@ bit-up_low x k i h low = bit-cut (x * 2 ^ k) i h ∙ (let e : x * 2 ^ k ≡ x * 
 
 pub bit-up : (x k i : ℕ) → i < 64 → k ≤ i → bit (x * 2 ^ k % 2 ^ 64) i ≡ bit x (i - k)
 bit-up x k i h high = bit-cut (x * 2 ^ k) i h ∙ (let e : x * 2 ^ k ≡ x * 2 ^ k + 0 = omega arith in ap (λ n. bit n i) e) ∙ ap (λ n. n == 1) (bit_at_cat_high x k 0 i (pow_pos k) high)
-
-gt_leb : (a b : ℕ) → b < a → nat_le a b ≡ false
-gt_leb a b h = grind (arith, nat_tests)
-
-and_false : (b : Bool) → (b && false) ≡ false
-and_false b = grind arith
 
 or_false : (b : Bool) → (b || false) ≡ b
 or_false b = grind arith
@@ -101,7 +96,7 @@ module _ (ws : List ℕ) (words : AreWords ws) (p : ℕ) where
 pub bit-first : (ws : List ℕ) (shift i : ℕ) → i < 64 → shift < 64 → bit (get_or ws 0 0 * 2 ^ shift % 2 ^ 64) i ≡ (nat_le shift i && has_bit ws (i - shift))
 unfolding has_bit
 bit-first ws shift i within short = ⊎_elim
-    (λ (lt : i < shift). bit-up_low (get_or ws 0 0) shift i within lt ∙ sym (ap (λ b. b && bit (get_or ws ((i - shift) / 64) 0) ((i - shift) % 64)) (gt_leb shift i lt)))
+    (λ (lt : i < shift). bit-up_low (get_or ws 0 0) shift i within lt ∙ sym (ap (λ b. b && bit (get_or ws ((i - shift) / 64) 0) ((i - shift) % 64)) (lt-leb shift i lt)))
     (λ (ge : shift ≤ i).
     let q : 0 ≡ (i - shift) / 64 = omega arith in
     let r : i - shift ≡ (i - shift) % 64 = omega arith in
@@ -109,29 +104,6 @@ bit-first ws shift i within short = ⊎_elim
     ∙ (λ j. bit (get_or ws (q j) 0) (r j))
     ∙ sym (ap (λ b. b && bit (get_or ws ((i - shift) / 64) 0) ((i - shift) % 64)) (le-leb shift i ge)))
     (cases_lt i shift)
-
--- ---- a row whose words from one on are written over
-
-module _ (row part : List ℕ) (at : ℕ) (inside : at ≤ length row) (long : length part ≡ length row - at) where
-  abbrev pub put_row : List ℕ
-  put_row = put_mid at (length row - at) row part
-
-  front : length (take at row) ≡ at
-  front = length-take-le at row inside
-
-  pub length-put_row : length put_row ≡ length row
-  length-put_row =
-      let rest : List ℕ = post_of at (length row - at) row in
-      let none : length rest ≡ 0 = length-drop (length row - at) (drop at row) ∙ (let e = length-drop at row in omega arith) in
-      length-append (take at row) (part ++ rest) ∙ (let e = length-append part rest in let f = front in omega arith)
-
-  pub put_row_below : (k : ℕ) → k < at → get_or put_row k 0 ≡ get_or row k 0
-  put_row_below k l = get_or_append_left (take at row) _ 0 k (let f = front in omega arith) ∙ get_or-take at row k 0 l
-
-  pub put_row_from : (k : ℕ) → at ≤ k → k < length row → get_or put_row k 0 ≡ get_or part (k - at) 0
-  put_row_from k l h =
-      get_or-append_right (take at row) _ at k 0 front l
-      ∙ get_or_append_left part (post_of at (length row - at) row) 0 (k - at) (omega arith)
 
 -- ---- a row joined, word by word, with the positions that pass a test
 
@@ -142,10 +114,14 @@ pub record TakesWord (f : ℕ → ℕ → ℕ) (old : List ℕ) (test : ℕ → 
   pub joined : get_or new k 0 ≡ f (get_or old k 0) word
   pub bits : (i : ℕ) → i < 64 → bit word i ≡ test (64 * k + i)
 
--- no position of word k passes, and the word stays, or is 0 where such positions are not kept
+-- a word stays, or is 0 where positions that do not pass are not kept
+abbrev pub Rests : (keep : Bool) (old new : List ℕ) (k : ℕ) → Type 0
+Rests keep old new k = ((keep ≡ true) × (get_or new k 0 ≡ get_or old k 0)) ⊎ ((keep ≡ false) × (get_or new k 0 ≡ 0))
+
+-- no position of word k passes, and the word rests
 pub record LeavesWord (keep : Bool) (old : List ℕ) (test : ℕ → Bool) (new : List ℕ) (k : ℕ) : Type 0 where
   pub none : (i : ℕ) → i < 64 → test (64 * k + i) ≡ false
-  pub left : ((keep ≡ true) × (get_or new k 0 ≡ get_or old k 0)) ⊎ ((keep ≡ false) × (get_or new k 0 ≡ 0))
+  pub left : Rests keep old new k
 
 module _ {f : ℕ → ℕ → ℕ} {t : Bool → Bool → Bool} {keep take : Bool} (law : IsWordOp f t keep take) (old : List ℕ) (words_old : AreWords old) where
   pub IsJoined_words : (test : ℕ → Bool) (new : List ℕ) → length new ≡ length old
@@ -183,11 +159,6 @@ module _ (ws : List ℕ) (words : AreWords ws) where
     bits = λ i h. bit-window ws words (from + 64 * k) i h ∙ (let e : from + 64 * k + i ≡ from + (64 * k + i) = omega arith in ap (has_bit ws) e);
   }
 
-  pub leaves_down : (keep : Bool) (old new : List ℕ) (from k : ℕ) → length ws ≤ k + from / 64
-      → ((keep ≡ true) × (get_or new k 0 ≡ get_or old k 0)) ⊎ ((keep ≡ false) × (get_or new k 0 ≡ 0))
-      → LeavesWord keep old (λ p. has_bit ws (from + p)) new k
-  leaves_down keep old new from k past left = record { none = λ i h. has_bit-past ws (from + (64 * k + i)) (omega arith); left = left }
-
   -- what stands `by` below
   pub takes_up : (f : ℕ → ℕ → ℕ) (old new : List ℕ) (by k : ℕ) → by ≤ 64 * k → get_or new k 0 ≡ f (get_or old k 0) (window ws (64 * k - by)) → TakesWord f old (λ p. nat_le by p && has_bit ws (p - by)) new k
   takes_up f old new by k within joined = record {
@@ -201,49 +172,66 @@ module _ (ws : List ℕ) (words : AreWords ws) where
   }
 
   -- the word that has fewer than 64 bits below it
-  pub takes_first : (f : ℕ → ℕ → ℕ) (old new : List ℕ) (by k : ℕ) → k ≡ by / 64 → get_or new k 0 ≡ f (get_or old k 0) (get_or ws 0 0 * 2 ^ (by % 64) % 2 ^ 64)
-      → TakesWord f old (λ p. nat_le by p && has_bit ws (p - by)) new k
-  takes_first f old new by k here joined = record {
+  pub takes_first : (f : ℕ → ℕ → ℕ) (old new : List ℕ) (by : ℕ) → get_or new (by / 64) 0 ≡ f (get_or old (by / 64) 0) (get_or ws 0 0 * 2 ^ (by % 64) % 2 ^ 64)
+      → TakesWord f old (λ p. nat_le by p && has_bit ws (p - by)) new (by / 64)
+  takes_first f old new by joined = record {
     word = get_or ws 0 0 * 2 ^ (by % 64) % 2 ^ 64;
     fits = omega arith;
     joined = joined;
     bits = λ i h.
         bit-first ws (by % 64) i h (omega arith)
-        ∙ (let e : i - by % 64 ≡ 64 * k + i - by = omega arith in
-        let same : nat_le (by % 64) i ≡ nat_le by (64 * k + i) = grind (arith, nat_tests) in
+        ∙ (let e : i - by % 64 ≡ 64 * (by / 64) + i - by = omega arith in
+        let same : nat_le (by % 64) i ≡ nat_le by (64 * (by / 64) + i) = grind (arith, nat_tests) in
         λ j. same j && has_bit ws (e j));
   }
 
-  pub leaves_up : (keep : Bool) (old new : List ℕ) (by k : ℕ) → 64 * (k + 1) ≤ by
-      → ((keep ≡ true) × (get_or new k 0 ≡ get_or old k 0)) ⊎ ((keep ≡ false) × (get_or new k 0 ≡ 0))
-      → LeavesWord keep old (λ p. nat_le by p && has_bit ws (p - by)) new k
-  leaves_up keep old new by k below left = record { none = λ i h. ap (λ b. b && has_bit ws (64 * k + i - by)) (gt_leb by (64 * k + i) (omega arith)); left = left }
+-- no word of it has so many positions below it
+pub leaves_up : (ws : List ℕ) (keep : Bool) (old new : List ℕ) (by k : ℕ) → 64 * (k + 1) ≤ by → Rests keep old new k → LeavesWord keep old (λ p. nat_le by p && has_bit ws (p - by)) new k
+leaves_up ws keep old new by k below left = record { none = λ i h. and_left _ _ (lt-leb by (64 * k + i) (omega arith)); left = left }
 
-  -- behind the last of them
-  pub leaves_past : (keep : Bool) (old new : List ℕ) (by k : ℕ) → 64 * length ws + by ≤ 64 * k
-      → ((keep ≡ true) × (get_or new k 0 ≡ get_or old k 0)) ⊎ ((keep ≡ false) × (get_or new k 0 ≡ 0))
-      → LeavesWord keep old (λ p. nat_le by p && has_bit ws (p - by)) new k
-  leaves_past keep old new by k past left = record { none = λ i h. (let e = has_bit-past ws (64 * k + i - by) (omega arith) in λ j. nat_le by (64 * k + i) && e j) ∙ and_false (nat_le by (64 * k + i)); left = left }
+-- a row that was joined from word `at` on, and the words before it as they were
+module _ {f : ℕ → ℕ → ℕ} {t : Bool → Bool → Bool} {keep take_right : Bool} (law : IsWordOp f t keep take_right) (keeps : keep ≡ true) (ws old : List ℕ) (words : AreWords ws) (words_old : AreWords old)
+    (row part : List ℕ) (by at from : ℕ) (place : 64 * at ≡ by + from) (less : from < 64) (same : length row ≡ length old) (inside : at ≤ length row) (long : length part ≡ length row - at) where
+  abbrev cut : List ℕ
+  cut = take (length row - at) (drop at row)
 
--- a row beside which another has no word
-pub leaves_empty : (ws : List ℕ) → length ws ≡ 0 → (keep : Bool) (old : List ℕ) (by k : ℕ) → keep ≡ true → LeavesWord keep old (λ p. nat_le by p && has_bit ws (p - by)) old k
-leaves_empty ws empty keep old by k kept = record {
-  none = λ i h. (let e = has_bit-past ws (64 * k + i - by) (omega arith) in λ j. nat_le by (64 * k + i) && e j) ∙ and_false (nat_le by (64 * k + i));
-  left = inl (kept, refl);
-}
+  abbrev new : List ℕ
+  new = put_mid at (length row - at) row part
+
+  abbrev test : ℕ → Bool
+  test p = nat_le by p && has_bit ws (p - by)
+
+  pub IsJoined_up : ((k : ℕ) → k < length cut → k + from / 64 < length ws → get_or part k 0 ≡ f (get_or cut k 0) (window ws (from + 64 * k)))
+      → ((k : ℕ) → length ws ≤ k + from / 64 → get_or part k 0 ≡ get_or cut k 0)
+      → ((k : ℕ) → at ≤ k → get_or row k 0 ≡ get_or old k 0)
+      → ((k : ℕ) → k < at → get_or new k 0 ≡ get_or row k 0 → TakesWord f old test new k ⊎ LeavesWord keep old test new k)
+      → IsJoined t old test new
+  IsJoined_up joined rest behind before = IsJoined_words law old words_old test new (length-put_row row part at (length row - at) (omega arith) long ∙ same) (λ k within. ⊎_elim
+      (λ (lt : k < at). before k lt (put_row_below row part at (length row - at) (omega arith) long k lt))
+      (λ (ge : at ≤ k).
+      let put = put_row_within row part at (length row - at) (omega arith) long k ge (omega arith) in
+      let was : get_or cut (k - at) 0 ≡ get_or old k 0 = grind (arith, get_or-take, get_or-drop, behind) in
+      ⊎_elim
+      (λ (some : k - at < length ws).
+      let e : from + 64 * (k - at) ≡ 64 * k - by = omega arith in
+      inl (takes_up ws words f old new by k (omega arith) (put ∙ joined (k - at) (omega (arith, length-take {A = ℕ}, length-drop {A = ℕ})) (omega arith) ∙ (λ i. f (was i) (window ws (e i))))))
+      (λ (past : length ws ≤ k - at).
+      inr (record { none = λ i h. and_right _ _ (has_bit-past ws _ (omega arith)); left = inl (keeps, put ∙ rest (k - at) (omega arith) ∙ was) }))
+      (cases_lt (k - at) (length ws)))
+      (cases_lt k at))
 
 -- a row that was moved up: word by word
 pub moved_up : (old : List ℕ) → AreWords old → (f : ℕ → ℕ → ℕ) (new : List ℕ) (keep : Bool) (by : ℕ)
     → ((k : ℕ) → k < length old → by ≤ 64 * k → get_or new k 0 ≡ f (get_or old k 0) (window old (64 * k - by)))
     → (by / 64 < length old → 0 < by % 64 → get_or new (by / 64) 0 ≡ f (get_or old (by / 64) 0) (get_or old 0 0 * 2 ^ (by % 64) % 2 ^ 64))
-    → ((k : ℕ) → k < length old → 64 * (k + 1) ≤ by → ((keep ≡ true) × (get_or new k 0 ≡ get_or old k 0)) ⊎ ((keep ≡ false) × (get_or new k 0 ≡ 0)))
+    → ((k : ℕ) → k < length old → 64 * (k + 1) ≤ by → Rests keep old new k)
     → (k : ℕ) → k < length old → TakesWord f old (λ p. nat_le by p && has_bit old (p - by)) new k ⊎ LeavesWord keep old (λ p. nat_le by p && has_bit old (p - by)) new k
 moved_up old words f new keep by joined first rest k within = ⊎_elim
     (λ (lt : 64 * k < by). ⊎_elim
-    (λ (below : 64 * (k + 1) < by + 1). inr (leaves_up old words keep old new by k (omega arith) (rest k within (omega arith))))
+    (λ (below : 64 * (k + 1) < by + 1). inr (leaves_up old keep old new by k (omega arith) (rest k within (omega arith))))
     (λ (some : by + 1 ≤ 64 * (k + 1)).
     let here : k ≡ by / 64 = omega arith in
-    inl (takes_first old words f old new by k here (ap (λ j. get_or new j 0) here ∙ first (omega arith) (omega arith) ∙ ap (λ j. f (get_or old j 0) (get_or old 0 0 * 2 ^ (by % 64) % 2 ^ 64)) (sym here))))
+    rw here (inl (takes_first old words f old new by (first (omega arith) (omega arith)))))
     (cases_lt (64 * (k + 1)) (by + 1)))
     (λ (ge : by ≤ 64 * k). inl (takes_up old words f old new by k ge (joined k within ge)))
     (cases_lt (64 * k) by)

@@ -1,11 +1,10 @@
-use Rattle.std.proofs.Common.{◌<◌, ◌/◌, ◌^◌, ℕ, get_or, rules, arith}
+use Rattle.std.proofs.Common.{◌/◌, rules, arith}
 use Rattle.bitwords.proofs.Joined.{IsJoined-none, IsJoined-word}
 use Rattle.bitwords.proofs.ranges.change_part.Goals as goal
 
 pub returns-then-start-end-clause-bits : goal.returns-then-start-end-clause-bits
 returns-then-start-end-clause-bits g c =
-    let fit : (k : ℕ) → get_or c.args.words.now k 0 < 2 ^ 64 = λ k. search rules in
-    rw c.word.ensures (IsJoined-word g.met.O.WordOp.laws c.requires.keeps c.args.words.now fit (c.args.start / 64) c.mask.result c.args.start c.args.end (omega arith) c.mask.type_inv (omega arith) (omega arith) c.mask.ensures)
+    rw c.word.ensures (IsJoined-word g.met.O.WordOp.laws c.requires.keeps c.args.words.now (λ k. search rules) (c.args.start / 64) c.mask.result c.args.start c.args.end (omega arith) c.mask.type_inv (omega arith) (omega arith) c.mask.ensures)
 
 pub returns-else-start-end-clause-bits : goal.returns-else-start-end-clause-bits
 returns-else-start-end-clause-bits g c = IsJoined-none g.met.O.WordOp.laws c.requires.keeps _ _ _ c.if-start-end.false

@@ -1,4 +1,4 @@
-use Rattle.std.proofs.Common.{◌≡◌, ◌<◌, ◌*◌, ◌^◌, ◌+◌, ◌-◌, ℕ, get_or, rules, arith}
+use Rattle.std.proofs.Common.{◌≡◌, ◌*◌, ◌^◌, ◌+◌, ◌-◌, rules, arith}
 use Rattle.bitwords.proofs.Joined.{IsJoined-none, IsJoined-append, IsJoined-word}
 use Rattle.bitwords.proofs.Parts.{masked_whole}
 use Rattle.bitwords.proofs.ranges.change_whole.Goals as goal
@@ -8,9 +8,8 @@ loop-k-init g c = record { bits = IsJoined-none g.met.O.WordOp.laws c.requires.k
 
 pub loop-k-preserved : goal.loop-k-preserved
 loop-k-preserved g c =
-    let k : ℕ = c.loop-k.k in
-    let fit : (j : ℕ) → get_or c.loop-k.words j 0 < 2 ^ 64 = λ j. search rules in
-    let word = IsJoined-word g.met.O.WordOp.laws c.requires.keeps c.loop-k.words fit k (2 ^ 64 - 1) (64 * k) (64 * (k + 1)) (omega arith) (omega arith) (omega arith) (omega arith) (masked_whole k) in
+    let k = c.loop-k.k in
+    let word = IsJoined-word g.met.O.WordOp.laws c.requires.keeps c.loop-k.words (λ j. search rules) k (2 ^ 64 - 1) (64 * k) (64 * (k + 1)) (omega arith) (omega arith) (omega arith) (omega arith) (masked_whole k) in
     record {
       bits = IsJoined-append g.met.O.WordOp.laws c.requires.keeps _ _ _ (64 * c.args.first) (64 * k) (64 * (k + 1)) (omega arith) (omega arith) c.loop-k.invariant.bits (rw c.word-in-loop-k.ensures word);
       cost = omega arith;
@@ -18,8 +17,7 @@ loop-k-preserved g c =
 
 pub returns-then-last-first-eq1-clause-bits : goal.returns-then-last-first-eq1-clause-bits
 returns-then-last-first-eq1-clause-bits g c =
-    let k : ℕ = c.args.first in
-    let fit : (j : ℕ) → get_or c.args.words.now j 0 < 2 ^ 64 = λ j. search rules in
+    let k = c.args.first in
     let after : c.args.last ≡ k + 1 = omega arith in
-    let word = IsJoined-word g.met.O.WordOp.laws c.requires.keeps c.args.words.now fit k (2 ^ 64 - 1) (64 * k) (64 * (k + 1)) (omega arith) (omega arith) (omega arith) (omega arith) (masked_whole k) in
-    rw after (rw c.word.ensures word)
+    let word = IsJoined-word g.met.O.WordOp.laws c.requires.keeps c.args.words.now (λ j. search rules) k (2 ^ 64 - 1) (64 * k) (64 * (k + 1)) (omega arith) (omega arith) (omega arith) (omega arith) (masked_whole k) in
+    rw (after, c.word.ensures) word

@@ -1,11 +1,9 @@
-use Rattle.std.proofs.Common.{◌<◌, ◌/◌, ◌^◌, ◌==◌, ℕ, get_or, rules, ap, ◌∙◌, arith}
+use Rattle.std.proofs.Common.{◌/◌, ◌==◌, rules, ap, ◌∙◌, arith}
 use Rattle.bitwords.proofs.Counted.{count-word}
 use Rattle.bitwords.proofs.Ones.{ones-zero, sum_is_start}
 use Rattle.bitwords.proofs.ranges.none_part.Goals as goal
 
 pub returns-then-start-end-clause-none : goal.returns-then-start-end-clause-none
 returns-then-start-end-clause-none g c =
-    let fit : (k : ℕ) → get_or c.args.words.now k 0 < 2 ^ 64 = λ k. search rules in
-    ap (λ n. n == 0) c.word.ensures
-    ∙ ones-zero _
-    ∙ sum_is_start _ _ _ (count-word g.met.O.WordOp.laws c.requires.drops c.args.words.now fit (c.args.start / 64) c.mask.result c.args.start c.args.end c.mask.type_inv (omega arith) (omega arith) (omega arith) c.mask.ensures)
+    ap (λ n. n == 0) c.word.ensures ∙ ones-zero _
+    ∙ sum_is_start _ _ _ (count-word g.met.O.WordOp.laws c.requires.drops c.args.words.now (λ k. search rules) (c.args.start / 64) c.mask.result c.args.start c.args.end c.mask.type_inv (omega arith) (omega arith) (omega arith) c.mask.ensures)

@@ -27,10 +27,8 @@ module _ (f : ℕ → ℕ → ℕ) (truth : Bool → Bool → Bool) (keep also :
 
 pub returns-clause-none : goal.returns-clause-none
 returns-clause-none g c =
-    let fit : (k : ℕ) → get_or c.args.words.now k 0 < 2 ^ 64 = λ k. search rules in
-    c.none_masked.ensures.zero ∙ zero_words _ _ _ _ g.met.O.WordOp.laws c.requires.drops c.args.words.now fit c.args.first c.args.last c.requires.order c.requires.within
+    c.none_masked.ensures.zero ∙ zero_words _ _ _ _ g.met.O.WordOp.laws c.requires.drops c.args.words.now (λ k. search rules) c.args.first c.args.last c.requires.order c.requires.within
 
 pub returns-then-last-first-eq1-clause-none : goal.returns-then-last-first-eq1-clause-none
 returns-then-last-first-eq1-clause-none g c =
-    let fit : (k : ℕ) → get_or c.args.words.now k 0 < 2 ^ 64 = λ k. search rules in
-    ap (λ w. w == 0) c.word.ensures ∙ zero_word _ _ _ _ g.met.O.WordOp.laws c.requires.drops c.args.words.now fit c.args.first c.args.last c.requires.order c.requires.within c.if-last-first-eq1.true
+    ap (λ w. w == 0) c.word.ensures ∙ zero_word _ _ _ _ g.met.O.WordOp.laws c.requires.drops c.args.words.now (λ k. search rules) c.args.first c.args.last c.requires.order c.requires.within c.if-last-first-eq1.true
