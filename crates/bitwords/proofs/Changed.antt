@@ -1,5 +1,5 @@
 -- Whether a position of a row changes where it is joined with another one.
-use Rattle.std.proofs.Common.{◌≡◌, ℕ, ◌*◌, ◌≤◌, Bool, true, false, true≢false, not, ◌&&◌, ◌==◌, ◌-◌, ◌⊎◌, inl, inr, take, List, [], ◌∷◌, drop, length, max, refl, sym, ap, ◌∙◌, arith, ⊎_elim}
+use Rattle.std.proofs.Common.{◌≡◌, ℕ, ◌*◌, ◌≤◌, Bool, true, false, true≢false, not, ◌&&◌, ◌==◌, ◌-◌, ◌⊎◌, inl, inr, take, List, drop, length, max, refl, sym, ap, ◌∙◌, arith, ⊎_elim}
 use Rattle.std.specs.Bool.{if◌then◌else◌}
 use Rattle.std.specs.List.{list_all}
 use Rattle.std.specs.Simd.Lanes.{zip2}
@@ -11,16 +11,9 @@ use Rattle.bitlanes.specs.Ops.{IsWordOp}
 use Rattle.bitlanes.specs.Words.{zip_longest}
 use Rattle.bitwords.specs.Rows.{count_below, bits_test}
 use Rattle.bitwords.specs.RowFacts.{AreWords}
-use Rattle.bitwords.proofs.Cleared.{length-kept}
+use Rattle.bitwords.proofs.Written.{length-kept, rest_kept}
 use Rattle.bitwords.proofs.Ones.{all-ones}
 use Rattle.bitwords.proofs.TwoRows.{all_longest, longest-ones}
-
--- the rest is as it was
-rest_kept : (f : ℕ → ℕ → ℕ) (xs ys : List ℕ) → drop (length ys) (zip_longest f true false xs ys) ≡ drop (length ys) xs
-rest_kept f [] [] = refl
-rest_kept f [] (y ∷ ys) = refl
-rest_kept f (x ∷ xs) [] = refl
-rest_kept f (x ∷ xs) (y ∷ ys) = rest_kept f xs ys
 
 either_fails : (a b : Bool) → (if not a then true else not b) ≡ not (a && b)
 either_fails true b = refl

@@ -1,9 +1,10 @@
 -- The words of a row joined with those of another one: the rest is kept, or cleared. And a row whose rest is made 0.
-use Rattle.std.proofs.Common.{◌≡◌, ℕ, zero, suc, ◌-◌, ◌*◌, ◌/◌, ◌%◌, ◌<◌, ◌≤◌, Bool, true, false, ◌&&◌, ◌==◌, List, [], ◌∷◌, length, get_or, replicate, refl, sym, ap, ◌∙◌, arith, ⊎_elim, ◌⊎◌}
+use Rattle.std.proofs.Common.{◌≡◌, ℕ, ◌-◌, ◌*◌, ◌/◌, ◌%◌, ◌<◌, ◌≤◌, Bool, true, false, ◌&&◌, ◌==◌, List, length, get_or, replicate, refl, sym, ap, ◌∙◌, arith, ⊎_elim, ◌⊎◌}
 use Rattle.std.proofs.lemmas.Bool.{cases_lt}
 use Rattle.std.proofs.lemmas.List.{length-replicate, get_or-replicate}
 use Rattle.std.proofs.lemmas.Nat.Bits.{bit_at-zero}
 use borrow.Rule.Slice.PartMut.{put_mid}
+use Rattle.bitwords.proofs.Written.{length-kept, get_or-kept_both, get_or-kept_past}
 use Rattle.bitwords.proofs.PutRow.{length-put_row, put_row_below, put_row_within}
 use Rattle.bitlanes.specs.Bits.{bit}
 use Rattle.bitlanes.specs.Words.{zip_longest}
@@ -29,23 +30,6 @@ module _ (row zeros : List ℕ) (k : ℕ) (inside : k ≤ length row) (are : zer
   get_or-cut_row_from i from within =
       put_row_within row zeros k (length row - k) (omega arith) middle i from (omega arith)
       ∙ ap (λ z. get_or z (i - k) 0) are ∙ get_or-replicate (length row - k) (i - k) 0 0 (omega arith)
-
-pub length-kept : (f : ℕ → ℕ → ℕ) (xs ys : List ℕ) → length (zip_longest f true false xs ys) ≡ length xs
-length-kept f [] ys = refl
-length-kept f (x ∷ xs) [] = refl
-length-kept f (x ∷ xs) (y ∷ ys) = ap suc (length-kept f xs ys)
-
-pub get_or-kept_both : (f : ℕ → ℕ → ℕ) (xs ys : List ℕ) (k : ℕ) → k < length xs → k < length ys → get_or (zip_longest f true false xs ys) k 0 ≡ f (get_or xs k 0) (get_or ys k 0)
-get_or-kept_both f [] ys k p q = absurd (omega arith)
-get_or-kept_both f (x ∷ xs) [] k p q = absurd (omega arith)
-get_or-kept_both f (x ∷ xs) (y ∷ ys) zero p q = refl
-get_or-kept_both f (x ∷ xs) (y ∷ ys) (suc k) p q = get_or-kept_both f xs ys k (omega arith) (omega arith)
-
-pub get_or-kept_past : (f : ℕ → ℕ → ℕ) (xs ys : List ℕ) (k : ℕ) → length ys ≤ k → get_or (zip_longest f true false xs ys) k 0 ≡ get_or xs k 0
-get_or-kept_past f [] ys k p = refl
-get_or-kept_past f (x ∷ xs) [] k p = refl
-get_or-kept_past f (x ∷ xs) (y ∷ ys) zero p = absurd (omega arith)
-get_or-kept_past f (x ∷ xs) (y ∷ ys) (suc k) p = get_or-kept_past f xs ys k (omega arith)
 
 module _ {f : ℕ → ℕ → ℕ} {t : Bool → Bool → Bool} {keep take_right : Bool} (law : IsWordOp f t keep take_right) (xs ys : List ℕ) (words_xs : AreWords xs) (words_ys : AreWords ys) where
   has_bit-both : (new : List ℕ) (p : ℕ) → get_or new (p / 64) 0 ≡ get_or (zip_longest f true false xs ys) (p / 64) 0 → p < 64 * length xs → p / 64 < length ys → has_bit new p ≡ t (has_bit xs p) (has_bit ys p)

@@ -1,10 +1,10 @@
 -- A row without another one: of each word the bits that the word of the other row lacks, and the rest as it is. What it
 -- has first, and what becomes of a third row that takes it in, in two parts.
 use Rattle.std.specs.Prelude.{slice_get}
-use Rattle.std.proofs.Common.{◌≡◌, ℕ, zero, suc, ◌+◌, ◌-◌, ◌*◌, ◌<◌, ◌≤◌, Bool, true, false, not, ◌&&◌, ◌||◌, ◌==◌, inr, List, [], ◌∷◌, ◌++◌, take, drop, length, get_or, map, min, max, bit_or, Option, Some, None, IfSome, IfNone, refl, sym, ap, ◌∙◌, subst, arith, ⊎_elim}
+use Rattle.std.proofs.Common.{◌≡◌, ℕ, ◌+◌, ◌-◌, ◌*◌, ◌<◌, ◌≤◌, Bool, true, false, not, ◌&&◌, ◌||◌, ◌==◌, inr, List, [], ◌∷◌, ◌++◌, take, drop, length, get_or, map, min, max, bit_or, Option, Some, None, IfSome, IfNone, refl, sym, ap, ◌∙◌, subst, arith, ⊎_elim}
 use Rattle.std.specs.List.{list_all}
 use Rattle.std.specs.Simd.Lanes.{zip2}
-use Rattle.std.proofs.Math.Bool.{and_assoc}
+use Rattle.std.proofs.lemmas.List.Folds.{list_all-append}
 use Rattle.std.proofs.lemmas.Bool.{cases_lt}
 use Rattle.std.proofs.lemmas.List.{append-nil, drop_all, length-drop, length-map, get_or_past}
 use Rattle.std.proofs.lemmas.Simd.{get_or-zip2}
@@ -21,10 +21,10 @@ use Rattle.bitwords.specs.CountFacts.{count-same}
 use Rattle.bitwords.specs.Rows.{has_bit, count_below, bits_test, IsJoined}
 use Rattle.bitwords.specs.RowFacts.{AreWords}
 use Rattle.bitwords.proofs.Changed.{changed-kept}
-use Rattle.bitwords.proofs.Cleared.{length-kept, get_or-kept_both, get_or-kept_past, IsJoined-kept}
+use Rattle.bitwords.proofs.Cleared.{IsJoined-kept}
 use Rattle.bitwords.proofs.FirstAndLast.{first_position, no_first_position}
 use Rattle.bitwords.proofs.TwoRows.{AreWords-longest, has_bit-longest}
-use Rattle.bitwords.proofs.Written.{slice_rest}
+use Rattle.bitwords.proofs.Written.{slice_rest, with_rest, length-both, length-kept, get_or-kept_both, get_or-kept_past, rest_kept, kept_first}
 
 module _ (xs ys : List ℕ) (words_xs : AreWords xs) (words_ys : AreWords ys) where
   abbrev lacked : List ℕ
@@ -70,11 +70,6 @@ module _ (xs ys : List ℕ) (words_xs : AreWords xs) (words_ys : AreWords ys) wh
 
 -- ---- its first word that is not 0, among those that both rows have or behind them
 
-length_both : (f : ℕ → ℕ → ℕ) (xs ys : List ℕ) → length (zip2 f xs ys) ≡ min (length xs) (length ys)
-length_both f [] ys = omega arith
-length_both f (x ∷ xs) [] = omega arith
-length_both f (x ∷ xs) (y ∷ ys) = let e = length_both f xs ys in omega arith
-
 under_no_mask : (xs : List ℕ) → map (bit_or 0) xs ≡ xs
 under_no_mask [] = refl
 under_no_mask (x ∷ xs) = ap (λ t. x ∷ t) (under_no_mask xs)
@@ -84,7 +79,7 @@ module _ (f : ℕ → ℕ → ℕ) (xs ys : List ℕ) where
   of_both i p q = get_or-kept_both f xs ys i p q ∙ sym (get_or-zip2 f xs ys i 0 0 0 p q)
 
   pub within_both : (k : ℕ) → IsFirstOne (zip2 f xs ys) k → k < min (length xs) (length ys)
-  within_both k word = omega (arith, word.within, length_both f xs ys)
+  within_both k word = omega (arith, word.within, length-both f xs ys)
 
   pub first_of_both : (k : ℕ) → IsFirstOne (zip2 f xs ys) k → IsFirstOne (zip_longest f true false xs ys) k
   first_of_both k word =
@@ -138,62 +133,48 @@ pub ruleset row_words = (length-kept, get_or-kept_both, get_or-kept_past)
 
 -- ---- in two parts: the words that both rows have, and those of the first behind them
 
-behind_kept : (f g : ℕ → ℕ → ℕ) (n : ℕ) (ws xs ys : List ℕ) → n ≡ min (length xs) (length ys) → drop n (zip_longest f true false ws (zip2 g xs ys)) ≡ drop n ws
-behind_kept f g zero [] xs ys e = refl
-behind_kept f g zero (w ∷ ws) [] ys e = refl
-behind_kept f g zero (w ∷ ws) (x ∷ xs) [] e = refl
-behind_kept f g zero ws (x ∷ xs) (y ∷ ys) e = absurd (omega arith)
-behind_kept f g (suc n) ws [] ys e = absurd (omega arith)
-behind_kept f g (suc n) ws (x ∷ xs) [] e = absurd (omega arith)
-behind_kept f g (suc n) [] (x ∷ xs) (y ∷ ys) e = refl
-behind_kept f g (suc n) (w ∷ ws) (x ∷ xs) (y ∷ ys) e = behind_kept f g n ws xs ys (omega arith)
+zip2-append : (f : ℕ → ℕ → ℕ) (ws xs ys : List ℕ) → length xs ≤ length ws → zip2 f ws (xs ++ ys) ≡ zip2 f ws xs ++ zip2 f (drop (length xs) ws) ys
+zip2-append f [] [] ys le = refl
+zip2-append f (w ∷ ws) [] ys le = refl
+zip2-append f [] (x ∷ xs) ys le = absurd (omega arith)
+zip2-append f (w ∷ ws) (x ∷ xs) ys le = ap (λ t. f w x ∷ t) (zip2-append f ws xs ys (omega arith))
 
-taken_behind : (f g : ℕ → ℕ → ℕ) (n : ℕ) (ws xs ys : List ℕ) → n ≡ min (length xs) (length ys) → length xs ≤ length ws
-    → take n (zip_longest f true false ws (zip2 g xs ys)) ++ zip_longest f true false (drop n ws) (drop n xs) ≡ zip_longest f true false ws (zip_longest g true false xs ys)
-taken_behind f g zero ws [] ys e le = refl
-taken_behind f g zero ws (x ∷ xs) [] e le = refl
-taken_behind f g zero ws (x ∷ xs) (y ∷ ys) e le = absurd (omega arith)
-taken_behind f g (suc n) ws [] ys e le = absurd (omega arith)
-taken_behind f g (suc n) [] (x ∷ xs) ys e le = absurd (omega arith)
-taken_behind f g (suc n) (w ∷ ws) (x ∷ xs) [] e le = absurd (omega arith)
-taken_behind f g (suc n) (w ∷ ws) (x ∷ xs) (y ∷ ys) e le = ap (λ t. f w (g x y) ∷ t) (taken_behind f g n ws xs ys (omega arith) (omega arith))
-
-all_behind : (p : ℕ → Bool) (f g : ℕ → ℕ → ℕ) (n : ℕ) (ws xs ys : List ℕ) → n ≡ min (length xs) (length ys) → length xs ≤ length ws
-    → (list_all p (zip2 f ws (zip2 g xs ys)) && list_all p (zip2 f (drop n ws) (drop n xs))) ≡ list_all p (zip2 f ws (zip_longest g true false xs ys))
-all_behind p f g zero [] [] ys e le = refl
-all_behind p f g zero (w ∷ ws) [] ys e le = refl
-all_behind p f g zero [] (x ∷ xs) ys e le = absurd (omega arith)
-all_behind p f g zero (w ∷ ws) (x ∷ xs) [] e le = refl
-all_behind p f g zero ws (x ∷ xs) (y ∷ ys) e le = absurd (omega arith)
-all_behind p f g (suc n) ws [] ys e le = absurd (omega arith)
-all_behind p f g (suc n) [] (x ∷ xs) ys e le = absurd (omega arith)
-all_behind p f g (suc n) (w ∷ ws) (x ∷ xs) [] e le = absurd (omega arith)
-all_behind p f g (suc n) (w ∷ ws) (x ∷ xs) (y ∷ ys) e le =
-    and_assoc (p (f w (g x y))) _ _ ∙ ap (λ b. p (f w (g x y)) && b) (all_behind p f g n ws xs ys (omega arith) (omega arith))
+longest-append : (f : ℕ → ℕ → ℕ) (ws xs ys : List ℕ) → length xs ≤ length ws → zip2 f ws xs ++ zip_longest f true false (drop (length xs) ws) ys ≡ zip_longest f true false ws (xs ++ ys)
+longest-append f [] [] ys le = refl
+longest-append f (w ∷ ws) [] ys le = refl
+longest-append f [] (x ∷ xs) ys le = absurd (omega arith)
+longest-append f (w ∷ ws) (x ∷ xs) ys le = ap (λ t. f w x ∷ t) (longest-append f ws xs ys (omega arith))
 
 some_fails : (a b : Bool) → (not a || not b) ≡ not (a && b)
 some_fails true b = refl
 some_fails false b = refl
 
 module _ (f g : ℕ → ℕ → ℕ) (n : ℕ) (ws xs ys row : List ℕ) (common : n ≡ min (length xs) (length ys)) (shorter : length xs ≤ length ws) (first : row ≡ zip_longest f true false ws (zip2 g xs ys)) where
+  both : length (zip2 g xs ys) ≡ n
+  both = length-both g xs ys ∙ sym common
+
   rest_of_row : take (length row - n) (drop n row) ≡ drop n ws
-  rest_of_row = slice_rest n row ∙ ap (drop n) first ∙ behind_kept f g n ws xs ys common
+  rest_of_row = slice_rest n row ∙ rw (first, ← both) (rest_kept f ws (zip2 g xs ys))
+
+  rest_of_xs : take (length xs - n) (drop n xs) ≡ drop (length ys) xs
+  rest_of_xs = slice_rest n xs ∙ rw common (grind (arith, drop_all))
 
   -- the words after both parts
   pub written_behind : (part : List ℕ) → part ≡ zip_longest f true false (take (length row - n) (drop n row)) (take (length xs - n) (drop n xs)) → put_mid n (length row - n) row part ≡ zip_longest f true false ws (zip_longest g true false xs ys)
   written_behind part second =
       let none : post_of n (length row - n) row ≡ [] = drop_all (length row - n) (drop n row) (omega (arith, length-drop n row)) in
-      let whole : part ≡ zip_longest f true false (drop n ws) (drop n xs) = second ∙ (let a = rest_of_row in let b = slice_rest n xs in λ i. zip_longest f true false (a i) (b i)) in
+      let whole : part ≡ zip_longest f true false (drop (length (zip2 g xs ys)) ws) (drop (length ys) xs) = second ∙ (let a = rest_of_row in let b = rest_of_xs in let c = both in λ i. zip_longest f true false (a i) (b i)) ∙ rw both in
       ap (λ zs. take n row ++ (part ++ zs)) none
       ∙ ap (λ zs. take n row ++ zs) (append-nil part ∙ whole)
-      ∙ ap (λ zs. take n zs ++ zip_longest f true false (drop n ws) (drop n xs)) first
-      ∙ taken_behind f g n ws xs ys common shorter
+      ∙ ap (λ zs. zs ++ zip_longest f true false (drop (length (zip2 g xs ys)) ws) (drop (length ys) xs)) (rw (first, ← both) (kept_first f ws (zip2 g xs ys) (omega (arith, both))))
+      ∙ longest-append f ws (zip2 g xs ys) (drop (length ys) xs) (omega (arith, both))
+      ∙ ap (zip_longest f true false ws) (with_rest g xs ys)
 
   -- whether a word changed in either
   pub changed_behind : (joined behind : Bool) → joined ≡ not (list_all (λ w. w == 0) (zip2 (changed_bits f) ws (zip2 g xs ys)))
       → behind ≡ not (list_all (λ w. w == 0) (zip2 (changed_bits f) (take (length row - n) (drop n row)) (take (length xs - n) (drop n xs))))
       → (joined || behind) ≡ not (list_all (λ w. w == 0) (zip2 (changed_bits f) ws (zip_longest g true false xs ys)))
   changed_behind joined behind one other =
-      (let b = other ∙ (let c = rest_of_row in let d = slice_rest n xs in λ i. not (list_all (λ w. w == 0) (zip2 (changed_bits f) (c i) (d i)))) in λ i. one i || b i)
+      (let b = other ∙ (let c = rest_of_row in let d = rest_of_xs in λ i. not (list_all (λ w. w == 0) (zip2 (changed_bits f) (c i) (d i)))) in λ i. one i || b i)
       ∙ some_fails _ _
-      ∙ ap not (all_behind (λ w. w == 0) (changed_bits f) g n ws xs ys common shorter)
+      ∙ ap not (rw (← with_rest g xs ys, zip2-append (changed_bits f) ws (zip2 g xs ys) (drop (length ys) xs) (omega (arith, both)), both) (sym (list_all-append (λ w. w == 0) (zip2 (changed_bits f) ws (zip2 g xs ys)) _)))

@@ -1,22 +1,25 @@
 -- Joined words that are written over the words of a row as long as the first one.
 use Rattle.std.proofs.Common.{◌≡◌, ℕ, ◌-◌, ◌≤◌, List, [], ◌∷◌, ◌++◌, length, take, drop, true, false, refl, ap, sym, ◌∙◌, arith}
 use Rattle.std.specs.Simd.Lanes.{zip2}
-use Rattle.std.proofs.lemmas.List.{append-nil, drop_all, length-drop}
+use Rattle.std.proofs.lemmas.List.{append-nil, drop_all, take_at, length-drop}
 use borrow.Rule.Slice.PartMut.{put_mid, post_of}
 use Rattle.bitlanes.specs.Words.{zip_longest}
-use Rattle.bitwords.proofs.Cleared.{length-kept}
-use Rattle.bitwords.proofs.Written.{with_rest}
+use Rattle.bitwords.proofs.Written.{with_rest, length-both, length-kept, kept_first}
 
 -- words written over a row
 abbrev pub over : List ℕ → List ℕ → List ℕ
 over to words = zip_longest (λ x y. y) true false to words
 
+-- they stand before what is left
+over_parts : (to words : List ℕ) → length words ≤ length to → over to words ≡ words ++ drop (length words) to
+over_parts [] [] p = refl
+over_parts (t ∷ to) [] p = refl
+over_parts [] (w ∷ words) p = absurd (omega arith)
+over_parts (t ∷ to) (w ∷ words) p = ap (λ l. w ∷ l) (over_parts to words (omega arith))
+
 -- of a row that is as long nothing is left
 pub over_all : (to words : List ℕ) → length to ≡ length words → over to words ≡ words
-over_all [] [] e = refl
-over_all [] (w ∷ words) e = absurd (omega arith)
-over_all (t ∷ to) [] e = absurd (omega arith)
-over_all (t ∷ to) (w ∷ words) e = ap (λ l. w ∷ l) (over_all to words (omega arith))
+over_all to words e = over_parts to words (omega arith) ∙ rw (drop_all (length words) to (omega arith)) (append-nil words)
 
 -- behind the part up to the end of a row there is nothing
 past_end : (k : ℕ) (row : List ℕ) → post_of k (length row - k) row ≡ []
@@ -25,25 +28,15 @@ past_end k row = drop_all (length row - k) (drop k row) (omega (arith, length-dr
 module _ (f : ℕ → ℕ → ℕ) where
   -- where the second row is as long as the first, each word is a joined one
   pub placed_all : (to xs ys : List ℕ) → length to ≡ length xs → length xs ≤ length ys → over to (zip2 f xs ys) ≡ zip_longest f true false xs ys
-  placed_all [] [] ys e p = refl
-  placed_all [] (x ∷ xs) ys e p = absurd (omega arith)
-  placed_all (t ∷ to) [] ys e p = absurd (omega arith)
-  placed_all (t ∷ to) (x ∷ xs) [] e p = absurd (omega arith)
-  placed_all (t ∷ to) (x ∷ xs) (y ∷ ys) e p = ap (λ l. f x y ∷ l) (placed_all to xs ys (omega arith) (omega arith))
+  placed_all to xs ys e p =
+      over_all to (zip2 f xs ys) (omega (arith, length-both f xs ys)) ∙ sym (append-nil (zip2 f xs ys))
+      ∙ ap (λ l. zip2 f xs ys ++ l) (sym (drop_all (length ys) xs p)) ∙ with_rest f xs ys
 
   -- else as many as the second row has are
   placed_first : (to xs ys : List ℕ) → length to ≡ length xs → length ys ≤ length xs → take (length ys) (over to (zip2 f xs ys)) ≡ zip2 f xs ys
-  placed_first to [] [] e p = refl
-  placed_first to [] (y ∷ ys) e p = absurd (omega arith)
-  placed_first to (x ∷ xs) [] e p = refl
-  placed_first [] (x ∷ xs) (y ∷ ys) e p = absurd (omega arith)
-  placed_first (t ∷ to) (x ∷ xs) (y ∷ ys) e p = ap (λ l. f x y ∷ l) (placed_first to xs ys (omega arith) (omega arith))
-
-  kept_first : (xs ys : List ℕ) → length ys ≤ length xs → take (length ys) (zip_longest f true false xs ys) ≡ zip2 f xs ys
-  kept_first [] [] p = refl
-  kept_first [] (y ∷ ys) p = absurd (omega arith)
-  kept_first (x ∷ xs) [] p = refl
-  kept_first (x ∷ xs) (y ∷ ys) p = ap (λ l. f x y ∷ l) (kept_first xs ys (omega arith))
+  placed_first to xs ys e p =
+      let long : length (zip2 f xs ys) ≡ length ys = length-both f xs ys ∙ omega arith in
+      ap (take (length ys)) (over_parts to (zip2 f xs ys) (omega arith)) ∙ take_at (zip2 f xs ys) _ (length ys) long
 
   module _ (to xs ys row : List ℕ) (long : length to ≡ length xs) (shorter : length ys ≤ length xs) (placed : row ≡ over to (zip2 f xs ys)) where
     -- the joined words, and others behind them
@@ -61,7 +54,7 @@ module _ (f : ℕ → ℕ → ℕ) where
     pub placed_zeros : (zeros : List ℕ) → put_mid (length ys) (length row - length ys) row zeros
         ≡ put_mid (length ys) (length (zip_longest f true false xs ys) - length ys) (zip_longest f true false xs ys) zeros
     placed_zeros zeros =
-        let front = kept_first xs ys shorter in
+        let front = kept_first f xs ys shorter in
         let back = ap (λ l. zeros ++ l) (past_end (length ys) (zip_longest f true false xs ys)) ∙ append-nil zeros in
         with_others zeros ∙ sym (λ i. front i ++ back i)
 

@@ -4,6 +4,7 @@ use Rattle.std.specs.Bool.{if◌then◌else◌}
 use Rattle.std.specs.Int.Count.{ones}
 use Rattle.std.specs.List.{list_all}
 use Rattle.std.specs.Simd.Lanes.{zip2}
+use Rattle.std.proofs.Math.Seq.{drop-nil}
 use Rattle.std.proofs.lemmas.List.{append-nil}
 use Rattle.std.proofs.lemmas.List.Folds.{list_all-append}
 use Rattle.std.proofs.lemmas.List.Sums.{sum_by-append}
@@ -14,10 +15,6 @@ use Rattle.bitwords.specs.Rows.{has_bit, count_below, bits_test}
 use Rattle.bitwords.specs.CountFacts.{count-same, count-shorter}
 use Rattle.bitwords.specs.RowFacts.{AreWords, bit-zero, has_bit-past}
 use Rattle.bitwords.proofs.Ones.{row-ones}
-
-drop-nil : (n : ℕ) → drop {A = ℕ} n [] ≡ []
-drop-nil zero = refl
-drop-nil (suc n) = refl
 
 -- the joined words, and then the rest of the longer row
 zip_longest-parts : (f : ℕ → ℕ → ℕ) (keep take : Bool) (xs ys : List ℕ) → zip_longest f keep take xs ys ≡ zip2 f xs ys ++ ((if keep then drop (length ys) xs else []) ++ (if take then drop (length xs) ys else []))

@@ -1,10 +1,10 @@
 -- joined words, written one behind the other
-use Rattle.std.proofs.Common.{◌≡◌, ℕ, zero, suc, ◌-◌, ◌<◌, ◌≤◌, List, [], ◌∷◌, ◌++◌, length, take, drop, map, min, true, false, refl, ap, sym, ◌∙◌, arith, ⊎_elim, Result, Ok, Err, if◌then◌else◌}
+use Rattle.std.proofs.Common.{◌≡◌, ℕ, zero, suc, ◌-◌, ◌<◌, ◌≤◌, List, [], ◌∷◌, ◌++◌, get_or, length, take, drop, map, min, true, false, refl, ap, ◌∙◌, arith, Result, Ok, Err, if◌then◌else◌}
 use Rattle.std.specs.List.{zip}
 use Rattle.std.specs.Simd.Lanes.{zip2}
 use Rattle.std.proofs.Math.Seq.{drop-nil}
-use Rattle.std.proofs.lemmas.Bool.{cases_lt}
-use Rattle.std.proofs.lemmas.List.{drop_all, take_all, length-drop}
+use Rattle.std.proofs.lemmas.List.{drop_all, take_all, take_at, length-append, length-drop, get_or_append_left, get_or-append_right, get_or_past, get_or-drop}
+use Rattle.std.proofs.lemmas.Simd.{get_or-zip2}
 use Rattle.std.specs.Result.{OnOk, is_ok}
 use Rattle.bitlanes.specs.Words.{zip_longest}
 
@@ -14,11 +14,39 @@ map_zip f [] ys = refl
 map_zip f (x ∷ xs) [] = refl
 map_zip f (x ∷ xs) (y ∷ ys) = ap (λ t. f x y ∷ t) (map_zip f xs ys)
 
+-- ---- two rows joined, where the rest of the first is kept
+
 -- joined as far as both rows go, and then the rest
 pub with_rest : (f : ℕ → ℕ → ℕ) (xs ys : List ℕ) → zip2 f xs ys ++ drop (length ys) xs ≡ zip_longest f true false xs ys
 with_rest f [] ys = drop-nil (length ys)
 with_rest f (x ∷ xs) [] = refl
 with_rest f (x ∷ xs) (y ∷ ys) = ap (λ t. f x y ∷ t) (with_rest f xs ys)
+
+pub length-both : (f : ℕ → ℕ → ℕ) (xs ys : List ℕ) → length (zip2 f xs ys) ≡ min (length xs) (length ys)
+length-both f [] ys = omega arith
+length-both f (x ∷ xs) [] = omega arith
+length-both f (x ∷ xs) (y ∷ ys) = let e = length-both f xs ys in omega arith
+
+pub length-kept : (f : ℕ → ℕ → ℕ) (xs ys : List ℕ) → length (zip_longest f true false xs ys) ≡ length xs
+length-kept f xs ys = omega (arith, ap length (with_rest f xs ys), length-append {A = ℕ}, length-drop {A = ℕ}, length-both f xs ys)
+
+pub get_or-kept_both : (f : ℕ → ℕ → ℕ) (xs ys : List ℕ) (k : ℕ) → k < length xs → k < length ys → get_or (zip_longest f true false xs ys) k 0 ≡ f (get_or xs k 0) (get_or ys k 0)
+get_or-kept_both f xs ys k p q = rw (← with_rest f xs ys) (grind (arith, get_or_append_left, get_or-zip2, length-both))
+
+pub get_or-kept_past : (f : ℕ → ℕ → ℕ) (xs ys : List ℕ) (k : ℕ) → length ys ≤ k → get_or (zip_longest f true false xs ys) k 0 ≡ get_or xs k 0
+get_or-kept_past f xs ys k p = rw (← with_rest f xs ys) (grind (arith, get_or-append_right, get_or_past, get_or-drop, length-both, length-append, length-drop))
+
+-- the rest is as it was
+pub rest_kept : (f : ℕ → ℕ → ℕ) (xs ys : List ℕ) → drop (length ys) (zip_longest f true false xs ys) ≡ drop (length ys) xs
+rest_kept f [] [] = refl
+rest_kept f [] (y ∷ ys) = refl
+rest_kept f (x ∷ xs) [] = refl
+rest_kept f (x ∷ xs) (y ∷ ys) = rest_kept f xs ys
+
+pub kept_first : (f : ℕ → ℕ → ℕ) (xs ys : List ℕ) → length ys ≤ length xs → take (length ys) (zip_longest f true false xs ys) ≡ zip2 f xs ys
+kept_first f xs ys p = rw (← with_rest f xs ys) (take_at (zip2 f xs ys) _ (length ys) (length-both f xs ys ∙ omega arith))
+
+-- ---- in two parts
 
 -- the first n words, then those behind them as far as both rows go, and then the rest
 written : (f : ℕ → ℕ → ℕ) (n : ℕ) (xs ys : List ℕ) → n ≤ length xs → n ≤ length ys
@@ -29,12 +57,8 @@ written f (suc n) (x ∷ xs) [] p q = absurd (omega arith)
 written f (suc n) (x ∷ xs) (y ∷ ys) p q = ap (λ t. f x y ∷ t) (written f n xs ys (omega arith) (omega arith))
 
 -- what is left behind the other row, which may be the longer one
-rest_of : (xs ys : List ℕ) → drop (min (length ys) (length xs)) xs ≡ drop (length ys) xs
-rest_of xs ys =
-    ⊎_elim
-    (λ (lt : length ys < length xs). let e : min (length ys) (length xs) ≡ length ys = omega arith in ap (λ n. drop n xs) e)
-    (λ (ge : length xs ≤ length ys). drop_all (min (length ys) (length xs)) xs (omega arith) ∙ sym (drop_all (length ys) xs ge))
-    (cases_lt (length ys) (length xs))
+pub rest_of : (xs ys : List ℕ) → drop (min (length ys) (length xs)) xs ≡ drop (length ys) xs
+rest_of xs ys = grind (arith, drop_all)
 
 -- the same, where the other row may be the longer one
 pub written_all : (f : ℕ → ℕ → ℕ) (n : ℕ) (xs ys : List ℕ) → n ≤ length xs → n ≤ length ys

@@ -1,6 +1,7 @@
 use Rattle.std.proofs.Common.{◌∙◌, ap, rules, length, replicate, arith}
 use Rattle.std.proofs.lemmas.List.{length-take, length-drop}
-use Rattle.bitwords.proofs.Cleared.{length-kept, IsJoined-kept, IsJoined-zeroed}
+use Rattle.bitwords.proofs.Cleared.{IsJoined-kept, IsJoined-zeroed}
+use Rattle.bitwords.proofs.Written.{length-kept}
 use Rattle.bitwords.proofs.joins.join.Goals as goal
 
 pub returns-then-common-words-clause-bits : goal.returns-then-common-words-clause-bits

@@ -2,7 +2,8 @@ use Rattle.std.proofs.Common.{◌∙◌, true, ap, sym, rules, length, replicate
 use Rattle.std.specs.Bool.{if◌then◌else◌}
 use Rattle.std.proofs.lemmas.List.{length-take, length-drop}
 use Rattle.bitwords.proofs.Changed.{changed-zeroed, changed-kept}
-use Rattle.bitwords.proofs.Cleared.{length-kept, IsJoined-kept, IsJoined-zeroed}
+use Rattle.bitwords.proofs.Cleared.{IsJoined-kept, IsJoined-zeroed}
+use Rattle.bitwords.proofs.Written.{length-kept}
 use Rattle.bitwords.proofs.joins.join_with_change.Goals.{then-joined, else-joined}
 use Rattle.bitwords.proofs.joins.join_with_change.Goals as goal
 
