@@ -4,6 +4,7 @@ use Rattle.std.proofs.lemmas.Bool.{cases_lt, le-leb, lt-leb, and_left, and_right
 use Rattle.std.proofs.lemmas.Bool.Decides.{nat_tests}
 use Rattle.std.proofs.lemmas.List.{get_or-take, get_or-drop, length-take, length-drop}
 use borrow.Rule.Slice.PartMut.{put_mid}
+use Rattle.bitwords.proofs.Joined.{TakesWord, Rests, LeavesWord, IsJoined_words}
 use Rattle.bitwords.proofs.PutRow.{length-put_row, put_row_below, put_row_within}
 use Rattle.std.proofs.lemmas.Nat.{shr-shr, shr_split, or_lt, shr_le, pow_pos}
 use Rattle.std.proofs.lemmas.Nat.Bits.{bit_at_above, bit_at_cat_low, bit_at_cat_high, bit_at-zero}
@@ -12,7 +13,7 @@ use Rattle.bitlanes.specs.BitLaws.{bit-or}
 use Rattle.bitlanes.specs.Ops.{IsWordOp}
 use Rattle.bitlanes.specs.Shifts.{straddle, window}
 use Rattle.bitwords.specs.Rows.{has_bit, IsJoined}
-use Rattle.bitwords.specs.RowFacts.{AreWords, bit-zero, has_bit-past}
+use Rattle.bitwords.specs.RowFacts.{AreWords, has_bit-past}
 
 -- ---- a word moved
 
@@ -104,48 +105,6 @@ bit-first ws shift i within short = ⊎_elim
     ∙ (λ j. bit (get_or ws (q j) 0) (r j))
     ∙ sym (ap (λ b. b && bit (get_or ws ((i - shift) / 64) 0) ((i - shift) % 64)) (le-leb shift i ge)))
     (cases_lt i shift)
-
--- ---- a row joined, word by word, with the positions that pass a test
-
--- word k takes in a word that has the bits of the test
-pub record TakesWord (f : ℕ → ℕ → ℕ) (old : List ℕ) (test : ℕ → Bool) (new : List ℕ) (k : ℕ) : Type 0 where
-  pub word : ℕ
-  pub fits : word < 2 ^ 64
-  pub joined : get_or new k 0 ≡ f (get_or old k 0) word
-  pub bits : (i : ℕ) → i < 64 → bit word i ≡ test (64 * k + i)
-
--- a word stays, or is 0 where positions that do not pass are not kept
-abbrev pub Rests : (keep : Bool) (old new : List ℕ) (k : ℕ) → Type 0
-Rests keep old new k = ((keep ≡ true) × (get_or new k 0 ≡ get_or old k 0)) ⊎ ((keep ≡ false) × (get_or new k 0 ≡ 0))
-
--- no position of word k passes, and the word rests
-pub record LeavesWord (keep : Bool) (old : List ℕ) (test : ℕ → Bool) (new : List ℕ) (k : ℕ) : Type 0 where
-  pub none : (i : ℕ) → i < 64 → test (64 * k + i) ≡ false
-  pub left : Rests keep old new k
-
-module _ {f : ℕ → ℕ → ℕ} {t : Bool → Bool → Bool} {keep take : Bool} (law : IsWordOp f t keep take) (old : List ℕ) (words_old : AreWords old) where
-  pub IsJoined_words : (test : ℕ → Bool) (new : List ℕ) → length new ≡ length old
-      → ((k : ℕ) → k < length old → TakesWord f old test new k ⊎ LeavesWord keep old test new k)
-      → IsJoined t old test new
-  unfolding has_bit
-  IsJoined_words test new long each = record {
-    long = long;
-    bits = λ p within.
-        let place : 64 * (p / 64) + p % 64 ≡ p = omega arith in
-        ⊎_elim
-        (λ (takes : TakesWord f old test new (p / 64)).
-        ap (λ w. bit w (p % 64)) takes.joined
-        ∙ law.by_bits (get_or old (p / 64) 0) takes.word (p % 64) (words_old (p / 64)) takes.fits
-        ∙ ap (t (has_bit old p)) (takes.bits (p % 64) (omega arith) ∙ ap test place))
-        (λ (leaves : LeavesWord keep old test new (p / 64)).
-        let none : test p ≡ false = ap test (sym place) ∙ leaves.none (p % 64) (omega arith) in
-        let of_first : t (has_bit old p) (test p) ≡ (keep && has_bit old p) = ap (t (has_bit old p)) none ∙ law.of_first (has_bit old p) in
-        ⊎_elim
-        (λ kept. ap (λ w. bit w (p % 64)) kept.1 ∙ sym (of_first ∙ ap (λ b. b && has_bit old p) kept.0))
-        (λ lost. ap (λ w. bit w (p % 64)) lost.1 ∙ bit-zero (p % 64) ∙ sym (of_first ∙ ap (λ b. b && has_bit old p) lost.0))
-        leaves.left)
-        (each (p / 64) (omega arith));
-  }
 
 -- ---- the tests of moved rows
 

@@ -4,7 +4,8 @@ use Rattle.std.proofs.lemmas.List.{length-take, length-drop}
 use Rattle.bitlanes.specs.BitLaws.{laws_of_second}
 use Rattle.bitwords.specs.RowFacts.{has_bit-past}
 use Rattle.bitwords.proofs.Cleared.{length-cut_row, get_or-cut_row_below, get_or-cut_row_from}
-use Rattle.bitwords.proofs.Shifted.{IsJoined_words, takes_down}
+use Rattle.bitwords.proofs.Joined.{IsJoined_words}
+use Rattle.bitwords.proofs.Shifted.{takes_down}
 use Rattle.bitwords.proofs.shifts.down.Goals as goal
 
 pub returns-clause-bits : goal.returns-clause-bits

@@ -3,7 +3,8 @@ use Rattle.std.proofs.lemmas.Bool.{cases_lt}
 use Rattle.std.proofs.lemmas.List.{length-take, length-drop}
 use Rattle.bitwords.specs.RowFacts.{has_bit-past}
 use Rattle.bitwords.proofs.Cleared.{length-cut_row, get_or-cut_row_below, get_or-cut_row_from}
-use Rattle.bitwords.proofs.Shifted.{IsJoined_words, takes_down}
+use Rattle.bitwords.proofs.Joined.{IsJoined_words}
+use Rattle.bitwords.proofs.Shifted.{takes_down}
 use Rattle.bitwords.proofs.shifts.join_down.Goals as goal
 
 pub returns-then-common-words-clause-bits : goal.returns-then-common-words-clause-bits

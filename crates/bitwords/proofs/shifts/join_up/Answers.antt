@@ -2,7 +2,8 @@ use Rattle.std.proofs.Common.{◌≡◌, ◌≢◌, ◌≤◌, ◌+◌, ◌-◌,
 use Rattle.std.proofs.lemmas.Bool.{cases_eq, and_right}
 use Rattle.std.proofs.lemmas.List.{length-take, length-drop, get_or-set_same, get_or-set_other, length-set}
 use Rattle.bitwords.specs.RowFacts.{has_bit-past}
-use Rattle.bitwords.proofs.Shifted.{IsJoined_words, IsJoined_up, takes_first, leaves_up}
+use Rattle.bitwords.proofs.Joined.{IsJoined_words}
+use Rattle.bitwords.proofs.Shifted.{IsJoined_up, takes_first, leaves_up}
 use Rattle.bitwords.proofs.shifts.join_up.Goals as goal
 use Rattle.bitwords.proofs.shifts.join_up.Goals.{then-at-words-via-then-at-words, then-at-words-via-else-at-words+then-is_empty}
 

@@ -1,6 +1,7 @@
 use Rattle.std.proofs.Common.{◌≡◌, ◌<◌, ◌≤◌, ◌/◌, ◌∙◌, ℕ, List, ◌++◌, get_or, ap, rules, length, drop, replicate, arith, inl, inr}
 use Rattle.std.proofs.lemmas.List.{length-take, length-drop, length-append, get_or_append_left, get_or-append_right, get_or-drop, length-replicate, get_or-replicate}
-use Rattle.bitwords.proofs.Shifted.{IsJoined_words, moved_up}
+use Rattle.bitwords.proofs.Joined.{IsJoined_words}
+use Rattle.bitwords.proofs.Shifted.{moved_up}
 use Rattle.bitwords.proofs.shifts.up.Goals as goal
 
 pub returns-then-not-KEEP-clause-bits : goal.returns-then-not-KEEP-clause-bits
