@@ -16,8 +16,7 @@ use Rattle.bitwords.proofs.Ones.{all-ones}
 use Rattle.bitwords.proofs.TwoRows.{all_longest, longest-ones}
 
 either_fails : (a b : Bool) → (if not a then true else not b) ≡ not (a && b)
-either_fails true b = refl
-either_fails false b = refl
+either_fails a b = grind arith
 
 module _ {f : ℕ → ℕ → ℕ} {t : Bool → Bool → Bool} {keep also : Bool} (law : IsWordOp f t keep also) (xs ys : List ℕ) (words_xs : AreWords xs) (words_ys : AreWords ys) (shorter : also ≡ true → length ys ≤ length xs) where
   abbrev all_zero : List ℕ → Bool

@@ -1,8 +1,8 @@
 -- The positions of a range that pass, counted part by part.
-use Rattle.std.proofs.Common.{◌≡◌, ℕ, zero, suc, ◌+◌, ◌-◌, ◌*◌, ◌/◌, ◌^◌, ◌<◌, ◌≤◌, Bool, true, false, ◌&&◌, ◌==◌, nat_lt, List, ◌∷◌, length, get_or, take, drop, map, sum_by, refl, sym, ap, ◌∙◌, arith, ⊎_elim}
+use Rattle.std.proofs.Common.{◌≡◌, ℕ, zero, suc, ◌+◌, ◌-◌, ◌*◌, ◌/◌, ◌%◌, ◌^◌, ◌<◌, ◌≤◌, Bool, true, false, ◌&&◌, ◌==◌, nat_lt, List, ◌∷◌, length, get_or, take, drop, map, sum_by, refl, sym, ap, ◌∙◌, arith, ⊎_elim}
 use Rattle.std.specs.Int.Count.{ones}
 use Rattle.std.proofs.Math.Seq.{drop-cons}
-use Rattle.std.proofs.lemmas.Bool.{lt-ltb, eq-eqb, eqb-true}
+use Rattle.std.proofs.lemmas.Bool.{lt-ltb}
 use Rattle.std.proofs.lemmas.Bool.Decides.{nat_tests}
 use Rattle.std.proofs.lemmas.List.Sums.{sum_by-cons}
 use Rattle.bitlanes.specs.Bits.{bit}
@@ -69,32 +69,28 @@ module _ {f : ℕ → ℕ → ℕ} {t : Bool → Bool → Bool} {keep take_right
         ap (λ j. count_below (bit_test (t true) ws) (64 * j)) e,
       )
 
+-- between the cuts there are as many as in the whole words
+count-edges : (start end low high : ℕ) → IsCut start end low high → (c : ℕ → Bool) → count_below c (64 * (high / 64)) + count_below c low ≡ count_below c (64 * (low / 64)) + count_below c high
+count-edges start end low high is c =
+    ⊎_elim
+    (λ (past : low ≡ end). let same : high ≡ low = omega (arith, past, is.middle, is.last) in rw same (omega arith))
+    (λ (edges : (low % 64 ≡ 0) × (high % 64 ≡ 0)). let a : 64 * (low / 64) ≡ low = omega (arith, edges.0) in let b : 64 * (high / 64) ≡ high = omega (arith, edges.1) in rw (a, b) (omega arith))
+    is.whole
+
 -- a count over the whole words of a range that is cut
 pub count-between : (start end low high : ℕ) → IsCut start end low high → (c : ℕ → Bool) (n : ℕ) → n + count_below c (64 * (low / 64)) ≡ count_below c (64 * (high / 64)) → n + count_below c low ≡ count_below c high
-count-between start end low high is c n e =
-    ⊎_elim
-    (λ past. let same : high ≡ low = omega (arith, past, is.middle, is.last) in omega (arith, e, ap (count_below c) same, ap (λ k. count_below c (64 * (k / 64))) same))
-    (λ edges. let a : 64 * (low / 64) ≡ low = omega (arith, edges.0) in let b : 64 * (high / 64) ≡ high = omega (arith, edges.1) in omega (arith, e, ap (count_below c) a, ap (count_below c) b))
-    is.whole
+count-between start end low high is c n e = omega (arith, count-edges start end low high is c)
 
 -- ---- a count that stays over each of three parts
 
 -- over the whole words it stays exactly if it does between the cuts
 pub same-between : (start end low high : ℕ) → IsCut start end low high → (c : ℕ → Bool) → (count_below c (64 * (high / 64)) == count_below c (64 * (low / 64))) ≡ (count_below c high == count_below c low)
-same-between start end low high is c =
-    ⊎_elim
-    (λ past. let same : high ≡ low = omega (arith, past, is.middle, is.last) in eq-eqb _ _ (ap (λ k. count_below c (64 * (k / 64))) same) ∙ sym (eq-eqb _ _ (ap (count_below c) same)))
-    (λ edges. let a : 64 * (low / 64) ≡ low = omega (arith, edges.0) in let b : 64 * (high / 64) ≡ high = omega (arith, edges.1) in λ i. count_below c (b i) == count_below c (a i))
-    is.whole
+same-between start end low high is c = grind (arith, nat_tests, count-edges start end low high is c)
 
 -- where it grows between two places, it grows over all
 pub grows_within : (c : ℕ → Bool) (start low high end : ℕ) → start ≤ low → low ≤ high → high ≤ end → (count_below c high == count_below c low) ≡ false → false ≡ (count_below c end == count_below c start)
-grows_within c start low high end p q r e =
-    grows (count_below c start) (count_below c low) (count_below c high) (count_below c end) (count-mono c start low p) (count-mono c low high q) (count-mono c high end r) e
-  where
-    grows : (a b x d : ℕ) → a ≤ b → b ≤ x → x ≤ d → (x == b) ≡ false → false ≡ (d == a)
-    grows a b x d p q r e = grind (arith, nat_tests)
+grows_within c start low high end p q r e = grind (arith, nat_tests, count-mono c start low p, count-mono c low high q, count-mono c high end r)
 
 -- where it stays over the first two parts, the third one decides
 pub stays_upto : (a b x d : ℕ) → true ≡ (b == a) → true ≡ (x == b) → (d == x) ≡ (d == a)
-stays_upto a b x d p q = let e : b ≡ a = eqb-true b a (sym p) in let f : x ≡ b = eqb-true x b (sym q) in ap (λ n. d == n) (f ∙ e)
+stays_upto a b x d p q = grind (arith, nat_tests)

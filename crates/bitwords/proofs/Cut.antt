@@ -1,6 +1,6 @@
 -- A row of words whose ends are cut at a position.
-use Rattle.std.proofs.Common.{◌≡◌, ℕ, ◌+◌, ◌-◌, ◌*◌, ◌<◌, ◌≤◌, Bool, true, false, ◌&&◌, nat_le, nat_lt, min, bit_and, List, [], ◌∷◌, ◌++◌, length, refl, sym, ap, ◌∙◌, arith, ⊎_elim}
-use Rattle.std.proofs.lemmas.Bool.{cases_lt}
+use Rattle.std.proofs.Common.{◌≡◌, ℕ, ◌+◌, ◌-◌, ◌*◌, ◌<◌, ◌≤◌, Bool, true, ◌&&◌, nat_le, nat_lt, min, bit_and, List, [], ◌∷◌, ◌++◌, length, refl, sym, ap, ◌∙◌, arith, ⊎_elim}
+use Rattle.std.proofs.lemmas.Bool.{cases_lt, and_right}
 use Rattle.std.proofs.lemmas.Bool.Decides.{nat_tests}
 use Rattle.std.proofs.lemmas.List.{length-append}
 use Rattle.bitlanes.specs.Bits.{bit}
@@ -15,15 +15,7 @@ use Rattle.bitwords.proofs.RowEnds.{has_bit-first, has_bit-later, has_bit-before
 use Rattle.bitwords.proofs.Left.{length-row, length-between}
 
 and_true : (b c : Bool) → c ≡ true → b ≡ (b && c)
-and_true b c e = sym (ap (λ x. b && x) e ∙ true_right b)
-  where
-    true_right : (b : Bool) → (b && true) ≡ b
-    true_right true = refl
-    true_right false = refl
-
-and_false : (b c : Bool) → c ≡ false → (b && c) ≡ false
-and_false true c e = e
-and_false false c e = refl
+and_true b c e = grind arith
 
 -- below 64 the cut at 64 tells nothing
 pub least : (low i end : ℕ) → i < 64 → (nat_le low i && nat_lt i (min end 64)) ≡ in_range low end i
@@ -74,11 +66,11 @@ module _ (ws ms : List ℕ) (f b at low end : ℕ) (middle : ms ≡ between_ends
       let same : (i : ℕ) → at ≤ i → i < at + 64 * length cut → has_bit cut (i - at) ≡ (has_bit ws (i - at) && in_range low end (i - at)) = λ i above below. has_bit-cut (i - at) (omega (arith, above, below, row)) in
       ap (ascending (λ p. has_bit cut (p - at)) at) size
       ∙ ascending-skip _ (λ p. has_bit cut (p - at)) at low ((end - low) + rest)
-      (λ i above below. same i above (omega (arith, below, size)) ∙ and_false _ _ (before_range low end (i - at) (omega (arith, above, below))))
+      (λ i above below. same i above (omega (arith, below, size)) ∙ and_right _ _ (before_range low end (i - at) (omega (arith, above, below))))
       (λ i above below. refl)
       ∙ ascending-cut _ (λ p. has_bit ws (p - at)) (at + low) (end - low) rest
       (λ i above below. same i (omega (arith, above)) (omega (arith, below, size)) ∙ sym (and_true _ _ (in_there (i - at) (omega (arith, above)) (omega (arith, above, below)))))
-      (λ i above below. same i (omega (arith, above)) (omega (arith, below, size)) ∙ and_false _ _ (past_range low end (i - at) (omega (arith, above))))
+      (λ i above below. same i (omega (arith, above)) (omega (arith, below, size)) ∙ and_right _ _ (past_range low end (i - at) (omega (arith, above))))
     where
       in_there : (p : ℕ) → low ≤ p → p < end → in_range low end p ≡ true
       in_there p above below = grind (arith, nat_tests)

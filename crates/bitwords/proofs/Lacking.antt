@@ -1,7 +1,7 @@
 -- A row without another one: of each word the bits that the word of the other row lacks, and the rest as it is. What it
 -- has first, and what becomes of a third row that takes it in, in two parts.
 use Rattle.std.specs.Prelude.{slice_get}
-use Rattle.std.proofs.Common.{◌≡◌, ℕ, ◌+◌, ◌-◌, ◌*◌, ◌<◌, ◌≤◌, Bool, true, false, not, ◌&&◌, ◌||◌, ◌==◌, inr, List, [], ◌∷◌, ◌++◌, take, drop, length, get_or, map, min, max, bit_or, Option, Some, None, IfSome, IfNone, refl, sym, ap, ◌∙◌, subst, arith, ⊎_elim}
+use Rattle.std.proofs.Common.{◌≡◌, ℕ, ◌+◌, ◌-◌, ◌*◌, ◌<◌, ◌≤◌, Bool, true, false, not, ◌&&◌, ◌||◌, ◌==◌, inr, List, [], ◌∷◌, ◌++◌, take, drop, length, get_or, map, min, max, bit_or, Option, Some, None, IfSome, IfNone, refl, sym, ap, ◌∙◌, arith, ⊎_elim}
 use Rattle.std.specs.List.{list_all}
 use Rattle.std.specs.Simd.Lanes.{zip2}
 use Rattle.std.proofs.lemmas.List.Folds.{list_all-append}
@@ -91,42 +91,26 @@ module _ (f : ℕ → ℕ → ℕ) (xs ys : List ℕ) where
         zeros = λ i from before. of_both i (omega arith) (omega arith) ∙ word.zeros i from before;
       }
 
-  module _ (none : AreZeros (zip2 f xs ys)) where
-    behind_both : (i : ℕ) → min (length xs) (length ys) ≤ i → get_or (zip_longest f true false xs ys) i 0 ≡ get_or (map (bit_or 0) xs) i 0
-    behind_both i past =
-        ⊎_elim
-        (λ (inside : i < length xs). get_or-kept_past f xs ys i (omega arith) ∙ ap (λ ws. get_or ws i 0) (sym (under_no_mask xs)))
-        (λ (outside : length xs ≤ i).
-        get_or_past (zip_longest f true false xs ys) i 0 (omega (arith, length-kept f xs ys))
-        ∙ sym (ap (λ ws. get_or ws i 0) (under_no_mask xs) ∙ get_or_past xs i 0 outside))
-        (cases_lt i (length xs))
+  module _ (none : AreZeros (zip2 f xs ys)) (n : ℕ) (both : n ≡ min (length xs) (length ys)) where
+    behind_both : (i : ℕ) → n ≤ i → get_or (zip_longest f true false xs ys) i 0 ≡ get_or (map (bit_or 0) xs) i 0
+    behind_both i past = rw under_no_mask (grind (arith, get_or-kept_past, get_or_past, length-kept))
 
-    zero_before : (i n : ℕ) → ((j : ℕ) → min (length xs) (length ys) ≤ j → j < n → get_or (map (bit_or 0) xs) j 0 ≡ 0) → i < n → get_or (zip_longest f true false xs ys) i 0 ≡ 0
-    zero_before i n rest before =
-        ⊎_elim
-        (λ (both : i < min (length xs) (length ys)). of_both i (omega arith) (omega arith) ∙ none i (omega arith))
-        (λ (past : min (length xs) (length ys) ≤ i). behind_both i past ∙ rest i past before)
-        (cases_lt i (min (length xs) (length ys)))
+    zero_before : (i m : ℕ) → ((j : ℕ) → n ≤ j → j < m → get_or (map (bit_or 0) xs) j 0 ≡ 0) → i < m → get_or (zip_longest f true false xs ys) i 0 ≡ 0
+    zero_before i m rest before =
+        ⊎_elim (λ (lt : i < n). of_both i (omega arith) (omega arith) ∙ none i (omega arith)) (λ (past : n ≤ i). behind_both i past ∙ rest i past before) (cases_lt i n)
 
-    first_behind : (k : ℕ) → IsNextOne (map (bit_or 0) xs) (min (length xs) (length ys)) k → IsFirstOne (zip_longest f true false xs ys) k
-    first_behind k word = record {
+    pub found_behind : (found : Option ℕ) → IfSome found (IsNextOne (map (bit_or 0) xs) n) → IfSome found (IsFirstOne (zip_longest f true false xs ys))
+    found_behind None word = tt
+    found_behind (Some k) word = record {
       after = omega arith;
       within = omega (arith, word.within, length-map xs (bit_or 0), length-kept f xs ys);
       one = λ zero. word.one (sym (behind_both k word.after) ∙ zero);
       zeros = λ i _ before. zero_before i k word.zeros before;
     }
 
-    none_behind : AreZerosFrom (map (bit_or 0) xs) (min (length xs) (length ys)) → AreZeros (zip_longest f true false xs ys)
-    none_behind zeros i _ = zero_before i (i + 1) (λ j from _. zeros j from) (omega arith)
-
-    module _ (n : ℕ) (both : n ≡ min (length xs) (length ys)) where
-      pub found_behind : (found : Option ℕ) → IfSome found (IsNextOne (map (bit_or 0) xs) n) → IfSome found (IsFirstOne (zip_longest f true false xs ys))
-      found_behind None none_found = tt
-      found_behind (Some k) word = first_behind k (subst (λ m. IsNextOne (map (bit_or 0) xs) m k) both word)
-
-      pub unfound_behind : (found : Option ℕ) → IfNone found (AreZerosFrom (map (bit_or 0) xs) n) → IfNone found (AreZeros (zip_longest f true false xs ys))
-      unfound_behind None zeros = none_behind (subst (AreZerosFrom (map (bit_or 0) xs)) both zeros)
-      unfound_behind (Some k) _ = tt
+    pub unfound_behind : (found : Option ℕ) → IfNone found (AreZerosFrom (map (bit_or 0) xs) n) → IfNone found (AreZeros (zip_longest f true false xs ys))
+    unfound_behind None zeros = λ i _. zero_before i (i + 1) (λ j from _. zeros j from) (omega arith)
+    unfound_behind (Some k) _ = tt
 
 -- how many words it has, and each of them
 pub ruleset row_words = (length-kept, get_or-kept_both, get_or-kept_past)
@@ -146,8 +130,7 @@ longest-append f [] (x ∷ xs) ys le = absurd (omega arith)
 longest-append f (w ∷ ws) (x ∷ xs) ys le = ap (λ t. f w x ∷ t) (longest-append f ws xs ys (omega arith))
 
 some_fails : (a b : Bool) → (not a || not b) ≡ not (a && b)
-some_fails true b = refl
-some_fails false b = refl
+some_fails a b = grind arith
 
 module _ (f g : ℕ → ℕ → ℕ) (n : ℕ) (ws xs ys row : List ℕ) (common : n ≡ min (length xs) (length ys)) (shorter : length xs ≤ length ws) (first : row ≡ zip_longest f true false ws (zip2 g xs ys)) where
   both : length (zip2 g xs ys) ≡ n

@@ -1,10 +1,9 @@
 -- The ones of a word and of a row of words, counted as positions.
-use Rattle.std.proofs.Common.{◌≡◌, ◌≢◌, ℕ, zero, suc, ◌+◌, ◌*◌, ◌/◌, ◌%◌, ◌^◌, ◌<◌, Bool, ◌&&◌, ◌==◌, List, [], ◌∷◌, length, get_or, sum_by, refl, sym, ap, ◌∙◌, arith, ⊎_elim}
+use Rattle.std.proofs.Common.{◌≡◌, ℕ, zero, suc, ◌+◌, ◌*◌, ◌/◌, ◌%◌, ◌^◌, ◌<◌, Bool, ◌&&◌, ◌==◌, List, [], ◌∷◌, length, get_or, sum_by, refl, sym, ap, ◌∙◌, arith}
 use Rattle.std.specs.List.{list_all}
 use Rattle.std.specs.Int.{bit_at}
 use Rattle.std.specs.Int.Count.{ones}
 use Rattle.std.proofs.Math.Nat.{pow-suc, div-lt_iff_lt-mul}
-use Rattle.std.proofs.lemmas.Bool.{cases_eq, eq-eqb, ne_eqb}
 use Rattle.std.proofs.lemmas.Bool.Decides.{nat_tests}
 use Rattle.std.proofs.lemmas.List.Sums.{sum_by-cons}
 use Rattle.std.proofs.lemmas.Nat.{shr_split, ones_cat, pow_pos, zero_from_ones}
@@ -42,11 +41,7 @@ ones-bits (suc w) x h =
 
 -- a number has no ones exactly if it is 0
 pub ones-zero : (x : ℕ) → (x == 0) ≡ (ones x == 0)
-ones-zero x =
-    ⊎_elim
-    (λ (e : x ≡ 0). eq-eqb x 0 e ∙ sym (eq-eqb (ones x) 0 (ap ones e ∙ no_ones)))
-    (λ (ne : x ≢ 0). ne_eqb x 0 ne ∙ sym (ne_eqb (ones x) 0 (λ e. ne (zero_from_ones x e))))
-    (cases_eq x 0)
+ones-zero x = grind (arith, nat_tests, zero_from_ones, no_ones)
 
 sum_zero : (a b : ℕ) → (a + b == 0) ≡ ((a == 0) && (b == 0))
 sum_zero a b = grind (arith, nat_tests)

@@ -1,6 +1,6 @@
 -- The parts of a range that is cut at the edges of words.
-use Rattle.std.proofs.Common.{◌≡◌, ℕ, ◌+◌, ◌-◌, ◌*◌, ◌/◌, ◌%◌, ◌^◌, ◌<◌, ◌≤◌, ◌&&◌, ◌==◌, nat_lt, nat_le, ap, sym, ◌∙◌, arith, ⊎_elim}
-use Rattle.std.proofs.lemmas.Bool.{cases_lt, lt-ltb, le-ltb, le-leb, and_left, and_from}
+use Rattle.std.proofs.Common.{◌≡◌, ℕ, ◌+◌, ◌-◌, ◌*◌, ◌/◌, ◌%◌, ◌^◌, ◌<◌, ◌≤◌, ◌&&◌, ◌==◌, nat_lt, nat_le, ap, ◌∙◌, arith, ⊎_elim}
+use Rattle.std.proofs.lemmas.Bool.{cases_lt}
 use Rattle.std.proofs.lemmas.Bool.Decides.{nat_tests}
 use Rattle.std.proofs.lemmas.Nat.Bits.{bit_at_ones, bit_at_ones_above}
 use Rattle.bitlanes.specs.Bits.{bit}
@@ -17,25 +17,16 @@ masked start end mask some one_word bits i = bits i ∙ in_word start end i some
 
 -- a whole word has positions of the range alone
 pub masked_whole : (k i : ℕ) → bit (2 ^ 64 - 1) i ≡ (nat_lt i 64 && in_range (64 * k) (64 * (k + 1)) (64 * k + i))
-masked_whole k i =
-    ⊎_elim
-    (λ (lt : i < 64). ap (λ n. n == 1) (bit_at_ones 64 i lt) ∙ sym (and_from _ _ (lt-ltb i 64 lt) (and_from _ _ (le-leb (64 * k) (64 * k + i) (omega arith)) (lt-ltb (64 * k + i) (64 * (k + 1)) (omega arith)))))
-    (λ (ge : 64 ≤ i). ap (λ n. n == 1) (bit_at_ones_above 64 i ge) ∙ sym (and_left _ _ (le-ltb i 64 ge)))
+masked_whole k i = ⊎_elim
+    (λ (lt : i < 64). ap (λ n. n == 1) (bit_at_ones 64 i lt) ∙ grind (arith, nat_tests))
+    (λ (ge : 64 ≤ i). ap (λ n. n == 1) (bit_at_ones_above 64 i ge) ∙ grind (arith, nat_tests))
     (cases_lt i 64)
 
 module _ (start end low high : ℕ) (is : IsCut start end low high) where
   -- the words between have the positions between
   pub between : (p : ℕ) → in_range (64 * (low / 64)) (64 * (high / 64)) p ≡ in_range low high p
-  between p =
-      ⊎_elim
-      (λ e. let same : high ≡ low = omega (arith, e, is.middle, is.last) in grind (arith, nat_tests))
-      (λ e. let a : 64 * (low / 64) ≡ low = omega (arith, e.0) in let b : 64 * (high / 64) ≡ high = omega (arith, e.1) in λ i. nat_le (a i) p && nat_lt p (b i))
-      is.whole
+  between p = grind (arith, nat_tests, is)
 
   -- the steps over the three parts
   pub parts_words : range_words start low + (high / 64 - low / 64) + range_words high end ≡ range_words start end
-  parts_words =
-      ⊎_elim
-      (λ e. let a : low ≡ end = e in let b : high ≡ end = omega (arith, is.middle, is.last) in grind (arith, nat_tests, is.first_word))
-      (λ e. let a = e.0 in let b = e.1 in grind (arith, nat_tests, is.first, is.middle, is.last, is.first_word, is.last_word))
-      is.whole
+  parts_words = grind (arith, nat_tests, is)

@@ -1,5 +1,5 @@
 -- The words of a row that hold the positions of a range.
-use Rattle.std.proofs.Common.{◌≡◌, ℕ, ◌+◌, ◌-◌, ◌*◌, ◌/◌, ◌%◌, ◌<◌, ◌≤◌, List, drop, get_or, ap, ◌∙◌, arith}
+use Rattle.std.proofs.Common.{◌≡◌, ℕ, ◌+◌, ◌-◌, ◌*◌, ◌/◌, ◌%◌, ◌<◌, ◌≤◌, List, get_or, ap, ◌∙◌, arith}
 use Rattle.std.specs.Int.{div_ceil}
 use Rattle.std.proofs.lemmas.List.{get_or-drop, get_or-take}
 use Rattle.bitlanes.specs.Bits.{bit}
@@ -18,8 +18,7 @@ module _ (ws : List ℕ) (start end : ℕ) where
       let place : first + (p - 64 * first) / 64 ≡ p / 64 = omega (arith, from) in
       let same : (p - 64 * first) % 64 ≡ p % 64 = omega (arith, from) in
       let low : (p - 64 * first) / 64 < last - first = omega (arith, from, to) in
-      let word : get_or (range_cut start end ws) ((p - 64 * first) / 64) 0 ≡ get_or ws (p / 64) 0 =
-      get_or-take (last - first) (drop first ws) ((p - 64 * first) / 64) 0 low ∙ get_or-drop first ws ((p - 64 * first) / 64) 0 ∙ ap (λ k. get_or ws k 0) place in
+      let word : get_or (range_cut start end ws) ((p - 64 * first) / 64) 0 ≡ get_or ws (p / 64) 0 = grind (arith, get_or-take, get_or-drop) in
       λ i. bit (word i) (same i)
 
   -- the positions of the range, in them

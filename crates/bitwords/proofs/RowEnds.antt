@@ -2,10 +2,10 @@
 use Rattle.std.proofs.Common.{◌≡◌, ◌≢◌, ℕ, suc, ◌+◌, ◌-◌, ◌*◌, ◌/◌, ◌%◌, ◌<◌, ◌≤◌, ◌==◌, List, [], ◌∷◌, ◌++◌, length, sym, ap, ◌∙◌, arith, ⊎_elim}
 use Rattle.std.specs.Int.{bit_at}
 use Rattle.std.proofs.lemmas.Bool.{cases_lt}
-use Rattle.std.proofs.lemmas.List.{length-append}
+use Rattle.std.proofs.lemmas.List.{length-append, get_or_append_left, get_or_push, get_or_past}
 use Rattle.bitlanes.specs.Word.{ClearsBit}
 use Rattle.bitwords.specs.Rows.{has_bit}
-use Rattle.bitwords.specs.RowFacts.{bit-zero, has_bit-past}
+use Rattle.bitwords.specs.RowFacts.{has_bit-same}
 
 -- a position in the first word
 pub has_bit-first : (word : ℕ) (words : List ℕ) (i : ℕ) → i < 64 → has_bit (word ∷ words) i ≡ (bit_at word i == 1)
@@ -24,28 +24,12 @@ has_bit-last (w ∷ words) word i j is within = has_bit-later w (words ++ word �
 
 -- a position before the last word
 pub has_bit-before : (words : List ℕ) (word i : ℕ) → i < 64 * length words → has_bit (words ++ word ∷ []) i ≡ has_bit words i
-has_bit-before [] word i below = absurd (omega (arith, below))
-has_bit-before (w ∷ words) word i below =
-    ⊎_elim
-    (λ (lt : i < 64). has_bit-first w (words ++ word ∷ []) i lt ∙ sym (has_bit-first w words i lt))
-    (λ (ge : 64 ≤ i).
-    has_bit-later w (words ++ word ∷ []) i (i - 64) (omega arith)
-    ∙ has_bit-before words word (i - 64) (omega (arith, below))
-    ∙ sym (has_bit-later w words i (i - 64) (omega arith)))
-    (cases_lt i 64)
+unfolding has_bit
+has_bit-before words word i below = ap (λ w. bit_at w (i % 64) == 1) (get_or_append_left words (word ∷ []) 0 (i / 64) (omega arith))
 
 -- an empty word at the end has no position
 pub has_bit-drop_last : (words : List ℕ) (i : ℕ) → has_bit (words ++ 0 ∷ []) i ≡ has_bit words i
-has_bit-drop_last words i =
-    ⊎_elim
-    (λ (lt : i < 64 * length words). has_bit-before words 0 i lt)
-    (λ (ge : 64 * length words ≤ i).
-    ⊎_elim
-    (λ (last : i < 64 * length words + 64). has_bit-last words 0 i (i - 64 * length words) (omega arith) (omega arith) ∙ bit-zero _)
-    (λ (past : 64 * length words + 64 ≤ i). has_bit-past (words ++ 0 ∷ []) i (omega (arith, length-append words (0 ∷ []))))
-    (cases_lt i (64 * length words + 64))
-    ∙ sym (has_bit-past words i ge))
-    (cases_lt i (64 * length words))
+has_bit-drop_last words = has_bit-same _ words (λ k. grind (arith, get_or_append_left, get_or_push, get_or_past, length-append))
 
 -- a bit of the first word is cleared, and each other position stays
 pub has_bit-other : (old new k : ℕ) (words : List ℕ) (i : ℕ) → ClearsBit old new k → i ≢ k → has_bit (new ∷ words) i ≡ has_bit (old ∷ words) i

@@ -1,5 +1,6 @@
 -- Rows moved by a number of positions: their bits.
 use Rattle.std.proofs.Common.{◌≡◌, ℕ, ◌+◌, ◌-◌, ◌*◌, ◌/◌, ◌%◌, ◌^◌, ◌<◌, ◌≤◌, Bool, true, false, ◌&&◌, ◌||◌, ◌==◌, nat_le, List, length, take, drop, get_or, sym, ap, ◌∙◌, arith, inl, inr, ◌⊎◌, ⊎_elim}
+use Rattle.std.proofs.Math.Bool.{and_assoc}
 use Rattle.std.proofs.lemmas.Bool.{cases_lt, le-leb, lt-leb, and_left, and_right}
 use Rattle.std.proofs.lemmas.Bool.Decides.{nat_tests}
 use Rattle.std.proofs.lemmas.List.{get_or-take, get_or-drop, length-take, length-drop}
@@ -26,65 +27,44 @@ bit-cut : (x i : ℕ) → i < 64 → bit (x % 2 ^ 64) i ≡ bit x i
 bit-cut x i h = ap (λ n. n == 1) (sym (bit_at_cat_low (x / 2 ^ 64) 64 (x % 2 ^ 64) i h)) ∙ ap (λ n. bit n i) (shr_split x 64)
 
 -- a bit of a word moved up
-bit-up_low : (x k i : ℕ) → i < 64 → i < k → bit (x * 2 ^ k % 2 ^ 64) i ≡ false
-bit-up_low x k i h low = bit-cut (x * 2 ^ k) i h ∙ (let e : x * 2 ^ k ≡ x * 2 ^ k + 0 = omega arith in ap (λ n. bit n i) e) ∙ ap (λ n. n == 1) (bit_at_cat_low x k 0 i low ∙ bit_at-zero i)
+bit-up_any : (x k i : ℕ) → i < 64 → bit (x * 2 ^ k % 2 ^ 64) i ≡ (nat_le k i && bit x (i - k))
+bit-up_any x k i h = bit-cut (x * 2 ^ k) i h ∙ (let e : x * 2 ^ k ≡ x * 2 ^ k + 0 = omega arith in ap (λ n. bit n i) e) ∙ ⊎_elim
+    (λ (low : i < k). ap (λ n. n == 1) (bit_at_cat_low x k 0 i low ∙ bit_at-zero i) ∙ sym (and_left _ _ (lt-leb k i low)))
+    (λ (high : k ≤ i). ap (λ n. n == 1) (bit_at_cat_high x k 0 i (pow_pos k) high) ∙ sym (ap (λ b. b && bit x (i - k)) (le-leb k i high)))
+    (cases_lt i k)
 
 pub bit-up : (x k i : ℕ) → i < 64 → k ≤ i → bit (x * 2 ^ k % 2 ^ 64) i ≡ bit x (i - k)
-bit-up x k i h high = bit-cut (x * 2 ^ k) i h ∙ (let e : x * 2 ^ k ≡ x * 2 ^ k + 0 = omega arith in ap (λ n. bit n i) e) ∙ ap (λ n. n == 1) (bit_at_cat_high x k 0 i (pow_pos k) high)
+bit-up x k i h high = bit-up_any x k i h ∙ ap (λ b. b && bit x (i - k)) (le-leb k i high)
 
 or_false : (b : Bool) → (b || false) ≡ b
 or_false b = grind arith
 
-module _ (r low high i : ℕ) (short : r < 64) (within : i < 64) where
-  abbrev right : ℕ
-  right = low / 2 ^ r
-
-  abbrev left : ℕ
-  left = high * 2 ^ 1 % 2 ^ 64 * 2 ^ (63 - r) % 2 ^ 64
-
-  -- the bits of the first word
-  pub straddle_first : r + i < 64 → bit (straddle r low high) i ≡ bit low (r + i)
-  unfolding straddle
-  straddle_first first =
-      bit-or right left i
-      ∙ (let a = bit-down low r i in let b = by_place in λ j. a j || b j)
-      ∙ or_false (bit low (r + i))
-    where
-      by_place : bit left i ≡ false
-      by_place = ⊎_elim
-          (λ (lt : i < 63 - r). bit-up_low (high * 2 ^ 1 % 2 ^ 64) (63 - r) i within lt)
-          (λ (ge : 63 - r ≤ i).
-          bit-up (high * 2 ^ 1 % 2 ^ 64) (63 - r) i within ge
-          ∙ (let e : i - (63 - r) ≡ 0 = omega arith in ap (bit (high * 2 ^ 1 % 2 ^ 64)) e)
-          ∙ bit-up_low high 1 0 (omega arith) (omega arith))
-          (cases_lt i (63 - r))
-
-  -- the bits of the second
-  pub straddle_second : low < 2 ^ 64 → 64 ≤ r + i → bit (straddle r low high) i ≡ bit high (r + i - 64)
-  unfolding straddle
-  straddle_second word second =
-      bit-or right left i
-      ∙ (let a = bit-down low r i ∙ ap (λ n. n == 1) (bit_at_above low 64 (r + i) word second) in
-      let b = bit-up (high * 2 ^ 1 % 2 ^ 64) (63 - r) i within (omega arith)
-      ∙ bit-up high 1 (i - (63 - r)) (omega arith) (omega arith)
-      ∙ (let e : i - (63 - r) - 1 ≡ r + i - 64 = omega arith in ap (bit high) e) in
-      λ j. a j || b j)
+-- the bits of two words of which the first is moved down and the second fills its place
+bit-straddle : (r low high i : ℕ) → r < 64 → i < 64 → bit (straddle r low high) i ≡ (bit low (r + i) || (nat_le 64 (r + i) && bit high (r + i - 64)))
+unfolding straddle
+bit-straddle r low high i short within =
+    let e : i - (63 - r) - 1 ≡ r + i - 64 = omega arith in
+    let both : (nat_le (63 - r) i && nat_le 1 (i - (63 - r))) ≡ nat_le 64 (r + i) = grind (arith, nat_tests) in
+    let left : bit (high * 2 ^ 1 % 2 ^ 64 * 2 ^ (63 - r) % 2 ^ 64) i ≡ (nat_le 64 (r + i) && bit high (r + i - 64)) =
+    bit-up_any (high * 2 ^ 1 % 2 ^ 64) (63 - r) i within
+    ∙ ap (λ b. nat_le (63 - r) i && b) (bit-up_any high 1 (i - (63 - r)) (omega arith))
+    ∙ sym (and_assoc (nat_le (63 - r) i) _ _) ∙ (λ j. both j && bit high (e j)) in
+    bit-or (low / 2 ^ r) _ i ∙ (let down = bit-down low r i in λ j. down j || left j)
 
 -- the 64 bits from a position on
 module _ (ws : List ℕ) (words : AreWords ws) (p : ℕ) where
   pub bit-window : (i : ℕ) → i < 64 → bit (window ws p) i ≡ has_bit ws (p + i)
   unfolding window has_bit
-  bit-window i within = ⊎_elim
+  bit-window i within =
+      bit-straddle (p % 64) (get_or ws (p / 64) 0) (get_or ws (p / 64 + 1) 0) i (omega arith) within ∙ ⊎_elim
       (λ (lt : p % 64 + i < 64).
       let q : p / 64 ≡ (p + i) / 64 = omega arith in
       let s : p % 64 + i ≡ (p + i) % 64 = omega arith in
-      straddle_first (p % 64) (get_or ws (p / 64) 0) (get_or ws (p / 64 + 1) 0) i (omega arith) within lt
-      ∙ (λ j. bit (get_or ws (q j) 0) (s j)))
+      rw (lt-leb 64 (p % 64 + i) lt) (or_false _ ∙ (λ j. bit (get_or ws (q j) 0) (s j))))
       (λ (ge : 64 ≤ p % 64 + i).
       let q : p / 64 + 1 ≡ (p + i) / 64 = omega arith in
       let s : p % 64 + i - 64 ≡ (p + i) % 64 = omega arith in
-      straddle_second (p % 64) (get_or ws (p / 64) 0) (get_or ws (p / 64 + 1) 0) i (omega arith) within (words (p / 64)) ge
-      ∙ (λ j. bit (get_or ws (q j) 0) (s j)))
+      rw (le-leb 64 (p % 64 + i) ge, bit_at_above (get_or ws (p / 64) 0) 64 (p % 64 + i) (words (p / 64)) ge) (λ j. bit (get_or ws (q j) 0) (s j)))
       (cases_lt (p % 64 + i) 64)
 
   pub window_fits : window ws p < 2 ^ 64
@@ -96,15 +76,7 @@ module _ (ws : List ℕ) (words : AreWords ws) (p : ℕ) where
 -- the bits of a first word that is moved up within its place
 pub bit-first : (ws : List ℕ) (shift i : ℕ) → i < 64 → shift < 64 → bit (get_or ws 0 0 * 2 ^ shift % 2 ^ 64) i ≡ (nat_le shift i && has_bit ws (i - shift))
 unfolding has_bit
-bit-first ws shift i within short = ⊎_elim
-    (λ (lt : i < shift). bit-up_low (get_or ws 0 0) shift i within lt ∙ sym (ap (λ b. b && bit (get_or ws ((i - shift) / 64) 0) ((i - shift) % 64)) (lt-leb shift i lt)))
-    (λ (ge : shift ≤ i).
-    let q : 0 ≡ (i - shift) / 64 = omega arith in
-    let r : i - shift ≡ (i - shift) % 64 = omega arith in
-    bit-up (get_or ws 0 0) shift i within ge
-    ∙ (λ j. bit (get_or ws (q j) 0) (r j))
-    ∙ sym (ap (λ b. b && bit (get_or ws ((i - shift) / 64) 0) ((i - shift) % 64)) (le-leb shift i ge)))
-    (cases_lt i shift)
+bit-first ws shift i within short = bit-up_any (get_or ws 0 0) shift i within ∙ (let q : 0 ≡ (i - shift) / 64 = omega arith in let r : i - shift ≡ (i - shift) % 64 = omega arith in λ j. nat_le shift i && bit (get_or ws (q j) 0) (r j))
 
 -- ---- the tests of moved rows
 

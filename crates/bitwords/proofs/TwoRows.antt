@@ -1,5 +1,5 @@
 -- Two rows of words, joined to the end of the longer: their bits, their ones, and whether all words are 0.
-use Rattle.std.proofs.Common.{◌≡◌, ℕ, zero, suc, ◌+◌, ◌*◌, ◌/◌, ◌%◌, ◌^◌, ◌<◌, ◌≤◌, lit<, max, Bool, true, false, ◌&&◌, List, [], ◌∷◌, ◌++◌, drop, length, get_or, sum_by, refl, sym, ap, ◌∙◌, arith}
+use Rattle.std.proofs.Common.{◌≡◌, ℕ, zero, suc, ◌+◌, ◌*◌, ◌/◌, ◌%◌, ◌^◌, ◌<◌, ◌≤◌, max, Bool, true, false, ◌&&◌, List, [], ◌∷◌, ◌++◌, drop, length, get_or, sum_by, refl, sym, ap, ◌∙◌, arith}
 use Rattle.std.specs.Bool.{if◌then◌else◌}
 use Rattle.std.specs.Int.Count.{ones}
 use Rattle.std.specs.List.{list_all}
@@ -43,12 +43,10 @@ sum_longest h f keep take xs ys =
     ∙ (let a = sum_if keep (drop (length ys) xs) in let b = sum_if take (drop (length xs) ys) in λ i. a i + b i))
   where
     sum_if : (b : Bool) (zs : List ℕ) → sum_by h (if b then zs else []) ≡ (if b then sum_by h zs else 0)
-    sum_if true zs = refl
-    sum_if false zs = refl
+    sum_if b zs = grind arith
 
 all_if : (p : ℕ → Bool) (b : Bool) (zs : List ℕ) → list_all p (if b then zs else []) ≡ (if b then list_all p zs else true)
-all_if p true zs = refl
-all_if p false zs = refl
+all_if p b zs = grind arith
 
 pub all_longest : (p : ℕ → Bool) (f : ℕ → ℕ → ℕ) (keep take : Bool) (xs ys : List ℕ) → list_all p (zip_longest f keep take xs ys) ≡ (list_all p (zip2 f xs ys) && ((if keep then list_all p (drop (length ys) xs) else true) && (if take then list_all p (drop (length xs) ys) else true)))
 all_longest p f keep take xs ys =
@@ -74,8 +72,7 @@ longest-le f false take (x ∷ xs) [] = omega arith
 longest-le f keep take (x ∷ xs) (y ∷ ys) = let e = longest-le f keep take xs ys in omega arith
 
 words_if : (b : Bool) (zs : List ℕ) → AreWords zs → (k : ℕ) → get_or (if b then zs else []) k 0 < 2 ^ 64
-words_if true zs words k = words k
-words_if false zs words k = lit< tt
+words_if b zs words k = grind arith
 
 module _ {f : ℕ → ℕ → ℕ} {t : Bool → Bool → Bool} {keep take : Bool} (law : IsWordOp f t keep take) where
   bit-longest : (xs ys : List ℕ) → AreWords xs → AreWords ys → (k i : ℕ) → bit (get_or (zip_longest f keep take xs ys) k 0) i ≡ t (bit (get_or xs k 0) i) (bit (get_or ys k 0) i)
