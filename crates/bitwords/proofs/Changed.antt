@@ -1,5 +1,5 @@
 -- Whether a position of a row changes where it is joined with another one.
-use Rattle.std.proofs.Common.{◌≡◌, ℕ, ◌*◌, ◌≤◌, Bool, true, false, true≢false, not, ◌&&◌, ◌==◌, ◌-◌, ◌⊎◌, inl, inr, take, List, drop, length, max, refl, sym, ap, ◌∙◌, arith, ⊎_elim}
+use Rattle.std.proofs.Common.{◌≡◌, ℕ, ◌*◌, ◌≤◌, Bool, true, false, not, ◌&&◌, ◌==◌, ◌-◌, ◌⊎◌, take, List, drop, length, max, sym, ap, ◌∙◌, arith}
 use Rattle.std.specs.Bool.{if◌then◌else◌}
 use Rattle.std.specs.List.{list_all}
 use Rattle.std.specs.Simd.Lanes.{zip2}
@@ -29,15 +29,14 @@ module _ {f : ℕ → ℕ → ℕ} {t : Bool → Bool → Bool} {keep also : Boo
   none_changed = count_below (bits_test (changes t) xs ys) (64 * max (length xs) (length ys)) == 0
 
   -- what only the second row has is taken only where there is nothing
-  none_taken : (b : Bool) → b ≡ also → (if b then all_zero (drop (length xs) ys) else true) ≡ true
-  none_taken true e = ap all_zero (drop_all (length xs) ys (shorter (sym e)))
-  none_taken false e = refl
+  none_taken : (if also then all_zero (drop (length xs) ys) else true) ≡ true
+  none_taken = grind (arith, drop_all)
 
   by_words : none_changed ≡ (same_both && (if not keep then all_zero (drop (length ys) xs) else true))
   by_words =
       sym (all-ones (zip_longest (changed_bits f) (not keep) also xs ys) ∙ ap (λ n. n == 0) (longest-ones (laws_of_changes law) xs ys words_xs words_ys))
       ∙ all_longest (λ w. w == 0) (changed_bits f) (not keep) also xs ys
-      ∙ ap (λ b. same_both && b) (ap (λ b. (if not keep then all_zero (drop (length ys) xs) else true) && b) (none_taken also refl) ∙ and-true _)
+      ∙ ap (λ b. same_both && b) (ap (λ b. (if not keep then all_zero (drop (length ys) xs) else true) && b) none_taken ∙ and-true _)
 
   -- where the rest is made 0
   pub changed-zeroed : (joined cleared : Bool) (new : List ℕ) → keep ≡ false → joined ≡ not same_both → new ≡ zip_longest f true false xs ys → cleared ≡ not (all_zero (take (length new - length ys) (drop (length ys) new))) → (if joined then true else cleared) ≡ not none_changed
@@ -46,11 +45,10 @@ module _ {f : ℕ → ℕ → ℕ} {t : Bool → Bool → Bool} {keep also : Boo
       ∙ either_fails same_both _
       ∙ ap not (ap (λ ws. same_both && all_zero ws) (rest_kept f xs ys) ∙ sym (by_words ∙ ap (λ b. same_both && (if not b then all_zero (drop (length ys) xs) else true)) gone))
 
-  rest_same : (b : Bool) → (((b ≡ false) × (length xs ≤ length ys)) ⊎ (b ≡ true)) → (if not b then all_zero (drop (length ys) xs) else true) ≡ true
-  rest_same true e = refl
-  rest_same false e = ap all_zero (drop_all (length ys) xs (⊎_elim (λ past. past.1) (λ kept. absurd (true≢false (sym kept))) e))
+  rest_same : ((keep ≡ false) × (length (zip_longest f true false xs ys) ≤ length ys)) ⊎ (keep ≡ true) → (if not keep then all_zero (drop (length ys) xs) else true) ≡ true
+  rest_same whole = grind (arith, drop_all, length-kept)
 
   -- where the rest stays, or there is none
   pub changed-kept : ((keep ≡ false) × (length (zip_longest f true false xs ys) ≤ length ys)) ⊎ (keep ≡ true) → not same_both ≡ not none_changed
   changed-kept whole =
-      ap not (sym (by_words ∙ ap (λ b. same_both && b) (rest_same keep (⊎_elim (λ e. inl (e.0, rw (length-kept f xs ys) at e.1)) (λ e. inr e) whole)) ∙ and-true same_both))
+      ap not (sym (by_words ∙ ap (λ b. same_both && b) (rest_same whole) ∙ and-true same_both))

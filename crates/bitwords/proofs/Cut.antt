@@ -1,12 +1,11 @@
 -- A row of words whose ends are cut at a position.
-use Rattle.std.proofs.Common.{◌≡◌, ℕ, ◌+◌, ◌-◌, ◌*◌, ◌<◌, ◌≤◌, Bool, true, ◌&&◌, nat_le, nat_lt, min, bit_and, List, [], ◌∷◌, ◌++◌, length, refl, sym, ap, ◌∙◌, arith, ⊎_elim}
-use Rattle.std.proofs.lemmas.Bool.{cases_lt, and_right}
+use Rattle.std.proofs.Common.{◌≡◌, ℕ, ◌+◌, ◌-◌, ◌*◌, ◌<◌, ◌≤◌, ◌&&◌, bit_and, List, [], ◌∷◌, ◌++◌, length, refl, sym, ap, ◌∙◌, arith, ⊎_elim}
+use Rattle.std.proofs.lemmas.Bool.{cases_lt}
 use Rattle.std.proofs.lemmas.Bool.Decides.{nat_tests}
 use Rattle.std.proofs.lemmas.List.{length-append}
 use Rattle.bitlanes.specs.Bits.{bit}
 use Rattle.bitlanes.specs.BitLaws.{bit-and}
 use Rattle.bitwords.specs.Rows.{has_bit, in_range}
-use Rattle.bitwords.specs.RowFacts.{before_range, past_range}
 use Rattle.bitwords.specs.Walk.{between_ends}
 use Rattle.bitwords.specs.WalkedWords.{ones_from}
 use Rattle.bitwords.specs.Ascending.{ascending}
@@ -14,25 +13,10 @@ use Rattle.bitwords.specs.AscendingFacts.{ascending-skip, ascending-cut}
 use Rattle.bitwords.proofs.RowEnds.{has_bit-first, has_bit-later, has_bit-before, has_bit-last}
 use Rattle.bitwords.proofs.Left.{length-row, length-between}
 
-and_true : (b c : Bool) → c ≡ true → b ≡ (b && c)
-and_true b c e = grind arith
-
--- below 64 the cut at 64 tells nothing
-pub least : (low i end : ℕ) → i < 64 → (nat_le low i && nat_lt i (min end 64)) ≡ in_range low end i
-least low i end small = grind (arith, nat_tests)
-
--- behind the first word, what a position of a later one is below
-pub shifted : (low i at end : ℕ) → low ≤ at → nat_lt i (end - at) ≡ in_range low end (at + i)
-shifted low i at end behind = grind (arith, nat_tests)
-
 module _ (ws ms : List ℕ) (f b at low end : ℕ) (middle : ms ≡ between_ends ws) (bits : (p : ℕ) → has_bit (f ∷ (ms ++ b ∷ [])) p ≡ has_bit ws p) (first : low ≤ 64) (order : low ≤ end) (long : end ≤ 64 * length ws) (last : 64 * length ws < end + 64)
     (first_mask last_mask : ℕ) (is_first : (i : ℕ) → i < 64 → bit first_mask i ≡ in_range low end i) (is_last : (i : ℕ) → bit last_mask i ≡ in_range low end (64 * (length ms + 1) + i)) where
   abbrev cut : List ℕ
   cut = bit_and f first_mask ∷ (ms ++ bit_and b last_mask ∷ [])
-
-  -- a position of the middle is in the range
-  inside : (p : ℕ) → 64 ≤ p → p < 64 * (length ms + 1) → in_range low end p ≡ true
-  inside p above below = let h : p < end = omega (arith, below, last, length-between ws, ap length middle) in grind (arith, nat_tests)
 
   has_bit-cut : (p : ℕ) → p < 64 * (length ms + 2) → has_bit cut p ≡ (has_bit ws p && in_range low end p)
   has_bit-cut p within =
@@ -45,7 +29,7 @@ module _ (ws ms : List ℕ) (f b at low end : ℕ) (middle : ms ≡ between_ends
       (λ (before : q < 64 * length ms).
       has_bit-later _ _ p q is ∙ has_bit-before ms _ q before
       ∙ sym (has_bit-before ms b q before) ∙ sym (has_bit-later f (ms ++ b ∷ []) p q is) ∙ bits p
-      ∙ and_true _ _ (inside p ge (omega arith)))
+      ∙ grind (arith, nat_tests, length-between ws, ap length middle))
       (λ (behind : 64 * length ms ≤ q).
       let j : ℕ = q - 64 * length ms in
       let place : q ≡ 64 * length ms + j = omega arith in
@@ -66,11 +50,8 @@ module _ (ws ms : List ℕ) (f b at low end : ℕ) (middle : ms ≡ between_ends
       let same : (i : ℕ) → at ≤ i → i < at + 64 * length cut → has_bit cut (i - at) ≡ (has_bit ws (i - at) && in_range low end (i - at)) = λ i above below. has_bit-cut (i - at) (omega (arith, above, below, row)) in
       ap (ascending (λ p. has_bit cut (p - at)) at) size
       ∙ ascending-skip _ (λ p. has_bit cut (p - at)) at low ((end - low) + rest)
-      (λ i above below. same i above (omega (arith, below, size)) ∙ and_right _ _ (before_range low end (i - at) (omega (arith, above, below))))
+      (λ i above below. same i above (omega (arith, below, size)) ∙ grind (arith, nat_tests))
       (λ i above below. refl)
       ∙ ascending-cut _ (λ p. has_bit ws (p - at)) (at + low) (end - low) rest
-      (λ i above below. same i (omega (arith, above)) (omega (arith, below, size)) ∙ sym (and_true _ _ (in_there (i - at) (omega (arith, above)) (omega (arith, above, below)))))
-      (λ i above below. same i (omega (arith, above)) (omega (arith, below, size)) ∙ and_right _ _ (past_range low end (i - at) (omega (arith, above))))
-    where
-      in_there : (p : ℕ) → low ≤ p → p < end → in_range low end p ≡ true
-      in_there p above below = grind (arith, nat_tests)
+      (λ i above below. same i (omega (arith, above)) (omega (arith, below, size)) ∙ grind (arith, nat_tests))
+      (λ i above below. same i (omega (arith, above)) (omega (arith, below, size)) ∙ grind (arith, nat_tests))

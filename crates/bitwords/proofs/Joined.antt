@@ -1,18 +1,12 @@
 -- Words joined with the positions of a range, part by part.
 use Rattle.std.proofs.Common.{◌≡◌, ◌≢◌, ℕ, ◌+◌, ◌*◌, ◌/◌, ◌%◌, ◌^◌, ◌<◌, ◌≤◌, Bool, true, false, ◌&&◌, nat_lt, List, length, get_or, set, refl, sym, ap, ◌∙◌, arith, ◌⊎◌, inl, inr, ⊎_elim}
-use Rattle.std.proofs.lemmas.Bool.{cases_lt, cases_eq, lt-ltb}
+use Rattle.std.proofs.lemmas.Bool.{cases_eq, lt-ltb}
 use Rattle.std.proofs.lemmas.Bool.Decides.{nat_tests}
 use Rattle.std.proofs.lemmas.List.{get_or-set_same, get_or-set_other, length-set}
 use Rattle.bitlanes.specs.Bits.{bit}
 use Rattle.bitlanes.specs.Ops.{IsWordOp}
 use Rattle.bitwords.specs.Rows.{has_bit, in_range, IsJoined}
-use Rattle.bitwords.specs.RowFacts.{AreWords, bit-zero, before_range, past_range}
-
-same_end : (start middle end p : ℕ) → p < middle → middle ≤ end → in_range start middle p ≡ in_range start end p
-same_end start middle end p h le = grind (arith, nat_tests)
-
-same_start : (start middle end p : ℕ) → middle ≤ p → start ≤ middle → in_range middle end p ≡ in_range start end p
-same_start start middle end p h le = grind (arith, nat_tests)
+use Rattle.bitwords.specs.RowFacts.{AreWords, bit-zero}
 
 -- ---- a row joined, word by word, with the positions that pass a test
 
@@ -77,13 +71,11 @@ module _ {f : ℕ → ℕ → ℕ} {t : Bool → Bool → Bool} {keep take : Boo
 
   -- two ranges, one behind the other, the one before first
   pub IsJoined-append : (mid new : List ℕ) (start middle end : ℕ) → start ≤ middle → middle ≤ end → IsJoined t old (in_range start middle) mid → IsJoined t mid (in_range middle end) new → IsJoined t old (in_range start end) new
-  IsJoined-append mid new start middle end p q = IsJoined-then mid new _ _ _
-      (λ n. ⊎_elim (λ (lt : n < middle). inr (before_range middle end n lt, same_end start middle end n lt q)) (λ (ge : middle ≤ n). inl (past_range start middle n ge, same_start start middle end n ge p)) (cases_lt n middle))
+  IsJoined-append mid new start middle end p q = IsJoined-then mid new _ _ _ (λ n. grind (arith, nat_tests))
 
   -- the same, the one behind first
   pub IsJoined-append_back : (mid new : List ℕ) (start middle end : ℕ) → start ≤ middle → middle ≤ end → IsJoined t old (in_range middle end) mid → IsJoined t mid (in_range start middle) new → IsJoined t old (in_range start end) new
-  IsJoined-append_back mid new start middle end p q = IsJoined-then mid new _ _ _
-      (λ n. ⊎_elim (λ (lt : n < middle). inl (before_range middle end n lt, same_end start middle end n lt q)) (λ (ge : middle ≤ n). inr (past_range start middle n ge, same_start start middle end n ge p)) (cases_lt n middle))
+  IsJoined-append_back mid new start middle end p q = IsJoined-then mid new _ _ _ (λ n. grind (arith, nat_tests))
 
   -- a range within word k, which is joined with the mask of the range
   pub IsJoined-word : AreWords old → (k mask start end : ℕ) → k < length old → mask < 2 ^ 64 → 64 * k ≤ start → end ≤ 64 * (k + 1) → ((i : ℕ) → bit mask i ≡ (nat_lt i 64 && in_range start end (64 * k + i))) → IsJoined t old (in_range start end) (set old k (f (get_or old k 0) mask))

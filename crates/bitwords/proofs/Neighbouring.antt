@@ -1,9 +1,9 @@
 -- The position next to a given one, found in its own word or in the first word behind it that has one.
-use Rattle.std.proofs.Common.{◌≡◌, ℕ, ◌+◌, ◌-◌, ◌*◌, ◌/◌, ◌%◌, ◌^◌, ◌<◌, ◌≤◌, Bool, true, false, ◌&&◌, ◌==◌, nat_lt, nat_le, List, length, get_or, map, Option, Some, None, refl, sym, ap, ◌∙◌, arith, ⊎_elim}
+use Rattle.std.proofs.Common.{◌≡◌, ℕ, ◌+◌, ◌-◌, ◌*◌, ◌/◌, ◌%◌, ◌^◌, ◌<◌, ◌≤◌, Bool, true, false, ◌&&◌, nat_lt, nat_le, List, length, get_or, map, Option, Some, None, refl, sym, ap, ◌∙◌, arith, ⊎_elim}
 use Rattle.std.specs.Prelude.{◌↔◌, IsTrue, IfSome, IfNone}
 use Rattle.std.specs.Int.{bit_at}
 use Rattle.std.specs.Option.{is_none}
-use Rattle.std.proofs.lemmas.Bool.{cases_lt, lt-ltb, le-leb, and_from, and_parts, ltb-true, leb-true, true≢false}
+use Rattle.std.proofs.lemmas.Bool.{cases_lt, true≢false}
 use Rattle.std.proofs.lemmas.Bool.Decides.{nat_tests}
 use Rattle.std.proofs.lemmas.List.{get_or-map, length-map}
 use Rattle.std.proofs.lemmas.Nat.Bits.{bit_at-zero}
@@ -34,11 +34,8 @@ module _ {f : ℕ → ℕ → ℕ} {t : Bool → Bool → Bool} {keep take_right
     clear_fails : (i : ℕ) → start ≤ i → i < end → bit_at word (i - 64 * k) ≡ 0 → passes i ≡ false
     clear_fails i after below clear =
         let at : 64 * k + (i - 64 * k) ≡ i = omega arith in
-        let bits = word-bits law drops ws words k mask start end fits masked (i - 64 * k) (omega arith) in
-        falls _ _ (and_from _ _ (le-leb start i after) (lt-ltb i end below)) (ap (λ p. in_range start end p && passes p) (sym at) ∙ sym bits ∙ ap (λ n. n == 1) clear)
-      where
-        falls : (r c : Bool) → r ≡ true → (r && c) ≡ false → c ≡ false
-        falls r c is none = grind arith
+        let bits = rw at at (word-bits law drops ws words k mask start end fits masked (i - 64 * k) (omega arith)) in
+        grind (arith, nat_tests, bits)
 
     -- where the word is 0, no position of the range passes
     none_in_word : word ≡ 0 → NonePasses passes start end
@@ -46,9 +43,7 @@ module _ {f : ℕ → ℕ → ℕ} {t : Bool → Bool → Bool} {keep take_right
 
     -- its bit j that is set is a position of the range that passes
     set_passes : (j : ℕ) → j < 64 → bit_at word j ≡ 1 → (start ≤ 64 * k + j) × ((64 * k + j < end) × (passes (64 * k + j) ≡ true))
-    set_passes j low set =
-        let both = and_parts _ _ (sym (word-bits law drops ws words k mask start end fits masked j low) ∙ ap (λ n. n == 1) set) in
-        (leb-true _ _ (and_parts _ _ both.0).0, (ltb-true _ _ (and_parts _ _ both.0).1, both.1))
+    set_passes j low set = grind (arith, nat_tests, word-bits law drops ws words k mask start end fits masked j low)
 
     -- its lowest bit is the first position of the range that passes
     lowest_next : (j : ℕ) → IsLowestBit word j → IsNext passes start end (64 * k + j)

@@ -5,7 +5,7 @@ use Rattle.std.specs.Int.Count.{ones}
 use Rattle.std.specs.List.{list_all}
 use Rattle.std.specs.Simd.Lanes.{zip2}
 use Rattle.std.proofs.Math.Seq.{drop-nil}
-use Rattle.std.proofs.lemmas.List.{append-nil}
+use Rattle.std.proofs.lemmas.List.{append-nil, length-append, length-drop}
 use Rattle.std.proofs.lemmas.List.Folds.{list_all-append}
 use Rattle.std.proofs.lemmas.List.Sums.{sum_by-append}
 use Rattle.bitlanes.specs.Bits.{bit}
@@ -15,6 +15,7 @@ use Rattle.bitwords.specs.Rows.{has_bit, count_below, bits_test}
 use Rattle.bitwords.specs.CountFacts.{count-same, count-shorter}
 use Rattle.bitwords.specs.RowFacts.{AreWords, bit-zero, has_bit-past}
 use Rattle.bitwords.proofs.Ones.{row-ones}
+use Rattle.bitwords.proofs.Written.{length-both}
 
 -- the joined words, and then the rest of the longer row
 zip_longest-parts : (f : ℕ → ℕ → ℕ) (keep take : Bool) (xs ys : List ℕ) → zip_longest f keep take xs ys ≡ zip2 f xs ys ++ ((if keep then drop (length ys) xs else []) ++ (if take then drop (length xs) ys else []))
@@ -35,26 +36,10 @@ zip_longest-like f keep take (x ∷ xs) (y ∷ ys) e = ap (λ t. f x y ∷ t) (z
 
 -- where the longer's rest is kept, its sum is added
 pub sum_longest : (h : ℕ → ℕ) (f : ℕ → ℕ → ℕ) (keep take : Bool) (xs ys : List ℕ) → sum_by h (zip_longest f keep take xs ys) ≡ sum_by h (zip2 f xs ys) + ((if keep then sum_by h (drop (length ys) xs) else 0) + (if take then sum_by h (drop (length xs) ys) else 0))
-sum_longest h f keep take xs ys =
-    ap (sum_by h) (zip_longest-parts f keep take xs ys)
-    ∙ sum_by-append h (zip2 f xs ys) _
-    ∙ ap (λ n. sum_by h (zip2 f xs ys) + n) (
-    sum_by-append h (if keep then drop (length ys) xs else []) _
-    ∙ (let a = sum_if keep (drop (length ys) xs) in let b = sum_if take (drop (length xs) ys) in λ i. a i + b i))
-  where
-    sum_if : (b : Bool) (zs : List ℕ) → sum_by h (if b then zs else []) ≡ (if b then sum_by h zs else 0)
-    sum_if b zs = grind arith
-
-all_if : (p : ℕ → Bool) (b : Bool) (zs : List ℕ) → list_all p (if b then zs else []) ≡ (if b then list_all p zs else true)
-all_if p b zs = grind arith
+sum_longest h f keep take xs ys = rw zip_longest-parts (grind (arith, sum_by-append))
 
 pub all_longest : (p : ℕ → Bool) (f : ℕ → ℕ → ℕ) (keep take : Bool) (xs ys : List ℕ) → list_all p (zip_longest f keep take xs ys) ≡ (list_all p (zip2 f xs ys) && ((if keep then list_all p (drop (length ys) xs) else true) && (if take then list_all p (drop (length xs) ys) else true)))
-all_longest p f keep take xs ys =
-    ap (list_all p) (zip_longest-parts f keep take xs ys)
-    ∙ list_all-append p (zip2 f xs ys) _
-    ∙ ap (λ b. list_all p (zip2 f xs ys) && b) (
-    list_all-append p (if keep then drop (length ys) xs else []) _
-    ∙ (let a = all_if p keep (drop (length ys) xs) in let b = all_if p take (drop (length xs) ys) in λ i. a i && b i))
+all_longest p f keep take xs ys = rw zip_longest-parts (grind (arith, list_all-append))
 
 -- rows of one length have no rest
 pub sum_like : (h : ℕ → ℕ) (f : ℕ → ℕ → ℕ) (keep take : Bool) (xs ys : List ℕ) → length xs ≡ length ys → sum_by h (zip_longest f keep take xs ys) ≡ sum_by h (zip2 f xs ys)
@@ -65,27 +50,19 @@ all_like p f keep take xs ys same = ap (list_all p) (zip_longest-like f keep tak
 
 -- no longer than the longer row
 longest-le : (f : ℕ → ℕ → ℕ) (keep take : Bool) (xs ys : List ℕ) → length (zip_longest f keep take xs ys) ≤ max (length xs) (length ys)
-longest-le f keep true [] ys = omega arith
-longest-le f keep false [] ys = omega arith
-longest-le f true take (x ∷ xs) [] = omega arith
-longest-le f false take (x ∷ xs) [] = omega arith
-longest-le f keep take (x ∷ xs) (y ∷ ys) = let e = longest-le f keep take xs ys in omega arith
+longest-le f keep take xs ys = rw zip_longest-parts (grind (arith, length-append, length-drop, length-both))
 
 words_if : (b : Bool) (zs : List ℕ) → AreWords zs → (k : ℕ) → get_or (if b then zs else []) k 0 < 2 ^ 64
 words_if b zs words k = grind arith
 
+bit-if : (b : Bool) (zs : List ℕ) (k i : ℕ) → bit (get_or (if b then zs else []) k 0) i ≡ (b && bit (get_or zs k 0) i)
+bit-if true zs k i = refl
+bit-if false zs k i = bit-zero i
+
 module _ {f : ℕ → ℕ → ℕ} {t : Bool → Bool → Bool} {keep take : Bool} (law : IsWordOp f t keep take) where
   bit-longest : (xs ys : List ℕ) → AreWords xs → AreWords ys → (k i : ℕ) → bit (get_or (zip_longest f keep take xs ys) k 0) i ≡ t (bit (get_or xs k 0) i) (bit (get_or ys k 0) i)
-  bit-longest [] ys p q k i = second take refl ∙ sym (ap (λ b. t b (bit (get_or ys k 0) i)) (bit-zero i) ∙ law.of_second _)
-    where
-      second : (b : Bool) → b ≡ take → bit (get_or (if b then ys else []) k 0) i ≡ (b && bit (get_or ys k 0) i)
-      second true e = refl
-      second false e = bit-zero i
-  bit-longest (x ∷ xs) [] p q k i = first keep ∙ sym (ap (t (bit (get_or (x ∷ xs) k 0) i)) (bit-zero i) ∙ law.of_first _)
-    where
-      first : (b : Bool) → bit (get_or (if b then x ∷ xs else []) k 0) i ≡ (b && bit (get_or (x ∷ xs) k 0) i)
-      first true = refl
-      first false = bit-zero i
+  bit-longest [] ys p q k i = bit-if take ys k i ∙ sym (ap (λ b. t b (bit (get_or ys k 0) i)) (bit-zero i) ∙ law.of_second _)
+  bit-longest (x ∷ xs) [] p q k i = bit-if keep (x ∷ xs) k i ∙ sym (ap (t (bit (get_or (x ∷ xs) k 0) i)) (bit-zero i) ∙ law.of_first _)
   bit-longest (x ∷ xs) (y ∷ ys) p q zero i = law.by_bits x y i (p 0) (q 0)
   bit-longest (x ∷ xs) (y ∷ ys) p q (suc k) i = bit-longest xs ys (λ j. p (suc j)) (λ j. q (suc j)) k i
 
