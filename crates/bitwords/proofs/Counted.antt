@@ -1,7 +1,7 @@
 -- The positions of a range that pass, counted part by part.
-use Rattle.std.proofs.Common.{◌≡◌, ℕ, zero, suc, ◌+◌, ◌-◌, ◌*◌, ◌/◌, ◌%◌, ◌^◌, ◌<◌, ◌≤◌, Bool, true, false, ◌&&◌, ◌==◌, nat_lt, List, ◌∷◌, length, get_or, take, drop, map, sum_by, refl, sym, ap, ◌∙◌, arith, ⊎_elim}
+use Rattle.std.proofs.Common.{◌≡◌, ℕ, zero, suc, ◌+◌, ◌-◌, ◌*◌, ◌/◌, ◌%◌, ◌^◌, ◌<◌, ◌≤◌, Bool, true, false, ◌&&◌, ◌==◌, nat_lt, List, length, get_or, take, drop, map, sum_by, refl, sym, ap, ◌∙◌, arith, ⊎_elim}
 use Rattle.std.specs.Int.Count.{ones}
-use Rattle.std.proofs.Math.Seq.{drop-cons}
+use Rattle.std.proofs.lemmas.List.{drop_more}
 use Rattle.std.proofs.lemmas.Bool.{lt-ltb}
 use Rattle.std.proofs.lemmas.Bool.Decides.{nat_tests}
 use Rattle.std.proofs.lemmas.List.Sums.{sum_by-cons}
@@ -58,11 +58,9 @@ module _ {f : ℕ → ℕ → ℕ} {t : Bool → Bool → Bool} {keep take_right
   count-wholes zero k h = let e : k + 0 ≡ k = omega arith in omega (arith, ap (λ j. count_below (bit_test (t true) ws) (64 * j)) e)
   count-wholes (suc n) k h =
       let e : k + suc n ≡ k + 1 + n = omega arith in
-      let s : suc k ≡ k + 1 = omega arith in
-      let first : drop k ws ≡ get_or ws k 0 ∷ drop (k + 1) ws = drop-cons ws k 0 (omega arith) ∙ ap (λ j. get_or ws k 0 ∷ drop j ws) s in
       omega (
         arith,
-        ap (λ xs. sum_by ones (map (f (2 ^ 64 - 1)) (take (suc n) xs))) first,
+        ap (λ xs. sum_by ones (map (f (2 ^ 64 - 1)) (take (suc n) xs))) (drop_more ws k 0 (omega arith)),
         sum_by-cons ones (f (2 ^ 64 - 1) (get_or ws k 0)) (map (f (2 ^ 64 - 1)) (take n (drop (k + 1) ws))),
         count-whole k,
         count-wholes n (k + 1) (omega arith),

@@ -60,13 +60,7 @@ module _ {f : ℕ → ℕ → ℕ} {t : Bool → Bool → Bool} {keep take : Boo
   IsJoined-then : (mid new : List ℕ) (r s u : ℕ → Bool) → ((n : ℕ) → ((r n ≡ false) × (s n ≡ u n)) ⊎ ((s n ≡ false) × (r n ≡ u n))) → IsJoined t old r mid → IsJoined t mid s new → IsJoined t old u new
   IsJoined-then mid new r s u apart first second = record {
     long = second.long ∙ first.long;
-    bits = λ n h.
-        second.bits n (let e = first.long in omega arith)
-        ∙ ap (λ x. t x (s n)) (first.bits n h)
-        ∙ ⊎_elim
-        (λ (by_second : (r n ≡ false) × (s n ≡ u n)). ap (λ x. t x (s n)) (stays _ _ by_second.0) ∙ ap (t (has_bit old n)) by_second.1)
-        (λ (by_first : (s n ≡ false) × (r n ≡ u n)). stays _ _ by_first.0 ∙ ap (t (has_bit old n)) by_first.1)
-        (apart n);
+    bits = λ n h. grind (arith, stays, first, second, apart n);
   }
 
   -- two ranges, one behind the other, the one before first

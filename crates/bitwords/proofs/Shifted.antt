@@ -81,15 +81,6 @@ bit-first ws shift i within short = bit-up_any (get_or ws 0 0) shift i within �
 -- ---- the tests of moved rows
 
 module _ (ws : List ℕ) (words : AreWords ws) where
-  -- what stands `from` above
-  pub takes_down : (f : ℕ → ℕ → ℕ) (old new : List ℕ) (from k : ℕ) → get_or new k 0 ≡ f (get_or old k 0) (window ws (from + 64 * k)) → TakesWord f old (λ p. has_bit ws (from + p)) new k
-  takes_down f old new from k joined = record {
-    word = window ws (from + 64 * k);
-    fits = window_fits ws words (from + 64 * k);
-    joined = joined;
-    bits = λ i h. bit-window ws words (from + 64 * k) i h ∙ (let e : from + 64 * k + i ≡ from + (64 * k + i) = omega arith in ap (has_bit ws) e);
-  }
-
   -- what stands `by` below
   pub takes_up : (f : ℕ → ℕ → ℕ) (old new : List ℕ) (by k : ℕ) → by ≤ 64 * k → get_or new k 0 ≡ f (get_or old k 0) (window ws (64 * k - by)) → TakesWord f old (λ p. nat_le by p && has_bit ws (p - by)) new k
   takes_up f old new by k within joined = record {
@@ -115,6 +106,20 @@ module _ (ws : List ℕ) (words : AreWords ws) where
         let same : nat_le (by % 64) i ≡ nat_le by (64 * (by / 64) + i) = grind (arith, nat_tests) in
         λ j. same j && has_bit ws (e j));
   }
+
+-- each word takes in what stands `from` above, or rests where nothing does
+pub IsJoined_down : {f : ℕ → ℕ → ℕ} {t : Bool → Bool → Bool} {keep take : Bool} → IsWordOp f t keep take → (ws old : List ℕ) → AreWords ws → AreWords old → (new : List ℕ) → length new ≡ length old → (from : ℕ)
+    → ((k : ℕ) → k < length old → k + from / 64 < length ws → get_or new k 0 ≡ f (get_or old k 0) (window ws (from + 64 * k)))
+    → ((k : ℕ) → k < length old → length ws ≤ k + from / 64 → Rests keep old new k) → IsJoined t old (λ p. has_bit ws (from + p)) new
+IsJoined_down law ws old words words_old new long from joined rest = IsJoined_words law old words_old _ new long (λ k within. ⊎_elim
+    (λ (some : k + from / 64 < length ws). inl (record {
+      word = window ws (from + 64 * k);
+      fits = window_fits ws words (from + 64 * k);
+      joined = joined k within some;
+      bits = λ i h. bit-window ws words (from + 64 * k) i h ∙ (let e : from + 64 * k + i ≡ from + (64 * k + i) = omega arith in ap (has_bit ws) e);
+    }))
+    (λ (past : length ws ≤ k + from / 64). inr (record { none = λ i h. has_bit-past ws _ (omega arith); left = rest k within past }))
+    (cases_lt (k + from / 64) (length ws)))
 
 -- no word of it has so many positions below it
 pub leaves_up : (ws : List ℕ) (keep : Bool) (old new : List ℕ) (by k : ℕ) → 64 * (k + 1) ≤ by → Rests keep old new k → LeavesWord keep old (λ p. nat_le by p && has_bit ws (p - by)) new k

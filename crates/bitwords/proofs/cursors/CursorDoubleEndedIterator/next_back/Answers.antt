@@ -6,9 +6,8 @@ use Rattle.bitwords.proofs.cursors.CursorDoubleEndedIterator.next_back.Goals as 
 
 pub returns-then-self-ne0-clause-steps : goal.returns-then-self-ne0-clause-steps
 returns-then-self-ne0-clause-steps g c =
-    let before = c.loop-self.invariant in
-    let call = c.take_highest_bit.ensures in (
-      left_highest _ _ _ _ _ before.same _ _ _ (before.spaced.apart (omega (arith, c.if-self-ne0.true))) call.highest call.clears,
+    let before = c.loop-self.invariant in (
+      left_highest _ _ _ _ _ before.same _ _ _ (before.spaced.apart (omega (arith, c.if-self-ne0.true))) c.take_highest_bit.ensures.highest c.take_highest_bit.ensures.clears,
       record { words = before.words; back = before.back; counts = record { taken = before.taken; turns = omega (arith, before.turns) } },
     )
 
@@ -46,9 +45,8 @@ pub returns-in-None-clause-steps : goal.returns-in-None-clause-steps
 returns-in-None-clause-steps g c =
     let before = c.loop-self.invariant in
     let none = c.in-None.ensures in
-    let same = left_kept _ _ _ _ _ _ none.0 none.1 before.same in
-    let call = c.take_highest_bit-in-None.ensures in (
-      left_highest_of_front _ _ _ _ _ same _ _ c.if-self-ne0.false none.1 call.highest call.clears,
+    let same = left_kept _ _ _ _ _ _ none.0 none.1 before.same in (
+      left_highest_of_front _ _ _ _ _ same _ _ c.if-self-ne0.false none.1 c.take_highest_bit-in-None.ensures.highest c.take_highest_bit-in-None.ensures.clears,
       record { words = before.words; back = before.back ∙ ap (λ xs. xs ++ before.words) (none.0 ∙ sym none.1); counts = record { taken = before.taken; turns = omega (arith, before.turns) } },
     )
 
