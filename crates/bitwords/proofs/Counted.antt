@@ -35,13 +35,11 @@ module _ {f : ℕ → ℕ → ℕ} {t : Bool → Bool → Bool} {keep take_right
   count-word k mask start end fits from order to masked =
       let c : ℕ → Bool = bit_test (t true) ws in
       let d : ℕ → Bool = λ p. in_range start end p && c p in
-      let x : ℕ = f mask (get_or ws k 0) in
-      let bits : (i : ℕ) → i < 64 → bit x i ≡ d (64 * k + i) = word-bits k mask start end fits masked in
       let whole : 64 * (k + 1) ≡ 64 * k + 64 = omega arith in
       omega (
         arith,
-        ones-bits 64 x (law.fits mask (get_or ws k 0) fits (words k)),
-        count-same (bit x) (λ i. d (64 * k + i)) 64 bits,
+        ones-bits 64 (f mask (get_or ws k 0)) (law.fits mask (get_or ws k 0) fits (words k)),
+        count-same _ (λ i. d (64 * k + i)) 64 (word-bits k mask start end fits masked),
         ap (count_below d) whole,
         count-append d (64 * k) 64,
         count-none d (64 * k) (λ p h. ap (λ b. b && c p) (before_range start end p (omega arith))),

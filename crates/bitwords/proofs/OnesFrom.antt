@@ -8,7 +8,7 @@ use Rattle.bitwords.specs.RowFacts.{has_bit-past}
 use Rattle.bitwords.specs.WalkedWords.{ones_from}
 use Rattle.bitwords.specs.Ascending.{ascending}
 use Rattle.bitwords.specs.AscendingFacts.{ascending-same, ascending-skip, ascending-cut, ascending-first, ascending-last, length-ascending}
-use Rattle.bitwords.proofs.RowEnds.{has_bit-first, has_bit-later, has_bit-last, has_bit-drop_last, has_bit-other, has_bit-other_last}
+use Rattle.bitwords.proofs.RowEnds.{has_bit-first, has_bit-later, has_bit-last, has_bit-drop_last, has_bit-other}
 
 -- an empty word in front adds nothing
 pub ones_from-skip : (start : ℕ) (words : List ℕ) → ones_from start (0 ∷ words) ≡ ones_from (start + 64) words
@@ -45,7 +45,7 @@ ones_from-first start old new k words is clears =
       to = omega (arith, is.within);
       passes = ap (has_bit (old ∷ words)) here ∙ has_bit-first old words k is.within ∙ ap (λ b. b == 1) is.set;
       gone = ap (has_bit (new ∷ words)) here ∙ has_bit-first new words k is.within ∙ ap (λ b. b == 1) clears.clear;
-      others = λ i above below other. has_bit-other old new k words (i - start) clears (omega arith);
+      others = λ i above below other. has_bit-other [] words old new k (i - start) clears (omega arith);
     })
     (λ i above below. has_bit-first old words (i - start) (omega (arith, is.within)) ∙ ap (λ b. b == 1) (is.lowest (i - start) (omega arith)))
 
@@ -64,7 +64,7 @@ ones_from-last start end old new k words ends is clears =
       to = omega (arith, ends, is.within);
       passes = has_bit-last words old _ k here is.within ∙ ap (λ b. b == 1) is.set;
       gone = has_bit-last words new _ k here is.within ∙ ap (λ b. b == 1) clears.clear;
-      others = λ i above below other. has_bit-other_last words old new k (i - start) clears (omega arith) (omega (arith, ends));
+      others = λ i above below other. has_bit-other words [] old new k (i - start) clears (omega (arith, ends));
     })
     (λ i above below. let j : ℕ = i - end in has_bit-last words old (i - start) j (omega (arith, ends)) (omega (arith, ends)) ∙ ap (λ b. b == 1) (is.highest j (omega arith)))
     ∙ ap (λ n. ascending (λ p. has_bit (words ++ new ∷ []) (p - start)) start n ++ (end + k) ∷ []) (sym also)

@@ -1,8 +1,9 @@
 -- The bits of a row of words, seen from its first word and from its last.
-use Rattle.std.proofs.Common.{◌≡◌, ◌≢◌, ℕ, suc, ◌+◌, ◌-◌, ◌*◌, ◌/◌, ◌%◌, ◌<◌, ◌≤◌, ◌==◌, List, [], ◌∷◌, ◌++◌, length, sym, ap, ◌∙◌, arith, ⊎_elim}
+use Rattle.std.proofs.Common.{◌≡◌, ◌≢◌, ℕ, suc, ◌+◌, ◌-◌, ◌*◌, ◌/◌, ◌%◌, ◌<◌, ◌==◌, List, get_or, [], ◌∷◌, ◌++◌, length, ap, ◌∙◌, arith, ⊎_elim}
 use Rattle.std.specs.Int.{bit_at}
-use Rattle.std.proofs.lemmas.Bool.{cases_lt}
-use Rattle.std.proofs.lemmas.List.{length-append, get_or_append_left, get_or_push, get_or_past}
+use Rattle.std.proofs.lemmas.Bool.{cases_eq}
+use Rattle.std.proofs.lemmas.Grind.{elements}
+use Rattle.std.proofs.lemmas.List.{length-append, get_or_append_left, get_or_at, get_or_push, get_or_past}
 use Rattle.bitlanes.specs.Word.{ClearsBit}
 use Rattle.bitwords.specs.Rows.{has_bit}
 use Rattle.bitwords.specs.RowFacts.{has_bit-same}
@@ -29,24 +30,15 @@ has_bit-before words word i below = ap (λ w. bit_at w (i % 64) == 1) (get_or_ap
 
 -- an empty word at the end has no position
 pub has_bit-drop_last : (words : List ℕ) (i : ℕ) → has_bit (words ++ 0 ∷ []) i ≡ has_bit words i
-has_bit-drop_last words = has_bit-same _ words (λ k. grind (arith, get_or_append_left, get_or_push, get_or_past, length-append))
+has_bit-drop_last words = has_bit-same _ words (λ k. grind (arith, get_or_append_left, get_or_at, get_or_push, get_or_past, length-append))
 
--- a bit of the first word is cleared, and each other position stays
-pub has_bit-other : (old new k : ℕ) (words : List ℕ) (i : ℕ) → ClearsBit old new k → i ≢ k → has_bit (new ∷ words) i ≡ has_bit (old ∷ words) i
-has_bit-other old new k words i clears other =
-    ⊎_elim
-    (λ (lt : i < 64). has_bit-first new words i lt ∙ ap (λ b. b == 1) (clears.others i lt other) ∙ sym (has_bit-first old words i lt))
-    (λ (ge : 64 ≤ i). has_bit-later new words i (i - 64) (omega arith) ∙ sym (has_bit-later old words i (i - 64) (omega arith)))
-    (cases_lt i 64)
-
--- the same of the last word
-pub has_bit-other_last : (words : List ℕ) (old new k i : ℕ) → ClearsBit old new k → i < 64 * length words + 64 → i ≢ 64 * length words + k → has_bit (words ++ new ∷ []) i ≡ has_bit (words ++ old ∷ []) i
-has_bit-other_last words old new k i clears within other =
-    ⊎_elim
-    (λ (lt : i < 64 * length words). has_bit-before words new i lt ∙ sym (has_bit-before words old i lt))
-    (λ (ge : 64 * length words ≤ i).
-    let j : ℕ = i - 64 * length words in
-    has_bit-last words new i j (omega arith) (omega arith)
-    ∙ ap (λ b. b == 1) (clears.others j (omega arith) (omega arith))
-    ∙ sym (has_bit-last words old i j (omega arith) (omega arith)))
-    (cases_lt i (64 * length words))
+-- a bit of a word is cleared, and each other position stays
+pub has_bit-other : (before after : List ℕ) (old new k i : ℕ) → ClearsBit old new k → i ≢ 64 * length before + k → has_bit (before ++ new ∷ after) i ≡ has_bit (before ++ old ∷ after) i
+unfolding has_bit
+has_bit-other before after old new k i clears other = ⊎_elim
+    (λ (here : length before ≡ i / 64). rw (get_or_at before new after 0 (i / 64) here, get_or_at before old after 0 (i / 64) here) (ap (λ b. b == 1) (clears.others (i % 64) (omega arith) (omega arith))))
+    (λ apart. ap (λ w. bit_at w (i % 64) == 1) (same (i / 64) apart))
+    (cases_eq (length before) (i / 64))
+  where
+    same : (j : ℕ) → (length before ≡ j → ⊥) → get_or (before ++ new ∷ after) j 0 ≡ get_or (before ++ old ∷ after) j 0
+    same j apart = grind (arith, elements)

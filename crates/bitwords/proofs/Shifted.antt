@@ -157,17 +157,14 @@ module _ {f : ℕ → ℕ → ℕ} {t : Bool → Bool → Bool} {keep take_right
       (cases_lt k at))
 
 -- a row that was moved up: word by word
-pub moved_up : (old : List ℕ) → AreWords old → (f : ℕ → ℕ → ℕ) (new : List ℕ) (keep : Bool) (by : ℕ)
+pub IsJoined_moved_up : {f : ℕ → ℕ → ℕ} {t : Bool → Bool → Bool} {keep take : Bool} → IsWordOp f t keep take → (old : List ℕ) → AreWords old → (new : List ℕ) → length new ≡ length old → (by : ℕ)
     → ((k : ℕ) → k < length old → by ≤ 64 * k → get_or new k 0 ≡ f (get_or old k 0) (window old (64 * k - by)))
     → (by / 64 < length old → 0 < by % 64 → get_or new (by / 64) 0 ≡ f (get_or old (by / 64) 0) (get_or old 0 0 * 2 ^ (by % 64) % 2 ^ 64))
-    → ((k : ℕ) → k < length old → 64 * (k + 1) ≤ by → Rests keep old new k)
-    → (k : ℕ) → k < length old → TakesWord f old (λ p. nat_le by p && has_bit old (p - by)) new k ⊎ LeavesWord keep old (λ p. nat_le by p && has_bit old (p - by)) new k
-moved_up old words f new keep by joined first rest k within = ⊎_elim
+    → ((k : ℕ) → k < length old → 64 * (k + 1) ≤ by → Rests keep old new k) → IsJoined t old (λ p. nat_le by p && has_bit old (p - by)) new
+IsJoined_moved_up {f} {t} {keep} law old words new long by joined first rest = IsJoined_words law old words _ new long (λ k within. ⊎_elim
     (λ (lt : 64 * k < by). ⊎_elim
     (λ (below : 64 * (k + 1) < by + 1). inr (leaves_up old keep old new by k (omega arith) (rest k within (omega arith))))
-    (λ (some : by + 1 ≤ 64 * (k + 1)).
-    let here : k ≡ by / 64 = omega arith in
-    rw here (inl (takes_first old words f old new by (first (omega arith) (omega arith)))))
+    (λ (some : by + 1 ≤ 64 * (k + 1)). let here : k ≡ by / 64 = omega arith in rw here (inl (takes_first old words f old new by (first (omega arith) (omega arith)))))
     (cases_lt (64 * (k + 1)) (by + 1)))
     (λ (ge : by ≤ 64 * k). inl (takes_up old words f old new by k ge (joined k within ge)))
-    (cases_lt (64 * k) by)
+    (cases_lt (64 * k) by))

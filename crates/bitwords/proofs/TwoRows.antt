@@ -5,7 +5,7 @@ use Rattle.std.specs.Int.Count.{ones}
 use Rattle.std.specs.List.{list_all}
 use Rattle.std.specs.Simd.Lanes.{zip2}
 use Rattle.std.proofs.Math.Seq.{drop-nil}
-use Rattle.std.proofs.lemmas.List.{append-nil, length-append, length-drop}
+use Rattle.std.proofs.lemmas.List.{append-nil, drop_all, length-append, length-drop}
 use Rattle.std.proofs.lemmas.List.Folds.{list_all-append}
 use Rattle.std.proofs.lemmas.List.Sums.{sum_by-append}
 use Rattle.bitlanes.specs.Bits.{bit}
@@ -19,20 +19,12 @@ use Rattle.bitwords.proofs.Written.{length-both}
 
 -- the joined words, and then the rest of the longer row
 zip_longest-parts : (f : ℕ → ℕ → ℕ) (keep take : Bool) (xs ys : List ℕ) → zip_longest f keep take xs ys ≡ zip2 f xs ys ++ ((if keep then drop (length ys) xs else []) ++ (if take then drop (length xs) ys else []))
-zip_longest-parts f true take [] ys = sym (ap (λ t. t ++ (if take then ys else [])) (drop-nil (length ys)))
-zip_longest-parts f false take [] ys = refl
-zip_longest-parts f true true (x ∷ xs) [] = sym (append-nil (x ∷ xs))
-zip_longest-parts f true false (x ∷ xs) [] = sym (append-nil (x ∷ xs))
-zip_longest-parts f false true (x ∷ xs) [] = refl
-zip_longest-parts f false false (x ∷ xs) [] = refl
+zip_longest-parts f keep take [] ys = rw drop-nil (grind arith)
+zip_longest-parts f keep take (x ∷ xs) [] = grind (arith, append-nil)
 zip_longest-parts f keep take (x ∷ xs) (y ∷ ys) = ap (λ t. f x y ∷ t) (zip_longest-parts f keep take xs ys)
 
 zip_longest-like : (f : ℕ → ℕ → ℕ) (keep take : Bool) (xs ys : List ℕ) → length xs ≡ length ys → zip_longest f keep take xs ys ≡ zip2 f xs ys
-zip_longest-like f keep true [] [] e = refl
-zip_longest-like f keep false [] [] e = refl
-zip_longest-like f keep take [] (y ∷ ys) e = absurd (omega arith)
-zip_longest-like f keep take (x ∷ xs) [] e = absurd (omega arith)
-zip_longest-like f keep take (x ∷ xs) (y ∷ ys) e = ap (λ t. f x y ∷ t) (zip_longest-like f keep take xs ys (omega arith))
+zip_longest-like f keep take xs ys e = rw zip_longest-parts (grind (arith, drop_all, append-nil))
 
 -- where the longer's rest is kept, its sum is added
 pub sum_longest : (h : ℕ → ℕ) (f : ℕ → ℕ → ℕ) (keep take : Bool) (xs ys : List ℕ) → sum_by h (zip_longest f keep take xs ys) ≡ sum_by h (zip2 f xs ys) + ((if keep then sum_by h (drop (length ys) xs) else 0) + (if take then sum_by h (drop (length xs) ys) else 0))

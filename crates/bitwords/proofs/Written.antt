@@ -3,7 +3,7 @@ use Rattle.std.proofs.Common.{◌≡◌, ℕ, zero, suc, ◌-◌, ◌<◌, ◌�
 use Rattle.std.specs.List.{zip}
 use Rattle.std.specs.Simd.Lanes.{zip2}
 use Rattle.std.proofs.Math.Seq.{drop-nil}
-use Rattle.std.proofs.lemmas.List.{drop_all, take_all, take_at, length-append, length-drop, get_or_append_left, get_or-append_right, get_or_past, get_or-drop}
+use Rattle.std.proofs.lemmas.List.{drop-append-le, drop_all, take_all, take_at, length-append, length-drop, get_or_append_left, get_or-append_right, get_or_past, get_or-drop}
 use Rattle.std.proofs.lemmas.Simd.{get_or-zip2}
 use Rattle.std.specs.Result.{OnOk, is_ok}
 use Rattle.bitlanes.specs.Words.{zip_longest}
@@ -38,10 +38,7 @@ get_or-kept_past f xs ys k p = rw (← with_rest f xs ys) (grind (arith, get_or-
 
 -- the rest is as it was
 pub rest_kept : (f : ℕ → ℕ → ℕ) (xs ys : List ℕ) → drop (length ys) (zip_longest f true false xs ys) ≡ drop (length ys) xs
-rest_kept f [] [] = refl
-rest_kept f [] (y ∷ ys) = refl
-rest_kept f (x ∷ xs) [] = refl
-rest_kept f (x ∷ xs) (y ∷ ys) = rest_kept f xs ys
+rest_kept f xs ys = rw (← with_rest f xs ys) (grind (arith, drop-append-le, drop_all, length-both, length-append, length-drop))
 
 pub kept_first : (f : ℕ → ℕ → ℕ) (xs ys : List ℕ) → length ys ≤ length xs → take (length ys) (zip_longest f true false xs ys) ≡ zip2 f xs ys
 kept_first f xs ys p = rw (← with_rest f xs ys) (take_at (zip2 f xs ys) _ (length ys) (length-both f xs ys ∙ omega arith))
