@@ -1,8 +1,7 @@
 -- The positions of a range that pass, counted part by part.
-use Rattle.std.proofs.Common.{◌≡◌, ℕ, zero, suc, ◌+◌, ◌-◌, ◌*◌, ◌/◌, ◌%◌, ◌^◌, ◌<◌, ◌≤◌, Bool, true, false, ◌&&◌, ◌==◌, nat_lt, List, length, get_or, take, drop, map, sum_by, refl, sym, ap, ◌∙◌, arith, ⊎_elim}
+use Rattle.std.proofs.Common.{◌≡◌, ℕ, zero, suc, ◌+◌, ◌-◌, ◌*◌, ◌/◌, ◌%◌, ◌^◌, ◌<◌, ◌≤◌, Bool, true, false, ◌&&◌, ◌==◌, nat_lt, List, length, get_or, take, drop, map, sum_by, refl, ap, ◌∙◌, arith, ⊎_elim}
 use Rattle.std.specs.Int.Count.{ones}
 use Rattle.std.proofs.lemmas.List.{drop_more}
-use Rattle.std.proofs.lemmas.Bool.{lt-ltb}
 use Rattle.std.proofs.lemmas.Bool.Decides.{nat_tests}
 use Rattle.std.proofs.lemmas.List.Sums.{sum_by-cons}
 use Rattle.bitlanes.specs.Bits.{bit}
@@ -24,10 +23,7 @@ module _ {f : ℕ → ℕ → ℕ} {t : Bool → Bool → Bool} {keep take_right
   pub word-bits : (k mask start end : ℕ) → mask < 2 ^ 64 → ((i : ℕ) → bit mask i ≡ (nat_lt i 64 && in_range start end (64 * k + i)))
       → (i : ℕ) → i < 64 → bit (f mask (get_or ws k 0)) i ≡ (in_range start end (64 * k + i) && bit_test (t true) ws (64 * k + i))
   unfolding bit_test
-  word-bits k mask start end fits masked i h =
-      law.by_bits mask (get_or ws k 0) i fits (words k)
-      ∙ (let a : bit mask i ≡ in_range start end (64 * k + i) = masked i ∙ ap (λ b. b && in_range start end (64 * k + i)) (lt-ltb i 64 h) in let b = sym (has_bit-at ws k i h) in λ j. t (a j) (b j))
-      ∙ tested _ _
+  word-bits k mask start end fits masked i h = grind (arith, nat_tests, law.by_bits mask (get_or ws k 0) i fits (words k), masked i, has_bit-at ws k i h, tested)
 
   -- of a range within word k, which is joined with the mask of the range
   pub count-word : (k mask start end : ℕ) → mask < 2 ^ 64 → 64 * k ≤ start → start ≤ end → end ≤ 64 * (k + 1) → ((i : ℕ) → bit mask i ≡ (nat_lt i 64 && in_range start end (64 * k + i)))

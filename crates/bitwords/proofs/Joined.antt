@@ -52,9 +52,9 @@ module _ {f : ℕ → ℕ → ℕ} {t : Bool → Bool → Bool} {keep take : Boo
   stays : (x r : Bool) → r ≡ false → t x r ≡ x
   stays x r out = ap (t x) out ∙ law.of_first x ∙ ap (λ b. b && x) keeps
 
-  -- where the range is empty nothing changes
-  pub IsJoined-none : (start end : ℕ) → end ≤ start → IsJoined t old (in_range start end) old
-  IsJoined-none start end none = record { long = refl; bits = λ p _. sym (stays (has_bit old p) _ (let out : in_range start end p ≡ false = grind (arith, nat_tests) in out)) }
+  -- where no position passes nothing changes
+  pub IsJoined-none : (test : ℕ → Bool) → ((p : ℕ) → p < 64 * length old → test p ≡ false) → IsJoined t old test old
+  IsJoined-none test none = record { long = refl; bits = λ p h. sym (stays (has_bit old p) _ (none p h)) }
 
   -- joined with one test and then with another: at each position one of the two fails, and the other says what u says
   IsJoined-then : (mid new : List ℕ) (r s u : ℕ → Bool) → ((n : ℕ) → ((r n ≡ false) × (s n ≡ u n)) ⊎ ((s n ≡ false) × (r n ≡ u n))) → IsJoined t old r mid → IsJoined t mid s new → IsJoined t old u new

@@ -6,7 +6,7 @@ use Rattle.std.specs.List.{list_all}
 use Rattle.std.specs.Simd.Lanes.{zip2}
 use Rattle.std.proofs.lemmas.List.Folds.{list_all-append}
 use Rattle.std.proofs.lemmas.Bool.{cases_lt}
-use Rattle.std.proofs.lemmas.List.{append-nil, drop_all, length-drop, length-map, get_or_past}
+use Rattle.std.proofs.lemmas.List.{append-nil, append_assoc, drop-drop, length-append, drop_all, length-drop, length-map, get_or_past}
 use Rattle.std.proofs.lemmas.Simd.{get_or-zip2}
 use borrow.Rule.Slice.PartMut.{put_mid, post_of}
 use Rattle.bitlanes.specs.Bits.{bit_without}
@@ -22,6 +22,7 @@ use Rattle.bitwords.specs.Rows.{has_bit, count_below, bits_test, IsJoined}
 use Rattle.bitwords.specs.RowFacts.{AreWords}
 use Rattle.bitwords.proofs.Changed.{changed-kept}
 use Rattle.bitwords.proofs.Cleared.{IsJoined-kept}
+use Rattle.bitwords.proofs.Joined.{IsJoined-same}
 use Rattle.bitwords.proofs.FirstAndLast.{first_position, no_first_position}
 use Rattle.bitwords.proofs.TwoRows.{AreWords-longest, has_bit-longest}
 use Rattle.bitwords.proofs.Written.{slice_rest, with_rest, length-both, length-kept, get_or-kept_both, get_or-kept_past, rest_kept, kept_first}
@@ -54,9 +55,7 @@ module _ (xs ys : List ℕ) (words_xs : AreWords xs) (words_ys : AreWords ys) wh
   module _ (ws : List ℕ) (words_ws : AreWords ws) (shorter : length xs ≤ length ws) where
     -- what a row has that takes it in
     pub lacked_taken : IsJoined (λ x y. x || y) ws passes (zip_longest bit_or true false ws lacked)
-    lacked_taken =
-        let done = IsJoined-kept laws_of_or ws lacked words_ws are_words (inr refl) in
-        record { long = done.long; bits = λ p h. done.bits p h ∙ ap (λ b. has_bit ws p || b) (tells p) }
+    lacked_taken = IsJoined-same ws _ _ passes tells (IsJoined-kept laws_of_or ws lacked words_ws are_words (inr refl))
 
     -- whether a position of that row is new
     pub lacked_changes : not (list_all (λ w. w == 0) (zip2 (changed_bits bit_or) ws lacked)) ≡ not (count_below (λ p. changes (λ x y. x || y) (has_bit ws p) (passes p)) (64 * length ws) == 0)
@@ -78,18 +77,13 @@ module _ (f : ℕ → ℕ → ℕ) (xs ys : List ℕ) where
   of_both : (i : ℕ) → i < length xs → i < length ys → get_or (zip_longest f true false xs ys) i 0 ≡ get_or (zip2 f xs ys) i 0
   of_both i p q = get_or-kept_both f xs ys i p q ∙ sym (get_or-zip2 f xs ys i 0 0 0 p q)
 
-  pub within_both : (k : ℕ) → IsFirstOne (zip2 f xs ys) k → k < min (length xs) (length ys)
-  within_both k word = omega (arith, word.within, length-both f xs ys)
-
   pub first_of_both : (k : ℕ) → IsFirstOne (zip2 f xs ys) k → IsFirstOne (zip_longest f true false xs ys) k
-  first_of_both k word =
-      let both = within_both k word in
-      record {
-        after = word.after;
-        within = omega (arith, length-kept f xs ys);
-        one = λ zero. word.one (sym (of_both k (omega arith) (omega arith)) ∙ zero);
-        zeros = λ i from before. of_both i (omega arith) (omega arith) ∙ word.zeros i from before;
-      }
+  first_of_both k word = record {
+    after = word.after;
+    within = omega (arith, word.within, length-both f xs ys, length-kept f xs ys);
+    one = λ zero. word.one (sym (of_both k (omega (arith, word.within, length-both f xs ys)) (omega (arith, word.within, length-both f xs ys))) ∙ zero);
+    zeros = λ i from before. of_both i (omega (arith, word.within, length-both f xs ys)) (omega (arith, word.within, length-both f xs ys)) ∙ word.zeros i from before;
+  }
 
   module _ (none : AreZeros (zip2 f xs ys)) (n : ℕ) (both : n ≡ min (length xs) (length ys)) where
     behind_both : (i : ℕ) → n ≤ i → get_or (zip_longest f true false xs ys) i 0 ≡ get_or (map (bit_or 0) xs) i 0
@@ -124,10 +118,7 @@ zip2-append f [] (x ∷ xs) ys le = absurd (omega arith)
 zip2-append f (w ∷ ws) (x ∷ xs) ys le = ap (λ t. f w x ∷ t) (zip2-append f ws xs ys (omega arith))
 
 longest-append : (f : ℕ → ℕ → ℕ) (ws xs ys : List ℕ) → length xs ≤ length ws → zip2 f ws xs ++ zip_longest f true false (drop (length xs) ws) ys ≡ zip_longest f true false ws (xs ++ ys)
-longest-append f [] [] ys le = refl
-longest-append f (w ∷ ws) [] ys le = refl
-longest-append f [] (x ∷ xs) ys le = absurd (omega arith)
-longest-append f (w ∷ ws) (x ∷ xs) ys le = ap (λ t. f w x ∷ t) (longest-append f ws xs ys (omega arith))
+longest-append f ws xs ys le = rw (← with_rest f ws (xs ++ ys), ← with_rest f (drop (length xs) ws) ys, zip2-append f ws xs ys le) (grind (arith, append_assoc, drop-drop, length-append))
 
 some_fails : (a b : Bool) → (not a || not b) ≡ not (a && b)
 some_fails a b = grind arith

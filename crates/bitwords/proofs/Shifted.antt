@@ -69,9 +69,7 @@ module _ (ws : List ℕ) (words : AreWords ws) (p : ℕ) where
 
   pub window_fits : window ws p < 2 ^ 64
   unfolding window straddle
-  window_fits =
-      let word = words (p / 64) in
-      or_lt 64 (get_or ws (p / 64) 0 / 2 ^ (p % 64)) _ (omega (arith, word, pow_pos (p % 64), shr_le (get_or ws (p / 64) 0) (p % 64))) (omega arith)
+  window_fits = or_lt 64 (get_or ws (p / 64) 0 / 2 ^ (p % 64)) _ (omega (arith, words (p / 64), pow_pos (p % 64), shr_le (get_or ws (p / 64) 0) (p % 64))) (omega arith)
 
 -- the bits of a first word that is moved up within its place
 pub bit-first : (ws : List ℕ) (shift i : ℕ) → i < 64 → shift < 64 → bit (get_or ws 0 0 * 2 ^ shift % 2 ^ 64) i ≡ (nat_le shift i && has_bit ws (i - shift))
@@ -87,10 +85,7 @@ module _ (ws : List ℕ) (words : AreWords ws) where
     word = window ws (64 * k - by);
     fits = window_fits ws words (64 * k - by);
     joined = joined;
-    bits = λ i h.
-        bit-window ws words (64 * k - by) i h
-        ∙ (let e : 64 * k - by + i ≡ 64 * k + i - by = omega arith in ap (has_bit ws) e)
-        ∙ sym (ap (λ b. b && has_bit ws (64 * k + i - by)) (le-leb by (64 * k + i) (omega arith)));
+    bits = λ i h. grind (arith, nat_tests, bit-window ws words (64 * k - by) i h);
   }
 
   -- the word that has fewer than 64 bits below it
@@ -100,11 +95,7 @@ module _ (ws : List ℕ) (words : AreWords ws) where
     word = get_or ws 0 0 * 2 ^ (by % 64) % 2 ^ 64;
     fits = omega arith;
     joined = joined;
-    bits = λ i h.
-        bit-first ws (by % 64) i h (omega arith)
-        ∙ (let e : i - by % 64 ≡ 64 * (by / 64) + i - by = omega arith in
-        let same : nat_le (by % 64) i ≡ nat_le by (64 * (by / 64) + i) = grind (arith, nat_tests) in
-        λ j. same j && has_bit ws (e j));
+    bits = λ i h. grind (arith, nat_tests, bit-first ws (by % 64) i h (omega arith));
   }
 
 -- each word takes in what stands `from` above, or rests where nothing does

@@ -53,14 +53,10 @@ written f (suc n) [] ys p q = absurd (omega arith)
 written f (suc n) (x ∷ xs) [] p q = absurd (omega arith)
 written f (suc n) (x ∷ xs) (y ∷ ys) p q = ap (λ t. f x y ∷ t) (written f n xs ys (omega arith) (omega arith))
 
--- what is left behind the other row, which may be the longer one
-pub rest_of : (xs ys : List ℕ) → drop (min (length ys) (length xs)) xs ≡ drop (length ys) xs
-rest_of xs ys = grind (arith, drop_all)
-
 -- the same, where the other row may be the longer one
 pub written_all : (f : ℕ → ℕ → ℕ) (n : ℕ) (xs ys : List ℕ) → n ≤ length xs → n ≤ length ys
     → (zip_longest f true false (take n xs) (take n ys) ++ zip2 f (drop n xs) (drop n ys)) ++ drop (min (length ys) (length xs)) xs ≡ zip_longest f true false xs ys
-written_all f n xs ys p q = ap (λ t. (zip_longest f true false (take n xs) (take n ys) ++ zip2 f (drop n xs) (drop n ys)) ++ t) (rest_of xs ys) ∙ written f n xs ys p q
+written_all f n xs ys p q = let rest : drop (min (length ys) (length xs)) xs ≡ drop (length ys) xs = grind (arith, drop_all) in rw rest (written f n xs ys p q)
 
 -- the slice from word n on
 pub slice_rest : (n : ℕ) (xs : List ℕ) → take (length xs - n) (drop n xs) ≡ drop n xs

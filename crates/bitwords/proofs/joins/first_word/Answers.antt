@@ -1,13 +1,14 @@
 use Rattle.std.proofs.Common.{arith}
 use Rattle.bitlanes.specs.Bits.{bit_without}
-use Rattle.bitwords.proofs.Lacking.{within_both, first_of_both, found_behind, unfound_behind}
+use Rattle.bitwords.proofs.Lacking.{first_of_both, found_behind, unfound_behind}
+use Rattle.bitwords.proofs.Written.{length-both}
 use Rattle.bitwords.proofs.joins.first_word.Goals as goal
 
 pub returns-in-Some-clause-found : goal.returns-in-Some-clause-found
 returns-in-Some-clause-found c = first_of_both bit_without c.args.a.now c.args.b.now c.in-Some.at c.in-Some.ensures.found
 
 pub returns-in-Some-clause-cost : goal.returns-in-Some-clause-cost
-returns-in-Some-clause-cost c = omega (arith, c.in-Some.ensures.cost, within_both bit_without c.args.a.now c.args.b.now c.in-Some.at c.in-Some.ensures.found)
+returns-in-Some-clause-cost c = omega (arith, c.in-Some.ensures.cost, c.in-Some.ensures.found.within, length-both bit_without c.args.a.now c.args.b.now)
 
 pub returns-in-None-clause-found : goal.returns-in-None-clause-found
 returns-in-None-clause-found c = found_behind bit_without c.args.a.now c.args.b.now c.in-None.ensures.none c.min-common.result c.min-common.ensures c.next_one.result c.next_one.ensures.found

@@ -1,20 +1,18 @@
 use Rattle.std.proofs.Common.{◌≡◌, ◌≢◌, ◌≤◌, ◌+◌, ◌-◌, ◌/◌, ◌%◌, ◌∙◌, ℕ, List, set, rules, length, arith, refl, inl, inr, ⊎_elim}
-use Rattle.std.proofs.lemmas.Bool.{cases_eq, and_right}
+use Rattle.std.proofs.lemmas.Bool.{cases_eq, and_left, and_right, lt-leb}
 use Rattle.std.proofs.lemmas.List.{length-take, length-drop, get_or-set_same, get_or-set_other, length-set}
 use Rattle.bitwords.specs.RowFacts.{has_bit-past}
-use Rattle.bitwords.proofs.Joined.{IsJoined_words}
+use Rattle.bitwords.proofs.Joined.{IsJoined-none}
 use Rattle.bitwords.proofs.Shifted.{IsJoined_up, takes_first, leaves_up}
 use Rattle.bitwords.proofs.shifts.join_up.Goals as goal
 use Rattle.bitwords.proofs.shifts.join_up.Goals.{then-at-words-via-then-at-words, then-at-words-via-else-at-words+then-is_empty}
 
 pub returns-then-at-words-clause-bits : goal.returns-then-at-words-clause-bits
 returns-then-at-words-clause-bits g c =
-    IsJoined_words g.met.O.WordOp.laws c.args.words.now (λ k. search rules) _ _ refl (λ k within. inr (elim c.then-at-words.branch [
-      | then-at-words-via-then-at-words w ↦ leaves_up c.args.other.now _ _ _ c.args.by k (let past = w.if-at-words.true in omega arith) (inl (c.requires.keeps, refl))
-      | then-at-words-via-else-at-words+then-is_empty w ↦
-          let empty : length c.args.other.now ≡ 0 = search rules in
-          record { none = λ i h. and_right _ _ (has_bit-past c.args.other.now _ (omega arith)); left = inl (c.requires.keeps, refl) }
-    ]))
+    IsJoined-none g.met.O.WordOp.laws c.requires.keeps _ _ (λ p within. elim c.then-at-words.branch [
+      | then-at-words-via-then-at-words w ↦ and_left _ _ (lt-leb _ p (let past = w.if-at-words.true in omega arith))
+      | then-at-words-via-else-at-words+then-is_empty w ↦ and_right _ _ (has_bit-past c.args.other.now _ (let empty : length c.args.other.now ≡ 0 = search rules in omega arith))
+    ])
 
 pub returns-then-shift-eq0-clause-bits : goal.returns-then-shift-eq0-clause-bits
 returns-then-shift-eq0-clause-bits g c =
