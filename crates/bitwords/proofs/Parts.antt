@@ -8,12 +8,9 @@ use Rattle.bitwords.specs.Cuts.{IsCut}
 use Rattle.bitwords.specs.Rows.{in_range}
 use Rattle.bitwords.specs.Steps.{range_words}
 
-in_word : (start end i : ℕ) → start < end → end ≤ 64 * (start / 64) + 64 → (nat_le (start % 64) i && nat_lt i (start % 64 + (end - start))) ≡ (nat_lt i 64 && in_range start end (64 * (start / 64) + i))
-in_word start end i some one_word = grind (arith, nat_tests)
-
 -- the bits from the place of the start on, as many as the range has
 pub masked : (start end mask : ℕ) → start < end → end ≤ 64 * (start / 64) + 64 → ((i : ℕ) → bit mask i ≡ (nat_le (start % 64) i && nat_lt i (start % 64 + (end - start)))) → (i : ℕ) → bit mask i ≡ (nat_lt i 64 && in_range start end (64 * (start / 64) + i))
-masked start end mask some one_word bits i = bits i ∙ in_word start end i some one_word
+masked start end mask some one_word bits i = bits i ∙ grind (arith, nat_tests)
 
 -- a whole word has positions of the range alone
 pub masked_whole : (k i : ℕ) → bit (2 ^ 64 - 1) i ≡ (nat_lt i 64 && in_range (64 * k) (64 * (k + 1)) (64 * k + i))

@@ -1,8 +1,6 @@
 -- The words of a row that hold the positions of a range.
-use Rattle.std.proofs.Common.{◌≡◌, ℕ, ◌+◌, ◌-◌, ◌*◌, ◌/◌, ◌%◌, ◌<◌, ◌≤◌, List, get_or, ap, ◌∙◌, arith}
-use Rattle.std.specs.Int.{div_ceil}
+use Rattle.std.proofs.Common.{◌≡◌, ℕ, ◌+◌, ◌-◌, ◌*◌, ◌/◌, ◌<◌, ◌≤◌, List, ap, ◌∙◌, arith}
 use Rattle.std.proofs.lemmas.List.{get_or-drop, get_or-take}
-use Rattle.bitlanes.specs.Bits.{bit}
 use Rattle.bitwords.specs.Ascending.{ascending}
 use Rattle.bitwords.specs.AscendingFacts.{ascending-same}
 use Rattle.bitwords.specs.Rows.{has_bit}
@@ -12,14 +10,7 @@ module _ (ws : List ℕ) (start end : ℕ) where
   -- a position of the range, in them
   has_bit-range_cut : (p : ℕ) → start ≤ p → p < end → has_bit (range_cut start end ws) (p - 64 * (start / 64)) ≡ has_bit ws p
   unfolding has_bit
-  has_bit-range_cut p from to =
-      let first : ℕ = start / 64 in
-      let last : ℕ = div_ceil end 64 in
-      let place : first + (p - 64 * first) / 64 ≡ p / 64 = omega (arith, from) in
-      let same : (p - 64 * first) % 64 ≡ p % 64 = omega (arith, from) in
-      let low : (p - 64 * first) / 64 < last - first = omega (arith, from, to) in
-      let word : get_or (range_cut start end ws) ((p - 64 * first) / 64) 0 ≡ get_or ws (p / 64) 0 = grind (arith, get_or-take, get_or-drop) in
-      λ i. bit (word i) (same i)
+  has_bit-range_cut p from to = grind (arith, get_or-take, get_or-drop)
 
   -- the positions of the range, in them
   pub ascending-range_cut : (at : ℕ) → at ≡ 64 * (start / 64) → ascending (λ p. has_bit (range_cut start end ws) (p - at)) (at + (start - at)) (end - at - (start - at)) ≡ ascending (has_bit ws) start (end - start)

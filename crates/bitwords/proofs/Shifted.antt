@@ -1,6 +1,5 @@
 -- Rows moved by a number of positions: their bits.
-use Rattle.std.proofs.Common.{◌≡◌, ℕ, ◌+◌, ◌-◌, ◌*◌, ◌/◌, ◌%◌, ◌^◌, ◌<◌, ◌≤◌, Bool, true, false, ◌&&◌, ◌||◌, ◌==◌, nat_le, List, length, take, drop, get_or, sym, ap, ◌∙◌, arith, inl, inr, ◌⊎◌, ⊎_elim}
-use Rattle.std.proofs.Math.Bool.{and_assoc}
+use Rattle.std.proofs.Common.{◌≡◌, ℕ, ◌+◌, ◌-◌, ◌*◌, ◌/◌, ◌%◌, ◌^◌, ◌<◌, ◌≤◌, Bool, true, ◌&&◌, ◌||◌, ◌==◌, nat_le, List, length, take, drop, get_or, sym, ap, ◌∙◌, arith, inl, inr, ◌⊎◌, ⊎_elim}
 use Rattle.std.proofs.lemmas.Bool.{cases_lt, le-leb, lt-leb, and_left, and_right}
 use Rattle.std.proofs.lemmas.Bool.Decides.{nat_tests}
 use Rattle.std.proofs.lemmas.List.{get_or-take, get_or-drop, length-take, length-drop}
@@ -28,44 +27,26 @@ bit-cut x i h = ap (λ n. n == 1) (sym (bit_at_cat_low (x / 2 ^ 64) 64 (x % 2 ^ 
 
 -- a bit of a word moved up
 bit-up_any : (x k i : ℕ) → i < 64 → bit (x * 2 ^ k % 2 ^ 64) i ≡ (nat_le k i && bit x (i - k))
-bit-up_any x k i h = bit-cut (x * 2 ^ k) i h ∙ (let e : x * 2 ^ k ≡ x * 2 ^ k + 0 = omega arith in ap (λ n. bit n i) e) ∙ ⊎_elim
-    (λ (low : i < k). ap (λ n. n == 1) (bit_at_cat_low x k 0 i low ∙ bit_at-zero i) ∙ sym (and_left _ _ (lt-leb k i low)))
-    (λ (high : k ≤ i). ap (λ n. n == 1) (bit_at_cat_high x k 0 i (pow_pos k) high) ∙ sym (ap (λ b. b && bit x (i - k)) (le-leb k i high)))
-    (cases_lt i k)
+bit-up_any x k i h =
+    bit-cut (x * 2 ^ k) i h ∙ (let e : x * 2 ^ k ≡ x * 2 ^ k + 0 = omega arith in ap (λ n. bit n i) e)
+    ∙ grind (arith, nat_tests, bit_at_cat_low x k 0 i, bit_at_cat_high x k 0 i (pow_pos k), bit_at-zero i)
 
 pub bit-up : (x k i : ℕ) → i < 64 → k ≤ i → bit (x * 2 ^ k % 2 ^ 64) i ≡ bit x (i - k)
 bit-up x k i h high = bit-up_any x k i h ∙ ap (λ b. b && bit x (i - k)) (le-leb k i high)
-
-or_false : (b : Bool) → (b || false) ≡ b
-or_false b = grind arith
 
 -- the bits of two words of which the first is moved down and the second fills its place
 bit-straddle : (r low high i : ℕ) → r < 64 → i < 64 → bit (straddle r low high) i ≡ (bit low (r + i) || (nat_le 64 (r + i) && bit high (r + i - 64)))
 unfolding straddle
 bit-straddle r low high i short within =
-    let e : i - (63 - r) - 1 ≡ r + i - 64 = omega arith in
-    let both : (nat_le (63 - r) i && nat_le 1 (i - (63 - r))) ≡ nat_le 64 (r + i) = grind (arith, nat_tests) in
-    let left : bit (high * 2 ^ 1 % 2 ^ 64 * 2 ^ (63 - r) % 2 ^ 64) i ≡ (nat_le 64 (r + i) && bit high (r + i - 64)) =
-    bit-up_any (high * 2 ^ 1 % 2 ^ 64) (63 - r) i within
-    ∙ ap (λ b. nat_le (63 - r) i && b) (bit-up_any high 1 (i - (63 - r)) (omega arith))
-    ∙ sym (and_assoc (nat_le (63 - r) i) _ _) ∙ (λ j. both j && bit high (e j)) in
-    bit-or (low / 2 ^ r) _ i ∙ (let down = bit-down low r i in λ j. down j || left j)
+    grind (arith, nat_tests, bit-or (low / 2 ^ r) (high * 2 ^ 1 % 2 ^ 64 * 2 ^ (63 - r) % 2 ^ 64) i, bit-down low r i, bit-up_any (high * 2 ^ 1 % 2 ^ 64) (63 - r) i within, bit-up_any high 1 (i - (63 - r)) (omega arith))
 
 -- the 64 bits from a position on
 module _ (ws : List ℕ) (words : AreWords ws) (p : ℕ) where
   pub bit-window : (i : ℕ) → i < 64 → bit (window ws p) i ≡ has_bit ws (p + i)
   unfolding window has_bit
   bit-window i within =
-      bit-straddle (p % 64) (get_or ws (p / 64) 0) (get_or ws (p / 64 + 1) 0) i (omega arith) within ∙ ⊎_elim
-      (λ (lt : p % 64 + i < 64).
-      let q : p / 64 ≡ (p + i) / 64 = omega arith in
-      let s : p % 64 + i ≡ (p + i) % 64 = omega arith in
-      rw (lt-leb 64 (p % 64 + i) lt) (or_false _ ∙ (λ j. bit (get_or ws (q j) 0) (s j))))
-      (λ (ge : 64 ≤ p % 64 + i).
-      let q : p / 64 + 1 ≡ (p + i) / 64 = omega arith in
-      let s : p % 64 + i - 64 ≡ (p + i) % 64 = omega arith in
-      rw (le-leb 64 (p % 64 + i) ge, bit_at_above (get_or ws (p / 64) 0) 64 (p % 64 + i) (words (p / 64)) ge) (λ j. bit (get_or ws (q j) 0) (s j)))
-      (cases_lt (p % 64 + i) 64)
+      bit-straddle (p % 64) (get_or ws (p / 64) 0) (get_or ws (p / 64 + 1) 0) i (omega arith) within
+      ∙ grind (arith, nat_tests, bit_at_above (get_or ws (p / 64) 0) 64 (p % 64 + i) (words (p / 64)))
 
   pub window_fits : window ws p < 2 ^ 64
   unfolding window straddle
