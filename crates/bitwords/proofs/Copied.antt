@@ -1,6 +1,7 @@
 -- Positions of a range that are written over with those of another row, part by part.
-use Rattle.std.proofs.Common.{◌≡◌, ◌≢◌, ℕ, ◌+◌, ◌-◌, ◌*◌, ◌/◌, ◌%◌, ◌^◌, ◌<◌, ◌≤◌, true, false, ◌&&◌, ◌||◌, not, nat_lt, List, length, take, drop, get_or, set, bit_and, bit_or, ap, ◌∙◌, refl, arith, ⊎_elim}
-use Rattle.std.proofs.lemmas.Bool.{cases_eq, lt-ltb, le-leb, and_from}
+use Rattle.std.proofs.Common.{◌≡◌, ◌≢◌, ℕ, ◌+◌, ◌-◌, ◌*◌, ◌/◌, ◌%◌, ◌^◌, ◌<◌, ◌≤◌, false, ◌&&◌, ◌||◌, not, nat_lt, List, length, take, drop, get_or, set, bit_and, bit_or, ap, ◌∙◌, refl, arith, ⊎_elim}
+use Rattle.std.proofs.lemmas.Bool.{cases_eq}
+use Rattle.std.proofs.lemmas.Bool.Decides.{nat_tests}
 use Rattle.std.proofs.lemmas.List.{get_or-set_same, get_or-set_other, length-set, length-take-le, length-drop}
 use borrow.Rule.Slice.PartMut.{put_mid}
 use Rattle.bitwords.proofs.PutRow.{length-put_row, put_row_below, put_row_within, put_row_behind}
@@ -9,7 +10,7 @@ use Rattle.bitlanes.specs.BitLaws.{bit-or, bit-and, bit-without}
 use Rattle.bitlanes.specs.Shifts.{window}
 use Rattle.bitwords.specs.Cuts.{IsCut}
 use Rattle.bitwords.specs.Rows.{has_bit, in_range, IsJoined, IsCopied}
-use Rattle.bitwords.specs.RowFacts.{AreWords, before_range, past_range}
+use Rattle.bitwords.specs.RowFacts.{AreWords}
 use Rattle.bitwords.proofs.Shifted.{bit-window, bit-up}
 
 module _ (ws : List ℕ) where
@@ -54,12 +55,7 @@ module _ (ws old : List ℕ) (words : AreWords ws) (words_old : AreWords old) (f
   has_bit-here : (p : ℕ) → p / 64 ≡ k → has_bit new p ≡ ((has_bit old p && not (in_range start end p)) || (bit moved (p % 64) && in_range start end p))
   unfolding has_bit
   has_bit-here p at =
-      let place : 64 * k + p % 64 ≡ p = omega arith in
-      let mask_at : bit mask (p % 64) ≡ in_range start end p = masked (p % 64) ∙ ap (λ b. b && in_range start end (64 * k + p % 64)) (lt-ltb (p % 64) 64 (omega arith)) ∙ ap (in_range start end) place in
-      rw (at, get_or-set_same old k put 0 inside)
-      (bit-or (bit_without (get_or old k 0) mask) (bit_and moved mask) (p % 64)
-      ∙ (let a = bit-without (get_or old k 0) mask (p % 64) (words_old k) fits in let b = bit-and moved mask (p % 64) in λ j. a j || b j)
-      ∙ (λ j. (bit (get_or old k 0) (p % 64) && not (mask_at j)) || (bit moved (p % 64) && mask_at j)))
+      rw (at, get_or-set_same old k put 0 inside) (grind (arith, nat_tests, bit-or (bit_without (get_or old k 0) mask) (bit_and moved mask) (p % 64), bit-without (get_or old k 0) mask (p % 64) (words_old k) fits, bit-and moved mask (p % 64), masked (p % 64)))
 
   -- outside the range all stays
   outside : (p : ℕ) → in_range start end p ≡ false → has_bit new p ≡ has_bit old p
@@ -73,15 +69,10 @@ module _ (ws old : List ℕ) (words : AreWords ws) (words_old : AreWords old) (f
   IsCopied-word = record {
     long = length-set old k put;
     copied = λ p above below.
-        let at : p / 64 ≡ k = omega arith in
-        let within : in_range start end p ≡ true = and_from _ _ (le-leb start p above) (lt-ltb p end below) in
-        let e : from + (p % 64 - start % 64) ≡ from + (p - start) = omega arith in
-        has_bit-here p at ∙ rw within (grind arith)
-        ∙ bit-up (window ws from) (start % 64) (p % 64) (omega arith) (omega arith)
-        ∙ bit-window ws words from (p % 64 - start % 64) (omega arith)
-        ∙ ap (has_bit ws) e;
-    before = λ p h. outside p (before_range start end p h);
-    behind = λ p h. outside p (past_range start end p h);
+        has_bit-here p (omega arith)
+        ∙ grind (arith, nat_tests, bit-up (window ws from) (start % 64) (p % 64) (omega arith) (omega arith), bit-window ws words from (p % 64 - start % 64) (omega arith));
+    before = λ p h. outside p (grind (arith, nat_tests));
+    behind = λ p h. outside p (grind (arith, nat_tests));
   }
 
 -- ---- whole words
@@ -101,11 +92,8 @@ module _ (ws old part : List ℕ) (from first last : ℕ) (order : first ≤ las
   IsCopied-words = record {
     long = length-put_row old part first count (omega arith) (done.long ∙ long_cut);
     copied = λ p above below.
-        let q : p / 64 - first ≡ (p - 64 * first) / 64 = omega arith in
-        let r : p % 64 ≡ (p - 64 * first) % 64 = omega arith in
         ap (λ w. bit w (p % 64)) (put_row_within old part first count (omega arith) (done.long ∙ long_cut) (p / 64) (omega arith) (omega arith))
-        ∙ (λ i. bit (get_or part (q i) 0) (r i))
-        ∙ done.bits (p - 64 * first) (let l = long_cut in omega arith);
+        ∙ grind (arith, done.bits (p - 64 * first) (let l = long_cut in omega arith));
     before = λ p h. ap (λ w. bit w (p % 64)) (put_row_below old part first count (omega arith) (done.long ∙ long_cut) (p / 64) (omega arith));
     behind = λ p h. ap (λ w. bit w (p % 64)) (put_row_behind old part first count (omega arith) (done.long ∙ long_cut) (p / 64) (omega arith));
   }

@@ -25,18 +25,13 @@ module _ (ws ms : List ℕ) (f b at low end : ℕ) (middle : ms ≡ between_ends
       (λ (ge : 64 ≤ p).
       let q : ℕ = p - 64 in
       let is : p ≡ q + 64 = omega arith in
-      ⊎_elim
-      (λ (before : q < 64 * length ms).
-      has_bit-later _ _ p q is ∙ has_bit-before ms _ q before
-      ∙ sym (has_bit-before ms b q before) ∙ sym (has_bit-later f (ms ++ b ∷ []) p q is) ∙ bits p
-      ∙ grind (arith, nat_tests, length-between ws, ap length middle))
+      let whole : has_bit (ms ++ b ∷ []) q ≡ has_bit ws p = sym (has_bit-later f (ms ++ b ∷ []) p q is) ∙ bits p in
+      has_bit-later _ _ p q is ∙ ⊎_elim
+      (λ (before : q < 64 * length ms). has_bit-before ms _ q before ∙ sym (has_bit-before ms b q before) ∙ whole ∙ grind (arith, nat_tests, length-between ws, ap length middle))
       (λ (behind : 64 * length ms ≤ q).
       let j : ℕ = q - 64 * length ms in
-      let place : q ≡ 64 * length ms + j = omega arith in
-      let small : j < 64 = omega arith in
-      let whole : 64 * (length ms + 1) + j ≡ p = omega arith in
-      has_bit-later _ _ p q is ∙ has_bit-last ms _ q j place small ∙ bit-and b last_mask j
-      ∙ (let a = is_last j ∙ ap (in_range low end) whole in let e = sym (has_bit-last ms b q j place small) ∙ sym (has_bit-later f (ms ++ b ∷ []) p q is) ∙ bits p in λ i. e i && a i))
+      let last_bit = has_bit-last ms b q j (omega arith) (omega arith) in
+      has_bit-last ms _ q j (omega arith) (omega arith) ∙ bit-and b last_mask j ∙ grind (arith, whole, last_bit, is_last j))
       (cases_lt q (64 * length ms)))
       (cases_lt p 64)
 

@@ -35,15 +35,11 @@ unfolding has_bit
 IsJoined_words {f} {t} {keep} law old words test new long each = record {
   long = long;
   bits = λ p within.
-      let place : 64 * (p / 64) + p % 64 ≡ p = omega arith in
       ⊎_elim
       (λ (takes : TakesWord f old test new (p / 64)).
-      ap (λ w. bit w (p % 64)) takes.joined
-      ∙ law.by_bits (get_or old (p / 64) 0) takes.word (p % 64) (words (p / 64)) takes.fits
-      ∙ ap (t (has_bit old p)) (takes.bits (p % 64) (omega arith) ∙ ap test place))
+      grind (arith, takes.joined, takes.bits (p % 64) (omega arith), law.by_bits (get_or old (p / 64) 0) takes.word (p % 64) (words (p / 64)) takes.fits))
       (λ (leaves : LeavesWord keep old test new (p / 64)).
-      bit-rests keep old new (p / 64) (p % 64) leaves.left
-      ∙ sym (ap (t (has_bit old p)) (ap test (sym place) ∙ leaves.none (p % 64) (omega arith)) ∙ law.of_first (has_bit old p)))
+      grind (arith, leaves.left, leaves.none (p % 64) (omega arith), law.of_first (has_bit old p), bit-zero (p % 64)))
       (each (p / 64) (omega arith));
 }
 

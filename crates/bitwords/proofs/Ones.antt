@@ -17,9 +17,7 @@ use Rattle.bitwords.specs.RowFacts.{AreWords, has_bit-at}
 
 ones_below_two : (q : ℕ) → q < 2 → ones q ≡ indicator (q % 2 == 1)
 unfolding ones
-ones_below_two zero h = refl
-ones_below_two (suc zero) h = refl
-ones_below_two (suc (suc q)) h = absurd (omega arith)
+ones_below_two q h = grind arith
 
 pub no_ones : ones 0 ≡ 0
 unfolding ones

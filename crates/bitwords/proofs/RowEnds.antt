@@ -1,5 +1,5 @@
 -- The bits of a row of words, seen from its first word and from its last.
-use Rattle.std.proofs.Common.{◌≡◌, ◌≢◌, ℕ, suc, ◌+◌, ◌-◌, ◌*◌, ◌/◌, ◌%◌, ◌<◌, ◌==◌, List, get_or, [], ◌∷◌, ◌++◌, length, ap, ◌∙◌, arith, ⊎_elim}
+use Rattle.std.proofs.Common.{◌≡◌, ◌≢◌, ℕ, suc, ◌+◌, ◌*◌, ◌/◌, ◌%◌, ◌<◌, ◌==◌, List, get_or, [], ◌∷◌, ◌++◌, length, ap, arith, ⊎_elim}
 use Rattle.std.specs.Int.{bit_at}
 use Rattle.std.proofs.lemmas.Bool.{cases_eq}
 use Rattle.std.proofs.lemmas.Grind.{elements}
@@ -20,8 +20,8 @@ has_bit-later word words i j later = let a : i / 64 ≡ suc (j / 64) = omega ari
 
 -- a position in the last word
 pub has_bit-last : (words : List ℕ) (word i j : ℕ) → i ≡ 64 * length words + j → j < 64 → has_bit (words ++ word ∷ []) i ≡ (bit_at word j == 1)
-has_bit-last [] word i j is within = let e : i ≡ j = omega (arith, is) in ap (has_bit (word ∷ [])) e ∙ has_bit-first word [] j within
-has_bit-last (w ∷ words) word i j is within = has_bit-later w (words ++ word ∷ []) i (i - 64) (omega (arith, is)) ∙ has_bit-last words word (i - 64) j (omega (arith, is)) within
+unfolding has_bit
+has_bit-last words word i j is within = grind (arith, get_or_push)
 
 -- a position before the last word
 pub has_bit-before : (words : List ℕ) (word i : ℕ) → i < 64 * length words → has_bit (words ++ word ∷ []) i ≡ has_bit words i
