@@ -1,6 +1,5 @@
 -- Whether a position of a row changes where it is joined with another one.
-use Rattle.std.proofs.Common.{◌≡◌, ℕ, ◌*◌, ◌≤◌, Bool, true, false, not, ◌&&◌, ◌==◌, ◌-◌, ◌⊎◌, take, List, drop, length, max, sym, ap, ◌∙◌, arith}
-use Rattle.std.specs.Bool.{if◌then◌else◌}
+use Rattle.std.proofs.Common.{◌≡◌, ℕ, ◌*◌, ◌≤◌, Bool, true, false, not, ◌&&◌, ◌==◌, ◌-◌, ◌⊎◌, take, List, drop, length, max, sym, ap, ◌∙◌, arith, if◌then◌else◌}
 use Rattle.std.specs.List.{list_all}
 use Rattle.std.specs.Simd.Lanes.{zip2}
 use Rattle.std.proofs.Math.Bool.{and-true}

@@ -1,8 +1,7 @@
 -- Positions of a range that are written over with those of another row, part by part.
-use Rattle.std.proofs.Common.{◌≡◌, ◌≢◌, ℕ, ◌+◌, ◌-◌, ◌*◌, ◌/◌, ◌%◌, ◌^◌, ◌<◌, ◌≤◌, false, ◌&&◌, ◌||◌, not, nat_lt, List, length, take, drop, get_or, set, bit_and, bit_or, ap, ◌∙◌, refl, arith, ⊎_elim}
+use Rattle.std.proofs.Common.{◌≡◌, ◌≢◌, ℕ, ◌+◌, ◌-◌, ◌*◌, ◌/◌, ◌%◌, ◌^◌, ◌<◌, ◌≤◌, false, ◌&&◌, ◌||◌, not, nat_lt, List, length, take, drop, get_or, set, bit_and, bit_or, ap, ◌∙◌, refl, arith, ⊎_elim, get_or-set_same, get_or-set_other, length-set, length-take-le, length-drop}
 use Rattle.std.proofs.lemmas.Bool.{cases_eq}
 use Rattle.std.proofs.lemmas.Bool.Decides.{nat_tests}
-use Rattle.std.proofs.lemmas.List.{get_or-set_same, get_or-set_other, length-set, length-take-le, length-drop}
 use borrow.Rule.Slice.PartMut.{put_mid}
 use Rattle.bitwords.proofs.PutRow.{length-put_row, put_row_below, put_row_within, put_row_behind}
 use Rattle.bitlanes.specs.Bits.{bit, bit_without}

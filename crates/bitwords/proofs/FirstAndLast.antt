@@ -1,7 +1,6 @@
 -- The first and the last position of a row of words, found by its first and its last word that is not 0.
-use Rattle.std.specs.Prelude.{slice_get, slice_index}
 use Rattle.std.specs.List.{last_or}
-use Rattle.std.proofs.Common.{◌≡◌, ℕ, ◌+◌, ◌*◌, ◌/◌, ◌%◌, false, ◌==◌, List, [], length, None, Some, ap, ◌∙◌, arith}
+use Rattle.std.proofs.Common.{◌≡◌, ℕ, ◌+◌, ◌*◌, ◌/◌, ◌%◌, false, ◌==◌, List, [], length, None, Some, ap, ◌∙◌, arith, slice_get, slice_index}
 use Rattle.std.specs.Int.{bit_at}
 use Rattle.bitlanes.specs.Search.{IsFirstOne, IsLastOne, AreZeros}
 use Rattle.bitlanes.specs.Word.{IsLowestBit, IsHighestBit}

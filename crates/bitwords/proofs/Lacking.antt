@@ -1,7 +1,6 @@
 -- A row without another one: of each word the bits that the word of the other row lacks, and the rest as it is. What it
 -- has first, and what becomes of a third row that takes it in, in two parts.
-use Rattle.std.specs.Prelude.{slice_get}
-use Rattle.std.proofs.Common.{◌≡◌, ℕ, ◌+◌, ◌-◌, ◌*◌, ◌<◌, ◌≤◌, Bool, true, false, not, ◌&&◌, ◌||◌, ◌==◌, inr, List, [], ◌∷◌, ◌++◌, take, drop, length, get_or, map, min, max, bit_or, Option, Some, None, IfSome, IfNone, refl, sym, ap, ◌∙◌, arith, ⊎_elim}
+use Rattle.std.proofs.Common.{◌≡◌, ℕ, ◌+◌, ◌-◌, ◌*◌, ◌<◌, ◌≤◌, Bool, true, false, not, ◌&&◌, ◌||◌, ◌==◌, inr, List, [], ◌∷◌, ◌++◌, take, drop, length, get_or, map, min, max, bit_or, Option, Some, None, IfSome, IfNone, refl, sym, ap, ◌∙◌, arith, ⊎_elim, slice_get}
 use Rattle.std.specs.List.{list_all}
 use Rattle.std.specs.Simd.Lanes.{zip2}
 use Rattle.std.proofs.lemmas.List.Folds.{list_all-append}

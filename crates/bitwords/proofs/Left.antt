@@ -1,9 +1,7 @@
 -- What a call of a cursor does to the positions left.
 use Rattle.std.proofs.Math.Seq.{take-append_seam}
-use Rattle.std.proofs.Common.{take, drop, ◌≡◌, ℕ, suc, ◌+◌, ◌-◌, ◌*◌, ◌^◌, ◌<◌, ◌≤◌, List, [], ◌∷◌, ◌++◌, length, Option, Some, None, sym, ap, ◌∙◌, arith}
+use Rattle.std.proofs.Common.{take, drop, ◌≡◌, ℕ, suc, ◌+◌, ◌-◌, ◌*◌, ◌^◌, ◌<◌, ◌≤◌, List, [], ◌∷◌, ◌++◌, length, Option, Some, None, sym, ap, ◌∙◌, arith, SomeIff, IfSome, unwrap_or, length-append, length-drop, length-take-le}
 use Rattle.std.specs.Iterator.{YieldsFirst, YieldsLast, UpTo, at_most}
-use Rattle.std.specs.Option.{SomeIff, IfSome, unwrap_or}
-use Rattle.std.proofs.lemmas.List.{length-append, length-drop, length-take-le}
 use Rattle.bitlanes.specs.Word.{IsLowestBit, IsHighestBit, ClearsBit}
 use Rattle.bitwords.specs.Rows.{has_bit}
 use Rattle.bitwords.specs.Walk.{between_ends}

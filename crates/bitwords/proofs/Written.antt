@@ -1,11 +1,9 @@
 -- joined words, written one behind the other
-use Rattle.std.proofs.Common.{◌≡◌, ℕ, zero, suc, ◌-◌, ◌<◌, ◌≤◌, List, [], ◌∷◌, ◌++◌, get_or, length, take, drop, map, min, true, false, refl, ap, ◌∙◌, arith, Result, Ok, Err, if◌then◌else◌}
-use Rattle.std.specs.List.{zip}
+use Rattle.std.proofs.Common.{◌≡◌, ℕ, zero, suc, ◌-◌, ◌<◌, ◌≤◌, List, [], ◌∷◌, ◌++◌, get_or, length, take, drop, map, min, true, false, refl, ap, ◌∙◌, arith, Result, Ok, Err, if◌then◌else◌, zip, OnOk, is_ok}
 use Rattle.std.specs.Simd.Lanes.{zip2}
 use Rattle.std.proofs.Math.Seq.{drop-nil}
 use Rattle.std.proofs.lemmas.List.{drop-append-le, drop_all, take_all, take_at, length-append, length-drop, get_or_append_left, get_or-append_right, get_or_past, get_or-drop}
 use Rattle.std.proofs.lemmas.Simd.{get_or-zip2}
-use Rattle.std.specs.Result.{OnOk, is_ok}
 use Rattle.bitlanes.specs.Words.{zip_longest}
 
 -- pairs of words, each pair joined

@@ -1,5 +1,4 @@
-use Rattle.std.proofs.Common.{◌∙◌, ap, rules, length, replicate, arith}
-use Rattle.std.proofs.lemmas.List.{length-take, length-drop}
+use Rattle.std.proofs.Common.{◌∙◌, ap, rules, length, replicate, arith, length-take, length-drop}
 use Rattle.bitwords.proofs.Cleared.{IsJoined-kept, IsJoined-zeroed}
 use Rattle.bitwords.proofs.Written.{length-kept}
 use Rattle.bitwords.proofs.joins.join.Goals as goal

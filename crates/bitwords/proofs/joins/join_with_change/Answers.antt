@@ -1,6 +1,4 @@
-use Rattle.std.proofs.Common.{◌∙◌, true, ap, sym, rules, length, replicate, arith}
-use Rattle.std.specs.Bool.{if◌then◌else◌}
-use Rattle.std.proofs.lemmas.List.{length-take, length-drop}
+use Rattle.std.proofs.Common.{◌∙◌, true, ap, sym, rules, length, replicate, arith, if◌then◌else◌, length-take, length-drop}
 use Rattle.bitwords.proofs.Changed.{changed-zeroed, changed-kept}
 use Rattle.bitwords.proofs.Cleared.{IsJoined-kept, IsJoined-zeroed}
 use Rattle.bitwords.proofs.Written.{length-kept}

@@ -1,5 +1,4 @@
-use Rattle.std.proofs.Common.{rules, ◌≡◌, ◌/◌, ◌≤◌, length, arith}
-use Rattle.std.specs.Option.{is_none}
+use Rattle.std.proofs.Common.{rules, ◌≡◌, ◌/◌, ◌≤◌, length, arith, is_none}
 use Rattle.bitwords.specs.RowFacts.{has_bit-past}
 use Rattle.bitwords.proofs.Neighbouring.{none_is_left}
 use Rattle.bitwords.proofs.positions.none_from.Goals as goal

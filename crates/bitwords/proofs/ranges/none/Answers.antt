@@ -1,5 +1,4 @@
-use Rattle.std.proofs.Common.{◌∙◌, ℕ, Bool, true, sym, arith}
-use Rattle.std.proofs.lemmas.Bool.{true≢false}
+use Rattle.std.proofs.Common.{◌∙◌, ℕ, Bool, true, sym, arith, true≢false}
 use Rattle.bitwords.specs.Rows.{count_below, bit_test}
 use Rattle.bitwords.proofs.Counted.{grows_within, same-between, stays_upto}
 use Rattle.bitwords.proofs.ranges.none.Goals as goal

@@ -1,5 +1,4 @@
-use Rattle.std.proofs.Common.{◌≡◌, ◌≤◌, ◌-◌, ◌∙◌, List, ℕ, ap, rules, length, replicate, arith, refl, inr}
-use Rattle.std.proofs.lemmas.List.{length-take, length-drop}
+use Rattle.std.proofs.Common.{◌≡◌, ◌≤◌, ◌-◌, ◌∙◌, List, ℕ, ap, rules, length, replicate, arith, refl, inr, length-take, length-drop}
 use Rattle.bitlanes.specs.BitLaws.{laws_of_second}
 use Rattle.bitwords.proofs.Cleared.{length-cut_row, get_or-cut_row_below, get_or-cut_row_from}
 use Rattle.bitwords.proofs.Shifted.{IsJoined_down}

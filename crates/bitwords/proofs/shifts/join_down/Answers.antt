@@ -1,5 +1,4 @@
-use Rattle.std.proofs.Common.{◌≡◌, ◌≤◌, ◌-◌, ◌∙◌, ℕ, List, ap, rules, length, replicate, true, arith, inl, inr, ⊎_elim}
-use Rattle.std.proofs.lemmas.List.{length-take, length-drop}
+use Rattle.std.proofs.Common.{◌≡◌, ◌≤◌, ◌-◌, ◌∙◌, ℕ, List, ap, rules, length, replicate, true, arith, inl, inr, ⊎_elim, length-take, length-drop}
 use Rattle.bitwords.proofs.Cleared.{length-cut_row, get_or-cut_row_below, get_or-cut_row_from}
 use Rattle.bitwords.proofs.Shifted.{IsJoined_down}
 use Rattle.bitwords.proofs.shifts.join_down.Goals as goal

@@ -1,6 +1,5 @@
-use Rattle.std.proofs.Common.{◌≡◌, ◌≢◌, ◌≤◌, ◌+◌, ◌-◌, ◌/◌, ◌%◌, ◌∙◌, ℕ, List, set, rules, length, arith, refl, inl, inr, ⊎_elim}
+use Rattle.std.proofs.Common.{◌≡◌, ◌≢◌, ◌≤◌, ◌+◌, ◌-◌, ◌/◌, ◌%◌, ◌∙◌, ℕ, List, set, rules, length, arith, refl, inl, inr, ⊎_elim, length-take, length-drop, get_or-set_same, get_or-set_other, length-set}
 use Rattle.std.proofs.lemmas.Bool.{cases_eq, and_left, and_right, lt-leb}
-use Rattle.std.proofs.lemmas.List.{length-take, length-drop, get_or-set_same, get_or-set_other, length-set}
 use Rattle.bitwords.specs.RowFacts.{has_bit-past}
 use Rattle.bitwords.proofs.Joined.{IsJoined-none}
 use Rattle.bitwords.proofs.Shifted.{IsJoined_up, takes_first, leaves_up}

@@ -1,5 +1,4 @@
-use Rattle.std.proofs.Common.{[], ◌∷◌, ◌++◌, Some, sym, ap, ◌∙◌, arith, append_assoc, length}
-use Rattle.std.proofs.lemmas.List.{length-append}
+use Rattle.std.proofs.Common.{[], ◌∷◌, ◌++◌, Some, sym, ap, ◌∙◌, arith, append_assoc, length, length-append}
 use Rattle.bitwords.specs.CallFacts.{progress_last}
 use Rattle.bitwords.proofs.Left.{left_before, left_highest, left_highest_of_front, left_nothing, left_kept}
 use Rattle.bitwords.proofs.cursors.CursorDoubleEndedIterator.next_back.Goals as goal

@@ -1,5 +1,4 @@
-use Rattle.std.proofs.Common.{[], ◌∷◌, ◌++◌, Some, sym, ap, ◌∙◌, arith, append_assoc, length}
-use Rattle.std.proofs.lemmas.List.{length-append}
+use Rattle.std.proofs.Common.{[], ◌∷◌, ◌++◌, Some, sym, ap, ◌∙◌, arith, append_assoc, length, length-append}
 use Rattle.bitwords.specs.CallFacts.{progress_first}
 use Rattle.bitwords.proofs.Left.{left_next, left_lowest, left_lowest_of_back, left_nothing, left_kept}
 use Rattle.bitwords.proofs.cursors.CursorIterator.next.Goals as goal
