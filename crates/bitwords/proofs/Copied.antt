@@ -54,7 +54,15 @@ module _ (ws old : List ℕ) (words : AreWords ws) (words_old : AreWords old) (f
   has_bit-here : (p : ℕ) → p / 64 ≡ k → has_bit new p ≡ ((has_bit old p && not (in_range start end p)) || (bit moved (p % 64) && in_range start end p))
   unfolding has_bit
   has_bit-here p at =
-      rw (at, get_or-set_same old k put 0 inside) (grind (arith, nat_tests, bit-or (bit_without (get_or old k 0) mask) (bit_and moved mask) (p % 64), bit-without (get_or old k 0) mask (p % 64) (words_old k) fits, bit-and moved mask (p % 64), masked (p % 64)))
+      rw (at, get_or-set_same old k put 0 inside)
+      (grind (
+        arith,
+        nat_tests,
+        bit-or (bit_without (get_or old k 0) mask) (bit_and moved mask) (p % 64),
+        bit-without (get_or old k 0) mask (p % 64) (words_old k) fits,
+        bit-and moved mask (p % 64),
+        masked (p % 64),
+      ))
 
   -- outside the range all stays
   outside : (p : ℕ) → in_range start end p ≡ false → has_bit new p ≡ has_bit old p

@@ -136,7 +136,8 @@ module _ (f g : ℕ → ℕ → ℕ) (n : ℕ) (ws xs ys row : List ℕ) (common
   pub written_behind : (part : List ℕ) → part ≡ zip_longest f true false (take (length row - n) (drop n row)) (take (length xs - n) (drop n xs)) → put_mid n (length row - n) row part ≡ zip_longest f true false ws (zip_longest g true false xs ys)
   written_behind part second =
       let none : post_of n (length row - n) row ≡ [] = drop_all (length row - n) (drop n row) (omega (arith, length-drop n row)) in
-      let whole : part ≡ zip_longest f true false (drop (length (zip2 g xs ys)) ws) (drop (length ys) xs) = second ∙ (let a = rest_of_row in let b = rest_of_xs in let c = both in λ i. zip_longest f true false (a i) (b i)) ∙ rw both in
+      let whole : part ≡ zip_longest f true false (drop (length (zip2 g xs ys)) ws) (drop (length ys) xs) =
+      second ∙ (let a = rest_of_row in let b = rest_of_xs in let c = both in λ i. zip_longest f true false (a i) (b i)) ∙ rw both in
       ap (λ zs. take n row ++ (part ++ zs)) none
       ∙ ap (λ zs. take n row ++ zs) (append-nil part ∙ whole)
       ∙ ap (λ zs. zs ++ zip_longest f true false (drop (length (zip2 g xs ys)) ws) (drop (length ys) xs)) (rw (first, ← both) (kept_first f ws (zip2 g xs ys) (omega (arith, both))))
@@ -150,4 +151,5 @@ module _ (f g : ℕ → ℕ → ℕ) (n : ℕ) (ws xs ys row : List ℕ) (common
   changed_behind joined behind one other =
       (let b = other ∙ (let c = rest_of_row in let d = rest_of_xs in λ i. not (list_all (λ w. w == 0) (zip2 (changed_bits f) (c i) (d i)))) in λ i. one i || b i)
       ∙ some_fails _ _
-      ∙ ap not (rw (← with_rest g xs ys, zip2-append (changed_bits f) ws (zip2 g xs ys) (drop (length ys) xs) (omega (arith, both)), both) (sym (list_all-append (λ w. w == 0) (zip2 (changed_bits f) ws (zip2 g xs ys)) _)))
+      ∙ ap not (rw (← with_rest g xs ys, zip2-append (changed_bits f) ws (zip2 g xs ys) (drop (length ys) xs) (omega (arith, both)), both)
+      (sym (list_all-append (λ w. w == 0) (zip2 (changed_bits f) ws (zip2 g xs ys)) _)))

@@ -36,7 +36,8 @@ has_bit-drop_last words = has_bit-same _ words (λ k. grind (arith, get_or_appen
 pub has_bit-other : (before after : List ℕ) (old new k i : ℕ) → ClearsBit old new k → i ≢ 64 * length before + k → has_bit (before ++ new ∷ after) i ≡ has_bit (before ++ old ∷ after) i
 unfolding has_bit
 has_bit-other before after old new k i clears other = ⊎_elim
-    (λ (here : length before ≡ i / 64). rw (get_or_at before new after 0 (i / 64) here, get_or_at before old after 0 (i / 64) here) (ap (λ b. b == 1) (clears.others (i % 64) (omega arith) (omega arith))))
+    (λ (here : length before ≡ i / 64).
+    rw (get_or_at before new after 0 (i / 64) here, get_or_at before old after 0 (i / 64) here) (ap (λ b. b == 1) (clears.others (i % 64) (omega arith) (omega arith))))
     (λ apart. ap (λ w. bit_at w (i % 64) == 1) (same (i / 64) apart))
     (cases_eq (length before) (i / 64))
   where

@@ -37,7 +37,14 @@ bit-up x k i h high = bit-up_any x k i h ∙ ap (λ b. b && bit x (i - k)) (le-l
 bit-straddle : (r low high i : ℕ) → r < 64 → i < 64 → bit (straddle r low high) i ≡ (bit low (r + i) || (nat_le 64 (r + i) && bit high (r + i - 64)))
 unfolding straddle
 bit-straddle r low high i short within =
-    grind (arith, nat_tests, bit-or (low / 2 ^ r) (high * 2 ^ 1 % 2 ^ 64 * 2 ^ (63 - r) % 2 ^ 64) i, bit-down low r i, bit-up_any (high * 2 ^ 1 % 2 ^ 64) (63 - r) i within, bit-up_any high 1 (i - (63 - r)) (omega arith))
+    grind (
+      arith,
+      nat_tests,
+      bit-or (low / 2 ^ r) (high * 2 ^ 1 % 2 ^ 64 * 2 ^ (63 - r) % 2 ^ 64) i,
+      bit-down low r i,
+      bit-up_any (high * 2 ^ 1 % 2 ^ 64) (63 - r) i within,
+      bit-up_any high 1 (i - (63 - r)) (omega arith),
+    )
 
 -- the 64 bits from a position on
 module _ (ws : List ℕ) (words : AreWords ws) (p : ℕ) where
@@ -54,7 +61,7 @@ module _ (ws : List ℕ) (words : AreWords ws) (p : ℕ) where
 -- the bits of a first word that is moved up within its place
 pub bit-first : (ws : List ℕ) (shift i : ℕ) → i < 64 → shift < 64 → bit (get_or ws 0 0 * 2 ^ shift % 2 ^ 64) i ≡ (nat_le shift i && has_bit ws (i - shift))
 unfolding has_bit
-bit-first ws shift i within short = bit-up_any (get_or ws 0 0) shift i within ∙ (let q : 0 ≡ (i - shift) / 64 = omega arith in let r : i - shift ≡ (i - shift) % 64 = omega arith in λ j. nat_le shift i && bit (get_or ws (q j) 0) (r j))
+bit-first ws shift i within short = bit-up_any (get_or ws 0 0) shift i within ∙ grind (arith, nat_tests)
 
 -- ---- the tests of moved rows
 
@@ -79,7 +86,8 @@ module _ (ws : List ℕ) (words : AreWords ws) where
   }
 
 -- each word takes in what stands `from` above, or rests where nothing does
-pub IsJoined_down : {f : ℕ → ℕ → ℕ} {t : Bool → Bool → Bool} {keep take : Bool} → IsWordOp f t keep take → (ws old : List ℕ) → AreWords ws → AreWords old → (new : List ℕ) → length new ≡ length old → (from : ℕ)
+pub IsJoined_down : {f : ℕ → ℕ → ℕ} {t : Bool → Bool → Bool} {keep take : Bool} → IsWordOp f t keep take → (ws old : List ℕ) → AreWords ws → AreWords old
+    → (new : List ℕ) → length new ≡ length old → (from : ℕ)
     → ((k : ℕ) → k < length old → k + from / 64 < length ws → get_or new k 0 ≡ f (get_or old k 0) (window ws (from + 64 * k)))
     → ((k : ℕ) → k < length old → length ws ≤ k + from / 64 → Rests keep old new k) → IsJoined t old (λ p. has_bit ws (from + p)) new
 IsJoined_down law ws old words words_old new long from joined rest = IsJoined_words law old words_old _ new long (λ k within. ⊎_elim
@@ -128,7 +136,8 @@ module _ {f : ℕ → ℕ → ℕ} {t : Bool → Bool → Bool} {keep take_right
       (cases_lt k at))
 
 -- a row that was moved up: word by word
-pub IsJoined_moved_up : {f : ℕ → ℕ → ℕ} {t : Bool → Bool → Bool} {keep take : Bool} → IsWordOp f t keep take → (old : List ℕ) → AreWords old → (new : List ℕ) → length new ≡ length old → (by : ℕ)
+pub IsJoined_moved_up : {f : ℕ → ℕ → ℕ} {t : Bool → Bool → Bool} {keep take : Bool} → IsWordOp f t keep take → (old : List ℕ) → AreWords old
+    → (new : List ℕ) → length new ≡ length old → (by : ℕ)
     → ((k : ℕ) → k < length old → by ≤ 64 * k → get_or new k 0 ≡ f (get_or old k 0) (window old (64 * k - by)))
     → (by / 64 < length old → 0 < by % 64 → get_or new (by / 64) 0 ≡ f (get_or old (by / 64) 0) (get_or old 0 0 * 2 ^ (by % 64) % 2 ^ 64))
     → ((k : ℕ) → k < length old → 64 * (k + 1) ≤ by → Rests keep old new k) → IsJoined t old (λ p. nat_le by p && has_bit old (p - by)) new

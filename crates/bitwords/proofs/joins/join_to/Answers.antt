@@ -22,11 +22,13 @@ returns-else-KEEP-clause-bits g c =
     let kept = length-kept g.O.WordOp.joined xs ys in
     let long = length-placed g.O.WordOp.joined c.args.to.now xs ys c.apply_joined.new.dst c.requires.long shorter c.apply_joined.ensures.words in
     rw (placed_zeros g.O.WordOp.joined c.args.to.now xs ys c.apply_joined.new.dst c.requires.long shorter c.apply_joined.ensures.words c.zero.new.dst)
-    (IsJoined-zeroed g.met.O.WordOp.laws xs ys (λ k. search rules) (λ k. search rules) c.zero.new.dst (search rules) (omega (arith, kept, c.if-common-words.true)) (c.zero.ensures.words ∙ ap (λ n. replicate n 0) (search rules)))
+    (IsJoined-zeroed g.met.O.WordOp.laws xs ys (λ k. search rules) (λ k. search rules) c.zero.new.dst (search rules) (omega (arith, kept, c.if-common-words.true))
+    (c.zero.ensures.words ∙ ap (λ n. replicate n 0) (search rules)))
 
 pub returns-else-common-words-clause-bits : goal.returns-else-common-words-clause-bits
 returns-else-common-words-clause-bits g c =
     let xs = c.args.words.now in
     let ys = c.args.other.now in
     rw (c.apply_joined.ensures.words, placed_all g.O.WordOp.joined c.args.to.now xs ys c.requires.long (omega (arith, c.if-common-words.false)))
-    (IsJoined-kept g.met.O.WordOp.laws xs ys (λ k. search rules) (λ k. search rules) (⊎_elim (λ e. inr e) (λ e. inl (e, omega (arith, length-kept g.O.WordOp.joined xs ys))) (cases_Bool g.O.WordOp.KEEP)))
+    (IsJoined-kept g.met.O.WordOp.laws xs ys (λ k. search rules) (λ k. search rules)
+    (⊎_elim (λ e. inr e) (λ e. inl (e, omega (arith, length-kept g.O.WordOp.joined xs ys))) (cases_Bool g.O.WordOp.KEEP)))

@@ -43,7 +43,8 @@ returns-in-None-clause-steps g c =
     let before = c.loop-self.invariant in
     let none = c.in-None.ensures in
     let same = left_kept _ _ _ _ _ _ none.0 none.1 before.same in (
-      left_lowest_of_back _ _ _ _ _ same _ _ _ c.if-self-ne0.false none.1 (omega (arith, ap length none.0, before.spaced.apart (omega (arith, c.if-self-eq0.false)))) c.take_lowest_bit-in-None.ensures.lowest c.take_lowest_bit-in-None.ensures.clears,
+      left_lowest_of_back _ _ _ _ _ same _ _ _ c.if-self-ne0.false none.1 (omega (arith, ap length none.0, before.spaced.apart (omega (arith, c.if-self-eq0.false))))
+          c.take_lowest_bit-in-None.ensures.lowest c.take_lowest_bit-in-None.ensures.clears,
       record { words = before.words; front = before.front ∙ ap (λ xs. before.words ++ xs) (none.0 ∙ sym none.1); counts = record { taken = before.taken; turns = omega (arith, before.turns) } },
     )
 
