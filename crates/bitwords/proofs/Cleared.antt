@@ -38,9 +38,7 @@ module _ {f : ℕ → ℕ → ℕ} {t : Bool → Bool → Bool} {keep take_right
   pub IsJoined-kept : ((keep ≡ false) × (length (zip_longest f true false xs ys) ≤ length ys)) ⊎ (keep ≡ true) → IsJoined t xs (has_bit ys) (zip_longest f true false xs ys)
   IsJoined-kept whole = IsJoined_words law xs words_xs (has_bit ys) _ (length-kept f xs ys) (λ k within. ⊎_elim
       (λ (lt : k < length ys). inl (takes_other _ k (get_or-kept_both f xs ys k within lt)))
-      (λ (ge : length ys ≤ k).
-      let kept : keep ≡ true = ⊎_elim (λ e. absurd (omega (arith, e.1, length-kept f xs ys))) (λ e. e) whole in
-      inr (record { none = λ i h. has_bit-past ys _ (omega arith); left = inl (kept, get_or-kept_past f xs ys k ge) }))
+      (λ (ge : length ys ≤ k). inr (record { none = λ i h. has_bit-past ys _ (omega arith); left = inl (grind (arith, length-kept f xs ys), get_or-kept_past f xs ys k ge) }))
       (cases_lt k (length ys)))
 
   -- where the rest is made 0

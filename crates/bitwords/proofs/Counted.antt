@@ -1,5 +1,5 @@
 -- The positions of a range that pass, counted part by part.
-use Rattle.std.proofs.Common.{◌≡◌, ℕ, zero, suc, ◌+◌, ◌-◌, ◌*◌, ◌/◌, ◌%◌, ◌^◌, ◌<◌, ◌≤◌, Bool, true, false, ◌&&◌, ◌==◌, nat_lt, List, length, get_or, take, drop, map, sum_by, refl, ap, ◌∙◌, arith, ⊎_elim}
+use Rattle.std.proofs.Common.{◌≡◌, ℕ, zero, suc, ◌+◌, ◌-◌, ◌*◌, ◌/◌, ◌%◌, ◌^◌, ◌<◌, ◌≤◌, Bool, true, false, ◌&&◌, ◌==◌, nat_lt, List, length, get_or, take, drop, map, sum_by, ap, arith, ⊎_elim}
 use Rattle.std.specs.Int.Count.{ones}
 use Rattle.std.proofs.lemmas.List.{drop_more}
 use Rattle.std.proofs.lemmas.Bool.Decides.{nat_tests}
@@ -16,8 +16,7 @@ use Rattle.bitwords.proofs.Parts.{masked_whole}
 module _ {f : ℕ → ℕ → ℕ} {t : Bool → Bool → Bool} {keep take_right : Bool} (law : IsWordOp f t keep take_right) (drops : take_right ≡ false) (ws : List ℕ) (words : AreWords ws) where
   -- a bit passes only where the range has its position
   tested : (r y : Bool) → t r y ≡ (r && t true y)
-  tested true y = refl
-  tested false y = law.of_second y ∙ ap (λ b. b && y) drops
+  tested r y = grind (arith, law.of_second y)
 
   -- the bits of word k, joined with the mask of a range within it: those of the range that pass
   pub word-bits : (k mask start end : ℕ) → mask < 2 ^ 64 → ((i : ℕ) → bit mask i ≡ (nat_lt i 64 && in_range start end (64 * k + i)))

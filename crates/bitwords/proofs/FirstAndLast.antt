@@ -34,7 +34,7 @@ module _ (ws : List ℕ) where
 
   -- zeros have no position
   none_in_zeros : AreZeros ws → positions ≡ []
-  none_in_zeros zeros = ascending-none (has_bit ws) 0 (64 * length ws) (λ i above below. none_at ws i (ap (λ w. bit_at w (i % 64)) (zeros (i / 64) (omega arith)) ∙ bit_at-zero (i % 64)))
+  none_in_zeros zeros = ascending-none (has_bit ws) 0 (64 * length ws) (λ i above below. none_at ws i (grind (arith, zeros (i / 64), bit_at-zero)))
 
   pub no_first_position : AreZeros ws → slice_get positions 0 ≡ None
   no_first_position zeros = ap (λ xs. slice_get xs 0) (none_in_zeros zeros)

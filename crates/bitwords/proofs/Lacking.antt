@@ -1,10 +1,9 @@
 -- A row without another one: of each word the bits that the word of the other row lacks, and the rest as it is. What it
 -- has first, and what becomes of a third row that takes it in, in two parts.
-use Rattle.std.proofs.Common.{◌≡◌, ℕ, ◌+◌, ◌-◌, ◌*◌, ◌<◌, ◌≤◌, Bool, true, false, not, ◌&&◌, ◌||◌, ◌==◌, inr, List, [], ◌∷◌, ◌++◌, take, drop, length, get_or, map, min, max, bit_or, Option, Some, None, IfSome, IfNone, refl, sym, ap, ◌∙◌, arith, ⊎_elim, slice_get}
+use Rattle.std.proofs.Common.{◌≡◌, ℕ, ◌+◌, ◌-◌, ◌*◌, ◌<◌, ◌≤◌, Bool, true, false, not, ◌&&◌, ◌||◌, ◌==◌, inr, List, [], ◌∷◌, ◌++◌, take, drop, length, get_or, map, min, max, bit_or, Option, Some, None, IfSome, IfNone, refl, sym, ap, ◌∙◌, arith, slice_get}
 use Rattle.std.specs.List.{list_all}
 use Rattle.std.specs.Simd.Lanes.{zip2}
 use Rattle.std.proofs.lemmas.List.Folds.{list_all-append}
-use Rattle.std.proofs.lemmas.Bool.{cases_lt}
 use Rattle.std.proofs.lemmas.List.{append-nil, append_assoc, drop-drop, length-append, drop_all, length-drop, length-map, get_or_past}
 use Rattle.std.proofs.lemmas.Simd.{get_or-zip2}
 use borrow.Rule.Slice.PartMut.{put_mid, post_of}
@@ -89,8 +88,7 @@ module _ (f : ℕ → ℕ → ℕ) (xs ys : List ℕ) where
     behind_both i past = rw under_no_mask (grind (arith, get_or-kept_past, get_or_past, length-kept))
 
     zero_before : (i m : ℕ) → ((j : ℕ) → n ≤ j → j < m → get_or (map (bit_or 0) xs) j 0 ≡ 0) → i < m → get_or (zip_longest f true false xs ys) i 0 ≡ 0
-    zero_before i m rest before =
-        ⊎_elim (λ (lt : i < n). of_both i (omega arith) (omega arith) ∙ none i (omega arith)) (λ (past : n ≤ i). behind_both i past ∙ rest i past before) (cases_lt i n)
+    zero_before i m rest before = grind (arith, of_both i, none i, behind_both i, rest i)
 
     pub found_behind : (found : Option ℕ) → IfSome found (IsNextOne (map (bit_or 0) xs) n) → IfSome found (IsFirstOne (zip_longest f true false xs ys))
     found_behind None word = tt

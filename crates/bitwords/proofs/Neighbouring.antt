@@ -1,7 +1,7 @@
 -- The position next to a given one, found in its own word or in the first word behind it that has one.
-use Rattle.std.proofs.Common.{◌≡◌, ℕ, ◌+◌, ◌-◌, ◌*◌, ◌/◌, ◌%◌, ◌^◌, ◌<◌, ◌≤◌, Bool, true, false, ◌&&◌, nat_lt, nat_le, List, length, get_or, map, Option, Some, None, refl, sym, ap, ◌∙◌, arith, ⊎_elim, ◌↔◌, IsTrue, IfSome, IfNone, is_none}
+use Rattle.std.proofs.Common.{◌≡◌, ℕ, ◌+◌, ◌-◌, ◌*◌, ◌/◌, ◌%◌, ◌^◌, ◌<◌, ◌≤◌, Bool, true, false, ◌&&◌, nat_lt, nat_le, List, length, get_or, map, Option, Some, None, refl, sym, ap, ◌∙◌, arith, ◌↔◌, IsTrue, IfSome, IfNone, is_none}
 use Rattle.std.specs.Int.{bit_at}
-use Rattle.std.proofs.lemmas.Bool.{cases_lt, true≢false}
+use Rattle.std.proofs.lemmas.Bool.{true≢false}
 use Rattle.std.proofs.lemmas.Bool.Decides.{nat_tests}
 use Rattle.std.proofs.lemmas.List.{get_or-map, length-map}
 use Rattle.std.proofs.lemmas.Nat.Bits.{bit_at-zero}
@@ -17,7 +17,7 @@ use Rattle.bitwords.proofs.Parts.{masked_whole}
 
 -- two stretches that pass nothing, one behind the other
 none-append : (passes : ℕ → Bool) (start middle end : ℕ) → NonePasses passes start middle → NonePasses passes middle end → NonePasses passes start end
-none-append passes start middle end one two i after below = ⊎_elim (λ (lt : i < middle). one i after lt) (λ (ge : middle ≤ i). two i ge below) (cases_lt i middle)
+none-append passes start middle end one two i after below = grind (arith, one i, two i)
 
 module _ {f : ℕ → ℕ → ℕ} {t : Bool → Bool → Bool} {keep take_right : Bool} (law : IsWordOp f t keep take_right) (drops : take_right ≡ false) (ws : List ℕ) (words : AreWords ws) where
   abbrev passes : ℕ → Bool
@@ -134,7 +134,7 @@ pub none_is_left : (ws : List ℕ) (start : ℕ) (next : Option ℕ) → IfSome 
     → IsTrue (is_none next) ↔ ((p : ℕ) → start ≤ p → has_bit ws p ≡ false)
 unfolding bit_test
 none_is_left ws start None found none = (
-  λ _ p from. ⊎_elim (λ (lt : p < 64 * length ws). none p from lt) (λ (ge : 64 * length ws ≤ p). has_bit-past ws p ge) (cases_lt p (64 * length ws)),
+  λ _ p from. grind (arith, none p, has_bit-past ws p),
   λ _. refl,
 )
 none_is_left ws start (Some q) found none = (

@@ -30,11 +30,15 @@ ones-bits (suc w) x h =
     let small : r < 2 ^ w = omega arith in
     let two : q < 2 = (div-lt_iff_lt-mul pos).1 (omega (arith, pow-suc 2 w)) in
     let is : x ≡ q * 2 ^ w + r = sym (shr_split x w) in
-    let low : count_below (bit r) w ≡ count_below (bit x) w =
-    count-same _ _ w (λ i l. ap (λ y. y == 1) (sym (ap (λ y. bit_at y i) is ∙ bit_at_cat_low q w r i l))) in
-    let top : ones q ≡ indicator (bit x w) = ones_below_two q two in
-    let split : ones x ≡ ones q + ones r = ap ones is ∙ ones_cat w q r small in
-    omega (arith, split, top, low, ones-bits w r small, count-suc (bit x) w)
+    omega (
+      arith,
+      ap ones is,
+      ones_cat w q r small,
+      ones_below_two q two,
+      count-same (bit r) (bit x) w (λ i l. ap (λ y. y == 1) (sym (ap (λ y. bit_at y i) is ∙ bit_at_cat_low q w r i l))),
+      ones-bits w r small,
+      count-suc (bit x) w,
+    )
 
 -- a number has no ones exactly if it is 0
 pub ones-zero : (x : ℕ) → (x == 0) ≡ (ones x == 0)

@@ -127,11 +127,8 @@ module _ {f : ℕ → ℕ → ℕ} {t : Bool → Bool → Bool} {keep take_right
       let put = put_row_within row part at (length row - at) (omega arith) long k ge (omega arith) in
       let was : get_or cut (k - at) 0 ≡ get_or old k 0 = grind (arith, get_or-take, get_or-drop, behind) in
       ⊎_elim
-      (λ (some : k - at < length ws).
-      let e : from + 64 * (k - at) ≡ 64 * k - by = omega arith in
-      inl (takes_up ws words f old new by k (omega arith) (put ∙ joined (k - at) (omega (arith, length-take {A = ℕ}, length-drop {A = ℕ})) (omega arith) ∙ (λ i. f (was i) (window ws (e i))))))
-      (λ (past : length ws ≤ k - at).
-      inr (record { none = λ i h. and_right _ _ (has_bit-past ws _ (omega arith)); left = inl (keeps, put ∙ rest (k - at) (omega arith) ∙ was) }))
+      (λ (some : k - at < length ws). inl (takes_up ws words f old new by k (omega arith) (grind (arith, put, was, joined (k - at), length-take, length-drop))))
+      (λ (past : length ws ≤ k - at). inr (record { none = λ i h. and_right _ _ (has_bit-past ws _ (omega arith)); left = inl (keeps, put ∙ rest (k - at) (omega arith) ∙ was) }))
       (cases_lt (k - at) (length ws)))
       (cases_lt k at))
 

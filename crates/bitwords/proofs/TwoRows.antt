@@ -1,5 +1,5 @@
 -- Two rows of words, joined to the end of the longer: their bits, their ones, and whether all words are 0.
-use Rattle.std.proofs.Common.{◌≡◌, ℕ, zero, suc, ◌+◌, ◌*◌, ◌/◌, ◌%◌, ◌^◌, ◌<◌, ◌≤◌, max, Bool, true, false, ◌&&◌, List, [], ◌∷◌, ◌++◌, drop, length, get_or, sum_by, refl, sym, ap, ◌∙◌, arith, if◌then◌else◌}
+use Rattle.std.proofs.Common.{◌≡◌, ℕ, zero, suc, ◌+◌, ◌*◌, ◌/◌, ◌%◌, ◌^◌, ◌<◌, ◌≤◌, max, Bool, true, ◌&&◌, List, [], ◌∷◌, ◌++◌, drop, length, get_or, sum_by, sym, ap, ◌∙◌, arith, if◌then◌else◌}
 use Rattle.std.specs.Int.Count.{ones}
 use Rattle.std.specs.List.{list_all}
 use Rattle.std.specs.Simd.Lanes.{zip2}
@@ -47,8 +47,7 @@ words_if : (b : Bool) (zs : List ℕ) → AreWords zs → (k : ℕ) → get_or (
 words_if b zs words k = grind arith
 
 bit-if : (b : Bool) (zs : List ℕ) (k i : ℕ) → bit (get_or (if b then zs else []) k 0) i ≡ (b && bit (get_or zs k 0) i)
-bit-if true zs k i = refl
-bit-if false zs k i = bit-zero i
+bit-if b zs k i = grind (arith, bit-zero i)
 
 module _ {f : ℕ → ℕ → ℕ} {t : Bool → Bool → Bool} {keep take : Bool} (law : IsWordOp f t keep take) where
   bit-longest : (xs ys : List ℕ) → AreWords xs → AreWords ys → (k i : ℕ) → bit (get_or (zip_longest f keep take xs ys) k 0) i ≡ t (bit (get_or xs k 0) i) (bit (get_or ys k 0) i)
