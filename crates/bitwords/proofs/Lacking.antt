@@ -134,13 +134,9 @@ module _ (f g : ℕ → ℕ → ℕ) (n : ℕ) (ws xs ys row : List ℕ) (common
   pub written_behind : (part : List ℕ) → part ≡ zip_longest f true false (take (length row - n) (drop n row)) (take (length xs - n) (drop n xs)) → put_mid n (length row - n) row part ≡ zip_longest f true false ws (zip_longest g true false xs ys)
   written_behind part second =
       let none : post_of n (length row - n) row ≡ [] = drop_all (length row - n) (drop n row) (omega (arith, length-drop n row)) in
-      let whole : part ≡ zip_longest f true false (drop (length (zip2 g xs ys)) ws) (drop (length ys) xs) =
-      second ∙ (let a = rest_of_row in let b = rest_of_xs in let c = both in λ i. zip_longest f true false (a i) (b i)) ∙ rw both in
-      ap (λ zs. take n row ++ (part ++ zs)) none
-      ∙ ap (λ zs. take n row ++ zs) (append-nil part ∙ whole)
-      ∙ ap (λ zs. zs ++ zip_longest f true false (drop (length (zip2 g xs ys)) ws) (drop (length ys) xs)) (rw (first, ← both) (kept_first f ws (zip2 g xs ys) (omega (arith, both))))
-      ∙ longest-append f ws (zip2 g xs ys) (drop (length ys) xs) (omega (arith, both))
-      ∙ ap (zip_longest f true false ws) (with_rest g xs ys)
+      let front : take n row ≡ zip2 f ws (zip2 g xs ys) = rw (first, ← both) (kept_first f ws (zip2 g xs ys) (omega (arith, both))) in
+      let back : part ≡ zip_longest f true false (drop n ws) (drop (length ys) xs) = second ∙ rw (rest_of_row, rest_of_xs) in
+      rw (front, back, none, append-nil, ← both) (longest-append f ws (zip2 g xs ys) (drop (length ys) xs) (omega (arith, both)) ∙ ap (zip_longest f true false ws) (with_rest g xs ys))
 
   -- whether a word changed in either
   pub changed_behind : (joined behind : Bool) → joined ≡ not (list_all (λ w. w == 0) (zip2 (changed_bits f) ws (zip2 g xs ys)))

@@ -1,5 +1,5 @@
 -- Joined words that are written over the words of a row as long as the first one.
-use Rattle.std.proofs.Common.{◌≡◌, ℕ, ◌-◌, ◌≤◌, List, [], ◌∷◌, ◌++◌, length, take, drop, true, false, refl, ap, sym, ◌∙◌, arith}
+use Rattle.std.proofs.Common.{◌≡◌, ℕ, ◌-◌, ◌≤◌, List, [], ◌∷◌, ◌++◌, length, take, drop, true, false, refl, ap, ◌∙◌, arith}
 use Rattle.std.specs.Simd.Lanes.{zip2}
 use Rattle.std.proofs.lemmas.List.{append-nil, drop_all, take_at, length-drop}
 use borrow.Rule.Slice.PartMut.{put_mid, post_of}
@@ -28,23 +28,15 @@ past_end k row = drop_all (length row - k) (drop k row) (omega (arith, length-dr
 module _ (f : ℕ → ℕ → ℕ) where
   -- where the second row is as long as the first, each word is a joined one
   pub placed_all : (to xs ys : List ℕ) → length to ≡ length xs → length xs ≤ length ys → over to (zip2 f xs ys) ≡ zip_longest f true false xs ys
-  placed_all to xs ys e p =
-      over_all to (zip2 f xs ys) (omega (arith, length-both f xs ys)) ∙ sym (append-nil (zip2 f xs ys))
-      ∙ ap (λ l. zip2 f xs ys ++ l) (sym (drop_all (length ys) xs p)) ∙ with_rest f xs ys
-
-  -- else as many as the second row has are
-  placed_first : (to xs ys : List ℕ) → length to ≡ length xs → length ys ≤ length xs → take (length ys) (over to (zip2 f xs ys)) ≡ zip2 f xs ys
-  placed_first to xs ys e p =
-      let long : length (zip2 f xs ys) ≡ length ys = length-both f xs ys ∙ omega arith in
-      ap (take (length ys)) (over_parts to (zip2 f xs ys) (omega arith)) ∙ take_at (zip2 f xs ys) _ (length ys) long
+  placed_all to xs ys e p = over_all to (zip2 f xs ys) (omega (arith, length-both f xs ys)) ∙ rw (← with_rest f xs ys, drop_all (length ys) xs p, append-nil)
 
   module _ (to xs ys row : List ℕ) (long : length to ≡ length xs) (shorter : length ys ≤ length xs) (placed : row ≡ over to (zip2 f xs ys)) where
     -- the joined words, and others behind them
     with_others : (others : List ℕ) → put_mid (length ys) (length row - length ys) row others ≡ zip2 f xs ys ++ others
     with_others others =
-        let front = ap (take (length ys)) placed ∙ placed_first to xs ys long shorter in
-        let back = ap (λ l. others ++ l) (past_end (length ys) row) ∙ append-nil others in
-        λ i. front i ++ back i
+        let common : length (zip2 f xs ys) ≡ length ys = length-both f xs ys ∙ omega arith in
+        let front : take (length ys) row ≡ zip2 f xs ys = rw (placed, over_parts to (zip2 f xs ys) (omega arith)) (take_at (zip2 f xs ys) _ (length ys) common) in
+        rw (front, past_end (length ys) row, append-nil)
 
     -- with the rest of the first row they are the two rows joined
     pub placed_rest : (rest : List ℕ) → rest ≡ drop (length ys) xs → put_mid (length ys) (length row - length ys) row rest ≡ zip_longest f true false xs ys
@@ -53,10 +45,7 @@ module _ (f : ℕ → ℕ → ℕ) where
     -- with zeros they are the same with zeros
     pub placed_zeros : (zeros : List ℕ) → put_mid (length ys) (length row - length ys) row zeros
         ≡ put_mid (length ys) (length (zip_longest f true false xs ys) - length ys) (zip_longest f true false xs ys) zeros
-    placed_zeros zeros =
-        let front = kept_first f xs ys shorter in
-        let back = ap (λ l. zeros ++ l) (past_end (length ys) (zip_longest f true false xs ys)) ∙ append-nil zeros in
-        with_others zeros ∙ sym (λ i. front i ++ back i)
+    placed_zeros zeros = rw (with_others zeros, kept_first f xs ys shorter, past_end (length ys) (zip_longest f true false xs ys), append-nil)
 
     pub length-placed : length row ≡ length xs
     length-placed = ap length placed ∙ length-kept (λ x y. y) to (zip2 f xs ys) ∙ long
