@@ -1,15 +1,31 @@
--- The words of a row joined with those of another one: the rest is kept, or cleared. And a row whose rest is made 0.
-use Rattle.std.proofs.Common.{◌≡◌, ℕ, ◌-◌, ◌<◌, ◌≤◌, Bool, true, false, List, length, get_or, replicate, sym, ap, ◌∙◌, arith, ⊎_elim, ◌⊎◌, inl, inr}
-use Rattle.std.proofs.lemmas.Bool.{cases_lt}
-use Rattle.std.proofs.lemmas.List.{length-replicate, get_or-replicate}
+-- A row of which a part is written over, or made 0. And the words of a row joined with those of another one: the rest is
+-- kept, or cleared.
+use Rattle.std.proofs.Common.{◌≡◌, ℕ, ◌+◌, ◌-◌, ◌<◌, ◌≤◌, List, length, get_or, arith, Bool, true, false, replicate, sym, ap, ◌∙◌, ⊎_elim, ◌⊎◌, inl, inr}
+use Rattle.std.proofs.lemmas.List.{get_or_append_left, get_or-append_right, get_or-take, get_or-drop, length-append, length-take, length-drop, length-replicate, get_or-replicate}
 use borrow.Rule.Slice.PartMut.{put_mid}
+use Rattle.std.proofs.lemmas.Bool.{cases_lt}
 use Rattle.bitwords.proofs.Written.{length-kept, get_or-kept_both, get_or-kept_past}
-use Rattle.bitwords.proofs.PutRow.{length-put_row, put_row_below, put_row_within}
 use Rattle.bitlanes.specs.Words.{zip_longest}
 use Rattle.bitwords.specs.Rows.{has_bit, IsJoined}
 use Rattle.bitlanes.specs.Ops.{IsWordOp}
 use Rattle.bitwords.specs.RowFacts.{AreWords, has_bit-at, has_bit-past}
 use Rattle.bitwords.proofs.Joined.{TakesWord, IsJoined_words}
+
+module _ (row part : List ℕ) (at count : ℕ) (inside : at + count ≤ length row) (long : length part ≡ count) where
+  abbrev pub put_row : List ℕ
+  put_row = put_mid at count row part
+
+  pub length-put_row : length put_row ≡ length row
+  length-put_row = omega (arith, length-append {A = ℕ}, length-take {A = ℕ}, length-drop {A = ℕ})
+
+  pub put_row_below : (k : ℕ) → k < at → get_or put_row k 0 ≡ get_or row k 0
+  put_row_below k below = grind (arith, get_or_append_left, get_or-take, length-take)
+
+  pub put_row_within : (k : ℕ) → at ≤ k → k < at + count → get_or put_row k 0 ≡ get_or part (k - at) 0
+  put_row_within k from to = grind (arith, get_or_append_left, get_or-append_right, length-take)
+
+  pub put_row_behind : (k : ℕ) → at + count ≤ k → get_or put_row k 0 ≡ get_or row k 0
+  put_row_behind k behind = grind (arith, get_or-append_right, get_or-drop, length-take)
 
 -- ---- a row whose words from word k on are made 0
 module _ (row zeros : List ℕ) (k : ℕ) (inside : k ≤ length row) (are : zeros ≡ replicate (length row - k) 0) where

@@ -3,7 +3,7 @@ use Rattle.std.proofs.Common.{◌≡◌, ◌≢◌, ℕ, ◌+◌, ◌-◌, ◌*�
 use Rattle.std.proofs.lemmas.Bool.{cases_eq}
 use Rattle.std.proofs.lemmas.Bool.Decides.{nat_tests}
 use borrow.Rule.Slice.PartMut.{put_mid}
-use Rattle.bitwords.proofs.PutRow.{length-put_row, put_row_below, put_row_within, put_row_behind}
+use Rattle.bitwords.proofs.Cleared.{length-put_row, put_row_below, put_row_within, put_row_behind}
 use Rattle.bitlanes.specs.Bits.{bit, bit_without}
 use Rattle.bitlanes.specs.BitLaws.{bit-or, bit-and, bit-without}
 use Rattle.bitlanes.specs.Shifts.{window}

@@ -18,11 +18,10 @@ use Rattle.bitwords.specs.AscendingFacts.{ascending-same}
 use Rattle.bitwords.specs.CountFacts.{count-same}
 use Rattle.bitwords.specs.Rows.{has_bit, count_below, bits_test, IsJoined}
 use Rattle.bitwords.specs.RowFacts.{AreWords}
-use Rattle.bitwords.proofs.Changed.{changed-kept}
+use Rattle.bitwords.proofs.TwoRows.{changed-kept, AreWords-longest, has_bit-longest}
 use Rattle.bitwords.proofs.Cleared.{IsJoined-kept}
 use Rattle.bitwords.proofs.Joined.{IsJoined-same}
 use Rattle.bitwords.proofs.FirstAndLast.{first_position, no_first_position}
-use Rattle.bitwords.proofs.TwoRows.{AreWords-longest, has_bit-longest}
 use Rattle.bitwords.proofs.Written.{slice_rest, with_rest, length-both, length-kept, get_or-kept_both, get_or-kept_past, rest_kept, kept_first}
 
 module _ (xs ys : List ℕ) (words_xs : AreWords xs) (words_ys : AreWords ys) where

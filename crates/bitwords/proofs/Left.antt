@@ -6,8 +6,7 @@ use Rattle.bitlanes.specs.Word.{IsLowestBit, IsHighestBit, ClearsBit}
 use Rattle.bitwords.specs.Rows.{has_bit}
 use Rattle.bitwords.specs.Walk.{between_ends}
 use Rattle.bitwords.specs.WalkedWords.{ones_from}
-use Rattle.bitwords.proofs.RowEnds.{has_bit-drop_last}
-use Rattle.bitwords.proofs.OnesFrom.{ones_from-skip, ones_from-drop_last, ones_from-first, ones_from-last, length-ones_from}
+use Rattle.bitwords.proofs.OnesFrom.{has_bit-drop_last, ones_from-skip, ones_from-drop_last, ones_from-first, ones_from-last, length-ones_from}
 
 -- those of the words f and b at the ends, f at `start`, and of the words ms between
 abbrev pub left : ℕ → ℕ → List ℕ → ℕ → List ℕ

@@ -4,7 +4,7 @@ use Rattle.std.proofs.lemmas.Bool.{cases_lt, le-leb, lt-leb, and_left, and_right
 use Rattle.std.proofs.lemmas.Bool.Decides.{nat_tests}
 use borrow.Rule.Slice.PartMut.{put_mid}
 use Rattle.bitwords.proofs.Joined.{TakesWord, Rests, LeavesWord, IsJoined_words}
-use Rattle.bitwords.proofs.PutRow.{length-put_row, put_row_below, put_row_within}
+use Rattle.bitwords.proofs.Cleared.{length-put_row, put_row_below, put_row_within}
 use Rattle.std.proofs.lemmas.Nat.{shr-shr, shr_split, or_lt, shr_le, pow_pos}
 use Rattle.std.proofs.lemmas.Nat.Bits.{bit_at_above, bit_at_cat_low, bit_at_cat_high, bit_at-zero}
 use Rattle.bitlanes.specs.Bits.{bit}

@@ -1,5 +1,5 @@
 use Rattle.std.proofs.Common.{refl, ap, take, ◌-◌, ◌/◌, drop}
-use Rattle.bitwords.proofs.RangeRow.{within-range}
+use Rattle.bitwords.proofs.Cut.{within-range}
 use Rattle.bitwords.proofs.cursors.ones_within.Goals as goal
 
 pub returns : goal.returns

@@ -1,7 +1,7 @@
 use Rattle.std.proofs.Common.{refl, sym, ◌∙◌, ap, map, take, ◌-◌, ◌/◌, drop}
 use Rattle.std.specs.Int.{bit_not, w64, div_ceil}
 use Rattle.std.specs.List.{take-map, drop-map}
-use Rattle.bitwords.proofs.RangeRow.{within-range}
+use Rattle.bitwords.proofs.Cut.{within-range}
 use Rattle.bitwords.proofs.cursors.zeroes_within.Goals as goal
 
 pub returns : goal.returns

@@ -1,8 +1,7 @@
 use Rattle.std.proofs.Common.{◌∙◌, ◌≡◌, ◌≤◌, ap, rules, length, drop, replicate, ⊎_elim, inl, inr, arith}
 use Rattle.std.proofs.lemmas.Bool.{cases_Bool}
 use Rattle.bitwords.proofs.Cleared.{IsJoined-kept, IsJoined-zeroed}
-use Rattle.bitwords.proofs.Placed.{over_all, placed_all, placed_rest, placed_zeros, length-placed}
-use Rattle.bitwords.proofs.Written.{length-kept, slice_rest}
+use Rattle.bitwords.proofs.Written.{over_all, placed_all, placed_rest, placed_zeros, length-placed, length-kept, slice_rest}
 use Rattle.bitwords.proofs.joins.join_to.Goals as goal
 
 pub returns-then-KEEP-clause-bits : goal.returns-then-KEEP-clause-bits

@@ -1,5 +1,5 @@
 use Rattle.std.proofs.Common.{◌∙◌, true, ap, sym, rules, length, replicate, arith, if◌then◌else◌, length-take, length-drop}
-use Rattle.bitwords.proofs.Changed.{changed-zeroed, changed-kept}
+use Rattle.bitwords.proofs.TwoRows.{changed-zeroed, changed-kept}
 use Rattle.bitwords.proofs.Cleared.{IsJoined-kept, IsJoined-zeroed}
 use Rattle.bitwords.proofs.Written.{length-kept}
 use Rattle.bitwords.proofs.joins.join_with_change.Goals.{then-joined, else-joined}

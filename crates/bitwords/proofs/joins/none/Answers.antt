@@ -1,6 +1,6 @@
 use Rattle.std.proofs.Common.{◌==◌, ◌∙◌, ap, rules}
 use Rattle.bitlanes.specs.Words.{zip_longest}
-use Rattle.bitwords.proofs.Ones.{all-ones}
+use Rattle.bitwords.proofs.Counted.{all-ones}
 use Rattle.bitwords.proofs.TwoRows.{longest-ones}
 use Rattle.bitwords.proofs.joins.none.Goals as goal
 

@@ -1,6 +1,5 @@
 use Rattle.std.proofs.Common.{◌/◌, ◌==◌, rules, ap, ◌∙◌, arith}
-use Rattle.bitwords.proofs.Counted.{count-word}
-use Rattle.bitwords.proofs.Ones.{ones-zero, sum_is_start}
+use Rattle.bitwords.proofs.Counted.{count-word, ones-zero, sum_is_start}
 use Rattle.bitwords.proofs.ranges.none_part.Goals as goal
 
 pub returns-then-start-end-clause-none : goal.returns-then-start-end-clause-none

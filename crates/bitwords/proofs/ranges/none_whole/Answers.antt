@@ -1,7 +1,6 @@
 use Rattle.std.proofs.Common.{◌≡◌, ◌+◌, ◌-◌, ◌*◌, ◌^◌, ◌==◌, ℕ, List, map, take, drop, rules, true, ap, ◌∙◌, arith}
 use Rattle.bitwords.specs.Rows.{bit_test, count_below}
-use Rattle.bitwords.proofs.Counted.{count-whole, count-wholes}
-use Rattle.bitwords.proofs.Ones.{all-ones, ones-zero, sum_is_start}
+use Rattle.bitwords.proofs.Counted.{count-whole, count-wholes, all-ones, ones-zero, sum_is_start}
 use Rattle.bitwords.proofs.ranges.none_whole.Goals as goal
 
 pub returns-clause-none : goal.returns-clause-none
