@@ -88,13 +88,10 @@ module _ (ws old part : List ℕ) (from first last : ℕ) (order : first ≤ las
   abbrev count : ℕ
   count = last - first
 
-  abbrev row : List ℕ
-  row = put_mid first count old part
-
   long_cut : length (take count (drop first old)) ≡ count
   long_cut = length-take-le count (drop first old) (omega (arith, length-drop first old))
 
-  pub IsCopied-words : IsCopied ws from (64 * first) (64 * last) old row
+  pub IsCopied-words : IsCopied ws from (64 * first) (64 * last) old (put_mid first count old part)
   unfolding has_bit
   IsCopied-words = record {
     long = length-put_row old part first count (omega arith) (done.long ∙ long_cut);

@@ -25,9 +25,6 @@ pub record LeavesWord (keep : Bool) (old : List ℕ) (test : ℕ → Bool) (new 
   pub none : (i : ℕ) → i < 64 → test (64 * k + i) ≡ false
   pub left : Rests keep old new k
 
-bit-rests : (keep : Bool) (old new : List ℕ) (k i : ℕ) → Rests keep old new k → bit (get_or new k 0) i ≡ (keep && bit (get_or old k 0) i)
-bit-rests keep old new k i = ⊎_elim (λ kept. rw (kept.1, kept.0)) (λ lost. rw (lost.1, lost.0) (bit-zero i))
-
 pub IsJoined_words : {f : ℕ → ℕ → ℕ} {t : Bool → Bool → Bool} {keep take : Bool} → IsWordOp f t keep take → (old : List ℕ) → AreWords old → (test : ℕ → Bool) (new : List ℕ) → length new ≡ length old
     → ((k : ℕ) → k < length old → TakesWord f old test new k ⊎ LeavesWord keep old test new k) → IsJoined t old test new
 unfolding has_bit

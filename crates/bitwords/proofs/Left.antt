@@ -37,8 +37,7 @@ module _ (start f b : ℕ) (ms items : List ℕ) (same : left start f ms b ≡ i
   -- no other word is left, and the highest bit of the front word comes
   pub left_highest_of_front : (new k : ℕ) → b ≡ 0 → ms ≡ [] → IsHighestBit f k → ClearsBit f new k → items ≡ left start new ms b ++ (start + k) ∷ []
   left_highest_of_front new k none empty is clears =
-      let ends : start ≡ start + 64 * 0 = omega arith in
-      let one = ones_from-last start start f new k [] ends is clears in
+      let one = ones_from-last start start f new k [] (omega arith) is clears in
       sym same ∙ rw (none, empty, ones_from-drop_last start (f ∷ []), ones_from-drop_last start (new ∷ [])) one
 
   -- nothing is left

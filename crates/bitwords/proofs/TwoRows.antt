@@ -1,6 +1,6 @@
 -- Two rows of words, joined to the end of the longer: their bits, their ones, whether all words are 0, and whether a
 -- position changes.
-use Rattle.std.proofs.Common.{◌≡◌, ℕ, zero, suc, ◌+◌, ◌*◌, ◌/◌, ◌%◌, ◌^◌, ◌<◌, ◌≤◌, max, Bool, true, ◌&&◌, List, [], ◌∷◌, ◌++◌, drop, length, get_or, sum_by, sym, ap, ◌∙◌, arith, if◌then◌else◌, false, not, ◌==◌, ◌-◌, ◌⊎◌, take}
+use Rattle.std.proofs.Common.{◌≡◌, ℕ, zero, suc, ◌+◌, ◌*◌, ◌/◌, ◌%◌, ◌≤◌, max, Bool, true, ◌&&◌, List, [], ◌∷◌, ◌++◌, drop, length, get_or, sum_by, sym, ap, ◌∙◌, arith, if◌then◌else◌, false, not, ◌==◌, ◌-◌, ◌⊎◌, take}
 use Rattle.std.specs.Int.Count.{ones}
 use Rattle.std.specs.List.{list_all}
 use Rattle.std.specs.Simd.Lanes.{zip2}
@@ -47,9 +47,6 @@ all_like p f keep take xs ys same = ap (list_all p) (zip_longest-like f keep tak
 longest-le : (f : ℕ → ℕ → ℕ) (keep take : Bool) (xs ys : List ℕ) → length (zip_longest f keep take xs ys) ≤ max (length xs) (length ys)
 longest-le f keep take xs ys = rw zip_longest-parts (grind (arith, length-append, length-drop, length-both))
 
-words_if : (b : Bool) (zs : List ℕ) → AreWords zs → (k : ℕ) → get_or (if b then zs else []) k 0 < 2 ^ 64
-words_if b zs words k = grind arith
-
 bit-if : (b : Bool) (zs : List ℕ) (k i : ℕ) → bit (get_or (if b then zs else []) k 0) i ≡ (b && bit (get_or zs k 0) i)
 bit-if b zs k i = grind (arith, bit-zero i)
 
@@ -61,8 +58,8 @@ module _ {f : ℕ → ℕ → ℕ} {t : Bool → Bool → Bool} {keep take : Boo
   bit-longest (x ∷ xs) (y ∷ ys) p q (suc k) i = bit-longest xs ys (λ j. p (suc j)) (λ j. q (suc j)) k i
 
   pub AreWords-longest : (xs ys : List ℕ) → AreWords xs → AreWords ys → AreWords (zip_longest f keep take xs ys)
-  AreWords-longest [] ys p q k = words_if take ys q k
-  AreWords-longest (x ∷ xs) [] p q k = words_if keep (x ∷ xs) p k
+  AreWords-longest [] ys p q k = grind (arith, q k)
+  AreWords-longest (x ∷ xs) [] p q k = grind (arith, p k)
   AreWords-longest (x ∷ xs) (y ∷ ys) p q zero = law.fits x y (p 0) (q 0)
   AreWords-longest (x ∷ xs) (y ∷ ys) p q (suc k) = AreWords-longest xs ys (λ j. p (suc j)) (λ j. q (suc j)) k
 

@@ -35,6 +35,3 @@ returns-then-at-words c =
     (λ gt. inr (record { none = λ i h. le-ltb _ _ (omega (arith, gt)); left = inr (refl, get_or-cut_row_from row c.zero.new.dst (at + 1) inside are k (omega (arith, gt)) (omega arith)) }))
     other)
     (cases_order k at))
-
-pub returns-else-at-words : goal.returns-else-at-words
-returns-else-at-words c = record { long = refl; bits = λ p h. grind (arith, nat_tests) }
