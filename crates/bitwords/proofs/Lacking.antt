@@ -60,9 +60,7 @@ module _ (xs ys : List ℕ) (words_xs : AreWords xs) (words_ys : AreWords ys) wh
     lacked_changes =
         let long : 64 * max (length ws) (length lacked) ≡ 64 * length ws = omega (arith, length-kept bit_without xs ys) in
         changed-kept laws_of_or ws lacked words_ws are_words (λ _. omega (arith, length-kept bit_without xs ys)) (inr refl)
-        ∙ ap (λ n. not (n == 0)) (
-        ap (count_below (bits_test (changes (λ x y. x || y)) ws lacked)) long
-        ∙ count-same _ _ (64 * length ws) (λ p _. ap (changes (λ x y. x || y) (has_bit ws p)) (tells p)))
+        ∙ rw long (ap (λ n. not (n == 0)) (count-same _ _ (64 * length ws) (λ p _. ap (changes (λ x y. x || y) (has_bit ws p)) (tells p))))
 
 -- ---- its first word that is not 0, among those that both rows have or behind them
 

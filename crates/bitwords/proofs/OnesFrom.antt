@@ -43,11 +43,8 @@ unfolding has_bit
 has_bit-other before after old new k i clears other = ⊎_elim
     (λ (here : length before ≡ i / 64).
     rw (get_or_at before new after 0 (i / 64) here, get_or_at before old after 0 (i / 64) here) (ap (λ b. b == 1) (clears.others (i % 64) (omega arith) (omega arith))))
-    (λ apart. ap (λ w. bit_at w (i % 64) == 1) (same (i / 64) apart))
+    (λ apart. let same : get_or (before ++ new ∷ after) (i / 64) 0 ≡ get_or (before ++ old ∷ after) (i / 64) 0 = grind (arith, elements, apart) in ap (λ w. bit_at w (i % 64) == 1) same)
     (cases_eq (length before) (i / 64))
-  where
-    same : (j : ℕ) → (length before ≡ j → ⊥) → get_or (before ++ new ∷ after) j 0 ≡ get_or (before ++ old ∷ after) j 0
-    same j apart = grind (arith, elements)
 
 -- an empty word in front adds nothing
 pub ones_from-skip : (start : ℕ) (words : List ℕ) → ones_from start (0 ∷ words) ≡ ones_from (start + 64) words
