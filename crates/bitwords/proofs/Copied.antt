@@ -1,5 +1,5 @@
 -- Positions of a range that are written over with those of another row, part by part.
-use Rattle.std.proofs.Common.{◌≡◌, ◌≢◌, ℕ, ◌+◌, ◌-◌, ◌*◌, ◌/◌, ◌%◌, ◌^◌, ◌<◌, ◌≤◌, false, ◌&&◌, ◌||◌, not, nat_lt, List, length, take, drop, get_or, set, bit_and, bit_or, ap, ◌∙◌, refl, arith, ⊎_elim, get_or-set_same, get_or-set_other, length-set, length-take-le, length-drop}
+use Rattle.std.proofs.Common.{◌≡◌, ◌≢◌, ℕ, ◌+◌, ◌-◌, ◌*◌, ◌/◌, ◌%◌, ◌^◌, ◌<◌, ◌≤◌, false, ◌&&◌, ◌||◌, not, nat_lt, List, length, take, drop, get_or, set, bit_and, bit_or, ap, ◌∙◌, arith, ⊎_elim, get_or-set_same, get_or-set_other, length-set, length-take-le, length-drop}
 use Rattle.std.proofs.lemmas.Bool.{cases_eq}
 use Rattle.std.proofs.lemmas.Bool.Decides.{nat_tests}
 use borrow.Rule.Slice.PartMut.{put_mid}
@@ -13,10 +13,6 @@ use Rattle.bitwords.specs.RowFacts.{AreWords}
 use Rattle.bitwords.proofs.Shifted.{bit-window, bit-up}
 
 module _ (ws : List ℕ) where
-  -- where the range is empty nothing changes
-  pub IsCopied-none : (from start end : ℕ) (old : List ℕ) → end ≤ start → IsCopied ws from start end old old
-  IsCopied-none from start end old none = record { long = refl; copied = λ p above below. absurd (omega arith); before = λ p h. refl; behind = λ p h. refl }
-
   -- two ranges, one behind the other, the one before first
   pub IsCopied-append : (from start middle end : ℕ) (old mid new : List ℕ) → start ≤ middle → middle ≤ end → IsCopied ws from start middle old mid → IsCopied ws (from + (middle - start)) middle end mid new → IsCopied ws from start end old new
   IsCopied-append from start middle end old mid new p q first second = record {

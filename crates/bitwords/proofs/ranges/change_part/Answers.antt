@@ -1,6 +1,5 @@
 use Rattle.std.proofs.Common.{◌/◌, rules, arith}
-use Rattle.bitwords.proofs.Joined.{IsJoined-none, IsJoined-word}
-use Rattle.std.proofs.lemmas.Bool.Decides.{nat_tests}
+use Rattle.bitwords.proofs.Joined.{IsJoined-word}
 use Rattle.bitwords.proofs.ranges.change_part.Goals as goal
 
 pub returns-then-start-end-clause-bits : goal.returns-then-start-end-clause-bits
@@ -8,6 +7,3 @@ returns-then-start-end-clause-bits g c =
     rw c.word.ensures
     (IsJoined-word g.met.O.WordOp.laws c.requires.keeps c.args.words.now (λ k. search rules) (c.args.start / 64) c.mask.result c.args.start c.args.end
     (omega arith) c.mask.type_inv (omega arith) (omega arith) c.mask.ensures)
-
-pub returns-else-start-end-clause-bits : goal.returns-else-start-end-clause-bits
-returns-else-start-end-clause-bits g c = IsJoined-none g.met.O.WordOp.laws c.requires.keeps _ _ (λ p _. grind (arith, nat_tests))

@@ -1,11 +1,7 @@
 use Rattle.std.proofs.Common.{◌≡◌, ◌*◌, ◌^◌, ◌+◌, ◌-◌, rules, arith}
-use Rattle.bitwords.proofs.Joined.{IsJoined-none, IsJoined-append, IsJoined-word}
+use Rattle.bitwords.proofs.Joined.{IsJoined-append, IsJoined-word}
 use Rattle.bitwords.proofs.Parts.{masked_whole}
-use Rattle.std.proofs.lemmas.Bool.Decides.{nat_tests}
 use Rattle.bitwords.proofs.ranges.change_whole.Goals as goal
-
-pub loop-k-init : goal.loop-k-init
-loop-k-init g c = record { bits = IsJoined-none g.met.O.WordOp.laws c.requires.keeps _ _ (λ p _. grind (arith, nat_tests)); cost = omega arith }
 
 pub loop-k-preserved : goal.loop-k-preserved
 loop-k-preserved g c =
