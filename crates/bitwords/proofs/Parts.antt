@@ -6,7 +6,6 @@ use Rattle.std.proofs.lemmas.Nat.Bits.{bit_at_ones, bit_at_ones_above}
 use Rattle.bitlanes.specs.Bits.{bit}
 use Rattle.bitwords.specs.Cuts.{IsCut}
 use Rattle.bitwords.specs.Rows.{in_range}
-use Rattle.bitwords.specs.Steps.{range_words}
 
 -- the bits from the place of the start on, as many as the range has
 pub masked : (start end mask : ℕ) → start < end → end ≤ 64 * (start / 64) + 64 → ((i : ℕ) → bit mask i ≡ (nat_le (start % 64) i && nat_lt i (start % 64 + (end - start)))) → (i : ℕ) → bit mask i ≡ (nat_lt i 64 && in_range start end (64 * (start / 64) + i))
@@ -23,7 +22,3 @@ module _ (start end low high : ℕ) (is : IsCut start end low high) where
   -- the words between have the positions between
   pub between : (p : ℕ) → in_range (64 * (low / 64)) (64 * (high / 64)) p ≡ in_range low high p
   between p = grind (arith, nat_tests, is)
-
-  -- the steps over the three parts
-  pub parts_words : range_words start low + (high / 64 - low / 64) + range_words high end ≡ range_words start end
-  parts_words = grind (arith, nat_tests, is)

@@ -2,7 +2,6 @@ use Rattle.std.proofs.Common.{ℕ, Bool, true, arith}
 use Rattle.bitwords.specs.Rows.{bit_test}
 use Rattle.bitwords.specs.CountFacts.{count-le}
 use Rattle.bitwords.proofs.Counted.{count-between}
-use Rattle.bitwords.proofs.Parts.{parts_words}
 use Rattle.bitwords.proofs.ranges.count.Goals as goal
 
 pub overflow_add-result : goal.overflow_add-result
@@ -19,6 +18,3 @@ pub returns-clause-count : goal.returns-clause-count
 returns-clause-count g c =
     let bits : ℕ → Bool = bit_test (g.O.WordOp.truth true) c.args.words.now in
     omega (arith, c.count_part-first.ensures.count, count-between _ _ _ _ c.cut-low.ensures bits c.count_whole-middle.result c.count_whole-middle.ensures.count, c.count_part-last.ensures.count)
-
-pub returns-clause-cost : goal.returns-clause-cost
-returns-clause-cost g c = omega (arith, c.count_part-first.ensures.cost, c.count_whole-middle.ensures.cost, c.count_part-last.ensures.cost, parts_words _ _ _ _ c.cut-low.ensures)
