@@ -1,5 +1,5 @@
 -- the bits that a join changes, by lanes of four and a last part
-use Rattle.std.proofs.Common.{◌≡◌, ℕ, zero, suc, ◌+◌, ◌-◌, ◌*◌, ◌≤◌, true, false, List, [], ◌∷◌, ◌++◌, take, drop, length, replicate, bit_xor, refl, sym, ap, ◌∙◌, arith}
+use Rattle.std.proofs.Common.{◌≡◌, ℕ, zero, suc, ◌+◌, ◌-◌, ◌*◌, ◌≤◌, true, false, List, ◌∷◌, ◌++◌, take, drop, length, replicate, bit_xor, refl, sym, ap, ◌∙◌, arith}
 use Rattle.std.specs.Simd.Lanes.{zip2, chunk, put_chunk}
 use Rattle.std.proofs.lemmas.List.{take_all, take-replicate, length-replicate, replicate-append-replicate, drop-drop}
 use Rattle.std.proofs.lemmas.Simd.{take_more_put_chunk, length-put_chunk}
@@ -12,16 +12,14 @@ use Rattle.bitlanes.proofs.Zipping.{chunk_zip2, take-zip2}
 
 -- the old words against the new ones
 pub against_joined : (f : ℕ → ℕ → ℕ) (xs ys : List ℕ) → zip2 bit_xor xs (zip2 f xs ys) ≡ zip2 (changed_bits f) xs ys
-against_joined f [] ys = refl
-against_joined f (x ∷ xs) [] = refl
 against_joined f (x ∷ xs) (y ∷ ys) = ap (λ zs. bit_xor x (f x y) ∷ zs) (against_joined f xs ys)
+against_joined f xs ys = refl
 
 -- the words from i on are as they were, where those before were joined
 kept_chunk : (f : ℕ → ℕ → ℕ) (i n : ℕ) (xs ys : List ℕ) → chunk i n (zip_longest f true false xs (take i ys)) ≡ chunk i n xs
 kept_chunk f zero n xs ys = ap (chunk 0 n) (kept_none f xs)
-kept_chunk f (suc i) n [] ys = refl
-kept_chunk f (suc i) n (x ∷ xs) [] = refl
 kept_chunk f (suc i) n (x ∷ xs) (y ∷ ys) = kept_chunk f i n xs ys
+kept_chunk f i n xs ys = refl
 
 -- so what is made of them is made of the first words
 pub of_kept : (f g : ℕ → ℕ → ℕ) (i n : ℕ) (xs ys : List ℕ) → zip2 g (chunk i n (zip_longest f true false xs (take i ys))) (chunk i n ys) ≡ chunk i n (zip2 g xs ys)
@@ -57,15 +55,11 @@ rest_chunk i n old xs same = ap (take n) same
 -- the whole lanes are 0, and the last words are written
 pub zeros_written : (k n : ℕ) (xs : List ℕ) → 4 * k + n ≡ length xs → n ≤ 4 → take (4 * k) xs ≡ replicate (4 * k) 0 → put_chunk (4 * k) xs (take n (replicate 4 0)) ≡ replicate (length xs) 0
 zeros_written k n xs e few front =
-    let part : take n (replicate {A = ℕ} 4 0) ≡ replicate {A = ℕ} n 0 = take-replicate n 4 0 few in
-    let long : length (replicate {A = ℕ} n 0) ≡ n = length-replicate n 0 in
-    ap (put_chunk (4 * k) xs) part
-    ∙ sym (take_all (length xs) (put_chunk (4 * k) xs (replicate n 0)) (omega (arith, length-put_chunk (4 * k) xs (replicate n 0))))
-    ∙ take_more_put_chunk (4 * k) xs (replicate n 0) (length xs) (omega (arith, long, e)) (omega arith)
-    ∙ ap (λ t. t ++ replicate n 0) front
-    ∙ replicate-append-replicate (4 * k) n 0
-    ∙ ap (λ m. replicate m 0) e
+    let zeros : List ℕ = replicate n 0 in
+    let all = take_all (length xs) (put_chunk (4 * k) xs zeros) (omega (arith, length-put_chunk (4 * k) xs zeros)) in
+    let parts = take_more_put_chunk (4 * k) xs zeros (length xs) (omega (arith, length-replicate {A = ℕ} n 0)) (omega arith) in
+    rw (take-replicate {X = ℕ} n 4 0 few, ← e, ← replicate-append-replicate {A = ℕ} (4 * k) n 0, ← front) (sym all ∙ parts)
 
 -- where no word is left, the whole lanes are all
 pub zeros_in_lanes : (k : ℕ) (xs : List ℕ) → 4 * k ≡ length xs → take (4 * k) xs ≡ replicate (4 * k) 0 → xs ≡ replicate (length xs) 0
-zeros_in_lanes k xs e front = sym (take_all (4 * k) xs (omega (arith, e))) ∙ front ∙ ap (λ m. replicate m 0) e
+zeros_in_lanes k xs e front = rw (← e) (sym (take_all (4 * k) xs (omega arith)) ∙ front)

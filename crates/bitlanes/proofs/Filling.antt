@@ -3,9 +3,9 @@ use Rattle.std.proofs.Common.{◌≡◌, ℕ, zero, suc, ◌+◌, ◌-◌, ◌*�
 use Rattle.std.specs.List.{list_all}
 use Rattle.std.specs.Simd.Lanes.{zip2, chunk, put_chunk}
 use Rattle.std.specs.Int.{bit_at}
-use Rattle.std.proofs.Math.Bool.{and-true}
-use Rattle.std.proofs.Math.Seq.{take-add, take-append_seam}
-use Rattle.std.proofs.lemmas.List.{take_all, drop_all, take-replicate, length-map, length-replicate}
+use Rattle.std.proofs.Math.Seq.{take-add}
+use Rattle.std.proofs.lemmas.Bool.Decides.{nat_tests}
+use Rattle.std.proofs.lemmas.List.{take_all, take-append-le, drop_all, take-replicate, length-map, length-replicate}
 use Rattle.std.proofs.lemmas.List.Folds.{list_all-append}
 use Rattle.std.proofs.lemmas.Nat.Bits.{same_from_bits, bit_at-zero, bit_at-lt}
 use Rattle.std.proofs.lemmas.Simd.{length-chunk, put_chunk_whole}
@@ -23,7 +23,7 @@ put_first (suc i) y (x ∷ xs) ys = ap (λ t. x ∷ t) (put_first i y xs ys)
 
 pub put_one : (i : ℕ) (xs ys : List ℕ) → 1 ≤ length ys → put_chunk i xs (take 1 ys) ≡ slice_set xs i (get_or ys 0 0)
 put_one i xs [] h = absurd (omega arith)
-put_one i xs (y ∷ ys) h = put_first i y xs [] ∙ put_none (suc i) (slice_set xs i y)
+put_one i xs (y ∷ ys) h = rw (put_first i y xs []) (put_none (suc i) (slice_set xs i y))
 
 pub put_two : (i j : ℕ) (xs ys : List ℕ) → j ≡ i + 1 → 2 ≤ length ys → put_chunk i xs (take 2 ys) ≡ slice_set (slice_set xs i (get_or ys 0 0)) j (get_or ys 1 0)
 put_two i j xs [] e h = absurd (omega arith)
@@ -38,8 +38,8 @@ put_three i j k xs (y ∷ ys) e f h = put_first i y xs (take 2 ys) ∙ ap (λ k.
 -- the first words of a filled lane
 pub take_filled : (i n : ℕ) (xs : List ℕ) → i + n ≤ length xs → take n (filled i n xs) ≡ chunk i n xs
 take_filled i n xs within =
-    let zeros : List ℕ = replicate (4 - n) 0 in
-    ap (λ k. take k (chunk i n xs ++ zeros)) (sym (length-chunk i n xs within)) ∙ take-append_seam (chunk i n xs) zeros
+    let long = length-chunk i n xs within in
+    rw (take-append-le n (chunk i n xs) (replicate (4 - n) 0) (omega (arith, long))) (take_all n (chunk i n xs) (omega (arith, long)))
 
 -- the first words of two rows joined
 pub take_joined_part : (f : ℕ → ℕ → ℕ) (i n : ℕ) (xs ys : List ℕ) → i + n ≤ length xs → i + n ≤ length ys → take n (filled i n (zip2 f xs ys)) ≡ zip2 f (chunk i n xs) (chunk i n ys)
@@ -47,20 +47,18 @@ take_joined_part f i n xs ys p q = take_filled i n (zip2 f xs ys) (omega (arith,
 
 zip2_append : (f : ℕ → ℕ → ℕ) (us vs xs ys : List ℕ) → length us ≡ length vs → zip2 f (us ++ xs) (vs ++ ys) ≡ zip2 f us vs ++ zip2 f xs ys
 zip2_append f [] [] xs ys e = refl
-zip2_append f [] (v ∷ vs) xs ys e = absurd (omega arith)
-zip2_append f (u ∷ us) [] xs ys e = absurd (omega arith)
 zip2_append f (u ∷ us) (v ∷ vs) xs ys e = ap (λ t. f u v ∷ t) (zip2_append f us vs xs ys (omega arith))
+zip2_append f us vs xs ys e = absurd (omega arith)
 
 zip2_zeros : (f : ℕ → ℕ → ℕ) → f 0 0 ≡ 0 → (k : ℕ) → zip2 f (replicate k 0) (replicate k 0) ≡ replicate k 0
 zip2_zeros f h zero = refl
-zip2_zeros f h (suc k) = ap (λ n. n ∷ zip2 f (replicate k 0) (replicate k 0)) h ∙ ap (λ t. 0 ∷ t) (zip2_zeros f h k)
+zip2_zeros f h (suc k) = rw (h, zip2_zeros f h k) refl
 
 -- two lanes filled with as many zeros
 zip2_filled : (f : ℕ → ℕ → ℕ) → f 0 0 ≡ 0 → (i j n : ℕ) (xs ys : List ℕ) → i + n ≤ length xs → j + n ≤ length ys
     → zip2 f (filled i n xs) (filled j n ys) ≡ zip2 f (chunk i n xs) (chunk j n ys) ++ replicate (4 - n) 0
 zip2_filled f h i j n xs ys p q =
-    zip2_append f (chunk i n xs) (chunk j n ys) (replicate (4 - n) 0) (replicate (4 - n) 0) (length-chunk i n xs p ∙ sym (length-chunk j n ys q))
-    ∙ ap (λ t. zip2 f (chunk i n xs) (chunk j n ys) ++ t) (zip2_zeros f h (4 - n))
+    rw (zip2_zeros f h (4 - n)) at (zip2_append f (chunk i n xs) (chunk j n ys) (replicate (4 - n) 0) (replicate (4 - n) 0) (length-chunk i n xs p ∙ sym (length-chunk j n ys q)))
 
 pub filled_joined : (f : ℕ → ℕ → ℕ) → f 0 0 ≡ 0 → (i n : ℕ) (xs ys : List ℕ) → i + n ≤ length xs → i + n ≤ length ys → zip2 f (filled i n xs) (filled i n ys) ≡ filled i n (zip2 f xs ys)
 filled_joined f h i n xs ys p q = zip2_filled f h i i n xs ys p q ∙ ap (λ t. t ++ replicate (4 - n) 0) (sym (chunk_zip2 f i n xs ys))
@@ -68,13 +66,10 @@ filled_joined f h i n xs ys p q = zip2_filled f h i i n xs ys p q ∙ ap (λ t. 
 -- one word joined with each word of a part
 pub filled_masked : (f : ℕ → ℕ → ℕ) → f 0 0 ≡ 0 → (mask i n : ℕ) (xs : List ℕ) → n ≤ 4 → i + n ≤ length xs → zip2 f (filled 0 n (replicate 4 mask)) (filled i n xs) ≡ filled i n (map (f mask) xs)
 filled_masked f h mask i n xs few within =
-    zip2_filled f h 0 i n (replicate 4 mask) xs (omega arith) within
-    ∙ ap (λ t. t ++ replicate (4 - n) 0) (ap (λ t. zip2 f t (chunk i n xs)) (take-replicate n 4 mask few) ∙ chunk_masked f mask i n xs within)
+    rw (zip2_filled f h 0 i n (replicate 4 mask) xs (omega arith) within, take-replicate n 4 mask few, chunk_masked f mask i n xs within) refl
 
 digit_zero : (d : ℕ) → d < 2 → (d == 1) ≡ false → d ≡ 0
-digit_zero zero p h = refl
-digit_zero (suc zero) p h = cc
-digit_zero (suc (suc d)) p h = absurd (omega arith)
+digit_zero d p h = grind (arith, nat_tests)
 
 -- no bit joined with no bit is no bit, so nothing joined with nothing is nothing
 pub nothing_joined : (f : ℕ → ℕ → ℕ) (t : Bool → Bool → Bool) → ((a b i : ℕ) → a < 2 ^ 64 → b < 2 ^ 64 → bit (f a b) i ≡ t (bit a i) (bit b i)) → t false false ≡ false → f 0 0 ≡ 0
@@ -84,9 +79,6 @@ nothing_joined f t by_bits neither = same_from_bits (f 0 0) 0 (λ i.
 
 -- ---- the whole lanes and the last
 
-split_last : (k n : ℕ) (xs : List ℕ) → 4 * k + n ≡ length xs → take (4 * k) xs ++ chunk (4 * k) n xs ≡ xs
-split_last k n xs e = sym (take-add (4 * k) n xs) ∙ take_all (4 * k + n) xs (omega arith)
-
 are_zeros : (k : ℕ) → list_all (λ w. w == 0) (replicate k 0) ≡ true
 are_zeros zero = refl
 are_zeros (suc k) = are_zeros k
@@ -95,19 +87,16 @@ are_zeros (suc k) = are_zeros k
 pub all_with_part : (k n : ℕ) (xs : List ℕ) → 4 * k + n ≡ length xs → (list_all (λ w. w == 0) (take (4 * k) xs) && list_all (λ w. w == 0) (filled (4 * k) n xs)) ≡ list_all (λ w. w == 0) xs
 all_with_part k n xs e =
     let p = λ (w : ℕ). w == 0 in
-    ap (λ b. list_all p (take (4 * k) xs) && b) (
-    list_all-append p (chunk (4 * k) n xs) (replicate (4 - n) 0)
-    ∙ ap (λ b. list_all p (chunk (4 * k) n xs) && b) (are_zeros (4 - n))
-    ∙ and-true (list_all p (chunk (4 * k) n xs)))
-    ∙ sym (list_all-append p (take (4 * k) xs) (chunk (4 * k) n xs))
-    ∙ ap (list_all p) (split_last k n xs e)
+    let whole : take (4 * k) xs ++ chunk (4 * k) n xs ≡ xs = sym (take-add (4 * k) n xs) ∙ take_all (4 * k + n) xs (omega arith) in
+    let last = list_all-append p (chunk (4 * k) n xs) (replicate (4 - n) 0) in
+    grind (arith, nat_tests, last, are_zeros (4 - n), list_all-append p (take (4 * k) xs) (chunk (4 * k) n xs), ap (list_all p) whole)
 
 pub all_joined_with_part : (f : ℕ → ℕ → ℕ) (k n : ℕ) (xs ys : List ℕ) → 4 * k + n ≡ min (length xs) (length ys) → (list_all (λ w. w == 0) (take (4 * k) (zip2 f xs ys)) && list_all (λ w. w == 0) (filled (4 * k) n (zip2 f xs ys))) ≡ list_all (λ w. w == 0) (zip2 f xs ys)
 all_joined_with_part f k n xs ys e = all_with_part k n (zip2 f xs ys) (e ∙ sym (length_joined f xs ys))
 
 -- where each word of the whole lanes is 0, the last lane tells of all
 pub all_part : (k n : ℕ) (xs : List ℕ) → 4 * k + n ≡ length xs → list_all (λ w. w == 0) (take (4 * k) xs) ≡ true → list_all (λ w. w == 0) (filled (4 * k) n xs) ≡ list_all (λ w. w == 0) xs
-all_part k n xs e zeros = ap (λ b. b && list_all (λ w. w == 0) (filled (4 * k) n xs)) (sym zeros) ∙ all_with_part k n xs e
+all_part k n xs e zeros = rw zeros at (all_with_part k n xs e)
 
 pub all_joined_part : (f : ℕ → ℕ → ℕ) (k n : ℕ) (xs ys : List ℕ) → 4 * k + n ≡ min (length xs) (length ys) → list_all (λ w. w == 0) (take (4 * k) (zip2 f xs ys)) ≡ true → list_all (λ w. w == 0) (filled (4 * k) n (zip2 f xs ys)) ≡ list_all (λ w. w == 0) (zip2 f xs ys)
 all_joined_part f k n xs ys e zeros = all_part k n (zip2 f xs ys) (e ∙ sym (length_joined f xs ys)) zeros
@@ -125,11 +114,8 @@ drop_put_rest (suc i) (x ∷ xs) ys e = drop_put_rest i xs ys (omega arith)
 -- zeros from the whole lanes on
 pub zeros_part : (k n : ℕ) (xs : List ℕ) → 4 * k + n ≡ length xs → n ≤ 4 → drop (4 * k) (put_chunk (4 * k) xs (take n (replicate 4 0))) ≡ replicate (length xs - 4 * k) 0
 zeros_part k n xs e few =
-    let part : take n (replicate {A = ℕ} 4 0) ≡ replicate {A = ℕ} n 0 = take-replicate n 4 0 few in
-    let long : length (replicate {A = ℕ} n 0) ≡ n = length-replicate n 0 in
-    ap (λ ys. drop (4 * k) (put_chunk (4 * k) xs ys)) part
-    ∙ drop_put_rest (4 * k) xs (replicate n 0) (omega (arith, long, e))
-    ∙ ap (λ m. replicate m 0) (omega arith)
+    let rest : length xs - 4 * k ≡ n = omega arith in
+    rw (take-replicate {X = ℕ} n 4 0 few, rest) (drop_put_rest (4 * k) xs (replicate n 0) (omega (arith, length-replicate {A = ℕ} n 0)))
 
 -- past the end there is none
 pub zeros_past : (n : ℕ) (xs : List ℕ) → length xs ≤ n → drop n xs ≡ replicate (length xs - n) 0

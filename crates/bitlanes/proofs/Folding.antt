@@ -2,7 +2,7 @@
 use Rattle.std.proofs.Common.{◌≡◌, ℕ, zero, suc, ◌+◌, ◌-◌, ◌*◌, ◌≤◌, Bool, true, false, ◌==◌, ◌<◌, ◌&&◌, List, slice_index, [], ◌∷◌, ◌++◌, length, take, drop, replicate, bit_or, refl, ap, sym, ◌∙◌, arith}
 use Rattle.std.specs.List.{list_all}
 use Rattle.std.specs.Simd.Lanes.{zip2, fold_l, chunk, put_chunk}
-use Rattle.std.proofs.Math.Bool.{and-true, and-false, and_assoc}
+use Rattle.std.proofs.Math.Bool.{and-true}
 use Rattle.std.proofs.Math.Seq.{take-add}
 use Rattle.std.proofs.lemmas.Bool.Decides.{nat_tests}
 use Rattle.std.proofs.lemmas.List.{take-append-drop, replicate-append-replicate, drop-drop}
@@ -16,7 +16,7 @@ bit_or-is_zero (suc a) b = grind (arith, nat_tests, le_or_l (suc a) b)
 
 fold_or : (a : ℕ) (xs : List ℕ) → (fold_l bit_or a xs == 0) ≡ ((a == 0) && list_all (λ w. w == 0) xs)
 fold_or a [] = sym (and-true (a == 0))
-fold_or a (x ∷ xs) = fold_or (bit_or a x) xs ∙ (ap (λ b. b && list_all (λ w. w == 0) xs) (bit_or-is_zero a x) ∙ and_assoc (a == 0) (x == 0) (list_all (λ w. w == 0) xs))
+fold_or a (x ∷ xs) = grind (arith, nat_tests, fold_or (bit_or a x) xs, bit_or-is_zero a x)
 
 -- the words of a lane, joined by `or`, are 0 where each is
 pub or_of_lane : (xs : List ℕ) → (fold_l bit_or 0 xs == 0) ≡ list_all (λ w. w == 0) xs
@@ -32,10 +32,7 @@ all_lane p k xs = ap (list_all p) (take_lane k xs) ∙ list_all-append p (take (
 
 fails_within : (p : ℕ → Bool) (i n : ℕ) (xs : List ℕ) → list_all p (chunk i n xs) ≡ false → list_all p xs ≡ false
 fails_within p i n xs h =
-    ap (list_all p) (sym (take-append-drop i xs) ∙ ap (λ t. take i xs ++ t) (chunk-drop i n xs))
-    ∙ (list_all-append p (take i xs) (chunk i n xs ++ drop (i + n) xs)
-    ∙ (ap (λ b. list_all p (take i xs) && b) (list_all-append p (chunk i n xs) (drop (i + n) xs) ∙ ap (λ b. b && list_all p (drop (i + n) xs)) h)
-    ∙ and-false (list_all p (take i xs))))
+    grind (arith, nat_tests, take-append-drop i xs, chunk-drop i n xs, list_all-append p (take i xs) (drop i xs), list_all-append p (chunk i n xs) (drop (i + n) xs))
 
 -- where the answer r for a lane is no, it is no for all
 pub fails_lane : (p : ℕ → Bool) (i : ℕ) (xs lane : List ℕ) (r : Bool) → lane ≡ chunk i 4 xs → r ≡ list_all p lane → r ≡ false → false ≡ list_all p xs
@@ -43,24 +40,22 @@ fails_lane p i xs lane r of_xs answer failed = sym (fails_within p i 4 xs (ap (l
 
 pub zeros_lane : (k : ℕ) (xs : List ℕ) → 4 * k + 4 ≤ length xs → take (4 * k) xs ≡ replicate (4 * k) 0 → take (4 * (k + 1)) (put_chunk (4 * k) xs (replicate 4 0)) ≡ replicate (4 * (k + 1)) 0
 zeros_lane k xs le h =
-    take_more_put_chunk (4 * k) xs (replicate 4 0) (4 * (k + 1)) (omega arith) (omega arith)
-    ∙ (ap (λ t. t ++ replicate 4 0) h ∙ (replicate-append-replicate (4 * k) 4 0 ∙ ap (λ n. replicate n 0) (omega arith)))
+    let next : 4 * k + 4 ≡ 4 * (k + 1) = omega arith in
+    rw (take_more_put_chunk (4 * k) xs (replicate 4 0) (4 * (k + 1)) (omega arith) (omega arith), h, replicate-append-replicate {A = ℕ} (4 * k) 4 0, next) refl
 
 -- what lies past a lane stays as it is written
 pub drop_put : (n i : ℕ) (xs ys : List ℕ) → i + length ys ≤ n → drop n (put_chunk i xs ys) ≡ drop n xs
 drop_put n i [] ys p = refl
 drop_put n zero (x ∷ xs) [] p = refl
-drop_put zero zero (x ∷ xs) (y ∷ ys) p = absurd (omega arith)
 drop_put (suc n) zero (x ∷ xs) (y ∷ ys) p = drop_put n zero xs ys (omega arith)
-drop_put zero (suc i) (x ∷ xs) ys p = absurd (omega arith)
 drop_put (suc n) (suc i) (x ∷ xs) ys p = drop_put n i xs ys (omega arith)
+drop_put n i xs ys p = absurd (omega arith)
 
 -- zeros up to a word, and from there on
 pub zeros_whole : (n : ℕ) (xs : List ℕ) → n ≤ length xs → take n xs ≡ replicate n 0 → drop n xs ≡ replicate (length xs - n) 0 → xs ≡ replicate (length xs) 0
 zeros_whole n xs le front back =
-    sym (take-append-drop n xs)
-    ∙ (ap (λ t. t ++ drop n xs) front ∙ (ap (λ t. replicate n 0 ++ t) back
-    ∙ (replicate-append-replicate n (length xs - n) 0 ∙ ap (λ m. replicate m 0) (omega arith))))
+    let whole : n + (length xs - n) ≡ length xs = omega arith in
+    cc (take-append-drop n xs, front, back, replicate-append-replicate {A = ℕ} n (length xs - n) 0, ap (λ m. replicate {A = ℕ} m 0) whole)
 
 -- where each word is 0, so is word i
 all_zero : (xs : List ℕ) → list_all (λ w. w == 0) xs ≡ true → (i : ℕ) → slice_index xs i ≡ 0
@@ -71,15 +66,13 @@ all_zero (x ∷ xs) h (suc i) = all_zero xs (grind (arith, nat_tests)) i
 -- where each word of two rows joined by `or` is 0, each of both is
 pub or_of_rows : (xs ys : List ℕ) → length xs ≡ length ys → list_all (λ w. w == 0) (zip2 bit_or xs ys) ≡ (list_all (λ w. w == 0) xs && list_all (λ w. w == 0) ys)
 or_of_rows [] [] e = refl
-or_of_rows [] (y ∷ ys) e = absurd (omega arith)
-or_of_rows (x ∷ xs) [] e = absurd (omega arith)
 or_of_rows (x ∷ xs) (y ∷ ys) e = grind (arith, nat_tests, bit_or-is_zero x y, or_of_rows xs ys (omega arith))
+or_of_rows xs ys e = absurd (omega arith)
 
 -- a stretch is its first m words and the n behind them
 pub all_chunk : (p : ℕ → Bool) (i m n : ℕ) (xs : List ℕ) → list_all p (chunk i (m + n) xs) ≡ (list_all p (chunk i m xs) && list_all p (chunk (i + m) n xs))
 all_chunk p i m n xs =
-    ap (list_all p) (take-add m n (drop i xs) ∙ ap (λ ys. take m (drop i xs) ++ take n ys) (drop-drop m i xs))
-    ∙ list_all-append p (chunk i m xs) (chunk (i + m) n xs)
+    rw (take-add m n (drop i xs), drop-drop m i xs) (list_all-append p (chunk i m xs) (chunk (i + m) n xs))
 
 -- the words of a stretch, as those of the row
 pub zero_in_stretch : (k n : ℕ) (xs : List ℕ) → list_all (λ w. w == 0) (chunk k n xs) ≡ true → (i : ℕ) → k ≤ i → i < k + n → slice_index xs i ≡ 0

@@ -10,9 +10,8 @@ kept_none f (x ∷ xs) = refl
 
 -- as many words as before
 pub length-kept : (f : ℕ → ℕ → ℕ) (xs ys : List ℕ) → length (zip_longest f true false xs ys) ≡ length xs
-length-kept f [] ys = refl
-length-kept f (x ∷ xs) [] = refl
 length-kept f (x ∷ xs) (y ∷ ys) = ap suc (length-kept f xs ys)
+length-kept f xs ys = refl
 
 pub put_none : (i : ℕ) (xs : List ℕ) → put_chunk i xs [] ≡ xs
 put_none i [] = refl
@@ -22,17 +21,15 @@ put_none (suc i) (x ∷ xs) = ap (λ t. x ∷ t) (put_none i xs)
 -- the first n words
 kept_first : (f : ℕ → ℕ → ℕ) (n : ℕ) (xs ys : List ℕ) → n ≤ length xs → n ≤ length ys → put_chunk 0 xs (zip2 f (take n xs) (take n ys)) ≡ zip_longest f true false xs (take n ys)
 kept_first f zero xs ys p q = put_none 0 xs ∙ sym (kept_none f xs)
-kept_first f (suc n) [] ys p q = absurd (omega arith)
-kept_first f (suc n) (x ∷ xs) [] p q = absurd (omega arith)
 kept_first f (suc n) (x ∷ xs) (y ∷ ys) p q = ap (λ t. f x y ∷ t) (kept_first f n xs ys (omega arith) (omega arith))
+kept_first f n xs ys p q = absurd (omega arith)
 
 -- n words more, after i words
 kept_more : (f : ℕ → ℕ → ℕ) (n i : ℕ) (xs ys : List ℕ) → i + n ≤ length xs → i + n ≤ length ys
     → put_chunk i (zip_longest f true false xs (take i ys)) (zip2 f (chunk i n (zip_longest f true false xs (take i ys))) (chunk i n ys)) ≡ zip_longest f true false xs (take i ys ++ chunk i n ys)
 kept_more f n zero xs ys p q = rw kept_none (kept_first f n xs ys (omega arith) (omega arith))
-kept_more f n (suc i) [] ys p q = absurd (omega arith)
-kept_more f n (suc i) (x ∷ xs) [] p q = absurd (omega arith)
 kept_more f n (suc i) (x ∷ xs) (y ∷ ys) p q = ap (λ t. f x y ∷ t) (kept_more f n i xs ys (omega arith) (omega arith))
+kept_more f n i xs ys p q = absurd (omega arith)
 
 -- one lane more
 pub kept_lane : (f : ℕ → ℕ → ℕ) (k : ℕ) (xs ys : List ℕ) → 4 * k + 4 ≤ length xs → 4 * k + 4 ≤ length ys
@@ -41,16 +38,11 @@ kept_lane f k xs ys p q = let e : 4 * (k + 1) ≡ 4 * k + 4 = omega arith in rw 
 
 -- what lies past the end of either is not read
 pub kept_take : (f : ℕ → ℕ → ℕ) (k : ℕ) (xs ys : List ℕ) → min (length xs) (length ys) ≤ k → zip_longest f true false xs (take k ys) ≡ zip_longest f true false xs ys
-kept_take f k [] ys p = refl
-kept_take f zero (x ∷ xs) [] p = refl
-kept_take f (suc k) (x ∷ xs) [] p = refl
 kept_take f zero (x ∷ xs) (y ∷ ys) p = absurd (omega arith)
 kept_take f (suc k) (x ∷ xs) (y ∷ ys) p = ap (λ t. f x y ∷ t) (kept_take f k xs ys (omega arith))
+kept_take f k xs ys p = refl
 
 -- the last words, which are fewer than a lane
 pub kept_part : (f : ℕ → ℕ → ℕ) (k n : ℕ) (xs ys : List ℕ) → 4 * k + n ≡ min (length xs) (length ys)
     → put_chunk (4 * k) (zip_longest f true false xs (take (4 * k) ys)) (zip2 f (chunk (4 * k) n (zip_longest f true false xs (take (4 * k) ys))) (chunk (4 * k) n ys)) ≡ zip_longest f true false xs ys
-kept_part f k n xs ys e =
-    kept_more f n (4 * k) xs ys (omega arith) (omega arith)
-    ∙ ap (zip_longest f true false xs) (sym (take-add (4 * k) n ys))
-    ∙ kept_take f (4 * k + n) xs ys (omega arith)
+kept_part f k n xs ys e = kept_more f n (4 * k) xs ys (omega arith) (omega arith) ∙ rw (← take-add (4 * k) n ys) (kept_take f (4 * k + n) xs ys (omega arith))

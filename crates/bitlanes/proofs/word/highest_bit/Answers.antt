@@ -1,4 +1,4 @@
-use Rattle.std.proofs.Common.{◌≡◌, ◌<◌, ◌≤◌, ◌+◌, ◌-◌, ◌*◌, ◌^◌, ℕ, suc, ap, ◌∙◌, arith}
+use Rattle.std.proofs.Common.{◌≡◌, ◌<◌, ◌≤◌, ◌+◌, ◌-◌, ◌*◌, ◌^◌, ℕ, suc, refl, ap, ◌∙◌, arith}
 use Rattle.std.proofs.Math.Nat.{pow-suc}
 use Rattle.std.specs.Int.{bit_at}
 use Rattle.std.proofs.lemmas.Nat.{leading_top}
@@ -12,7 +12,7 @@ top_bit a j low high =
     let is : a ≡ 1 * 2 ^ j + rest = omega arith in
     let small : rest < 2 ^ j = omega (arith, pow-suc 2 j) in
     let none : j - j ≡ 0 = omega arith in
-    ap (λ x. bit_at x j) is ∙ bit_at_cat_high 1 j rest j small (omega arith) ∙ ap (bit_at 1) none
+    rw (is, bit_at_cat_high 1 j rest j small (omega arith), none) refl
 
 pub returns : goal.returns
 returns c =
