@@ -1,5 +1,5 @@
 -- the ones of a row, a word or more further
-use Rattle.std.proofs.Common.{◌≡◌, ℕ, ◌+◌, ◌-◌, ◌*◌, ◌<◌, ◌≤◌, List, length, take, drop, slice_index, sum_by, ap, ◌∙◌, arith}
+use Rattle.std.proofs.Common.{◌≡◌, ℕ, ◌+◌, ◌-◌, ◌*◌, ◌<◌, ◌≤◌, List, length, take, drop, slice_index, sum_by, arith}
 use Rattle.std.specs.Simd.Lanes.{chunk}
 use Rattle.std.proofs.Math.Seq.{take-add}
 use Rattle.std.proofs.lemmas.List.{drop-drop}
@@ -15,19 +15,19 @@ sum_more_le f k xs h = omega (arith, sum_more f k xs h, sum_by-take-le f xs (k +
 
 -- n words more
 sum_take : (f : ℕ → ℕ) (m n : ℕ) (xs : List ℕ) → sum_by f (take (m + n) xs) ≡ sum_by f (take m xs) + sum_by f (chunk m n xs)
-sum_take f m n xs = ap (sum_by f) (take-add m n xs) ∙ sum_by-append f (take m xs) (chunk m n xs)
+sum_take f m n xs = rw (take-add m n xs) (sum_by-append f (take m xs) (chunk m n xs))
 
 -- a stretch is its first m words and the n behind them
 pub sum_chunk : (f : ℕ → ℕ) (i m n : ℕ) (xs : List ℕ) → sum_by f (chunk i (m + n) xs) ≡ sum_by f (chunk i m xs) + sum_by f (chunk (i + m) n xs)
-sum_chunk f i m n xs = sum_take f m n (drop i xs) ∙ ap (λ ys. sum_by f (chunk i m xs) + sum_by f (take n ys)) (drop-drop m i xs)
+sum_chunk f i m n xs = rw (drop-drop m i xs) at (sum_take f m n (drop i xs))
 
 -- eight lanes more
 pub sum_eight : (f : ℕ → ℕ) (k : ℕ) (xs : List ℕ) → sum_by f (take (32 * (k + 1)) xs) ≡ sum_by f (take (32 * k) xs) + sum_by f (chunk (32 * k) 32 xs)
-sum_eight f k xs = let e : 32 * (k + 1) ≡ 32 * k + 32 = omega arith in ap (λ n. sum_by f (take n xs)) e ∙ sum_take f (32 * k) 32 xs
+sum_eight f k xs = let e : 32 * (k + 1) ≡ 32 * k + 32 = omega arith in rw e (sum_take f (32 * k) 32 xs)
 
 -- the sum so far and that of the next eight lanes are within the sum of more
 pub sum_eight_le : (f : ℕ → ℕ) (k n : ℕ) (xs : List ℕ) → k < n → sum_by f (take (32 * k) xs) + sum_by f (chunk (32 * k) 32 xs) ≤ sum_by f (take (32 * n) xs)
 sum_eight_le f k n xs h =
     let m : ℕ = 32 * (k + 1) in
-    let more : m + 32 * (n - (k + 1)) ≡ 32 * n = omega arith in
-    omega (arith, sum_eight f k xs, sum_take f m (32 * (n - (k + 1))) xs, ap (λ j. sum_by f (take j xs)) more)
+    let more : 32 * n ≡ m + 32 * (n - (k + 1)) = omega arith in
+    rw more (omega (arith, sum_eight f k xs, sum_take f m (32 * (n - (k + 1))) xs))

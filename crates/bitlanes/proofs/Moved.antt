@@ -1,7 +1,6 @@
 -- Words made of two words that follow each other.
-use Rattle.std.proofs.Common.{◌≡◌, ◌≢◌, ℕ, ◌+◌, ◌-◌, ◌*◌, ◌/◌, ◌%◌, ◌^◌, ◌<◌, ◌≤◌, List, length, replicate, bit_or, get_or, set, refl, sym, ap, ◌∙◌, arith, ⊎_elim}
+use Rattle.std.proofs.Common.{◌≡◌, ℕ, ◌+◌, ◌-◌, ◌*◌, ◌/◌, ◌%◌, ◌^◌, ◌<◌, ◌≤◌, List, length, replicate, bit_or, get_or, set, refl, sym, ap, ◌∙◌, arith}
 use Rattle.std.specs.Simd.Lanes.{zip2, chunk, put_chunk}
-use Rattle.std.proofs.lemmas.Bool.{cases_lt, cases_eq}
 use Rattle.std.proofs.lemmas.List.{get_or-set_same, get_or-set_other, get_or_past}
 use Rattle.std.proofs.lemmas.Nat.{pow_pos}
 use Rattle.std.proofs.lemmas.Simd.{get_or-zip2, length-zip2, length-replicate, get_or-replicate, length-chunk, get_or-chunk, get_or-put_chunk_at, get_or-put_chunk_below, get_or-put_chunk_above}
@@ -49,23 +48,21 @@ unfolding window
 window_at ws from k =
     let q : (from + 64 * k) / 64 ≡ from / 64 + k = omega arith in
     let r : (from + 64 * k) % 64 ≡ from % 64 = omega arith in
-    λ i. straddle (r i) (get_or ws (q i) 0) (get_or ws (q i + 1) 0)
+    rw (q, r) refl
 
 -- past the row there is none
 pub straddle-none : (r : ℕ) → straddle r 0 0 ≡ 0
 unfolding straddle
 straddle-none r =
     let some : 0 < 2 ^ r = pow_pos r in
-    let a : 0 / 2 ^ r ≡ 0 = omega arith in
-    let b : 0 * 2 ^ 1 % 2 ^ 64 * 2 ^ (63 - r) % 2 ^ 64 ≡ 0 = omega arith in
-    ap (λ x. bit_or x (0 * 2 ^ 1 % 2 ^ 64 * 2 ^ (63 - r) % 2 ^ 64)) a ∙ ap (λ x. bit_or 0 x) b
+    let right : 0 / 2 ^ r ≡ 0 = omega arith in
+    let left : 0 * 2 ^ 1 % 2 ^ 64 * 2 ^ (63 - r) % 2 ^ 64 ≡ 0 = omega arith in
+    rw (right, left) refl
 
 pub window_past : (ws : List ℕ) (p : ℕ) → length ws ≤ p / 64 → 0 ≡ window ws p
 unfolding window
 window_past ws p past =
-    let low : get_or ws (p / 64) 0 ≡ 0 = get_or_past ws (p / 64) 0 past in
-    let high : get_or ws (p / 64 + 1) 0 ≡ 0 = get_or_past ws (p / 64 + 1) 0 (omega arith) in
-    sym ((λ i. straddle (p % 64) (low i) (high i)) ∙ straddle-none (p % 64))
+    rw (get_or_past ws (p / 64) 0 past, get_or_past ws (p / 64 + 1) 0 (omega arith), straddle-none (p % 64)) refl
 
 -- ---- a row joined word by word
 
@@ -75,91 +72,45 @@ pub record AreJoined (f : ℕ → ℕ → ℕ) (moved : ℕ → ℕ) (old : List
   pub below : (k : ℕ) → k < low → get_or new k 0 ≡ get_or old k 0
   pub above : (k : ℕ) → high ≤ k → get_or new k 0 ≡ get_or old k 0
 
--- four words were joined with those of a lane, and the others stay
-pub record IsLaneJoined (f : ℕ → ℕ → ℕ) (lane old : List ℕ) (at : ℕ) (new : List ℕ) : Type 0 where
-  pub joined : (k : ℕ) → k < 4 → get_or new (at + k) 0 ≡ f (get_or old (at + k) 0) (get_or lane k 0)
-  pub below : (k : ℕ) → k < at → get_or new k 0 ≡ get_or old k 0
-  pub above : (k : ℕ) → at + 4 ≤ k → get_or new k 0 ≡ get_or old k 0
-
-pub lane_joined : (f : ℕ → ℕ → ℕ) (lane old : List ℕ) (at : ℕ) → length lane ≡ 4 → at + 4 ≤ length old → IsLaneJoined f lane old at (put_chunk at old (zip2 f (chunk at 4 old) lane))
-lane_joined f lane old at four within =
-    let long_chunk : length (chunk at 4 old) ≡ 4 = length-chunk at 4 old within in
-    let long : length (zip2 f (chunk at 4 old) lane) ≡ 4 = length-zip2 f (chunk at 4 old) lane (long_chunk ∙ sym four) ∙ long_chunk in
-    record {
-      joined = λ k h.
-          get_or-put_chunk_at at old (zip2 f (chunk at 4 old) lane) k 0 (omega arith) (omega arith)
-          ∙ get_or-zip2 f (chunk at 4 old) lane k 0 0 0 (omega arith) (omega arith)
-          ∙ ap (λ x. f x (get_or lane k 0)) (get_or-chunk at 4 old k 0 h);
-      below = λ k h. get_or-put_chunk_below at old (zip2 f (chunk at 4 old) lane) k 0 h;
-      above = λ k h. get_or-put_chunk_above at old (zip2 f (chunk at 4 old) lane) k 0 (omega arith);
-    }
-
 module _ (f : ℕ → ℕ → ℕ) (moved : ℕ → ℕ) (old : List ℕ) where
-  pub none_joined : (at : ℕ) → AreJoined f moved old at at old
-  none_joined at = record { joined = λ k from to. absurd (omega arith); below = λ k h. refl; above = λ k h. refl }
+  -- a lane
+  pub lane_joined : (at high : ℕ) (lane new : List ℕ) → length lane ≡ 4 → high ≡ at + 4 → high ≤ length old → ((k : ℕ) → k < 4 → get_or lane k 0 ≡ moved (at + k))
+      → new ≡ put_chunk at old (zip2 f (chunk at 4 old) lane) → AreJoined f moved old at high new
+  lane_joined at high lane new four end within are is =
+      let long_chunk : length (chunk at 4 old) ≡ 4 = length-chunk at 4 old (omega arith) in
+      let long : length (zip2 f (chunk at 4 old) lane) ≡ 4 = length-zip2 f (chunk at 4 old) lane (long_chunk ∙ sym four) ∙ long_chunk in
+      let place : (k : ℕ) → at ≤ k → at + (k - at) ≡ k = λ k from. omega arith in
+      rw is record {
+        joined = λ k from to. rw (← place k from) (
+            get_or-put_chunk_at at old (zip2 f (chunk at 4 old) lane) (k - at) 0 (omega arith) (omega arith)
+            ∙ get_or-zip2 f (chunk at 4 old) lane (k - at) 0 0 0 (omega arith) (omega arith)
+            ∙ cc (get_or-chunk at 4 old (k - at) 0 (omega arith), are (k - at) (omega arith)));
+        below = λ k h. get_or-put_chunk_below at old (zip2 f (chunk at 4 old) lane) k 0 h;
+        above = λ k h. get_or-put_chunk_above at old (zip2 f (chunk at 4 old) lane) k 0 (omega arith);
+      }
 
-  -- a lane behind those joined
-  pub lane_behind : (low at : ℕ) (mid lane new : List ℕ) → low ≤ at → AreJoined f moved old low at mid → ((k : ℕ) → k < 4 → get_or lane k 0 ≡ moved (at + k)) → IsLaneJoined f lane mid at new → AreJoined f moved old low (at + 4) new
-  lane_behind low at mid lane new order before are put = record {
-    joined = λ k from to. ⊎_elim
-        (λ (lt : k < at). put.below k lt ∙ before.joined k from lt)
-        (λ (ge : at ≤ k).
-        let e : at + (k - at) ≡ k = omega arith in
-        let in_lane : k - at < 4 = omega arith in
-        ap (λ j. get_or new j 0) (sym e)
-        ∙ put.joined (k - at) in_lane
-        ∙ (let a = ap (λ j. get_or mid j 0) e ∙ before.above k ge in let b = are (k - at) in_lane ∙ ap moved e in λ i. f (a i) (b i)))
-        (cases_lt k at);
+  -- a word
+  pub word_joined : (at high new word : ℕ) → high ≡ at + 1 → at < length old → word ≡ moved at → new ≡ f (get_or old at 0) word → AreJoined f moved old at high (set old at new)
+  word_joined at high new word end within is made = record {
+    joined = λ k from to. let here : k ≡ at = omega arith in rw here (cc (get_or-set_same old at new 0 within));
+    below = λ k h. get_or-set_other old at k new 0 (omega arith);
+    above = λ k h. get_or-set_other old at k new 0 (omega arith);
+  }
+
+  -- words behind those joined
+  pub joined_behind : {low at high : ℕ} {mid new : List ℕ} → low ≤ at → at ≤ high → AreJoined f moved old low at mid → AreJoined f moved mid at high new → AreJoined f moved old low high new
+  joined_behind order upto before put = record {
+    joined = λ k from to. grind (arith, before.joined k, before.above k, put.joined k, put.below k);
     below = λ k h. put.below k (omega arith) ∙ before.below k h;
     above = λ k h. put.above k h ∙ before.above k (omega arith);
   }
 
-  -- a lane before those joined
-  pub lane_before : (at high : ℕ) (mid lane new : List ℕ) → at + 4 ≤ high → AreJoined f moved old (at + 4) high mid → ((k : ℕ) → k < 4 → get_or lane k 0 ≡ moved (at + k)) → IsLaneJoined f lane mid at new → AreJoined f moved old at high new
-  lane_before at high mid lane new order behind are put = record {
-    joined = λ k from to. ⊎_elim
-        (λ (lt : k < at + 4).
-        let e : at + (k - at) ≡ k = omega arith in
-        let in_lane : k - at < 4 = omega arith in
-        ap (λ j. get_or new j 0) (sym e)
-        ∙ put.joined (k - at) in_lane
-        ∙ (let a = ap (λ j. get_or mid j 0) e ∙ behind.below k lt in let b = are (k - at) in_lane ∙ ap moved e in λ i. f (a i) (b i)))
-        (λ (ge : at + 4 ≤ k). put.above k ge ∙ behind.joined k ge to)
-        (cases_lt k (at + 4));
+  -- words before those joined
+  pub joined_before : {low at high : ℕ} {mid new : List ℕ} → low ≤ at → at ≤ high → AreJoined f moved old at high mid → AreJoined f moved mid low at new → AreJoined f moved old low high new
+  joined_before order upto behind put = record {
+    joined = λ k from to. grind (arith, behind.joined k, behind.below k, put.joined k, put.above k);
     below = λ k h. put.below k h ∙ behind.below k (omega arith);
     above = λ k h. put.above k (omega arith) ∙ behind.above k h;
-  }
-
-  -- a word behind those joined
-  pub word_behind : (low at : ℕ) (mid : List ℕ) (new word : ℕ) → low ≤ at → at < length mid → AreJoined f moved old low at mid → word ≡ moved at → new ≡ f (get_or mid at 0) word → AreJoined f moved old low (at + 1) (set mid at new)
-  word_behind low at mid new word order within before is made = record {
-    joined = λ k from to. ⊎_elim
-        (λ (here : k ≡ at).
-        ap (λ j. get_or (set mid at new) j 0) here
-        ∙ get_or-set_same mid at new 0 within
-        ∙ made
-        ∙ (let a = before.above at (omega arith) in λ i. f (a i) (is i))
-        ∙ (let e = sym here in λ i. f (get_or old (e i) 0) (moved (e i))))
-        (λ (other : k ≢ at). get_or-set_other mid at k new 0 other ∙ before.joined k from (omega arith))
-        (cases_eq k at);
-    below = λ k h. get_or-set_other mid at k new 0 (omega arith) ∙ before.below k h;
-    above = λ k h. get_or-set_other mid at k new 0 (omega arith) ∙ before.above k (omega arith);
-  }
-
-  -- a word before those joined
-  pub word_before : (at high : ℕ) (mid : List ℕ) (new word : ℕ) → at < high → at < length mid → AreJoined f moved old (at + 1) high mid → word ≡ moved at → new ≡ f (get_or mid at 0) word → AreJoined f moved old at high (set mid at new)
-  word_before at high mid new word order within behind is made = record {
-    joined = λ k from to. ⊎_elim
-        (λ (here : k ≡ at).
-        ap (λ j. get_or (set mid at new) j 0) here
-        ∙ get_or-set_same mid at new 0 within
-        ∙ made
-        ∙ (let a = behind.below at (omega arith) in λ i. f (a i) (is i))
-        ∙ (let e = sym here in λ i. f (get_or old (e i) 0) (moved (e i))))
-        (λ (other : k ≢ at). get_or-set_other mid at k new 0 other ∙ behind.joined k (omega arith) to)
-        (cases_eq k at);
-    below = λ k h. get_or-set_other mid at k new 0 (omega arith) ∙ behind.below k (omega arith);
-    above = λ k h. get_or-set_other mid at k new 0 (omega arith) ∙ behind.above k h;
   }
 
 -- the bits that stand `by` below a word

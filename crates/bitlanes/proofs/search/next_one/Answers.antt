@@ -1,5 +1,4 @@
-use Rattle.std.proofs.Common.{ℕ, ◌<◌, ◌≤◌, map, sym, ◌∙◌, arith, ⊎_elim}
-use Rattle.std.proofs.lemmas.Bool.{cases_lt}
+use Rattle.std.proofs.Common.{ℕ, map, sym, ◌∙◌, arith}
 use Rattle.bitlanes.proofs.Folding.{zero_in_stretch}
 use Rattle.bitlanes.proofs.search.next_one.Goals as goal
 
@@ -10,9 +9,6 @@ loop-start-preserved g c =
     record {
       after = omega (arith, before.after);
       within = omega (arith, c.loop-start-test.true, before.within);
-      zeros = λ i from h. ⊎_elim
-          (λ (lt : i < start). before.zeros i from lt)
-          (λ (ge : start ≤ i). zero_in_stretch start 16 (map (g.O.WordOp.joined c.args.mask) c.args.words.now) (sym c.are_zero_at.ensures ∙ c.if-are_zero_at.true) i ge h)
-          (cases_lt i start);
+      zeros = λ i from h. grind (arith, before.zeros i from, zero_in_stretch start 16 (map (g.O.WordOp.joined c.args.mask) c.args.words.now) (sym c.are_zero_at.ensures ∙ c.if-are_zero_at.true) i);
       cost = omega (arith, before.cost, before.after, c.tick_four.ensures);
     }

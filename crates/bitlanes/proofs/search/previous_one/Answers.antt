@@ -1,5 +1,4 @@
-use Rattle.std.proofs.Common.{ℕ, ◌-◌, ◌<◌, ◌≤◌, map, sym, ◌∙◌, arith, ⊎_elim}
-use Rattle.std.proofs.lemmas.Bool.{cases_lt}
+use Rattle.std.proofs.Common.{ℕ, ◌-◌, map, sym, ◌∙◌, arith}
 use Rattle.bitlanes.proofs.Folding.{zero_in_stretch}
 use Rattle.bitlanes.proofs.search.previous_one.Goals as goal
 
@@ -9,9 +8,6 @@ loop-end-preserved g c =
     let end : ℕ = c.loop-end.end in
     record {
       within = omega (arith, before.within);
-      zeros = λ i h below. ⊎_elim
-          (λ (lt : i < end). zero_in_stretch (end - 16) 16 (map (g.O.WordOp.joined c.args.mask) c.args.words.now) (sym c.are_zero_at.ensures ∙ c.if-are_zero_at.true) i h (omega (arith, c.loop-end-test.true)))
-          (λ (ge : end ≤ i). before.zeros i ge below)
-          (cases_lt i end);
+      zeros = λ i h below. grind (arith, before.zeros i, zero_in_stretch (end - 16) 16 (map (g.O.WordOp.joined c.args.mask) c.args.words.now) (sym c.are_zero_at.ensures ∙ c.if-are_zero_at.true) i);
       cost = omega (arith, before.cost, before.within, c.loop-end-test.true, c.tick_four.ensures);
     }
