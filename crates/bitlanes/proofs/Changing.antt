@@ -1,12 +1,13 @@
 -- the bits that a join changes, by lanes of four and a last part
-use Rattle.std.proofs.Common.{◌≡◌, ℕ, zero, suc, ◌+◌, ◌-◌, ◌*◌, ◌≤◌, true, false, List, ◌∷◌, ◌++◌, take, drop, length, replicate, bit_xor, refl, sym, ap, ◌∙◌, arith}
+use Rattle.std.proofs.Common.{min, ◌==◌, ◌&&◌, ◌≡◌, ℕ, zero, suc, ◌+◌, ◌*◌, ◌≤◌, true, false, List, ◌∷◌, take, drop, length, replicate, bit_xor, refl, sym, ap, ◌∙◌, arith}
+use Rattle.std.specs.List.{list_all}
 use Rattle.std.specs.Simd.Lanes.{zip2, chunk, put_chunk}
 use Rattle.std.proofs.lemmas.List.{take_all, take-replicate, length-replicate, replicate-append-replicate, drop-drop}
 use Rattle.std.proofs.lemmas.Simd.{take_more_put_chunk, length-put_chunk}
 use Rattle.bitlanes.specs.Changes.{changed_bits}
 use Rattle.bitlanes.specs.Words.{zip_longest, filled}
-use Rattle.bitlanes.proofs.Filling.{filled_joined, take_filled}
-use Rattle.bitlanes.proofs.Folding.{drop_put}
+use Rattle.bitlanes.proofs.Filling.{all_joined_with_part, filled_joined, take_filled}
+use Rattle.bitlanes.proofs.Folding.{all_lane, drop_put}
 use Rattle.bitlanes.proofs.Kept.{kept_none}
 use Rattle.bitlanes.proofs.Zipping.{chunk_zip2, take-zip2}
 
@@ -25,8 +26,15 @@ kept_chunk f i n xs ys = refl
 pub of_kept : (f g : ℕ → ℕ → ℕ) (i n : ℕ) (xs ys : List ℕ) → zip2 g (chunk i n (zip_longest f true false xs (take i ys))) (chunk i n ys) ≡ chunk i n (zip2 g xs ys)
 of_kept f g i n xs ys = ap (λ zs. zip2 g zs (chunk i n ys)) (kept_chunk f i n xs ys) ∙ sym (chunk_zip2 g i n xs ys)
 
-pub filled_kept : (f g : ℕ → ℕ → ℕ) (i n : ℕ) (xs ys : List ℕ) → filled i n (zip2 g (zip_longest f true false xs (take i ys)) ys) ≡ filled i n (zip2 g xs ys)
-filled_kept f g i n xs ys = ap (λ zs. zs ++ replicate (4 - n) 0) (chunk_zip2 g i n _ ys ∙ of_kept f g i n xs ys)
+-- whether words change, where the k lanes before are joined: of one lane more, and of the last n words
+module _ (f : ℕ → ℕ → ℕ) (old src : List ℕ) (k : ℕ) (mid lane : List ℕ) (kept : mid ≡ zip_longest f true false old (take (4 * k) src)) where
+  pub changed_lane : lane ≡ zip2 (changed_bits f) (chunk (4 * k) 4 mid) (chunk (4 * k) 4 src)
+      → list_all (λ w. w == 0) (take (4 * (k + 1)) (zip2 (changed_bits f) old src)) ≡ (list_all (λ w. w == 0) (take (4 * k) (zip2 (changed_bits f) old src)) && list_all (λ w. w == 0) lane)
+  changed_lane is = rw (is, kept, of_kept f (changed_bits f) (4 * k) 4 old src) (all_lane (λ w. w == 0) k (zip2 (changed_bits f) old src))
+
+  pub changed_part : (n : ℕ) → 4 * k + n ≡ min (length old) (length src) → lane ≡ filled (4 * k) n (zip2 (changed_bits f) mid src)
+      → (list_all (λ w. w == 0) (take (4 * k) (zip2 (changed_bits f) old src)) && list_all (λ w. w == 0) lane) ≡ list_all (λ w. w == 0) (zip2 (changed_bits f) old src)
+  changed_part n e is = rw (is, kept, chunk_zip2 (changed_bits f) (4 * k) n _ src, of_kept f (changed_bits f) (4 * k) n old src) (all_joined_with_part (changed_bits f) k n old src e)
 
 -- ---- the last words, joined with a lane that has those of a row and zeros
 
@@ -49,17 +57,14 @@ rest_written k old xs ys four same =
     drop_put (4 * (k + 1)) (4 * k) xs ys (omega (arith, four))
     ∙ (let e : 4 * (k + 1) ≡ 4 * k + 4 = omega arith in rw e (sym (drop-drop 4 (4 * k) xs) ∙ ap (drop 4) same ∙ drop-drop 4 (4 * k) old))
 
-pub rest_chunk : (i n : ℕ) (old xs : List ℕ) → drop i xs ≡ drop i old → chunk i n xs ≡ chunk i n old
-rest_chunk i n old xs same = ap (take n) same
-
 -- the whole lanes are 0, and the last words are written
-pub zeros_written : (k n : ℕ) (xs : List ℕ) → 4 * k + n ≡ length xs → n ≤ 4 → take (4 * k) xs ≡ replicate (4 * k) 0 → put_chunk (4 * k) xs (take n (replicate 4 0)) ≡ replicate (length xs) 0
-zeros_written k n xs e few front =
+pub zeros_written : (k n m : ℕ) (xs : List ℕ) → m ≡ 4 * k + n → length xs ≡ m → n ≤ 4 → take (4 * k) xs ≡ replicate (4 * k) 0 → put_chunk (4 * k) xs (take n (replicate 4 0)) ≡ replicate m 0
+zeros_written k n m xs e long few front =
     let zeros : List ℕ = replicate n 0 in
-    let all = take_all (length xs) (put_chunk (4 * k) xs zeros) (omega (arith, length-put_chunk (4 * k) xs zeros)) in
-    let parts = take_more_put_chunk (4 * k) xs zeros (length xs) (omega (arith, length-replicate {A = ℕ} n 0)) (omega arith) in
-    rw (take-replicate {X = ℕ} n 4 0 few, ← e, ← replicate-append-replicate {A = ℕ} (4 * k) n 0, ← front) (sym all ∙ parts)
+    let all = take_all (4 * k + n) (put_chunk (4 * k) xs zeros) (omega (arith, length-put_chunk (4 * k) xs zeros)) in
+    let parts = take_more_put_chunk (4 * k) xs zeros (4 * k + n) (omega (arith, length-replicate {A = ℕ} n 0)) (omega arith) in
+    rw (take-replicate {X = ℕ} n 4 0 few, e, ← replicate-append-replicate {A = ℕ} (4 * k) n 0, ← front) (sym all ∙ parts)
 
 -- where no word is left, the whole lanes are all
-pub zeros_in_lanes : (k : ℕ) (xs : List ℕ) → 4 * k ≡ length xs → take (4 * k) xs ≡ replicate (4 * k) 0 → xs ≡ replicate (length xs) 0
-zeros_in_lanes k xs e front = rw (← e) (sym (take_all (4 * k) xs (omega arith)) ∙ front)
+pub zeros_in_lanes : (k m : ℕ) (xs : List ℕ) → m ≡ 4 * k → length xs ≡ m → take (4 * k) xs ≡ replicate (4 * k) 0 → xs ≡ replicate m 0
+zeros_in_lanes k m xs e long front = rw e (sym (take_all (4 * k) xs (omega arith)) ∙ front)
