@@ -1,16 +1,89 @@
--- A table on its way to its closure: a pass for each node, and in a pass the rows one after the other.
-use Rattle.std.proofs.Common.{◌≡◌, ◌≢◌, ◌∙◌, ℕ, suc, ◌+◌, ◌*◌, ◌<◌, ◌≤◌, ◌↔◌, Bool, true, false, ◌&&◌, ◌||◌, cond, [], ◌∷◌, get_or, length, sum_by, refl, sym, ap, subst, arith, ⊎_elim}
+-- The closure of a table: whether a path leads from one node to another whose nodes between its ends are all below a bound, and a
+-- table on its way, with a pass for each node, and in a pass the rows one after the other.
+use Rattle.std.proofs.Common.{◌≡◌, ◌∙◌, ℕ, zero, suc, ◌+◌, ◌*◌, ◌<◌, ◌≤◌, ◌↔◌, Bool, true, false, ◌&&◌, ◌||◌, IsTrue, [], ◌∷◌, length, sum_by, refl, sym, subst, arith, ⊎_elim, add-one, zero-add}
 use Rattle.std.specs.List.{range_with_len}
-use Rattle.std.proofs.lemmas.Bool.{cases_eq, cases_lt, eq-eqb, ne_eqb}
+use Rattle.std.proofs.lemmas.Bool.{or_cases, or_left, and_parts}
+use Rattle.std.proofs.lemmas.Bool.Decides.{nat_tests}
 use Rattle.std.proofs.lemmas.List.FromFn.{length-range_with_len}
 use Rattle.std.proofs.lemmas.List.Sums.{sum_by-append, sum_by-le}
 use Rattle.bitwords.specs.Rows.{count_below}
-use Rattle.bitwords.specs.CountFacts.{indicator, range-push, count-zero, count-suc, count-le}
+use Rattle.bitwords.specs.CountFacts.{indicator, range-push, count-suc, count-le}
 use Rattle.fixedbitset.specs.TwoSets.{union}
 use Rattle.bitrows.specs.Tables.{Table, row_of, has, with_row}
 use Rattle.bitrows.specs.TableFacts.{has-past, has_row, has-joined}
-use Rattle.bitrows.specs.Paths.{HasEdge, IsConnected, IsPairCount}
-use Rattle.bitrows.proofs.Through.{through, through_zero, through_suc, through_below, through_all}
+use Rattle.bitrows.specs.Paths.{HasPath, HasEdge, IsConnected, HasPathBelow, IsConnectedBelow, IsPairCount}
+
+-- ---- the paths
+
+-- with no bound an edge; with one node more below it, a path that avoids this node, or one to it and one from it that do
+abbrev pub through : (ℕ → ℕ → Bool) → ℕ → ℕ → ℕ → Bool
+through edge zero a b = edge a b
+through edge (suc k) a b = through edge k a b || (through edge k a k && through edge k k b)
+
+module _ (edge : ℕ → ℕ → Bool) where
+  abbrev Edge : ℕ → ℕ → Type 0
+  Edge a b = IsTrue (edge a b)
+
+  through_edge : (k a b : ℕ) → edge a b ≡ true → through edge k a b ≡ true
+  through_edge zero a b one = one
+  through_edge (suc k) a b one = or_left _ _ (through_edge k a b one)
+
+  -- two paths that meet below the bound
+  meet_next : (k c a b : ℕ) → ((x y : ℕ) → c < k → through edge k x c ≡ true → through edge k c y ≡ true → through edge k x y ≡ true)
+      → c < suc k → through edge (suc k) a c ≡ true → through edge (suc k) c b ≡ true → through edge (suc k) a b ≡ true
+  meet_next k c a b meets below to from = grind (arith, nat_tests, meets a b, meets a k, meets k b)
+
+  meet : (k c a b : ℕ) → c < k → through edge k a c ≡ true → through edge k c b ≡ true → through edge k a b ≡ true
+  meet zero c a b below to from = absurd (omega arith)
+  meet (suc k) c a b below to from = meet_next k c a b (meet k c) below to from
+
+  -- ---- against paths
+
+  weaken : (k n a b : ℕ) → HasPathBelow Edge k n a b → HasPathBelow Edge (suc k) n a b
+  weaken k zero a b one = one
+  weaken k (suc n) a b path = (path.0, weaken k n a path.0 path.1, path.2, let less : path.0 < k = path.3 in omega arith)
+
+  -- one path and then another
+  behind : (k m n a b : ℕ) → HasPathBelow Edge k n a k → HasPathBelow Edge k m k b → IsConnectedBelow Edge (suc k) a b
+  behind k zero n a b path one = (suc n, (k, weaken k n a k path, one, omega arith))
+  behind k (suc m) n a b path other =
+      let all = behind k m n a other.0 path other.1 in
+      (suc all.0, (other.0, all.1, other.2, let less : other.0 < k = other.3 in omega arith))
+
+  path_of : (k a b : ℕ) → through edge k a b ≡ true → IsConnectedBelow Edge k a b
+  path_of zero a b one = (zero, one)
+  path_of (suc k) a b one =
+      ⊎_elim
+      (λ old. let path = path_of k a b old in (path.0, weaken k path.0 a b path.1))
+      (λ both.
+      let to = path_of k a k (and_parts _ _ both).0 in
+      let from = path_of k k b (and_parts _ _ both).1 in
+      behind k from.0 to.0 a b to.1 from.1)
+      (or_cases _ _ one)
+
+  of_path : (k n a b : ℕ) → HasPathBelow Edge k n a b → through edge k a b ≡ true
+  of_path k zero a b one = through_edge k a b one
+  of_path k (suc n) a b path = meet k path.0 a b path.3 (of_path k n a path.0 path.1) (through_edge k path.0 b path.2)
+
+  pub through_below : (k a b : ℕ) → IsTrue (through edge k a b) ↔ IsConnectedBelow Edge k a b
+  through_below k a b = (path_of k a b, λ path. of_path k path.0 a b path.1)
+
+  -- ---- all nodes with an edge are below the bound
+
+  unbound : (k n a b : ℕ) → HasPathBelow Edge k n a b → HasPath Edge (suc n) a b
+  unbound k zero a b one = (a, refl, one)
+  unbound k (suc n) a b path = (path.0, unbound k n a path.0 path.1, path.2)
+
+  module _ (k : ℕ) (below : (a b : ℕ) → edge a b ≡ true → a < k) where
+    bound : (n a b : ℕ) → HasPath Edge (suc n) a b → HasPathBelow Edge k n a b
+    bound zero a b path = subst (λ c. edge c b ≡ true) (sym path.1) path.2
+    bound (suc n) a b path = (path.0, bound n a path.0 path.1, path.2, below path.0 b path.2)
+
+    pub through_all : (a b : ℕ) → IsTrue (through edge k a b) ↔ IsConnected Edge a b
+    through_all a b = (
+      λ one. let path = path_of k a b one in (path.0, unbound k path.0 a b path.1),
+      λ path. of_path k path.0 a b (bound path.0 a b path.1),
+    )
 
 -- ---- the bits
 
@@ -23,74 +96,24 @@ pub record IsPassed (edge : ℕ → ℕ → Bool) (k r : ℕ) (t : Table) : Type
 abbrev pub IsThrough : (ℕ → ℕ → Bool) → ℕ → Table → Type 0
 IsThrough edge k t = (a b : ℕ) → has t a b ≡ through edge k a b
 
-absorbed : (x y : Bool) → (x || (y && x)) ≡ x
-absorbed x y = grind arith
-
-taken_in : (x y z : Bool) → y ≡ true → (x || z) ≡ (x || (y && z))
-taken_in x y z h = grind arith
-
-left_out : (x y z : Bool) → y ≡ false → x ≡ (x || (y && z))
-left_out x y z h = grind arith
-
 pub through_first : (t : Table) → IsThrough (has t) 0 t
-through_first t a b = sym (through_zero (has t) a b)
+through_first t a b = refl
 
-module _ (edge : ℕ → ℕ → Bool) (k : ℕ) (t : Table) where
-  pub passed_none : IsThrough edge k t → IsPassed edge k 0 t
-  passed_none all = record { done = λ a b below. absurd (omega arith); due = λ a b _. all a b }
+module _ (edge : ℕ → ℕ → Bool) (k r : ℕ) (t : Table) (so_far : IsPassed edge k r t) where
+  pub passed_joined : (new : Table) → r < length t.rows → has t r k ≡ true → new ≡ with_row t r (union (row_of t r) (row_of t k)) → IsPassed edge k (r + 1) new
+  passed_joined new within one is = rw is record {
+    done = λ a b below. grind (arith, nat_tests, has-joined t r k a b within, so_far.done a b, so_far.due r b, so_far.due r k, so_far.done k b, so_far.due k b);
+    due = λ a b past. grind (arith, nat_tests, has-joined t r k a b within, so_far.due a b);
+  }
 
-  module _ (r : ℕ) (so_far : IsPassed edge k r t) where
-    -- the row of the node stays as it was
-    row_of_node : (b : ℕ) → has t k b ≡ through edge k k b
-    row_of_node b =
-        ⊎_elim
-        (λ (below : k < r). so_far.done k b below ∙ through_suc edge k k b ∙ absorbed (through edge k k b) (through edge k k k))
-        (λ (not_below : r ≤ k). so_far.due k b not_below)
-        (cases_lt k r)
+  pub passed_kept : (new : Table) → has t r k ≡ false → new ≡ t → IsPassed edge k (r + 1) new
+  passed_kept new none is = rw is record {
+    done = λ a b below. grind (arith, so_far.done a b, so_far.due r b, so_far.due r k);
+    due = λ a b past. so_far.due a b (omega arith);
+  }
 
-    pub passed_joined : r < length t.rows → has t r k ≡ true → IsPassed edge k (r + 1) (with_row t r (union (row_of t r) (row_of t k)))
-    passed_joined within one =
-        let reaches : through edge k r k ≡ true = sym (so_far.due r k (omega arith)) ∙ one in
-        let here : (b : ℕ) → (has t r b || has t k b) ≡ through edge (suc k) r b =
-        λ b. (let own = so_far.due r b (omega arith) in let other = row_of_node b in λ i. own i || other i) ∙ taken_in (through edge k r b) _ _ reaches ∙ sym (through_suc edge k r b)
-        in
-        record {
-          done = λ a b below.
-              has-joined t r k a b within
-              ∙ ⊎_elim
-              (λ (e : a ≡ r). ap (λ c. cond c (has t r b || has t k b) (has t a b)) (eq-eqb a r e) ∙ here b ∙ ap (λ x. through edge (suc k) x b) (sym e))
-              (λ (ne : a ≢ r). ap (λ c. cond c (has t r b || has t k b) (has t a b)) (ne_eqb a r ne) ∙ so_far.done a b (omega arith))
-              (cases_eq a r);
-          due = λ a b past.
-              let ne : a ≢ r = λ e. absurd (omega arith) in
-              has-joined t r k a b within ∙ ap (λ c. cond c (has t r b || has t k b) (has t a b)) (ne_eqb a r ne) ∙ so_far.due a b (omega arith);
-        }
-
-    pub passed_kept : has t r k ≡ false → IsPassed edge k (r + 1) t
-    passed_kept none =
-        let misses : through edge k r k ≡ false = sym (so_far.due r k (omega arith)) ∙ none in
-        record {
-          done = λ a b below.
-              ⊎_elim
-              (λ (e : a ≡ r). ap (λ x. has t x b) e ∙ so_far.due r b (omega arith) ∙ left_out (through edge k r b) _ _ misses ∙ sym (through_suc edge k r b) ∙ ap (λ x. through edge (suc k) x b) (sym e))
-              (λ (ne : a ≢ r). so_far.done a b (omega arith))
-              (cases_eq a r);
-          due = λ a b past. so_far.due a b (omega arith);
-        }
-
-    pub passed_all : length t.rows ≤ r → IsThrough edge (k + 1) t
-    passed_all past a b =
-        ⊎_elim
-        (λ (below : a < r). so_far.done a b below)
-        (λ (not_below : r ≤ a).
-        let none : (c : ℕ) → through edge k a c ≡ false = λ c. sym (so_far.due a c not_below) ∙ has-past t a c (omega arith) in
-        so_far.due a b not_below ∙ left_out (through edge k a b) _ _ (none k) ∙ sym (through_suc edge k a b))
-        (cases_lt a r)
-        ∙ (let more : suc k ≡ k + 1 = omega arith in ap (λ j. through edge j a b) more)
-
-    -- whether a row is joined in the pass
-    pub asked : has t r k ≡ through edge k r k
-    asked = so_far.due r k (omega arith)
+  pub passed_all : length t.rows ≤ r → IsThrough edge (k + 1) t
+  passed_all past a b = rw add-one (grind (arith, so_far.done a b, so_far.due a b, so_far.due a k, has-past t a k))
 
 pub closed : (t new : Table) → IsThrough (has t) (length t.rows) new → (a b : ℕ) → HasEdge new a b ↔ IsConnected (HasEdge t) a b
 closed t new all a b =
@@ -107,35 +130,14 @@ joins_in edge k r = count_below (λ a. through edge k a k) r
 abbrev pub joins_before : (ℕ → ℕ → Bool) → ℕ → ℕ → ℕ
 joins_before edge n k = sum_by (λ j. joins_in edge j n) (range_with_len 0 k)
 
-pub joins_none : (edge : ℕ → ℕ → Bool) (k : ℕ) → joins_in edge k 0 ≡ 0
-joins_none edge k = count-zero (λ a. through edge k a k)
-
-joins_more : (edge : ℕ → ℕ → Bool) (k r : ℕ) (one : Bool) → through edge k r k ≡ one → joins_in edge k (r + 1) ≡ joins_in edge k r + indicator one
-joins_more edge k r one is =
-    (let more : r + 1 ≡ suc r = omega arith in ap (joins_in edge k) more)
-    ∙ count-suc (λ a. through edge k a k) r
-    ∙ ap (λ b. joins_in edge k r + indicator b) is
-
-pub joins_one : (edge : ℕ → ℕ → Bool) (k r : ℕ) → through edge k r k ≡ true → joins_in edge k (r + 1) ≡ joins_in edge k r + 1
-joins_one edge k r is = joins_more edge k r true is
-
-pub joins_same : (edge : ℕ → ℕ → Bool) (k r : ℕ) → through edge k r k ≡ false → joins_in edge k (r + 1) ≡ joins_in edge k r
-joins_same edge k r is = joins_more edge k r false is ∙ omega arith
+pub joins_more : (edge : ℕ → ℕ → Bool) (k r : ℕ) (one : Bool) → through edge k r k ≡ one → joins_in edge k (r + 1) ≡ joins_in edge k r + indicator one
+joins_more edge k r one is = rw (add-one, count-suc (λ a. through edge k a k) r, is) refl
 
 pub joins_passed : (edge : ℕ → ℕ → Bool) (n k : ℕ) → joins_before edge n (k + 1) ≡ joins_before edge n k + joins_in edge k n
-joins_passed edge n k =
-    let f : ℕ → ℕ = λ j. joins_in edge j n in
-    let e : 0 + k ≡ k = omega arith in
-    let last : sum_by f ((0 + k) ∷ []) ≡ f k = ap (λ j. sum_by f (j ∷ [])) e ∙ omega arith in
-    (let more : k + 1 ≡ suc k = omega arith in ap (joins_before edge n) more)
-    ∙ ap (sum_by f) (range-push 0 k)
-    ∙ sum_by-append f (range_with_len 0 k) ((0 + k) ∷ [])
-    ∙ ap (λ x. sum_by f (range_with_len 0 k) + x) last
+joins_passed edge n k = rw (add-one, range-push 0 k, zero-add k, sum_by-append (λ j. joins_in edge j n) (range_with_len 0 k) (k ∷ [])) (omega arith)
 
 pub joins_bound : (edge : ℕ → ℕ → Bool) (n k : ℕ) → joins_before edge n k ≤ k * n
-joins_bound edge n k =
-    let each = sum_by-le (λ j. joins_in edge j n) n (range_with_len 0 k) (λ i d _. count-le (λ a. through edge (get_or (range_with_len 0 k) i d) a (get_or (range_with_len 0 k) i d)) n) in
-    subst (λ m. joins_before edge n k ≤ m * n) (length-range_with_len 0 k) each
+joins_bound edge n k = simp length-range_with_len at (sum_by-le (λ j. joins_in edge j n) n (range_with_len 0 k) (λ i d _. count-le _ n))
 
 pub pairs : (t : Table) (n : ℕ) → IsPairCount (HasEdge t) n (joins_before (has t) n n)
 pairs t n = (λ k a. through (has t) k a k, λ k a. through_below (has t) k a k, refl)
