@@ -30,13 +30,10 @@ take_lane k xs = let e : 4 * (k + 1) ≡ 4 * k + 4 = omega arith in rw (e, take-
 pub all_lane : (p : ℕ → Bool) (k : ℕ) (xs : List ℕ) → list_all p (take (4 * (k + 1)) xs) ≡ (list_all p (take (4 * k) xs) && list_all p (chunk (4 * k) 4 xs))
 all_lane p k xs = ap (list_all p) (take_lane k xs) ∙ list_all-append p (take (4 * k) xs) (chunk (4 * k) 4 xs)
 
-fails_within : (p : ℕ → Bool) (i n : ℕ) (xs : List ℕ) → list_all p (chunk i n xs) ≡ false → list_all p xs ≡ false
+-- where a stretch fails, the whole does
+pub fails_within : (p : ℕ → Bool) (i n : ℕ) (xs : List ℕ) → list_all p (chunk i n xs) ≡ false → list_all p xs ≡ false
 fails_within p i n xs h =
     grind (arith, nat_tests, take-append-drop i xs, chunk-drop i n xs, list_all-append p (take i xs) (drop i xs), list_all-append p (chunk i n xs) (drop (i + n) xs))
-
--- where the answer r for a lane is no, it is no for all
-pub fails_lane : (p : ℕ → Bool) (i : ℕ) (xs lane : List ℕ) (r : Bool) → lane ≡ chunk i 4 xs → r ≡ list_all p lane → r ≡ false → false ≡ list_all p xs
-fails_lane p i xs lane r of_xs answer failed = sym (fails_within p i 4 xs (ap (list_all p) (sym of_xs) ∙ (sym answer ∙ failed)))
 
 pub zeros_lane : (k : ℕ) (xs : List ℕ) → 4 * k + 4 ≤ length xs → take (4 * k) xs ≡ replicate (4 * k) 0 → take (4 * (k + 1)) (put_chunk (4 * k) xs (replicate 4 0)) ≡ replicate (4 * (k + 1)) 0
 zeros_lane k xs le h =

@@ -1,46 +1,37 @@
 -- Words made of two words that follow each other.
-use Rattle.std.proofs.Common.{◌≡◌, ℕ, ◌+◌, ◌-◌, ◌*◌, ◌/◌, ◌%◌, ◌^◌, ◌<◌, ◌≤◌, List, length, replicate, bit_or, get_or, set, refl, sym, ap, ◌∙◌, arith}
+use Rattle.std.proofs.Common.{map, ◌≡◌, ℕ, ◌+◌, ◌-◌, ◌*◌, ◌/◌, ◌%◌, ◌^◌, ◌<◌, ◌≤◌, List, length, replicate, bit_or, get_or, set, refl, sym, ◌∙◌, arith}
 use Rattle.std.specs.Simd.Lanes.{zip2, chunk, put_chunk}
-use Rattle.std.proofs.lemmas.List.{get_or-set_same, get_or-set_other, get_or_past}
+use Rattle.std.proofs.lemmas.List.{length-map, get_or-map, get_or-set_same, get_or-set_other, get_or_past}
 use Rattle.std.proofs.lemmas.Nat.{pow_pos}
-use Rattle.std.proofs.lemmas.Simd.{get_or-zip2, length-zip2, length-replicate, get_or-replicate, length-chunk, get_or-chunk, get_or-put_chunk_at, get_or-put_chunk_below, get_or-put_chunk_above}
+use Rattle.std.proofs.lemmas.Simd.{zip2_splat, map-map, get_or-zip2, length-zip2, length-chunk, get_or-chunk, get_or-put_chunk_at, get_or-put_chunk_below, get_or-put_chunk_above}
 use Rattle.bitlanes.specs.Shifts.{straddle, window}
 
 -- word by word in a lane
 module _ (low high : List ℕ) (r : ℕ) (four_low : length low ≡ 4) (four_high : length high ≡ 4) where
-  abbrev right : List ℕ
-  right = zip2 (λ x n. x / 2 ^ n) low (replicate 4 r)
+  abbrev lowered : ℕ → ℕ
+  lowered x = x / 2 ^ r
 
-  abbrev doubled : List ℕ
-  doubled = zip2 (λ x n. x * 2 ^ n % 2 ^ 64) high (replicate 4 1)
+  abbrev raised : ℕ → ℕ
+  raised x = x * 2 ^ 1 % 2 ^ 64 * 2 ^ (63 - r) % 2 ^ 64
 
-  abbrev left : List ℕ
-  left = zip2 (λ x n. x * 2 ^ n % 2 ^ 64) doubled (replicate 4 (63 - r))
+  abbrev both : List ℕ
+  both = zip2 bit_or (zip2 (λ x n. x / 2 ^ n) low (replicate 4 r)) (zip2 (λ x n. x * 2 ^ n % 2 ^ 64) (zip2 (λ x n. x * 2 ^ n % 2 ^ 64) high (replicate 4 1)) (replicate 4 (63 - r)))
 
-  four : (xs : List ℕ) (f : ℕ → ℕ → ℕ) (n : ℕ) → length xs ≡ 4 → length (zip2 f xs (replicate 4 n)) ≡ 4
-  four xs f n e = length-zip2 f xs (replicate 4 n) (e ∙ sym (length-replicate 4 n)) ∙ e
+  mapped : both ≡ zip2 bit_or (map lowered low) (map raised high)
+  mapped =
+      let doubled : List ℕ = map (λ x. x * 2 ^ 1 % 2 ^ 64) high in
+      let once = zip2_splat (λ x n. x * 2 ^ n % 2 ^ 64) high 4 1 four_high in
+      let twice = zip2_splat (λ x n. x * 2 ^ n % 2 ^ 64) doubled 4 (63 - r) (length-map high (λ x. x * 2 ^ 1 % 2 ^ 64) ∙ four_high) in
+      rw (zip2_splat (λ x n. x / 2 ^ n) low 4 r four_low, once, twice, map-map) refl
 
-  each : (xs : List ℕ) (f : ℕ → ℕ → ℕ) (n k : ℕ) → length xs ≡ 4 → k < 4 → get_or (zip2 f xs (replicate 4 n)) k 0 ≡ f (get_or xs k 0) n
-  each xs f n k e h =
-      get_or-zip2 f xs (replicate 4 n) k 0 0 0 (omega arith) (omega (arith, length-replicate 4 n))
-      ∙ ap (λ m. f (get_or xs k 0) m) (get_or-replicate 4 k n 0 h)
-
-  pub straddle_lanes : (k : ℕ) → k < 4 → get_or (zip2 bit_or right left) k 0 ≡ straddle r (get_or low k 0) (get_or high k 0)
+  pub straddle_lanes : (k : ℕ) → k < 4 → get_or both k 0 ≡ straddle r (get_or low k 0) (get_or high k 0)
   unfolding straddle
   straddle_lanes k h =
-      let long_right = four low (λ x n. x / 2 ^ n) r four_low in
-      let long_doubled = four high (λ x n. x * 2 ^ n % 2 ^ 64) 1 four_high in
-      let long_left = four doubled (λ x n. x * 2 ^ n % 2 ^ 64) (63 - r) long_doubled in
-      get_or-zip2 bit_or right left k 0 0 0 (omega (arith, long_right)) (omega (arith, long_left))
-      ∙ (let a = each low (λ x n. x / 2 ^ n) r k four_low h in
-      let b = each doubled (λ x n. x * 2 ^ n % 2 ^ 64) (63 - r) k long_doubled h ∙ ap (λ x. x * 2 ^ (63 - r) % 2 ^ 64) (each high (λ x n. x * 2 ^ n % 2 ^ 64) 1 k four_high h) in
-      λ i. bit_or (a i) (b i))
+      rw (mapped, get_or-zip2 bit_or (map lowered low) (map raised high) k 0 0 0 (omega (arith, length-map low lowered)) (omega (arith, length-map high raised)))
+      (rw (get_or-map lowered low k 0 0 (omega arith), get_or-map raised high k 0 0 (omega arith)) refl)
 
-  pub length-straddled : length (zip2 bit_or right left) ≡ 4
-  length-straddled =
-      let long_right = four low (λ x n. x / 2 ^ n) r four_low in
-      let long_left = four doubled (λ x n. x * 2 ^ n % 2 ^ 64) (63 - r) (four high (λ x n. x * 2 ^ n % 2 ^ 64) 1 four_high) in
-      length-zip2 bit_or right left (long_right ∙ sym long_left) ∙ long_right
+  pub length-straddled : length both ≡ 4
+  length-straddled = rw (mapped, length-zip2 bit_or (map lowered low) (map raised high) (omega (arith, length-map low lowered, length-map high raised))) (omega (arith, length-map low lowered))
 
 -- the bits from `from` on, word by word
 pub window_at : (ws : List ℕ) (from k : ℕ) → window ws (from + 64 * k) ≡ straddle (from % 64) (get_or ws (from / 64 + k) 0) (get_or ws (from / 64 + k + 1) 0)

@@ -7,13 +7,4 @@ use Rattle.bitlanes.proofs.carries.count_eights.Goals as goal
 pub overflow_add-eights : goal.overflow_add-eights
 overflow_add-eights g c =
     let all = zip2 g.O.WordOp.joined c.args.a.now c.args.b.now in
-    record {
-      fits = omega (
-        arith,
-        c.requires.fits,
-        c.loop-block.invariant.ones,
-        c.add_eight-carries.ensures.ones,
-        c.ones_in-eights.ensures,
-        sum_eight_le count_ones c.loop-block.block c.args.blocks all (omega arith),
-      );
-    }
+    record { fits = omega (arith, c.requires.fits, sum_eight_le count_ones c.loop-block.block c.args.blocks all (omega arith)) }

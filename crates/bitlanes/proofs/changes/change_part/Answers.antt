@@ -1,16 +1,9 @@
-use Rattle.std.proofs.Common.{◌∙◌, ap}
-use Rattle.std.specs.Simd.Lanes.{zip2, chunk, put_chunk}
+use Rattle.std.proofs.Common.{◌∙◌}
 use Rattle.bitlanes.specs.Changes.{changed_bits, changes}
 use Rattle.bitlanes.specs.ChangeFacts.{laws_of_changes}
-use Rattle.bitlanes.proofs.Changing.{part_taken, part_changed}
+use Rattle.bitlanes.proofs.Changing.{part_changed}
 use Rattle.bitlanes.proofs.Filling.{nothing_joined}
 use Rattle.bitlanes.proofs.changes.change_part.Goals as goal
-
-pub returns-clause-words : goal.returns-clause-words
-returns-clause-words g c =
-    let old = c.args.dst.now in
-    c.change_by_part.ensures.words
-    ∙ ap (λ words. put_chunk c.args.at old (zip2 g.O.WordOp.joined (chunk c.args.at c.args.rest old) words)) (part_taken c.args.at c.args.rest c.part_at.result c.args.src.now c.part_at.ensures c.requires.in_src)
 
 pub returns-clause-changed : goal.returns-clause-changed
 returns-clause-changed g c =

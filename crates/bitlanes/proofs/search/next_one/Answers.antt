@@ -1,14 +1,14 @@
-use Rattle.std.proofs.Common.{ℕ, map, sym, ◌∙◌, arith}
+use Rattle.std.proofs.Common.{map, sym, ◌∙◌, arith}
 use Rattle.bitlanes.proofs.Folding.{zero_in_stretch}
 use Rattle.bitlanes.proofs.search.next_one.Goals as goal
 
 pub loop-start-preserved : goal.loop-start-preserved
 loop-start-preserved g c =
     let before = c.loop-start.invariant in
-    let start : ℕ = c.loop-start.start in
+    let masked = map (g.O.WordOp.joined c.args.mask) c.args.words.now in
     record {
       after = omega (arith, before.after);
-      within = omega (arith, c.loop-start-test.true, before.within);
-      zeros = λ i from h. grind (arith, before.zeros i from, zero_in_stretch start 16 (map (g.O.WordOp.joined c.args.mask) c.args.words.now) (sym c.are_zero_at.ensures ∙ c.if-are_zero_at.true) i);
+      within = omega (arith, c.loop-start-test.true);
+      zeros = λ i from below. grind (arith, before.zeros i from, zero_in_stretch c.loop-start.start 16 masked (sym c.are_zero_at.ensures ∙ c.if-are_zero_at.true) i);
       cost = omega (arith, before.cost, before.after, c.tick_four.ensures);
     }

@@ -1,13 +1,13 @@
-use Rattle.std.proofs.Common.{ℕ, ◌-◌, map, sym, ◌∙◌, arith}
+use Rattle.std.proofs.Common.{◌-◌, map, sym, ◌∙◌, arith}
 use Rattle.bitlanes.proofs.Folding.{zero_in_stretch}
 use Rattle.bitlanes.proofs.search.previous_one.Goals as goal
 
 pub loop-end-preserved : goal.loop-end-preserved
 loop-end-preserved g c =
     let before = c.loop-end.invariant in
-    let end : ℕ = c.loop-end.end in
+    let masked = map (g.O.WordOp.joined c.args.mask) c.args.words.now in
     record {
       within = omega (arith, before.within);
-      zeros = λ i h below. grind (arith, before.zeros i, zero_in_stretch (end - 16) 16 (map (g.O.WordOp.joined c.args.mask) c.args.words.now) (sym c.are_zero_at.ensures ∙ c.if-are_zero_at.true) i);
-      cost = omega (arith, before.cost, before.within, c.loop-end-test.true, c.tick_four.ensures);
+      zeros = λ i from below. grind (arith, before.zeros i, zero_in_stretch (c.loop-end.end - 16) 16 masked (sym c.are_zero_at.ensures ∙ c.if-are_zero_at.true) i);
+      cost = omega (arith, before.cost, before.within, c.tick_four.ensures);
     }

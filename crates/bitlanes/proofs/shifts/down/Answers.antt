@@ -1,8 +1,7 @@
-use Rattle.std.proofs.Common.{◌≡◌, ℕ, ◌+◌, ◌*◌, ◌/◌, ◌<◌, arith, get_or, refl}
+use Rattle.std.proofs.Common.{rules, ◌≡◌, ℕ, ◌+◌, ◌*◌, ◌/◌, ◌<◌, arith, get_or, refl}
 use Rattle.bitlanes.specs.Shifts.{window}
 use Rattle.bitlanes.proofs.Moved.{joined_behind, lane_joined, word_joined, window_at}
 use Rattle.bitlanes.proofs.shifts.down.Goals as goal
-use Rattle.bitlanes.proofs.shifts.down.Goals.{then-at-eq0, else-at-eq0}
 
 pub loop-lane-preserved : goal.loop-lane-preserved
 loop-lane-preserved c =
@@ -28,5 +27,5 @@ loop-at-preserved c =
     let word : c.window_word.result ≡ moved at = grind (arith, c.window_word.ensures, are.above (first + at), are.above (first + at + 1), window_at c.args.words.now c.args.by at) in
     record {
       are = joined_behind second moved c.args.words.now (omega arith) (omega arith) are (word_joined second moved c.loop-at.words at _ c.window_word.result c.window_word.result (omega arith) (omega arith) word refl);
-      cost = elim c.if-at-eq0.branch [ then-at-eq0 w ↦ omega (arith, w.steps-is, w.tick-then-at-eq0.ensures, c.loop-at.invariant.cost) | else-at-eq0 w ↦ omega (arith, w.steps-is, c.loop-at.invariant.cost) ];
+      cost = search rules;
     }

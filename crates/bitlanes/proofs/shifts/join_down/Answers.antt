@@ -1,8 +1,7 @@
-use Rattle.std.proofs.Common.{◌≡◌, ℕ, ◌+◌, ◌*◌, ◌<◌, ◌∙◌, arith, sym, get_or}
+use Rattle.std.proofs.Common.{rules, ◌≡◌, ℕ, ◌+◌, ◌*◌, ◌<◌, ◌∙◌, arith, sym, get_or}
 use Rattle.bitlanes.specs.Shifts.{window}
 use Rattle.bitlanes.proofs.Moved.{joined_behind, lane_joined, word_joined, window_at}
 use Rattle.bitlanes.proofs.shifts.join_down.Goals as goal
-use Rattle.bitlanes.proofs.shifts.join_down.Goals.{then-at-eq0, else-at-eq0}
 
 pub loop-lane-preserved : goal.loop-lane-preserved
 loop-lane-preserved g c =
@@ -22,5 +21,5 @@ loop-at-preserved g c =
     let word : c.window_word.result ≡ moved c.loop-at.at = c.window_word.ensures ∙ sym (window_at c.args.src.now c.args.from c.loop-at.at) in
     record {
       are = joined_behind f moved c.args.dst.now (omega arith) (omega arith) c.loop-at.invariant.are (word_joined f moved c.loop-at.dst c.loop-at.at _ c.word.result c.window_word.result (omega arith) (omega arith) word c.word.ensures);
-      cost = elim c.if-at-eq0.branch [ then-at-eq0 w ↦ omega (arith, w.steps-is, w.tick-then-at-eq0.ensures, c.loop-at.invariant.cost) | else-at-eq0 w ↦ omega (arith, w.steps-is, c.loop-at.invariant.cost) ];
+      cost = search rules;
     }

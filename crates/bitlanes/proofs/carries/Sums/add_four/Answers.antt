@@ -6,11 +6,5 @@ use Rattle.bitlanes.proofs.carries.Sums.add_four.Goals as goal
 
 pub returns-clause-ones : goal.returns-clause-ones
 returns-clause-ones g c =
-    omega (
-      arith,
-      sum_chunk count_ones c.args.at 8 8 (zip2 g.O.WordOp.joined c.args.a.now c.args.b.now),
-      c.add_two-first.ensures.ones,
-      c.add_two-second.ensures.ones,
-      c.add.ensures,
-      c.self.view_is,
-    )
+    let joined = zip2 g.O.WordOp.joined c.args.a.now c.args.b.now in
+    omega (arith, sum_chunk count_ones c.args.at 8 8 joined)
