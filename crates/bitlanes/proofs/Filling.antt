@@ -1,8 +1,7 @@
 -- the last lane: one to three words, and zeros
-use Rattle.std.proofs.Common.{◌≡◌, ℕ, zero, suc, ◌+◌, ◌-◌, ◌*◌, ◌^◌, lit<, ◌<◌, ◌≤◌, ◌==◌, Bool, true, false, ◌&&◌, List, [], ◌∷◌, ◌++◌, length, take, drop, get_or, slice_set, map, replicate, refl, ap, sym, ◌∙◌, arith, min}
+use Rattle.std.proofs.Common.{◌≡◌, ℕ, zero, suc, ◌+◌, ◌-◌, ◌*◌, lit<, ◌≤◌, ◌==◌, Bool, true, false, ◌&&◌, List, [], ◌∷◌, ◌++◌, length, take, drop, get_or, slice_set, map, replicate, refl, ap, sym, ◌∙◌, arith, min}
 use Rattle.std.specs.List.{list_all}
 use Rattle.std.specs.Simd.Lanes.{zip2, chunk, put_chunk}
-use Rattle.std.specs.Int.{bit_at}
 use Rattle.std.proofs.Math.Seq.{take-add}
 use Rattle.std.proofs.lemmas.Bool.Decides.{nat_tests}
 use Rattle.std.proofs.lemmas.List.{take_all, take-append-le, drop_all, take-replicate, length-map, length-replicate}
@@ -10,6 +9,7 @@ use Rattle.std.proofs.lemmas.List.Folds.{list_all-append}
 use Rattle.std.proofs.lemmas.Nat.Bits.{same_from_bits, bit_at-zero, bit_at-lt}
 use Rattle.std.proofs.lemmas.Simd.{length-chunk, put_chunk_whole}
 use Rattle.bitlanes.specs.Bits.{bit}
+use Rattle.bitlanes.specs.Ops.{IsWordOp}
 use Rattle.bitlanes.specs.Words.{filled}
 use Rattle.bitlanes.proofs.Kept.{put_none}
 use Rattle.bitlanes.proofs.Zipping.{length_joined, chunk_zip2, chunk_masked}
@@ -68,14 +68,12 @@ pub filled_masked : (f : ℕ → ℕ → ℕ) → f 0 0 ≡ 0 → (mask i n : �
 filled_masked f h mask i n xs few within =
     rw (zip2_filled f h 0 i n (replicate 4 mask) xs (omega arith) within, take-replicate n 4 mask few, chunk_masked f mask i n xs within) refl
 
-digit_zero : (d : ℕ) → d < 2 → (d == 1) ≡ false → d ≡ 0
-digit_zero d p h = grind (arith, nat_tests)
-
 -- no bit joined with no bit is no bit, so nothing joined with nothing is nothing
-pub nothing_joined : (f : ℕ → ℕ → ℕ) (t : Bool → Bool → Bool) → ((a b i : ℕ) → a < 2 ^ 64 → b < 2 ^ 64 → bit (f a b) i ≡ t (bit a i) (bit b i)) → t false false ≡ false → f 0 0 ≡ 0
-nothing_joined f t by_bits neither = same_from_bits (f 0 0) 0 (λ i.
+pub nothing_joined : {f : ℕ → ℕ → ℕ} {t : Bool → Bool → Bool} {keep take : Bool} → IsWordOp f t keep take → f 0 0 ≡ 0
+nothing_joined {f} {t} law = same_from_bits (f 0 0) 0 (λ i.
     let unset : bit 0 i ≡ false = ap (λ d. d == 1) (bit_at-zero i) in
-    digit_zero (bit_at (f 0 0) i) (bit_at-lt (f 0 0) i) (by_bits 0 0 i (lit< tt) (lit< tt) ∙ (ap (λ x. t x x) unset ∙ neither)) ∙ sym (bit_at-zero i))
+    let neither : bit (f 0 0) i ≡ false = law.by_bits 0 0 i (lit< tt) (lit< tt) ∙ (ap (λ x. t x x) unset ∙ law.of_neither) in
+    grind (arith, nat_tests, bit_at-zero i, bit_at-lt (f 0 0) i))
 
 -- ---- the whole lanes and the last
 

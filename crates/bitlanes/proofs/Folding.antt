@@ -1,5 +1,5 @@
 -- tests of a list, one lane of four further, and lists of zeros
-use Rattle.std.proofs.Common.{◌≡◌, ℕ, zero, suc, ◌+◌, ◌-◌, ◌*◌, ◌≤◌, Bool, true, false, ◌==◌, ◌<◌, ◌&&◌, List, slice_index, [], ◌∷◌, ◌++◌, length, take, drop, replicate, bit_or, refl, ap, sym, ◌∙◌, arith}
+use Rattle.std.proofs.Common.{◌≡◌, ℕ, zero, suc, ◌+◌, ◌-◌, ◌*◌, ◌≤◌, Bool, true, false, ◌==◌, ◌<◌, ◌&&◌, List, slice_index, [], ◌∷◌, length, take, drop, replicate, bit_or, refl, ap, sym, ◌∙◌, arith}
 use Rattle.std.specs.List.{list_all}
 use Rattle.std.specs.Simd.Lanes.{zip2, fold_l, chunk, put_chunk}
 use Rattle.std.proofs.Math.Bool.{and-true}
@@ -22,13 +22,9 @@ fold_or a (x ∷ xs) = grind (arith, nat_tests, fold_or (bit_or a x) xs, bit_or-
 pub or_of_lane : (xs : List ℕ) → (fold_l bit_or 0 xs == 0) ≡ list_all (λ w. w == 0) xs
 or_of_lane = fold_or 0
 
--- one lane more
-take_lane : (k : ℕ) (xs : List ℕ) → take (4 * (k + 1)) xs ≡ take (4 * k) xs ++ chunk (4 * k) 4 xs
-take_lane k xs = let e : 4 * (k + 1) ≡ 4 * k + 4 = omega arith in rw (e, take-add) refl
-
 -- the test of one lane more
 pub all_lane : (p : ℕ → Bool) (k : ℕ) (xs : List ℕ) → list_all p (take (4 * (k + 1)) xs) ≡ (list_all p (take (4 * k) xs) && list_all p (chunk (4 * k) 4 xs))
-all_lane p k xs = ap (list_all p) (take_lane k xs) ∙ list_all-append p (take (4 * k) xs) (chunk (4 * k) 4 xs)
+all_lane p k xs = let e : 4 * (k + 1) ≡ 4 * k + 4 = omega arith in rw (e, take-add) (list_all-append p (take (4 * k) xs) (chunk (4 * k) 4 xs))
 
 -- where a stretch fails, the whole does
 pub fails_within : (p : ℕ → Bool) (i n : ℕ) (xs : List ℕ) → list_all p (chunk i n xs) ≡ false → list_all p xs ≡ false

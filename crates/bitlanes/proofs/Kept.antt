@@ -18,16 +18,11 @@ put_none i [] = refl
 put_none zero (x ∷ xs) = refl
 put_none (suc i) (x ∷ xs) = ap (λ t. x ∷ t) (put_none i xs)
 
--- the first n words
-kept_first : (f : ℕ → ℕ → ℕ) (n : ℕ) (xs ys : List ℕ) → n ≤ length xs → n ≤ length ys → put_chunk 0 xs (zip2 f (take n xs) (take n ys)) ≡ zip_longest f true false xs (take n ys)
-kept_first f zero xs ys p q = put_none 0 xs ∙ sym (kept_none f xs)
-kept_first f (suc n) (x ∷ xs) (y ∷ ys) p q = ap (λ t. f x y ∷ t) (kept_first f n xs ys (omega arith) (omega arith))
-kept_first f n xs ys p q = absurd (omega arith)
-
 -- n words more, after i words
 kept_more : (f : ℕ → ℕ → ℕ) (n i : ℕ) (xs ys : List ℕ) → i + n ≤ length xs → i + n ≤ length ys
     → put_chunk i (zip_longest f true false xs (take i ys)) (zip2 f (chunk i n (zip_longest f true false xs (take i ys))) (chunk i n ys)) ≡ zip_longest f true false xs (take i ys ++ chunk i n ys)
-kept_more f n zero xs ys p q = rw kept_none (kept_first f n xs ys (omega arith) (omega arith))
+kept_more f zero zero xs ys p q = put_none 0 (zip_longest f true false xs [])
+kept_more f (suc n) zero (x ∷ xs) (y ∷ ys) p q = ap (λ t. f x y ∷ t) (rw kept_none at (kept_more f n zero xs ys (omega arith) (omega arith)))
 kept_more f n (suc i) (x ∷ xs) (y ∷ ys) p q = ap (λ t. f x y ∷ t) (kept_more f n i xs ys (omega arith) (omega arith))
 kept_more f n i xs ys p q = absurd (omega arith)
 

@@ -1,6 +1,6 @@
 use Rattle.std.proofs.Common.{ℕ, ◌≡◌, ◌∙◌, ◌*◌, ◌/◌, ◌%◌, ◌==◌, List, length, min, not, take, sym, ap, refl, arith}
 use Rattle.std.specs.Simd.Lanes.{zip2}
-use Rattle.bitlanes.specs.Changes.{changed_bits, changes}
+use Rattle.bitlanes.specs.Changes.{changed_bits}
 use Rattle.bitlanes.specs.ChangeFacts.{laws_of_changes}
 use Rattle.bitlanes.proofs.Changing.{changed_lane, changed_part, part_taken, part_changed}
 use Rattle.bitlanes.proofs.Filling.{nothing_joined}
@@ -46,8 +46,6 @@ returns-clause-words g c =
 pub returns-clause-changed : goal.returns-clause-changed
 returns-clause-changed g c =
     let f = g.O.WordOp.joined in
-    let laws = laws_of_changes g.met.O.WordOp.laws in
-    let nothing = nothing_joined (changed_bits f) (changes g.O.WordOp.truth) laws.by_bits laws.of_neither in
     let old = c.args.dst.now in
     let src : List ℕ = zip2 g.T.WordOp.joined c.args.a.now c.args.b.now in
     let common : c.min-words.result ≡ min (length old) (length src) = omega (arith, c.min-words.ensures, c.min.ensures, length_joined g.T.WordOp.joined c.args.a.now c.args.b.now) in
@@ -58,7 +56,7 @@ returns-clause-changed g c =
     ap not (c.is_zero.ensures ∙ elim c.if-rest-gt0.branch [
       | then-rest-gt0 w ↦
           let part = rw end at (w.change_by_part.ensures.changed) in
-          let changed = part_changed (4 * lane) rest w.joined_part_at-joined.result src (rw end at w.joined_part_at-joined.ensures) (omega arith) (changed_bits f) nothing c.loop-lane.dst (omega (arith, ap length before.words, length-kept f old (take (4 * lane) src))) in
+          let changed = part_changed (4 * lane) rest w.joined_part_at-joined.result src (rw end at w.joined_part_at-joined.ensures) (omega arith) (changed_bits f) (nothing_joined (laws_of_changes g.met.O.WordOp.laws)) c.loop-lane.dst (omega (arith, ap length before.words, length-kept f old (take (4 * lane) src))) in
           rw (w.changed-is, w.gathered-changed-then-rest-gt0.ensures, before.changed) (changed_part f old src lane _ _ before.words rest (omega arith) (part ∙ changed))
       | else-rest-gt0 w ↦ rw (w.changed-is, before.changed) (all_joined (changed_bits f) (λ (word : ℕ). word == 0) (4 * lane) old src (omega (arith, w.if-rest-gt0.false)))
     ])

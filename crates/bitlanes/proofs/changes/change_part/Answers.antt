@@ -1,5 +1,5 @@
 use Rattle.std.proofs.Common.{◌∙◌}
-use Rattle.bitlanes.specs.Changes.{changed_bits, changes}
+use Rattle.bitlanes.specs.Changes.{changed_bits}
 use Rattle.bitlanes.specs.ChangeFacts.{laws_of_changes}
 use Rattle.bitlanes.proofs.Changing.{part_changed}
 use Rattle.bitlanes.proofs.Filling.{nothing_joined}
@@ -7,7 +7,5 @@ use Rattle.bitlanes.proofs.changes.change_part.Goals as goal
 
 pub returns-clause-changed : goal.returns-clause-changed
 returns-clause-changed g c =
-    let laws = laws_of_changes g.met.O.WordOp.laws in
     let f = g.O.WordOp.joined in
-    let nothing = nothing_joined (changed_bits f) (changes g.O.WordOp.truth) laws.by_bits laws.of_neither in
-    c.change_by_part.ensures.changed ∙ part_changed c.args.at c.args.rest c.part_at.result c.args.src.now c.part_at.ensures c.requires.in_src (changed_bits f) nothing c.args.dst.now c.requires.in_dst
+    c.change_by_part.ensures.changed ∙ part_changed c.args.at c.args.rest c.part_at.result c.args.src.now c.part_at.ensures c.requires.in_src (changed_bits f) (nothing_joined (laws_of_changes g.met.O.WordOp.laws)) c.args.dst.now c.requires.in_dst

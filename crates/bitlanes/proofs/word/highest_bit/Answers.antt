@@ -1,18 +1,14 @@
-use Rattle.std.proofs.Common.{◌≡◌, ◌<◌, ◌≤◌, ◌+◌, ◌-◌, ◌*◌, ◌^◌, ℕ, suc, refl, ap, ◌∙◌, arith}
+use Rattle.std.proofs.Common.{◌≡◌, ◌<◌, ◌≤◌, ◌^◌, ℕ, suc, ap, ◌∙◌, arith}
 use Rattle.std.proofs.Math.Nat.{pow-suc}
 use Rattle.std.specs.Int.{bit_at}
 use Rattle.std.proofs.lemmas.Nat.{leading_top}
-use Rattle.std.proofs.lemmas.Nat.Bits.{bit_at_above, bit_at_cat_high}
+use Rattle.std.proofs.lemmas.Nat.Bits.{bit_at_above}
 use Rattle.bitlanes.proofs.word.highest_bit.Goals as goal
 
 -- a number of j + 1 binary digits has bit j
 top_bit : (a j : ℕ) → 2 ^ j ≤ a → a < 2 ^ suc j → bit_at a j ≡ 1
 top_bit a j low high =
-    let rest : ℕ = a - 2 ^ j in
-    let is : a ≡ 1 * 2 ^ j + rest = omega arith in
-    let small : rest < 2 ^ j = omega (arith, pow-suc 2 j) in
-    let none : j - j ≡ 0 = omega arith in
-    rw (is, bit_at_cat_high 1 j rest j small (omega arith), none) refl
+    grind (arith, pow-suc 2 j)
 
 pub returns : goal.returns
 returns c =
