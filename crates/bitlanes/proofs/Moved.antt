@@ -33,14 +33,6 @@ module _ (low high : List ℕ) (r : ℕ) (four_low : length low ≡ 4) (four_hig
   pub length-straddled : length both ≡ 4
   length-straddled = rw (mapped, length-zip2 bit_or (map lowered low) (map raised high) (omega (arith, length-map low lowered, length-map high raised))) (omega (arith, length-map low lowered))
 
--- the bits from `from` on, word by word
-pub window_at : (ws : List ℕ) (from k : ℕ) → window ws (from + 64 * k) ≡ straddle (from % 64) (get_or ws (from / 64 + k) 0) (get_or ws (from / 64 + k + 1) 0)
-unfolding window
-window_at ws from k =
-    let q : (from + 64 * k) / 64 ≡ from / 64 + k = omega arith in
-    let r : (from + 64 * k) % 64 ≡ from % 64 = omega arith in
-    rw (q, r) refl
-
 -- past the row there is none
 pub straddle-none : (r : ℕ) → straddle r 0 0 ≡ 0
 unfolding straddle
@@ -103,12 +95,3 @@ module _ (f : ℕ → ℕ → ℕ) (moved : ℕ → ℕ) (old : List ℕ) where
     below = λ k h. put.below k h ∙ behind.below k (omega arith);
     above = λ k h. put.above k (omega arith) ∙ behind.above k h;
   }
-
--- the bits that stand `by` below a word
-pub window_below : (ws : List ℕ) (by first shift k : ℕ) → by + shift ≡ 64 * first → shift < 64 → first ≤ k
-    → window ws (64 * k - by) ≡ straddle shift (get_or ws (k - first) 0) (get_or ws (k - first + 1) 0)
-unfolding window
-window_below ws by first shift k whole short from =
-    let q : (64 * k - by) / 64 ≡ k - first = omega arith in
-    let r : (64 * k - by) % 64 ≡ shift = omega arith in
-    λ i. straddle (r i) (get_or ws (q i) 0) (get_or ws (q i + 1) 0)

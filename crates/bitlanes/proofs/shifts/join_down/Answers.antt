@@ -1,24 +1,26 @@
-use Rattle.std.proofs.Common.{rules, ◌≡◌, ℕ, ◌+◌, ◌*◌, ◌<◌, ◌∙◌, arith, sym, get_or}
+use Rattle.std.proofs.Common.{rules, ◌≡◌, ℕ, ◌+◌, ◌*◌, ◌<◌, arith, get_or}
 use Rattle.bitlanes.specs.Shifts.{window}
-use Rattle.bitlanes.proofs.Moved.{joined_behind, lane_joined, word_joined, window_at}
+use Rattle.bitlanes.proofs.Moved.{joined_behind, lane_joined, word_joined}
 use Rattle.bitlanes.proofs.shifts.join_down.Goals as goal
 
 pub loop-lane-preserved : goal.loop-lane-preserved
+unfolding window
 loop-lane-preserved g c =
     let f = g.O.WordOp.joined in
     let at : ℕ = 4 * c.loop-lane.lane in
     let moved : ℕ → ℕ = λ k. window c.args.src.now (c.args.from + 64 * k) in
-    let lane : (k : ℕ) → k < 4 → get_or c.window_lane.result k 0 ≡ moved (at + k) = λ k h. grind (arith, c.window_lane.ensures.words k h, window_at c.args.src.now c.args.from (at + k)) in
+    let lane : (k : ℕ) → k < 4 → get_or c.window_lane.result k 0 ≡ moved (at + k) = λ k h. grind (arith, c.window_lane.ensures.words k h) in
     record {
       are = joined_behind f moved c.args.dst.now (omega arith) (omega arith) c.loop-lane.invariant.are (lane_joined f moved c.loop-lane.dst at _ c.window_lane.result _ c.window_lane.ensures.long (omega arith) (omega arith) lane c.join_lane.ensures);
       cost = omega (arith, c.tick.ensures, c.loop-lane.invariant.cost);
     }
 
 pub loop-at-preserved : goal.loop-at-preserved
+unfolding window
 loop-at-preserved g c =
     let f = g.O.WordOp.joined in
     let moved : ℕ → ℕ = λ k. window c.args.src.now (c.args.from + 64 * k) in
-    let word : c.window_word.result ≡ moved c.loop-at.at = c.window_word.ensures ∙ sym (window_at c.args.src.now c.args.from c.loop-at.at) in
+    let word : c.window_word.result ≡ moved c.loop-at.at = grind (arith, c.window_word.ensures) in
     record {
       are = joined_behind f moved c.args.dst.now (omega arith) (omega arith) c.loop-at.invariant.are (word_joined f moved c.loop-at.dst c.loop-at.at _ c.word.result c.window_word.result (omega arith) (omega arith) word c.word.ensures);
       cost = search rules;
