@@ -1,50 +1,36 @@
 -- How many facts the sets have: no more than all, and more where something new went along an edge.
-use Rattle.std.proofs.Common.{inl, inr, ◌≡◌, ◌∙◌, ℕ, zero, suc, ◌-◌, ◌*◌, ◌<◌, ◌≤◌, Bool, true, false, cond, IsTrue, List, [], ◌∷◌, length, get_or, refl, sym, ap, subst, arith, ⊎_elim, zero-add}
+use Rattle.std.proofs.Common.{◌≡◌, ◌∙◌, ℕ, zero, suc, ◌+◌, ◌*◌, ◌<◌, ◌≤◌, Bool, true, cond, IsTrue, List, [], ◌∷◌, length, get_or, arith, ⊎_elim, zero-add}
 use Rattle.std.specs.Prelude.{count_by}
 use Rattle.std.specs.List.{range_with_len}
-use Rattle.std.proofs.lemmas.Bool.{cases_lt, cases_Bool, true≢false}
-use Rattle.std.proofs.lemmas.List.Sums.{sum_by-cons, sum_by-set, sum_by-le, count_by-le-length}
+use Rattle.std.proofs.lemmas.Bool.{cases_lt}
+use Rattle.std.proofs.lemmas.List.Sums.{sum_by-cons, sum_by-set, sum_by-le, sum_by-le-sum_by, count_by-le-length}
 use Rattle.std.proofs.lemmas.List.FromFn.{length-range_with_len, get_or-range_with_len}
 use Rattle.fixedbitset.specs.Bits.{Bits, contains, empty}
 use Rattle.fixedbitset.specs.BitsFacts.{contains_below}
-use Rattle.fixedbitset.specs.MemberFacts.{in_union}
 use Rattle.fixedbitset.specs.TwoSets.{union}
+use Rattle.fixedbitset.specs.TwoSetsFacts.{contains-union}
 use Rattle.flow.specs.Flow.{Sets, at}
 use Rattle.flow.specs.Turns.{total, ins_after, IsPassed}
 
-cond_more : (a b : Bool) → (a ≡ true → b ≡ true) → cond {A = ℕ} a 1 0 ≤ cond {A = ℕ} b 1 0
-cond_more true true h = omega arith
-cond_more true false h = absurd (true≢false (sym (h refl)))
-cond_more false true h = omega arith
-cond_more false false h = omega arith
+abbrev one_if : Bool → ℕ
+one_if b = cond b 1 0
 
-one_if : (a : Bool) → a ≡ true → cond {A = ℕ} a 1 0 ≡ 1
-one_if a h = ap (λ b. cond b 1 0) h
-
-none_if : (a : Bool) → a ≡ false → cond {A = ℕ} a 1 0 ≡ 0
-none_if a h = ap (λ b. cond b 1 0) h
+-- a test that passes more counts no fewer, and where it counts no more, it passes no more
+both_counts : (a b : Bool) (m n : ℕ) → (a ≡ true → b ≡ true) → m ≤ n → one_if b + n ≤ one_if a + m → (n ≤ m) × (b ≡ true → a ≡ true)
+both_counts a b m n more le counts = grind arith
 
 module _ (f g : ℕ → Bool) (more : (p : ℕ) → IsTrue (f p) → IsTrue (g p)) where
-  -- a test that passes more counts no fewer
   count_more : (xs : List ℕ) → count_by f xs ≤ count_by g xs
-  count_more [] = omega arith
-  count_more (x ∷ xs) =
-      omega (arith, sum_by-cons (λ y. cond {A = ℕ} (f y) 1 0) x xs, sum_by-cons (λ y. cond {A = ℕ} (g y) 1 0) x xs, cond_more (f x) (g x) (more x), count_more xs)
+  count_more xs = sum_by-le-sum_by (λ y. one_if (f y)) (λ y. one_if (g y)) xs (λ y. let now = more y in grind (arith, now))
 
-  -- and where it counts no more, it passes no more
   count_same : (xs : List ℕ) → count_by g xs ≤ count_by f xs → (k : ℕ) → k < length xs → IsTrue (g (get_or xs k 0)) → IsTrue (f (get_or xs k 0))
   count_same [] le k within pass = absurd (omega arith)
-  count_same (x ∷ xs) le zero within pass =
-      ⊎_elim
-      (λ (yes : f x ≡ true). yes)
-      (λ (no : f x ≡ false).
-      absurd
-      (omega (arith, sum_by-cons (λ y. cond {A = ℕ} (f y) 1 0) x xs, sum_by-cons (λ y. cond {A = ℕ} (g y) 1 0) x xs, one_if (g x) pass, none_if (f x) no, count_more xs, le)))
-      (cases_Bool (f x))
-  count_same (x ∷ xs) le (suc k) within pass =
-      count_same xs
-      (omega (arith, sum_by-cons (λ y. cond {A = ℕ} (f y) 1 0) x xs, sum_by-cons (λ y. cond {A = ℕ} (g y) 1 0) x xs, cond_more (f x) (g x) (more x), le))
-      k (omega arith) pass
+  count_same (x ∷ xs) le k within pass =
+      let parts = both_counts (f x) (g x) _ _ (more x) (count_more xs) (omega (arith, sum_by-cons (λ y. one_if (f y)) x xs, sum_by-cons (λ y. one_if (g y)) x xs)) in
+      elim k as (λ i. i < length (x ∷ xs) → IsTrue (g (get_or (x ∷ xs) i 0)) → IsTrue (f (get_or (x ∷ xs) i 0))) [
+        | zero ↦ λ _. parts.1
+        | suc i ↦ λ below. count_same xs parts.0 i (omega arith)
+      ] within pass
 
 -- how many of the facts a set has
 size : ℕ → Bits → ℕ
@@ -59,12 +45,10 @@ size_more facts v w same apart =
     (λ (le : size facts (union v w) ≤ size facts v).
     absurd
     (apart (λ p has.
-    let below : p < facts = (let h : p < w.length = contains_below w p has in omega arith) in
-    let here : get_or (range_with_len 0 facts) p 0 ≡ p = get_or-range_with_len 0 facts p 0 below ∙ zero-add p in
-    let many = length-range_with_len 0 facts in
-    subst (λ x. IsTrue (contains v x)) here
-    (count_same (contains v) (contains (union v w)) (λ q old. (in_union v w q).1 (inl old)) (range_with_len 0 facts) le p (omega arith)
-    (subst (λ x. IsTrue (contains (union v w) x)) (sym here) ((in_union v w p).1 (inr has)))))))
+    let below = contains_below w p has in
+    let here : get_or (range_with_len 0 facts) p 0 ≡ p = get_or-range_with_len 0 facts p 0 (omega arith) ∙ zero-add p in
+    let kept = count_same (contains v) (contains (union v w)) (λ q old. grind (arith, contains-union v w q)) (range_with_len 0 facts) le p (omega (arith, length-range_with_len)) in
+    grind (arith, contains-union v w p, kept, here))))
     (cases_lt (size facts v) (size facts (union v w)))
 
 -- what new goes along an edge makes the total greater
@@ -76,12 +60,4 @@ total_more facts ins outs u v within same apart =
 -- there are no more than all facts of all nodes
 pub total_all : (facts : ℕ) (sets : Sets) → total facts sets ≤ length sets * facts
 unfolding total
-total_all facts sets =
-    sum_by-le (λ set. count_by (contains set) (range_with_len 0 facts)) facts sets (λ k d within.
-    let many = length-range_with_len 0 facts in omega (arith, count_by-le-length (contains (get_or sets k d)) (range_with_len 0 facts)))
-
--- the facts that are not there yet become fewer
-pub measure_falls : (facts : ℕ) (old new : Sets) → length new ≡ length old → total facts old < total facts new → length new * facts - total facts new < length old * facts - total facts old
-measure_falls facts old new many grows =
-    let product : length new * facts ≡ length old * facts = ap (λ n. n * facts) many in
-    omega (arith, total_all facts new)
+total_all facts sets = sum_by-le _ facts sets (λ k d within. omega (arith, length-range_with_len, count_by-le-length (contains (get_or sets k d)) (range_with_len 0 facts)))

@@ -1,8 +1,7 @@
-use Rattle.std.proofs.Common.{◌≡◌, ◌∙◌, ◌*◌, length, ap, arith}
+use Rattle.std.proofs.Common.{◌∙◌, ap, arith}
 use Rattle.flow.specs.Turns.{facts_of}
-use Rattle.flow.proofs.AllNodes.{length-all}
-use Rattle.flow.proofs.Pending.{pending_first}
-use Rattle.flow.proofs.Totals.{total_all, measure_falls}
+use Rattle.flow.proofs.Totals.{total_all}
+use Rattle.flow.proofs.Turning.{length-all, pending_first}
 use Rattle.flow.proofs.rounds.settle.Goals as goal
 
 pub turns-init : goal.turns-init
@@ -17,10 +16,7 @@ turns-init c = record {
 }
 
 pub returns-then-not-turn-clause-bound : goal.returns-then-not-turn-clause-bound
-returns-then-not-turn-clause-bound c =
-    let facts = facts_of c.args.kills.now in
-    let many : length c.turns.ins * facts ≡ length c.args.ins.now * facts = ap (λ n. n * facts) c.turns.auto.ins in
-    omega (arith, total_all facts c.turns.ins)
+returns-then-not-turn-clause-bound c = rw (← c.turns.auto.ins) (omega (arith, total_all (facts_of c.args.kills.now) c.turns.ins))
 
 pub turns-smaller : goal.turns-smaller
-turns-smaller c = measure_falls (facts_of c.args.kills.now) c.turns.ins c.turn.new.ins c.turn.auto.ins (c.turn.ensures.grows c.if-not-turn.false)
+turns-smaller c = rw (← c.turn.auto.ins) (omega (arith, total_all (facts_of c.args.kills.now) c.turn.new.ins, c.turn.ensures.grows c.if-not-turn.false))
