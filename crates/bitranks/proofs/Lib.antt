@@ -1,4 +1,2 @@
 pub mod Counting
 pub mod Halving
-pub mod Nth
-pub mod Kept

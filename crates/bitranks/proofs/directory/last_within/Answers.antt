@@ -8,7 +8,7 @@ loop-high-preserved-then-directory-middle c = record {
   within = omega arith;
   below = omega arith;
   above = c.loop-high.invariant.above;
-  cost = λ n long. halved n c.args.steps.now c.loop-high.steps c.tick.new.self (c.loop-high.high - c.loop-high.low) _ (omega arith) (c.loop-high.invariant.cost n long) (omega arith) (omega arith);
+  cost = λ n long. halved n c.args.steps.now c.loop-high.steps _ (c.loop-high.high - c.loop-high.low) _ (omega arith) (c.loop-high.invariant.cost n long) (omega arith) (omega arith);
 }
 
 pub loop-high-preserved : goal.loop-high-preserved
@@ -17,5 +17,5 @@ loop-high-preserved c = record {
   within = omega arith;
   below = c.loop-high.invariant.below;
   above = λ _. omega arith;
-  cost = λ n long. halved n c.args.steps.now c.loop-high.steps c.tick.new.self (c.loop-high.high - c.loop-high.low) _ (omega arith) (c.loop-high.invariant.cost n long) (omega arith) (omega arith);
+  cost = λ n long. halved n c.args.steps.now c.loop-high.steps _ (c.loop-high.high - c.loop-high.low) _ (omega arith) (c.loop-high.invariant.cost n long) (omega arith) (omega arith);
 }

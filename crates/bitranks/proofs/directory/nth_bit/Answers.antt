@@ -3,18 +3,13 @@ use Rattle.std.specs.Int.Count.{ones}
 use Rattle.bitlanes.specs.Bits.{bit}
 use Rattle.bitwords.specs.Rows.{count_below}
 use Rattle.bitwords.specs.CountFacts.{count-zero, count-mono}
-use Rattle.bitranks.proofs.Nth.{ones-word, ones-below}
+use Rattle.bitranks.proofs.Counting.{ones-bits, ones-below}
 use Rattle.bitranks.specs.RanksFacts.{nth-between}
 use Rattle.bitranks.proofs.directory.nth_bit.Goals as goal
 use Rattle.bitranks.proofs.directory.nth_bit.Goals.{then-word-ones_below, else-word-ones_below}
 
 pub loop-span-init : goal.loop-span-init
-loop-span-init c = record {
-  some = omega arith;
-  within = omega arith;
-  low = omega (arith, count-zero (bit c.args.word));
-  high = omega (arith, c.requires, ones-word c.args.word c.ranges.word.fits);
-}
+loop-span-init c = grind (arith, c.requires, count-zero (bit c.args.word), ones-bits 64 c.args.word c.ranges.word.fits)
 
 pub loop-span-preserved : goal.loop-span-preserved
 loop-span-preserved c =
@@ -25,22 +20,13 @@ loop-span-preserved c =
     elim c.if-word-ones_below.branch [
       | then-word-ones_below w ↦
           let whole : c.if-word-ones_below.at + (c.loop-span.span - half) ≡ c.loop-span.at + c.loop-span.span = omega (arith, w.at-is) in
-          record {
-            some = omega arith;
-            within = omega arith;
-            low = omega (arith, ap (count_below (bit word)) w.at-is, counted, w.if-word-ones_below);
-            high = omega (arith, ap (count_below (bit word)) whole, c.loop-span.invariant.high);
-          }
-      | else-word-ones_below w ↦ record {
-        some = omega arith;
-        within = omega (arith, w.at-is);
-        low = omega (arith, ap (count_below (bit word)) w.at-is, c.loop-span.invariant.low);
-        high = omega (arith, counted, w.if-word-ones_below, count-mono (bit word) middle (c.if-word-ones_below.at + (c.loop-span.span - half)) (omega (arith, w.at-is)));
-      }
+          grind (arith, ap (count_below (bit word)) w.at-is, counted, w.if-word-ones_below, ap (count_below (bit word)) whole, c.loop-span.invariant)
+      | else-word-ones_below w ↦
+          let more = count-mono (bit word) middle (c.if-word-ones_below.at + (c.loop-span.span - half)) (omega (arith, w.at-is)) in
+          grind (arith, w.at-is, ap (count_below (bit word)) w.at-is, counted, w.if-word-ones_below, more, c.loop-span.invariant)
     ]
 
 pub returns-clause-nth : goal.returns-clause-nth
 returns-clause-nth c =
-    let word : ℕ = c.args.word in
     let last : c.loop-span.at + c.loop-span.span ≡ c.loop-span.at + 1 = omega arith in
-    nth-between (bit word) c.args.index c.loop-span.at c.loop-span.invariant.low (omega (arith, c.loop-span.invariant.high, ap (count_below (bit word)) last))
+    nth-between (bit c.args.word) c.args.index c.loop-span.at c.loop-span.invariant.low (omega (arith, c.loop-span.invariant.high, ap (count_below (bit c.args.word)) last))

@@ -2,7 +2,7 @@ use Rattle.std.proofs.Common.{◌-◌, ℕ, slice_index, arith, rules}
 use Rattle.bitwords.specs.Rows.{has_bit}
 use Rattle.bitwords.specs.CountFacts.{count-zero}
 use Rattle.bitranks.proofs.Counting.{not_zero}
-use Rattle.bitranks.proofs.Nth.{selected}
+use Rattle.bitranks.proofs.Counting.{selected}
 use Rattle.bitranks.proofs.directory.select.Goals as goal
 
 pub last_within-entry-requires-clause-first : goal.last_within-entry-requires-clause-first
