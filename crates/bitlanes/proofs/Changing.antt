@@ -6,10 +6,10 @@ use Rattle.std.proofs.lemmas.List.{take_all, take-replicate, length-replicate, r
 use Rattle.std.proofs.lemmas.Simd.{take_more_put_chunk, length-put_chunk}
 use Rattle.bitlanes.specs.Changes.{changed_bits}
 use Rattle.bitlanes.specs.Words.{zip_longest, filled}
-use Rattle.bitlanes.proofs.Filling.{all_joined_with_part, filled_joined, take_filled}
+use Rattle.bitlanes.proofs.Filling.{all_with_part}
 use Rattle.bitlanes.proofs.Folding.{all_lane, drop_put}
 use Rattle.bitlanes.proofs.Kept.{kept_none}
-use Rattle.bitlanes.proofs.Zipping.{chunk_zip2, take-zip2}
+use Rattle.bitlanes.proofs.Zipping.{length_joined, chunk_zip2}
 
 -- the old words against the new ones
 pub against_joined : (f : ℕ → ℕ → ℕ) (xs ys : List ℕ) → zip2 bit_xor xs (zip2 f xs ys) ≡ zip2 (changed_bits f) xs ys
@@ -34,20 +34,7 @@ module _ (f : ℕ → ℕ → ℕ) (old src : List ℕ) (k : ℕ) (mid lane : Li
 
   pub changed_part : (n : ℕ) → 4 * k + n ≡ min (length old) (length src) → lane ≡ filled (4 * k) n (zip2 (changed_bits f) mid src)
       → (list_all (λ w. w == 0) (take (4 * k) (zip2 (changed_bits f) old src)) && list_all (λ w. w == 0) lane) ≡ list_all (λ w. w == 0) (zip2 (changed_bits f) old src)
-  changed_part n e is = rw (is, kept, chunk_zip2 (changed_bits f) (4 * k) n _ src, of_kept f (changed_bits f) (4 * k) n old src) (all_joined_with_part (changed_bits f) k n old src e)
-
--- ---- the last words, joined with a lane that has those of a row and zeros
-
-module _ (i n : ℕ) (lane ys : List ℕ) (of_row : lane ≡ filled i n ys) (within : i + n ≤ length ys) where
-  pub part_taken : take n lane ≡ chunk i n ys
-  part_taken = ap (take n) of_row ∙ take_filled i n ys within
-
-  pub part_changed : (f : ℕ → ℕ → ℕ) → f 0 0 ≡ 0 → (xs : List ℕ) → i + n ≤ length xs → zip2 f (filled i n xs) lane ≡ filled i n (zip2 f xs ys)
-  part_changed f nothing xs long = ap (zip2 f (filled i n xs)) of_row ∙ filled_joined f nothing i n xs ys long within
-
--- the first n words of a part that was joined with a lane
-pub part_joined : (f : ℕ → ℕ → ℕ) (i n : ℕ) (xs lane : List ℕ) → i + n ≤ length xs → take n (zip2 f (filled i n xs) lane) ≡ zip2 f (chunk i n xs) (take n lane)
-part_joined f i n xs lane within = take-zip2 f n (filled i n xs) lane ∙ ap (λ t. zip2 f t (take n lane)) (take_filled i n xs within)
+  changed_part n e is = rw (is, kept, chunk_zip2 (changed_bits f) (4 * k) n _ src, of_kept f (changed_bits f) (4 * k) n old src) (all_with_part k n (zip2 (changed_bits f) old src) (e ∙ sym (length_joined (changed_bits f) old src)))
 
 -- ---- a row made 0
 

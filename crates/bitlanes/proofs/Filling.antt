@@ -1,8 +1,7 @@
 -- the last lane: one to three words, and zeros
-use Rattle.std.proofs.Common.{◌≡◌, ℕ, zero, suc, ◌+◌, ◌-◌, ◌*◌, lit<, ◌≤◌, ◌==◌, Bool, true, false, ◌&&◌, List, [], ◌∷◌, ◌++◌, length, take, drop, get_or, slice_set, map, replicate, refl, ap, sym, ◌∙◌, arith, min}
+use Rattle.std.proofs.Common.{◌≡◌, ℕ, zero, suc, ◌+◌, ◌-◌, ◌*◌, lit<, ◌≤◌, ◌==◌, Bool, true, false, ◌&&◌, List, [], ◌∷◌, ◌++◌, length, take, drop, get_or, slice_set, map, replicate, refl, ap, sym, ◌∙◌, arith, min, take-add}
 use Rattle.std.specs.List.{list_all}
 use Rattle.std.specs.Simd.Lanes.{zip2, chunk, put_chunk}
-use Rattle.std.proofs.Math.Seq.{take-add}
 use Rattle.std.proofs.lemmas.Bool.Decides.{nat_tests}
 use Rattle.std.proofs.lemmas.List.{take_all, take-append-le, drop_all, take-replicate, length-map, length-replicate}
 use Rattle.std.proofs.lemmas.List.Folds.{list_all-append}
@@ -40,10 +39,6 @@ pub take_filled : (i n : ℕ) (xs : List ℕ) → i + n ≤ length xs → take n
 take_filled i n xs within =
     let long = length-chunk i n xs within in
     rw (take-append-le n (chunk i n xs) (replicate (4 - n) 0) (omega (arith, long))) (take_all n (chunk i n xs) (omega (arith, long)))
-
--- the first words of two rows joined
-pub take_joined_part : (f : ℕ → ℕ → ℕ) (i n : ℕ) (xs ys : List ℕ) → i + n ≤ length xs → i + n ≤ length ys → take n (filled i n (zip2 f xs ys)) ≡ zip2 f (chunk i n xs) (chunk i n ys)
-take_joined_part f i n xs ys p q = take_filled i n (zip2 f xs ys) (omega (arith, length_joined f xs ys)) ∙ chunk_zip2 f i n xs ys
 
 zip2_append : (f : ℕ → ℕ → ℕ) (us vs xs ys : List ℕ) → length us ≡ length vs → zip2 f (us ++ xs) (vs ++ ys) ≡ zip2 f us vs ++ zip2 f xs ys
 zip2_append f [] [] xs ys e = refl
@@ -88,9 +83,6 @@ all_with_part k n xs e =
     let whole : take (4 * k) xs ++ chunk (4 * k) n xs ≡ xs = sym (take-add (4 * k) n xs) ∙ take_all (4 * k + n) xs (omega arith) in
     let last = list_all-append p (chunk (4 * k) n xs) (replicate (4 - n) 0) in
     grind (arith, nat_tests, last, are_zeros (4 - n), list_all-append p (take (4 * k) xs) (chunk (4 * k) n xs), ap (list_all p) whole)
-
-pub all_joined_with_part : (f : ℕ → ℕ → ℕ) (k n : ℕ) (xs ys : List ℕ) → 4 * k + n ≡ min (length xs) (length ys) → (list_all (λ w. w == 0) (take (4 * k) (zip2 f xs ys)) && list_all (λ w. w == 0) (filled (4 * k) n (zip2 f xs ys))) ≡ list_all (λ w. w == 0) (zip2 f xs ys)
-all_joined_with_part f k n xs ys e = all_with_part k n (zip2 f xs ys) (e ∙ sym (length_joined f xs ys))
 
 -- where each word of the whole lanes is 0, the last lane tells of all
 pub all_part : (k n : ℕ) (xs : List ℕ) → 4 * k + n ≡ length xs → list_all (λ w. w == 0) (take (4 * k) xs) ≡ true → list_all (λ w. w == 0) (filled (4 * k) n xs) ≡ list_all (λ w. w == 0) xs

@@ -1,9 +1,7 @@
 -- tests of a list, one lane of four further, and lists of zeros
-use Rattle.std.proofs.Common.{◌≡◌, ℕ, zero, suc, ◌+◌, ◌-◌, ◌*◌, ◌≤◌, Bool, true, false, ◌==◌, ◌<◌, ◌&&◌, List, slice_index, [], ◌∷◌, length, take, drop, replicate, bit_or, refl, ap, sym, ◌∙◌, arith}
+use Rattle.std.proofs.Common.{◌≡◌, ℕ, zero, suc, ◌+◌, ◌-◌, ◌*◌, ◌≤◌, Bool, true, false, ◌==◌, ◌<◌, ◌&&◌, List, slice_index, [], ◌∷◌, length, take, drop, replicate, bit_or, refl, ap, arith, take-add}
 use Rattle.std.specs.List.{list_all}
 use Rattle.std.specs.Simd.Lanes.{zip2, fold_l, chunk, put_chunk}
-use Rattle.std.proofs.Math.Bool.{and-true}
-use Rattle.std.proofs.Math.Seq.{take-add}
 use Rattle.std.proofs.lemmas.Bool.Decides.{nat_tests}
 use Rattle.std.proofs.lemmas.List.{take-append-drop, replicate-append-replicate, drop-drop}
 use Rattle.std.proofs.lemmas.List.Folds.{list_all-append}
@@ -15,7 +13,7 @@ bit_or-is_zero zero b = refl
 bit_or-is_zero (suc a) b = grind (arith, nat_tests, le_or_l (suc a) b)
 
 fold_or : (a : ℕ) (xs : List ℕ) → (fold_l bit_or a xs == 0) ≡ ((a == 0) && list_all (λ w. w == 0) xs)
-fold_or a [] = sym (and-true (a == 0))
+fold_or a [] = grind (arith, nat_tests)
 fold_or a (x ∷ xs) = grind (arith, nat_tests, fold_or (bit_or a x) xs, bit_or-is_zero a x)
 
 -- the words of a lane, joined by `or`, are 0 where each is
@@ -70,8 +68,7 @@ all_chunk p i m n xs =
 -- the words of a stretch, as those of the row
 pub zero_in_stretch : (k n : ℕ) (xs : List ℕ) → list_all (λ w. w == 0) (chunk k n xs) ≡ true → (i : ℕ) → k ≤ i → i < k + n → slice_index xs i ≡ 0
 zero_in_stretch k n xs h i from to =
-    let at : k + (i - k) ≡ i = omega arith in
-    ap (slice_index xs) (sym at) ∙ sym (get_or-chunk k n xs (i - k) 0 (omega arith)) ∙ all_zero (chunk k n xs) h (i - k)
+    grind (arith, get_or-chunk k n xs (i - k) 0, all_zero (chunk k n xs) h (i - k))
 
 -- the words of a lane, as those of the row
 pub zero_in_lane : (k : ℕ) (xs : List ℕ) → list_all (λ w. w == 0) (chunk k 4 xs) ≡ true → (i : ℕ) → k ≤ i → i < k + 4 → slice_index xs i ≡ 0

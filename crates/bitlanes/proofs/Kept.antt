@@ -1,7 +1,6 @@
 -- how the words of a row are joined with those of another one, by lanes of four and a last part; the rest is kept
-use Rattle.std.proofs.Common.{◌≡◌, ℕ, zero, suc, ◌+◌, ◌*◌, ◌≤◌, List, [], ◌∷◌, ◌++◌, length, take, refl, ap, sym, ◌∙◌, arith, min, true, false}
+use Rattle.std.proofs.Common.{◌≡◌, ℕ, zero, suc, ◌+◌, ◌*◌, ◌≤◌, List, [], ◌∷◌, ◌++◌, length, take, refl, ap, sym, ◌∙◌, arith, min, true, false, take-add}
 use Rattle.std.specs.Simd.Lanes.{zip2, chunk, put_chunk}
-use Rattle.std.proofs.Math.Seq.{take-add}
 use Rattle.bitlanes.specs.Words.{zip_longest}
 
 pub kept_none : (f : ℕ → ℕ → ℕ) (xs : List ℕ) → zip_longest f true false xs [] ≡ xs

@@ -1,8 +1,7 @@
 -- Words made of two words that follow each other.
-use Rattle.std.proofs.Common.{map, ◌≡◌, ℕ, ◌+◌, ◌-◌, ◌*◌, ◌/◌, ◌%◌, ◌^◌, ◌<◌, ◌≤◌, List, length, replicate, bit_or, get_or, set, refl, sym, ◌∙◌, arith}
+use Rattle.std.proofs.Common.{map, ◌≡◌, ℕ, ◌+◌, ◌-◌, ◌*◌, ◌/◌, ◌%◌, ◌^◌, ◌<◌, ◌≤◌, List, length, replicate, bit_or, get_or, set, refl, sym, ◌∙◌, arith, pow_pos}
 use Rattle.std.specs.Simd.Lanes.{zip2, chunk, put_chunk}
 use Rattle.std.proofs.lemmas.List.{length-map, get_or-map, get_or-set_same, get_or-set_other, get_or_past}
-use Rattle.std.proofs.lemmas.Nat.{pow_pos}
 use Rattle.std.proofs.lemmas.Simd.{zip2_splat, map-map, get_or-zip2, length-zip2, length-chunk, get_or-chunk, get_or-put_chunk_at, get_or-put_chunk_below, get_or-put_chunk_above}
 use Rattle.bitlanes.specs.Shifts.{straddle, window}
 
@@ -62,12 +61,8 @@ module _ (f : ℕ → ℕ → ℕ) (moved : ℕ → ℕ) (old : List ℕ) where
   lane_joined at high lane new four end within are is =
       let long_chunk : length (chunk at 4 old) ≡ 4 = length-chunk at 4 old (omega arith) in
       let long : length (zip2 f (chunk at 4 old) lane) ≡ 4 = length-zip2 f (chunk at 4 old) lane (long_chunk ∙ sym four) ∙ long_chunk in
-      let place : (k : ℕ) → at ≤ k → at + (k - at) ≡ k = λ k from. omega arith in
       rw is record {
-        joined = λ k from to. rw (← place k from) (
-            get_or-put_chunk_at at old (zip2 f (chunk at 4 old) lane) (k - at) 0 (omega arith) (omega arith)
-            ∙ get_or-zip2 f (chunk at 4 old) lane (k - at) 0 0 0 (omega arith) (omega arith)
-            ∙ cc (get_or-chunk at 4 old (k - at) 0 (omega arith), are (k - at) (omega arith)));
+        joined = λ k from to. grind (arith, get_or-put_chunk_at at old (zip2 f (chunk at 4 old) lane) (k - at) 0, get_or-zip2 f (chunk at 4 old) lane (k - at) 0 0 0, get_or-chunk at 4 old (k - at) 0, are (k - at));
         below = λ k h. get_or-put_chunk_below at old (zip2 f (chunk at 4 old) lane) k 0 h;
         above = λ k h. get_or-put_chunk_above at old (zip2 f (chunk at 4 old) lane) k 0 (omega arith);
       }

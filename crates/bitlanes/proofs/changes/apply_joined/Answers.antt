@@ -2,8 +2,8 @@ use Rattle.std.proofs.Common.{ℕ, ◌≡◌, ◌∙◌, ◌*◌, ◌/◌, ◌%�
 use Rattle.std.specs.Simd.Lanes.{zip2}
 use Rattle.bitlanes.specs.Changes.{changed_bits}
 use Rattle.bitlanes.specs.ChangeFacts.{laws_of_changes}
-use Rattle.bitlanes.proofs.Changing.{changed_lane, changed_part, part_taken, part_changed}
-use Rattle.bitlanes.proofs.Filling.{nothing_joined}
+use Rattle.bitlanes.proofs.Changing.{changed_lane, changed_part}
+use Rattle.bitlanes.proofs.Filling.{filled_joined, take_filled, nothing_joined}
 use Rattle.bitlanes.proofs.Kept.{kept_none, kept_lane, kept_part, kept_take, length-kept}
 use Rattle.bitlanes.proofs.Zipping.{all_joined, length_joined}
 use Rattle.bitlanes.proofs.changes.apply_joined.Goals.{then-rest-gt0, else-rest-gt0}
@@ -38,8 +38,8 @@ returns-clause-words g c =
     let end : c.min-words.result / 4 ≡ lane = omega (arith, c.loop-lane-test.false) in
     elim c.if-rest-gt0.branch [
       | then-rest-gt0 w ↦
-          let taken = part_taken (4 * lane) rest w.joined_part_at-joined.result src (rw end at w.joined_part_at-joined.ensures) (omega arith) in
-          rw (w.dst-is, w.change_by_part.ensures.words, taken, end, kept) (kept_part f lane rest old src (omega arith))
+          let taken = take_filled (4 * lane) rest src (omega arith) in
+          rw (w.dst-is, w.change_by_part.ensures.words, w.joined_part_at-joined.ensures, end, taken, kept) (kept_part f lane rest old src (omega arith))
       | else-rest-gt0 w ↦ rw (w.dst-is, kept) (kept_take f (4 * lane) old src (omega (arith, w.if-rest-gt0.false)))
     ]
 
@@ -55,8 +55,9 @@ returns-clause-changed g c =
     let end : c.min-words.result / 4 ≡ lane = omega (arith, c.loop-lane-test.false) in
     ap not (c.is_zero.ensures ∙ elim c.if-rest-gt0.branch [
       | then-rest-gt0 w ↦
-          let part = rw end at (w.change_by_part.ensures.changed) in
-          let changed = part_changed (4 * lane) rest w.joined_part_at-joined.result src (rw end at w.joined_part_at-joined.ensures) (omega arith) (changed_bits f) (nothing_joined (laws_of_changes g.met.O.WordOp.laws)) c.loop-lane.dst (omega (arith, ap length before.words, length-kept f old (take (4 * lane) src))) in
+          let long : length c.loop-lane.dst ≡ length old = omega (arith, ap length before.words, length-kept f old (take (4 * lane) src)) in
+          let part = rw (w.joined_part_at-joined.ensures, end) at w.change_by_part.ensures.changed in
+          let changed = filled_joined (changed_bits f) (nothing_joined (laws_of_changes g.met.O.WordOp.laws)) (4 * lane) rest c.loop-lane.dst src (omega arith) (omega arith) in
           rw (w.changed-is, w.gathered-changed-then-rest-gt0.ensures, before.changed) (changed_part f old src lane _ _ before.words rest (omega arith) (part ∙ changed))
       | else-rest-gt0 w ↦ rw (w.changed-is, before.changed) (all_joined (changed_bits f) (λ (word : ℕ). word == 0) (4 * lane) old src (omega (arith, w.if-rest-gt0.false)))
     ])

@@ -1,9 +1,8 @@
-use Rattle.std.proofs.Common.{ℕ, ◌≡◌, ◌∙◌, ◌*◌, ◌/◌, ◌%◌, ◌==◌, not, length, replicate, ap, refl, arith}
+use Rattle.std.proofs.Common.{ℕ, ◌≡◌, ◌∙◌, ◌*◌, ◌/◌, ◌%◌, ◌==◌, not, length, replicate, ap, refl, arith, take_all}
 use Rattle.std.specs.List.{list_all}
 use Rattle.bitlanes.proofs.Changing.{rest_written, zeros_written, zeros_in_lanes}
 use Rattle.bitlanes.proofs.Filling.{all_with_part}
 use Rattle.bitlanes.proofs.Folding.{all_lane, zeros_lane}
-use Rattle.std.proofs.lemmas.List.{take_all}
 use Rattle.bitlanes.proofs.changes.zero.Goals.{then-rest-gt0, else-rest-gt0}
 use Rattle.bitlanes.proofs.changes.zero.Goals as goal
 

@@ -1,5 +1,4 @@
-use Rattle.std.proofs.Common.{◌≡◌, ℕ, ◌+◌, ◌-◌, ◌*◌, ◌<◌, ◌≤◌, length, min}
-use Rattle.std.specs.Prelude.{slice_index}
+use Rattle.std.proofs.Common.{◌≡◌, ℕ, ◌+◌, ◌-◌, ◌*◌, ◌<◌, ◌≤◌, length, min, slice_index}
 use Rattle.std.specs.Simd.Lanes.{zip2}
 use Rattle.bitlanes.specs.Words.{lane_steps}
 use Rattle.bitlanes.proofs.search.first_joined.Given as goal

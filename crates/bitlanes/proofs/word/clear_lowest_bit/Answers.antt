@@ -1,8 +1,6 @@
 -- The word without its lowest bit.
-use Rattle.std.proofs.Common.{◌≡◌, ◌+◌, ◌-◌, ◌*◌, ◌/◌, ◌%◌, ◌^◌, ◌<◌, ℕ, suc, ap, arith, bit_and}
+use Rattle.std.proofs.Common.{◌≡◌, ◌+◌, ◌-◌, ◌*◌, ◌/◌, ◌%◌, ◌^◌, ◌<◌, ℕ, suc, ap, arith, bit_and, pow-suc, pow_pos}
 use Rattle.std.specs.Int.{bit_at}
-use Rattle.std.proofs.Math.Nat.{pow-suc}
-use Rattle.std.proofs.lemmas.Nat.{pow_pos}
 use Rattle.std.proofs.lemmas.Nat.Bits.{bit_at_and, bit_at_ones_above, bit_at-zero, bit_at_cat_low, bit_at_cat_high, same_from_bits_below}
 use Rattle.bitlanes.specs.Word.{IsLowestBit, ClearsBit}
 use Rattle.bitlanes.proofs.word.clear_lowest_bit.Goals as goal

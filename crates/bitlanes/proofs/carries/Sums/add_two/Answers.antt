@@ -1,5 +1,4 @@
-use Rattle.std.proofs.Common.{sum_by, ap, arith}
-use Rattle.std.specs.Int.RustNames.{count_ones}
+use Rattle.std.proofs.Common.{sum_by, ap, arith, count_ones}
 use Rattle.std.specs.Simd.Lanes.{zip2}
 use Rattle.bitlanes.proofs.Counting.{sum_chunk}
 use Rattle.bitlanes.proofs.carries.Sums.add_two.Goals as goal
