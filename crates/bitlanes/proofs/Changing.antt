@@ -41,8 +41,8 @@ module _ (f : ℕ → ℕ → ℕ) (old src : List ℕ) (k : ℕ) (mid lane : Li
 -- the words from a lane on are as they were, where that lane was written
 pub rest_written : (k : ℕ) (old xs ys : List ℕ) → length ys ≡ 4 → drop (4 * k) xs ≡ drop (4 * k) old → drop (4 * (k + 1)) (put_chunk (4 * k) xs ys) ≡ drop (4 * (k + 1)) old
 rest_written k old xs ys four same =
-    drop_put (4 * (k + 1)) (4 * k) xs ys (omega (arith, four))
-    ∙ (let e : 4 * (k + 1) ≡ 4 * k + 4 = omega arith in rw e (sym (drop-drop 4 (4 * k) xs) ∙ ap (drop 4) same ∙ drop-drop 4 (4 * k) old))
+    let next : 4 * (k + 1) ≡ 4 * k + 4 = omega arith in
+    rw (drop_put (4 * (k + 1)) (4 * k) xs ys (omega (arith, four)), next, ← drop-drop 4 (4 * k) xs, ← drop-drop 4 (4 * k) old, same) refl
 
 -- the whole lanes are 0, and the last words are written
 pub zeros_written : (k n m : ℕ) (xs : List ℕ) → m ≡ 4 * k + n → length xs ≡ m → n ≤ 4 → take (4 * k) xs ≡ replicate (4 * k) 0 → put_chunk (4 * k) xs (take n (replicate 4 0)) ≡ replicate m 0

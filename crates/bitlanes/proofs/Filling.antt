@@ -37,8 +37,7 @@ put_three i j k xs (y ∷ ys) e f h = put_first i y xs (take 2 ys) ∙ ap (λ k.
 -- the first words of a filled lane
 pub take_filled : (i n : ℕ) (xs : List ℕ) → i + n ≤ length xs → take n (filled i n xs) ≡ chunk i n xs
 take_filled i n xs within =
-    let long = length-chunk i n xs within in
-    rw (take-append-le n (chunk i n xs) (replicate (4 - n) 0) (omega (arith, long))) (take_all n (chunk i n xs) (omega (arith, long)))
+    grind (arith, length-chunk i n xs, take-append-le n (chunk i n xs) (replicate (4 - n) 0), take_all n (chunk i n xs))
 
 zip2_append : (f : ℕ → ℕ → ℕ) (us vs xs ys : List ℕ) → length us ≡ length vs → zip2 f (us ++ xs) (vs ++ ys) ≡ zip2 f us vs ++ zip2 f xs ys
 zip2_append f [] [] xs ys e = refl

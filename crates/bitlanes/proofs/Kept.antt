@@ -7,11 +7,6 @@ pub kept_none : (f : ℕ → ℕ → ℕ) (xs : List ℕ) → zip_longest f true
 kept_none f [] = refl
 kept_none f (x ∷ xs) = refl
 
--- as many words as before
-pub length-kept : (f : ℕ → ℕ → ℕ) (xs ys : List ℕ) → length (zip_longest f true false xs ys) ≡ length xs
-length-kept f (x ∷ xs) (y ∷ ys) = ap suc (length-kept f xs ys)
-length-kept f xs ys = refl
-
 pub put_none : (i : ℕ) (xs : List ℕ) → put_chunk i xs [] ≡ xs
 put_none i [] = refl
 put_none zero (x ∷ xs) = refl

@@ -54,7 +54,7 @@ pub record AreJoined (f : ℕ → ℕ → ℕ) (moved : ℕ → ℕ) (old : List
   pub below : (k : ℕ) → k < low → get_or new k 0 ≡ get_or old k 0
   pub above : (k : ℕ) → high ≤ k → get_or new k 0 ≡ get_or old k 0
 
-module _ (f : ℕ → ℕ → ℕ) (moved : ℕ → ℕ) (old : List ℕ) where
+module _ {f : ℕ → ℕ → ℕ} {moved : ℕ → ℕ} {old : List ℕ} where
   -- a lane
   pub lane_joined : (at high : ℕ) (lane new : List ℕ) → length lane ≡ 4 → high ≡ at + 4 → high ≤ length old → ((k : ℕ) → k < 4 → get_or lane k 0 ≡ moved (at + k))
       → new ≡ put_chunk at old (zip2 f (chunk at 4 old) lane) → AreJoined f moved old at high new

@@ -1,10 +1,10 @@
-use Rattle.std.proofs.Common.{ℕ, ◌≡◌, ◌∙◌, ◌*◌, ◌/◌, ◌%◌, ◌==◌, List, length, min, not, take, sym, ap, refl, arith}
+use Rattle.std.proofs.Common.{ℕ, ◌≡◌, ◌∙◌, ◌*◌, ◌/◌, ◌%◌, ◌==◌, List, length, min, not, sym, ap, refl, arith}
 use Rattle.std.specs.Simd.Lanes.{zip2}
 use Rattle.bitlanes.specs.Changes.{changed_bits}
 use Rattle.bitlanes.specs.ChangeFacts.{laws_of_changes}
 use Rattle.bitlanes.proofs.Changing.{changed_lane, changed_part}
 use Rattle.bitlanes.proofs.Filling.{filled_joined, take_filled, nothing_joined}
-use Rattle.bitlanes.proofs.Kept.{kept_none, kept_lane, kept_part, kept_take, length-kept}
+use Rattle.bitlanes.proofs.Kept.{kept_none, kept_lane, kept_part, kept_take}
 use Rattle.bitlanes.proofs.Zipping.{all_joined, length_joined}
 use Rattle.bitlanes.proofs.changes.apply_joined.Goals.{then-rest-gt0, else-rest-gt0}
 use Rattle.bitlanes.proofs.changes.apply_joined.Goals as goal
@@ -55,7 +55,6 @@ returns-clause-changed g c =
     let end : c.min-words.result / 4 ≡ lane = omega (arith, c.loop-lane-test.false) in
     ap not (c.is_zero.ensures ∙ elim c.if-rest-gt0.branch [
       | then-rest-gt0 w ↦
-          let long : length c.loop-lane.dst ≡ length old = omega (arith, ap length before.words, length-kept f old (take (4 * lane) src)) in
           let part = rw (w.joined_part_at-joined.ensures, end) at w.change_by_part.ensures.changed in
           let changed = filled_joined (changed_bits f) (nothing_joined (laws_of_changes g.met.O.WordOp.laws)) (4 * lane) rest c.loop-lane.dst src (omega arith) (omega arith) in
           rw (w.changed-is, w.gathered-changed-then-rest-gt0.ensures, before.changed) (changed_part f old src lane _ _ before.words rest (omega arith) (part ∙ changed))

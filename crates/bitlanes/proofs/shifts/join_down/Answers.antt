@@ -11,7 +11,7 @@ loop-lane-preserved g c =
     let moved : ℕ → ℕ = λ k. window c.args.src.now (c.args.from + 64 * k) in
     let lane : (k : ℕ) → k < 4 → get_or c.window_lane.result k 0 ≡ moved (at + k) = λ k h. grind (arith, c.window_lane.ensures.words k h) in
     record {
-      are = joined_behind f moved c.args.dst.now (omega arith) (omega arith) c.loop-lane.invariant.are (lane_joined f moved c.loop-lane.dst at _ c.window_lane.result _ c.window_lane.ensures.long (omega arith) (omega arith) lane c.join_lane.ensures);
+      are = joined_behind (omega arith) (omega arith) c.loop-lane.invariant.are (lane_joined at _ c.window_lane.result _ c.window_lane.ensures.long (omega arith) (omega arith) lane c.join_lane.ensures);
       cost = omega (arith, c.tick.ensures, c.loop-lane.invariant.cost);
     }
 
@@ -22,6 +22,6 @@ loop-at-preserved g c =
     let moved : ℕ → ℕ = λ k. window c.args.src.now (c.args.from + 64 * k) in
     let word : c.window_word.result ≡ moved c.loop-at.at = grind (arith, c.window_word.ensures) in
     record {
-      are = joined_behind f moved c.args.dst.now (omega arith) (omega arith) c.loop-at.invariant.are (word_joined f moved c.loop-at.dst c.loop-at.at _ c.word.result c.window_word.result (omega arith) (omega arith) word c.word.ensures);
+      are = joined_behind (omega arith) (omega arith) c.loop-at.invariant.are (word_joined c.loop-at.at _ c.word.result c.window_word.result (omega arith) (omega arith) word c.word.ensures);
       cost = search rules;
     }
