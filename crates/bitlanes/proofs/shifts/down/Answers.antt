@@ -6,7 +6,6 @@ use Rattle.bitlanes.proofs.shifts.down.Goals as goal
 pub loop-lane-preserved : goal.loop-lane-preserved
 unfolding window
 loop-lane-preserved c =
-    let second : ℕ → ℕ → ℕ = λ x y. y in
     let at : ℕ = 4 * c.loop-lane.lane in
     let first : ℕ = c.args.by / 64 in
     let moved : ℕ → ℕ = λ k. window c.args.words.now (c.args.by + 64 * k) in
@@ -21,7 +20,6 @@ loop-lane-preserved c =
 pub loop-at-preserved : goal.loop-at-preserved
 unfolding window
 loop-at-preserved c =
-    let second : ℕ → ℕ → ℕ = λ x y. y in
     let at : ℕ = c.loop-at.at in
     let first : ℕ = c.args.by / 64 in
     let moved : ℕ → ℕ = λ k. window c.args.words.now (c.args.by + 64 * k) in

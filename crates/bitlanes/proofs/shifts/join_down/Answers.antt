@@ -6,7 +6,6 @@ use Rattle.bitlanes.proofs.shifts.join_down.Goals as goal
 pub loop-lane-preserved : goal.loop-lane-preserved
 unfolding window
 loop-lane-preserved g c =
-    let f = g.O.WordOp.joined in
     let at : ℕ = 4 * c.loop-lane.lane in
     let moved : ℕ → ℕ = λ k. window c.args.src.now (c.args.from + 64 * k) in
     let lane : (k : ℕ) → k < 4 → get_or c.window_lane.result k 0 ≡ moved (at + k) = λ k h. grind (arith, c.window_lane.ensures.words k h) in
@@ -18,7 +17,6 @@ loop-lane-preserved g c =
 pub loop-at-preserved : goal.loop-at-preserved
 unfolding window
 loop-at-preserved g c =
-    let f = g.O.WordOp.joined in
     let moved : ℕ → ℕ = λ k. window c.args.src.now (c.args.from + 64 * k) in
     let word : c.window_word.result ≡ moved c.loop-at.at = grind (arith, c.window_word.ensures) in
     record {

@@ -6,7 +6,6 @@ use Rattle.bitlanes.proofs.shifts.up.Goals as goal
 pub loop-lane-preserved : goal.loop-lane-preserved
 unfolding window
 loop-lane-preserved g c =
-    let f = g.O.WordOp.joined in
     let old : List ℕ = c.args.words.now in
     let first : ℕ = c.div_ceil-first.result in
     let same : length c.loop-lane.words ≡ length old = omega arith in
@@ -23,7 +22,6 @@ loop-lane-preserved g c =
 pub loop-at-preserved : goal.loop-at-preserved
 unfolding window
 loop-at-preserved g c =
-    let f = g.O.WordOp.joined in
     let old : List ℕ = c.args.words.now in
     let first : ℕ = c.div_ceil-first.result in
     let at : ℕ = c.loop-at.at - 1 in
