@@ -3,8 +3,8 @@ use Rattle.std.proofs.Common.{◌≡◌, ℕ, zero, suc, ◌+◌, ◌-◌, ◌*�
 use Rattle.std.specs.List.{list_all}
 use Rattle.std.specs.Simd.Lanes.{zip2, fold_l, chunk, put_chunk}
 use Rattle.std.proofs.lemmas.Bool.Decides.{nat_tests}
-use Rattle.std.proofs.lemmas.List.{take-append-drop, replicate-append-replicate, drop-drop}
-use Rattle.std.proofs.lemmas.List.Folds.{list_all-append}
+use Rattle.std.proofs.lemmas.List.{get_or_past, take-append-drop, replicate-append-replicate, drop-drop}
+use Rattle.std.proofs.lemmas.List.Folds.{list_all_at, list_all-append}
 use Rattle.std.proofs.lemmas.Nat.{le_or_l}
 use Rattle.std.proofs.lemmas.Simd.{chunk-drop, get_or-chunk, take_more_put_chunk}
 
@@ -50,9 +50,7 @@ zeros_whole n xs le front back =
 
 -- where each word is 0, so is word i
 all_zero : (xs : List ℕ) → list_all (λ w. w == 0) xs ≡ true → (i : ℕ) → slice_index xs i ≡ 0
-all_zero [] h i = refl
-all_zero (x ∷ xs) h zero = grind (arith, nat_tests)
-all_zero (x ∷ xs) h (suc i) = all_zero xs (grind (arith, nat_tests)) i
+all_zero xs h i = grind (arith, nat_tests, list_all_at (λ (w : ℕ). w == 0) xs i 0, get_or_past xs i 0)
 
 -- where each word of two rows joined by `or` is 0, each of both is
 pub or_of_rows : (xs ys : List ℕ) → length xs ≡ length ys → list_all (λ w. w == 0) (zip2 bit_or xs ys) ≡ (list_all (λ w. w == 0) xs && list_all (λ w. w == 0) ys)

@@ -33,18 +33,13 @@ module _ (low high : List ℕ) (r : ℕ) (four_low : length low ≡ 4) (four_hig
   length-straddled = rw (mapped, length-zip2 bit_or (map lowered low) (map raised high) (omega (arith, length-map low lowered, length-map high raised))) (omega (arith, length-map low lowered))
 
 -- past the row there is none
-pub straddle-none : (r : ℕ) → straddle r 0 0 ≡ 0
-unfolding straddle
-straddle-none r =
-    let some : 0 < 2 ^ r = pow_pos r in
-    let right : 0 / 2 ^ r ≡ 0 = omega arith in
-    let left : 0 * 2 ^ 1 % 2 ^ 64 * 2 ^ (63 - r) % 2 ^ 64 ≡ 0 = omega arith in
-    rw (right, left) refl
-
 pub window_past : (ws : List ℕ) (p : ℕ) → length ws ≤ p / 64 → 0 ≡ window ws p
-unfolding window
+unfolding straddle window
 window_past ws p past =
-    rw (get_or_past ws (p / 64) 0 past, get_or_past ws (p / 64 + 1) 0 (omega arith), straddle-none (p % 64)) refl
+    let some : 0 < 2 ^ (p % 64) = pow_pos (p % 64) in
+    let right : 0 / 2 ^ (p % 64) ≡ 0 = omega arith in
+    let left : 0 * 2 ^ 1 % 2 ^ 64 * 2 ^ (63 - p % 64) % 2 ^ 64 ≡ 0 = omega arith in
+    rw (get_or_past ws (p / 64) 0 past, get_or_past ws (p / 64 + 1) 0 (omega arith), right, left) refl
 
 -- ---- a row joined word by word
 
