@@ -34,7 +34,9 @@ module _ (f : ℕ → ℕ → ℕ) (old src : List ℕ) (k : ℕ) (mid lane : Li
 
   pub changed_part : (n : ℕ) → 4 * k + n ≡ min (length old) (length src) → lane ≡ filled (4 * k) n (zip2 (changed_bits f) mid src)
       → (list_all (λ w. w == 0) (take (4 * k) (zip2 (changed_bits f) old src)) && list_all (λ w. w == 0) lane) ≡ list_all (λ w. w == 0) (zip2 (changed_bits f) old src)
-  changed_part n e is = rw (is, kept, chunk_zip2 (changed_bits f) (4 * k) n _ src, of_kept f (changed_bits f) (4 * k) n old src) (all_with_part k n (zip2 (changed_bits f) old src) (e ∙ sym (length_joined (changed_bits f) old src)))
+  changed_part n e is =
+      let whole = all_with_part k n (zip2 (changed_bits f) old src) (e ∙ sym (length_joined (changed_bits f) old src)) in
+      rw (is, kept, chunk_zip2 (changed_bits f) (4 * k) n _ src, of_kept f (changed_bits f) (4 * k) n old src) whole
 
 -- ---- a row made 0
 

@@ -30,7 +30,9 @@ module _ (low high : List ℕ) (r : ℕ) (four_low : length low ≡ 4) (four_hig
       (rw (get_or-map lowered low k 0 0 (omega arith), get_or-map raised high k 0 0 (omega arith)) refl)
 
   pub length-straddled : length both ≡ 4
-  length-straddled = rw (mapped, length-zip2 bit_or (map lowered low) (map raised high) (omega (arith, length-map low lowered, length-map high raised))) (omega (arith, length-map low lowered))
+  length-straddled =
+      let same = length-zip2 bit_or (map lowered low) (map raised high) (omega (arith, length-map low lowered, length-map high raised)) in
+      rw (mapped, same) (omega (arith, length-map low lowered))
 
 -- past the row there is none
 pub window_past : (ws : List ℕ) (p : ℕ) → length ws ≤ p / 64 → 0 ≡ window ws p
@@ -54,12 +56,13 @@ module _ {f : ℕ → ℕ → ℕ} {moved : ℕ → ℕ} {old : List ℕ} where
   pub lane_joined : (at high : ℕ) (lane new : List ℕ) → length lane ≡ 4 → high ≡ at + 4 → high ≤ length old → ((k : ℕ) → k < 4 → get_or lane k 0 ≡ moved (at + k))
       → new ≡ put_chunk at old (zip2 f (chunk at 4 old) lane) → AreJoined f moved old at high new
   lane_joined at high lane new four end within are is =
+      let row : List ℕ = zip2 f (chunk at 4 old) lane in
       let long_chunk : length (chunk at 4 old) ≡ 4 = length-chunk at 4 old (omega arith) in
-      let long : length (zip2 f (chunk at 4 old) lane) ≡ 4 = length-zip2 f (chunk at 4 old) lane (long_chunk ∙ sym four) ∙ long_chunk in
+      let long : length row ≡ 4 = length-zip2 f (chunk at 4 old) lane (long_chunk ∙ sym four) ∙ long_chunk in
       rw is record {
-        joined = λ k from to. grind (arith, get_or-put_chunk_at at old (zip2 f (chunk at 4 old) lane) (k - at) 0, get_or-zip2 f (chunk at 4 old) lane (k - at) 0 0 0, get_or-chunk at 4 old (k - at) 0, are (k - at));
-        below = λ k h. get_or-put_chunk_below at old (zip2 f (chunk at 4 old) lane) k 0 h;
-        above = λ k h. get_or-put_chunk_above at old (zip2 f (chunk at 4 old) lane) k 0 (omega arith);
+        joined = λ k from to. grind (arith, get_or-put_chunk_at at old row (k - at) 0, get_or-zip2 f (chunk at 4 old) lane (k - at) 0 0 0, get_or-chunk at 4 old (k - at) 0, are (k - at));
+        below = λ k h. get_or-put_chunk_below at old row k 0 h;
+        above = λ k h. get_or-put_chunk_above at old row k 0 (omega arith);
       }
 
   -- a word

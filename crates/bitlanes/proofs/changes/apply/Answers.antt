@@ -44,6 +44,8 @@ returns-clause-changed g c =
     let before = c.loop-lane.invariant in
     let end : c.min-words.result / 4 ≡ lane = omega (arith, c.loop-lane-test.false) in
     ap not (c.is_zero.ensures ∙ elim c.if-rest-gt0.branch [
-      | then-rest-gt0 w ↦ rw (w.changed-is, w.gathered-changed-then-rest-gt0.ensures, before.changed) (changed_part f old src lane _ _ before.words (c.min-words.result % 4) (omega (arith, end, c.min-words.ensures)) (rw end at w.change_part.ensures.changed))
+      | then-rest-gt0 w ↦
+          let part = rw end at w.change_part.ensures.changed in
+          rw (w.changed-is, w.gathered-changed-then-rest-gt0.ensures, before.changed) (changed_part f old src lane _ _ before.words (c.min-words.result % 4) (omega (arith, end, c.min-words.ensures)) part)
       | else-rest-gt0 w ↦ rw (w.changed-is, before.changed) (all_joined (changed_bits f) (λ (word : ℕ). word == 0) (4 * lane) old src (omega (arith, end, w.if-rest-gt0.false, c.min-words.ensures)))
     ])

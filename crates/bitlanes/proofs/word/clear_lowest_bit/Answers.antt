@@ -15,7 +15,8 @@ module _ (n k : ℕ) (is : IsLowestBit n k) where
   whole =
       let room : 0 < 2 ^ k = pow_pos k in
       let parts : n / 2 ^ k * 2 ^ k + n % 2 ^ k ≡ n = omega arith in
-      let none : n % 2 ^ k ≡ 0 = same_from_bits_below k (n % 2 ^ k) 0 (omega arith) room (λ i lt. cc (bit_at_cat_low (n / 2 ^ k) k (n % 2 ^ k) i lt, ap (λ x. bit_at x i) parts, is.lowest i lt, bit_at-zero i)) in
+      let unset : (i : ℕ) → i < k → bit_at (n % 2 ^ k) i ≡ bit_at 0 i = λ i lt. cc (bit_at_cat_low (n / 2 ^ k) k (n % 2 ^ k) i lt, ap (λ x. bit_at x i) parts, is.lowest i lt, bit_at-zero i) in
+      let none : n % 2 ^ k ≡ 0 = same_from_bits_below k (n % 2 ^ k) 0 (omega arith) room unset in
       let odd : n / 2 ^ k ≡ 2 * above + 1 = omega (arith, is.set) in
       omega (arith, ap (λ x. x * 2 ^ k) odd, ap (λ x. above * x) (pow-suc 2 k))
 
