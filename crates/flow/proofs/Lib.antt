@@ -1,3 +1,2 @@
 pub mod Totals
-pub mod Passed
 pub mod Turning

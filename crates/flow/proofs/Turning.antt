@@ -1,18 +1,18 @@
--- The loop of one turn: the facts of each node after something went along an edge, the sets that rounds reach, the edges that may
--- have something to pass on, and the edges so far.
-use Rattle.std.proofs.Common.{◌≡◌, ◌≢◌, ◌∙◌, ℕ, ◌+◌, ◌*◌, ◌<◌, ◌≤◌, ◌⊎◌, ◌↔◌, Bool, true, false, cond, ◌==◌, inl, inr, IsTrue, length, get_or, set, replicate, take, drop, refl, sym, ap, subst, arith, ⊎_elim}
+-- The loop of one turn: the facts of each node after something went along an edge, the calls for it, the sets that rounds reach,
+-- the edges that may have something to pass on, and the edges so far.
+use Rattle.std.proofs.Common.{◌≡◌, ◌≢◌, ◌∙◌, ℕ, ◌+◌, ◌*◌, ◌<◌, ◌≤◌, ◌⊎◌, ◌↔◌, Bool, true, false, cond, ◌==◌, inl, inr, IsTrue, length, get_or, set, replicate, take, drop, refl, sym, ap, subst, arith, ⊎_elim, not}
 use Rattle.std.specs.Prelude.{Contains}
 use Rattle.std.proofs.lemmas.Bool.{cases_eq, cases_lt}
 use Rattle.std.proofs.lemmas.Bool.Decides.{nat_tests}
 use Rattle.std.proofs.lemmas.Grind.{common_steps}
-use Rattle.std.proofs.lemmas.List.{get_or-set_same, get_or-set_other, get_or-replicate, get_or_past, length-set, length-replicate, take_all, drop_more}
+use Rattle.std.proofs.lemmas.List.{get_or-set_same, get_or-set_other, get_or-replicate, get_or_past, length-set, length-replicate, take_all, drop_more, get_or_default, set-get_or}
 use Rattle.std.proofs.lemmas.List.Elements.{All-contains, All-set, All-replicate, All-more, All-head, All-rest, All-weaker, Contains-get_or}
 use Rattle.fixedbitset.specs.Bits.{Bits, contains, empty, insert}
-use Rattle.fixedbitset.specs.BitsFacts.{length-empty, length-insert, contains-empty}
+use Rattle.fixedbitset.specs.BitsFacts.{length-empty, length-insert, contains-empty, same_bits}
 use Rattle.fixedbitset.specs.MemberFacts.{in_insert}
 use Rattle.fixedbitset.specs.RangesFacts.{length-insert_range, contains-insert_range}
-use Rattle.fixedbitset.specs.TwoSets.{union, difference}
-use Rattle.fixedbitset.specs.TwoSetsFacts.{length-union, length-difference, contains-union, contains-difference}
+use Rattle.fixedbitset.specs.TwoSets.{union, difference, is_subset}
+use Rattle.fixedbitset.specs.TwoSetsFacts.{length-union, length-difference, contains-union, contains-difference, is_subset-tells}
 use Rattle.flow.specs.Flow.{Edges, Sets, at, Has, AreBelow, HaveLength, IsProblem, IsSolution, IsLeast, ComesOut, generated, along, ArePaths}
 use Rattle.flow.specs.Turns.{Fits, IsReached, IsPassed, AreSettled, AreSettledBut, all, total, ins_after, outs_after}
 use Rattle.flow.proofs.Totals.{total_more}
@@ -26,10 +26,7 @@ has-set sets v x w p within = grind (arith, nat_tests, get_or-set_same sets v x 
 -- along an edge from u to v
 pub in_ins_after : (ins outs : Sets) (u v w p : ℕ) → v < length ins → Has (ins_after ins outs u v) w p ↔ (Has ins w p ⊎ ((w ≡ v) × Has outs u p))
 unfolding ins_after
-in_ins_after ins outs u v w p within =
-    let new = has-set ins v (union (at ins v) (at outs u)) w p within in
-    let taken = contains-union (at ins v) (at outs u) p in
-    (λ has. grind (arith, nat_tests, new, taken), λ parts. grind (arith, nat_tests, new, taken))
+in_ins_after ins outs u v w p within = grind (arith, nat_tests, has-set ins v (union (at ins v) (at outs u)) w p within, contains-union (at ins v) (at outs u) p)
 
 pub in_outs_after : (kills outs : Sets) (u v w p : ℕ) → v < length outs → Has (outs_after kills outs u v) w p ↔ (Has outs w p ⊎ ((w ≡ v) × Has outs u p × ¬ (Has kills v p)))
 unfolding outs_after
@@ -37,7 +34,73 @@ in_outs_after kills outs u v w p within =
     let new = has-set outs v (union (at outs v) (difference (at outs u) (at kills v))) w p within in
     let taken = contains-union (at outs v) (difference (at outs u) (at kills v)) p in
     let left = contains-difference (at outs u) (at kills v) p in
-    (λ has. grind (arith, nat_tests, new, taken, left), λ parts. grind (arith, nat_tests, new, taken, left))
+    grind (arith, nat_tests, new, taken, left)
+
+-- ---- the sets after the calls that let something go along an edge
+
+-- a set that takes in one of its subsets
+union_subset : (v w : Bits) → w.length ≡ v.length → ((p : ℕ) → IsTrue (contains w p) → IsTrue (contains v p)) → union v w ≡ v
+union_subset v w long all = same_bits _ _ (length-union v w ∙ omega arith) (λ p. grind (arith, contains-union v w p, all p))
+
+-- Out takes in all of In that is spared, or what came to In that is spared: that is the same
+spared_union : (out in_set came kill : Bits) → in_set.length ≡ out.length → came.length ≡ out.length
+    → ((p : ℕ) → IsTrue (contains in_set p) → ¬ (IsTrue (contains kill p)) → IsTrue (contains out p))
+    → union out (difference (union in_set came) kill) ≡ union out (difference came kill)
+spared_union out in_set came kill long_in long_came spared =
+    same_bits _ _ (omega (arith, length-union, length-difference))
+    (λ p. let kept = spared p in grind (arith, contains-union, contains-difference, kept))
+
+module _ (facts : ℕ) (kills ins outs : Sets) (u v : ℕ) (fits : Fits facts kills ins outs) (u_below : u < length ins) (v_below : v < length ins) where
+  ins_long : (at ins v).length ≡ facts
+  ins_long = fits.ins_length v (empty 0) v_below
+
+  outs_long : (w : ℕ) → w < length ins → (at outs w).length ≡ facts
+  outs_long w below = let many = fits.outs_for.0 in fits.outs_for.1 w (empty 0) (omega arith)
+
+  module _ (x y new : Bits) (taken : new ≡ union (get_or ins v x) (get_or outs u y)) where
+    x_at : get_or ins v x ≡ at ins v
+    x_at = get_or_default ins v x (empty 0) v_below
+
+    outs_at : (w : ℕ) (d : Bits) → w < length ins → get_or outs w d ≡ at outs w
+    outs_at w d below = let many = fits.outs_for.0 in get_or_default outs w d (empty 0) (omega arith)
+
+    new_at : new ≡ union (at ins v) (at outs u)
+    new_at = cc (x_at, outs_at u y u_below)
+
+    read_back : (d : Bits) → get_or (set ins v new) v d ≡ union (at ins v) (at outs u)
+    read_back d = get_or-set_same ins v new d v_below ∙ new_at
+
+    pub ins_passed : set ins v new ≡ ins_after ins outs u v
+    unfolding ins_after
+    ins_passed = ap (set ins v) new_at
+
+    pub outs_passed : (n z k left : Bits) → k ≡ get_or kills v k → left ≡ union (get_or outs v z) (difference (get_or (set ins v new) v n) k) → set outs v left ≡ outs_after kills outs u v
+    unfolding outs_after
+    outs_passed n z k left read given =
+        let many = fits.kills_for.0 in
+        let kill : get_or kills v k ≡ at kills v = get_or_default kills v k (empty 0) (omega arith) in
+        let own = outs_long v v_below in
+        let spared = spared_union (at outs v) (at ins v) (at outs u) (at kills v) (ins_long ∙ sym own) (outs_long u u_below ∙ sym own) (fits.spared v) in
+        cc (read_back n, kill, outs_at v z v_below, spared)
+
+    -- Out and the new In are equally long
+    pub as_long : (n z : Bits) → (get_or (set ins v new) v n).length ≡ (get_or outs v z).length
+    as_long n z = rw (read_back n, outs_at v z v_below) (omega (arith, length-union, ins_long, outs_long u u_below, outs_long v v_below))
+
+    module _ (changed : Bool) (told : changed ≡ not (is_subset (get_or outs u y) (get_or ins v x))) where
+      told_at : changed ≡ not (is_subset (at outs u) (at ins v))
+      told_at = cc (x_at, outs_at u y u_below)
+
+      pub none_passed : changed ≡ false → IsPassed ins outs (u, v)
+      none_passed none = (is_subset-tells (at outs u) (at ins v)).0 (grind (arith, told_at))
+
+      pub some_passed : changed ≡ true → ¬ (IsPassed ins outs (u, v))
+      some_passed some passed = absurd (grind (arith, told_at, (is_subset-tells (at outs u) (at ins v)).1 passed))
+
+      -- where nothing went along, nothing is changed
+      pub none_written : changed ≡ false → set ins v new ≡ ins
+      none_written none =
+          ap (set ins v) (new_at ∙ union_subset (at ins v) (at outs u) (outs_long u u_below ∙ sym ins_long) (none_passed none)) ∙ set-get_or ins v (empty 0)
 
 -- ---- the sets that rounds reach
 
@@ -49,7 +112,7 @@ nothing n facts v p has =
 pub reached_start : (edges : Edges) (gens kills ins outs : Sets) (n facts : ℕ) → ins ≡ replicate n (empty facts) → outs ≡ gens → IsReached edges gens kills ins outs
 reached_start edges gens kills ins outs n facts blank copied = rw (blank, copied) (record {
   from_edges = λ v p below has. absurd (nothing n facts v p has);
-  of_outs = λ v p below. (λ has. inl has, λ parts. ⊎_elim (λ gen. gen) (λ rest. absurd (nothing n facts v p rest.0)) parts);
+  of_outs = λ v p below. let none = nothing n facts v p in grind (arith, none);
   by_paths = λ v p below has. generated v has;
 })
 
@@ -66,7 +129,7 @@ reached_after edges gens kills ins outs u v edge in_ins in_outs u_below r = reco
       let new_ins = in_ins_after ins outs u v w p in_ins in
       let new_outs = in_outs_after kills outs u v w p in_outs in
       let old = r.of_outs w p below in
-      (λ has. grind (arith, new_ins, new_outs, old), λ parts. grind (arith, new_ins, new_outs, old));
+      grind (arith, new_ins, new_outs, old);
   by_paths = λ w p below has.
       ⊎_elim
       (λ old. r.by_paths w p below old)

@@ -1,5 +1,5 @@
 use Rattle.flow.specs.Turns.{facts_of}
-use Rattle.flow.proofs.Passed.{ins_passed, outs_passed, as_long, none_passed, some_passed, none_written}
+use Rattle.flow.proofs.Turning.{ins_passed, outs_passed, as_long, none_passed, some_passed, none_written}
 use Rattle.flow.proofs.rounds.pass.Goals as goal
 
 pub returns-then-not-add-clause-none : goal.returns-then-not-add-clause-none
