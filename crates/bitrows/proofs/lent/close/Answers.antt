@@ -1,4 +1,4 @@
-use Rattle.std.proofs.Common.{◌≡◌, ◌∙◌, ◌+◌, ◌<◌, ℕ, length, Bool, true, false, refl, sym, ap, subst, arith}
+use Rattle.std.proofs.Common.{◌≡◌, ◌∙◌, ◌+◌, ◌<◌, ℕ, length, Bool, true, false, sym, ap, subst, arith, rules}
 use Rattle.bitwords.specs.CountFacts.{count-zero}
 use Rattle.bitrows.specs.Tables.{Table, has}
 use Rattle.bitrows.specs.Stored.{table_in}
@@ -7,18 +7,8 @@ use Rattle.bitrows.proofs.Closing.{IsThrough, through, passed_joined, passed_kep
 use Rattle.bitrows.proofs.lent.close.Goals.{then-get, else-get}
 use Rattle.bitrows.proofs.lent.close.Goals as goal
 
-pub loop-through-init : goal.loop-through-init
-loop-through-init c = record { lent = c.requires; bits = λ a b. refl; joins = omega arith }
-
 pub loop-row-init : goal.loop-row-init
-loop-row-init c =
-    let edge : ℕ → ℕ → Bool = has (table_in c.args.rows c.args.columns c.args.words.now) in
-    let before = c.loop-through.invariant in
-    record {
-      lent = before.lent;
-      bits = record { done = λ a b below. absurd (omega arith); due = λ a b _. before.bits a b };
-      joins = omega (arith, before.joins, count-zero (λ a. through edge c.loop-through.through a c.loop-through.through));
-    }
+loop-row-init c = search (rules, arith, count-zero)
 
 pub loop-row-preserved : goal.loop-row-preserved
 loop-row-preserved c =

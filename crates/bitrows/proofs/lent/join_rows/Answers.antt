@@ -1,4 +1,4 @@
-use Rattle.std.proofs.Common.{◌≡◌, ◌+◌, ◌*◌, ◌++◌, take, drop, ap}
+use Rattle.std.proofs.Common.{◌≡◌, ◌+◌, ◌*◌, take, ap}
 use Rattle.std.specs.Prelude.{slice_range}
 use Rattle.bitrows.specs.Stored.{row_words}
 use Rattle.bitrows.proofs.Rows.{row_within, row_of_low}
@@ -16,7 +16,7 @@ returns-then-from-into c =
     let own : take w c.split_at_mut-low.result.1.now ≡ row_words w ws c.args.into = ap (take w) cut.back in
     record {
       row = c.union_with_change.new.words;
-      words = λ i. cut.front i ++ (c.union_with_change.new.words ++ drop w (cut.back i));
+      words = cc (cut.front, cut.back);
       clean = c.union_with_change.ensures.clean;
       value = cc (c.union_with_change.ensures.value, own, other);
       told = cc (c.union_with_change.ensures.changed, own, other);
