@@ -1,6 +1,6 @@
 -- The loop of one turn: the facts of each node after something went along an edge, the calls for it, the sets that rounds reach,
 -- the edges that may have something to pass on, and the edges so far.
-use Rattle.std.proofs.Common.{◌≡◌, ◌≢◌, ◌∙◌, ℕ, ◌+◌, ◌*◌, ◌<◌, ◌≤◌, ◌⊎◌, ◌↔◌, Bool, true, false, cond, ◌==◌, inl, inr, IsTrue, length, get_or, set, replicate, take, drop, refl, sym, ap, subst, arith, ⊎_elim, not}
+use Rattle.std.proofs.Common.{◌≡◌, ◌≢◌, ◌∙◌, ℕ, ◌+◌, ◌*◌, ◌<◌, ◌≤◌, ◌⊎◌, ◌↔◌, Bool, true, false, cond, ◌==◌, inl, inr, IsTrue, length, get_or, set, replicate, take, drop, sym, ap, subst, arith, ⊎_elim, not}
 use Rattle.std.specs.Prelude.{Contains}
 use Rattle.std.proofs.lemmas.Bool.{cases_eq, cases_lt}
 use Rattle.std.proofs.lemmas.Bool.Decides.{nat_tests}
@@ -238,21 +238,6 @@ pub record Turned (facts : ℕ) (edges : Edges) (kills ins0 outs0 : Sets) (n : �
   pub same : changed ≡ false → next ≡ empty (length ins0)
   pub more : total facts ins0 ≤ total facts ins
   pub grows : changed ≡ true → total facts ins0 < total facts ins
-
-pub turned_first : (facts : ℕ) (edges : Edges) (kills ins outs : Sets) (due next : Bits) → Fits facts kills ins outs → due.length ≡ length ins → next ≡ empty (length ins) → AreSettledBut due edges ins outs
-    → Turned facts edges kills ins outs 0 ins outs due next false
-turned_first facts edges kills ins outs due next fits due_nodes none pending = record {
-  many = refl;
-  fits = fits;
-  reached = λ gens many r. r;
-  due_nodes = due_nodes;
-  next_nodes = ap (λ set. set.length) none ∙ length-empty (length ins);
-  behind = λ k d within. absurd (omega arith);
-  ahead = pending;
-  same = λ _. none;
-  more = omega arith;
-  grows = λ changed. cc;
-}
 
 module _ (facts : ℕ) (edges : Edges) (kills ins0 outs0 : Sets) (n : ℕ) (ins outs : Sets) (due next : Bits) (changed : Bool) (e : ℕ × ℕ) (within : n < length edges) (before : Turned facts edges kills ins0 outs0 n ins outs due next changed) where
   ahead_rest : AreSettledBut due (drop (n + 1) edges) ins outs

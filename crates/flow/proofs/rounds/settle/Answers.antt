@@ -1,19 +1,13 @@
-use Rattle.std.proofs.Common.{◌∙◌, ap, arith}
+use Rattle.std.proofs.Common.{◌∙◌, ap, arith, rules}
 use Rattle.flow.specs.Turns.{facts_of}
 use Rattle.flow.proofs.Totals.{total_all}
 use Rattle.flow.proofs.Turning.{length-all, pending_first}
 use Rattle.flow.proofs.rounds.settle.Goals as goal
 
 pub turns-init : goal.turns-init
-turns-init c = record {
-  fits = c.requires.fits;
-  nodes = ap (λ set. set.length) c.requires.due ∙ length-all _;
-  next = c.requires.next;
-  due = pending_first _ _ _ _ c.requires.due c.requires.below;
-  reached = λ gens many r. r;
-  from = omega arith;
-  bound = omega arith;
-}
+turns-init c =
+    let nodes = ap (λ set. set.length) c.requires.due ∙ length-all _ in
+    search (rules, arith, nodes, pending_first)
 
 pub returns-then-not-turn-clause-bound : goal.returns-then-not-turn-clause-bound
 returns-then-not-turn-clause-bound c = rw (← c.turns.auto.ins) (omega (arith, total_all (facts_of c.args.kills.now) c.turns.ins))

@@ -1,10 +1,11 @@
-use Rattle.std.proofs.Common.{ℕ, ◌<◌, length, arith, refl}
-use Rattle.flow.proofs.Turning.{turned_first, turned_kept, turned_passed, turned_next, turned_end}
+use Rattle.std.proofs.Common.{ℕ, ◌<◌, length, arith, refl, rules}
+use Rattle.fixedbitset.specs.BitsFacts.{length-empty}
+use Rattle.flow.proofs.Turning.{turned_kept, turned_passed, turned_next, turned_end}
 use Rattle.flow.proofs.rounds.turn.Goals as goal
 use Rattle.flow.proofs.rounds.turn.Goals.{then-pass, else-pass}
 
 pub loop-from-init : goal.loop-from-init
-loop-from-init c = turned_first _ _ _ _ _ _ _ c.requires.fits c.requires.nodes c.requires.next c.requires.due
+loop-from-init c = search (rules, arith, length-empty)
 
 pub loop-from-preserved : goal.loop-from-preserved
 loop-from-preserved c =
