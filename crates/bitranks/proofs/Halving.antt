@@ -7,12 +7,6 @@ pub record IsSpent (n before steps size : ℕ) : Type 0 where
   pub within : steps ≤ before + n
   pub left : size ≤ 2 ^ (before + n - steps)
 
-pub nothing_spent : (n before size : ℕ) → size ≤ 2 ^ n → IsSpent n before before size
-nothing_spent n before size enough = record {
-  within = omega arith;
-  left = let e : before + n - before ≡ n = omega arith in omega (arith, ap (λ k. 2 ^ k) e);
-}
-
 -- one step halves the entries
 pub halved : (n before steps new size half : ℕ) → new ≡ steps + 1 → IsSpent n before steps size → 1 < size → half + half ≤ size + 1 → IsSpent n before new half
 halved n before steps new size half one is more less = by_rest (before + n - steps) (omega (arith, is.within)) is.left

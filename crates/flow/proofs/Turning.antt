@@ -1,6 +1,6 @@
 -- The loop of one turn: the facts of each node after something went along an edge, the calls for it, the sets that rounds reach,
 -- the edges that may have something to pass on, and the edges so far.
-use Rattle.std.proofs.Common.{◌≡◌, ◌≢◌, ◌∙◌, ℕ, ◌+◌, ◌*◌, ◌<◌, ◌≤◌, ◌⊎◌, ◌↔◌, Bool, true, false, cond, ◌==◌, inl, inr, IsTrue, length, get_or, set, replicate, take, drop, sym, ap, subst, arith, ⊎_elim, not}
+use Rattle.std.proofs.Common.{◌≡◌, ◌≢◌, ◌∙◌, ℕ, ◌+◌, ◌*◌, ◌<◌, ◌≤◌, ◌⊎◌, ◌↔◌, Bool, true, false, cond, ◌==◌, inl, inr, IsTrue, length, get_or, set, replicate, take, drop, sym, ap, subst, arith, rules, ⊎_elim, not}
 use Rattle.std.specs.Prelude.{Contains}
 use Rattle.std.proofs.lemmas.Bool.{cases_eq, cases_lt}
 use Rattle.std.proofs.lemmas.Bool.Decides.{nat_tests}
@@ -247,18 +247,8 @@ module _ (facts : ℕ) (edges : Edges) (kills ins0 outs0 : Sets) (n : ℕ) (ins 
   pub turned_kept : (IsTrue (contains due (get_or edges n e).0) → IsPassed ins outs (get_or edges n e)) → Turned facts edges kills ins0 outs0 (n + 1) ins outs due next changed
   turned_kept kept =
       let first = All-head (MayPass due ins outs) (get_or edges n e) (drop (n + 1) edges) (subst (λ es. AreSettledBut due es ins outs) (drop_more edges n e within) before.ahead) in
-      record {
-        many = before.many;
-        fits = before.fits;
-        reached = before.reached;
-        due_nodes = before.due_nodes;
-        next_nodes = before.next_nodes;
-        behind = All-more (MayPass next ins outs) edges n e within before.behind (inr (⊎_elim kept (λ passed. passed) first));
-        ahead = ahead_rest;
-        same = before.same;
-        more = before.more;
-        grows = before.grows;
-      }
+      let behind : AreSettledBut next (take (n + 1) edges) ins outs = All-more (MayPass next ins outs) edges n e within before.behind (inr (⊎_elim kept (λ passed. passed) first)) in
+      search (rules, arith, ahead_rest)
 
   -- something did
   pub turned_passed : AreBelow (length ins0) edges → ¬ (IsPassed ins outs (get_or edges n e))

@@ -37,13 +37,8 @@ pub loop-through-preserved : goal.loop-through-preserved
 loop-through-preserved c =
     let edge : ℕ → ℕ → Bool = has (table_in c.args.rows c.args.columns c.args.words.now) in
     let k = c.loop-through.through in
-    let before = c.loop-row.invariant in
     let all : c.loop-row.row ≡ c.args.rows = omega (arith, c.loop-row-test.false, c.loop-row.auto.row-end) in
-    record {
-      lent = before.lent;
-      bits = passed_all edge k c.loop-row.row (table_in c.args.rows c.args.columns c.loop-row.words) before.bits (omega (arith, length-table));
-      joins = omega (arith, before.joins, ap (joins_in edge k) all, joins_passed edge c.args.rows k);
-    }
+    search (rules, arith, passed_all, length-table, ap (joins_in edge k) all, joins_passed edge c.args.rows k)
 
 all_nodes : (c : goal.After-loop-through) → c.loop-through.through ≡ c.args.rows
 all_nodes c = omega (arith, c.loop-through-test.false, c.loop-through.auto.through-end)
