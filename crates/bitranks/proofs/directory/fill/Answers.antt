@@ -8,10 +8,7 @@ use Rattle.bitranks.proofs.directory.fill.Goals as goal
 pub loop-entry-init : goal.loop-entry-init
 loop-entry-init c =
     let ws = c.args.words.now in
-    record {
-      counts = written_more (λ k. count_below (has_bit ws) (64 * (8 * k))) c.args.directory.now 0 0 (not_zero _ (search rules)) (λ k below. absurd (omega arith)) (sym (count-zero (has_bit ws)));
-      cost = omega arith;
-    }
+    search (rules, arith, not_zero, written_more (λ k. count_below (has_bit ws) (64 * (8 * k))) c.args.directory.now 0 0, sym (count-zero (has_bit ws)))
 
 pub overflow_add-directory : goal.overflow_add-directory
 overflow_add-directory c =

@@ -1,6 +1,7 @@
 use Rattle.std.proofs.Common.{◌≡◌, ◌∙◌, ◌+◌, ◌<◌, ℕ, length, Bool, true, false, sym, ap, subst, arith, rules}
 use Rattle.bitwords.specs.CountFacts.{count-zero}
-use Rattle.bitrows.specs.Tables.{Table, has}
+use Rattle.fixedbitset.specs.TwoSets.{union}
+use Rattle.bitrows.specs.Tables.{Table, row_of, has, with_row}
 use Rattle.bitrows.specs.Stored.{table_in}
 use Rattle.bitrows.specs.StoredFacts.{length-table}
 use Rattle.bitrows.proofs.Closing.{IsThrough, through, passed_joined, passed_kept, passed_all, closed, joins_in, joins_before, joins_more, joins_passed, joins_bound, pairs}
@@ -21,16 +22,13 @@ loop-row-preserved c =
     let known : through edge k r k ≡ c.get.result = sym (before.bits.due r k (omega arith)) ∙ sym c.get.ensures in
     let within : r < length t.rows = omega (arith, c.loop-row-test.true, length-table) in
     elim c.if-get.branch [
-      | then-get w ↦ record {
-        lent = rw w.words-is w.union_rows.ensures.lent;
-        bits = passed_joined edge k r t before.bits new within (sym c.get.ensures ∙ w.if-get.true) (ap (table_in c.args.rows c.args.columns) w.words-is ∙ w.union_rows.ensures.value);
-        joins = omega (arith, before.joins, w.joins-is, w.tick.ensures, joins_more edge k r true (known ∙ w.if-get.true));
-      }
-      | else-get w ↦ record {
-        lent = rw w.words-is before.lent;
-        bits = passed_kept edge k r t before.bits new (sym c.get.ensures ∙ w.if-get.false) (ap (table_in c.args.rows c.args.columns) w.words-is);
-        joins = omega (arith, before.joins, w.joins-is, joins_more edge k r false (known ∙ w.if-get.false));
-      }
+      | then-get w ↦
+          let value : new ≡ with_row t r (union (row_of t r) (row_of t k)) = ap (table_in c.args.rows c.args.columns) w.words-is ∙ w.union_rows.ensures.value in
+          let bits = passed_joined edge k r t before.bits new within (sym c.get.ensures ∙ w.if-get.true) value in
+          search (rules, arith, bits, joins_more edge k r true (known ∙ w.if-get.true), w.union_rows.ensures.lent, w.words-is)
+      | else-get w ↦
+          let bits = passed_kept edge k r t before.bits new (sym c.get.ensures ∙ w.if-get.false) (ap (table_in c.args.rows c.args.columns) w.words-is) in
+          search (rules, arith, bits, joins_more edge k r false (known ∙ w.if-get.false), w.words-is)
     ]
 
 pub loop-through-preserved : goal.loop-through-preserved
