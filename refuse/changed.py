@@ -58,7 +58,7 @@ class Crate:
 def symbol_of_impl(heading):
     """How a check spells an `impl`: the words of its type and then of its trait, without the parameters."""
     parameters = re.match(r"<.*?>(?= )|", heading)[0]
-    own = re.findall(r"[<,]\s*(\w+)(?=[:,>])", parameters)
+    own = re.findall(r"[<,]\s*(?:const )?(\w+)(?=[:,>])", parameters)
     plain = re.split(r" where |[ {]*$", heading[len(parameters) :])[0]
     *trait, of = plain.split(" for ")
     words = re.findall(r"'\w+|&|\w+", " ".join([of, *(re.sub(r"\w+::", "", it) for it in trait)]))
