@@ -1,5 +1,5 @@
 -- The law of outputs is proved.
-use Rattle.std.proofs.Common.{◌≡◌, ◌≢◌, ℕ, List, [], ◌∷◌, ◌++◌, map, Option, Some, None, MatchOption, Bool, true, false, eqb, ◌⊎◌, refl, sym, ap, ◌∙◌, arith}
+use Rattle.std.proofs.Common.{◌≡◌, ◌≢◌, ℕ, List, [], ◌∷◌, ◌++◌, Option, Some, None, MatchOption, codes, Bool, true, false, eqb, ◌⊎◌, refl, sym, ap, ◌∙◌, arith}
 use Rattle.std.specs.List.{slice_split}
 use Rattle.std.proofs.lemmas.Bool.{eq-eqb}
 use Rattle.std.proofs.lemmas.List.Elements.{Contains-append_left, Contains-append_right}
@@ -10,9 +10,9 @@ use Rattle.bitcommands.specs.Actions.{Action}
 use Rattle.bitcommands.specs.Answers.{Answer, refused}
 use Rattle.bitcommands.specs.Texts.{refusal_text, answer_text}
 use Rattle.bitcommands.specs.Sets.{Sets}
-use Rattle.bitcommands.specs.Steps.{Step, Run}
+use Rattle.bitcommands.specs.Steps.{Step}
 use Rattle.bitlines.specs.Lines.{command_of}
-use Rattle.bitlines.specs.Output.{IsOutputFrom, commands_of, is_command, lines_of, without_empty_last, texts, fault_text}
+use Rattle.bitlines.specs.Output.{IsOutputFrom, lines_of, without_empty_last}
 use Rattle.bitlines.specs.OutputLaws.{LacksNothing, OneOutput}
 use Rattle.bitlines.proofs.LineSplits.{parts}
 
@@ -46,12 +46,12 @@ lacks_nothing_behind : (line rest output : List ℕ) → output ≡ line ++ 10 �
 lacks_nothing_behind line rest output is clean found =
     clean (rw (is, lines_of-append line rest) (Contains-append_right (slice_split (λ x. eqb x 10) line) (lines_of rest) _ found))
 
--- an answer whose text is a line of an output that lacks nothing is no refusal of memory
-no_refusal : (r : Answer) (rest output : List ℕ) → output ≡ answer_text r ++ 10 ∷ rest → LacksNothing output → r ≢ refused Memory
-no_refusal r rest output is clean e =
+-- a line of an output that lacks nothing does not say that memory was refused
+no_refusal : (line rest output : List ℕ) → output ≡ line ++ 10 ∷ rest → LacksNothing output → line ≢ refusal_text Memory
+no_refusal line rest output is clean e =
     clean (rw (is, e, lines_of-append (refusal_text Memory) rest) (Contains-append_left (refusal_text Memory ∷ []) (lines_of rest) (refusal_text Memory) (0, omega arith, refl)))
 
--- ---- a step, and the lines of a run
+-- ---- a step, and the replies to lines
 
 -- the rows of one step, by its test: two answers, neither of which refuses memory, are the same, and leave the same sets
 same_row : (test : Option Refusal) (answer r s : Answer) (left old new now : Sets) (P Q : Type 0)
@@ -65,45 +65,24 @@ same_step : (limit : ℕ) (old : Sets) (c : Action) (r s : Answer) (new now : Se
     → r ≢ refused Memory → s ≢ refused Memory → (r ≡ s) × (new ≡ now)
 same_step limit old c r s new now = same_row _ _ r s _ old new now _ _
 
--- the law for these lines, from any sets
-abbrev OneOutputOf : List (List ℕ) → Type 0
-OneOutputOf lines = (sets : Sets) (first second : List ℕ) → IsOutputFrom sets lines first → IsOutputFrom sets lines second
+-- two replies to one line, neither of which says that memory was refused, are the same, and leave the same sets
+same_reply : (read : Option Action) (old new now : Sets) (first second : List ℕ)
+    → MatchOption read ((first ≡ codes "F8 not a command") × (new ≡ old)) (λ c. (r : Answer) × Step 1000000 old c r new × (first ≡ answer_text r))
+    → MatchOption read ((second ≡ codes "F8 not a command") × (now ≡ old)) (λ c. (r : Answer) × Step 1000000 old c r now × (second ≡ answer_text r))
+    → first ≢ refusal_text Memory → second ≢ refusal_text Memory → (first ≡ second) × (new ≡ now)
+same_reply None old new now first second a b no_first no_second = (a.0 ∙ sym b.0, a.1 ∙ sym b.1)
+same_reply (Some c) old new now first second a b no_first no_second =
+    let step = same_step 1000000 old c a.0 b.0 new now a.1 b.1 (λ e. no_first (a.2 ∙ ap answer_text e)) (λ e. no_second (b.2 ∙ ap answer_text e)) in
+    (a.2 ∙ ap answer_text step.0 ∙ sym b.2, step.1)
+
+one_output_of : (lines : List (List ℕ)) (sets : Sets) (first second : List ℕ) → IsOutputFrom sets lines first → IsOutputFrom sets lines second
     → LacksNothing first → LacksNothing second → first ≡ second
-
--- a line that is no command puts out one text, and leaves the sets
-no_command : (line : List ℕ) (lines : List (List ℕ)) → command_of line ≡ None → OneOutputOf lines → OneOutputOf (line ∷ lines)
-unfolding texts
-no_command line lines none behind sets first second a b clean_first clean_second =
-    let out : first ≡ fault_text ++ 10 ∷ texts (map is_command lines) a.0 = rw none at a.3 in
-    let outs : second ≡ fault_text ++ 10 ∷ texts (map is_command lines) b.0 = rw none at b.3 in
-    let same = behind sets _ _ (a.0, a.1, rw none at a.2, refl) (b.0, b.1, rw none at b.2, refl)
-    (lacks_nothing_behind fault_text _ first out clean_first) (lacks_nothing_behind fault_text _ second outs clean_second) in
-    out ∙ ap (λ rest. fault_text ++ 10 ∷ rest) same ∙ sym outs
-
--- two runs of one command and of those behind it, of which both put out texts that lack nothing
-same_runs : (c : Action) (lines : List (List ℕ)) → OneOutputOf lines → (sets final final' : Sets) (first second : List ℕ) (answers answers' : List Answer)
-    → Run 1000000 sets (c ∷ commands_of lines) answers final → Run 1000000 sets (c ∷ commands_of lines) answers' final'
-    → first ≡ texts (true ∷ map is_command lines) answers → second ≡ texts (true ∷ map is_command lines) answers'
-    → LacksNothing first → LacksNothing second → first ≡ second
-unfolding texts
-same_runs c lines behind sets final final' first second [] answers' a b out outs clean_first clean_second = absurd a
-same_runs c lines behind sets final final' first second (r ∷ rs) [] a b out outs clean_first clean_second = absurd b
-same_runs c lines behind sets final final' first second (r ∷ rs) (s ∷ ss) a b out outs clean_first clean_second =
-    let step = same_step 1000000 sets c r s a.0 b.0 a.1 b.1 (no_refusal r _ first out clean_first) (no_refusal s _ second outs clean_second) in
-    let runs : Run 1000000 a.0 (commands_of lines) ss final' = rw step.1 b.2 in
-    let same = behind a.0 _ _ (rs, final, a.2, refl) (ss, final', runs, refl)
-    (lacks_nothing_behind (answer_text r) _ first out clean_first) (lacks_nothing_behind (answer_text s) _ second outs clean_second) in
-    out ∙ ap (λ rest. answer_text r ++ 10 ∷ rest) same ∙ ap (λ answer. answer_text answer ++ 10 ∷ texts (map is_command lines) ss) step.0 ∙ sym outs
-
-one_more : (line : List ℕ) (lines : List (List ℕ)) (o : Option Action) → command_of line ≡ o → OneOutputOf lines → OneOutputOf (line ∷ lines)
-one_more line lines None e behind = no_command line lines e behind
-one_more line lines (Some c) e behind = λ sets first second a b.
-    same_runs c lines behind sets a.1 b.1 first second a.0 b.0 (rw e at a.2) (rw e at b.2) (rw e at a.3) (rw e at b.3)
-
-one_output_of : (lines : List (List ℕ)) → OneOutputOf lines
-unfolding texts
-one_output_of [] = λ sets first second a b clean_first clean_second. a.3 ∙ sym b.3
-one_output_of (line ∷ lines) = one_more line lines (command_of line) refl (one_output_of lines)
+one_output_of [] sets first second a b clean_first clean_second = a ∙ sym b
+one_output_of (line ∷ lines) sets first second a b clean_first clean_second =
+    let reply = same_reply (command_of line) sets a.2 b.2 a.0 b.0 a.3 b.3 (no_refusal _ _ first a.5 clean_first) (no_refusal _ _ second b.5 clean_second) in
+    let behind : IsOutputFrom a.2 lines b.1 = rw reply.1 b.4 in
+    let rest = one_output_of lines a.2 a.1 b.1 a.4 behind (lacks_nothing_behind _ _ first a.5 clean_first) (lacks_nothing_behind _ _ second b.5 clean_second) in
+    a.5 ∙ rw (reply.0, rest) (sym b.5)
 
 pub one_output : OneOutput
 one_output input = one_output_of (lines_of input) _

@@ -1,5 +1,5 @@
 -- Lines and texts from the front.
-use Rattle.std.proofs.Common.{◌≡◌, ℕ, ◌+◌, ◌<◌, List, [], ◌∷◌, ◌++◌, length, take, drop, Option, Some, None, Bool, Result, Ok, Err, OnOk, is_ok, cond, eqb, IfSome, refl, ap, subst, ◌∙◌, arith, append_assoc}
+use Rattle.std.proofs.Common.{◌≡◌, ℕ, ◌+◌, ◌<◌, List, [], ◌∷◌, ◌++◌, length, take, drop, Option, Some, None, Bool, Result, Ok, Err, OnOk, is_ok, cond, eqb, IfSome, codes, refl, ap, subst, ◌∙◌, arith, append_assoc}
 use Rattle.std.specs.List.{position}
 use Rattle.std.proofs.lemmas.Bool.Decides.{nat_tests}
 use Rattle.std.proofs.lemmas.Grind.{common_steps}
@@ -10,7 +10,7 @@ use Rattle.bitcommands.specs.TextsFacts.{step_one_text}
 use Rattle.bitcommands.specs.Sets.{Sets}
 use Rattle.bitcommands.specs.Steps.{Step}
 use Rattle.bitlines.specs.Lines.{command_of}
-use Rattle.bitlines.specs.Output.{fault_text, IsOutputFrom, lines_of, without_empty_last, texts}
+use Rattle.bitlines.specs.Output.{IsOutputFrom, lines_of, without_empty_last}
 use Rattle.bitlines.specs.Reads.{Reads}
 use Rattle.bitlines.specs.declared.fault.LineFault.{LineFault}
 use Rattle.bitlines.specs.declared.fault.LineFault.TheVariants.{NotACommand}
@@ -36,14 +36,10 @@ lines_of_empty xs e = grind (arith, common_steps)
 
 -- ---- one line, before the lines left
 
-line_then : (out line output rest : List ℕ) → out ≡ line ++ 10 ∷ [] → output ≡ rest → out ++ output ≡ line ++ 10 ∷ rest
-line_then out line output rest e f = grind (arith, common_steps)
-
 -- a line that is a command is carried out
-pub line_answered : (line : List ℕ) (old new : Sets) (c : Action) (r : Answer) → command_of line ≡ Some c → Step 1000000 old c r new → AnswersLine line old new (answer_text r ++ 10 ∷ [])
-unfolding texts
+line_answered : (line : List ℕ) (old new : Sets) (c : Action) (r : Answer) → command_of line ≡ Some c → Step 1000000 old c r new → AnswersLine line old new (answer_text r ++ 10 ∷ [])
 line_answered line old new c r is step lines output rest =
-    (r ∷ rest.0, rest.1, rw is (new, step, rest.2), rw is (line_then _ (answer_text r) output _ refl rest.3))
+    (answer_text r, output, new, rw is (r, step, refl), rest, append_assoc (answer_text r) (10 ∷ []) output)
 
 -- its text and a line end are put behind an output
 pub command_answered : (before mid after : List ℕ) (old new : Sets) (c : Action) (r : Answer) → Step 1000000 old c r new
@@ -57,10 +53,8 @@ command_answered before mid after old new c r step put ended =
     )
 
 -- a line that is none leaves the sets
-pub line_refused : (line : List ℕ) (sets : Sets) → command_of line ≡ None → AnswersLine line sets sets (fault_text ++ 10 ∷ [])
-unfolding texts
-line_refused line sets none lines output rest =
-    (rest.0, rest.1, rw none rest.2, rw none (line_then _ fault_text output _ refl rest.3))
+line_refused : (line : List ℕ) (sets : Sets) → command_of line ≡ None → AnswersLine line sets sets (codes "F8 not a command" ++ 10 ∷ [])
+line_refused line sets none lines output rest = (codes "F8 not a command", output, sets, rw none (refl, refl), rest, refl)
 
 -- what a reader answers for a line that is no command
 pub not_read : {X Y : Type 0} (may_lack_memory : Bool) (view : X → Y) (fault : LineFault) (read : Option Y) → fault ≡ NotACommand → Reads may_lack_memory view (Err fault) read → read ≡ None
@@ -68,11 +62,10 @@ not_read may_lack_memory view fault read is answered = subst (λ f. Reads may_la
 
 -- the text of a fault is put behind an output, or memory for it is refused
 pub fault_answered : {E : Type 0} (r : Result (Unit {0}) E) (line before after : List ℕ) (sets : Sets) → command_of line ≡ None
-    → after ≡ cond (is_ok r) (before ++ (fault_text ++ 10 ∷ [])) before → OnOk r ((out : List ℕ) × (after ≡ before ++ out) × AnswersLine line sets sets out)
-fault_answered (Ok u) line before after sets none put = (fault_text ++ 10 ∷ [], put, line_refused line sets none)
+    → after ≡ cond (is_ok r) (before ++ (codes "F8 not a command" ++ 10 ∷ [])) before → OnOk r ((out : List ℕ) × (after ≡ before ++ out) × AnswersLine line sets sets out)
+fault_answered (Ok u) line before after sets none put = (codes "F8 not a command" ++ 10 ∷ [], put, line_refused line sets none)
 fault_answered (Err e) line before after sets none put = tt
 
 -- no lines put out nothing
 pub no_lines : (sets : Sets) (lines : List (List ℕ)) → lines ≡ [] → IsOutputFrom sets lines []
-unfolding texts
-no_lines sets lines none = rw none ([], sets, refl, refl)
+no_lines sets lines none = rw none refl
