@@ -22,7 +22,8 @@ const bits *read_set(Reading *reading, Datum datum) {
     char *data = VARDATA_ANY(flat);
     bits *set = &reading->set;
     uint32 length = 0;
-    memcpy(&length, data, Min(size, sizeof(length)));
+    if (size >= sizeof(length))
+        memcpy(&length, data, sizeof(length));
     *set = BITS_OF((uint64_t *)(data + sizeof(length)), length);
     stored = stored_words(set);
     if (size != sizeof(length) + stored * WORD_SIZE)
