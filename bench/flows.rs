@@ -2,6 +2,7 @@
 //! that each node generates and kills, are drawn by chance.
 
 use crate::table::Row;
+use crate::turns::turns;
 use std::hint::black_box;
 use std::time::Instant;
 
@@ -58,7 +59,7 @@ pub fn rows() -> Vec<Row> {
         assert_eq!(answers[0], answers[1], "solve: the sides answer alike");
     }
     let mut least = [[f64::INFINITY; 2]; 2];
-    for _ in 0..RUNS {
+    for () in turns(RUNS) {
         for (times, side) in least.iter_mut().zip(sides) {
             let Some(solve) = side else { continue };
             for (time, rounds) in times.iter_mut().zip([0, ROUNDS]) {

@@ -1,6 +1,7 @@
 //! Times the kernels beside the same loops in Rust.
 
 use crate::table::Row;
+use crate::turns::turns;
 use std::hint::black_box;
 use std::time::Instant;
 
@@ -72,7 +73,7 @@ fn row(call: &str, bits: usize, batches: [Batch; 2]) -> Row {
         odd: Line([u64::MAX / 3 * 2; MOST]),
     };
     let mut least = [f64::INFINITY; 2];
-    for _ in 0..BATCHES {
+    for () in turns(BATCHES) {
         for (time, batch) in least.iter_mut().zip(batches) {
             let start = Instant::now();
             batch(&mut words, calls);

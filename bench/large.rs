@@ -1,6 +1,7 @@
 //! Times calls of sets of a billion positions, beside upstream's, and says how much memory two such sets take.
 
 use crate::sets::{self, Rounds};
+use crate::turns::turns;
 use crate::walks;
 use std::hint::black_box;
 use std::time::Instant;
@@ -15,7 +16,7 @@ const RUNS: usize = 3;
 /// The least time of a call, in milliseconds.
 fn least_time(side: impl Fn(usize) -> usize) -> f64 {
     let mut least = [f64::INFINITY; 2];
-    for _ in 0..RUNS {
+    for () in turns(RUNS) {
         for (time, rounds) in least.iter_mut().zip([0, ROUNDS]) {
             let start = Instant::now();
             black_box(side(black_box(rounds)));

@@ -8,6 +8,7 @@ mod large;
 mod memory;
 mod sets;
 mod table;
+mod turns;
 #[cfg(upstream)]
 mod upstream;
 mod walks;
@@ -59,4 +60,5 @@ fn main() {
         row.take_less(line);
     }
     table::print_tables(&tables);
+    println!("\n{}", turns::said());
 }

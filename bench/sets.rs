@@ -6,6 +6,7 @@
 #![allow(unused_braces)] // of the arguments that the macros below are given
 
 use crate::table::Row;
+use crate::turns::turns;
 use std::hint::black_box;
 use std::time::Instant;
 
@@ -278,7 +279,7 @@ fn least_times(bits: usize, call: &Call) -> [f64; 3] {
             f64::NAN
         }; 2]
     });
-    for _ in 0..BATCHES {
+    for () in turns(BATCHES) {
         for (times, side) in least.iter_mut().zip(sides) {
             let Some(side) = side else { continue };
             for (time, rounds) in times.iter_mut().zip([0, rounds]) {

@@ -4,6 +4,7 @@
 //! the walk gives, so many times. The time of no rounds is taken from that of `rounds`, which leaves the walks alone.
 
 use crate::table::Row;
+use crate::turns::turns;
 use std::hint::black_box;
 use std::time::Instant;
 
@@ -73,7 +74,7 @@ impl Walk {
         let rounds = BATCH_WORK / (positions + bits / 64);
         let sides = [Some(self.ours), self.upstream];
         let mut least = [[f64::INFINITY; 2]; 2];
-        for _ in 0..BATCHES {
+        for () in turns(BATCHES) {
             for (times, side) in least.iter_mut().zip(sides) {
                 let Some(side) = side else { continue };
                 for (time, rounds) in times.iter_mut().zip([0, rounds]) {

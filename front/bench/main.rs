@@ -2,9 +2,12 @@
 
 mod ours;
 mod theirs;
+#[path = "../../bench/turns.rs"]
+mod turns;
 
 use std::array;
 use std::time::{Duration, Instant};
+use turns::turns;
 
 /// How often each side is timed, and for how long at least.
 const TURNS: usize = 81;
@@ -45,7 +48,7 @@ impl Row {
 fn least(mut sides: [Row; 2]) -> [f64; 2] {
     let rounds = sides.each_mut().map(Row::rounds);
     let mut least = [Duration::MAX; 2];
-    for _ in 0..TURNS {
+    for () in turns(TURNS) {
         for ((row, rounds), least) in sides.iter_mut().zip(rounds).zip(&mut least) {
             *least = row.time(rounds).min(*least);
         }
@@ -151,4 +154,5 @@ fn main() {
         }
     }
     print_table(&rows);
+    println!("\n{}", turns::said());
 }

@@ -1,0 +1,66 @@
+//! Turns of timing on a core that this program has for itself.
+//!
+//! A core of a host may do another machine's work beside ours, by its second thread. A loop that keeps the core busy then takes
+//! up to one and a half times as long, and the counts of `/proc/stat` do not show it. What shows it is how many additions a
+//! cycle the core gives.
+
+use std::arch::asm;
+use std::sync::atomic::{AtomicUsize, Ordering};
+use std::time::Instant;
+
+/// Below so many additions a cycle the core does something else too. One that does not gives about four.
+const ADDITIONS: f64 = 3.4;
+
+/// So many times the turns that are wanted are made where the core is never free for long enough.
+const PATIENCE: usize = 4;
+
+static TIMED: AtomicUsize = AtomicUsize::new(0);
+static SHARED: AtomicUsize = AtomicUsize::new(0);
+
+fn seconds(run: impl FnOnce()) -> f64 {
+    let begun = Instant::now();
+    run();
+    begun.elapsed().as_secs_f64()
+}
+
+/// Whether the core gives fewer additions a cycle than it can: each of the first loop waits for the one before, and four of
+/// the second do not.
+fn is_shared() -> bool {
+    const LOOPS: u64 = 400;
+    let one_by_one = seconds(|| unsafe {
+        asm!("2:", ".rept 64", "add {sum}, 1", ".endr", "dec {loops}", "jnz 2b",
+            sum = inout(reg) 0_u64 => _, loops = inout(reg) LOOPS => _);
+    });
+    let four_at_once = seconds(|| unsafe {
+        asm!("2:", ".rept 16", "add {a}, 1", "add {b}, 1", "add {c}, 1", "add {d}, 1", ".endr", "dec {loops}", "jnz 2b",
+            a = inout(reg) 0_u64 => _, b = inout(reg) 0_u64 => _, c = inout(reg) 0_u64 => _, d = inout(reg) 0_u64 => _,
+            loops = inout(reg) LOOPS => _);
+    });
+    one_by_one < ADDITIONS * four_at_once
+}
+
+/// Turns until so many were made on a core that was free when they ended.
+pub fn turns(wanted: usize) -> impl Iterator<Item = ()> {
+    let (mut made, mut free) = (0, 0);
+    std::iter::from_fn(move || {
+        free += usize::from(made > 0 && !is_shared());
+        made += 1;
+        if free < wanted && made <= PATIENCE * wanted {
+            return Some(());
+        }
+        TIMED.fetch_add(1, Ordering::Relaxed);
+        SHARED.fetch_add(usize::from(free < wanted / 4), Ordering::Relaxed);
+        None
+    })
+}
+
+/// How many of the rows so far had the core to themselves for less than a quarter of the turns that were wanted.
+pub fn said() -> String {
+    let (timed, shared) = (
+        TIMED.load(Ordering::Relaxed),
+        SHARED.load(Ordering::Relaxed),
+    );
+    format!(
+        "Of {timed} rows {shared} had a core of their own for less than a quarter of their turns."
+    )
+}
