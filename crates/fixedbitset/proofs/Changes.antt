@@ -1,95 +1,70 @@
 -- One word is replaced: what that does to the value.
-use Rattle.std.proofs.Common.{◌≡◌, ◌≢◌, ℕ, zero, suc, ◌+◌, ◌*◌, ◌/◌, ◌%◌, ◌^◌, ◌<◌, ◌≤◌, Bool, true, false, cond, not, ◌==◌, List, [], length, get_or, set, refl, sym, ap, ◌∙◌, arith, ⊎_elim, bit_or, bit_and, bit_xor, lit<}
+use Rattle.std.proofs.Common.{◌≡◌, ◌≢◌, ℕ, ◌+◌, ◌*◌, ◌/◌, ◌%◌, ◌^◌, ◌<◌, ◌≤◌, Bool, true, false, cond, not, ◌==◌, List, [], length, get_or, set, refl, sym, ap, ◌∙◌, arith, bit_or, bit_and, bit_xor, lit<}
 use Rattle.std.specs.Int.{bit_at, bit_not, w64}
-use Rattle.std.proofs.lemmas.Bool.{cases_eq, eq-eqb, ne_eqb}
-use Rattle.std.proofs.lemmas.List.{get_or-set_same, get_or-set_other, length-set}
+use Rattle.std.proofs.lemmas.Bool.Decides.{nat_tests}
+use Rattle.std.proofs.lemmas.List.{length-set}
 use Rattle.std.proofs.lemmas.Nat.{one_shl}
-use Rattle.std.proofs.lemmas.Nat.Bits.{bit_at_set_same, bit_at_set_other, bit_at_clear_same, bit_at_clear_other, bit_at_xor, bit_at-pow_same, bit_at-pow_other, bit_at-lt, bit_at-zero}
+use Rattle.std.proofs.lemmas.Nat.Bits.{bit_at_set_same, bit_at_set_other, bit_at_clear_same, bit_at_clear_other, bit_at_xor, bit_at-pow_same, bit_at-pow_other, bit_at-lt}
 use Rattle.bitlanes.specs.BitLaws.{test_of_and}
 use Rattle.bitwords.specs.CountFacts.{indicator}
 use Rattle.bitwords.specs.Rows.{has_bit}
+use Rattle.bitwords.specs.RowFacts.{has_bit-past}
 use Rattle.fixedbitset.specs.Bits.{Bits, contains, insert, remove, set_bit, toggle, empty, of_words}
-use Rattle.fixedbitset.specs.BitsFacts.{same_bits, length-set_bit, contains-set_bit, length-empty, contains-empty, contains-past}
+use Rattle.fixedbitset.specs.BitsFacts.{length-set_bit, contains-set_bit, length-empty, contains-empty, contains-past}
 use Rattle.fixedbitset.specs.Stored.{IsClean}
-use Rattle.fixedbitset.proofs.Values.{length-of_words}
-use Rattle.fixedbitset.proofs.Words.{contains-of_clean}
+use Rattle.fixedbitset.specs.WordsFacts.{length-of_words, has_bit-written}
+use Rattle.fixedbitset.proofs.Words.{contains_word, clean_if, value_if}
 
 -- the word has b at bit j, and else the bits of the old one
-pub record ChangesBit (old new j : ℕ) (b : Bool) : Type 0 where
-  pub same : bit_at new j ≡ indicator b
-  pub others : (i : ℕ) → i < 64 → i ≢ j → bit_at new i ≡ bit_at old i
+record ChangesBit (old new j : ℕ) (b : Bool) : Type 0 where
+  same : bit_at new j ≡ indicator b
+  others : (i : ℕ) → i < 64 → i ≢ j → bit_at new i ≡ bit_at old i
 
-pub ChangesBit-set : (x j : ℕ) → j < 64 → ChangesBit x (bit_or x (1 * 2 ^ j % 2 ^ 64)) j true
+ChangesBit-set : (x j : ℕ) → j < 64 → ChangesBit x (bit_or x (1 * 2 ^ j % 2 ^ 64)) j true
 ChangesBit-set x j h = record { same = bit_at_set_same w64 x j h; others = λ i _ ne. bit_at_set_other w64 x j h i ne }
 
-pub ChangesBit-clear : (x j : ℕ) → j < 64 → ChangesBit x (bit_and x (bit_not w64 (1 * 2 ^ j % 2 ^ 64))) j false
+ChangesBit-clear : (x j : ℕ) → j < 64 → ChangesBit x (bit_and x (bit_not w64 (1 * 2 ^ j % 2 ^ 64))) j false
 ChangesBit-clear x j h = record { same = bit_at_clear_same w64 x j h; others = λ i l ne. bit_at_clear_other w64 x j h i l ne }
 
-flipped : (n : ℕ) → n < 2 → (n + 1) % 2 ≡ indicator (not (n == 1))
-flipped zero h = refl
-flipped (suc zero) h = refl
-flipped (suc (suc n)) h = absurd (omega arith)
-
-pub ChangesBit-flip : (x j : ℕ) → j < 64 → ChangesBit x (bit_xor x (1 * 2 ^ j % 2 ^ 64)) j (not (bit_at x j == 1))
+ChangesBit-flip : (x j : ℕ) → j < 64 → ChangesBit x (bit_xor x (1 * 2 ^ j % 2 ^ 64)) j (not (bit_at x j == 1))
 ChangesBit-flip x j h = record {
-  same = rw (one_shl j 64 h, bit_at_xor, bit_at-pow_same) (flipped (bit_at x j) (bit_at-lt x j));
+  same = rw (one_shl j 64 h, bit_at_xor, bit_at-pow_same) (grind (arith, nat_tests, bit_at-lt x j));
   others = λ i _ ne. let l : bit_at x i < 2 = bit_at-lt x i in rw (one_shl j 64 h, bit_at_xor, bit_at-pow_other j i ne) (omega arith);
 }
-
-indicator_is_one : (b : Bool) → (indicator b == 1) ≡ b
-indicator_is_one b = grind arith
-
--- the words with word bit / 64 replaced by one that has b at bit mod 64
-pub has_bit-set : (ws : List ℕ) (bit new : ℕ) (b : Bool) → bit / 64 < length ws → ChangesBit (get_or ws (bit / 64) 0) new (bit % 64) b → (p : ℕ) → has_bit (set ws (bit / 64) new) p ≡ cond (p == bit) b (has_bit ws p)
-unfolding has_bit
-has_bit-set ws bit new b h changes p =
-    ⊎_elim
-    (λ (e : p ≡ bit).
-    ap (has_bit (set ws (bit / 64) new)) e
-    ∙ ap (λ w. bit_at w (bit % 64) == 1) (get_or-set_same ws (bit / 64) new 0 h)
-    ∙ ap (λ x. x == 1) changes.same
-    ∙ indicator_is_one b
-    ∙ ap (λ t. cond t b (has_bit ws p)) (sym (eq-eqb p bit e)))
-    (λ (ne : p ≢ bit).
-    ⊎_elim
-    (λ (same_word : p / 64 ≡ bit / 64).
-    ap (λ k. bit_at (get_or (set ws (bit / 64) new) k 0) (p % 64) == 1) same_word
-    ∙ ap (λ w. bit_at w (p % 64) == 1) (get_or-set_same ws (bit / 64) new 0 h)
-    ∙ ap (λ x. x == 1) (changes.others (p % 64) (omega arith) (λ e. ne (omega arith)))
-    ∙ ap (λ k. bit_at (get_or ws k 0) (p % 64) == 1) (sym same_word))
-    (λ (other_word : p / 64 ≢ bit / 64). ap (λ w. bit_at w (p % 64) == 1) (get_or-set_other ws (bit / 64) (p / 64) new 0 other_word))
-    (cases_eq (p / 64) (bit / 64))
-    ∙ ap (λ t. cond t b (has_bit ws p)) (sym (ne_eqb p bit ne)))
-    (cases_eq p bit)
 
 -- a position below the length stands in one of the words
 pub place_within : (n bit : ℕ) (ws : List ℕ) → IsClean n ws → bit < n → bit / 64 < length ws
 place_within n bit ws clean h = omega (arith, clean.count)
 
+-- the words with word bit / 64 replaced by one that has b at bit mod 64
 module _ (n bit : ℕ) (ws : List ℕ) (new : ℕ) (b : Bool) (inside : bit < n) (clean : IsClean n ws) (changes : ChangesBit (get_or ws (bit / 64) 0) new (bit % 64) b) where
-  pub IsClean-set : IsClean n (set ws (bit / 64) new)
-  IsClean-set = record {
-    fits = clean.fits;
-    count = length-set ws (bit / 64) new ∙ clean.count;
-    tail = λ p past. has_bit-set ws bit new b (place_within n bit ws clean inside) changes p ∙ ap (λ t. cond t b (has_bit ws p)) (ne_eqb p bit (λ e. omega arith)) ∙ clean.tail p past;
-  }
+  long : (set_bit (of_words n ws) bit b).length ≡ n
+  long = length-set_bit (of_words n ws) bit b ∙ length-of_words n ws
 
-  pub of-set : of_words n (set ws (bit / 64) new) ≡ set_bit (of_words n ws) bit b
-  of-set = same_bits _ _ (length-of_words n _ ∙ sym (length-set_bit (of_words n ws) bit b ∙ length-of_words n ws)) (λ p.
-      contains-of_clean n _ IsClean-set p
-      ∙ has_bit-set ws bit new b (place_within n bit ws clean inside) changes p
-      ∙ ap (cond (p == bit) b) (sym (contains-of_clean n ws clean p))
-      ∙ sym (contains-set_bit (of_words n ws) bit b p (rw (length-of_words n ws) inside)))
+  has_bit-set : (p : ℕ) → has_bit (set ws (bit / 64) new) p ≡ cond (p == bit) b (has_bit ws p)
+  unfolding has_bit
+  has_bit-set p =
+      has_bit-written ws (bit / 64) new p (place_within n bit ws clean inside)
+      ∙ grind (arith, nat_tests, changes.same, changes.others (p % 64))
 
-no_bits : (p : ℕ) → has_bit [] p ≡ false
-unfolding has_bit
-no_bits p = let e : bit_at 0 (p % 64) ≡ 0 = bit_at-zero (p % 64) in rw e
+  has_bit-changed : (p : ℕ) → has_bit (set ws (bit / 64) new) p ≡ contains (set_bit (of_words n ws) bit b) p
+  has_bit-changed p = rw (has_bit-set p, contains_word n ws p clean) (sym (contains-set_bit (of_words n ws) bit b p (rw (length-of_words n ws) inside)))
+
+  IsClean-set : IsClean n (set ws (bit / 64) new)
+  IsClean-set = clean_if n _ (set_bit (of_words n ws) bit b) clean.fits (length-set ws (bit / 64) new ∙ clean.count) long has_bit-changed
+
+  of-set : of_words n (set ws (bit / 64) new) ≡ set_bit (of_words n ws) bit b
+  of-set = value_if n _ (set_bit (of_words n ws) bit b) long has_bit-changed
+
+-- no word has no bit
+no_bits : (p : ℕ) → has_bit [] p ≡ contains (empty 0) p
+no_bits p = has_bit-past [] p (omega arith) ∙ sym (contains-empty 0 p)
 
 pub IsClean-nil : IsClean 0 []
-IsClean-nil = record { fits = lit< tt; count = refl; tail = λ p _. no_bits p }
+IsClean-nil = clean_if 0 [] (empty 0) (lit< tt) refl (length-empty 0) no_bits
 
 pub of-nil : of_words 0 [] ≡ empty 0
-of-nil = same_bits _ _ (length-of_words 0 [] ∙ sym (length-empty 0)) (λ p. contains-of_clean 0 [] IsClean-nil p ∙ no_bits p ∙ sym (contains-empty 0 p))
+of-nil = value_if 0 [] (empty 0) (length-empty 0) no_bits
 
 -- ---- one bit of words, of which x is the one that has it
 module _ (n : ℕ) (ws : List ℕ) (bit : ℕ) (clean : IsClean n ws) (inside : bit < n) where
@@ -113,7 +88,7 @@ module _ (n : ℕ) (ws : List ℕ) (bit : ℕ) (clean : IsClean n ws) (inside : 
   -- whether the word has the bit
   word_bit : (bit_at x (bit % 64) == 1) ≡ contains (of_words n ws) bit
   unfolding has_bit
-  word_bit = sym (contains-of_clean n ws clean bit)
+  word_bit = contains_word n ws bit clean
 
   pub toggle_of : of_words n (set ws (bit / 64) (bit_xor x (1 * 2 ^ (bit % 64) % 2 ^ 64))) ≡ toggle (of_words n ws) bit
   unfolding toggle

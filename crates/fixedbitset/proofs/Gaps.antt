@@ -1,191 +1,237 @@
--- The first gap, found by the next position that is clear and the next one that is set.
-use Rattle.std.proofs.Common.{◌≡◌, ℕ, ◌+◌, ◌-◌, ◌<◌, ◌≤◌, ◌⊎◌, inl, inr, Bool, true, false, not, Option, Some, None, unwrap_or, slice_get, refl, sym, ap, ◌∙◌, arith, ⊎_elim}
-use Rattle.std.proofs.lemmas.Bool.{cases_eq, cases_lt, cases_Bool, le-leb, leb-true, and_parts, and_from, true≢false, false_from_ne_true}
-use Rattle.bitwords.specs.AscendingFacts.{ascending-none, first-from}
-use Rattle.fixedbitset.specs.Bits.{Bits, contains}
-use Rattle.fixedbitset.specs.BitsFacts.{contains_below}
+-- The first gap, found by the next position that is clear and the next one that is set, and the steps that this takes.
+use Rattle.std.proofs.Common.{◌≡◌, ℕ, zero, suc, ◌+◌, ◌-◌, ◌*◌, ◌/◌, ◌<◌, ◌≤◌, ◌⊎◌, inl, inr, Bool, true, false, List, Option, Some, None, IfSome, unwrap_or, slice_get, length, sym, ap, ◌∙◌, arith}
+use Rattle.std.proofs.lemmas.Bool.{cases_eq, cases_Bool, true≢false, false_from_ne_true}
+use Rattle.std.proofs.lemmas.Bool.Decides.{nat_tests}
+use Rattle.std.proofs.lemmas.List.{length-map}
+use Rattle.bitlanes.specs.Words.{lane_steps}
+use Rattle.bitwords.specs.Ascending.{ascending}
+use Rattle.bitwords.specs.AscendingFacts.{ascending-none, first-from, length-count}
+use Rattle.bitwords.specs.CountFacts.{count-suc, count-mono}
+use Rattle.bitwords.specs.Rows.{count_below}
+use Rattle.bitwords.specs.Runs.{begins}
+use Rattle.fixedbitset.specs.Bits.{Bits, contains, complement, of_words, storage_words}
+use Rattle.fixedbitset.specs.BitsFacts.{contains_below, length-complement, contains-complement}
 use Rattle.fixedbitset.specs.NeighbourFacts.{next_one_least, next_one_none, next_zero_least, next_zero_none}
 use Rattle.fixedbitset.specs.Neighbours.{next_one, next_zero}
 use Rattle.fixedbitset.specs.RangesFacts.{contains_any-tells}
-use Rattle.fixedbitset.specs.Runs.{has_room, first_gap}
+use Rattle.fixedbitset.specs.Runs.{has_room, first_gap, runs, zero_runs}
+use Rattle.fixedbitset.specs.WordsFacts.{length-of_words}
+
+-- ---- whether a number has room
 
 module _ (v : Bits) (count : ℕ) where
   room_lacks : (p q : ℕ) → p ≤ q → q < p + count → contains v q ≡ true → has_room v count p ≡ false
   unfolding has_room
-  room_lacks p q from to one =
-      false_from_ne_true _ (λ room. true≢false (sym ((contains_any-tells v p (p + count)).1 (q, from, to, one)) ∙ is_false _ (and_parts _ _ room).1))
-    where
-      is_false : (b : Bool) → not b ≡ true → b ≡ false
-      is_false b e = grind arith
+  room_lacks p q from to one = let some = (contains_any-tells v p (p + count)).1 (q, from, to, one) in grind (arith, some)
 
   room_past : (p : ℕ) → v.length < p + count → has_room v count p ≡ false
   unfolding has_room
-  room_past p past = false_from_ne_true _ (λ room. let h : p + count ≤ v.length = leb-true (p + count) v.length (and_parts _ _ room).0 in omega (arith, h, past))
+  room_past p past = grind (arith, nat_tests)
 
   room_is : (p : ℕ) → p + count ≤ v.length → ((q : ℕ) → p ≤ q → q < p + count → contains v q ≡ false) → has_room v count p ≡ true
   unfolding has_room
   room_is p fits clear =
-      and_from _ _ (le-leb (p + count) v.length fits)
-      (ap not (false_from_ne_true _ (λ some. let one = (contains_any-tells v p (p + count)).0 some in true≢false (sym one.3 ∙ clear one.0 one.1 one.2))))
+      let any = contains_any-tells v p (p + count) in
+      let none = false_from_ne_true _ (λ some. let one = any.0 some in true≢false (sym one.3 ∙ clear one.0 one.1 one.2)) in
+      grind (arith, nat_tests, none)
 
-  module _ (from : ℕ) where
-    gap_found : (p : ℕ) → from ≤ p → p ≤ v.length → has_room v count p ≡ true → ((q : ℕ) → from ≤ q → q < p → has_room v count q ≡ false) → Some p ≡ first_gap v count from
-    unfolding first_gap
-    gap_found p after within room none = sym (first-from (has_room v count) from (v.length + 1 - from) p after (omega (arith, after, within)) room none)
+  gap_found : (from p : ℕ) → from ≤ p → p ≤ v.length → has_room v count p ≡ true → ((q : ℕ) → from ≤ q → q < p → has_room v count q ≡ false) → Some p ≡ first_gap v count from
+  unfolding first_gap
+  gap_found from p after within room none = sym (first-from (has_room v count) from (v.length + 1 - from) p after (omega (arith, after, within)) room none)
 
-    gap_none : ((q : ℕ) → from ≤ q → q ≤ v.length → has_room v count q ≡ false) → None ≡ first_gap v count from
-    unfolding first_gap
-    gap_none none = sym (ap (λ xs. slice_get xs 0) (ascending-none (has_room v count) from (v.length + 1 - from) (λ q above below. none q above (omega (arith, above, below)))))
+  gap_none : (from : ℕ) → ((q : ℕ) → from ≤ q → q ≤ v.length → has_room v count q ≡ false) → None ≡ first_gap v count from
+  unfolding first_gap
+  gap_none from none = sym (ap (λ xs. slice_get xs 0) (ascending-none (has_room v count) from (v.length + 1 - from) (λ q above below. none q above (omega (arith, above, below)))))
 
-    -- no number before `start`, which is clear, has room
-    pub record Searched (start : ℕ) : Type 0 where
-      pub after : from ≤ start
-      pub below : start < v.length
-      pub clear : contains v start ≡ false
-      pub none : (q : ℕ) → from ≤ q → q < start → has_room v count q ≡ false
+-- ---- the search
 
-    pub none_wanted : count ≡ 0 → from ≤ v.length → Some from ≡ first_gap v count from
-    none_wanted zero within = gap_found from (omega arith) within (room_is from (omega (arith, zero, within)) (λ q above below. absurd (omega (arith, zero, above, below)))) (λ q above below. absurd (omega (arith, above, below)))
+-- no number before `start`, which is clear, has room
+pub record Searched (n : ℕ) (ws : List ℕ) (count from start : ℕ) : Type 0 where
+  pub some : 0 < count
+  pub after : from ≤ start
+  pub below : start < n
+  pub clear : contains (of_words n ws) start ≡ false
+  pub none : (q : ℕ) → from ≤ q → q < start → has_room (of_words n ws) count q ≡ false
 
-    pub past_all : v.length < from → None ≡ first_gap v count from
-    past_all past = gap_none (λ q above below. absurd (omega (arith, past, above, below)))
+module _ (n : ℕ) (ws : List ℕ) (count from : ℕ) where
+  abbrev v : Bits
+  v = of_words n ws
 
-    module _ (some : 0 < count) where
-      -- behind a number, each position is set up to the next clear one
-      set_there : (q : ℕ) → contains v q ≡ true → has_room v count q ≡ false
-      set_there q one = room_lacks q q (omega arith) (omega (arith, some)) one
+  long : v.length ≡ n
+  long = length-of_words n ws
 
-      -- where no position is clear from `end` on
-      full_from : (end q : ℕ) → next_zero v end ≡ None → end ≤ q → q ≤ v.length → has_room v count q ≡ false
-      full_from end q none above below =
-          ⊎_elim
-          (λ (here : q < v.length). set_there q (next_zero_none v end none q above here))
-          (λ (last : v.length ≤ q). room_past q (omega (arith, some, last)))
-          (cases_lt q v.length)
+  pub none_wanted : count ≡ 0 → from ≤ n → Some from ≡ first_gap v count from
+  none_wanted nothing within = gap_found v count from from (omega arith) (omega (arith, long)) (room_is v count from (omega (arith, long)) (λ q above below. absurd (omega arith))) (λ q above below. absurd (omega arith))
 
-      pub all_set : next_zero v from ≡ None → None ≡ first_gap v count from
-      all_set none = gap_none (λ q above below. full_from from q none above below)
+  pub past_all : n < from → None ≡ first_gap v count from
+  past_all past = gap_none v count from (λ q above below. absurd (omega (arith, long)))
 
-      -- the numbers up to the next clear one
-      before_next : (end start q : ℕ) → next_zero v end ≡ Some start → end ≤ q → q < start → has_room v count q ≡ false
-      before_next end start q is above below =
-          let least = next_zero_least v end start is in
-          set_there q
-          (⊎_elim
-          (λ (one : contains v q ≡ true). one)
-          (λ (clear : contains v q ≡ false). absurd (let h : start ≤ q = least.3 q above (omega (arith, below, least.2)) clear in omega (arith, h, below)))
-          (cases_Bool (contains v q)))
+  module _ (some : 0 < count) where
+    -- where no position is clear from `end` on
+    full_from : (end q : ℕ) → next_zero v end ≡ None → end ≤ q → q ≤ n → has_room v count q ≡ false
+    full_from end q none above below = grind (arith, long, next_zero_none v end none q above, room_lacks v count q q, room_past v count q)
 
-      pub begun : (start : ℕ) → next_zero v from ≡ Some start → Searched start
-      begun start is =
-          let least = next_zero_least v from start is in
-          record { after = least.1; below = least.2; clear = least.0; none = λ q above below. before_next from start q is above below }
+    pub all_set : next_zero v from ≡ None → None ≡ first_gap v count from
+    all_set none = gap_none v count from (λ q above below. full_from from q none above (omega (arith, long)))
 
-      module _ (start : ℕ) (searched : Searched start) where
-        pub too_far : v.length - start < count → None ≡ first_gap v count from
-        too_far far =
-            gap_none (λ q above below.
-            ⊎_elim (λ (before : q < start). searched.none q above before) (λ (behind : start ≤ q). room_past q (omega (arith, far, behind, searched.below))) (cases_lt q start))
+    -- the numbers up to the next clear one
+    before_next : (end start q : ℕ) → next_zero v end ≡ Some start → end ≤ q → q < start → has_room v count q ≡ false
+    before_next end start q is above below =
+        let least = next_zero_least v end start is in
+        grind (arith, cases_Bool (contains v q), least.2, least.3 q above, room_lacks v count q q)
 
-        module _ (end : ℕ) (is_end : end ≡ unwrap_or (next_one v start) v.length) where
-          -- clear up to `end`, which is set or the length
-          record IsEnd : Type 0 where
-            order : start ≤ end
-            within : end ≤ v.length
-            clear : (q : ℕ) → start ≤ q → q < end → contains v q ≡ false
-            stop : (end ≡ v.length) ⊎ (contains v end ≡ true)
+    pub begun : (start : ℕ) → next_zero v from ≡ Some start → Searched n ws count from start
+    begun start is =
+        let least = next_zero_least v from start is in
+        record { some = some; after = least.1; below = omega (arith, long, least.2); clear = least.0; none = λ q above below. before_next from start q is above below }
 
-          ending : (o : Option ℕ) → next_one v start ≡ o → end ≡ unwrap_or o v.length → IsEnd
-          ending (Some p) is at_p =
-              let least = next_one_least v start p is in
-              record {
-                order = omega (arith, at_p, least.1);
-                within = omega (arith, at_p, contains_below v p least.0);
-                clear = λ q above below. false_from_ne_true _ (λ one. let h : p ≤ q = least.2 q above one in omega (arith, h, below, at_p));
-                stop = inr (ap (contains v) at_p ∙ least.0);
-              }
-          ending None is at_length =
-              record {
-                order = omega (arith, at_length, searched.below);
-                within = omega (arith, at_length);
-                clear = λ q above below. next_one_none v start is q above;
-                stop = inl at_length;
-              }
+-- clear from `start` up to `end`, which is set or the length
+pub record IsEnd (n : ℕ) (ws : List ℕ) (start end : ℕ) : Type 0 where
+  pub order : start ≤ end
+  pub within : end ≤ n
+  pub clear : (q : ℕ) → start ≤ q → q < end → contains (of_words n ws) q ≡ false
+  pub stop : (end ≡ n) ⊎ (contains (of_words n ws) end ≡ true)
 
-          is_ending : IsEnd
-          is_ending = ending (next_one v start) refl is_end
+module _ {n : ℕ} {ws : List ℕ} {count from start : ℕ} (searched : Searched n ws count from start) where
+  abbrev u : Bits
+  u = of_words n ws
 
-          pub end_order : start ≤ end
-          end_order = is_ending.order
+  long_u : u.length ≡ n
+  long_u = length-of_words n ws
 
-          -- where too few are clear and enough are left, it is set
-          pub end_below : end - start < count → count ≤ v.length - start → end < v.length
-          end_below less left = let e = is_ending in omega (arith, less, left, searched.below, e.order, e.within)
+  pub too_far : n - start < count → None ≡ first_gap u count from
+  too_far far = gap_none u count from (λ q above below. grind (arith, long_u, far, searched.none q above, room_past u count q, searched.below))
 
-          pub found : count ≤ end - start → Some start ≡ first_gap v count from
-          found long =
-              let e = is_ending in
-              gap_found start searched.after (omega (arith, searched.below))
-              (room_is start (omega (arith, long, e.order, e.within)) (λ q above below. e.clear q above (omega (arith, below, long, e.order))))
-              searched.none
+  pub ending : (found : Option ℕ) (end : ℕ) → found ≡ next_one u start → end ≡ unwrap_or found n → IsEnd n ws start end
+  ending (Some p) end next is =
+      let least = next_one_least u start p (sym next) in
+      record {
+        order = omega (arith, is, least.1);
+        within = omega (arith, is, long_u, contains_below u p least.0);
+        clear = λ q above below. false_from_ne_true _ (λ one. let h : p ≤ q = least.2 q above one in omega (arith, h, below, is));
+        stop = inr (ap (contains u) is ∙ least.0);
+      }
+  ending None end next is =
+      record { order = omega (arith, is, searched.below); within = omega (arith, is); clear = λ q above _. next_one_none u start (sym next) q above; stop = inl is }
 
-          -- up to `end` none has room
-          short : end - start < count → (q : ℕ) → from ≤ q → q ≤ end → has_room v count q ≡ false
-          short less q above upto =
-              let e = is_ending in
-              ⊎_elim
-              (λ (before : q < start). searched.none q above before)
-              (λ (behind : start ≤ q).
-              elim e.stop [
-                | inl last ↦ room_past q (omega (arith, less, behind, last))
-                | inr one ↦ room_lacks q end upto (omega (arith, less, behind)) one
-              ])
-              (cases_lt q start)
+  module _ {end : ℕ} (e : IsEnd n ws start end) where
+    pub found : count ≤ end - start → Some start ≡ first_gap u count from
+    found wide =
+        let order = e.order in
+        let within = e.within in
+        gap_found u count from start searched.after (omega (arith, long_u, searched.below)) (room_is u count start (omega (arith, long_u)) (λ q above below. e.clear q above (omega arith))) searched.none
 
-          pub none_left : end - start < count → next_zero v end ≡ None → None ≡ first_gap v count from
-          none_left less none =
-              gap_none (λ q above below.
-              ⊎_elim (λ (upto : q < end). short less q above (omega (arith, upto))) (λ (behind : end ≤ q). full_from end q none behind below) (cases_lt q end))
+    module _ (less : end - start < count) where
+      -- where too few are clear and enough are left, it is set
+      pub end_below : count ≤ n - start → end < n
+      end_below left = omega (arith, searched.below, e.order, e.within)
 
-          pub searched_on : end - start < count → (next : ℕ) → next_zero v end ≡ Some next → Searched next
-          searched_on less next is =
-              let least = next_zero_least v end next is in
-              record {
-                after = omega (arith, searched.after, end_order, least.1);
-                below = least.2;
-                clear = least.0;
-                none = λ q above below.
-                    ⊎_elim (λ (upto : q < end). short less q above (omega (arith, upto))) (λ (behind : end ≤ q). before_next end next q is behind below) (cases_lt q end);
-              }
+      -- up to `end` none has room
+      short : (q : ℕ) → from ≤ q → q ≤ end → has_room u count q ≡ false
+      short q above upto = grind (arith, less, long_u, searched.none q above, e.stop, room_past u count q, room_lacks u count q end upto)
 
-          pub goes_on : (next : ℕ) → next_zero v end ≡ Some next → start < next
-          goes_on next is =
-              let e = is_ending in
-              let least = next_zero_least v end next is in
-              elim (cases_eq start end) [
-                | inl here ↦
-                    elim e.stop [
-                      | inl last ↦ absurd (omega (arith, here, last, searched.below))
-                      | inr one ↦ absurd (true≢false (sym one ∙ ap (contains v) (sym here) ∙ searched.clear))
-                    ]
-                | inr other ↦ omega (arith, other, e.order, least.1)
-              ]
+      pub none_left : next_zero u end ≡ None → None ≡ first_gap u count from
+      none_left none = gap_none u count from (λ q above below. grind (arith, long_u, short q above, full_from n ws count from searched.some end q none))
 
-          -- and the position before the next clear one is set
-          pub set_before : end < v.length → (next : ℕ) → next_zero v end ≡ Some next → contains v (next - 1) ≡ true
-          set_before below next is =
-              let least = next_zero_least v end next is in
-              elim is_ending.stop [
-                | inl last ↦ absurd (omega (arith, last, below))
-                | inr one ↦
-                    ⊎_elim
-                    (λ (here : end ≡ next). absurd (true≢false (sym one ∙ ap (contains v) here ∙ least.0)))
-                    (λ other.
-                    ⊎_elim
-                    (λ (set_there : contains v (next - 1) ≡ true). set_there)
-                    (λ (clear : contains v (next - 1) ≡ false).
-                    let h : next ≤ next - 1 = least.3 (next - 1) (omega (arith, other, least.1)) (omega (arith, least.2)) clear in
-                    absurd (omega (arith, h, other, least.1)))
-                    (cases_Bool (contains v (next - 1))))
-                    (cases_eq end next)
-              ]
+      module _ (next : ℕ) (is : next_zero u end ≡ Some next) where
+        pub searched_on : Searched n ws count from next
+        searched_on =
+            let least = next_zero_least u end next is in
+            record {
+              some = searched.some;
+              after = omega (arith, searched.after, e.order, least.1);
+              below = omega (arith, long_u, least.2);
+              clear = least.0;
+              none = λ q above below. grind (arith, short q above, before_next n ws count from searched.some end next q is);
+            }
+
+        pub goes_on : start < next
+        goes_on = let least = next_zero_least u end next is in grind (arith, cases_eq start end, e.stop, e.order, least.1, searched.clear, searched.below)
+
+        -- and the position before the next clear one is set
+        pub set_before : end < n → contains u (next - 1) ≡ true
+        set_before below =
+            let least = next_zero_least u end next is in
+            grind (arith, long_u, cases_eq end next, cases_Bool (contains u (next - 1)), e.stop, least.0, least.1, least.2, least.3 (next - 1))
+
+-- ---- how many stretches begin below a number
+
+module _ (test : ℕ → Bool) where
+  -- where a number passes, a stretch begins there or before
+  some_begun : (p : ℕ) → test p ≡ true → 1 ≤ count_below (begins test) (suc p)
+  some_begun zero passes = grind (arith, nat_tests, passes, count-suc (begins test) zero)
+  some_begun (suc p) passes = grind (arith, nat_tests, passes, count-suc (begins test) (suc p), cases_Bool (test p), some_begun p)
+
+  -- where a number passes and the one before it does not, one stretch more begins than up to any number before
+  next_begun : (p q : ℕ) → p < q → test q ≡ true → test (q - 1) ≡ false → count_below (begins test) (suc p) + 1 ≤ count_below (begins test) (suc q)
+  next_begun p q order passes fails = grind (arith, nat_tests, passes, fails, count-mono (begins test) (suc p) q order, count-suc (begins test) q)
+
+-- the step of a search that found a position below n
+pub reached : (found : Option ℕ) (end n start steps after : ℕ) → end ≡ unwrap_or found n → end < n → IfSome found (λ p. after ≡ steps + 1 + lane_steps (p / 64 - start / 64)) → after ≡ steps + 1 + lane_steps (end / 64 - start / 64)
+reached (Some p) end n start steps after is below cost = rw is cost
+reached None end n start steps after is below cost = absurd (omega (arith, is, below))
+
+pub lanes_join : (low mid high : ℕ) → low ≤ mid → mid ≤ high → lane_steps (mid - low) + lane_steps (high - mid) ≤ lane_steps (high - low) + 1
+lanes_join low mid high above below = omega (arith, above, below)
+
+-- how many stretches of clear positions begin up to p
+abbrev begun_to : ℕ → List ℕ → ℕ → ℕ
+begun_to n ws p = count_below (begins (contains (complement (of_words n ws)))) (suc p)
+
+-- at a clear position: one step at first, four for each stretch before, and those for the lanes between
+pub record IsSpent (lanes : ℕ → ℕ) (n : ℕ) (ws : List ℕ) (from first steps start : ℕ) : Type 0 where
+  pub bound : steps + 3 ≤ first + 4 * begun_to n ws start + lanes (start / 64 - from / 64)
+
+module _ (n : ℕ) (ws : List ℕ) where
+  abbrev w : Bits
+  w = of_words n ws
+
+  clear_passes : (p : ℕ) → p < n → contains w p ≡ false → contains (complement w) p ≡ true
+  clear_passes p below clear = grind (arith, nat_tests, length-of_words n ws, contains-complement w p)
+
+  all_begun : (p : ℕ) → p < n → begun_to n ws p ≤ length (zero_runs w)
+  unfolding runs zero_runs
+  all_begun p below =
+      let test = contains (complement w) in
+      let all : length (zero_runs w) ≡ length (ascending (begins test) 0 ((complement w).length - 0)) = length-map (ascending (begins test) 0 ((complement w).length - 0)) _ in
+      let end : (complement w).length - 0 ≡ n = omega (arith, length-complement w, length-of_words n ws) in
+      omega (arith, all ∙ ap (λ k. length (ascending (begins test) 0 k)) end ∙ length-count (begins test) n, count-mono (begins test) (suc p) n (omega arith))
+
+  words_before : (p : ℕ) → p < n → p / 64 ≤ storage_words n - 1
+  words_before p below = omega (arith, below)
+
+-- the lanes of two steps are at most one more than those of one; the steps at the first clear position
+module _ (lanes : ℕ → ℕ) (join : (low mid high : ℕ) → low ≤ mid → mid ≤ high → lanes (mid - low) + lanes (high - mid) ≤ lanes (high - low) + 1) {n : ℕ} {ws : List ℕ} {count from start : ℕ} (searched : Searched n ws count from start) where
+  pub spent_first : (first steps : ℕ) → steps ≡ first + 1 + lanes (start / 64 - from / 64) → IsSpent lanes n ws from first steps start
+  spent_first first steps cost =
+      record { bound = omega (arith, cost, some_begun (contains (complement (of_words n ws))) start (clear_passes n ws start searched.below searched.clear)) }
+
+  module _ {first steps : ℕ} (spent : IsSpent lanes n ws from first steps start) where
+    pub spent_found : (after : ℕ) → after ≤ steps + 1 + lanes (storage_words n - 1 - start / 64) → after ≤ first + 1 + 4 * length (zero_runs (of_words n ws)) + lanes (storage_words n - 1 - from / 64)
+    spent_found after whole =
+        omega (arith, spent.bound, all_begun n ws start searched.below, whole, join (from / 64) (start / 64) (storage_words n - 1) (omega (arith, searched.after)) (words_before n ws start searched.below))
+
+    module _ {end : ℕ} (e : IsEnd n ws start end) (end_in : end < n) (mid : ℕ) (search : mid ≡ steps + 1 + lanes (end / 64 - start / 64)) where
+      lanes_to_end : lanes (start / 64 - from / 64) + lanes (end / 64 - start / 64) ≤ lanes (end / 64 - from / 64) + 1
+      lanes_to_end = join (from / 64) (start / 64) (end / 64) (omega (arith, searched.after)) (omega (arith, e.order))
+
+      pub spent_none : (after : ℕ) → after ≤ mid + 1 + lanes (storage_words n - 1 - end / 64) → after ≤ first + 1 + 4 * length (zero_runs (of_words n ws)) + lanes (storage_words n - 1 - from / 64)
+      spent_none after whole =
+          omega (
+            arith,
+            spent.bound,
+            all_begun n ws start searched.below,
+            search,
+            whole,
+            lanes_to_end,
+            join (from / 64) (end / 64) (storage_words n - 1) (omega (arith, searched.after, e.order)) (words_before n ws end end_in),
+          )
+
+      pub spent_on : (less : end - start < count) (next after : ℕ) → next_zero (of_words n ws) end ≡ Some next → after ≡ mid + 1 + lanes (next / 64 - end / 64) → IsSpent lanes n ws from first after next
+      spent_on less next after is cost =
+          let test = contains (complement (of_words n ws)) in
+          let on = searched_on searched e less next is in
+          let fails : test (next - 1) ≡ false = grind (arith, contains-complement (of_words n ws) (next - 1), set_before searched e less next is end_in) in
+          let more = next_begun test start next (goes_on searched e less next is) (clear_passes n ws next on.below on.clear) fails in
+          let least = next_zero_least (of_words n ws) end next is in
+          record { bound = omega (arith, spent.bound, more, search, cost, lanes_to_end, join (from / 64) (end / 64) (next / 64) (omega (arith, searched.after, e.order)) (omega (arith, least.1))) }

@@ -1,102 +1,83 @@
 -- The counts of two sets and of ranges, and the questions that a count of 0 answers.
-use Rattle.std.proofs.Common.{◌≡◌, ℕ, ◌+◌, ◌*◌, ◌<◌, ◌≤◌, max, Bool, true, false, not, ◌&&◌, ◌||◌, ◌==◌, List, length, refl, sym, ap, ◌∙◌, arith, ⊎_elim}
+use Rattle.std.proofs.Common.{◌≡◌, ◌≢◌, ℕ, ◌+◌, ◌*◌, ◌^◌, ◌<◌, ◌≤◌, max, Bool, true, false, not, ◌&&◌, ◌||◌, ◌==◌, List, length, refl, sym, ap, ◌∙◌, arith}
 use Rattle.std.specs.Ordering.{nat_cmp}
 use Rattle.std.specs.Cmp.{nat_cmp_total}
 use Rattle.std.specs.FinSet as set
 use Rattle.std.specs.FinSet.{FinSet}
-use Rattle.std.proofs.lemmas.Bool.{or_cases, and_parts}
+use Rattle.std.proofs.lemmas.Bool.{false_from_ne_true}
 use Rattle.std.proofs.lemmas.Bool.Decides.{nat_tests}
 use Rattle.bitlanes.specs.Bits.{either}
 use Rattle.bitlanes.specs.Ops.{IsWordOp}
 use Rattle.bitwords.specs.Rows.{has_bit, in_range, count_below, bit_test, bits_test}
 use Rattle.bitwords.specs.CountFacts.{count-same, count-shorter, count-in_range, count-le}
-use Rattle.bitwords.specs.RowFacts.{past_range}
-use Rattle.fixedbitset.specs.Numbers.{numbers_between}
+use Rattle.fixedbitset.specs.Numbers.{numbers_between, symmetric_difference}
 use Rattle.fixedbitset.specs.NumbersFacts as numbers
 use Rattle.fixedbitset.specs.NumbersFacts.{same_set, contains-kept, len-below, none_len, same_truth}
-use Rattle.fixedbitset.specs.Bits.{Bits, contains}
-use Rattle.fixedbitset.specs.BitsFacts.{contains_below}
-use Rattle.fixedbitset.specs.Ranges.{count_ones, count_zeroes, contains_all, contains_any}
-use Rattle.fixedbitset.specs.Stored.{count_joined, range_set}
+use Rattle.fixedbitset.specs.Bits.{Bits, contains, of_words}
+use Rattle.fixedbitset.specs.BitsFacts.{same_bits, contains-past}
+use Rattle.fixedbitset.specs.Order.{equal}
+use Rattle.fixedbitset.specs.OrderFacts.{equal_if_same, same_if_equal}
+use Rattle.fixedbitset.specs.Ranges.{count_ones, count_zeroes, contains_all, contains_any, is_valid}
+use Rattle.fixedbitset.specs.Stored.{IsClean, count_joined, range_set}
 use Rattle.fixedbitset.specs.TwoSets.{union_count, intersection_count, difference_count, symmetric_difference_count, is_disjoint, is_subset}
-use Rattle.fixedbitset.proofs.JoinedValues.{same_range}
-use Rattle.fixedbitset.proofs.Values.{contains-range_set, length-range_set}
+use Rattle.fixedbitset.specs.WordsFacts.{length-of_words}
+use Rattle.fixedbitset.proofs.Words.{contains-range_set, length-range_set, contains_word, valid_range, holds_all}
 
 -- ---- a count of what two values share, by positions
 
-of_either : (t : Bool → Bool → Bool) (a b : Bool) → t false false ≡ false → ((a || b) && t a b) ≡ t a b
-of_either t true b none = refl
-of_either t false true none = refl
-of_either t false false none = sym none
-
 module _ (t : Bool → Bool → Bool) (neither : t false false ≡ false) (v w : Bits) where
-  passes : ℕ → Bool
-  passes p = t (contains v p) (contains w p)
-
-  kept : FinSet nat_cmp
-  kept = set.retain (set.union v.positions w.positions) passes
+  abbrev kept : FinSet nat_cmp
+  kept = set.retain (set.union v.positions w.positions) (λ p. t (contains v p) (contains w p))
 
   contains-passing : (p : ℕ) → set.contains kept p ≡ t (contains v p) (contains w p)
-  unfolding contains kept passes
+  unfolding contains
   contains-passing p =
-      contains-kept _ passes p
-      ∙ ap (λ b. b && t (contains v p) (contains w p)) (set.contains-union nat_cmp_total v.positions w.positions p)
-      ∙ of_either t (contains v p) (contains w p) neither
+      grind (arith, neither, contains-kept (set.union v.positions w.positions) (λ q. t (contains v q) (contains w q)) p, set.contains-union nat_cmp_total v.positions w.positions p)
 
   passing_below : (n : ℕ) → v.length ≤ n → w.length ≤ n → (p : ℕ) → set.contains kept p ≡ true → p < n
-  unfolding contains kept passes
-  passing_below n first second p one =
-      let either_has = (and_parts _ _ (sym (contains-kept (set.union v.positions w.positions) passes p) ∙ one)).0 in
-      ⊎_elim
-      (λ a. let l : p < v.length = contains_below v p a in omega arith)
-      (λ a. let l : p < w.length = contains_below w p a in omega arith)
-      (or_cases _ _ (sym (set.contains-union nat_cmp_total v.positions w.positions p) ∙ either_has))
+  passing_below n first second p one = grind (arith, neither, contains-passing p, contains-past v p, contains-past w p)
 
   -- as many numbers below a bound of both lengths pass
   pub count_joined-below : (n : ℕ) (c : ℕ → Bool) → v.length ≤ n → w.length ≤ n → ((p : ℕ) → c p ≡ t (contains v p) (contains w p)) → count_joined t v w ≡ count_below c n
-  unfolding count_joined kept passes
+  unfolding count_joined
   count_joined-below n c first second is = len-below n kept (passing_below n first second) ∙ count-same _ _ n (λ p _. contains-passing p ∙ sym (is p))
 
   -- the size of the set of exactly these positions
   pub count_joined-size : (s : FinSet nat_cmp) → ((p : ℕ) → set.contains s p ≡ t (contains v p) (contains w p)) → count_joined t v w ≡ set.len s
-  unfolding count_joined kept passes
+  unfolding count_joined
   count_joined-size s same = ap set.len (same_set kept s (λ p. contains-passing p ∙ sym (same p)))
 
 -- ---- of two rows of words
 
-pub count_rows : (t : Bool → Bool → Bool) → t false false ≡ false → (v w : Bits) (xs ys : List ℕ) → v.length ≤ 64 * length xs → w.length ≤ 64 * length ys → ((p : ℕ) → has_bit xs p ≡ contains v p) → ((p : ℕ) → has_bit ys p ≡ contains w p) → count_joined t v w ≡ count_below (bits_test t xs ys) (64 * max (length xs) (length ys))
-unfolding bits_test
-count_rows t neither v w xs ys first second same_xs same_ys =
-    count_joined-below t neither v w (64 * max (length xs) (length ys)) (bits_test t xs ys) (omega arith) (omega arith) (λ p. let a = same_xs p in let b = same_ys p in λ i. t (a i) (b i))
+module _ (t : Bool → Bool → Bool) (neither : t false false ≡ false) (n : ℕ) (xs : List ℕ) (m : ℕ) (ys : List ℕ) (clean : IsClean n xs) (clean_ys : IsClean m ys) where
+  pub count_rows : count_joined t (of_words n xs) (of_words m ys) ≡ count_below (bits_test t xs ys) (64 * max (length xs) (length ys))
+  unfolding bits_test
+  count_rows =
+      let room = holds_all n xs _ refl clean in
+      let room_ys = holds_all m ys _ refl clean_ys in
+      count_joined-below t neither _ _ (64 * max (length xs) (length ys)) (bits_test t xs ys) (omega arith) (omega arith) (λ p. cc (contains_word n xs p clean, contains_word m ys p clean_ys))
 
-pub count_rows-le : (t : Bool → Bool → Bool) → t false false ≡ false → (v w : Bits) → count_joined t v w ≤ max v.length w.length
-count_rows-le t neither v w =
-    let c : ℕ → Bool = λ p. t (contains v p) (contains w p) in
-    let n : ℕ = max v.length w.length in
-    omega (arith, count_joined-below t neither v w n c (omega arith) (omega arith) (λ p. refl), count-le c n)
+  pub count_rows-fits : count_below (bits_test t xs ys) (64 * max (length xs) (length ys)) < 2 ^ 64
+  count_rows-fits =
+      let c : ℕ → Bool = λ p. t (contains (of_words n xs) p) (contains (of_words m ys) p) in
+      let below = count_joined-below t neither (of_words n xs) (of_words m ys) (max n m) c (omega (arith, length-of_words n xs)) (omega (arith, length-of_words m ys)) (λ p. refl) in
+      omega (arith, count_rows, below, count-le c (max n m), clean.fits, clean_ys.fits)
 
 -- ---- of a range and a row of words
 
-module _ {f : ℕ → ℕ → ℕ} {t : Bool → Bool → Bool} {keep take : Bool} (law : IsWordOp f t keep take) (drops : take ≡ false) (v : Bits) (ws : List ℕ) (start end : ℕ) (same : (p : ℕ) → has_bit ws p ≡ contains v p) (order : start ≤ end) (within : end ≤ v.length) where
-  in_both : (r y : Bool) → t r y ≡ (r && t true y)
-  in_both true y = refl
-  in_both false y = law.of_second y ∙ ap (λ b. b && y) drops
-
-  pub count_range-is : count_joined t (range_set start end) v + count_below (bit_test (t true) ws) start ≡ count_below (bit_test (t true) ws) end
+module _ {f : ℕ → ℕ → ℕ} {t : Bool → Bool → Bool} {keep take : Bool} (law : IsWordOp f t keep take) (drops : take ≡ false) (n : ℕ) (ws : List ℕ) (clean : IsClean n ws) (start end : ℕ) (valid : is_valid (of_words n ws) start end ≡ true) where
+  pub count_range-is : count_joined t (range_set start end) (of_words n ws) + count_below (bit_test (t true) ws) start ≡ count_below (bit_test (t true) ws) end
   unfolding bit_test
   count_range-is =
-      let c : ℕ → Bool = bit_test (t true) ws in
-      let d : ℕ → Bool = λ p. in_range start end p && c p in
-      let is : (p : ℕ) → d p ≡ t (contains (range_set start end) p) (contains v p) = λ p.
-      (let a : c p ≡ t true (contains v p) = ap (t true) (same p) in ap (λ b. in_range start end p && b) a)
-      ∙ sym (in_both (in_range start end p) (contains v p))
-      ∙ ap (λ b. t b (contains v p)) (sym (contains-range_set start end p)) in
-      let past : (p : ℕ) → end ≤ p → p < v.length → d p ≡ false = λ p h _. ap (λ b. b && c p) (past_range start end p h) in
+      let v : Bits = of_words n ws in
+      let ends = valid_range v start end valid in
+      let d : ℕ → Bool = λ p. in_range start end p && t true (has_bit ws p) in
       omega (
         arith,
-        count_joined-below t law.of_neither (range_set start end) v v.length d (omega (arith, length-range_set start end)) (omega arith) is,
-        count-shorter d end v.length within past,
-        count-in_range c start end order,
+        count_joined-below t law.of_neither (range_set start end) v v.length d (omega (arith, length-range_set start end, ends)) (omega arith)
+            (λ p. grind (arith, drops, contains_word n ws p clean, contains-range_set start end p, law.of_second (contains v p))),
+        count-shorter d end v.length ends.1 (λ p past _. grind (arith, nat_tests)),
+        count-in_range (λ p. t true (has_bit ws p)) start end ends.0,
       )
 
 -- a count stays over a range exactly if its part of the range is 0
@@ -121,29 +102,9 @@ pub symmetric_difference_count_of : (v w : Bits) → count_joined either v w ≡
 unfolding symmetric_difference_count contains
 symmetric_difference_count_of v w = count_joined-size either refl v w _ (numbers.contains-symmetric_difference v.positions w.positions)
 
-pub count_ones_of : (v : Bits) (start end : ℕ) → count_joined (λ x y. x && y) (range_set start end) v ≡ count_ones v start end
-unfolding count_ones contains
-count_ones_of v start end = count_joined-size (λ x y. x && y) refl (range_set start end) v _ (λ p.
-    set.contains-intersection nat_cmp_total (numbers_between start end) v.positions p ∙ ap (λ b. b && contains v p) (same_range start end p))
-
-pub count_zeroes_of : (v : Bits) (start end : ℕ) → count_joined (λ x y. x && not y) (range_set start end) v ≡ count_zeroes v start end
-unfolding count_zeroes contains
-count_zeroes_of v start end = count_joined-size (λ x y. x && not y) refl (range_set start end) v _ (λ p.
-    set.contains-difference nat_cmp_total (numbers_between start end) v.positions p ∙ ap (λ b. b && not (contains v p)) (same_range start end p))
-
 pub disjoint_of : (v w : Bits) → (count_joined (λ x y. x && y) v w == 0) ≡ is_disjoint v w
 unfolding is_disjoint
 disjoint_of v w = ap (λ n. n == 0) (intersection_count_of v w)
-
-pub contains_any_of : (v : Bits) (start end : ℕ) → not (count_joined (λ x y. x && y) (range_set start end) v == 0) ≡ contains_any v start end
-unfolding contains_any
-contains_any_of v start end = ap (λ n. not (n == 0)) (count_ones_of v start end)
-
-held_too : (a b : Bool) → (a && not b) ≡ false → a ≡ true → b ≡ true
-held_too a b f g = grind arith
-
-no_other : (a b : Bool) → (a ≡ true → b ≡ true) → (a && not b) ≡ false
-no_other a b f = grind arith
 
 -- nothing is left of a set without another one exactly if it is a subset of that
 pub none_left : (s t : FinSet nat_cmp) → (set.len (set.difference s t) == 0) ≡ set.is_subset s t
@@ -151,13 +112,46 @@ none_left s t =
     let member = set.contains-difference nat_cmp_total s t in
     let none = none_len (set.difference s t) in
     same_truth _ _
-    (λ zero. set.contains-is_subset nat_cmp_total s t (λ p one. held_too _ _ (sym (member p) ∙ none.0 zero p) one))
-    (λ all. none.1 (λ p. member p ∙ no_other _ _ (set.is_subset-contains nat_cmp_total s t all p)))
+    (λ zero. set.contains-is_subset nat_cmp_total s t (λ p one. grind (arith, member p, none.0 zero p)))
+    (λ all. none.1 (λ p. grind (arith, member p, set.is_subset-contains nat_cmp_total s t all p)))
 
 pub subset_of : (v w : Bits) → (count_joined (λ x y. x && not y) v w == 0) ≡ is_subset v w
 unfolding is_subset difference_count
 subset_of v w = ap (λ n. n == 0) (difference_count_of v w) ∙ none_left v.positions w.positions
 
-pub contains_all_of : (v : Bits) (start end : ℕ) → (count_joined (λ x y. x && not y) (range_set start end) v == 0) ≡ contains_all v start end
-unfolding contains_all count_zeroes
-contains_all_of v start end = ap (λ n. n == 0) (count_zeroes_of v start end) ∙ none_left (numbers_between start end) v.positions
+-- ---- the same of a range
+
+module _ (v : Bits) (start end : ℕ) where
+  same_range : (p : ℕ) → set.contains (numbers_between start end) p ≡ contains (range_set start end) p
+  same_range p = numbers.contains-numbers_between start end p ∙ sym (contains-range_set start end p)
+
+  pub count_ones_of : count_joined (λ x y. x && y) (range_set start end) v ≡ count_ones v start end
+  unfolding count_ones contains
+  count_ones_of = count_joined-size (λ x y. x && y) refl (range_set start end) v _ (λ p. set.contains-intersection nat_cmp_total (numbers_between start end) v.positions p ∙ ap (λ b. b && contains v p) (same_range p))
+
+  pub count_zeroes_of : count_joined (λ x y. x && not y) (range_set start end) v ≡ count_zeroes v start end
+  unfolding count_zeroes contains
+  count_zeroes_of = count_joined-size (λ x y. x && not y) refl (range_set start end) v _ (λ p. set.contains-difference nat_cmp_total (numbers_between start end) v.positions p ∙ ap (λ b. b && not (contains v p)) (same_range p))
+
+  pub contains_any_of : not (count_joined (λ x y. x && y) (range_set start end) v == 0) ≡ contains_any v start end
+  unfolding contains_any
+  contains_any_of = ap (λ n. not (n == 0)) count_ones_of
+
+  pub contains_all_of : (count_joined (λ x y. x && not y) (range_set start end) v == 0) ≡ contains_all v start end
+  unfolding contains_all count_zeroes
+  contains_all_of = ap (λ n. n == 0) count_zeroes_of ∙ none_left (numbers_between start end) v.positions
+
+-- ---- two values of one length are equal exactly if no position is in one of them alone
+
+pub equal_of : (v w : Bits) → v.length ≡ w.length → (count_joined either v w == 0) ≡ equal v w
+unfolding symmetric_difference_count contains
+equal_of v w long =
+    let none = none_len (symmetric_difference v.positions w.positions) in
+    let tells = numbers.contains-symmetric_difference v.positions w.positions in
+    ap (λ n. n == 0) (symmetric_difference_count_of v w)
+    ∙ same_truth _ _
+    (λ h. equal_if_same v w (same_bits v w long (λ p. grind (arith, tells p, none.0 h p))))
+    (λ h. let e = same_if_equal v w h in none.1 (λ p. grind (arith, tells p, ap (λ x. contains x p) e)))
+
+pub other_length : (v w : Bits) → v.length ≢ w.length → equal v w ≡ false
+other_length v w other = false_from_ne_true _ (λ h. other (ap (λ x. x.length) (same_if_equal v w h)))

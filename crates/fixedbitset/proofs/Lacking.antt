@@ -1,18 +1,16 @@
 -- What one set has and another one lacks, of the words in which they are kept.
 use Rattle.std.specs.Prelude.{slice_get}
-use Rattle.std.proofs.Common.{◌≡◌, ℕ, Bool, ◌-◌, ◌+◌, ◌*◌, ◌≤◌, not, ◌&&◌, ◌||◌, List, length, refl, sym, ap, ◌∙◌, arith}
+use Rattle.std.proofs.Common.{◌≡◌, ℕ, Bool, ◌*◌, ◌≤◌, not, ◌&&◌, ◌||◌, List, length, refl, ap, arith}
 use Rattle.bitlanes.specs.Changes.{changes}
 use Rattle.bitwords.specs.Ascending.{ascending}
-use Rattle.bitwords.specs.AscendingFacts.{ascending-cut}
 use Rattle.bitwords.specs.Rows.{has_bit, count_below, bits_test}
-use Rattle.fixedbitset.specs.Bits.{Bits, contains, asc, minimum, of_words}
-use Rattle.fixedbitset.specs.BitsFacts.{contains-past}
+use Rattle.fixedbitset.specs.Bits.{Bits, contains, minimum, of_words}
 use Rattle.fixedbitset.specs.Stored.{IsClean, count_joined}
 use Rattle.fixedbitset.specs.TwoSets.{difference}
 use Rattle.fixedbitset.specs.TwoSetsFacts.{contains-difference, length-difference}
 use Rattle.fixedbitset.proofs.JoinedCounts.{count_joined-below}
-use Rattle.fixedbitset.proofs.JoinedWords.{has_bit-of, holds_all}
-use Rattle.fixedbitset.proofs.Words.{contains_word}
+use Rattle.fixedbitset.proofs.Positions.{row-asc}
+use Rattle.fixedbitset.proofs.Words.{contains_word, holds_all}
 
 module _ (n : ℕ) (xs : List ℕ) (m : ℕ) (ys : List ℕ) (clean : IsClean n xs) (clean_ys : IsClean m ys) where
   abbrev left : Bits
@@ -24,21 +22,15 @@ module _ (n : ℕ) (xs : List ℕ) (m : ℕ) (ys : List ℕ) (clean : IsClean n 
   -- the positions that are left
   pub passes_left : (p : ℕ) → passes p ≡ contains left p
   unfolding bits_test
-  passes_left p =
-      (let a = contains_word n xs p clean in let b = contains_word m ys p clean_ys in λ i. a i && not (b i))
-      ∙ sym (contains-difference (of_words n xs) (of_words m ys) p)
+  passes_left p = grind (arith, contains_word n xs p clean, contains_word m ys p clean_ys, contains-difference (of_words n xs) (of_words m ys) p)
 
   room : left.length ≤ 64 * length xs
   room = omega (arith, length-difference (of_words n xs) (of_words m ys), holds_all n xs (of_words n xs) refl clean)
 
   -- the first of them
   pub first_left : slice_get (ascending passes 0 (64 * length xs)) 0 ≡ minimum left
-  unfolding minimum asc
-  first_left =
-      let whole : 64 * length xs ≡ left.length + (64 * length xs - left.length) = (let r = room in omega arith) in
-      ap (λ ps. slice_get ps 0) (
-      ap (ascending passes 0) whole
-      ∙ ascending-cut passes (contains left) 0 left.length (64 * length xs - left.length) (λ i _ _. passes_left i) (λ i above _. passes_left i ∙ contains-past left i (omega (arith, above))))
+  unfolding minimum
+  first_left = ap (λ ps. slice_get ps 0) (row-asc left passes (64 * length xs) room passes_left)
 
   -- how many of them a third set gains
   pub gained_left : (k : ℕ) (ws : List ℕ) → IsClean k ws → n ≤ k
@@ -47,4 +39,4 @@ module _ (n : ℕ) (xs : List ℕ) (m : ℕ) (ys : List ℕ) (clean : IsClean n 
       count_joined-below (changes (λ x y. x || y)) refl (of_words k ws) left (64 * length ws) _
       (holds_all k ws (of_words k ws) refl clean_ws)
       (let r = room in omega (arith, clean.count, clean_ws.count))
-      (λ p. let a = has_bit-of k ws (of_words k ws) refl clean_ws p in let b = passes_left p in λ i. changes (λ x y. x || y) (a i) (b i))
+      (λ p. let a = contains_word k ws p clean_ws in let b = passes_left p in λ i. changes (λ x y. x || y) (a i) (b i))

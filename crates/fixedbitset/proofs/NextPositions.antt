@@ -1,81 +1,49 @@
 -- The position next to a given one, found in the words that a set keeps.
 use Rattle.std.specs.Prelude.{slice_get}
 use Rattle.std.specs.List.{last_or}
-use Rattle.std.proofs.Common.{◌≡◌, ℕ, ◌<◌, ◌≤◌, Bool, true, false, not, ◌&&◌, nat_lt, nat_le, min, filter, List, Option, Some, None, IfSome, IfNone, refl, sym, ap, ◌∙◌, arith, ⊎_elim}
-use Rattle.std.proofs.lemmas.Bool.{cases_lt, lt-ltb, le-ltb, le-leb, and_from, and_left}
+use Rattle.std.proofs.Common.{◌≡◌, ℕ, Bool, true, not, ◌&&◌, nat_lt, nat_le, min, filter, List, Option, Some, None, IfSome, IfNone, sym, ap, ◌∙◌, arith}
 use Rattle.std.proofs.lemmas.Bool.Decides.{nat_tests}
 use Rattle.bitwords.specs.Ascending.{ascending}
-use Rattle.bitwords.specs.AscendingFacts.{ascending-none, ascending-same, filter-ascending, first-ascending, last-ascending}
+use Rattle.bitwords.specs.AscendingFacts.{ascending-none, filter-ascending, first-ascending, last-ascending}
 use Rattle.bitwords.specs.Neighbours.{IsNext, IsPrevious, NonePasses}
 use Rattle.bitwords.specs.Rows.{bit_test}
-use Rattle.fixedbitset.specs.Bits.{contains, asc, complement, of_words}
+use Rattle.fixedbitset.specs.Bits.{asc, complement, of_words}
 use Rattle.fixedbitset.specs.BitsFacts.{length-complement, contains-complement}
 use Rattle.fixedbitset.specs.Neighbours.{next_one, next_zero, previous_one, previous_zero}
 use Rattle.fixedbitset.specs.Stored.{IsClean}
 use Rattle.fixedbitset.specs.WordsFacts.{length-of_words}
+use Rattle.fixedbitset.proofs.Positions.{below-asc}
 use Rattle.fixedbitset.proofs.Words.{contains_word}
 
 -- ---- among the numbers below n that pass
-
-no_right : (b c : Bool) → c ≡ false → (b && c) ≡ false
-no_right true c e = e
-no_right false c e = refl
-
-no_left : (b c : Bool) → b ≡ false → (b && c) ≡ false
-no_left b c e = and_left b c e
 
 module _ (test : ℕ → Bool) (n : ℕ) where
   next : (from : ℕ) (found : Option ℕ) → IfSome found (IsNext test from n) → IfNone found (NonePasses test from n) → found ≡ slice_get (filter (nat_le from) (ascending test 0 n)) 0
   next from (Some x) is none =
       sym (ap (λ xs. slice_get xs 0) (filter-ascending test (nat_le from) 0 n)
-      ∙ first-ascending (λ i. test i && nat_le from i) n x is.below (and_from _ _ is.passes (le-leb from x is.after))
-      (λ i before. ⊎_elim
-      (λ (early : i < from). no_right (test i) (nat_le from i) (grind (arith, nat_tests)))
-      (λ (late : from ≤ i). no_left (test i) (nat_le from i) (is.none i late before))
-      (cases_lt i from)))
+      ∙ first-ascending (λ i. test i && nat_le from i) n x is.below (grind (arith, nat_tests, is.passes, is.after)) (λ i before. grind (arith, nat_tests, is.none i)))
   next from None is none =
-      sym (ap (λ xs. slice_get xs 0) (filter-ascending test (nat_le from) 0 n
-      ∙ ascending-none (λ i. test i && nat_le from i) 0 n
-      (λ i above below. ⊎_elim
-      (λ (early : i < from). no_right (test i) (nat_le from i) (grind (arith, nat_tests)))
-      (λ (late : from ≤ i). no_left (test i) (nat_le from i) (none i late (omega (arith, below))))
-      (cases_lt i from))))
+      sym (ap (λ xs. slice_get xs 0) (filter-ascending test (nat_le from) 0 n ∙ ascending-none (λ i. test i && nat_le from i) 0 n (λ i above below. grind (arith, nat_tests, none i))))
 
   previous : (below : ℕ) (found : Option ℕ) → IfSome found (IsPrevious test (min below n)) → IfNone found (NonePasses test 0 (min below n)) → found ≡ last_or None (filter (λ p. nat_lt p below) (ascending test 0 n))
   previous below (Some x) is none =
       sym (ap (last_or None) (filter-ascending test (λ p. nat_lt p below) 0 n)
-      ∙ last-ascending (λ i. test i && nat_lt i below) n x (omega (arith, is.below)) (and_from _ _ is.passes (lt-ltb x below (omega (arith, is.below))))
-      (λ i above within. ⊎_elim
-      (λ (early : i < below). no_left (test i) (nat_lt i below) (is.none i above (omega arith)))
-      (λ (late : below ≤ i). no_right (test i) (nat_lt i below) (le-ltb i below late))
-      (cases_lt i below)))
+      ∙ last-ascending (λ i. test i && nat_lt i below) n x (omega (arith, is.below)) (grind (arith, nat_tests, is.passes, is.below)) (λ i above within. grind (arith, nat_tests, is.none i above)))
   previous below None is none =
-      sym (ap (last_or None) (filter-ascending test (λ p. nat_lt p below) 0 n
-      ∙ ascending-none (λ i. test i && nat_lt i below) 0 n
-      (λ i above within. ⊎_elim
-      (λ (early : i < below). no_left (test i) (nat_lt i below) (none i (omega arith) (omega (arith, within))))
-      (λ (late : below ≤ i). no_right (test i) (nat_lt i below) (le-ltb i below late))
-      (cases_lt i below))))
+      sym (ap (last_or None) (filter-ascending test (λ p. nat_lt p below) 0 n ∙ ascending-none (λ i. test i && nat_lt i below) 0 n (λ i above within. grind (arith, nat_tests, none i (omega arith)))))
 
 -- ---- in the words of a value
 
 module _ (n : ℕ) (ws : List ℕ) (clean : IsClean n ws) where
   ones : ascending (bit_test (λ y. true && y) ws) 0 n ≡ asc (of_words n ws)
-  unfolding asc bit_test
-  ones =
-      ap (ascending (bit_test (λ y. true && y) ws) 0) (sym (length-of_words n ws))
-      ∙ ascending-same _ (contains (of_words n ws)) 0 (of_words n ws).length (λ i above below. contains_word n ws i clean)
+  unfolding bit_test
+  ones = below-asc (of_words n ws) _ n (sym (length-of_words n ws)) (λ p _. contains_word n ws p clean)
 
   zeroes : ascending (bit_test (λ y. true && not y) ws) 0 n ≡ asc (complement (of_words n ws))
-  unfolding asc bit_test
+  unfolding bit_test
   zeroes =
       let v = of_words n ws in
-      ap (ascending (bit_test (λ y. true && not y) ws) 0) (sym (length-complement v ∙ length-of_words n ws))
-      ∙ ascending-same _ (contains (complement v)) 0 (complement v).length
-      (λ i above below.
-      let low : i < v.length = omega (arith, below, length-complement v) in
-      ap not (contains_word n ws i clean)
-      ∙ sym (contains-complement v i ∙ ap (λ b. b && not (contains v i)) (lt-ltb i v.length low)))
+      below-asc (complement v) _ n (sym (length-complement v ∙ length-of_words n ws)) (λ p below. grind (arith, nat_tests, contains_word n ws p clean, contains-complement v p, length-of_words n ws))
 
   pub next_one_of : (from : ℕ) (found : Option ℕ) → IfSome found (IsNext (bit_test (λ y. true && y) ws) from n) → IfNone found (NonePasses (bit_test (λ y. true && y) ws) from n) → found ≡ next_one (of_words n ws) from
   unfolding next_one

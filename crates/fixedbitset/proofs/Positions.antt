@@ -1,60 +1,55 @@
--- The positions of a value, as those of its words and of the words in which a set keeps it.
-use Rattle.std.proofs.Common.{◌≡◌, ℕ, Bool, IsTrue, refl, take, filter, ◌+◌, ◌-◌, ◌*◌, ◌/◌, ◌%◌, ◌^◌, ◌<◌, ◌≤◌, not, ◌&&◌, List, length, map, get_or, slice_get, Option, Some, None, is_some, true, false, sym, ap, ◌∙◌, arith, ⊎_elim}
+-- The positions of a value, as those of its words and of the words in which a set keeps it, and the walks over them.
+use Rattle.std.proofs.Common.{◌≡◌, ℕ, zero, suc, Bool, IsTrue, take, filter, ◌+◌, ◌-◌, ◌*◌, ◌/◌, ◌%◌, ◌^◌, ◌<◌, ◌≤◌, max, not, ◌&&◌, List, ◌++◌, length, map, get_or, slice_get, Option, Some, None, is_some, unwrap_or, true, false, refl, sym, ap, ◌∙◌, arith}
 use Rattle.std.specs.Int.{bit_not, w64, div_ceil}
 use Rattle.std.specs.List.{last_or}
-use Rattle.std.proofs.lemmas.Bool.{lt-ltb, cases_Bool, true≢false}
 use Rattle.std.proofs.lemmas.Bool.Decides.{nat_tests}
-use Rattle.std.proofs.lemmas.List.{get_or-map, take_all}
+use Rattle.std.proofs.lemmas.List.{get_or-map, take_all, length-append}
 use Rattle.bitlanes.specs.Bits.{bit}
 use Rattle.bitlanes.specs.BitLaws.{bit-not}
 use Rattle.bitwords.specs.Ascending.{ascending}
-use Rattle.bitwords.specs.AscendingFacts.{ascending-same, ascending-skip, ascending-cut}
-use Rattle.bitwords.specs.Rows.{has_bit, in_range}
-use Rattle.bitwords.specs.RowFacts.{AreWords, before_range, past_range}
-use Rattle.bitwords.specs.Walk.{between_ends, over_row, range_cut}
-use Rattle.bitwalks.specs.Pairs.{sieve_over}
-use Rattle.fixedbitset.specs.Ranges.{is_valid, within}
+use Rattle.bitwords.specs.AscendingFacts.{ascending-same, ascending-skip, ascending-cut, filter-ascending, length-count}
+use Rattle.bitwords.specs.CountFacts.{count-zero, count-suc, count-shorter}
+use Rattle.bitwords.specs.Rows.{has_bit, count_below}
+use Rattle.bitwords.specs.RowFacts.{AreWords}
+use Rattle.bitwords.specs.Walk.{Walk, between_ends, over_row, range_cut, range_row}
+use Rattle.bitwalks.specs.Pairs.{Sieved, sieve_over}
+use Rattle.fixedbitset.specs.Ranges.{is_valid, within, over}
 use Rattle.fixedbitset.specs.RangesFacts.{length-within, contains-within}
-use Rattle.fixedbitset.specs.Walks.{begun, ones_of, zeroes_of}
+use Rattle.fixedbitset.specs.Walks.{begun, ones_of, zeroes_of, words_of, zero_words_of}
 use Rattle.fixedbitset.specs.Bits.{Bits, contains, asc, minimum, maximum, complement, is_clear, words, of_words}
 use Rattle.fixedbitset.specs.BitsFacts.{length-complement, contains-complement, contains-past}
 use Rattle.fixedbitset.specs.FirstFacts.{minimum_least, minimum_none}
 use Rattle.fixedbitset.specs.MemberFacts.{is_clear-tells}
 use Rattle.fixedbitset.specs.Stored.{IsClean}
+use Rattle.fixedbitset.specs.TwoSets.{intersection, difference}
+use Rattle.fixedbitset.specs.TwoSetsFacts.{length-intersection, contains-intersection, length-difference, contains-difference}
 use Rattle.fixedbitset.specs.WalkFacts.{length-asc}
-use Rattle.fixedbitset.specs.WordsFacts.{length-of_words, length-words, has_bit-words, are_words}
-use Rattle.fixedbitset.proofs.JoinedWords.{valid_order, valid_within}
-use Rattle.fixedbitset.proofs.Words.{contains_word}
+use Rattle.fixedbitset.specs.WordsFacts.{length-words, has_bit-words, are_words}
+use Rattle.fixedbitset.proofs.Words.{valid_range, contains_word, holds_all}
 
-and_true : (b c : Bool) → c ≡ true → b ≡ (b && c)
-and_true b c e = grind arith
-
-and_false : (b c : Bool) → c ≡ false → (b && c) ≡ false
-and_false b c e = grind arith
-
--- what lies in a range
-in_there : (p start end : ℕ) → start ≤ p → p < end → in_range start end p ≡ true
-in_there p start end from to = grind (arith, nat_tests)
+-- ---- the positions of a value
 
 -- a bit of an inverted word
 has_bit-inverted : (ws : List ℕ) (p : ℕ) → AreWords ws → p < 64 * length ws → has_bit (map (bit_not w64) ws) p ≡ not (has_bit ws p)
 unfolding has_bit
-has_bit-inverted ws p are below =
-    ap (λ w. bit w (p % 64)) (get_or-map (bit_not w64) ws (p / 64) 0 0 (omega arith))
-    ∙ bit-not (get_or ws (p / 64) 0) (p % 64) (are (p / 64)) (omega arith)
+has_bit-inverted ws p are below = rw (get_or-map (bit_not w64) ws (p / 64) 0 0 (omega arith)) (bit-not (get_or ws (p / 64) 0) (p % 64) (are (p / 64)) (omega arith))
 
--- the positions of a row that has those of the value, and room for all of them
-row-asc : (v : Bits) (row : List ℕ) → v.length ≤ 64 * length row → ((p : ℕ) → has_bit row p ≡ contains v p) → ascending (has_bit row) 0 (64 * length row) ≡ asc v
+-- those that pass a test that says what the value has, below a bound that leaves room for all
+pub row-asc : (v : Bits) (test : ℕ → Bool) (n : ℕ) → v.length ≤ n → ((p : ℕ) → test p ≡ contains v p) → ascending test 0 n ≡ asc v
 unfolding asc
-row-asc v row room same =
-    let whole : 64 * length row ≡ v.length + (64 * length row - v.length) = omega arith in
-    ap (ascending (has_bit row) 0) whole
-    ∙ ascending-cut _ (contains v) 0 v.length (64 * length row - v.length) (λ i above below. same i) (λ i above below. same i ∙ contains-past v i (omega arith))
+row-asc v test n room same =
+    let whole : n ≡ v.length + (n - v.length) = omega arith in
+    ap (ascending test 0) whole ∙ ascending-cut test (contains v) 0 v.length (n - v.length) (λ i _ _. same i) (λ i above _. same i ∙ contains-past v i (omega (arith, above)))
+
+-- those of a test that says below the length what the value has
+pub below-asc : (v : Bits) (test : ℕ → Bool) (n : ℕ) → n ≡ v.length → ((p : ℕ) → p < n → test p ≡ contains v p) → ascending test 0 n ≡ asc v
+unfolding asc
+below-asc v test n long same = ap (ascending test 0) long ∙ ascending-same test (contains v) 0 v.length (λ p _ below. same p (omega arith))
 
 -- the first and the last position of the words that a set keeps
 module _ (n : ℕ) (ws : List ℕ) (clean : IsClean n ws) where
   stored-asc : ascending (has_bit ws) 0 (64 * length ws) ≡ asc (of_words n ws)
-  stored-asc = row-asc (of_words n ws) ws (omega (arith, length-of_words n ws, clean.count)) (λ p. contains_word n ws p clean)
+  stored-asc = row-asc (of_words n ws) (has_bit ws) (64 * length ws) (holds_all n ws _ refl clean) (λ p. contains_word n ws p clean)
 
   pub row_minimum : slice_get (ascending (has_bit ws) 0 (64 * length ws)) 0 ≡ minimum (of_words n ws)
   unfolding minimum
@@ -64,29 +59,31 @@ module _ (n : ℕ) (ws : List ℕ) (clean : IsClean n ws) where
   unfolding maximum
   row_maximum = ap (last_or None) stored-asc
 
+-- so many items fit a usize
+pub fits_items : (v : Bits) (items : List ℕ) → items ≡ asc v → v.length < 2 ^ 64 → length items < 2 ^ 64
+fits_items v items is fits = omega (arith, ap length is, length-asc v)
+
+-- there is no first position exactly where none is set
+pub none_is_clear : (v : Bits) (first : Option ℕ) (none : Bool) → first ≡ minimum v → is_some first ≡ not none → none ≡ is_clear v
+none_is_clear v None none same is = let clear = (is_clear-tells v).1 (minimum_none v (sym same)) in grind (arith, clear)
+none_is_clear v (Some p) none same is =
+    let one = (minimum_least v p (sym same)).0 in
+    let clear : is_clear v ≡ true → contains v p ≡ false = λ e. (is_clear-tells v).0 e p in
+    grind (arith, one, clear)
+
 module _ (v : Bits) where
-  room : v.length ≤ 64 * length (words v)
-  room = omega (arith, length-words v)
+  abbrev inverted : List ℕ
+  inverted = map (bit_not w64) (words v)
 
   words-asc : ascending (has_bit (words v)) 0 (64 * length (words v)) ≡ asc v
-  words-asc = row-asc v (words v) room (has_bit-words v)
+  words-asc = row-asc v (has_bit (words v)) (64 * length (words v)) (omega (arith, length-words v)) (has_bit-words v)
 
   -- a position below the length, in the inverted words
-  pub has_bit-zeroes : (p : ℕ) → p < v.length → has_bit (map (bit_not w64) (words v)) p ≡ contains (complement v) p
-  has_bit-zeroes p below =
-      has_bit-inverted (words v) p (are_words v) (let r = room in omega arith)
-      ∙ ap not (has_bit-words v p)
-      ∙ sym (contains-complement v p ∙ ap (λ b. b && not (contains v p)) (lt-ltb p v.length below))
+  has_bit-zeroes : (p : ℕ) → p < v.length → has_bit inverted p ≡ contains (complement v) p
+  has_bit-zeroes p below = grind (arith, nat_tests, has_bit-inverted (words v) p (are_words v) (omega (arith, length-words v)), has_bit-words v p, contains-complement v p)
 
-  -- the positions of the inverted words below the length are those of the complement
-  pub zeroes-asc : ascending (has_bit (map (bit_not w64) (words v))) 0 v.length ≡ asc (complement v)
-  unfolding asc
-  zeroes-asc =
-      ap (ascending (has_bit (map (bit_not w64) (words v))) 0) (sym (length-complement v))
-      ∙ ascending-same _ (contains (complement v)) 0 (complement v).length
-      (λ i above below.
-      let low : i < v.length = omega (arith, below, length-complement v) in
-      has_bit-zeroes i low)
+  pub zeroes-row : (n : ℕ) → n ≡ v.length → ascending (has_bit inverted) 0 (n - 0) ≡ asc (complement v)
+  zeroes-row n long = below-asc (complement v) (has_bit inverted) (n - 0) (omega (arith, long, length-complement v)) (λ p below. has_bit-zeroes p (omega (arith, long, below)))
 
   -- the positions of a range, in a row that has those of the value
   range-asc : (row : List ℕ) (start end : ℕ) → start ≤ end → end ≤ v.length → ((p : ℕ) → p < v.length → has_bit row p ≡ contains v p) → ascending (has_bit row) start (end - start) ≡ ones_of v start end
@@ -96,52 +93,105 @@ module _ (v : Bits) where
       let long : part.length ≡ start + ((end - start) + (v.length - end)) = omega (arith, length-within v start end) in
       let members = contains-within v start end in
       sym (ap (ascending (contains part) 0) long
-      ∙ ascending-skip (contains part) (contains part) 0 start ((end - start) + (v.length - end))
-      (λ p above below. members p ∙ and_false (contains v p) _ (before_range start end p (omega (arith, below))))
-      (λ p above below. refl)
-      ∙ ascending-cut (contains part) (has_bit row) (0 + start) (end - start) (v.length - end)
-      (λ p above below. members p ∙ sym (and_true (contains v p) _ (in_there p start end (omega (arith, above)) (omega (arith, below)))) ∙ sym (same p (omega (arith, below))))
-      (λ p above below. members p ∙ and_false (contains v p) _ (past_range start end p (omega (arith, above))))
+      ∙ ascending-skip (contains part) (contains part) 0 start ((end - start) + (v.length - end)) (λ p _ below. grind (arith, nat_tests, members p)) (λ p _ _. refl)
+      ∙ ascending-cut (contains part) (has_bit row) (0 + start) (end - start) (v.length - end) (λ p above below. grind (arith, nat_tests, members p, same p)) (λ p above _. grind (arith, nat_tests, members p))
       ∙ (let from : 0 + start ≡ start = omega arith in ap (λ low. ascending (has_bit row) low (end - start)) from))
 
   pub ones-within : (start end : ℕ) → IsTrue (is_valid v start end) → ascending (has_bit (words v)) start (end - start) ≡ ones_of v start end
-  ones-within start end valid = range-asc (words v) start end (valid_order v start end valid) (valid_within v start end valid) (λ p below. has_bit-words v p)
-
-  pub zeroes-row : (n : ℕ) → n ≡ v.length → ascending (has_bit (map (bit_not w64) (words v))) 0 (n - 0) ≡ asc (complement v)
-  zeroes-row n long = let all : n - 0 ≡ v.length = omega (arith, long) in ap (ascending (has_bit (map (bit_not w64) (words v))) 0) all ∙ zeroes-asc
-
-  -- so many positions fit a usize
-  pub fits-asc : v.length < 2 ^ 64 → length (asc v) < 2 ^ 64
-  fits-asc fits = omega (arith, length-asc v)
-
-  pub fits-zeroes : v.length < 2 ^ 64 → length (asc (complement v)) < 2 ^ 64
-  fits-zeroes fits = omega (arith, length-asc (complement v), length-complement v)
+  ones-within start end valid = let ends = valid_range v start end valid in range-asc (words v) start end ends.0 ends.1 (λ p below. has_bit-words v p)
 
   -- the walk over the words is that over the value
   pub over_row-begun : over_row (words v) (64 * length (words v)) ≡ begun v
   over_row-begun = let items = words-asc in λ i. record { items = items i; words = between_ends (words v); turns = 0; taken = 0 }
 
--- the walk over the words of one value, sieved by those of another
-pub sieved_items : (passes : Bool → Bool) (v w : Bits) → (sieve_over passes (words v) (words w)).items ≡ filter (λ p. passes (contains w p)) (asc v)
-sieved_items passes v w = let all = words-asc v in let other = has_bit-words w in λ i. filter (λ p. passes (other p i)) (all i)
-
--- there is no first position exactly where none is set
-pub none_is_clear : (v : Bits) (first : Option ℕ) (none : Bool) → first ≡ minimum v → is_some first ≡ not none → none ≡ is_clear v
-none_is_clear v None true same is = sym ((is_clear-tells v).1 (minimum_none v (sym same)))
-none_is_clear v None false same is = absurd (true≢false (sym is))
-none_is_clear v (Some p) true same is = absurd (true≢false is)
-none_is_clear v (Some p) false same is =
-    ⊎_elim
-    (λ (clear : is_clear v ≡ true). absurd (true≢false (sym (minimum_least v p (sym same)).0 ∙ (is_clear-tells v).0 clear p)))
-    (λ (some : is_clear v ≡ false). sym some)
-    (cases_Bool (is_clear v))
-
 -- the positions of a range that are not set, in the inverted words
-pub zeroes-within : (v : Bits) (start end : ℕ) → IsTrue (is_valid v start end) → ascending (has_bit (map (bit_not w64) (words v))) start (end - start) ≡ zeroes_of v start end
+pub zeroes-within : (v : Bits) (start end : ℕ) → IsTrue (is_valid v start end) → ascending (has_bit (inverted v)) start (end - start) ≡ zeroes_of v start end
 zeroes-within v start end valid =
-    range-asc (complement v) (map (bit_not w64) (words v)) start end (valid_order v start end valid) (omega (arith, valid_within v start end valid, length-complement v))
-    (λ p below. has_bit-zeroes v p (omega (arith, below, length-complement v)))
+    let ends = valid_range v start end valid in
+    range-asc (complement v) (inverted v) start end ends.0 (omega (arith, ends, length-complement v)) (λ p below. has_bit-zeroes v p (omega (arith, below, length-complement v)))
 
 -- the words of all positions are the words
 pub range_cut-whole : (n : ℕ) (ws : List ℕ) → length ws ≤ div_ceil n 64 → range_cut 0 n ws ≡ ws
 range_cut-whole n ws fits = let all : div_ceil n 64 - 0 ≡ div_ceil n 64 = omega arith in ap (λ k. take k ws) all ∙ take_all (div_ceil n 64) ws fits
+
+-- ---- the walks over a range whose ends may be absent
+
+module _ (v : Bits) (s e from to : Option ℕ) (start end n : ℕ) (start_is : start ≡ unwrap_or from 0) (end_is : end ≡ unwrap_or to n) (from_is : from ≡ s) (to_is : to ≡ e) (long : n ≡ v.length) where
+  -- what f makes of the ends is what it makes of the range
+  pub by_ends : {A : Type 0} (f : Bits → ℕ → ℕ → A) → f v start end ≡ over f v s e
+  by_ends f = rw (start_is, end_is, from_is, to_is, long) refl
+
+  module _ (valid : IsTrue (over is_valid v s e)) where
+    pub range_valid : IsTrue (is_valid v start end)
+    range_valid = by_ends is_valid ∙ valid
+
+    pub range_order : start ≤ end
+    range_order = (valid_range v start end range_valid).0
+
+    pub range_reaches : (ws : List ℕ) → ws ≡ words v → end ≤ 64 * length ws
+    range_reaches ws is = omega (arith, valid_range v start end range_valid, ap length is, length-words v)
+
+    -- the positions that are set, and that are not, with the words that have them
+    pub ones_are : (ws : List ℕ) → ws ≡ words v → (walk : Walk) → walk ≡ range_row ws start end → walk.items ≡ over ones_of v s e
+    ones_are ws is walk made = rw (made, is) (ones-within v start end range_valid ∙ by_ends ones_of)
+
+    pub zeroes_are : (ws : List ℕ) → ws ≡ words v → (walk : Walk) → walk ≡ range_row (map (bit_not w64) ws) start end → walk.items ≡ over zeroes_of v s e
+    zeroes_are ws is walk made = rw (made, is) (zeroes-within v start end range_valid ∙ by_ends zeroes_of)
+
+  pub words_are : (ws : List ℕ) → ws ≡ words v → (walk : Walk) → walk ≡ range_row ws start end → walk.words ≡ over words_of v s e
+  words_are ws is walk made = rw (made, is) (by_ends words_of)
+
+  pub zero_words_are : (ws : List ℕ) → ws ≡ words v → (walk : Walk) → walk ≡ range_row (map (bit_not w64) ws) start end → walk.words ≡ over zero_words_of v s e
+  zero_words_are ws is walk made = rw (made, is) (by_ends zero_words_of)
+
+-- ---- the walks over two sets
+
+-- the positions of v that pass are those of a value of its length
+sieved : (v u : Bits) (test : ℕ → Bool) → u.length ≡ v.length → ((p : ℕ) → contains u p ≡ (contains v p && test p)) → filter test (asc v) ≡ asc u
+unfolding asc
+sieved v u test long members =
+    filter-ascending (contains v) test 0 v.length ∙ ascending-same _ (contains u) 0 v.length (λ p _ _. sym (members p)) ∙ ap (ascending (contains u) 0) (sym long)
+
+module _ (v w : Bits) where
+  pub asc-intersection : filter (λ p. contains w p) (asc v) ≡ asc (intersection v w)
+  asc-intersection = sieved v (intersection v w) _ (length-intersection v w) (contains-intersection v w)
+
+  pub asc-difference : filter (λ p. not (contains w p)) (asc v) ≡ asc (difference v w)
+  asc-difference = sieved v (difference v w) _ (length-difference v w) (contains-difference v w)
+
+  -- the walk over the words of one value, sieved by those of another
+  sieved_items : (passes : Bool → Bool) → (sieve_over passes (words v) (words w)).items ≡ filter (λ p. passes (contains w p)) (asc v)
+  sieved_items passes = let all = words-asc v in let other = has_bit-words w in λ i. filter (λ p. passes (other p i)) (all i)
+
+  module _ (walk : Sieved) where
+    pub shared_items : walk ≡ sieve_over (λ b. b) (words v) (words w) → walk.items ≡ asc (intersection v w)
+    shared_items is = rw is (sieved_items (λ b. b) ∙ asc-intersection)
+
+    pub lacked_items : walk ≡ sieve_over not (words v) (words w) → walk.items ≡ asc (difference v w)
+    lacked_items is = rw is (sieved_items not ∙ asc-difference)
+
+    pub sieve_source : (passes : Bool → Bool) → walk ≡ sieve_over passes (words v) (words w) → walk.source ≡ begun v
+    sieve_source passes is = rw is (over_row-begun v)
+
+-- two tests that no number passes both
+both_counts : (p q : ℕ → Bool) (n : ℕ) → ((i : ℕ) → (p i && q i) ≡ false) → count_below p n + count_below q n ≤ n
+both_counts p q zero apart = omega (arith, count-zero p, count-zero q)
+both_counts p q (suc n) apart = grind (arith, apart n, count-suc p n, count-suc q n, both_counts p q n apart)
+
+-- the positions of a value, counted up to any bound that is not below its length
+length-upto : (v : Bits) (n : ℕ) → v.length ≤ n → length (asc v) ≡ count_below (contains v) n
+unfolding asc
+length-upto v n longer = length-count (contains v) v.length ∙ sym (count-shorter (contains v) v.length n longer (λ p past _. contains-past v p past))
+
+-- two values with no position in common have at most as many positions as the longer one has places
+length-apart : (v w : Bits) → ((p : ℕ) → (contains v p && contains w p) ≡ false) → length (asc v ++ asc w) ≤ max v.length w.length
+length-apart v w apart =
+    let n : ℕ = max v.length w.length in
+    omega (arith, length-append (asc v) (asc w), length-upto v n (omega arith), length-upto w n (omega arith), both_counts (contains v) (contains w) n apart)
+
+pub length-union_items : (v w : Bits) → length (asc v ++ asc (difference w v)) ≤ max v.length w.length
+length-union_items v w = omega (arith, length-apart v (difference w v) (λ p. grind (arith, contains-difference w v p)), length-difference w v)
+
+pub length-split_items : (v w : Bits) → length (asc (difference v w) ++ asc (difference w v)) ≤ max v.length w.length
+length-split_items v w =
+    omega (arith, length-apart (difference v w) (difference w v) (λ p. grind (arith, contains-difference v w p, contains-difference w v p)), length-difference v w, length-difference w v)

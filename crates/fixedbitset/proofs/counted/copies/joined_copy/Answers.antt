@@ -1,17 +1,17 @@
 use Rattle.std.proofs.Common.{length, ap, ◌∙◌}
-use Rattle.fixedbitset.proofs.JoinedWords.{has_bit-of, of_joined, IsClean_joined}
-use Rattle.fixedbitset.proofs.Words.{viewed_count}
+use Rattle.fixedbitset.proofs.Words.{of_pair, IsClean_pair, viewed_count, viewed_length}
 use Rattle.fixedbitset.proofs.counted.copies.joined_copy.Goals as goal
 
 pub invariant_of-result : goal.invariant_of-result
 invariant_of-result g c =
     let done = rw (c.as_slice.ensures.value, c.as_slice-2.ensures.value) at c.in_ok-words.ensures.bits in
-    IsClean_joined _ _ _ _ _ _ c.set.view_is c.set.invariant (has_bit-of _ _ _ c.other.view_is c.other.invariant) done g.O.WordOp.TAKE g.met.O.WordOp.laws.of_second c.requires
+    let shorter = rw (← viewed_length _ _ _ c.set.view_is, ← viewed_length _ _ _ c.other.view_is) at c.requires in
+    IsClean_pair _ _ _ _ _ _ _ c.set.view_is c.set.invariant c.other.view_is c.other.invariant done g.met.O.WordOp.laws shorter
 
 pub returns-clause-value : goal.returns-clause-value
 returns-clause-value g c =
     let done = rw (c.as_slice.ensures.value, c.as_slice-2.ensures.value) at c.in_ok-words.ensures.bits in
-    of_joined _ _ _ _ _ _ c.set.view_is c.set.invariant (has_bit-of _ _ _ c.other.view_is c.other.invariant) done
+    of_pair _ _ _ _ _ _ _ c.set.view_is c.set.invariant c.other.view_is c.other.invariant done
 
 pub returns-clause-cost : goal.returns-clause-cost
 returns-clause-cost g c =
@@ -20,10 +20,7 @@ returns-clause-cost g c =
     rw (← first, ← second) c.joined.ensures.cost
 
 pub returns-clause-whole : goal.returns-clause-whole
-returns-clause-whole g c =
-    let first = ap length c.as_slice.ensures.value ∙ viewed_count _ _ _ c.set.view_is c.set.invariant in
-    let second = ap length c.as_slice-2.ensures.value ∙ viewed_count _ _ _ c.other.view_is c.other.invariant in
-    rw (← first, ← second) c.in_ok-words.ensures.whole
+returns-clause-whole g c = cc (c.in_ok-words.ensures.whole, viewed_count _ _ _ c.set.view_is c.set.invariant, viewed_count _ _ _ c.other.view_is c.other.invariant)
 
 pub returns-in_err-words-clause-cost : goal.returns-in_err-words-clause-cost
 returns-in_err-words-clause-cost g c =

@@ -4,7 +4,7 @@ use Rattle.std.proofs.lemmas.List.FromFn.{length-map-range_with_len}
 use Rattle.bitjson.specs.Bytes.{word_of}
 use Rattle.fixedbitset.specs.Bits.{of_words, storage_words}
 use Rattle.fixedbitset.proofs.Blocks.{IsClean_cut, of-cut}
-use Rattle.fixedbitset.proofs.JsonBytes.{of_words-made}
+use Rattle.fixedbitset.proofs.Texts.{of_words-made}
 use Rattle.fixedbitset.proofs.lent.bytes.from_bytes.Goals as goal
 
 pub returns-clause-clean : goal.returns-clause-clean

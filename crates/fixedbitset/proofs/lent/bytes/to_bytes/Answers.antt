@@ -1,7 +1,7 @@
 use Rattle.std.proofs.Common.{ap, ◌∙◌}
 use Rattle.bitjson.specs.Bytes.{bytes_of}
 use Rattle.fixedbitset.specs.Bits.{of_words}
-use Rattle.fixedbitset.proofs.JsonBytes.{bytes_of-words}
+use Rattle.fixedbitset.proofs.Texts.{bytes_of-words}
 use Rattle.fixedbitset.proofs.lent.bytes.to_bytes.Goals as goal
 
 pub returns : goal.returns

@@ -1,6 +1,6 @@
 use Rattle.std.proofs.Common.{not, filter, refl, ◌∙◌}
-use Rattle.fixedbitset.proofs.JoinedWords.{has_bit-of}
-use Rattle.fixedbitset.proofs.PairItems.{asc-intersection, asc-difference}
+use Rattle.fixedbitset.proofs.Words.{has_bit-of}
+use Rattle.fixedbitset.proofs.Positions.{asc-intersection, asc-difference}
 use Rattle.fixedbitset.proofs.lent.walks.ones_beside.Goals as goal
 
 pub returns-clause-shared : goal.returns-clause-shared

@@ -3,7 +3,7 @@ use Rattle.std.specs.Int.{bit_not, w64}
 use Rattle.bitwords.specs.Ascending.{ascending}
 use Rattle.bitwords.specs.Rows.{has_bit}
 use Rattle.fixedbitset.specs.Bits.{of_words}
-use Rattle.fixedbitset.proofs.Values.{length-of_words}
+use Rattle.fixedbitset.specs.WordsFacts.{length-of_words}
 use Rattle.fixedbitset.proofs.Positions.{zeroes-row}
 use Rattle.fixedbitset.proofs.lent.walks.zeroes.Goals as goal
 

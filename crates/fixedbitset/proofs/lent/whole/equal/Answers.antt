@@ -1,7 +1,7 @@
 use Rattle.std.proofs.Common.{sym, ◌∙◌}
 use Rattle.std.proofs.lemmas.Bool.{ne_eqb}
-use Rattle.fixedbitset.proofs.Equality.{equal_of, other_length}
-use Rattle.fixedbitset.proofs.Values.{length-of_words}
+use Rattle.fixedbitset.proofs.JoinedCounts.{equal_of, other_length}
+use Rattle.fixedbitset.specs.WordsFacts.{length-of_words}
 use Rattle.fixedbitset.proofs.lent.whole.equal.Goals as goal
 
 pub returns-then-length-other_length-clause-told : goal.returns-then-length-other_length-clause-told

@@ -4,8 +4,7 @@ use Rattle.bitwalks.specs.Pairs.{SievesFirst, SievesLast, sieve_over}
 use Rattle.fixedbitset.specs.Bits.{words}
 use Rattle.fixedbitset.specs.TwoSets.{difference}
 use Rattle.fixedbitset.specs.TwoSetsFacts.{length-difference}
-use Rattle.fixedbitset.specs.WalkFacts.{length-asc}
-use Rattle.fixedbitset.proofs.PairRows.{lacked_items, sieve_source}
+use Rattle.fixedbitset.proofs.Positions.{lacked_items, sieve_source, fits_items}
 use Rattle.fixedbitset.proofs.set.FixedBitSet.difference.Goals as goal
 
 walk : (c : goal.After-over) → c.over.result ≡ sieve_over not (words c.args.self.now) (words c.args.other.now)
@@ -15,8 +14,7 @@ pub returns-clause-items : goal.returns-clause-items
 returns-clause-items c = lacked_items c.args.self.now c.args.other.now _ (walk c)
 
 pub returns-clause-fits : goal.returns-clause-fits
-returns-clause-fits c =
-    omega (arith, ap length (returns-clause-items c), length-asc (difference c.args.self.now c.args.other.now), length-difference c.args.self.now c.args.other.now, c.used_words-words.ensures.fits)
+returns-clause-fits c = fits_items (difference c.args.self.now c.args.other.now) _ (returns-clause-items c) (rw length-difference c.used_words-words.ensures.fits)
 
 pub returns-clause-runs : goal.returns-clause-runs
 returns-clause-runs c = runs_forwards (λ sieved. sieved.items) SievesFirst (λ s r t h. h.0) _ _ (returns-clause-items c)

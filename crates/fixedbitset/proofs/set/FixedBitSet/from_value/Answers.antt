@@ -8,7 +8,7 @@ use Rattle.bitjson.specs.Bytes.{word_of}
 use Rattle.fixedbitset.specs.Bits.{of_words, storage_words}
 use Rattle.fixedbitset.specs.Json.{of_bytes}
 use Rattle.fixedbitset.proofs.Blocks.{IsClean_cut, of-cut}
-use Rattle.fixedbitset.proofs.JsonBytes.{of_words-made}
+use Rattle.fixedbitset.proofs.Texts.{of_words-made}
 use Rattle.fixedbitset.proofs.set.FixedBitSet.from_value.Goals as goal
 
 pub invariant_of-result : goal.invariant_of-result

@@ -4,8 +4,7 @@ use Rattle.bitwalks.specs.Pairs.{SievesFirst, SievesLast, sieve_over}
 use Rattle.fixedbitset.specs.Bits.{words}
 use Rattle.fixedbitset.specs.TwoSets.{intersection}
 use Rattle.fixedbitset.specs.TwoSetsFacts.{length-intersection}
-use Rattle.fixedbitset.specs.WalkFacts.{length-asc}
-use Rattle.fixedbitset.proofs.PairRows.{shared_items, sieve_source}
+use Rattle.fixedbitset.proofs.Positions.{shared_items, sieve_source, fits_items}
 use Rattle.fixedbitset.proofs.set.FixedBitSet.intersection.Goals as goal
 
 walk : (c : goal.After-over) → c.over.result ≡ sieve_over (λ b. b) (words c.args.self.now) (words c.args.other.now)
@@ -15,8 +14,7 @@ pub returns-clause-items : goal.returns-clause-items
 returns-clause-items c = shared_items c.args.self.now c.args.other.now _ (walk c)
 
 pub returns-clause-fits : goal.returns-clause-fits
-returns-clause-fits c =
-    omega (arith, ap length (returns-clause-items c), length-asc (intersection c.args.self.now c.args.other.now), length-intersection c.args.self.now c.args.other.now, c.used_words-words.ensures.fits)
+returns-clause-fits c = fits_items (intersection c.args.self.now c.args.other.now) _ (returns-clause-items c) (rw length-intersection c.used_words-words.ensures.fits)
 
 pub returns-clause-runs : goal.returns-clause-runs
 returns-clause-runs c = runs_forwards (λ sieved. sieved.items) SievesFirst (λ s r t h. h.0) _ _ (returns-clause-items c)

@@ -1,10 +1,10 @@
-use Rattle.std.proofs.Common.{◌≡◌, length, ap, ◌∙◌, arith, ◌*◌}
+use Rattle.std.proofs.Common.{◌≡◌, length, ap, ◌∙◌, ◌*◌}
 use Rattle.bitwords.specs.Walk.{over_row}
 use Rattle.bitwords.specs.WalkFacts.{walk_forwards, walk_backwards}
 use Rattle.fixedbitset.specs.Bits.{words}
 use Rattle.fixedbitset.specs.Walks.{begun}
 use Rattle.fixedbitset.proofs.Words.{words_of, viewed_fits}
-use Rattle.fixedbitset.proofs.Positions.{over_row-begun, fits-asc}
+use Rattle.fixedbitset.proofs.Positions.{over_row-begun, fits_items}
 use Rattle.fixedbitset.proofs.set.FixedBitSet.into_ones.Goals as goal
 
 whole : (c : goal.After-over) → c.over.result ≡ begun c.args.self
@@ -17,7 +17,7 @@ pub returns-clause-items : goal.returns-clause-items
 returns-clause-items c = ap (λ walk. walk.items) (whole c)
 
 pub returns-clause-fits : goal.returns-clause-fits
-returns-clause-fits c = omega (arith, ap length (returns-clause-items c), fits-asc c.args.self (viewed_fits _ _ _ c.self.view_is c.self.invariant))
+returns-clause-fits c = fits_items c.args.self _ (returns-clause-items c) (viewed_fits _ _ _ c.self.view_is c.self.invariant)
 
 pub returns-clause-runs : goal.returns-clause-runs
 returns-clause-runs c = walk_forwards _ _ (returns-clause-items c)

@@ -1,5 +1,7 @@
 use Rattle.bitwords.specs.WalkFacts.{walk_forwards, walk_backwards}
-use Rattle.fixedbitset.proofs.RangeWalks.{range_order, range_reaches, ones_are, words_are, ones_fit}
+use Rattle.fixedbitset.specs.Ranges.{over, within}
+use Rattle.fixedbitset.specs.RangesFacts.{length-within}
+use Rattle.fixedbitset.proofs.Positions.{range_order, range_reaches, ones_are, words_are, fits_items}
 use Rattle.fixedbitset.proofs.Words.{viewed_length}
 use Rattle.fixedbitset.proofs.set.FixedBitSet.ones_in.Goals as goal
 
@@ -16,7 +18,8 @@ returns-clause-items g c =
     ones_are c.args.self.now _ _ _ _ _ _ _ c.unwrap_or-start.ensures c.unwrap_or-end.ensures c.start.ensures c.end.ensures (viewed_length _ _ _ c.self.view_is) c.requires _ c.used_words.ensures.value _ c.within.ensures
 
 pub returns-clause-fits : goal.returns-clause-fits
-returns-clause-fits g c = ones_fit c.args.self.now (g.R.IndexRange.start_of c.args.range) (g.R.IndexRange.end_of c.args.range) _ (returns-clause-items g c) c.used_words.ensures.fits
+returns-clause-fits g c =
+    fits_items (over within c.args.self.now (g.R.IndexRange.start_of c.args.range) (g.R.IndexRange.end_of c.args.range)) _ (returns-clause-items g c) (rw length-within c.used_words.ensures.fits)
 
 pub returns-clause-runs : goal.returns-clause-runs
 returns-clause-runs g c = walk_forwards _ _ (returns-clause-items g c)

@@ -2,8 +2,7 @@ use Rattle.std.proofs.Common.{◌≡◌, ◌++◌, not, length, ap, ◌∙◌, a
 use Rattle.bitwords.specs.WalkFacts.{runs_forwards, runs_backwards}
 use Rattle.bitwalks.specs.Pairs.{split_items, SplitsFirst, SplitsLast, sieve_over}
 use Rattle.fixedbitset.specs.Bits.{words}
-use Rattle.fixedbitset.proofs.PairItems.{length-split_items}
-use Rattle.fixedbitset.proofs.PairRows.{lacked_items, sieve_source}
+use Rattle.fixedbitset.proofs.Positions.{length-split_items, lacked_items, sieve_source}
 use Rattle.fixedbitset.proofs.set.FixedBitSet.symmetric_difference.Goals as goal
 
 first : (c : goal.After-over) → c.over.result.first ≡ sieve_over not (words c.args.self.now) (words c.args.other.now)

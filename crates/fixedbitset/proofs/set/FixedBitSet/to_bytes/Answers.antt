@@ -1,4 +1,4 @@
-use Rattle.fixedbitset.proofs.JsonBytes.{bytes_of-words}
+use Rattle.fixedbitset.proofs.Texts.{bytes_of-words}
 use Rattle.fixedbitset.proofs.set.FixedBitSet.to_bytes.Goals as goal
 
 pub returns : goal.returns

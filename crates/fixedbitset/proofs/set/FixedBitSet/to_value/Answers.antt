@@ -1,4 +1,4 @@
-use Rattle.fixedbitset.proofs.JsonBytes.{object_of-words}
+use Rattle.fixedbitset.proofs.Texts.{object_of-words}
 use Rattle.fixedbitset.proofs.set.FixedBitSet.to_value.Goals as goal
 
 pub returns : goal.returns

@@ -4,9 +4,7 @@ use Rattle.bitwords.specs.WalkFacts.{runs_forwards, runs_backwards}
 use Rattle.bitwalks.specs.Pairs.{joined_items, JoinsFirst, JoinsLast, sieve_over}
 use Rattle.fixedbitset.specs.Bits.{words}
 use Rattle.fixedbitset.specs.Walks.{begun}
-use Rattle.fixedbitset.proofs.PairItems.{length-union_items}
-use Rattle.fixedbitset.proofs.PairRows.{lacked_items, sieve_source}
-use Rattle.fixedbitset.proofs.Positions.{over_row-begun}
+use Rattle.fixedbitset.proofs.Positions.{length-union_items, lacked_items, sieve_source, over_row-begun}
 use Rattle.fixedbitset.proofs.set.FixedBitSet.union.Goals as goal
 
 first : (c : goal.After-over) → c.over.result.first ≡ begun c.args.self.now

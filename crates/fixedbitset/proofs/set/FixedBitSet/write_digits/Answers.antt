@@ -2,13 +2,13 @@ use Rattle.std.proofs.Common.{◌≡◌, ◌+◌, ◌-◌, ◌*◌, ◌<◌, get
 use Rattle.std.proofs.Output.{has_written_styled_append, has_written_styled_of_eq}
 use Rattle.fixedbitset.specs.Bits.{word, words, words_needed}
 use Rattle.fixedbitset.specs.WordsFacts.{get_or-words, length-words}
-use Rattle.fixedbitset.proofs.Characters.{AreDigits, characters, digits_are_text, characters_of_word, characters-append, text_is}
+use Rattle.fixedbitset.proofs.Texts.{AreDigits, characters, digits_are_text, characters_of_word, characters-append, text_is}
 use Rattle.fixedbitset.proofs.set.FixedBitSet.write_digits.Goals as goal
 
 pub from_utf8_unchecked-requires : goal.from_utf8_unchecked-requires
 from_utf8_unchecked-requires g c =
     let d : AreDigits (get_or c.as_slice-word-items.result.now c.loop-word.word-index 0) c.put_digits.new.digits = record { count = c.put_digits.array_long; bits = c.put_digits.ensures } in
-    digits_are_text _ c.min-count.result _ (omega arith) d
+    digits_are_text _ _ d c.min-count.result (omega arith)
 
 pub loop-word-preserved : goal.loop-word-preserved
 loop-word-preserved g c =

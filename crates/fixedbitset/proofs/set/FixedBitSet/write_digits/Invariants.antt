@@ -1,6 +1,6 @@
 use Rattle.std.proofs.Common.{◌≡◌, ◌-◌, ◌*◌}
 use Rattle.std.specs.Fmt.{IsFlush, HasWrittenStyled}
-use Rattle.fixedbitset.proofs.Characters.{characters}
+use Rattle.fixedbitset.proofs.Texts.{characters}
 use Rattle.fixedbitset.proofs.set.FixedBitSet.write_digits.Given as goal
 
 -- the characters of the words so far are written, and so many positions are left

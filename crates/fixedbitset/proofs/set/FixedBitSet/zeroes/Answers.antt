@@ -1,12 +1,14 @@
-use Rattle.std.proofs.Common.{◌-◌, map, length, ap, ◌∙◌, arith}
+use Rattle.std.proofs.Common.{◌-◌, map, ap, ◌∙◌, arith}
 use Rattle.std.specs.Int.{bit_not, w64}
 use Rattle.std.proofs.lemmas.List.{length-map}
 use Rattle.bitwords.specs.Ascending.{ascending}
 use Rattle.bitwords.specs.Rows.{has_bit}
 use Rattle.bitwords.specs.Walk.{between_ends}
 use Rattle.bitwords.specs.WalkFacts.{walk_forwards, walk_backwards}
+use Rattle.fixedbitset.specs.Bits.{complement}
+use Rattle.fixedbitset.specs.BitsFacts.{length-complement}
 use Rattle.fixedbitset.proofs.Words.{viewed_length}
-use Rattle.fixedbitset.proofs.Positions.{zeroes-row, range_cut-whole, fits-zeroes}
+use Rattle.fixedbitset.proofs.Positions.{zeroes-row, range_cut-whole, fits_items}
 use Rattle.fixedbitset.proofs.set.FixedBitSet.zeroes.Goals as goal
 
 pub returns-clause-items : goal.returns-clause-items
@@ -16,7 +18,7 @@ returns-clause-items c =
     ∙ zeroes-row c.args.self.now _ (viewed_length _ _ _ c.self.view_is)
 
 pub returns-clause-fits : goal.returns-clause-fits
-returns-clause-fits c = omega (arith, ap length (returns-clause-items c), fits-zeroes c.args.self.now c.used_words.ensures.fits)
+returns-clause-fits c = fits_items (complement c.args.self.now) _ (returns-clause-items c) (rw length-complement c.used_words.ensures.fits)
 
 pub returns-clause-runs : goal.returns-clause-runs
 returns-clause-runs c = walk_forwards _ _ (returns-clause-items c)

@@ -1,5 +1,9 @@
 use Rattle.bitwords.specs.WalkFacts.{walk_forwards, walk_backwards}
-use Rattle.fixedbitset.proofs.RangeWalks.{range_order, range_reaches, zeroes_are, zero_words_are, zeroes_fit}
+use Rattle.fixedbitset.specs.Bits.{complement}
+use Rattle.fixedbitset.specs.BitsFacts.{length-complement}
+use Rattle.fixedbitset.specs.Ranges.{over, within}
+use Rattle.fixedbitset.specs.RangesFacts.{length-within}
+use Rattle.fixedbitset.proofs.Positions.{range_order, range_reaches, zeroes_are, zero_words_are, fits_items}
 use Rattle.fixedbitset.proofs.Words.{viewed_length}
 use Rattle.fixedbitset.proofs.set.FixedBitSet.zeroes_in.Goals as goal
 
@@ -16,7 +20,8 @@ returns-clause-items g c =
     zeroes_are c.args.self.now _ _ _ _ _ _ _ c.unwrap_or-start.ensures c.unwrap_or-end.ensures c.start.ensures c.end.ensures (viewed_length _ _ _ c.self.view_is) c.requires _ c.used_words.ensures.value _ c.within.ensures
 
 pub returns-clause-fits : goal.returns-clause-fits
-returns-clause-fits g c = zeroes_fit c.args.self.now (g.R.IndexRange.start_of c.args.range) (g.R.IndexRange.end_of c.args.range) _ (returns-clause-items g c) c.used_words.ensures.fits
+returns-clause-fits g c =
+    fits_items (over (λ v. within (complement v)) c.args.self.now (g.R.IndexRange.start_of c.args.range) (g.R.IndexRange.end_of c.args.range)) _ (returns-clause-items g c) (rw (length-within, length-complement) c.used_words.ensures.fits)
 
 pub returns-clause-runs : goal.returns-clause-runs
 returns-clause-runs g c = walk_forwards _ _ (returns-clause-items g c)
