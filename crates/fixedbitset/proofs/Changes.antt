@@ -13,7 +13,7 @@ use Rattle.fixedbitset.specs.Bits.{Bits, contains, insert, remove, set_bit, togg
 use Rattle.fixedbitset.specs.BitsFacts.{length-set_bit, contains-set_bit, length-empty, contains-empty, contains-past}
 use Rattle.fixedbitset.specs.Stored.{IsClean}
 use Rattle.fixedbitset.specs.WordsFacts.{length-of_words, has_bit-written}
-use Rattle.fixedbitset.proofs.Words.{contains_word, clean_if, value_if}
+use Rattle.fixedbitset.proofs.Words.{Keeps, keeps, contains_word}
 
 -- the word has b at bit j, and else the bits of the old one
 record ChangesBit (old new j : ℕ) (b : Bool) : Type 0 where
@@ -38,33 +38,18 @@ place_within n bit ws clean h = omega (arith, clean.count)
 
 -- the words with word bit / 64 replaced by one that has b at bit mod 64
 module _ (n bit : ℕ) (ws : List ℕ) (new : ℕ) (b : Bool) (inside : bit < n) (clean : IsClean n ws) (changes : ChangesBit (get_or ws (bit / 64) 0) new (bit % 64) b) where
-  long : (set_bit (of_words n ws) bit b).length ≡ n
-  long = length-set_bit (of_words n ws) bit b ∙ length-of_words n ws
-
   has_bit-set : (p : ℕ) → has_bit (set ws (bit / 64) new) p ≡ cond (p == bit) b (has_bit ws p)
   unfolding has_bit
-  has_bit-set p =
-      has_bit-written ws (bit / 64) new p (place_within n bit ws clean inside)
-      ∙ grind (arith, nat_tests, changes.same, changes.others (p % 64))
+  has_bit-set p = has_bit-written ws (bit / 64) new p (place_within n bit ws clean inside) ∙ grind (arith, nat_tests, changes.same, changes.others (p % 64))
 
-  has_bit-changed : (p : ℕ) → has_bit (set ws (bit / 64) new) p ≡ contains (set_bit (of_words n ws) bit b) p
-  has_bit-changed p = rw (has_bit-set p, contains_word n ws p clean) (sym (contains-set_bit (of_words n ws) bit b p (rw (length-of_words n ws) inside)))
+  keeps_set : Keeps n (set ws (bit / 64) new) (set_bit (of_words n ws) bit b)
+  keeps_set =
+      keeps n _ (set_bit (of_words n ws) bit b) clean.fits (length-set ws (bit / 64) new ∙ clean.count) (length-set_bit (of_words n ws) bit b ∙ length-of_words n ws) (λ p.
+      rw (has_bit-set p, contains_word n ws p clean) (sym (contains-set_bit (of_words n ws) bit b p (rw (length-of_words n ws) inside))))
 
-  IsClean-set : IsClean n (set ws (bit / 64) new)
-  IsClean-set = clean_if n _ (set_bit (of_words n ws) bit b) clean.fits (length-set ws (bit / 64) new ∙ clean.count) long has_bit-changed
-
-  of-set : of_words n (set ws (bit / 64) new) ≡ set_bit (of_words n ws) bit b
-  of-set = value_if n _ (set_bit (of_words n ws) bit b) long has_bit-changed
-
--- no word has no bit
-no_bits : (p : ℕ) → has_bit [] p ≡ contains (empty 0) p
-no_bits p = has_bit-past [] p (omega arith) ∙ sym (contains-empty 0 p)
-
-pub IsClean-nil : IsClean 0 []
-IsClean-nil = clean_if 0 [] (empty 0) (lit< tt) refl (length-empty 0) no_bits
-
-pub of-nil : of_words 0 [] ≡ empty 0
-of-nil = value_if 0 [] (empty 0) (length-empty 0) no_bits
+-- no word stands for a value of length 0
+pub keeps_nil : Keeps 0 [] (empty 0)
+keeps_nil = keeps 0 [] (empty 0) (lit< tt) refl (length-empty 0) (λ p. has_bit-past [] p (omega arith) ∙ sym (contains-empty 0 p))
 
 -- ---- one bit of words, of which x is the one that has it
 module _ (n : ℕ) (ws : List ℕ) (bit : ℕ) (clean : IsClean n ws) (inside : bit < n) where
@@ -73,17 +58,17 @@ module _ (n : ℕ) (ws : List ℕ) (bit : ℕ) (clean : IsClean n ws) (inside : 
 
   pub insert_of : of_words n (set ws (bit / 64) (bit_or x (1 * 2 ^ (bit % 64) % 2 ^ 64))) ≡ insert (of_words n ws) bit
   unfolding set_bit
-  insert_of = of-set n bit ws _ true inside clean (ChangesBit-set x (bit % 64) (omega arith))
+  insert_of = (keeps_set n bit ws _ true inside clean (ChangesBit-set x (bit % 64) (omega arith))).value
 
   pub insert_clean : IsClean n (set ws (bit / 64) (bit_or x (1 * 2 ^ (bit % 64) % 2 ^ 64)))
-  insert_clean = IsClean-set n bit ws _ true inside clean (ChangesBit-set x (bit % 64) (omega arith))
+  insert_clean = (keeps_set n bit ws _ true inside clean (ChangesBit-set x (bit % 64) (omega arith))).clean
 
   pub remove_of : of_words n (set ws (bit / 64) (bit_and x (bit_not w64 (1 * 2 ^ (bit % 64) % 2 ^ 64)))) ≡ remove (of_words n ws) bit
   unfolding set_bit
-  remove_of = of-set n bit ws _ false inside clean (ChangesBit-clear x (bit % 64) (omega arith))
+  remove_of = (keeps_set n bit ws _ false inside clean (ChangesBit-clear x (bit % 64) (omega arith))).value
 
   pub remove_clean : IsClean n (set ws (bit / 64) (bit_and x (bit_not w64 (1 * 2 ^ (bit % 64) % 2 ^ 64))))
-  remove_clean = IsClean-set n bit ws _ false inside clean (ChangesBit-clear x (bit % 64) (omega arith))
+  remove_clean = (keeps_set n bit ws _ false inside clean (ChangesBit-clear x (bit % 64) (omega arith))).clean
 
   -- whether the word has the bit
   word_bit : (bit_at x (bit % 64) == 1) ≡ contains (of_words n ws) bit
@@ -92,10 +77,10 @@ module _ (n : ℕ) (ws : List ℕ) (bit : ℕ) (clean : IsClean n ws) (inside : 
 
   pub toggle_of : of_words n (set ws (bit / 64) (bit_xor x (1 * 2 ^ (bit % 64) % 2 ^ 64))) ≡ toggle (of_words n ws) bit
   unfolding toggle
-  toggle_of = of-set n bit ws _ _ inside clean (ChangesBit-flip x (bit % 64) (omega arith)) ∙ ap (λ b. set_bit (of_words n ws) bit (not b)) word_bit
+  toggle_of = (keeps_set n bit ws _ _ inside clean (ChangesBit-flip x (bit % 64) (omega arith))).value ∙ ap (λ b. set_bit (of_words n ws) bit (not b)) word_bit
 
   pub toggle_clean : IsClean n (set ws (bit / 64) (bit_xor x (1 * 2 ^ (bit % 64) % 2 ^ 64)))
-  toggle_clean = IsClean-set n bit ws _ _ inside clean (ChangesBit-flip x (bit % 64) (omega arith))
+  toggle_clean = (keeps_set n bit ws _ _ inside clean (ChangesBit-flip x (bit % 64) (omega arith))).clean
 
   -- the test `word & (1 << k) != 0`
   pub read_bit : not (bit_and x (1 * 2 ^ (bit % 64) % 2 ^ 64) == 0) ≡ contains (of_words n ws) bit

@@ -7,8 +7,7 @@ use Rattle.bitwords.specs.RowFacts.{bit-zero, has_bit-same}
 use Rattle.fixedbitset.specs.Bits.{Bits, contains, empty, grow, storage_words, of_words}
 use Rattle.fixedbitset.specs.BitsFacts.{same_bits, contains-grow, length-grow, contains-empty, length-empty}
 use Rattle.fixedbitset.specs.Stored.{IsClean}
-use Rattle.fixedbitset.specs.WordsFacts.{length-of_words}
-use Rattle.fixedbitset.proofs.Words.{contains_word, clean_if, value_if, viewed_length}
+use Rattle.fixedbitset.proofs.Words.{Keeps, keeps, has_bit-of, viewed_length}
 
 abbrev pub zeros : ℕ → List ℕ
 zeros j = replicate j 0
@@ -21,20 +20,12 @@ pub get_or-zeros : (ws : List ℕ) (j i : ℕ) → get_or (ws ++ zeros j) i 0 �
 get_or-zeros ws j i = grind (arith, get_or_append_left ws (zeros j) 0 i, get_or-append_right ws (zeros j) (length ws) i 0, get_or-none j (i - length ws), get_or_past ws i 0)
 
 -- what `lengthen` leaves
-module _ (n m : ℕ) (ws : List ℕ) (v : Bits) (new : List ℕ) (len needed : ℕ) where
-  length-new : IsClean n ws → n < m → len ≡ length ws → needed ≡ storage_words m → new ≡ ws ++ replicate (needed - len) 0 → length new ≡ storage_words m
-  length-new clean longer same_len same_needed items = omega (arith, ap length items, length-append ws (zeros (needed - len)), length-replicate {A = ℕ} (needed - len) 0, clean.count)
-
-  has_bit-grown : IsClean n ws → n < m → new ≡ ws ++ replicate (needed - len) 0 → (p : ℕ) → has_bit new p ≡ contains (grow (of_words n ws) m) p
-  has_bit-grown clean longer items p = rw items (has_bit-same _ ws (get_or-zeros ws (needed - len)) p ∙ contains_word n ws p clean ∙ sym (contains-grow (of_words n ws) m p))
-
-  pub IsClean_longer : IsClean n ws → m < 2 ^ 64 → n < m → len ≡ length ws → needed ≡ storage_words m → new ≡ ws ++ replicate (needed - len) 0 → IsClean m new
-  IsClean_longer clean below longer same_len same_needed items =
-      clean_if m new (grow (of_words n ws) m) below (length-new clean longer same_len same_needed items) (omega (arith, length-grow (of_words n ws) m, length-of_words n ws)) (has_bit-grown clean longer items)
-
-  pub of_longer : of_words n ws ≡ v → IsClean n ws → m < 2 ^ 64 → n < m → len ≡ length ws → needed ≡ storage_words m → new ≡ ws ++ replicate (needed - len) 0 → of_words m new ≡ grow v m
-  of_longer view clean below longer same_len same_needed items =
-      value_if m new (grow (of_words n ws) m) (omega (arith, length-grow (of_words n ws) m, length-of_words n ws)) (has_bit-grown clean longer items) ∙ ap (λ w. grow w m) view
+pub keeps_longer : (n m : ℕ) (ws : List ℕ) (v : Bits) (new : List ℕ) (len needed : ℕ) → of_words n ws ≡ v → IsClean n ws → m < 2 ^ 64 → n < m → len ≡ length ws → needed ≡ storage_words m → new ≡ ws ++ replicate (needed - len) 0 → Keeps m new (grow v m)
+keeps_longer n m ws v new len needed view clean fits longer same_len same_needed items =
+    keeps m new (grow v m) fits
+    (omega (arith, ap length items, length-append ws (zeros (needed - len)), length-replicate {A = ℕ} (needed - len) 0, clean.count))
+    (omega (arith, length-grow v m, viewed_length n ws v view))
+    (λ p. rw items (has_bit-same _ ws (get_or-zeros ws (needed - len)) p ∙ has_bit-of n ws v view clean p ∙ sym (contains-grow v m p)))
 
 pub grow_same : (n m : ℕ) (ws : List ℕ) (v : Bits) → of_words n ws ≡ v → m ≤ n → v ≡ grow v m
 grow_same n m ws v view h = same_bits v (grow v m) (omega (arith, viewed_length n ws v view, length-grow v m)) (λ p. sym (contains-grow v m p))
@@ -48,8 +39,5 @@ has_bit-none : (j n p : ℕ) → has_bit (zeros j) p ≡ contains (empty n) p
 unfolding has_bit
 has_bit-none j n p = rw (get_or-none j (p / 64), contains-empty n p) (bit-zero (p % 64))
 
-pub IsClean_replicate : (n : ℕ) → n < 2 ^ 64 → IsClean n (replicate (storage_words n) 0)
-IsClean_replicate n fits = clean_if n _ (empty n) fits (length-replicate _ 0) (length-empty n) (has_bit-none _ n)
-
-pub of_replicate : (n : ℕ) → n < 2 ^ 64 → of_words n (replicate (storage_words n) 0) ≡ empty n
-of_replicate n fits = value_if n _ (empty n) (length-empty n) (has_bit-none _ n)
+pub keeps_zeros : (n : ℕ) → n < 2 ^ 64 → Keeps n (replicate (storage_words n) 0) (empty n)
+keeps_zeros n fits = keeps n _ (empty n) fits (length-replicate _ 0) (length-empty n) (has_bit-none _ n)

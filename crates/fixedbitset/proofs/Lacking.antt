@@ -1,16 +1,17 @@
 -- What one set has and another one lacks, of the words in which they are kept.
 use Rattle.std.specs.Prelude.{slice_get}
-use Rattle.std.proofs.Common.{◌≡◌, ℕ, Bool, ◌*◌, ◌≤◌, not, ◌&&◌, ◌||◌, List, length, refl, ap, arith}
+use Rattle.std.proofs.Common.{◌≡◌, ℕ, Bool, true, ◌*◌, ◌≤◌, not, ◌&&◌, ◌||◌, List, length, refl, ap, arith}
 use Rattle.bitlanes.specs.Changes.{changes}
 use Rattle.bitwords.specs.Ascending.{ascending}
-use Rattle.bitwords.specs.Rows.{has_bit, count_below, bits_test}
+use Rattle.bitwords.specs.Rows.{has_bit, count_below, bits_test, IsJoined}
 use Rattle.fixedbitset.specs.Bits.{Bits, contains, minimum, of_words}
-use Rattle.fixedbitset.specs.Stored.{IsClean, count_joined}
+use Rattle.fixedbitset.specs.Stored.{IsClean, joined, count_joined}
 use Rattle.fixedbitset.specs.TwoSets.{difference}
 use Rattle.fixedbitset.specs.TwoSetsFacts.{contains-difference, length-difference}
+use Rattle.fixedbitset.specs.WordsFacts.{length-of_words}
 use Rattle.fixedbitset.proofs.JoinedCounts.{count_joined-below}
 use Rattle.fixedbitset.proofs.Positions.{row-asc}
-use Rattle.fixedbitset.proofs.Words.{contains_word, holds_all}
+use Rattle.fixedbitset.proofs.Words.{Keeps, keeps_joined, contains_word, holds_all}
 
 module _ (n : ℕ) (xs : List ℕ) (m : ℕ) (ys : List ℕ) (clean : IsClean n xs) (clean_ys : IsClean m ys) where
   abbrev left : Bits
@@ -31,6 +32,11 @@ module _ (n : ℕ) (xs : List ℕ) (m : ℕ) (ys : List ℕ) (clean : IsClean n 
   pub first_left : slice_get (ascending passes 0 (64 * length xs)) 0 ≡ minimum left
   unfolding minimum
   first_left = ap (λ ps. slice_get ps 0) (row-asc left passes (64 * length xs) room passes_left)
+
+  -- a third set takes them in
+  pub keeps_taken : (k : ℕ) (ws new : List ℕ) → IsClean k ws → n ≤ k → IsJoined (λ x y. x || y) ws passes new → Keeps k new (joined (λ x y. x || y) (of_words k ws) left)
+  keeps_taken k ws new clean_ws shorter done =
+      keeps_joined k ws new (of_words k ws) left refl clean_ws passes passes_left done true (λ y. refl) (λ _. omega (arith, shorter, length-difference (of_words n xs) (of_words m ys), length-of_words n xs, length-of_words k ws))
 
   -- how many of them a third set gains
   pub gained_left : (k : ℕ) (ws : List ℕ) → IsClean k ws → n ≤ k

@@ -11,19 +11,16 @@ use Rattle.fixedbitset.specs.PartsFacts.{length-shift_up, contains-shift_up, len
 use Rattle.fixedbitset.specs.Ranges.{insert_range}
 use Rattle.fixedbitset.specs.RangesFacts.{length-insert_range, contains-insert_range}
 use Rattle.fixedbitset.specs.Stored.{IsClean}
-use Rattle.fixedbitset.specs.WordsFacts.{length-of_words, contains-of_words}
-use Rattle.fixedbitset.proofs.Blocks.{IsClean_cut, of-cut}
-use Rattle.fixedbitset.proofs.Words.{having_is, contains_word, clean_if, value_if}
+use Rattle.fixedbitset.specs.WordsFacts.{length-having, contains-having, length-of_words}
+use Rattle.fixedbitset.proofs.Words.{Keeps, keeps, having_is, contains_word}
 
 -- a row joined with the positions of a test, and then cut at n
-module _ (n : ℕ) (fits : n < 2 ^ 64) (ws mid new : List ℕ) (f : Bool → Bool → Bool) (test : ℕ → Bool) (count : length ws ≡ storage_words n) (moved : IsJoined f ws test mid) (cut : IsJoined (λ x y. x && y) mid (λ p. nat_lt p n) new) where
-  pub IsClean_moved : IsClean n new
-  IsClean_moved = IsClean_cut n fits mid new (moved.long ∙ count) cut
-
-  pub of_moved : of_words n new ≡ having n (λ p. f (has_bit ws p) (test p))
-  of_moved =
-      of-cut n fits mid new (moved.long ∙ count) cut
-      ∙ sym (having_is n (λ p. f (has_bit ws p) (test p)) (of_words n mid) (length-of_words n mid) (λ p below. grind (arith, nat_tests, moved.bits p (omega (arith, count, below)), contains-of_words n mid p)))
+pub keeps_moved : (n : ℕ) → n < 2 ^ 64 → (ws mid new : List ℕ) (f : Bool → Bool → Bool) (test : ℕ → Bool) → length ws ≡ storage_words n → IsJoined f ws test mid → IsJoined (λ x y. x && y) mid (λ p. nat_lt p n) new
+    → Keeps n new (having n (λ p. f (has_bit ws p) (test p)))
+keeps_moved n fits ws mid new f test count moved cut =
+    let passes : ℕ → Bool = λ p. f (has_bit ws p) (test p) in
+    keeps n new (having n passes) fits (cut.long ∙ moved.long ∙ count) (length-having n passes)
+    (λ p. grind (arith, nat_tests, count, moved.long, moved.bits p, cut.long, cut.bits p, has_bit-past new p, contains-having n passes p))
 
 -- ---- what the tests of moved rows mean
 
@@ -55,20 +52,11 @@ module _ (n : ℕ) (ws : List ℕ) (clean : IsClean n ws) where
   having_copy m = having_is m (has_bit ws) (resize (of_words n ws) m false) (length-resize _ m false) (λ p below. grind (arith, nat_tests, same p, contains-resize (of_words n ws) m false p))
 
   -- moved down, no position stands past the length
-  module _ (by : ℕ) (new : List ℕ) (moved : IsJoined (λ x y. y) ws (λ p. has_bit ws (by + p)) new) where
-    long_down : (shift_down (of_words n ws) by).length ≡ n
-    long_down = length-shift_down (of_words n ws) by ∙ sym long
-
-    bits_down : (p : ℕ) → has_bit new p ≡ contains (shift_down (of_words n ws) by) p
-    bits_down p =
-        let turned : by + p ≡ p + by = omega arith in
-        grind (arith, nat_tests, turned, moved.long, moved.bits p, has_bit-past new p, has_bit-past ws (by + p), clean.tail (by + p), same (by + p), contains-shift_down (of_words n ws) by p, long)
-
-    pub IsClean_down : IsClean n new
-    IsClean_down = clean_if n new (shift_down (of_words n ws) by) clean.fits (moved.long ∙ clean.count) long_down bits_down
-
-    pub of_down : of_words n new ≡ shift_down (of_words n ws) by
-    of_down = value_if n new (shift_down (of_words n ws) by) long_down bits_down
+  pub keeps_down : (by : ℕ) (new : List ℕ) → IsJoined (λ x y. y) ws (λ p. has_bit ws (by + p)) new → Keeps n new (shift_down (of_words n ws) by)
+  keeps_down by new moved =
+      keeps n new (shift_down (of_words n ws) by) clean.fits (moved.long ∙ clean.count) (length-shift_down (of_words n ws) by ∙ sym long) (λ p.
+      let turned : by + p ≡ p + by = omega arith in
+      grind (arith, nat_tests, turned, moved.long, moved.bits p, has_bit-past new p, has_bit-past ws (by + p), clean.tail (by + p), same (by + p), contains-shift_down (of_words n ws) by p, long))
 
   -- moved by 0, the value stays
   pub stays_up : of_words n ws ≡ shift_up (of_words n ws) 0
@@ -79,19 +67,13 @@ module _ (n : ℕ) (ws : List ℕ) (clean : IsClean n ws) where
 
 -- ---- positions written over with those of another row
 
-module _ (n m : ℕ) (old ws new : List ℕ) (clean : IsClean n old) (other : IsClean m ws) (start end at : ℕ) (room : at + (end - start) ≤ n) (done : IsCopied ws start at (at + (end - start)) old new) where
-  abbrev copied : Bits
-  copied = copy_range (of_words n old) (of_words m ws) start end at
-
-  has_bit-copied : (p : ℕ) → has_bit new p ≡ contains copied p
-  has_bit-copied p =
-      grind (arith, nat_tests, done.before p, done.copied p, done.behind p, clean.tail p, contains_word n old p clean, contains_word m ws (start + (p - at)) other, contains-copy_range (of_words n old) (of_words m ws) start end at p, length-of_words n old)
-
-  pub IsClean_copied : IsClean n new
-  IsClean_copied = clean_if n new copied clean.fits (done.long ∙ clean.count) (length-copy_range _ _ start end at ∙ length-of_words n old) has_bit-copied
-
-  pub of_copied : of_words n new ≡ copy_range (of_words n old) (of_words m ws) start end at
-  of_copied = value_if n new copied (length-copy_range _ _ start end at ∙ length-of_words n old) has_bit-copied
+pub keeps_copied : (n m : ℕ) (old ws new : List ℕ) → IsClean n old → IsClean m ws → (start end at : ℕ) → at + (end - start) ≤ n → IsCopied ws start at (at + (end - start)) old new
+    → Keeps n new (copy_range (of_words n old) (of_words m ws) start end at)
+keeps_copied n m old ws new clean other start end at room done =
+    let v : Bits = of_words n old in
+    let w : Bits = of_words m ws in
+    keeps n new (copy_range v w start end at) clean.fits (done.long ∙ clean.count) (length-copy_range v w start end at ∙ length-of_words n old) (λ p.
+    grind (arith, nat_tests, done.before p, done.copied p, done.behind p, clean.tail p, contains_word n old p clean, contains_word m ws (start + (p - at)) other, contains-copy_range v w start end at p, length-of_words n old))
 
 -- ---- parts put together
 
@@ -107,22 +89,14 @@ module _ (n m : ℕ) (ws cut new : List ℕ) (clean : IsClean n ws) (shorter : m
   long_cut : length cut ≡ storage_words m
   long_cut = ap length kept ∙ length-take-le (storage_words m) ws (omega (arith, clean.count))
 
-  shortened : (truncate (of_words n ws) m).length ≡ m
-  shortened = omega (arith, length-truncate (of_words n ws) m, length-of_words n ws)
-
   has_bit-kept : (p : ℕ) → p < m → has_bit cut p ≡ has_bit ws p
   unfolding has_bit
   has_bit-kept p below = rw (kept, get_or-take (storage_words m) ws (p / 64) 0 (omega arith)) refl
 
-  has_bit-truncated : (p : ℕ) → has_bit new p ≡ contains (truncate (of_words n ws) m) p
-  has_bit-truncated p =
-      grind (arith, nat_tests, long_cut, done.long, done.bits p, has_bit-past new p, has_bit-kept p, contains_word n ws p clean, contains-truncate (of_words n ws) m p, length-of_words n ws)
-
-  pub IsClean_truncated : IsClean m new
-  IsClean_truncated = clean_if m new (truncate (of_words n ws) m) (omega (arith, clean.fits)) (done.long ∙ long_cut) shortened has_bit-truncated
-
-  pub of_truncated : of_words m new ≡ truncate (of_words n ws) m
-  of_truncated = value_if m new (truncate (of_words n ws) m) shortened has_bit-truncated
+  pub keeps_truncated : Keeps m new (truncate (of_words n ws) m)
+  keeps_truncated =
+      keeps m new (truncate (of_words n ws) m) (omega (arith, clean.fits)) (done.long ∙ long_cut) (omega (arith, length-truncate (of_words n ws) m, length-of_words n ws)) (λ p.
+      grind (arith, nat_tests, long_cut, done.long, done.bits p, has_bit-past new p, has_bit-kept p, contains_word n ws p clean, contains-truncate (of_words n ws) m p, length-of_words n ws))
 
 -- a value no longer than n
 pub truncate_longer : (v : Bits) (n : ℕ) → v.length ≤ n → v ≡ truncate v n

@@ -1,5 +1,5 @@
 -- What is written of a set: its characters, those of one word after the other, and the bytes of its JSON form.
-use Rattle.std.proofs.Common.{◌≡◌, ℕ, ◌+◌, ◌*◌, ◌/◌, ◌%◌, ◌<◌, ◌≤◌, Bool, if◌then◌else◌, ◌==◌, List, ◌++◌, map, length, take, get_or, refl, sym, ap, ◌∙◌, arith}
+use Rattle.std.proofs.Common.{◌≡◌, ℕ, ◌+◌, ◌*◌, ◌/◌, ◌%◌, ◌^◌, ◌<◌, ◌≤◌, Bool, nat_lt, ◌&&◌, List, ◌++◌, map, length, take, get_or, refl, sym, ap, ◌∙◌, arith}
 use Rattle.std.specs.Int.{bit_at}
 use Rattle.std.specs.List.{range_with_len}
 use Rattle.std.specs.Str.{IsUtf8}
@@ -12,7 +12,7 @@ use Rattle.std.proofs.lemmas.Str.Ascii.{IsAscii-from_reads}
 use Rattle.bitlanes.specs.Bits.{bit}
 use Rattle.bitwords.specs.AscendingFacts.{range-append}
 use Rattle.bitwords.specs.CountFacts.{indicator}
-use Rattle.bitwords.specs.Rows.{has_bit}
+use Rattle.bitwords.specs.Rows.{has_bit, IsJoined}
 use Rattle.bitjson.specs.Bytes.{word_of, byte_of, bytes_of}
 use Rattle.bitjson.specs.BytesFacts.{bit_at-word_of, bit_at-byte_of, byte_of-lt}
 use Rattle.bitjson.specs.Form.{object_of}
@@ -20,7 +20,8 @@ use Rattle.fixedbitset.specs.Bits.{Bits, contains, of_words, word, words, words_
 use Rattle.fixedbitset.specs.Json.{of_bytes, byte, bytes, written}
 use Rattle.fixedbitset.specs.Text.{digit, text}
 use Rattle.fixedbitset.specs.WordsFacts.{length-of_words, contains-of_words, number_at-lt, bit_at-number_at, length-words, get_or-words}
-use Rattle.fixedbitset.proofs.Words.{having_is}
+use Rattle.fixedbitset.proofs.Blocks.{keeps_cut}
+use Rattle.fixedbitset.proofs.Words.{Keeps, having_is}
 
 -- ---- characters
 
@@ -77,9 +78,14 @@ module _ (bs : List ℕ) (small : (j : ℕ) → get_or bs j 0 < 256) (n : ℕ) w
       let low : p % 64 % 8 ≡ p % 8 = omega arith in
       rw (at, bit_at-word_of bs small (p / 64) (p % 64) (omega arith), place, low) refl
 
-  pub of_words-made : of_words n made ≡ of_bytes n bs
+  of_words-made : of_words n made ≡ of_bytes n bs
   unfolding of_bytes
   of_words-made = sym (having_is n _ (of_words n made) (length-of_words n made) (λ p below. grind (arith, nat_tests, has_bit-made p below, contains-of_words n made p)))
+
+  pub keeps_made : n < 2 ^ 64 → (mid new : List ℕ) → mid ≡ made → IsJoined (λ x y. x && y) mid (λ p. nat_lt p n) new → Keeps n new (of_bytes n bs)
+  keeps_made fits mid new is done =
+      let cut = keeps_cut n fits mid new (ap length is ∙ length-map-range_with_len (word_of bs) 0 (storage_words n)) done in
+      record { value = cut.value ∙ ap (of_words n) is ∙ of_words-made; clean = cut.clean }
 
 -- a byte of the words of a value is that of its positions
 byte_of-words : (v : Bits) (j : ℕ) → j < 8 * words_needed v.length → byte_of (words v) j ≡ byte v j

@@ -1,5 +1,5 @@
 -- The words in which a set keeps a value, against its positions; the values of ranges and of joins, and words joined with a test.
-use Rattle.std.proofs.Common.{◌≡◌, ℕ, ◌+◌, ◌*◌, ◌^◌, ◌<◌, ◌≤◌, Bool, true, false, ◌&&◌, nat_lt, nat_le, IsTrue, List, Vec, length, take, get_or, sym, ap, ◌∙◌, arith}
+use Rattle.std.proofs.Common.{◌≡◌, ℕ, ◌+◌, ◌*◌, ◌^◌, ◌<◌, ◌≤◌, Bool, true, false, ◌&&◌, nat_lt, nat_le, IsTrue, List, Vec, length, take, get_or, refl, sym, ap, ◌∙◌, arith}
 use Rattle.std.specs.Vec.{with_items}
 use Rattle.std.proofs.lemmas.Bool.{leb-true, and_parts}
 use Rattle.std.proofs.lemmas.Bool.Decides.{nat_tests}
@@ -45,13 +45,18 @@ valid_range v start end valid = let parts = and_parts (nat_le start end) (nat_le
 pub contains_word : (n : ℕ) (ws : List ℕ) (p : ℕ) → IsClean n ws → has_bit ws p ≡ contains (of_words n ws) p
 contains_word n ws p clean = grind (arith, nat_tests, contains-of_words n ws p, clean.tail p)
 
--- words that have the positions of a value of this length
-pub clean_if : (n : ℕ) (ws : List ℕ) (v : Bits) → n < 2 ^ 64 → length ws ≡ storage_words n → v.length ≡ n → ((p : ℕ) → has_bit ws p ≡ contains v p) → IsClean n ws
-clean_if n ws v fits count long same = record { fits = fits; count = count; tail = λ p past. same p ∙ contains-past v p (omega arith) }
+-- words that stand for a value, and are those of a set
+pub record Keeps (n : ℕ) (ws : List ℕ) (v : Bits) : Type 0 where
+  pub value : of_words n ws ≡ v
+  pub clean : IsClean n ws
 
-pub value_if : (n : ℕ) (ws : List ℕ) (v : Bits) → v.length ≡ n → ((p : ℕ) → has_bit ws p ≡ contains v p) → of_words n ws ≡ v
+-- so do those that have the positions of a value of this length
+pub keeps : (n : ℕ) (ws : List ℕ) (v : Bits) → n < 2 ^ 64 → length ws ≡ storage_words n → v.length ≡ n → ((p : ℕ) → has_bit ws p ≡ contains v p) → Keeps n ws v
 unfolding of_words
-value_if n ws v long same = having_is n (has_bit ws) v long (λ p _. same p)
+keeps n ws v fits count long same = record {
+  value = having_is n (has_bit ws) v long (λ p _. same p);
+  clean = record { fits = fits; count = count; tail = λ p past. same p ∙ contains-past v p (omega arith) };
+}
 
 pub of_length : (n : ℕ) (ws : List ℕ) → (of_words n ws).length ≡ n
 of_length n ws = length-of_words n ws
@@ -99,30 +104,27 @@ module _ (n : ℕ) (ws : List ℕ) (v : Bits) (view : of_words n ws ≡ v) (clea
   pub reaches : (start end : ℕ) → IsTrue (is_valid v start end) → end ≤ 64 * length ws
   reaches start end valid = omega (arith, holds_all, valid_range v start end valid)
 
--- ---- words joined bit by bit with a test of positions
+-- ---- words joined bit by bit with a test of positions, which a set may take in if it is no longer than the first
 
-module _ {t : Bool → Bool → Bool} (n : ℕ) (ws new : List ℕ) (other : ℕ → Bool) (v w : Bits) (view : of_words n ws ≡ v) (clean : IsClean n ws) (same : (p : ℕ) → other p ≡ contains w p) (done : IsJoined t ws other new) where
-  pub of_joined : of_words n new ≡ joined t v w
-  of_joined =
+module _ {t : Bool → Bool → Bool} (n : ℕ) (ws new : List ℕ) (v w : Bits) (view : of_words n ws ≡ v) (clean : IsClean n ws) where
+  pub keeps_joined : (other : ℕ → Bool) → ((p : ℕ) → other p ≡ contains w p) → IsJoined t ws other new
+      → (also : Bool) → ((y : Bool) → t false y ≡ (also && y)) → (also ≡ true → w.length ≤ v.length) → Keeps n new (joined t v w)
+  unfolding joined
+  keeps_joined other same done also of_second shorter =
       let long = viewed_length n ws v view in
-      sym (joined_is t v w (of_words n new) (length-of_words n new ∙ long) (λ p below.
-      let bits = done.bits p (omega (arith, clean.count)) in
-      grind (arith, nat_tests, contains-of_words n new p, long, bits, has_bit-of n ws v view clean p, same p)))
+      let test : ℕ → Bool = λ p. t (contains v p) (contains w p) in
+      keeps n new (having v.length test) clean.fits (done.long ∙ clean.count) (length-having v.length test ∙ sym long) (λ p.
+      grind (arith, nat_tests, long, clean.count, done.bits p, done.long, has_bit-past new p, has_bit-of n ws v view clean p, clean.tail p, same p, of_second (contains w p), contains-past w p, shorter, contains-having v.length test p))
 
-  pub IsClean_joined : (also : Bool) → ((y : Bool) → t false y ≡ (also && y)) → (also ≡ true → w.length ≤ v.length) → IsClean n new
-  IsClean_joined also of_second shorter =
-      let long = viewed_length n ws v view in
-      record {
-        fits = clean.fits;
-        count = done.long ∙ clean.count;
-        tail = λ p past. grind (arith, long, done.bits p, done.long, has_bit-past new p, clean.tail p past, same p, of_second (contains w p), contains-past w p, shorter);
-      }
+  -- by those of another set, with an operation whose laws are known
+  pub keeps_pair : (m : ℕ) (ys : List ℕ) → of_words m ys ≡ w → IsClean m ys → IsJoined t ws (has_bit ys) new
+      → {f : ℕ → ℕ → ℕ} {keep take : Bool} → IsWordOp f t keep take → (take ≡ true → m ≤ n) → Keeps n new (joined t v w)
+  keeps_pair m ys view_other clean_other done {take = take} law shorter =
+      keeps_joined (has_bit ys) (has_bit-of m ys w view_other clean_other) done take law.of_second (λ takes. omega (arith, shorter takes, viewed_length n ws v view, viewed_length m ys w view_other))
 
--- the words of two sets joined by an operation whose laws are known, where a set that is taken in is no longer than the first
-module _ {t : Bool → Bool → Bool} (n : ℕ) (ws : List ℕ) (m : ℕ) (ys new : List ℕ) (v w : Bits) (view : of_words n ws ≡ v) (clean : IsClean n ws) (view_other : of_words m ys ≡ w) (clean_other : IsClean m ys) (done : IsJoined t ws (has_bit ys) new) where
-  pub of_pair : of_words n new ≡ joined t v w
-  of_pair = of_joined n ws new (has_bit ys) v w view clean (has_bit-of m ys w view_other clean_other) done
-
-  pub IsClean_pair : {f : ℕ → ℕ → ℕ} {keep take : Bool} → IsWordOp f t keep take → (take ≡ true → m ≤ n) → IsClean n new
-  IsClean_pair {take = take} law shorter =
-      IsClean_joined n ws new (has_bit ys) v w view clean (has_bit-of m ys w view_other clean_other) done take law.of_second (λ takes. omega (arith, shorter takes, viewed_length n ws v view, viewed_length m ys w view_other))
+-- by a range
+pub keeps_range : {t : Bool → Bool → Bool} (n : ℕ) (ws new : List ℕ) → IsClean n ws → (start end : ℕ) → IsTrue (is_valid (of_words n ws) start end) → IsJoined t ws (in_range start end) new
+    → {f : ℕ → ℕ → ℕ} {keep take : Bool} → IsWordOp f t keep take → Keeps n new (joined t (of_words n ws) (range_set start end))
+keeps_range n ws new clean start end valid done {take = take} law =
+    keeps_joined n ws new (of_words n ws) (range_set start end) refl clean (in_range start end) (λ p. sym (contains-range_set start end p)) done take law.of_second
+    (λ _. omega (arith, length-range_set start end, valid_range (of_words n ws) start end valid))

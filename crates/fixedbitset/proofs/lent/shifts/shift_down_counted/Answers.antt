@@ -1,8 +1,8 @@
-use Rattle.fixedbitset.proofs.Moves.{IsClean_down, of_down}
+use Rattle.fixedbitset.proofs.Moves.{keeps_down}
 use Rattle.fixedbitset.proofs.lent.shifts.shift_down_counted.Goals as goal
 
 pub returns-clause-value : goal.returns-clause-value
-returns-clause-value c = of_down _ _ c.requires c.args.by _ c.down.ensures.bits
+returns-clause-value c = (keeps_down _ _ c.requires _ _ c.down.ensures.bits).value
 
 pub returns-clause-clean : goal.returns-clause-clean
-returns-clause-clean c = IsClean_down _ _ c.requires c.args.by _ c.down.ensures.bits
+returns-clause-clean c = (keeps_down _ _ c.requires _ _ c.down.ensures.bits).clean

@@ -2,7 +2,7 @@ use Rattle.std.proofs.Common.{rules, ◌≡◌, ◌++◌, ℕ, List, drop, lengt
 use Rattle.std.specs.Vec.{with_items}
 use Rattle.std.proofs.lemmas.List.{with_items_is}
 use Rattle.fixedbitset.specs.Bits.{storage_words}
-use Rattle.fixedbitset.proofs.Blocks.{IsClean_cut, of_filled}
+use Rattle.fixedbitset.proofs.Blocks.{keeps_cut, of_filled}
 use Rattle.fixedbitset.proofs.Growth.{zeros}
 use Rattle.fixedbitset.proofs.set.FixedBitSet.with_capacity_and_blocks.Goals as goal
 
@@ -13,7 +13,7 @@ invariant_of-result g c =
     let needed : words.len ≡ storage_words c.args.bits = c.in_ok-words.ensures.len ∙ c.storage_words.ensures in
     let filled = with_items_is words c.fill.new.words long in
     let done = rw (c.deref_mut-2.ensures.value, filled) at c.clear_from.ensures in
-    rw (with_items_is (with_items words c.fill.new.words) c.clear_from.new.words (done.long ∙ long)) (IsClean_cut _ c.ranges.bits.fits _ _ (long ∙ needed) done)
+    rw (with_items_is (with_items words c.fill.new.words) c.clear_from.new.words (done.long ∙ long)) (keeps_cut _ c.ranges.bits.fits _ _ (long ∙ needed) done).clean
 
 pub returns : goal.returns
 returns g c =
@@ -33,7 +33,7 @@ returns g c =
         (
           omega (arith, run.2.0, c.div_ceil.ensures),
           λ short. run.2.1 (omega (arith, short, c.div_ceil.ensures)),
-          rw (with_items_is (with_items words c.fill.new.words) c.clear_from.new.words (done.long ∙ long)) (of_filled _ c.ranges.bits.fits _ _ (long ∙ needed) done run.0.items is),
+          rw (with_items_is (with_items words c.fill.new.words) c.clear_from.new.words (done.long ∙ long)) ((keeps_cut _ c.ranges.bits.fits _ _ (long ∙ needed) done).value ∙ of_filled _ run.0.items _ is),
         ),
       ),
     )
