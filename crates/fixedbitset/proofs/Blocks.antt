@@ -1,12 +1,12 @@
 -- Words written anew: from an iterator, one alone, or cut at a length; and words that are made 0.
-use Rattle.std.proofs.Common.{◌≡◌, ℕ, zero, suc, ◌-◌, ◌*◌, ◌/◌, ◌%◌, ◌^◌, ◌<◌, ◌≤◌, min, max, Bool, cond, ◌&&◌, ◌==◌, nat_lt, List, [], ◌∷◌, ◌++◌, drop, replicate, length, set, bit_and, refl, sym, ap, ◌∙◌, arith}
+use Rattle.std.proofs.Common.{◌≡◌, ℕ, zero, suc, ◌-◌, ◌*◌, ◌%◌, ◌^◌, ◌<◌, ◌≤◌, min, ◌&&◌, nat_lt, List, [], ◌∷◌, ◌++◌, drop, replicate, length, set, bit_and, refl, sym, ap, ◌∙◌, arith}
 use Rattle.std.proofs.lemmas.Bool.Decides.{nat_tests}
 use Rattle.std.proofs.lemmas.List.{length-set}
 use Rattle.bitlanes.specs.Bits.{bit}
 use Rattle.bitlanes.specs.BitLaws.{bit-and}
-use Rattle.bitwords.specs.Rows.{has_bit, IsJoined}
+use Rattle.bitwords.specs.Rows.{IsJoined}
 use Rattle.bitwords.specs.RowFacts.{has_bit-past, has_bit-same}
-use Rattle.fixedbitset.specs.Bits.{Bits, contains, empty, grow, set_block, words_needed, storage_words, words, of_words}
+use Rattle.fixedbitset.specs.Bits.{Bits, empty, grow, set_block, words_needed, storage_words, words, of_words}
 use Rattle.fixedbitset.specs.BitsFacts.{same_bits, length-grow, contains-grow}
 use Rattle.fixedbitset.specs.Stored.{IsClean}
 use Rattle.fixedbitset.specs.WordsFacts.{length-of_words, contains-of_words, length-words, has_bit-written, length-set_block, contains-set_block}

@@ -1,8 +1,8 @@
 -- The changes by another set or by a range are joins, and so are the new sets.
-use Rattle.std.proofs.Common.{◌≡◌, ℕ, ◌≤◌, max, Bool, not, ◌&&◌, ◌||◌, sym, ap, ◌∙◌, arith}
+use Rattle.std.proofs.Common.{◌≡◌, ℕ, ◌≤◌, max, not, ◌&&◌, ◌||◌, sym, ap, ◌∙◌, arith}
 use Rattle.std.proofs.lemmas.Bool.Decides.{nat_tests}
 use Rattle.bitlanes.specs.Bits.{either}
-use Rattle.fixedbitset.specs.Bits.{Bits, contains, grow}
+use Rattle.fixedbitset.specs.Bits.{Bits, grow}
 use Rattle.fixedbitset.specs.BitsFacts.{contains-grow, length-grow}
 use Rattle.fixedbitset.specs.Ranges.{insert_range, remove_range, toggle_range}
 use Rattle.fixedbitset.specs.RangesFacts.{length-insert_range, length-remove_range, length-toggle_range, contains-insert_range, contains-remove_range, contains-toggle_range}

@@ -4,7 +4,6 @@ use Rattle.std.specs.Int.{bit_not, w64, div_ceil}
 use Rattle.std.specs.List.{last_or}
 use Rattle.std.proofs.lemmas.Bool.Decides.{nat_tests}
 use Rattle.std.proofs.lemmas.List.{get_or-map, take_all, length-append}
-use Rattle.bitlanes.specs.Bits.{bit}
 use Rattle.bitlanes.specs.BitLaws.{bit-not}
 use Rattle.bitwords.specs.Ascending.{ascending}
 use Rattle.bitwords.specs.AscendingFacts.{ascending-same, ascending-skip, ascending-cut, filter-ascending, length-count}

@@ -1,4 +1,4 @@
-use Rattle.std.proofs.Common.{◌≡◌, not, length, ap, ◌∙◌, arith}
+use Rattle.std.proofs.Common.{◌≡◌, not, ◌∙◌}
 use Rattle.bitwords.specs.WalkFacts.{runs_forwards, runs_backwards}
 use Rattle.bitwalks.specs.Pairs.{SievesFirst, SievesLast, sieve_over}
 use Rattle.fixedbitset.specs.Bits.{words}
