@@ -5,8 +5,9 @@ use Rattle.std.specs.FinSet as set
 use Rattle.std.specs.FinSet.{FinSet}
 use Rattle.std.specs.Cmp.{nat_cmp_total, unsigned_tied}
 use Rattle.std.specs.Coded.{Coded-set, coded_bool}
-use Rattle.std.proofs.Common.{refl, sym, ap, ◌∙◌, arith, IsTrue}
-use Rattle.std.proofs.lemmas.Bool.{ltb-true, lt-ltb, eqb-true, false_from_ne_true}
+use Rattle.std.proofs.Common.{refl, sym, ◌∙◌, arith, IsTrue}
+use Rattle.std.proofs.lemmas.Bool.{ltb-true}
+use Rattle.std.proofs.lemmas.Bool.Decides.{nat_tests}
 use mathlib.Core.HLevel.{Σ_prop_path}
 use Rattle.fixedbitset.specs.Numbers.{numbers_below, contains-numbers_below}
 use Rattle.fixedbitset.specs.Bits.{Bits, pair, contains, empty, insert, remove, set_bit, toggle, copy_bit, grow, complement}
@@ -21,7 +22,7 @@ length-pair n s = refl
 
 pub contains-pair : (n : ℕ) (s : FinSet nat_cmp) (p : ℕ) → contains (pair n s) p ≡ (set.contains s p && nat_lt p n)
 unfolding pair contains
-contains-pair n s p = set.contains-intersection nat_cmp_total s (numbers_below n) p ∙ ap (λ b. set.contains s p && b) (contains-numbers_below n p)
+contains-pair n s p = rw (set.contains-intersection nat_cmp_total, contains-numbers_below) refl
 
 -- each position of the set is below the length
 pub contains_below : (v : Bits) (p : ℕ) → contains v p ≡ true → p < v.length
@@ -29,7 +30,7 @@ unfolding contains
 contains_below v p one = ltb-true p v.length (sym (contains-numbers_below v.length p) ∙ set.is_subset-contains nat_cmp_total v.positions _ v.below p one)
 
 pub contains-past : (v : Bits) (p : ℕ) → v.length ≤ p → contains v p ≡ false
-contains-past v p past = false_from_ne_true _ (λ one. let h : p < v.length = contains_below v p one in omega arith)
+contains-past v p past = grind (arith, contains_below v p)
 
 -- two values are equal if their lengths and their positions are
 pub same_bits : (v w : Bits) → v.length ≡ w.length → ((p : ℕ) → contains v p ≡ contains w p) → v ≡ w
@@ -48,7 +49,7 @@ length-empty n = length-pair n _
 
 pub contains-empty : (n p : ℕ) → contains (empty n) p ≡ false
 unfolding empty
-contains-empty n p = contains-pair n _ p ∙ ap (λ b. b && nat_lt p n) (set.contains-empty nat_cmp p)
+contains-empty n p = rw (contains-pair, set.contains-empty) refl
 
 pub length-insert : (v : Bits) (bit : ℕ) → (insert v bit).length ≡ v.length
 unfolding insert
@@ -56,9 +57,7 @@ length-insert v bit = length-pair _ _
 
 pub contains-insert : (v : Bits) (bit p : ℕ) → contains (insert v bit) p ≡ ((p == bit || contains v p) && nat_lt p v.length)
 unfolding insert contains
-contains-insert v bit p =
-    contains-pair v.length _ p
-    ∙ ap (λ b. b && nat_lt p v.length) (set.contains-insert nat_cmp_total v.positions bit p ∙ ap (λ b. b || set.contains v.positions p) (unsigned_tied p bit))
+contains-insert v bit p = contains-pair v.length _ p ∙ rw (set.contains-insert nat_cmp_total, unsigned_tied) refl
 
 pub length-remove : (v : Bits) (bit : ℕ) → (remove v bit).length ≡ v.length
 unfolding remove
@@ -67,27 +66,15 @@ length-remove v bit = length-pair _ _
 pub contains-remove : (v : Bits) (bit p : ℕ) → contains (remove v bit) p ≡ (not (p == bit) && contains v p)
 unfolding remove contains
 contains-remove v bit p =
-    contains-pair v.length _ p
-    ∙ ap (λ b. b && nat_lt p v.length) (set.contains-remove nat_cmp_total v.positions bit p ∙ ap (λ b. not b && set.contains v.positions p) (unsigned_tied p bit))
-    ∙ last_holds (not (p == bit)) (contains v p) (nat_lt p v.length) (λ one. lt-ltb _ _ (contains_below v p one))
+    contains-pair v.length _ p ∙ rw (set.contains-remove nat_cmp_total, unsigned_tied) (grind (arith, nat_tests, contains_below v p))
 
 pub length-set_bit : (v : Bits) (bit : ℕ) (b : Bool) → (set_bit v bit b).length ≡ v.length
 unfolding set_bit
-length-set_bit v bit true = length-insert v bit
-length-set_bit v bit false = length-remove v bit
-
-inserted : (e c l : Bool) → (c ≡ true → l ≡ true) → (e ≡ true → l ≡ true) → ((e || c) && l) ≡ cond e true c
-inserted e c l f g = grind arith
-
-removed : (e c : Bool) → (not e && c) ≡ cond e false c
-removed e c = grind arith
+length-set_bit v bit b = grind (arith, length-insert, length-remove)
 
 pub contains-set_bit : (v : Bits) (bit : ℕ) (b : Bool) (p : ℕ) → bit < v.length → contains (set_bit v bit b) p ≡ cond (p == bit) b (contains v p)
 unfolding set_bit
-contains-set_bit v bit true p h =
-    contains-insert v bit p
-    ∙ inserted (p == bit) (contains v p) _ (λ one. lt-ltb _ _ (contains_below v p one)) (λ e. let same : p ≡ bit = eqb-true p bit e in lt-ltb _ _ (omega arith))
-contains-set_bit v bit false p h = contains-remove v bit p ∙ removed (p == bit) (contains v p)
+contains-set_bit v bit b p h = grind (arith, nat_tests, contains-insert, contains-remove, contains_below v p)
 
 pub length-toggle : (v : Bits) (bit : ℕ) → (toggle v bit).length ≡ v.length
 unfolding toggle
@@ -111,9 +98,7 @@ length-grow v bits = length-pair _ _
 
 pub contains-grow : (v : Bits) (bits p : ℕ) → contains (grow v bits) p ≡ contains v p
 unfolding grow contains
-contains-grow v bits p =
-    contains-pair (max v.length bits) _ p
-    ∙ last_holds true (contains v p) _ (λ one. let h : p < v.length = contains_below v p one in lt-ltb _ _ (omega arith))
+contains-grow v bits p = contains-pair (max v.length bits) _ p ∙ grind (arith, nat_tests, contains_below v p)
 
 pub length-complement : (v : Bits) → (complement v).length ≡ v.length
 unfolding complement
@@ -121,13 +106,7 @@ length-complement v = length-pair v.length _
 
 pub contains-complement : (v : Bits) (p : ℕ) → contains (complement v) p ≡ (nat_lt p v.length && not (contains v p))
 unfolding complement contains
-contains-complement v p =
-    contains-pair v.length _ p
-    ∙ ap (λ b. b && nat_lt p v.length) (set.contains-difference nat_cmp_total (numbers_below v.length) v.positions p ∙ ap (λ b. b && not (contains v p)) (contains-numbers_below v.length p))
-    ∙ first_again (nat_lt p v.length) (not (contains v p))
-  where
-    first_again : (a b : Bool) → ((a && b) && a) ≡ (a && b)
-    first_again a b = grind arith
+contains-complement v p = contains-pair v.length _ p ∙ rw (set.contains-difference nat_cmp_total, contains-numbers_below) (grind arith)
 
 -- what a caller needs of each change
 pub ruleset facts = (length-empty, length-insert, length-remove, length-set_bit, length-toggle, length-copy_bit, length-grow, contains-empty, contains-insert, contains-remove, contains-set_bit, contains-toggle, contains-copy_bit, contains-grow)

@@ -1,7 +1,8 @@
 -- The value of the words that come from an iterator, for those who call a set.
-use Rattle.std.proofs.Common.{◌≡◌, ℕ, ◌/◌, ◌%◌, ◌<◌, ◌≤◌, Bool, true, ◌&&◌, nat_lt, List, length, take, Option, sym, ap, ◌∙◌, arith, refl, None, ⊎_elim}
+use Rattle.std.proofs.Common.{◌≡◌, ℕ, ◌/◌, ◌%◌, ◌<◌, ◌≤◌, List, length, take, Option, sym, ap, ◌∙◌, arith, refl, None, ⊎_elim}
 use Rattle.std.specs.Iterator.Runs.{YieldsRun}
-use Rattle.std.proofs.lemmas.Bool.{cases_lt, ltb-true}
+use Rattle.std.proofs.lemmas.Bool.{cases_lt}
+use Rattle.std.proofs.lemmas.Bool.Decides.{nat_tests}
 use Rattle.std.proofs.lemmas.Iterator.{YieldsList}
 use Rattle.std.proofs.lemmas.Iterator.Consumers.{YieldsList-so_far, YieldsList-end, YieldsList-at}
 use Rattle.std.proofs.lemmas.List.{map-id, get_or-take}
@@ -12,19 +13,14 @@ use Rattle.fixedbitset.specs.BitsFacts.{same_bits}
 use Rattle.fixedbitset.specs.WordsFacts.{length-of_words, contains-of_words}
 use Rattle.fixedbitset.specs.Blocks.{FirstItems}
 
-same_where : (a b c : Bool) → (c ≡ true → a ≡ b) → (a && c) ≡ (b && c)
-same_where a b c f = grind arith
-
 has_bit-take : (n k p : ℕ) (ws : List ℕ) → words_needed n ≤ k → p < n → has_bit (take k ws) p ≡ has_bit ws p
 unfolding has_bit
 has_bit-take n k p ws enough inside = ap (λ w. bit w (p % 64)) (get_or-take k ws (p / 64) 0 (omega arith))
 
 -- words past those that the length needs do not count
 pub of_words-take : (n k : ℕ) (ws : List ℕ) → words_needed n ≤ k → of_words n (take k ws) ≡ of_words n ws
-of_words-take n k ws enough = same_bits _ _ (length-of_words n _ ∙ sym (length-of_words n ws)) (λ p.
-    contains-of_words n (take k ws) p
-    ∙ same_where _ _ (nat_lt p n) (λ h. has_bit-take n k p ws enough (ltb-true p n h))
-    ∙ sym (contains-of_words n ws p))
+of_words-take n k ws enough =
+    same_bits _ _ (omega (arith, length-of_words)) (λ p. let same = has_bit-take n k p ws enough in grind (arith, nat_tests, contains-of_words, same))
 
 -- an iterator that gives these blocks
 pub first_blocks : {S : Type 0} {steps : S → Option ℕ → S → Type 0} {s : S} {blocks : List ℕ} (n : ℕ) (v : Bits)

@@ -1,20 +1,18 @@
 -- What is written of a set is in the form and means that set, and its text, for those who read and write sets.
-use Rattle.std.proofs.Common.{◌≡◌, ℕ, ◌+◌, ◌*◌, ◌/◌, ◌%◌, ◌<◌, ◌≤◌, Bool, false, ◌&&◌, ◌==◌, nat_lt, List, [], ◌∷◌, ◌++◌, map, codes, get_or, Ok, refl, sym, ap, ◌∙◌, arith, ⊎_elim}
+use Rattle.std.proofs.Common.{◌≡◌, ℕ, ◌+◌, ◌*◌, ◌/◌, ◌%◌, ◌<◌, false, List, [], ◌∷◌, ◌++◌, map, get_or, Ok, refl, ap, ◌∙◌, arith}
 use Rattle.std.specs.Prelude.{decimal, true}
-use Rattle.std.specs.Int.{bit_at}
 use Rattle.std.specs.List.{join_with_byte}
-use Rattle.std.proofs.lemmas.Bool.{cases_lt, le-ltb, lt-ltb, and_right}
+use Rattle.std.proofs.lemmas.Bool.Decides.{nat_tests}
 use Rattle.std.proofs.lemmas.List.{append_assoc, get_or_past}
 use Rattle.std.proofs.lemmas.List.FromFn.{get_or-map-range_with_len, length-map-range_with_len}
 use Rattle.serde_json.specs.Data.{depth}
 use Rattle.serde_json.specs.View.{items_of}
 use Rattle.serde_json.specs.Written.{has_float, compact_text, items_text}
 use Rattle.serde_json.proofs.OnLiterals.{serde_json_on_literals}
-use Rattle.bitwords.specs.CountFacts.{indicator}
 use Rattle.bitjson.specs.Form.{form, numbers, object_of, ◌>>=◌}
 use Rattle.bitjson.specs.FormFacts.{form-object_of, depth-object_of, has_float-object_of}
-use Rattle.fixedbitset.specs.Bits.{Bits, contains, words_needed}
-use Rattle.fixedbitset.specs.BitsFacts.{same_bits, contains-past, last_holds}
+use Rattle.fixedbitset.specs.Bits.{Bits, words_needed}
+use Rattle.fixedbitset.specs.BitsFacts.{same_bits, contains_below}
 use Rattle.fixedbitset.specs.WordsFacts.{length-having, contains-having, number_at-lt, bit_at-number_at}
 use Rattle.fixedbitset.specs.Json.{of_bytes, meaning, byte, bytes, written, json_text}
 
@@ -27,29 +25,15 @@ get_or-bytes v j h = get_or-map-range_with_len (byte v) 0 (8 * words_needed v.le
 pub bytes-lt : (v : Bits) (j : ℕ) → get_or (bytes v) j 0 < 256
 unfolding bytes
 bytes-lt v j =
-    ⊎_elim
-    (λ (lt : j < 8 * words_needed v.length). rw (get_or-bytes v j lt) (number_at-lt v (8 * j) 8))
-    (λ (ge : 8 * words_needed v.length ≤ j). rw (get_or_past (bytes v) j 0 (rw (length-map-range_with_len (byte v) 0 (8 * words_needed v.length)) ge)) (omega arith))
-    (cases_lt j (8 * words_needed v.length))
-
-digit_is_one : (b : Bool) → (indicator b == 1) ≡ b
-digit_is_one b = grind arith
+    grind (arith, get_or-bytes v j, number_at-lt v (8 * j) 8, get_or_past (bytes v) j 0, length-map-range_with_len (byte v) 0 (8 * words_needed v.length))
 
 -- the bytes of a value mean that value
 pub of_bytes-bytes : (v : Bits) → of_bytes v.length (bytes v) ≡ v
 unfolding of_bytes
-of_bytes-bytes v =
-    same_bits _ _ (length-having _ _) (λ p.
-    contains-having v.length _ p
-    ∙ ⊎_elim
-    (λ (lt : p < v.length).
+of_bytes-bytes v = same_bits (of_bytes v.length (bytes v)) v (length-having _ _) (λ p.
     let at : 8 * (p / 8) + p % 8 ≡ p = omega arith in
-    ap (λ x. (bit_at x (p % 8) == 1) && nat_lt p v.length) (get_or-bytes v (p / 8) (omega arith))
-    ∙ ap (λ b. (b == 1) && nat_lt p v.length) (bit_at-number_at v (8 * (p / 8)) 8 (p % 8) (omega arith))
-    ∙ ap (λ b. b && nat_lt p v.length) (digit_is_one (contains v (8 * (p / 8) + p % 8)) ∙ ap (contains v) at)
-    ∙ last_holds true (contains v p) _ (λ _. lt-ltb _ _ lt))
-    (λ (ge : v.length ≤ p). and_right _ _ (le-ltb p v.length ge) ∙ sym (contains-past v p ge))
-    (cases_lt p v.length))
+    contains-having v.length _ p
+    ∙ grind (arith, nat_tests, at, get_or-bytes v (p / 8), bit_at-number_at v (8 * (p / 8)) 8 (p % 8), contains_below v p))
 
 -- ---- what is written
 
@@ -72,15 +56,13 @@ has_float-written v = has_float-object_of v.length (bytes v)
 
 later_text : (b : ℕ) (bs : List ℕ) → items_text true (items_of (numbers (b ∷ bs))) ≡ 44 ∷ (join_with_byte 44 (map decimal (b ∷ bs)) ++ 93 ∷ [])
 later_text b [] = refl
-later_text b (c ∷ bs) = ap (λ t. 44 ∷ (decimal b ++ t)) (later_text c bs) ∙ ap (λ t. 44 ∷ t) (sym (append_assoc (decimal b) _ (93 ∷ [])))
+later_text b (c ∷ bs) = rw (later_text c bs, append_assoc)
 
 list_text : (bs : List ℕ) → items_text false (items_of (numbers bs)) ≡ join_with_byte 44 (map decimal bs) ++ 93 ∷ []
 list_text [] = refl
 list_text (b ∷ []) = refl
-list_text (b ∷ c ∷ bs) = ap (λ t. decimal b ++ t) (later_text c bs) ∙ sym (append_assoc (decimal b) _ (93 ∷ []))
+list_text (b ∷ c ∷ bs) = rw (later_text c bs, append_assoc)
 
 pub text-written : (v : Bits) → compact_text (written v) ≡ json_text v
 unfolding written object_of json_text serde_json_on_literals
-text-written v =
-    let rest : List ℕ = codes ",\"length\":" ++ (decimal v.length ++ codes "}") in
-    ap (λ t. codes "{\"data\":[" ++ (t ++ rest)) (list_text (bytes v)) ∙ ap (λ t. codes "{\"data\":[" ++ t) (append_assoc (join_with_byte 44 (map decimal (bytes v))) (93 ∷ []) rest)
+text-written v = rw (list_text (bytes v), append_assoc (join_with_byte 44 (map decimal (bytes v))) (93 ∷ []))

@@ -1,29 +1,26 @@
 -- How many positions are set and how many are not, and what a change of one position makes of these numbers.
-use Rattle.std.specs.Prelude.{◌≡◌, ◌≢◌, ℕ, zero, suc, ◌+◌, ◌-◌, ◌<◌, ◌≤◌, min, Bool, true, false, cond, not, ◌&&◌, ◌||◌, ◌==◌, nat_lt, nat_le, length}
+use Rattle.std.specs.Prelude.{◌≡◌, ℕ, zero, suc, ◌+◌, ◌-◌, ◌<◌, ◌≤◌, min, Bool, true, false, not, ◌&&◌, ◌==◌, length}
 use Rattle.std.specs.Ordering.{nat_cmp}
 use Rattle.std.specs.Cmp.{nat_cmp_total, unsigned_tied}
 use Rattle.std.specs.FinSet as set
 use Rattle.std.specs.FinSet.{FinSet}
-use Rattle.std.proofs.Common.{refl, sym, ap, ◌∙◌, arith, ⊎_elim}
-use Rattle.std.proofs.lemmas.Bool.{cases_eq, cases_Bool, lt-ltb, ltb-true, le-ltb, le-leb, eq-eqb, eqb-true, ne_eqb, and_parts, and_right, true≢false}
+use Rattle.std.proofs.Common.{sym, ap, ◌∙◌, arith}
+use Rattle.std.proofs.lemmas.Bool.{eq-eqb, eqb-true}
 use Rattle.std.proofs.lemmas.Bool.Decides.{nat_tests}
 use Rattle.bitwords.specs.AscendingFacts.{length-count}
 use Rattle.bitwords.specs.Rows.{count_below}
-use Rattle.bitwords.specs.CountFacts.{indicator, count-zero, count-suc, count-same}
+use Rattle.bitwords.specs.CountFacts.{count-zero, count-suc, count-same}
 use Rattle.fixedbitset.specs.Numbers.{numbers_below, numbers_between, contains-numbers_below}
-use Rattle.fixedbitset.specs.NumbersFacts.{same_set, same_truth, contains-numbers_between, len-below, none_len}
+use Rattle.fixedbitset.specs.NumbersFacts.{same_set, same_truth, contains-numbers_between, len-below, none_len, some_len}
 use Rattle.fixedbitset.specs.Bits.{Bits, contains, empty, insert, remove, is_clear, is_full, complement, asc}
 use Rattle.fixedbitset.specs.BitsFacts.{contains_below, same_bits, length-empty, length-insert, length-remove, contains-empty, contains-insert, contains-remove, contains-complement}
 use Rattle.fixedbitset.specs.Ranges.{count_ones, count_zeroes}
 
 -- ---- a set split in two by another one
 
-one_of_two : (r c : Bool) → indicator (r && c) + indicator (r && not c) ≡ indicator r
-one_of_two r c = grind arith
-
 count-parts : (r c : ℕ → Bool) (n : ℕ) → count_below (λ p. r p && c p) n + count_below (λ p. r p && not (c p)) n ≡ count_below r n
 count-parts r c zero = omega (arith, count-zero (λ p. r p && c p), count-zero (λ p. r p && not (c p)), count-zero r)
-count-parts r c (suc n) = omega (arith, count-suc (λ p. r p && c p) n, count-suc (λ p. r p && not (c p)) n, count-suc r n, one_of_two (r n) (c n), count-parts r c n)
+count-parts r c (suc n) = grind (arith, count-suc (λ p. r p && c p) n, count-suc (λ p. r p && not (c p)) n, count-suc r n, count-parts r c n)
 
 -- the members of s in t and those outside t
 pub len-split : (n : ℕ) (s t : FinSet nat_cmp) → ((p : ℕ) → set.contains s p ≡ true → p < n) → set.len s ≡ set.len (set.intersection s t) + set.len (set.difference s t)
@@ -33,53 +30,37 @@ len-split n s t below =
     omega (
       arith,
       len-below n s below,
-      len-below n (set.intersection s t) (λ p one. below p (and_parts _ _ (sym (inside p) ∙ one)).0),
+      len-below n (set.intersection s t) (λ p one. let low = below p in grind (arith, inside p)),
       count-same _ (λ p. set.contains s p && set.contains t p) n (λ p _. inside p),
-      len-below n (set.difference s t) (λ p one. below p (and_parts _ _ (sym (outside p) ∙ one)).0),
+      len-below n (set.difference s t) (λ p one. let low = below p in grind (arith, outside p)),
       count-same _ (λ p. set.contains s p && not (set.contains t p)) n (λ p _. outside p),
       count-parts (set.contains s) (set.contains t) n,
     )
 
 -- ---- ranges
 
-below_more : (n p : ℕ) → set.contains (numbers_below n) p ≡ true → p < n
-below_more n p one = ltb-true p n (sym (contains-numbers_below n p) ∙ one)
-
 pub len-numbers_below : (n : ℕ) → set.len (numbers_below n) ≡ n
 unfolding numbers_below
 len-numbers_below zero = set.len-empty nat_cmp
-len-numbers_below (suc n) =
-    set.len-insert nat_cmp_total (numbers_below n) n
-    ∙ ap (λ b. cond b (set.len (numbers_below n)) (set.len (numbers_below n) + 1)) (contains-numbers_below n n ∙ le-ltb n n (omega arith))
-    ∙ ap (λ m. m + 1) (len-numbers_below n)
-    ∙ omega arith
+len-numbers_below (suc n) = rw (set.len-insert nat_cmp_total, contains-numbers_below n n) (grind (arith, nat_tests, len-numbers_below n))
 
 -- the numbers below both bounds
 below_both : (n m : ℕ) → set.intersection (numbers_below n) (numbers_below m) ≡ numbers_below (min n m)
-below_both n m = same_set _ _ (λ p.
-    set.contains-intersection nat_cmp_total (numbers_below n) (numbers_below m) p
-    ∙ (λ i. contains-numbers_below n p i && contains-numbers_below m p i)
-    ∙ both p
-    ∙ sym (contains-numbers_below (min n m) p))
-  where
-    both : (p : ℕ) → (nat_lt p n && nat_lt p m) ≡ nat_lt p (min n m)
-    both p = grind (arith, nat_tests)
+below_both n m = same_set _ _ (λ p. rw (set.contains-intersection nat_cmp_total) (grind (arith, nat_tests, contains-numbers_below)))
 
 -- a range has as many numbers as its end is past its start
 pub len-numbers_between : (start end : ℕ) → set.len (numbers_between start end) ≡ end - start
 unfolding numbers_between
 len-numbers_between start end =
-    omega (arith, len-split end (numbers_below end) (numbers_below start) (below_more end), ap set.len (below_both end start), len-numbers_below end, len-numbers_below (min end start))
+    let low = len-split end (numbers_below end) (numbers_below start) (λ p one. grind (arith, nat_tests, contains-numbers_below end p)) in
+    omega (arith, low, ap set.len (below_both end start), len-numbers_below)
 
 -- of the positions of a range those that are set and those that are not add up to the length of the range
 pub range_counts_add_up : (v : Bits) (start end : ℕ) → count_ones v start end + count_zeroes v start end ≡ end - start
 unfolding count_ones count_zeroes
 range_counts_add_up v start end =
-    omega (
-      arith,
-      len-split end (numbers_between start end) v.positions (λ p one. ltb-true p end (and_parts _ _ (sym (contains-numbers_between start end p) ∙ one)).1),
-      len-numbers_between start end,
-    )
+    let parts = len-split end (numbers_between start end) v.positions (λ p one. grind (arith, nat_tests, contains-numbers_between start end p)) in
+    omega (arith, parts, len-numbers_between start end)
 
 -- ---- one set
 
@@ -87,13 +68,7 @@ range_counts_add_up v start end =
 pub count_ones-all : (v : Bits) → count_ones v 0 v.length ≡ set.len v.positions
 unfolding count_ones contains
 count_ones-all v =
-    ap set.len (same_set _ _ (λ p.
-    set.contains-intersection nat_cmp_total (numbers_between 0 v.length) v.positions p
-    ∙ ap (λ b. b && contains v p) (contains-numbers_between 0 v.length p)
-    ∙ inside (nat_le 0 p) (nat_lt p v.length) (contains v p) (le-leb 0 p (omega arith)) (λ one. lt-ltb _ _ (contains_below v p one))))
-  where
-    inside : (low high one : Bool) → low ≡ true → (one ≡ true → high ≡ true) → ((low && high) && one) ≡ one
-    inside low high one f g = grind arith
+    ap set.len (same_set _ _ (λ p. rw (set.contains-intersection nat_cmp_total, contains-numbers_between) (grind (arith, nat_tests, contains_below v p))))
 
 -- no more positions are set than there are
 pub count_ones-most : (v : Bits) → count_ones v 0 v.length ≤ v.length
@@ -105,103 +80,48 @@ count_zeroes-most v = omega (arith, range_counts_add_up v 0 v.length)
 
 pub count_ones-empty : (n : ℕ) → count_ones (empty n) 0 n ≡ 0
 unfolding count_ones contains
-count_ones-empty n =
-    eqb-true _ _ ((none_len _).1 (λ p. set.contains-intersection nat_cmp_total (numbers_between 0 n) (empty n).positions p ∙ and_right _ _ (contains-empty n p)))
+count_ones-empty n = eqb-true _ _ ((none_len _).1 (λ p. rw (set.contains-intersection nat_cmp_total) (grind (arith, contains-empty n p))))
 
 pub count_zeroes-empty : (n : ℕ) → count_zeroes (empty n) 0 n ≡ n
 count_zeroes-empty n = omega (arith, range_counts_add_up (empty n) 0 n, count_ones-empty n)
-
--- a set with a member is not empty
-some_len : (s : FinSet nat_cmp) (p : ℕ) → set.contains s p ≡ true → 0 < set.len s
-some_len s p one =
-    ⊎_elim
-    (λ (none : set.len s ≡ 0). absurd (true≢false (sym one ∙ (none_len s).0 (eq-eqb _ _ none) p)))
-    (λ (ne : set.len s ≢ 0). omega (arith, ne))
-    (cases_eq (set.len s) 0)
 
 -- ---- one position more, and one fewer
 
 positions-insert : (v : Bits) (bit : ℕ) → bit < v.length → (insert v bit).positions ≡ set.insert v.positions bit
 unfolding contains
-positions-insert v bit below = same_set _ _ (λ p.
-    contains-insert v bit p
-    ∙ inside p
-    ∙ sym (set.contains-insert nat_cmp_total v.positions bit p ∙ ap (λ b. b || contains v p) (unsigned_tied p bit)))
-  where
-    low : (a l : Bool) → (a ≡ true → l ≡ true) → (a && l) ≡ a
-    low a l f = grind arith
-
-    inside : (p : ℕ) → ((p == bit || contains v p) && nat_lt p v.length) ≡ (p == bit || contains v p)
-    inside p = low _ _ (λ one. ⊎_elim
-        (λ (here : p ≡ bit). lt-ltb _ _ (omega arith))
-        (λ (other : p ≢ bit). lt-ltb _ _ (contains_below v p (sym (ap (λ b. b || contains v p) (ne_eqb p bit other)) ∙ one)))
-        (cases_eq p bit))
+positions-insert v bit below =
+    same_set _ _ (λ p. rw (set.contains-insert nat_cmp_total, unsigned_tied) (grind (arith, nat_tests, contains-insert v bit p, contains_below v p)))
 
 positions-remove : (v : Bits) (bit : ℕ) → (remove v bit).positions ≡ set.remove v.positions bit
 unfolding contains
-positions-remove v bit = same_set _ _ (λ p.
-    contains-remove v bit p ∙ sym (set.contains-remove nat_cmp_total v.positions bit p ∙ ap (λ b. not b && contains v p) (unsigned_tied p bit)))
+positions-remove v bit = same_set _ _ (λ p. rw (set.contains-remove nat_cmp_total, unsigned_tied) (contains-remove v bit p))
 
 -- one that was not set is set, and one more is
 pub count_ones-insert : (v : Bits) (bit : ℕ) → bit < v.length → contains v bit ≡ false → count_ones (insert v bit) 0 (insert v bit).length ≡ count_ones v 0 v.length + 1
 unfolding contains
-count_ones-insert v bit below off =
-    count_ones-all (insert v bit)
-    ∙ ap set.len (positions-insert v bit below)
-    ∙ set.len-insert nat_cmp_total v.positions bit
-    ∙ ap (λ b. cond b (set.len v.positions) (set.len v.positions + 1)) off
-    ∙ ap (λ m. m + 1) (sym (count_ones-all v))
+count_ones-insert v bit below off = grind (arith, set.members, count_ones-all, positions-insert v bit below)
 
 -- and one fewer is not
 pub count_zeroes-insert : (v : Bits) (bit : ℕ) → bit < v.length → contains v bit ≡ false → count_zeroes (insert v bit) 0 (insert v bit).length + 1 ≡ count_zeroes v 0 v.length
 count_zeroes-insert v bit below off =
-    omega (
-      arith,
-      count_ones-insert v bit below off,
-      count_ones-most (insert v bit),
-      range_counts_add_up v 0 v.length,
-      range_counts_add_up (insert v bit) 0 (insert v bit).length,
-      length-insert v bit,
-    )
+    omega (arith, count_ones-insert v bit below off, count_ones-most (insert v bit), range_counts_add_up, length-insert)
 
 -- one that was set is not, and one fewer is
 pub count_ones-remove : (v : Bits) (bit : ℕ) → contains v bit ≡ true → count_ones (remove v bit) 0 (remove v bit).length + 1 ≡ count_ones v 0 v.length
 unfolding contains
-count_ones-remove v bit on =
-    let left : set.len (set.remove v.positions bit) ≡ set.len v.positions - 1 =
-    set.len-remove nat_cmp_total v.positions bit ∙ ap (λ b. cond b (set.len v.positions - 1) (set.len v.positions)) on in
-    omega (arith, some_len v.positions bit on, left, count_ones-all v, count_ones-all (remove v bit), ap set.len (positions-remove v bit))
+count_ones-remove v bit on = grind (arith, set.members, some_len v.positions bit on, count_ones-all, positions-remove)
 
 -- and one more is not
 pub count_zeroes-remove : (v : Bits) (bit : ℕ) → contains v bit ≡ true → count_zeroes (remove v bit) 0 (remove v bit).length ≡ count_zeroes v 0 v.length + 1
-count_zeroes-remove v bit on =
-    omega (
-      arith,
-      count_ones-remove v bit on,
-      count_ones-most v,
-      range_counts_add_up v 0 v.length,
-      range_counts_add_up (remove v bit) 0 (remove v bit).length,
-      length-remove v bit,
-    )
+count_zeroes-remove v bit on = omega (arith, count_ones-remove v bit on, count_ones-most v, range_counts_add_up, length-remove)
 
 -- one that was set before changes nothing
 pub insert-set : (v : Bits) (bit : ℕ) → contains v bit ≡ true → insert v bit ≡ v
-insert-set v bit on = same_bits _ _ (length-insert v bit) (λ p. contains-insert v bit p ∙ ⊎_elim
-    (λ (here : p ≡ bit).
-    let now : contains v p ≡ true = ap (contains v) here ∙ on in
-    rw (eq-eqb p bit here, lt-ltb _ _ (contains_below v p now)) (sym now))
-    (λ (other : p ≢ bit). rw (ne_eqb p bit other) (first_true (contains v p) _ (λ now. lt-ltb _ _ (contains_below v p now))))
-    (cases_eq p bit))
-  where
-    first_true : (c l : Bool) → (c ≡ true → l ≡ true) → (c && l) ≡ c
-    first_true c l f = grind arith
+insert-set v bit on = same_bits (insert v bit) v (length-insert v bit) (λ p. grind (arith, nat_tests, contains-insert, contains_below v p))
 
 -- one that was not set before is not set after
 pub remove-clear : (v : Bits) (bit : ℕ) → contains v bit ≡ false → remove v bit ≡ v
-remove-clear v bit off = same_bits _ _ (length-remove v bit) (λ p. contains-remove v bit p ∙ ⊎_elim
-    (λ (here : p ≡ bit). rw (eq-eqb p bit here) (sym (ap (contains v) here ∙ off)))
-    (λ (other : p ≢ bit). rw (ne_eqb p bit other) refl)
-    (cases_eq p bit))
+remove-clear v bit off = same_bits (remove v bit) v (length-remove v bit) (λ p. grind (arith, nat_tests, contains-remove))
 
 -- ---- none and all
 
@@ -213,17 +133,12 @@ is_clear-counts v = ap (λ n. n == 0) (sym (count_ones-all v))
 pub is_full-counts : (v : Bits) → is_full v ≡ (count_ones v 0 v.length == v.length)
 unfolding is_full contains
 is_full-counts v = same_truth _ _
-    (λ full. eq-eqb _ _ (count_ones-all v ∙ ap set.len (same_set v.positions (numbers_below v.length) (λ p. same_truth _ _
-    (λ one. set.is_subset-contains nat_cmp_total v.positions _ v.below p one)
-    (λ low. set.is_subset-contains nat_cmp_total (numbers_below v.length) v.positions full p low))) ∙ len-numbers_below v.length))
-    (λ even. set.contains-is_subset nat_cmp_total _ _ (λ p low. kept p low (eqb-true _ _ even)))
-  where
-    kept : (p : ℕ) → set.contains (numbers_below v.length) p ≡ true → count_ones v 0 v.length ≡ v.length → set.contains v.positions p ≡ true
-    kept p low even =
-        ⊎_elim
-        (λ (on : contains v p ≡ true). on)
-        (λ (off : contains v p ≡ false). absurd (let below : p < v.length = below_more v.length p low in omega (arith, count_ones-insert v p below off, count_ones-most (insert v p), length-insert v p)))
-        (cases_Bool (contains v p))
+    (λ full. let has = set.is_subset-contains nat_cmp_total (numbers_below v.length) v.positions full in
+    let same = same_set v.positions (numbers_below v.length) (λ p. let one = has p in
+    grind (arith, nat_tests, contains_below v p, contains-numbers_below)) in
+    eq-eqb _ _ (count_ones-all v ∙ ap set.len same ∙ len-numbers_below v.length))
+    (λ even. set.contains-is_subset nat_cmp_total _ _ (λ p low. let more = count_ones-insert v p in let most = count_ones-most (insert v p) in
+    grind (arith, nat_tests, more, most, contains-numbers_below, length-insert)))
 
 -- each position is set: none is not
 pub count_zeroes-full : (v : Bits) → is_full v ≡ true → count_zeroes v 0 v.length ≡ 0
@@ -234,22 +149,14 @@ count_zeroes-full v full = omega (arith, range_counts_add_up v 0 v.length, eqb-t
 -- a walk over the positions that are set has as many items as are counted
 pub items_counted : (v : Bits) → length (asc v) ≡ count_ones v 0 v.length
 unfolding asc contains
-items_counted v =
-    length-count (contains v) v.length ∙ sym (len-below v.length v.positions (contains_below v)) ∙ sym (count_ones-all v)
+items_counted v = length-count (contains v) v.length ∙ sym (len-below v.length v.positions (contains_below v)) ∙ sym (count_ones-all v)
 
 -- those that are set in the complement are those that are not set
 count_ones-complement : (v : Bits) → count_ones (complement v) 0 (complement v).length ≡ count_zeroes v 0 v.length
 unfolding count_zeroes contains
 count_ones-complement v =
     count_ones-all (complement v)
-    ∙ ap set.len (same_set _ _ (λ p.
-    contains-complement v p
-    ∙ ap (λ b. b && not (contains v p)) (from_zero p v.length)
-    ∙ ap (λ b. b && not (contains v p)) (sym (contains-numbers_between 0 v.length p))
-    ∙ sym (set.contains-difference nat_cmp_total (numbers_between 0 v.length) v.positions p)))
-  where
-    from_zero : (p n : ℕ) → nat_lt p n ≡ (nat_le 0 p && nat_lt p n)
-    from_zero p n = rw (le-leb 0 p (omega arith)) refl
+    ∙ ap set.len (same_set _ _ (λ p. rw (set.contains-difference nat_cmp_total, contains-numbers_between) (grind (arith, nat_tests, contains-complement v p))))
 
 -- and one over those that are not set has as many as there are of these
 pub zero_items_counted : (v : Bits) → length (asc (complement v)) ≡ count_zeroes v 0 v.length
