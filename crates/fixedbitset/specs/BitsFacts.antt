@@ -1,14 +1,11 @@
 -- The length and the members of each value of `Bits`, for those who call a set.
-use Rattle.std.specs.Prelude.{◌≡◌, ℕ, ◌<◌, ◌≤◌, max, Bool, true, false, cond, not, ◌&&◌, ◌||◌, ◌==◌, nat_lt}
-use Rattle.std.specs.Ordering.{nat_cmp}
+use Rattle.std.proofs.Common.{◌≡◌, ℕ, ◌<◌, ◌≤◌, max, Bool, true, false, cond, not, ◌&&◌, ◌||◌, ◌==◌, nat_lt, nat_cmp, ltb-true, refl, sym, ◌∙◌, arith, IsTrue}
 use Rattle.std.specs.FinSet as set
 use Rattle.std.specs.FinSet.{FinSet}
 use Rattle.std.specs.Cmp.{nat_cmp_total, unsigned_tied}
 use Rattle.std.specs.Coded.{Coded-set, coded_bool}
-use Rattle.std.proofs.Common.{refl, sym, ◌∙◌, arith, IsTrue}
-use Rattle.std.proofs.lemmas.Bool.{ltb-true}
 use Rattle.std.proofs.lemmas.Bool.Decides.{nat_tests}
-use mathlib.Core.HLevel.{Σ_prop_path}
+use mathlib.Core.HLevel.{is_prop→PathP}
 use Rattle.fixedbitset.specs.Numbers.{numbers_below, contains-numbers_below}
 use Rattle.fixedbitset.specs.Bits.{Bits, pair, contains, empty, insert, remove, set_bit, toggle, copy_bit, grow, complement}
 
@@ -37,11 +34,8 @@ pub same_bits : (v w : Bits) → v.length ≡ w.length → ((p : ℕ) → contai
 unfolding contains
 same_bits v w same_length same =
     let places : v.positions ≡ w.positions = set.same_set nat_cmp_total set.nat_cmp-IsAntisymmetric v.positions w.positions same in
-    let pairs : ◌≡◌ {A = ℕ × FinSet nat_cmp} (v.length, v.positions) (w.length, w.positions) = λ i. (same_length i, places i) in
-    let both : ◌≡◌ {A = (d : ℕ × FinSet nat_cmp) × IsTrue (set.is_subset d.1 (numbers_below d.0))} ((v.length, v.positions), v.below) ((w.length, w.positions), w.below) =
-    Σ_prop_path (λ d. hlevel (Coded-set coded_bool)) pairs
-    in
-    λ i. record { length = (both i).0.0; positions = (both i).0.1; below = (both i).1 }
+    let inside = is_prop→PathP (λ j. IsTrue (set.is_subset (places j) (numbers_below (same_length j)))) (λ j. hlevel (Coded-set coded_bool)) v.below w.below in
+    λ i. record { length = same_length i; positions = places i; below = inside i }
 
 pub length-empty : (n : ℕ) → (empty n).length ≡ n
 unfolding empty

@@ -1,11 +1,10 @@
 -- The value of the words that come from an iterator, for those who call a set.
-use Rattle.std.proofs.Common.{◌≡◌, ℕ, ◌/◌, ◌%◌, ◌<◌, ◌≤◌, List, length, take, Option, sym, ap, ◌∙◌, arith, refl, None, ⊎_elim}
+use Rattle.std.proofs.Common.{map-id, get_or-take, ◌≡◌, ℕ, ◌/◌, ◌%◌, ◌<◌, ◌≤◌, List, length, take, Option, sym, ap, ◌∙◌, arith, refl, None, ⊎_elim}
 use Rattle.std.specs.Iterator.Runs.{YieldsRun}
 use Rattle.std.proofs.lemmas.Bool.{cases_lt}
 use Rattle.std.proofs.lemmas.Bool.Decides.{nat_tests}
 use Rattle.std.proofs.lemmas.Iterator.{YieldsList}
 use Rattle.std.proofs.lemmas.Iterator.Consumers.{YieldsList-so_far, YieldsList-end, YieldsList-at}
-use Rattle.std.proofs.lemmas.List.{map-id, get_or-take}
 use Rattle.bitlanes.specs.Bits.{bit}
 use Rattle.bitwords.specs.Rows.{has_bit}
 use Rattle.fixedbitset.specs.Bits.{Bits, words_needed, of_words}

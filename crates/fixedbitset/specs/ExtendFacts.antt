@@ -1,8 +1,6 @@
 -- What a run of items makes of a set, for those who know all that the iterator gives.
-use Rattle.std.specs.Prelude.{◌≡◌, ℕ, List, Option, Result, Ok, Err, OnOk, IfOk}
-use Rattle.std.proofs.Common.{sym, ap, ◌∙◌}
+use Rattle.std.proofs.Common.{◌≡◌, ℕ, List, Option, Result, Ok, Err, OnOk, IfOk, map-id, sym, ap, ◌∙◌}
 use Rattle.std.proofs.lemmas.Iterator.{YieldsList, items_from_drains}
-use Rattle.std.proofs.lemmas.List.{map-id}
 use Rattle.fixedbitset.specs.declared.extend.ExtendFault.{ExtendFault}
 use Rattle.fixedbitset.specs.Bits.{Bits, add_all}
 use Rattle.fixedbitset.specs.Extended.{Extends}

@@ -1,6 +1,5 @@
 -- What one call of a walk tells: the first item is the least, and a walk with no item has none to give.
-use Rattle.std.specs.Prelude.{◌≡◌, ℕ, ◌<◌, ◌≤◌, IsTrue, false, List, [], ◌∷◌, Some, None, slice_get}
-use Rattle.std.proofs.Common.{refl, arith}
+use Rattle.std.proofs.Common.{◌≡◌, ℕ, ◌<◌, ◌≤◌, IsTrue, false, List, [], ◌∷◌, Some, None, slice_get, refl, arith}
 use Rattle.std.proofs.lemmas.Bool.{false_from_ne_true}
 use Rattle.std.proofs.lemmas.Bool.Decides.{nat_tests}
 use Rattle.fixedbitset.specs.Bits.{Bits, contains, asc, complement, minimum}

@@ -1,9 +1,8 @@
 -- What is written of a set is in the form and means that set, and its text, for those who read and write sets.
-use Rattle.std.proofs.Common.{◌≡◌, ℕ, ◌+◌, ◌*◌, ◌/◌, ◌%◌, ◌<◌, false, List, [], ◌∷◌, ◌++◌, map, get_or, Ok, refl, ap, ◌∙◌, arith}
-use Rattle.std.specs.Prelude.{decimal, true}
+use Rattle.std.proofs.Common.{decimal, true, append_assoc, ◌≡◌, ℕ, ◌+◌, ◌*◌, ◌/◌, ◌%◌, ◌<◌, false, List, [], ◌∷◌, ◌++◌, map, get_or, Ok, refl, ap, ◌∙◌, arith}
 use Rattle.std.specs.List.{join_with_byte}
 use Rattle.std.proofs.lemmas.Bool.Decides.{nat_tests}
-use Rattle.std.proofs.lemmas.List.{append_assoc, get_or_past}
+use Rattle.std.proofs.lemmas.List.{get_or_past}
 use Rattle.std.proofs.lemmas.List.FromFn.{get_or-map-range_with_len, length-map-range_with_len}
 use Rattle.serde_json.specs.Data.{depth}
 use Rattle.serde_json.specs.View.{items_of}

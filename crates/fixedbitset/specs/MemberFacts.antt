@@ -1,9 +1,7 @@
 -- The positions that each change and each join leaves, as statements, for those who call a set.
-use Rattle.std.specs.Prelude.{IsTrue, ◌↔◌, ◌≡◌, ◌≢◌, ℕ, ◌<◌, ◌≤◌, false, ◌==◌}
+use Rattle.std.proofs.Common.{IsTrue, ◌↔◌, ◌≡◌, ◌≢◌, ℕ, ◌<◌, ◌≤◌, false, ◌==◌, Contains, ◌⊎◌, sym, ap, ◌∙◌, arith}
 use Rattle.std.specs.Cmp.{nat_cmp_total}
 use Rattle.std.specs.FinSet as set
-use Rattle.std.specs.List.{Contains}
-use Rattle.std.proofs.Common.{◌⊎◌, sym, ap, ◌∙◌, arith}
 use Rattle.std.proofs.lemmas.Bool.Decides.{nat_tests}
 use Rattle.fixedbitset.specs.NumbersFacts.{same_truth, member_of, none_len}
 use Rattle.fixedbitset.specs.Bits.{Bits, contains, empty, insert, remove, asc, is_clear, is_full}

@@ -1,18 +1,13 @@
 -- Equality and the order of values, for those who call `==` or `cmp`, or a map whose keys are sets.
-use Rattle.std.proofs.Common.{◌≡◌, ℕ, zero, suc, ◌+◌, ◌-◌, ◌*◌, ◌/◌, ◌%◌, ◌^◌, ◌<◌, ◌≤◌, inl, inr, ⊎_elim, true, List, [], ◌∷◌, length, get_or, take, ◌==◌, IsTrue, ◌↔◌, refl, sym, ◌∙◌, ap, arith}
-use Rattle.std.specs.declared.cmp.Ordering.{Ordering}
-use Rattle.std.specs.declared.cmp.Ordering.TheVariants.{Less, Equal, Greater}
-use Rattle.std.specs.Ordering.{nat_cmp, ordering_then, ordering_reverse, MatchOrdering, is_eq}
+use Rattle.std.proofs.Common.{Ordering, Less, Equal, Greater, nat_cmp, is_eq, Some, get_or-take, pow-suc, ◌≡◌, ℕ, zero, suc, ◌+◌, ◌-◌, ◌*◌, ◌/◌, ◌%◌, ◌^◌, ◌<◌, ◌≤◌, inl, inr, ⊎_elim, true, List, [], ◌∷◌, length, get_or, take, ◌==◌, IsTrue, ◌↔◌, refl, sym, ◌∙◌, ap, arith}
+use Rattle.std.specs.Ordering.{ordering_then, ordering_reverse, MatchOrdering}
 use Rattle.std.specs.Int.{bit_at}
 use Rattle.std.specs.Cmp.{IsEquivalence, IsTotalOrder, IsPartialOrder, on_equiv, on_total, on_po}
 use Rattle.std.specs.Cmp.Lexicographic.{slice_cmp, same_text, texts_ties, texts_po, bytes_decides, nat_list_eq_equiv, nat_list_cmp_total}
-use Rattle.std.specs.declared.option.Option.TheVariants.{Some}
 use Rattle.std.proofs.lemmas.Bool.{cases_lt}
 use Rattle.std.proofs.lemmas.Bool.Decides.{nat_tests}
-use Rattle.std.proofs.lemmas.List.{get_or-take}
 use Rattle.std.proofs.lemmas.Cmp.{ranked}
 use Rattle.std.proofs.lemmas.Nat.Bits.{bit_at-suc, bit_at_lowest}
-use Rattle.std.proofs.Math.Nat.{pow-suc}
 use Rattle.bitlanes.specs.Bits.{bit}
 use Rattle.bitwords.specs.RowFacts.{has_bit-at}
 use Rattle.fixedbitset.specs.Bits.{Bits, contains, words}
@@ -50,23 +45,18 @@ top_bit (suc w) x y fits h =
     (0, omega arith, record { clear = lowest.0; one = lowest.1; above = λ j up. cc (later_bit x j up, later_bit y j up) }))
     (cases_lt (x / 2) (y / 2))
 
--- at k the first list is less, and before it the two agree
-record FirstLess (xs ys : List ℕ) (k : ℕ) : Type 0 where
-  less : get_or xs k 0 < get_or ys k 0
-  before : take k xs ≡ take k ys
-
-first_less : (xs ys : List ℕ) → length xs ≡ length ys → slice_cmp nat_cmp xs ys ≡ Less → (k : ℕ) × FirstLess xs ys k
+-- where the first list comes first there is a first item that is less
+first_less : (xs ys : List ℕ) → length xs ≡ length ys → slice_cmp nat_cmp xs ys ≡ Less → (k : ℕ) × (get_or xs k 0 < get_or ys k 0) × (take k xs ≡ take k ys)
 first_less [] [] e h = cc
 first_less [] (y ∷ ys) e h = absurd (omega arith)
 first_less (x ∷ xs) [] e h = absurd (omega arith)
 first_less (x ∷ xs) (y ∷ ys) e h =
     ⊎_elim
-    (λ (lt : x < y). (0, record { less = lt; before = refl }))
+    (λ (lt : x < y). (0, lt, refl))
     (λ (ge : y ≤ x).
     let same : x ≡ y = grind (arith, nat_tests) in
     let t = first_less xs ys (omega arith) (grind (arith, nat_tests)) in
-    let before = t.1.before in
-    (suc t.0, record { less = t.1.less; before = cc }))
+    (suc t.0, t.1, cc t.2))
     (cases_lt x y)
 
 -- where two words have the same bit
@@ -78,9 +68,9 @@ same_position : (v w : Bits) (k i p : ℕ) → i < 64 → 64 * k + i ≡ p
 same_position v w k i p low at e = rw (← at) (contains-word v k i low ∙ ap (λ b. b == 1) e ∙ sym (contains-word w k i low))
 
 -- where the first words that differ are word k, and w's is greater, w leads
-leads_at : (v w : Bits) (k : ℕ) → FirstLess (words v) (words w) k → Leads w v
-leads_at v w k f =
-    let t = top_bit 64 (get_or (words v) k 0) (get_or (words w) k 0) (are_words w k) f.less in
+leads_at : (v w : Bits) (k : ℕ) → get_or (words v) k 0 < get_or (words w) k 0 → take k (words v) ≡ take k (words w) → Leads w v
+leads_at v w k less agree =
+    let t = top_bit 64 (get_or (words v) k 0) (get_or (words w) k 0) (are_words w k) less in
     let i = t.0 in
     let low : i < 64 = t.1 in
     record {
@@ -89,14 +79,14 @@ leads_at v w k f =
       lacks = contains-word v k i low ∙ ap (λ b. b == 1) t.2.clear;
       before = λ p earlier.
           let j : p / 64 < k = omega arith in
-          let same = sym (get_or-take k (words v) (p / 64) 0 j) ∙ ap (λ ws. get_or ws (p / 64) 0) f.before ∙ get_or-take k (words w) (p / 64) 0 j in
+          let same = sym (get_or-take k (words v) (p / 64) 0 j) ∙ ap (λ ws. get_or ws (p / 64) 0) agree ∙ get_or-take k (words w) (p / 64) 0 j in
           same_position v w (p / 64) (p % 64) p (omega arith) (omega arith) (ap (λ x. bit_at x (p % 64)) same);
       above = λ p stretch up. same_position v w k (p - 64 * k) p (omega arith) (omega arith) (t.2.above (p - 64 * k) (omega arith));
     }
 
 -- of two values of one length, that whose words come later leads
 leads_by_words : (v w : Bits) → v.length ≡ w.length → slice_cmp nat_cmp (words v) (words w) ≡ Less → Leads w v
-leads_by_words v w e h = let f = first_less (words v) (words w) (omega (arith, length-words v, length-words w)) h in leads_at v w f.0 f.1
+leads_by_words v w e h = let f = first_less (words v) (words w) (omega (arith, length-words v, length-words w)) h in leads_at v w f.0 f.1 f.2
 
 equal_words : (xs ys : List ℕ) → slice_cmp nat_cmp xs ys ≡ Equal → xs ≡ ys
 equal_words xs ys e = same_text xs ys (sym (texts_ties xs ys ∙ ap is_eq e))

@@ -1,8 +1,7 @@
 -- The length and the members of each join of two sets, for those who call it, and the joins of a set with itself.
-use Rattle.std.specs.Prelude.{IsTrue, ◌↔◌, ◌≡◌, ℕ, ◌≤◌, max, min, false, not, ◌&&◌, ◌||◌, Option, Some, None}
+use Rattle.std.proofs.Common.{IsTrue, ◌↔◌, ◌≡◌, ℕ, ◌≤◌, max, min, false, not, ◌&&◌, ◌||◌, Option, Some, None, refl, ◌∙◌, arith}
 use Rattle.std.specs.Cmp.{nat_cmp_total}
 use Rattle.std.specs.FinSet as set
-use Rattle.std.proofs.Common.{refl, ◌∙◌, arith}
 use Rattle.std.proofs.lemmas.Bool.Decides.{nat_tests}
 use Rattle.bitlanes.specs.Bits.{either}
 use Rattle.fixedbitset.specs.Bits.{Bits, contains, empty, minimum}
@@ -82,13 +81,12 @@ first_lacking_least v w p e =
 pub first_lacking_none : (v w : Bits) → (minimum (difference w v) ≡ None) ↔ IsTrue (is_subset w v)
 first_lacking_none v w = (
   λ none. (is_subset-tells w v).1 (λ p one. let no = minimum_none (difference w v) none p in grind (arith, contains-difference w v p)),
-  λ all. none_found (minimum (difference w v)) refl (λ p least.
-      let found = first_lacking_least v w p least in let has = (is_subset-tells w v).0 all p in grind arith),
+  λ all. none_found all (minimum (difference w v)) refl,
 )
   where
-    none_found : (found : Option ℕ) → minimum (difference w v) ≡ found → ((p : ℕ) → ¬ (minimum (difference w v) ≡ Some p)) → minimum (difference w v) ≡ None
-    none_found None is never = is
-    none_found (Some p) is never = absurd (never p is)
+    none_found : IsTrue (is_subset w v) → (found : Option ℕ) → minimum (difference w v) ≡ found → found ≡ None
+    none_found all None is = refl
+    none_found all (Some p) is = let least = first_lacking_least v w p is in let has = (is_subset-tells w v).0 all p in absurd (grind arith)
 
 -- what a caller needs of each join, and of each question
 pub ruleset facts = (length-union, length-symmetric_difference, length-intersection, length-difference, length-bitand, contains-union, contains-symmetric_difference, contains-intersection, contains-difference, contains-bitand, is_subset-tells, is_disjoint-tells)

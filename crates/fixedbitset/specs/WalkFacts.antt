@@ -1,8 +1,7 @@
 -- What the walks over the positions give, for those who call them.
-use Rattle.std.specs.Prelude.{IsTrue, ◌↔◌, ◌≡◌, ℕ, zero, suc, ◌+◌, ◌-◌, ◌<◌, ◌≤◌, Bool, true, false, cond, List, ◌∷◌, [], length}
-use Rattle.std.specs.List.{range_with_len, Contains}
-use Rattle.std.proofs.Common.{refl, ◌⊎◌, ⊎_elim, inl, inr, arith, get_or, sym, ap, subst}
-use Rattle.std.proofs.lemmas.Bool.{cases_Bool, true≢false}
+use Rattle.std.proofs.Common.{IsTrue, ◌↔◌, ◌≡◌, ℕ, zero, suc, ◌+◌, ◌-◌, ◌<◌, ◌≤◌, Bool, true, false, cond, List, ◌∷◌, [], length, Contains, true≢false, refl, ◌⊎◌, ⊎_elim, inl, inr, arith, get_or, sym, ap, subst}
+use Rattle.std.specs.List.{range_with_len}
+use Rattle.std.proofs.lemmas.Bool.{cases_Bool}
 use Rattle.std.proofs.lemmas.Bool.Decides.{nat_tests}
 use Rattle.std.proofs.lemmas.List.Elements.{All-get_or, filter_passes}
 use Rattle.bitwords.specs.Ascending.{ascending}
@@ -28,6 +27,7 @@ item_below v k d within = contains_below v _ (contains_item v k d within)
 
 -- ---- each position is an item
 
+-- one number in front or none: it is that number, or one of the others
 one_more : (b : Bool) (x p : ℕ) (xs : List ℕ) → Contains (cond b (x ∷ xs) xs) p ↔ (((b ≡ true) × (x ≡ p)) ⊎ Contains xs p)
 one_more false x p xs = (λ member. inr member, λ other. ⊎_elim (λ here. absurd (true≢false (sym here.0))) (λ member. member) other)
 one_more true x p xs = (first_or_later, λ other. ⊎_elim (λ here. (0, omega arith, here.1)) (λ later. (suc later.0, omega (arith, later.1), later.2)) other)

@@ -1,16 +1,14 @@
 -- The values that words stand for, and the words of a value against its positions, for those who call a set.
-use Rattle.std.proofs.Common.{◌≡◌, ℕ, zero, suc, ◌+◌, ◌-◌, ◌*◌, ◌/◌, ◌%◌, ◌^◌, ◌<◌, ◌≤◌, Bool, true, false, cond, ◌&&◌, ◌==◌, nat_lt, nat_le, List, filter, sum_by, length, get_or, set, ap, ◌∙◌, arith, ⊎_elim}
+use Rattle.std.proofs.Common.{get_or-set_same, get_or-set_other, pow_mono, pow_pos, pow-suc, min, ◌≡◌, ℕ, zero, suc, ◌+◌, ◌-◌, ◌*◌, ◌/◌, ◌%◌, ◌^◌, ◌<◌, ◌≤◌, Bool, true, false, cond, ◌&&◌, ◌==◌, nat_lt, nat_le, List, filter, sum_by, length, get_or, set, ap, ◌∙◌, arith, ⊎_elim}
 use Rattle.std.specs.List.{range_with_len}
 use Rattle.std.specs.Int.{bit_at}
 use Rattle.std.proofs.lemmas.Bool.{cases_Bool}
 use Rattle.std.proofs.lemmas.Bool.Decides.{nat_tests}
 use Rattle.std.proofs.lemmas.List.Elements.{filter-append}
-use Rattle.std.proofs.lemmas.List.{get_or-set_same, get_or-set_other, get_or_past}
+use Rattle.std.proofs.lemmas.List.{get_or_past}
 use Rattle.std.proofs.lemmas.List.Sums.{sum_by-append}
 use Rattle.std.proofs.lemmas.List.FromFn.{length-map-range_with_len, get_or-map-range_with_len}
 use Rattle.std.proofs.lemmas.Nat.Bits.{bit_at_cat_low, bit_at_cat_high, bit_at-zero, bit_at-lt, bit_at_above, bit_at_lowest}
-use Rattle.std.proofs.Math.Pow.{pow_mono, pow_pos}
-use Rattle.std.proofs.Math.Nat.{pow-suc}
 use Rattle.bitlanes.specs.Bits.{bit}
 use Rattle.bitwords.specs.CountFacts.{indicator, range-push}
 use Rattle.bitwords.specs.Rows.{has_bit}
@@ -55,48 +53,39 @@ part-suc c start width n =
 
 -- what part of a number the first n numbers make
 record IsPart (c : ℕ → Bool) (start width n x : ℕ) : Type 0 where
-  bound : (j : ℕ) → n ≤ start + j → x < 2 ^ j
-  top : x < 2 ^ width
+  top : x < 2 ^ min (n - start) width
   bits : (i : ℕ) → i < width → bit_at x i ≡ indicator (c (start + i) && nat_lt (start + i) n)
 
--- the next number is at bit j, or it is none of the part
-IsPart-add : (c : ℕ → Bool) (start width j n x : ℕ) → start + j ≡ n → j < width → c n ≡ true → IsPart c start width n x → IsPart c start width (suc n) (x + 2 ^ j)
-IsPart-add c start width j n x at inside one h =
-    let below : x < 2 ^ j = h.bound j (omega arith) in
-    let grown : x + 2 ^ j < 2 ^ (suc j) = omega (arith, pow-suc 2 j) in
-    let turned : x + 2 ^ j ≡ 1 * 2 ^ j + x = omega arith in
-    record {
-      bound = λ i past. let m : 2 ^ (suc j) ≤ 2 ^ i = pow_mono (omega arith) in omega arith;
-      top = let m : 2 ^ (suc j) ≤ 2 ^ width = pow_mono (omega arith) in omega arith;
-      bits = λ i l.
-          let same = h.bits i l in
-          let low = bit_at_cat_low 1 j x i in
-          let high = bit_at_cat_high 1 j x i below in
-          rw turned (grind (arith, nat_tests, same, low, high, bit_at_lowest 1, bit_at_above 1 1 (i - j)));
-    }
-
-IsPart-same : (c : ℕ → Bool) (start width n x : ℕ) → (c n && within start width n) ≡ false → IsPart c start width n x → IsPart c start width (suc n) (x + 0)
-IsPart-same c start width n x out h =
-    let e : x + 0 ≡ x = omega arith in
-    rw e (record { bound = λ j past. h.bound j (omega arith); top = h.top; bits = λ i l. let same = h.bits i l in grind (arith, nat_tests, same) })
-
 part_is : (c : ℕ → Bool) (start width n : ℕ) → IsPart c start width n (part c start width n)
-part_is c start width zero = record { bound = λ j _. pow_pos j; top = pow_pos width; bits = λ i _. grind (arith, nat_tests, bit_at-zero i) }
-part_is c start width (suc n) =
-    let before = part_is c start width n in
-    ⊎_elim
-    (λ (inside : (c n && within start width n) ≡ true).
-    let at : (start + (n - start) ≡ n) × (n - start < width) × (c n ≡ true) = grind (arith, nat_tests) in
-    rw (part-suc c start width n, inside) (IsPart-add c start width (n - start) n _ at.0 at.1 at.2 before))
-    (λ (out : (c n && within start width n) ≡ false). rw (part-suc c start width n, out) (IsPart-same c start width n _ out before))
-    (cases_Bool (c n && within start width n))
+part_is c start width zero = record { top = pow_pos (min (0 - start) width); bits = λ i _. grind (arith, nat_tests, bit_at-zero i) }
+part_is c start width (suc n) = rw (part-suc c start width n) (more (part c start width n) (part_is c start width n))
+  where
+    more : (x : ℕ) → IsPart c start width n x → IsPart c start width (suc n) (x + cond (c n && within start width n) (2 ^ (n - start)) 0)
+    more x h =
+        ⊎_elim
+        (λ (inside : (c n && within start width n) ≡ true).
+        let j : ℕ = n - start in
+        let at : (start ≤ n) × (j < width) × (min (n - start) width ≡ j) × (min (suc n - start) width ≡ suc j) = grind (arith, nat_tests) in
+        let below : x < 2 ^ j = rw at.2 at h.top in
+        let turned : x + 2 ^ j ≡ 1 * 2 ^ j + x = omega arith in
+        rw (inside, turned) (record {
+          top = rw at.3 (omega (arith, pow-suc 2 j));
+          bits = λ i l.
+              let same = h.bits i l in
+              grind (arith, nat_tests, same, bit_at_cat_low 1 j x i, bit_at_cat_high 1 j x i below, bit_at_lowest 1, bit_at_above 1 1 (i - j));
+        }))
+        (λ (out : (c n && within start width n) ≡ false).
+        let e : x + 0 ≡ x = omega arith in
+        let longer : 2 ^ min (n - start) width ≤ 2 ^ min (suc n - start) width = pow_mono (omega arith) in
+        rw (out, e) (record { top = omega (arith, h.top); bits = λ i l. let same = h.bits i l in grind (arith, nat_tests, same) }))
+        (cases_Bool (c n && within start width n))
 
 number_at_is : (v : Bits) (start width : ℕ) → IsPart (contains v) start width v.length (number_at v start width)
 unfolding number_at asc
 number_at_is v start width = part_is (contains v) start width v.length
 
 pub number_at-lt : (v : Bits) (start width : ℕ) → number_at v start width < 2 ^ width
-number_at-lt v start width = (number_at_is v start width).top
+number_at-lt v start width = let longer : 2 ^ min (v.length - start) width ≤ 2 ^ width = pow_mono (omega arith) in omega (arith, (number_at_is v start width).top)
 
 pub bit_at-number_at : (v : Bits) (start width i : ℕ) → i < width → bit_at (number_at v start width) i ≡ indicator (contains v (start + i))
 bit_at-number_at v start width i h = let bits = (number_at_is v start width).bits i h in grind (arith, nat_tests, bits, contains_below v (start + i))
