@@ -1,16 +1,20 @@
 -- The JSON form, and what is written of a set in it, for all values.
-use Rattle.std.specs.Prelude.{◌≡◌, ◌↔◌, ℕ, List, Ok, Err, false}
+use Rattle.std.specs.Prelude.{◌≡◌, ◌↔◌, ℕ, List, Result, Ok, Err, false}
 use Rattle.serde_json.specs.Data.{Data, depth}
 use Rattle.serde_json.specs.Written.{compact_text, has_float}
-use Rattle.bitjson.specs.Form.{form}
-use Rattle.bitjson.specs.InForm.{InForm, IsFirst}
 use Rattle.bitjson.specs.declared.fault.JsonFault.{JsonFault}
 use Rattle.fixedbitset.specs.Bits.{Bits}
 use Rattle.fixedbitset.specs.Json as json
+use Rattle.bitlaws.specs.InForm.{InForm, HasFault}
 
--- `form` answers a length and bytes exactly where the value is in the form with these, and a fault exactly where it is the first
+-- it answers what `of` makes of a length and bytes exactly where the value is in the form with these, and a fault exactly where the value has it
+abbrev pub ReadsForm : {A : Type 0} → (Data → Result A JsonFault) → (ℕ → List ℕ → A) → Type 0
+ReadsForm {A} read of = (d : Data) → ((x : A) → (read d ≡ Ok x) ↔ ((n : ℕ) × (bs : List ℕ) × InForm d n bs × (x ≡ of n bs)))
+    × ((f : JsonFault) → (read d ≡ Err f) ↔ HasFault d f)
+
+-- so do `meaning`, with the set of this length that the bytes say, and `length_of`, with the length
 abbrev pub FormTells : Type 0
-FormTells = (d : Data) → ((n : ℕ) (bs : List ℕ) → (form d ≡ Ok (n, bs)) ↔ InForm d n bs) × ((f : JsonFault) → (form d ≡ Err f) ↔ IsFirst d f)
+FormTells = ReadsForm json.meaning json.of_bytes × ReadsForm json.length_of (λ n bs. n)
 
 -- what is written of a value is in the form, and means that value
 abbrev pub WrittenReadsBack : Type 0

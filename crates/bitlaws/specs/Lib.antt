@@ -6,6 +6,7 @@ pub mod JoinLaws
 pub mod OrderLaws
 pub mod WalkLaws
 pub mod SetLaws
+pub mod InForm
 pub mod JsonLaws
 pub mod Pieces
 pub mod PieceLaws
