@@ -23,6 +23,7 @@ use std::alloc::{AllocError, Global};
 /// let words = bytes::words_of_items(alloc, items.as_slice(), 2)?;
 /// assert_eq!(rt; words.as_slice(), [513, 0].as_slice());
 /// ```
+#[tactic(auto, using(crate::proofs::Grown::grown))]
 pub fn words_of_items(
     alloc: Global,
     items: &[Value],
@@ -51,6 +52,7 @@ pub fn words_of_items(
 /// let text = bytes::value_of_words(alloc, 10, &[513])?.to_string(alloc)?;
 /// assert_eq!(rt; text.as_str(), "{\"data\":[1,2,0,0,0,0,0,0],\"length\":10}");
 /// ```
+#[tactic(auto, unfolding(crate::specs::Form::object_of, crate::specs::Bytes::bytes_of), using(crate::proofs::Grown::grown))]
 pub fn value_of_words(alloc: Global, bits: usize, words: &[Block]) -> Result<Value, AllocError>
     requires { 8 * length words.now < 2 ^ 64 }
     ensures { IfOk result (λ value. view value ≡ json.object_of bits (bytes.bytes_of words.now)) }
@@ -95,6 +97,7 @@ pub fn words_of_bytes(alloc: Global, source: &[u8], count: usize) -> Result<Vec<
 /// bytes::fill_words(&[1, 2], &mut words);
 /// assert_eq!(rt; words, [513, 0]);
 /// ```
+#[tactic(auto, using(crate::proofs::Grown::written_all))]
 pub fn fill_words(source: &[u8], words: &mut [Block])
     requires { 8 * length words.old ≤ 2 ^ 64 }
     ensures { words.new
@@ -132,6 +135,7 @@ pub fn bytes_of_words(alloc: Global, words: &[Block]) -> Result<Vec<u8>, AllocEr
 /// bytes::fill_bytes(&[513], &mut made);
 /// assert_eq!(rt; made, [1, 2, 0, 0, 0, 0, 0, 0]);
 /// ```
+#[tactic(auto, unfolding(crate::specs::Bytes::bytes_of), using(crate::proofs::Grown::written_all))]
 pub fn fill_bytes(words: &[Block], made: &mut [u8])
     requires { length made.old ≡ 8 * length words.now }
     ensures { made.new ≡ bytes.bytes_of words.now }

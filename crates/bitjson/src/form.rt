@@ -34,7 +34,7 @@ pub fn read_form(value: &Value) -> Result<(usize, &[Value]), JsonFault>
 }
 
 // The length and the data, whatever they are.
-#[tactic(auto, unfolding(crate::specs::Form::parts))]
+#[tactic(auto, unfolding(crate::specs::Form::parts), using(crate::proofs::Items::parts_facts))]
 fn parts_of(value: &Value) -> Result<(&Value, &Value), JsonFault>
     ensures value { result_map_both (λ parts. (view parts.0.now, view parts.1.now))
         (λ fault. fault) result ≡ json.parts (view value.now) }
@@ -64,7 +64,7 @@ fn parts_of(value: &Value) -> Result<(&Value, &Value), JsonFault>
 }
 
 // The items of a list of bytes.
-#[tactic(auto, unfolding(crate::specs::Form::bytes))]
+#[tactic(auto, unfolding(crate::specs::Form::bytes), using(crate::proofs::Items::bytes_ok))]
 fn items_of(list: &Value) -> Result<&[Value], JsonFault>
     ensures value { result_map_both (λ items. map json.item_byte items.now) (λ fault. fault) result
         ≡ json.bytes (view list.now) }
