@@ -2,7 +2,7 @@
 use Rattle.std.proofs.Common.{arith}
 use Rattle.bitwords.specs.Walk.{Walk}
 use Rattle.bitwords.specs.CallFacts.{takes_none, takes_none_back}
-use Rattle.bitwalks.specs.Pairs.{Sieved, Asks, AsksFront, AsksBack, WalksFront, WalksBack}
+use Rattle.bitwalks.specs.Pairs.{Sieved, AsksFront, AsksBack, WalksFront, WalksBack}
 
 pub walk_stays : (walk : Walk) → WalksFront walk walk
 walk_stays walk = record { calls = 0; few = omega arith; takes = takes_none walk }
@@ -10,11 +10,8 @@ walk_stays walk = record { calls = 0; few = omega arith; takes = takes_none walk
 pub walk_stays_back : (walk : Walk) → WalksBack walk walk
 walk_stays_back walk = record { calls = 0; few = omega arith; takes = takes_none_back walk }
 
-asks_none : (sieved : Sieved) → Asks 0 sieved sieved
-asks_none sieved = record { asked = omega arith; fewer = omega arith; few = omega arith }
-
 pub sieve_stays : (sieved : Sieved) → AsksFront sieved sieved
-sieve_stays sieved = record { calls = 0; asks = asks_none sieved; takes = takes_none sieved.source }
+sieve_stays sieved = record { calls = 0; asks = omega arith; takes = takes_none sieved.source }
 
 pub sieve_stays_back : (sieved : Sieved) → AsksBack sieved sieved
-sieve_stays_back sieved = record { calls = 0; asks = asks_none sieved; takes = takes_none_back sieved.source }
+sieve_stays_back sieved = record { calls = 0; asks = omega arith; takes = takes_none_back sieved.source }

@@ -1,30 +1,24 @@
 -- What a sieve lets through of the items of its source, for those who take the items one by one.
-use Rattle.std.proofs.Common.{◌≡◌, ℕ, Bool, true, false, cond, filter, List, [], ◌∷◌, ◌++◌, length, Option, Some, None, sym, ap, ◌∙◌, arith, append-nil}
+use Rattle.std.proofs.Common.{◌≡◌, ℕ, Bool, true, false, filter, List, [], ◌∷◌, ◌++◌, length, Option, Some, None, sym, ap, ◌∙◌, arith, append-nil}
 use Rattle.std.specs.Iterator.{UpTo, at_most}
 use Rattle.std.specs.Option.{IfSome}
 use Rattle.std.proofs.lemmas.List.Elements.{filter-append}
 use Rattle.std.proofs.lemmas.List.Sums.{length-filter, count_by-le-length}
 
 module _ (test : ℕ → Bool) (source items : List ℕ) (same : filter test source ≡ items) (x : ℕ) (rest : List ℕ) where
-  first : source ≡ x ∷ rest → items ≡ cond (test x) (x ∷ filter test rest) (filter test rest)
-  first is = sym same ∙ ap (filter test) is
-
-  last : source ≡ rest ++ x ∷ [] → items ≡ filter test rest ++ cond (test x) (x ∷ []) []
-  last is = sym same ∙ ap (filter test) is ∙ filter-append test rest (x ∷ [])
-
   -- the first item of the source passes, or does not
   pub first_passes : source ≡ x ∷ rest → test x ≡ true → items ≡ x ∷ filter test rest
-  first_passes is passes = first is ∙ ap (λ b. cond b (x ∷ filter test rest) (filter test rest)) passes
+  first_passes is passes = grind arith
 
   pub first_fails : source ≡ x ∷ rest → test x ≡ false → filter test rest ≡ items
-  first_fails is fails = sym (first is ∙ ap (λ b. cond b (x ∷ filter test rest) (filter test rest)) fails)
+  first_fails is fails = grind arith
 
   -- the last item of the source passes, or does not
   pub last_passes : source ≡ rest ++ x ∷ [] → test x ≡ true → items ≡ filter test rest ++ x ∷ []
-  last_passes is passes = last is ∙ ap (λ b. filter test rest ++ cond b (x ∷ []) []) passes
+  last_passes is passes = grind (arith, filter-append test rest (x ∷ []))
 
   pub last_fails : source ≡ rest ++ x ∷ [] → test x ≡ false → filter test rest ≡ items
-  last_fails is fails = sym (last is ∙ ap (λ b. filter test rest ++ cond b (x ∷ []) []) fails ∙ append-nil (filter test rest))
+  last_fails is fails = grind (arith, filter-append test rest (x ∷ []), append-nil (filter test rest))
 
 -- a source that gives no item leaves none
 pub nothing_left : (test : ℕ → Bool) (source rest items : List ℕ) → filter test source ≡ items → source ≡ [] → rest ≡ [] → (items ≡ []) × (filter test rest ≡ [])

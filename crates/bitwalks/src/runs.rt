@@ -191,6 +191,7 @@ fn next_like(
 }
 
 // The greatest position below `below` that is set, or that is not.
+#[tactic(auto, unfolding(bitwords::specs::Rows::bit_test))]
 #[inline]
 fn previous_like(words: &[Block], are_set: bool, below: usize, steps: &mut Steps) -> Option<usize>
     requires fits { 64 * length words.now ≤ 2 ^ 64 }

@@ -135,6 +135,7 @@ impl<'a, C: Choice> Iterator for Sieve<'a, C> {
 
     /// At least 0, and at most 64 for each word that the source holds or has not yet taken. The latter is `None` where it
     /// is no `usize`.
+    #[tactic(auto, using(crate::specs::SieveFacts::hint_sieved))]
     #[inline]
     fn size_hint(&self) -> (usize, Option<usize>)
         ensures zero { result.0 ≡ 0 }

@@ -1,69 +1,63 @@
-use Rattle.std.proofs.Common.{not, sym, ap, ◌∙◌, arith}
+use Rattle.std.proofs.Common.{◌+◌, ◌-◌, ◌/◌, ◌≤◌, inl, refl, sym, ap, ◌∙◌, arith}
+use Rattle.bitlanes.specs.Words.{lane_steps}
 use Rattle.bitwords.specs.CallFacts.{progress_last}
+use Rattle.bitwords.specs.Neighbours.{NonePasses}
 use Rattle.bitwords.specs.Runs.{is_like}
-use Rattle.bitwalks.proofs.Running.{unlike, nothing, nothing_there, IsLast, last_after, last_whole, last_stretch, between_start, steps_back, steps_whole, steps_nothing, low_is_zero, low_is_behind}
+use Rattle.bitwalks.proofs.Running.{unlike, nothing, nothing_there, IsLast, is_last, last_after, last_stretch, between_start, steps_back, low_is_zero, low_is_behind}
 use Rattle.bitwalks.proofs.runs.RunsDoubleEndedIterator.next_back.Goals as goal
 use Rattle.bitwalks.proofs.runs.RunsDoubleEndedIterator.next_back.Goals.{in-Some-gap, in-None, in_default-via-in-Some+else-last-self, in_default-via-in_default}
 
-is_last : (c : goal.After-way_told-in-Some-2) → IsLast (is_like c.self.inside.are_set c.self.inside.words.now) (is_like (not c.self.inside.are_set) c.self.inside.words.now) (unlike c.self.inside.are_set c.self.inside.words.now) c.self.inside.end c.self.inside.low c.self.inside.high c.self.invariant.0 c.if-self.false c.match-gap.self c.in-Some.last
-is_last c =
-    let inside = c.self.inside in
-    let like = is_like inside.are_set inside.words.now in
-    let other = is_like (not inside.are_set) inside.words.now in
+-- the last stretch, and what the call that looked for its start took
+last : (c : goal.After-way_told-in-Some-2)
+    → IsLast (is_like c.self.inside.are_set c.self.inside.words.now) c.self.inside.low c.match-gap.self c.in-Some.last
+    × (c.previous_like-gap.new.steps ≤ c.previous_like-found.new.steps + 1 + lane_steps ((c.in-Some.last - 1) / 64 - (c.match-gap.self - 1) / 64))
+last c =
+    let found = c.in-Some.ensures.found in
     elim c.match-gap.branch [
       | in-Some-gap w ↦
-          rw (w.self-is) (last_after like other (unlike inside.are_set inside.words.now) inside.end inside.low inside.high c.self.invariant.0 c.if-self.false c.in-Some.last c.in-Some.ensures.found c.if-last-self.true w.in-Some-gap.before w.in-Some-gap.ensures.found)
+          let gap = w.in-Some-gap.ensures in
+          rw w.self-is (last_after (unlike _ _) c.self.invariant.0 c.if-self.false found c.if-last-self.true gap.found, omega (arith, gap.cost))
       | in-None w ↦
-          rw (w.self-is) (last_whole like other (unlike inside.are_set inside.words.now) inside.end inside.low inside.high c.self.invariant.0 c.if-self.false c.in-Some.last c.in-Some.ensures.found c.if-last-self.true w.in-None.ensures.none)
+          let whole = is_last (unlike _ _) c.self.invariant.0 c.if-self.false found c.if-last-self.true 0 (omega arith) (inl refl) w.in-None.ensures.none in
+          rw w.self-is (whole, omega (arith, c.previous_like-gap.ensures.whole))
     ]
 
 pub invariant_of-self : goal.invariant_of-self
 invariant_of-self c =
-    let inside = c.self.inside in
-    (between_start (is_like inside.are_set inside.words.now) (is_like (not inside.are_set) inside.words.now) (unlike inside.are_set inside.words.now) inside.end inside.low inside.high c.self.invariant.0 c.if-self.false c.in-Some.last c.in-Some.ensures.found c.if-last-self.true c.match-gap.self (is_last c), c.self.invariant.1, c.self.invariant.2)
+    let left = between_start (unlike _ _) c.self.invariant.0 c.if-self.false c.in-Some.ensures.found c.if-last-self.true (last c).0 in
+    (left, c.self.invariant.1, c.self.invariant.2)
 
 pub returns-after-gap-clause-steps : goal.returns-after-gap-clause-steps
 returns-after-gap-clause-steps c =
-    let inside = c.self.inside in
-    let like = is_like inside.are_set inside.words.now in
     let view = c.self.view_is in
-    let found = c.in-Some.ensures.found in (
-      sym (ap (λ walk. walk.items) view)
-          ∙ last_stretch like (is_like (not inside.are_set) inside.words.now) (unlike inside.are_set inside.words.now) inside.end inside.low inside.high c.self.invariant.0 c.if-self.false c.in-Some.last found c.if-last-self.true c.match-gap.self (is_last c),
-      ap (λ walk. walk.low) view,
-      rw (sym view)
-          (elim c.match-gap.branch [
-            | in-Some-gap w ↦ rw (w.self-is) (steps_back inside.steps c.previous_like-found.new.steps c.previous_like-gap.new.steps inside.high c.in-Some.last w.in-Some-gap.before found.below w.in-Some-gap.ensures.found.below c.in-Some.ensures.cost w.in-Some-gap.ensures.cost)
-            | in-None w ↦ rw (w.self-is) (steps_whole inside.steps c.previous_like-found.new.steps c.previous_like-gap.new.steps inside.high c.in-Some.last found.below c.in-Some.ensures.cost c.previous_like-gap.ensures.whole)
-          ]),
-    )
+    let found = c.in-Some.ensures.found in
+    let items = last_stretch (unlike _ _) c.self.invariant.0 c.if-self.false found c.if-last-self.true (last c).0 in
+    let steps = steps_back _ _ _ _ _ _ found.below (last c).0.some c.in-Some.ensures.cost (last c).1 in
+    (sym (ap (λ walk. walk.items) view) ∙ items, ap (λ walk. walk.low) view, rw (sym view) steps)
 
 pub returns-after-gap-clause-goes : goal.returns-after-gap-clause-goes
 returns-after-gap-clause-goes c = progress_last (λ walk. walk.items) c.args.self.now _ _ (returns-after-gap-clause-steps c).0
 
+-- where none is left, none passes, and what the call took
+no_last : (c : goal.After-self-in_default-1)
+    → NonePasses (is_like c.self.inside.are_set c.self.inside.words.now) c.self.inside.low c.self.inside.high
+    × (c.previous_like-found.new.steps ≤ c.self.inside.steps + 4 + (c.self.inside.high / 64 - c.self.inside.low / 64) / 4)
+no_last c =
+    elim c.in_default.branch [
+      | in_default-via-in-Some+else-last-self w ↦
+          let found = w.in-Some.ensures.found in
+          let behind = low_is_behind (unlike _ _) c.self.invariant.0 c.if-self.false found (omega (arith, w.if-last-self.false)) in (
+            λ i above below. found.none i (omega (arith, above, w.if-last-self.false)) below,
+            omega (arith, c.self.invariant.0.order, found.below, behind, w.in-Some.ensures.cost),
+          )
+      | in_default-via-in_default w ↦
+          let zero = low_is_zero (unlike _ _) c.self.invariant.0 c.if-self.false w.in_default.ensures.none in
+          (λ i above below. w.in_default.ensures.none i (omega arith) below, omega (arith, zero, c.previous_like-found.ensures.whole))
+    ]
+
 pub returns-in_default-clause-steps : goal.returns-in_default-clause-steps
 returns-in_default-clause-steps c =
-    let inside = c.self.inside in
-    let like = is_like inside.are_set inside.words.now in
-    let other = is_like (not inside.are_set) inside.words.now in
     let view = c.self.view_is in
-    let order = c.self.invariant.0.order in (
-      (
-        sym (ap (λ walk. walk.items) view)
-            ∙ nothing like other (unlike inside.are_set inside.words.now) inside.end inside.low inside.high c.self.invariant.0 c.if-self.false
-            (elim c.in_default.branch [
-              | in_default-via-in-Some+else-last-self w ↦ λ i above below. w.in-Some.ensures.found.none i (omega (arith, above, w.if-last-self.false)) below
-              | in_default-via-in_default w ↦ λ i above below. w.in_default.ensures.none i (omega arith) below
-            ]),
-        nothing_there like inside.end inside.low,
-      ),
-      ap (λ walk. walk.low) view,
-      rw (sym view)
-          (elim c.in_default.branch [
-            | in_default-via-in-Some+else-last-self w ↦
-                steps_nothing inside.steps c.previous_like-found.new.steps inside.low inside.high w.in-Some.last order w.in-Some.ensures.found.below (low_is_behind like other (unlike inside.are_set inside.words.now) inside.end inside.low inside.high c.self.invariant.0 c.if-self.false w.in-Some.last w.in-Some.ensures.found (omega (arith, w.if-last-self.false))) w.in-Some.ensures.cost
-            | in_default-via-in_default w ↦
-                let zero = low_is_zero like other (unlike inside.are_set inside.words.now) inside.end inside.low inside.high c.self.invariant.0 c.if-self.false w.in_default.ensures.none in
-                omega (arith, zero, c.previous_like-found.ensures.whole)
-          ]),
-    )
+    let inside = c.self.inside in
+    let none = sym (ap (λ walk. walk.items) view) ∙ nothing (unlike _ _) c.self.invariant.0 c.if-self.false (no_last c).0 in
+    ((none, nothing_there (is_like inside.are_set inside.words.now) inside.end inside.low), ap (λ walk. walk.low) view, rw (sym view) (no_last c).1)

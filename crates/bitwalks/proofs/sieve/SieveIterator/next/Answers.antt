@@ -8,14 +8,9 @@ returns-then-passes-clause-steps g c =
     let before = c.loop-position.invariant in
     let call = c.in-Some.ensures.steps in
     let passes = ap g.C.Choice.passes (sym c.contains.ensures) ∙ sym c.passes.ensures ∙ c.if-passes.true in
-    let fewer = ap length call.0 in (
-      first_passes _ _ _ before.same _ _ call.0 passes,
-      record {
-        calls = before.calls + 1;
-        asks = record { asked = omega (arith, before.asked, fewer); fewer = omega (arith, before.each, fewer); few = omega (arith, before.each, fewer) };
-        takes = takes_front before.calls 1 _ _ _ before.takes call.1;
-      },
-    )
+    let fewer = ap length call.0 in
+    let takes = takes_front before.calls 1 _ _ _ before.takes call.1 in
+    (first_passes _ _ _ before.same _ _ call.0 passes, record { calls = before.calls + 1; asks = omega (arith, before.asked, before.each, fewer); takes = takes })
 
 pub loop-position-preserved : goal.loop-position-preserved
 loop-position-preserved g c =
@@ -36,11 +31,6 @@ returns-clause-steps g c =
     let before = c.loop-position.invariant in
     let call = c.in_default.ensures.steps in
     let none = ap length call.0.0 in
-    let also = ap length call.0.1 in (
-      nothing_left _ _ _ _ before.same call.0.0 call.0.1,
-      record {
-        calls = before.calls + 1;
-        asks = record { asked = omega (arith, before.asked, none, also); fewer = omega (arith, also); few = omega (arith, before.each, also) };
-        takes = takes_front before.calls 1 _ _ _ before.takes call.1;
-      },
-    )
+    let also = ap length call.0.1 in
+    let takes = takes_front before.calls 1 _ _ _ before.takes call.1 in
+    (nothing_left _ _ _ _ before.same call.0.0 call.0.1, record { calls = before.calls + 1; asks = omega (arith, before.asked, before.each, none, also); takes = takes })
