@@ -54,36 +54,30 @@ pub record Searched (n : ℕ) (ws : List ℕ) (count from start : ℕ) : Type 0 
   pub none : (q : ℕ) → from ≤ q → q < start → has_room (of_words n ws) count q ≡ false
 
 module _ (n : ℕ) (ws : List ℕ) (count from : ℕ) where
-  abbrev v : Bits
-  v = of_words n ws
+  pub none_wanted : count ≡ 0 → from ≤ n → Some from ≡ first_gap (of_words n ws) count from
+  none_wanted nothing within = gap_found (of_words n ws) count from from (omega arith) (omega (arith, length-of_words n ws)) (room_is (of_words n ws) count from (omega (arith, length-of_words n ws)) (λ q above below. absurd (omega arith))) (λ q above below. absurd (omega arith))
 
-  long : v.length ≡ n
-  long = length-of_words n ws
-
-  pub none_wanted : count ≡ 0 → from ≤ n → Some from ≡ first_gap v count from
-  none_wanted nothing within = gap_found v count from from (omega arith) (omega (arith, long)) (room_is v count from (omega (arith, long)) (λ q above below. absurd (omega arith))) (λ q above below. absurd (omega arith))
-
-  pub past_all : n < from → None ≡ first_gap v count from
-  past_all past = gap_none v count from (λ q above below. absurd (omega (arith, long)))
+  pub past_all : n < from → None ≡ first_gap (of_words n ws) count from
+  past_all past = gap_none (of_words n ws) count from (λ q above below. absurd (omega (arith, length-of_words n ws)))
 
   module _ (some : 0 < count) where
     -- where no position is clear from `end` on
-    full_from : (end q : ℕ) → next_zero v end ≡ None → end ≤ q → q ≤ n → has_room v count q ≡ false
-    full_from end q none above below = grind (arith, long, next_zero_none v end none q above, room_lacks v count q q, room_past v count q)
+    full_from : (end q : ℕ) → next_zero (of_words n ws) end ≡ None → end ≤ q → q ≤ n → has_room (of_words n ws) count q ≡ false
+    full_from end q none above below = grind (arith, length-of_words n ws, next_zero_none (of_words n ws) end none q above, room_lacks (of_words n ws) count q q, room_past (of_words n ws) count q)
 
-    pub all_set : next_zero v from ≡ None → None ≡ first_gap v count from
-    all_set none = gap_none v count from (λ q above below. full_from from q none above (omega (arith, long)))
+    pub all_set : next_zero (of_words n ws) from ≡ None → None ≡ first_gap (of_words n ws) count from
+    all_set none = gap_none (of_words n ws) count from (λ q above below. full_from from q none above (omega (arith, length-of_words n ws)))
 
     -- the numbers up to the next clear one
-    before_next : (end start q : ℕ) → next_zero v end ≡ Some start → end ≤ q → q < start → has_room v count q ≡ false
+    before_next : (end start q : ℕ) → next_zero (of_words n ws) end ≡ Some start → end ≤ q → q < start → has_room (of_words n ws) count q ≡ false
     before_next end start q is above below =
-        let least = next_zero_least v end start is in
-        grind (arith, cases_Bool (contains v q), least.2, least.3 q above, room_lacks v count q q)
+        let least = next_zero_least (of_words n ws) end start is in
+        grind (arith, cases_Bool (contains (of_words n ws) q), least.2, least.3 q above, room_lacks (of_words n ws) count q q)
 
-    pub begun : (start : ℕ) → next_zero v from ≡ Some start → Searched n ws count from start
+    pub begun : (start : ℕ) → next_zero (of_words n ws) from ≡ Some start → Searched n ws count from start
     begun start is =
-        let least = next_zero_least v from start is in
-        record { some = some; after = least.1; below = omega (arith, long, least.2); clear = least.0; none = λ q above below. before_next from start q is above below }
+        let least = next_zero_least (of_words n ws) from start is in
+        record { some = some; after = least.1; below = omega (arith, length-of_words n ws, least.2); clear = least.0; none = λ q above below. before_next from start q is above below }
 
 -- clear from `start` up to `end`, which is set or the length
 pub record IsEnd (n : ℕ) (ws : List ℕ) (start end : ℕ) : Type 0 where
@@ -93,33 +87,27 @@ pub record IsEnd (n : ℕ) (ws : List ℕ) (start end : ℕ) : Type 0 where
   pub stop : (end ≡ n) ⊎ (contains (of_words n ws) end ≡ true)
 
 module _ {n : ℕ} {ws : List ℕ} {count from start : ℕ} (searched : Searched n ws count from start) where
-  abbrev u : Bits
-  u = of_words n ws
+  pub too_far : n - start < count → None ≡ first_gap (of_words n ws) count from
+  too_far far = gap_none (of_words n ws) count from (λ q above below. grind (arith, length-of_words n ws, far, searched.none q above, room_past (of_words n ws) count q, searched.below))
 
-  long_u : u.length ≡ n
-  long_u = length-of_words n ws
-
-  pub too_far : n - start < count → None ≡ first_gap u count from
-  too_far far = gap_none u count from (λ q above below. grind (arith, long_u, far, searched.none q above, room_past u count q, searched.below))
-
-  pub ending : (found : Option ℕ) (end : ℕ) → found ≡ next_one u start → end ≡ unwrap_or found n → IsEnd n ws start end
+  pub ending : (found : Option ℕ) (end : ℕ) → found ≡ next_one (of_words n ws) start → end ≡ unwrap_or found n → IsEnd n ws start end
   ending (Some p) end next is =
-      let least = next_one_least u start p (sym next) in
+      let least = next_one_least (of_words n ws) start p (sym next) in
       record {
         order = omega (arith, is, least.1);
-        within = omega (arith, is, long_u, contains_below u p least.0);
+        within = omega (arith, is, length-of_words n ws, contains_below (of_words n ws) p least.0);
         clear = λ q above below. false_from_ne_true _ (λ one. let h : p ≤ q = least.2 q above one in omega (arith, h, below, is));
-        stop = inr (ap (contains u) is ∙ least.0);
+        stop = inr (ap (contains (of_words n ws)) is ∙ least.0);
       }
   ending None end next is =
-      record { order = omega (arith, is, searched.below); within = omega (arith, is); clear = λ q above _. next_one_none u start (sym next) q above; stop = inl is }
+      record { order = omega (arith, is, searched.below); within = omega (arith, is); clear = λ q above _. next_one_none (of_words n ws) start (sym next) q above; stop = inl is }
 
   module _ {end : ℕ} (e : IsEnd n ws start end) where
-    pub found : count ≤ end - start → Some start ≡ first_gap u count from
+    pub found : count ≤ end - start → Some start ≡ first_gap (of_words n ws) count from
     found wide =
         let order = e.order in
         let within = e.within in
-        gap_found u count from start searched.after (omega (arith, long_u, searched.below)) (room_is u count start (omega (arith, long_u)) (λ q above below. e.clear q above (omega arith))) searched.none
+        gap_found (of_words n ws) count from start searched.after (omega (arith, length-of_words n ws, searched.below)) (room_is (of_words n ws) count start (omega (arith, length-of_words n ws)) (λ q above below. e.clear q above (omega arith))) searched.none
 
     module _ (less : end - start < count) where
       -- where too few are clear and enough are left, it is set
@@ -127,32 +115,32 @@ module _ {n : ℕ} {ws : List ℕ} {count from start : ℕ} (searched : Searched
       end_below left = omega (arith, searched.below, e.order, e.within)
 
       -- up to `end` none has room
-      short : (q : ℕ) → from ≤ q → q ≤ end → has_room u count q ≡ false
-      short q above upto = grind (arith, less, long_u, searched.none q above, e.stop, room_past u count q, room_lacks u count q end upto)
+      short : (q : ℕ) → from ≤ q → q ≤ end → has_room (of_words n ws) count q ≡ false
+      short q above upto = grind (arith, less, length-of_words n ws, searched.none q above, e.stop, room_past (of_words n ws) count q, room_lacks (of_words n ws) count q end upto)
 
-      pub none_left : next_zero u end ≡ None → None ≡ first_gap u count from
-      none_left none = gap_none u count from (λ q above below. grind (arith, long_u, short q above, full_from n ws count from searched.some end q none))
+      pub none_left : next_zero (of_words n ws) end ≡ None → None ≡ first_gap (of_words n ws) count from
+      none_left none = gap_none (of_words n ws) count from (λ q above below. grind (arith, length-of_words n ws, short q above, full_from n ws count from searched.some end q none))
 
-      module _ (next : ℕ) (is : next_zero u end ≡ Some next) where
+      module _ (next : ℕ) (is : next_zero (of_words n ws) end ≡ Some next) where
         pub searched_on : Searched n ws count from next
         searched_on =
-            let least = next_zero_least u end next is in
+            let least = next_zero_least (of_words n ws) end next is in
             record {
               some = searched.some;
               after = omega (arith, searched.after, e.order, least.1);
-              below = omega (arith, long_u, least.2);
+              below = omega (arith, length-of_words n ws, least.2);
               clear = least.0;
               none = λ q above below. grind (arith, short q above, before_next n ws count from searched.some end next q is);
             }
 
         pub goes_on : start < next
-        goes_on = let least = next_zero_least u end next is in grind (arith, cases_eq start end, e.stop, e.order, least.1, searched.clear, searched.below)
+        goes_on = let least = next_zero_least (of_words n ws) end next is in grind (arith, cases_eq start end, e.stop, e.order, least.1, searched.clear, searched.below)
 
         -- and the position before the next clear one is set
-        pub set_before : end < n → contains u (next - 1) ≡ true
+        pub set_before : end < n → contains (of_words n ws) (next - 1) ≡ true
         set_before below =
-            let least = next_zero_least u end next is in
-            grind (arith, long_u, cases_eq end next, cases_Bool (contains u (next - 1)), e.stop, least.0, least.1, least.2, least.3 (next - 1))
+            let least = next_zero_least (of_words n ws) end next is in
+            grind (arith, length-of_words n ws, cases_eq end next, cases_Bool (contains (of_words n ws) (next - 1)), e.stop, least.0, least.1, least.2, least.3 (next - 1))
 
 -- ---- how many stretches begin below a number
 
@@ -183,18 +171,15 @@ pub record IsSpent (lanes : ℕ → ℕ) (n : ℕ) (ws : List ℕ) (from first s
   pub bound : steps + 3 ≤ first + 4 * begun_to n ws start + lanes (start / 64 - from / 64)
 
 module _ (n : ℕ) (ws : List ℕ) where
-  abbrev w : Bits
-  w = of_words n ws
+  clear_passes : (p : ℕ) → p < n → contains (of_words n ws) p ≡ false → contains (complement (of_words n ws)) p ≡ true
+  clear_passes p below clear = grind (arith, nat_tests, length-of_words n ws, contains-complement (of_words n ws) p)
 
-  clear_passes : (p : ℕ) → p < n → contains w p ≡ false → contains (complement w) p ≡ true
-  clear_passes p below clear = grind (arith, nat_tests, length-of_words n ws, contains-complement w p)
-
-  all_begun : (p : ℕ) → p < n → begun_to n ws p ≤ length (zero_runs w)
+  all_begun : (p : ℕ) → p < n → begun_to n ws p ≤ length (zero_runs (of_words n ws))
   unfolding runs zero_runs
   all_begun p below =
-      let test = contains (complement w) in
-      let all : length (zero_runs w) ≡ length (ascending (begins test) 0 ((complement w).length - 0)) = length-map (ascending (begins test) 0 ((complement w).length - 0)) _ in
-      let end : (complement w).length - 0 ≡ n = omega (arith, length-complement w, length-of_words n ws) in
+      let test = contains (complement (of_words n ws)) in
+      let all : length (zero_runs (of_words n ws)) ≡ length (ascending (begins test) 0 ((complement (of_words n ws)).length - 0)) = length-map (ascending (begins test) 0 ((complement (of_words n ws)).length - 0)) _ in
+      let end : (complement (of_words n ws)).length - 0 ≡ n = omega (arith, length-complement (of_words n ws), length-of_words n ws) in
       omega (arith, all ∙ ap (λ k. length (ascending (begins test) 0 k)) end ∙ length-count (begins test) n, count-mono (begins test) (suc p) n (omega arith))
 
   words_before : (p : ℕ) → p < n → p / 64 ≤ storage_words n - 1

@@ -74,7 +74,7 @@ module _ (v : Bits) where
   abbrev inverted : List ℕ
   inverted = map (bit_not w64) (words v)
 
-  words-asc : ascending (has_bit (words v)) 0 (64 * length (words v)) ≡ asc v
+  pub words-asc : ascending (has_bit (words v)) 0 (64 * length (words v)) ≡ asc v
   words-asc = row-asc v (has_bit (words v)) (64 * length (words v)) (omega (arith, length-words v)) (has_bit-words v)
 
   -- a position below the length, in the inverted words
@@ -112,36 +112,6 @@ zeroes-within v start end valid =
 -- the words of all positions are the words
 pub range_cut-whole : (n : ℕ) (ws : List ℕ) → length ws ≤ div_ceil n 64 → range_cut 0 n ws ≡ ws
 range_cut-whole n ws fits = let all : div_ceil n 64 - 0 ≡ div_ceil n 64 = omega arith in ap (λ k. take k ws) all ∙ take_all (div_ceil n 64) ws fits
-
--- ---- the walks over a range whose ends may be absent
-
-module _ (v : Bits) (s e from to : Option ℕ) (start end n : ℕ) (start_is : start ≡ unwrap_or from 0) (end_is : end ≡ unwrap_or to n) (from_is : from ≡ s) (to_is : to ≡ e) (long : n ≡ v.length) where
-  -- what f makes of the ends is what it makes of the range
-  pub by_ends : {A : Type 0} (f : Bits → ℕ → ℕ → A) → f v start end ≡ over f v s e
-  by_ends f = rw (start_is, end_is, from_is, to_is, long) refl
-
-  module _ (valid : IsTrue (over is_valid v s e)) where
-    pub range_valid : IsTrue (is_valid v start end)
-    range_valid = by_ends is_valid ∙ valid
-
-    pub range_order : start ≤ end
-    range_order = (valid_range v start end range_valid).0
-
-    pub range_reaches : (ws : List ℕ) → ws ≡ words v → end ≤ 64 * length ws
-    range_reaches ws is = omega (arith, valid_range v start end range_valid, ap length is, length-words v)
-
-    -- the positions that are set, and that are not, with the words that have them
-    pub ones_are : (ws : List ℕ) → ws ≡ words v → (walk : Walk) → walk ≡ range_row ws start end → walk.items ≡ over ones_of v s e
-    ones_are ws is walk made = rw (made, is) (ones-within v start end range_valid ∙ by_ends ones_of)
-
-    pub zeroes_are : (ws : List ℕ) → ws ≡ words v → (walk : Walk) → walk ≡ range_row (map (bit_not w64) ws) start end → walk.items ≡ over zeroes_of v s e
-    zeroes_are ws is walk made = rw (made, is) (zeroes-within v start end range_valid ∙ by_ends zeroes_of)
-
-  pub words_are : (ws : List ℕ) → ws ≡ words v → (walk : Walk) → walk ≡ range_row ws start end → walk.words ≡ over words_of v s e
-  words_are ws is walk made = rw (made, is) (by_ends words_of)
-
-  pub zero_words_are : (ws : List ℕ) → ws ≡ words v → (walk : Walk) → walk ≡ range_row (map (bit_not w64) ws) start end → walk.words ≡ over zero_words_of v s e
-  zero_words_are ws is walk made = rw (made, is) (by_ends zero_words_of)
 
 -- ---- the walks over two sets
 

@@ -1,10 +1,11 @@
 -- What is written of a set: its characters, those of one word after the other, and the bytes of its JSON form.
-use Rattle.std.proofs.Common.{◌≡◌, ℕ, ◌+◌, ◌*◌, ◌/◌, ◌%◌, ◌^◌, ◌<◌, ◌≤◌, nat_lt, ◌&&◌, List, ◌++◌, map, length, take, get_or, refl, sym, ap, ◌∙◌, arith}
+use Rattle.std.proofs.Common.{◌≡◌, ℕ, ◌+◌, ◌*◌, ◌/◌, ◌%◌, ◌^◌, ◌<◌, ◌≤◌, nat_lt, ◌&&◌, List, Vec, ◌++◌, map, length, take, get_or, refl, sym, ap, ◌∙◌, arith}
 use Rattle.std.specs.Int.{bit_at}
 use Rattle.std.specs.List.{range_with_len}
 use Rattle.std.specs.Str.{IsUtf8}
+use Rattle.std.specs.Vec.{with_items}
 use Rattle.std.proofs.lemmas.Bool.Decides.{nat_tests}
-use Rattle.std.proofs.lemmas.List.{ext_get_or, get_or-take, length-take-le, map-append}
+use Rattle.std.proofs.lemmas.List.{with_items_is, ext_get_or, get_or-take, length-take-le, map-append}
 use Rattle.std.proofs.lemmas.List.FromFn.{length-map-range_with_len, get_or-map-range_with_len}
 use Rattle.std.proofs.lemmas.Nat.Bits.{bit_at-lt, same_from_bits_below}
 use Rattle.std.proofs.lemmas.Str.{IsUtf8-from_ascii}
@@ -87,16 +88,16 @@ module _ (bs : List ℕ) (small : (j : ℕ) → get_or bs j 0 < 256) (n : ℕ) w
       let cut = keeps_cut n fits mid new (ap length is ∙ length-map-range_with_len (word_of bs) 0 (storage_words n)) done in
       record { value = cut.value ∙ ap (of_words n) is ∙ of_words-made; clean = cut.clean }
 
+  -- the same of a vector whose words are lent and given back
+  pub keeps_vec : {Z : Type 0} → n < 2 ^ 64 → (words : Vec ℕ Z) (new : List ℕ) → words.items ≡ made → IsJoined (λ x y. x && y) words.items (λ p. nat_lt p n) new → Keeps n (with_items words new).items (of_bytes n bs)
+  keeps_vec fits words new is done = rw (with_items_is words new (done.long ∙ sym words.ok.0)) (keeps_made fits words.items new is done)
+
 -- a byte of the words of a value is that of its positions
 byte_of-words : (v : Bits) (j : ℕ) → j < 8 * words_needed v.length → byte_of (words v) j ≡ byte v j
 byte_of-words v j h =
     same_from_bits_below 8 _ _ (byte_of-lt (words v) j) (number_at-lt v (8 * j) 8) (λ i l.
     let place : 64 * (j / 8) + (8 * (j % 8) + i) ≡ 8 * j + i = omega arith in
-    bit_at-byte_of (words v) j i l
-    ∙ ap (λ x. bit_at x (8 * (j % 8) + i)) (get_or-words v (j / 8) (omega arith))
-    ∙ bit_at-number_at v (64 * (j / 8)) 64 (8 * (j % 8) + i) (omega arith)
-    ∙ ap (λ p. indicator (contains v p)) place
-    ∙ sym (bit_at-number_at v (8 * j) 8 i l))
+    rw (bit_at-byte_of (words v) j i l, get_or-words v (j / 8) (omega arith), bit_at-number_at v (64 * (j / 8)) 64 (8 * (j % 8) + i) (omega arith), place, bit_at-number_at v (8 * j) 8 i l) refl)
 
 pub bytes_of-words : (v : Bits) → bytes_of (words v) ≡ bytes v
 unfolding bytes bytes_of

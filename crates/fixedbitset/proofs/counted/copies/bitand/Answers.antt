@@ -4,18 +4,12 @@ use Rattle.fixedbitset.specs.Bits.{storage_words}
 use Rattle.fixedbitset.proofs.Words.{viewed_length}
 use Rattle.fixedbitset.proofs.counted.copies.bitand.Goals as goal
 
--- no words of a set are more than those of a longer one
-fewer_words : (m n : ℕ) → m ≤ n → storage_words m ≤ storage_words n
-fewer_words m n le = omega arith
-
 -- where the joined set is the shorter one, nothing is left to clear
 join_whole : (m n : ℕ) → m ≤ n → join_steps false (storage_words m) (storage_words n) ≡ both_steps false false (storage_words n) (storage_words m)
-join_whole m n le = omega (arith, fewer_words m n le)
+join_whole m n le = let fewer : storage_words m ≤ storage_words n = omega arith in omega arith
 
 pub returns-else-set-other-clause-cost : goal.returns-else-set-other-clause-cost
-returns-else-set-other-clause-cost c =
-    let shorter : c.args.other.now.length ≤ c.args.set.now.length = omega (arith, c.if-set-other.false, viewed_length _ _ _ c.set.view_is, viewed_length _ _ _ c.other.view_is) in
-    rw (← join_whole c.args.other.now.length c.args.set.now.length shorter) c.joined_copy-else-set-other.ensures.cost
+returns-else-set-other-clause-cost c = omega (arith, c.joined_copy-else-set-other.ensures.cost, c.if-set-other.false, viewed_length _ _ _ c.set.view_is, viewed_length _ _ _ c.other.view_is)
 
 pub returns-else-set-other-clause-whole : goal.returns-else-set-other-clause-whole
 returns-else-set-other-clause-whole c =

@@ -1,4 +1,4 @@
-use Rattle.std.proofs.Common.{◌≡◌, not, ◌∙◌}
+use Rattle.std.proofs.Common.{◌≡◌, not, refl}
 use Rattle.bitwords.specs.WalkFacts.{runs_forwards, runs_backwards}
 use Rattle.bitwalks.specs.Pairs.{SievesFirst, SievesLast, sieve_over}
 use Rattle.fixedbitset.specs.Bits.{words}
@@ -8,7 +8,7 @@ use Rattle.fixedbitset.proofs.Positions.{lacked_items, sieve_source, fits_items}
 use Rattle.fixedbitset.proofs.set.FixedBitSet.difference.Goals as goal
 
 walk : (c : goal.After-over) → c.over.result ≡ sieve_over not (words c.args.self.now) (words c.args.other.now)
-walk c = let one = c.used_words-words.ensures.value in let two = c.used_words-others.ensures.value in c.over.ensures ∙ (λ i. sieve_over not (one i) (two i))
+walk c = rw (c.over.ensures, c.used_words-words.ensures.value, c.used_words-others.ensures.value) refl
 
 pub returns-clause-items : goal.returns-clause-items
 returns-clause-items c = lacked_items c.args.self.now c.args.other.now _ (walk c)

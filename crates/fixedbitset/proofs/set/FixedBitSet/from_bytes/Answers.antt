@@ -1,25 +1,20 @@
 use Rattle.std.proofs.Common.{rules, ◌≡◌, ◌<◌, ℕ, get_or, map, length, ◌∙◌}
 use Rattle.std.specs.List.{range_with_len}
-use Rattle.std.proofs.lemmas.List.{with_items_is}
 use Rattle.bitjson.specs.Bytes.{word_of}
 use Rattle.fixedbitset.specs.Bits.{storage_words}
-use Rattle.fixedbitset.proofs.Texts.{keeps_made}
+use Rattle.fixedbitset.proofs.Texts.{keeps_vec}
 use Rattle.fixedbitset.proofs.set.FixedBitSet.from_bytes.Goals as goal
 
 pub invariant_of-result : goal.invariant_of-result
 invariant_of-result c =
-    let words = c.in_ok-words.words in
     let done = rw c.deref_mut.ensures.value at c.clear_from.ensures in
-    let same : length c.clear_from.new.words ≡ words.len = done.long ∙ search rules in
     let small : (j : ℕ) → get_or c.args.source.now j 0 < 256 = λ j. search rules in
-    let made : words.items ≡ map (word_of c.args.source.now) (range_with_len 0 (storage_words c.args.bits)) = search rules in
-    rw (with_items_is words c.clear_from.new.words same) (keeps_made _ small _ c.ranges.bits.fits _ _ made done).clean
+    let made : c.in_ok-words.words.items ≡ map (word_of c.args.source.now) (range_with_len 0 (storage_words c.args.bits)) = search rules in
+    (keeps_vec _ small _ c.ranges.bits.fits c.in_ok-words.words _ made done).clean
 
 pub returns : goal.returns
 returns c =
-    let words = c.in_ok-words.words in
     let done = rw c.deref_mut.ensures.value at c.clear_from.ensures in
-    let same : length c.clear_from.new.words ≡ words.len = done.long ∙ search rules in
     let small : (j : ℕ) → get_or c.args.source.now j 0 < 256 = λ j. search rules in
-    let made : words.items ≡ map (word_of c.args.source.now) (range_with_len 0 (storage_words c.args.bits)) = search rules in
-    rw (with_items_is words c.clear_from.new.words same) (keeps_made _ small _ c.ranges.bits.fits _ _ made done).value
+    let made : c.in_ok-words.words.items ≡ map (word_of c.args.source.now) (range_with_len 0 (storage_words c.args.bits)) = search rules in
+    (keeps_vec _ small _ c.ranges.bits.fits c.in_ok-words.words _ made done).value

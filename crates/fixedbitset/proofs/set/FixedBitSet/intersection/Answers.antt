@@ -1,4 +1,4 @@
-use Rattle.std.proofs.Common.{◌≡◌, ◌∙◌}
+use Rattle.std.proofs.Common.{◌≡◌, refl}
 use Rattle.bitwords.specs.WalkFacts.{runs_forwards, runs_backwards}
 use Rattle.bitwalks.specs.Pairs.{SievesFirst, SievesLast, sieve_over}
 use Rattle.fixedbitset.specs.Bits.{words}
@@ -8,7 +8,7 @@ use Rattle.fixedbitset.proofs.Positions.{shared_items, sieve_source, fits_items}
 use Rattle.fixedbitset.proofs.set.FixedBitSet.intersection.Goals as goal
 
 walk : (c : goal.After-over) → c.over.result ≡ sieve_over (λ b. b) (words c.args.self.now) (words c.args.other.now)
-walk c = let one = c.used_words-words.ensures.value in let two = c.used_words-others.ensures.value in c.over.ensures ∙ (λ i. sieve_over (λ b. b) (one i) (two i))
+walk c = rw (c.over.ensures, c.used_words-words.ensures.value, c.used_words-others.ensures.value) refl
 
 pub returns-clause-items : goal.returns-clause-items
 returns-clause-items c = shared_items c.args.self.now c.args.other.now _ (walk c)

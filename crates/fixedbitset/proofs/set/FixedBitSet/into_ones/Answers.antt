@@ -1,5 +1,4 @@
-use Rattle.std.proofs.Common.{◌≡◌, length, ap, ◌∙◌, ◌*◌}
-use Rattle.bitwords.specs.Walk.{over_row}
+use Rattle.std.proofs.Common.{◌≡◌, ap, ◌∙◌}
 use Rattle.bitwords.specs.WalkFacts.{walk_forwards, walk_backwards}
 use Rattle.fixedbitset.specs.Bits.{words}
 use Rattle.fixedbitset.specs.Walks.{begun}
@@ -11,7 +10,7 @@ whole : (c : goal.After-over) → c.over.result ≡ begun c.args.self
 whole c =
     let items = c.truncate.ensures.items in
     let words = items ∙ words_of _ _ c.self.invariant _ c.div_ceil.ensures (λ k. rw items at (c.over.ensures.are_words k)) ∙ ap words c.self.view_is in
-    c.over.ensures.walk ∙ ap (λ ws. over_row ws (64 * length ws)) words ∙ over_row-begun c.args.self
+    rw (c.over.ensures.walk, words) (over_row-begun c.args.self)
 
 pub returns-clause-items : goal.returns-clause-items
 returns-clause-items c = ap (λ walk. walk.items) (whole c)

@@ -1,12 +1,11 @@
-use Rattle.std.proofs.Common.{◌≡◌, length, ap, ◌∙◌, ◌*◌}
-use Rattle.bitwords.specs.Walk.{over_row}
+use Rattle.std.proofs.Common.{◌≡◌, ap}
 use Rattle.bitwords.specs.WalkFacts.{walk_forwards, walk_backwards}
 use Rattle.fixedbitset.specs.Walks.{begun}
 use Rattle.fixedbitset.proofs.Positions.{over_row-begun, fits_items}
 use Rattle.fixedbitset.proofs.set.FixedBitSet.ones.Goals as goal
 
 whole : (c : goal.After-over) → c.over.result ≡ begun c.args.self.now
-whole c = c.over.ensures ∙ ap (λ ws. over_row ws (64 * length ws)) c.used_words.ensures.value ∙ over_row-begun c.args.self.now
+whole c = rw (c.over.ensures, c.used_words.ensures.value) (over_row-begun c.args.self.now)
 
 pub returns-clause-items : goal.returns-clause-items
 returns-clause-items c = ap (λ walk. walk.items) (whole c)

@@ -1,4 +1,4 @@
-use Rattle.std.proofs.Common.{◌≡◌, ◌++◌, not, length, ap, ◌∙◌, arith}
+use Rattle.std.proofs.Common.{◌≡◌, ◌++◌, not, length, refl, ap, arith}
 use Rattle.bitwords.specs.WalkFacts.{runs_forwards, runs_backwards}
 use Rattle.bitwalks.specs.Pairs.{split_items, SplitsFirst, SplitsLast, sieve_over}
 use Rattle.fixedbitset.specs.Bits.{words}
@@ -6,10 +6,10 @@ use Rattle.fixedbitset.proofs.Positions.{length-split_items, lacked_items, sieve
 use Rattle.fixedbitset.proofs.set.FixedBitSet.symmetric_difference.Goals as goal
 
 first : (c : goal.After-over) → c.over.result.first ≡ sieve_over not (words c.args.self.now) (words c.args.other.now)
-first c = let one = c.used_words-words.ensures.value in let two = c.used_words-others.ensures.value in ap (λ walk. walk.first) c.over.ensures ∙ (λ i. sieve_over not (one i) (two i))
+first c = rw (c.over.ensures, c.used_words-words.ensures.value, c.used_words-others.ensures.value) refl
 
 second : (c : goal.After-over) → c.over.result.second ≡ sieve_over not (words c.args.other.now) (words c.args.self.now)
-second c = let one = c.used_words-words.ensures.value in let two = c.used_words-others.ensures.value in ap (λ walk. walk.second) c.over.ensures ∙ (λ i. sieve_over not (two i) (one i))
+second c = rw (c.over.ensures, c.used_words-words.ensures.value, c.used_words-others.ensures.value) refl
 
 pub returns-clause-items : goal.returns-clause-items
 returns-clause-items c =
@@ -19,13 +19,7 @@ returns-clause-items c =
 
 pub returns-clause-fits : goal.returns-clause-fits
 returns-clause-fits c =
-    omega (
-      arith,
-      ap length (returns-clause-items c),
-      length-split_items c.args.self.now c.args.other.now,
-      c.used_words-words.ensures.fits,
-      c.used_words-others.ensures.fits,
-    )
+    omega (arith, ap length (returns-clause-items c), length-split_items c.args.self.now c.args.other.now, c.used_words-words.ensures.fits, c.used_words-others.ensures.fits)
 
 pub returns-clause-runs : goal.returns-clause-runs
 returns-clause-runs c = runs_forwards split_items SplitsFirst (λ s r t h. h.0) _ _ (returns-clause-items c)

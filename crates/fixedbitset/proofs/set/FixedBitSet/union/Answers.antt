@@ -1,5 +1,4 @@
-use Rattle.std.proofs.Common.{◌≡◌, ◌*◌, ◌++◌, not, length, ap, ◌∙◌, arith}
-use Rattle.bitwords.specs.Walk.{over_row}
+use Rattle.std.proofs.Common.{◌≡◌, ◌++◌, not, length, refl, ap, arith}
 use Rattle.bitwords.specs.WalkFacts.{runs_forwards, runs_backwards}
 use Rattle.bitwalks.specs.Pairs.{joined_items, JoinsFirst, JoinsLast, sieve_over}
 use Rattle.fixedbitset.specs.Bits.{words}
@@ -8,10 +7,10 @@ use Rattle.fixedbitset.proofs.Positions.{length-union_items, lacked_items, sieve
 use Rattle.fixedbitset.proofs.set.FixedBitSet.union.Goals as goal
 
 first : (c : goal.After-over) → c.over.result.first ≡ begun c.args.self.now
-first c = ap (λ walk. walk.first) c.over.ensures ∙ ap (λ ws. over_row ws (64 * length ws)) c.used_words-words.ensures.value ∙ over_row-begun c.args.self.now
+first c = rw (c.over.ensures, c.used_words-words.ensures.value) (over_row-begun c.args.self.now)
 
 second : (c : goal.After-over) → c.over.result.second ≡ sieve_over not (words c.args.other.now) (words c.args.self.now)
-second c = let one = c.used_words-words.ensures.value in let two = c.used_words-others.ensures.value in ap (λ walk. walk.second) c.over.ensures ∙ (λ i. sieve_over not (two i) (one i))
+second c = rw (c.over.ensures, c.used_words-words.ensures.value, c.used_words-others.ensures.value) refl
 
 pub returns-clause-items : goal.returns-clause-items
 returns-clause-items c =
@@ -21,13 +20,7 @@ returns-clause-items c =
 
 pub returns-clause-fits : goal.returns-clause-fits
 returns-clause-fits c =
-    omega (
-      arith,
-      ap length (returns-clause-items c),
-      length-union_items c.args.self.now c.args.other.now,
-      c.used_words-words.ensures.fits,
-      c.used_words-others.ensures.fits,
-    )
+    omega (arith, ap length (returns-clause-items c), length-union_items c.args.self.now c.args.other.now, c.used_words-words.ensures.fits, c.used_words-others.ensures.fits)
 
 pub returns-clause-runs : goal.returns-clause-runs
 returns-clause-runs c = runs_forwards joined_items JoinsFirst (λ s r t h. h.0) _ _ (returns-clause-items c)
