@@ -27,7 +27,8 @@ drop-zeros (suc k) zero = let e : 0 ≡ 0 - suc k = omega arith in ap zeros e
 drop-zeros (suc k) (suc m) = drop-zeros k m ∙ (let e : m - k ≡ suc m - suc k = omega arith in ap zeros e)
 
 -- the bits from `kept` on are cleared
-pub settled : (n kept : ℕ) → n < 2 ^ 64 → kept ≤ n → (old new : List ℕ) → length old ≡ storage_words n → IsJoined (λ x y. x && y) old (λ p. nat_lt p kept) new → Keeps n new (grow (of_words kept old) n)
+pub settled : (n kept : ℕ) → n < 2 ^ 64 → kept ≤ n → (old new : List ℕ) → length old ≡ storage_words n
+    → IsJoined (λ x y. x && y) old (λ p. nat_lt p kept) new → Keeps n new (grow (of_words kept old) n)
 settled n kept fits fewer old new long done =
     keeps n new (grow (of_words kept old) n) fits (done.long ∙ long) (omega (arith, length-grow (of_words kept old) n, length-of_words kept old))
     (λ p. grind (arith, nat_tests, done.bits p, done.long, long, has_bit-past new p, contains-of_words kept old p, contains-grow (of_words kept old) n p))
@@ -50,7 +51,8 @@ pub index_needed : (n : ℕ) (ws : List ℕ) (v : Bits) (index : ℕ) → of_wor
 index_needed n ws v index view within = omega (arith, length-words v, viewed_length n ws v view)
 
 -- the word is written with the bits alone that stand below the length
-pub keeps_block : (n : ℕ) (ws : List ℕ) (index value mask : ℕ) → IsClean n ws → index < words_needed n → ((i : ℕ) → bit mask i ≡ nat_lt i (min (n - 64 * index) 64)) → Keeps n (set ws index (bit_and value mask)) (set_block (of_words n ws) index value)
+pub keeps_block : (n : ℕ) (ws : List ℕ) (index value mask : ℕ) → IsClean n ws → index < words_needed n
+    → ((i : ℕ) → bit mask i ≡ nat_lt i (min (n - 64 * index) 64)) → Keeps n (set ws index (bit_and value mask)) (set_block (of_words n ws) index value)
 keeps_block n ws index value mask clean within masked =
     let v = of_words n ws in
     let long = length-of_words n ws in

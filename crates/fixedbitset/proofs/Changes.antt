@@ -70,21 +70,17 @@ module _ (n : ℕ) (ws : List ℕ) (bit : ℕ) (clean : IsClean n ws) (inside : 
   pub remove_clean : IsClean n (set ws (bit / 64) (bit_and x (bit_not w64 (1 * 2 ^ (bit % 64) % 2 ^ 64))))
   remove_clean = (keeps_set n bit ws _ false inside clean (ChangesBit-clear x (bit % 64) (omega arith))).clean
 
-  -- whether the word has the bit
-  word_bit : (bit_at x (bit % 64) == 1) ≡ contains (of_words n ws) bit
-  unfolding has_bit
-  word_bit = contains_word n ws bit clean
-
   pub toggle_of : of_words n (set ws (bit / 64) (bit_xor x (1 * 2 ^ (bit % 64) % 2 ^ 64))) ≡ toggle (of_words n ws) bit
-  unfolding toggle
-  toggle_of = (keeps_set n bit ws _ _ inside clean (ChangesBit-flip x (bit % 64) (omega arith))).value ∙ ap (λ b. set_bit (of_words n ws) bit (not b)) word_bit
+  unfolding toggle has_bit
+  toggle_of = (keeps_set n bit ws _ _ inside clean (ChangesBit-flip x (bit % 64) (omega arith))).value ∙ ap (λ b. set_bit (of_words n ws) bit (not b)) (contains_word n ws bit clean)
 
   pub toggle_clean : IsClean n (set ws (bit / 64) (bit_xor x (1 * 2 ^ (bit % 64) % 2 ^ 64)))
   toggle_clean = (keeps_set n bit ws _ _ inside clean (ChangesBit-flip x (bit % 64) (omega arith))).clean
 
   -- the test `word & (1 << k) != 0`
   pub read_bit : not (bit_and x (1 * 2 ^ (bit % 64) % 2 ^ 64) == 0) ≡ contains (of_words n ws) bit
-  read_bit = test_of_and x (bit % 64) (omega arith) ∙ word_bit
+  unfolding has_bit
+  read_bit = test_of_and x (bit % 64) (omega arith) ∙ contains_word n ws bit clean
 
 -- no position past the length is set
 pub none_past : (v : Bits) (bit : ℕ) → v.length ≤ bit → false ≡ contains v bit

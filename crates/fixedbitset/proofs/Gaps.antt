@@ -55,7 +55,9 @@ pub record Searched (n : ℕ) (ws : List ℕ) (count from start : ℕ) : Type 0 
 
 module _ (n : ℕ) (ws : List ℕ) (count from : ℕ) where
   pub none_wanted : count ≡ 0 → from ≤ n → Some from ≡ first_gap (of_words n ws) count from
-  none_wanted nothing within = gap_found (of_words n ws) count from from (omega arith) (omega (arith, length-of_words n ws)) (room_is (of_words n ws) count from (omega (arith, length-of_words n ws)) (λ q above below. absurd (omega arith))) (λ q above below. absurd (omega arith))
+  none_wanted nothing within =
+      let room = room_is (of_words n ws) count from (omega (arith, length-of_words n ws)) (λ q above below. absurd (omega arith)) in
+      gap_found (of_words n ws) count from from (omega arith) (omega (arith, length-of_words n ws)) room (λ q above below. absurd (omega arith))
 
   pub past_all : n < from → None ≡ first_gap (of_words n ws) count from
   past_all past = gap_none (of_words n ws) count from (λ q above below. absurd (omega (arith, length-of_words n ws)))
@@ -63,7 +65,8 @@ module _ (n : ℕ) (ws : List ℕ) (count from : ℕ) where
   module _ (some : 0 < count) where
     -- where no position is clear from `end` on
     full_from : (end q : ℕ) → next_zero (of_words n ws) end ≡ None → end ≤ q → q ≤ n → has_room (of_words n ws) count q ≡ false
-    full_from end q none above below = grind (arith, length-of_words n ws, next_zero_none (of_words n ws) end none q above, room_lacks (of_words n ws) count q q, room_past (of_words n ws) count q)
+    full_from end q none above below =
+        grind (arith, length-of_words n ws, next_zero_none (of_words n ws) end none q above, room_lacks (of_words n ws) count q q, room_past (of_words n ws) count q)
 
     pub all_set : next_zero (of_words n ws) from ≡ None → None ≡ first_gap (of_words n ws) count from
     all_set none = gap_none (of_words n ws) count from (λ q above below. full_from from q none above (omega (arith, length-of_words n ws)))
@@ -107,7 +110,8 @@ module _ {n : ℕ} {ws : List ℕ} {count from start : ℕ} (searched : Searched
     found wide =
         let order = e.order in
         let within = e.within in
-        gap_found (of_words n ws) count from start searched.after (omega (arith, length-of_words n ws, searched.below)) (room_is (of_words n ws) count start (omega (arith, length-of_words n ws)) (λ q above below. e.clear q above (omega arith))) searched.none
+        let long = length-of_words n ws in
+        gap_found _ count from start searched.after (omega (arith, long, searched.below)) (room_is _ count start (omega (arith, long)) (λ q above below. e.clear q above (omega arith))) searched.none
 
     module _ (less : end - start < count) where
       -- where too few are clear and enough are left, it is set
@@ -155,7 +159,8 @@ module _ (test : ℕ → Bool) where
   next_begun p q order passes fails = grind (arith, nat_tests, passes, fails, count-mono (begins test) (suc p) q order, count-suc (begins test) q)
 
 -- the step of a search that found a position below n
-pub reached : (found : Option ℕ) (end n start steps after : ℕ) → end ≡ unwrap_or found n → end < n → IfSome found (λ p. after ≡ steps + 1 + lane_steps (p / 64 - start / 64)) → after ≡ steps + 1 + lane_steps (end / 64 - start / 64)
+pub reached : (found : Option ℕ) (end n start steps after : ℕ) → end ≡ unwrap_or found n → end < n → IfSome found (λ p. after ≡ steps + 1 + lane_steps (p / 64 - start / 64))
+    → after ≡ steps + 1 + lane_steps (end / 64 - start / 64)
 reached (Some p) end n start steps after is below cost = rw is cost
 reached None end n start steps after is below cost = absurd (omega (arith, is, below))
 
@@ -178,7 +183,8 @@ module _ (n : ℕ) (ws : List ℕ) where
   unfolding runs zero_runs
   all_begun p below =
       let test = contains (complement (of_words n ws)) in
-      let all : length (zero_runs (of_words n ws)) ≡ length (ascending (begins test) 0 ((complement (of_words n ws)).length - 0)) = length-map (ascending (begins test) 0 ((complement (of_words n ws)).length - 0)) _ in
+      let first = ascending (begins test) 0 ((complement (of_words n ws)).length - 0) in
+      let all : length (zero_runs (of_words n ws)) ≡ length first = length-map first _ in
       let end : (complement (of_words n ws)).length - 0 ≡ n = omega (arith, length-complement (of_words n ws), length-of_words n ws) in
       omega (arith, all ∙ ap (λ k. length (ascending (begins test) 0 k)) end ∙ length-count (begins test) n, count-mono (begins test) (suc p) n (omega arith))
 
@@ -186,15 +192,18 @@ module _ (n : ℕ) (ws : List ℕ) where
   words_before p below = omega (arith, below)
 
 -- the lanes of two steps are at most one more than those of one; the steps at the first clear position
-module _ (lanes : ℕ → ℕ) (join : (low mid high : ℕ) → low ≤ mid → mid ≤ high → lanes (mid - low) + lanes (high - mid) ≤ lanes (high - low) + 1) {n : ℕ} {ws : List ℕ} {count from start : ℕ} (searched : Searched n ws count from start) where
+module _ (lanes : ℕ → ℕ) (join : (low mid high : ℕ) → low ≤ mid → mid ≤ high → lanes (mid - low) + lanes (high - mid) ≤ lanes (high - low) + 1)
+    {n : ℕ} {ws : List ℕ} {count from start : ℕ} (searched : Searched n ws count from start) where
   pub spent_first : (first steps : ℕ) → steps ≡ first + 1 + lanes (start / 64 - from / 64) → IsSpent lanes n ws from first steps start
   spent_first first steps cost =
       record { bound = omega (arith, cost, some_begun (contains (complement (of_words n ws))) start (clear_passes n ws start searched.below searched.clear)) }
 
   module _ {first steps : ℕ} (spent : IsSpent lanes n ws from first steps start) where
-    pub spent_found : (after : ℕ) → after ≤ steps + 1 + lanes (storage_words n - 1 - start / 64) → after ≤ first + 1 + 4 * length (zero_runs (of_words n ws)) + lanes (storage_words n - 1 - from / 64)
+    pub spent_found : (after : ℕ) → after ≤ steps + 1 + lanes (storage_words n - 1 - start / 64)
+        → after ≤ first + 1 + 4 * length (zero_runs (of_words n ws)) + lanes (storage_words n - 1 - from / 64)
     spent_found after whole =
-        omega (arith, spent.bound, all_begun n ws start searched.below, whole, join (from / 64) (start / 64) (storage_words n - 1) (omega (arith, searched.after)) (words_before n ws start searched.below))
+        let rest = join (from / 64) (start / 64) (storage_words n - 1) (omega (arith, searched.after)) (words_before n ws start searched.below) in
+        omega (arith, spent.bound, all_begun n ws start searched.below, whole, rest)
 
     module _ {end : ℕ} (e : IsEnd n ws start end) (end_in : end < n) (mid : ℕ) (search : mid ≡ steps + 1 + lanes (end / 64 - start / 64)) where
       lanes_to_end : lanes (start / 64 - from / 64) + lanes (end / 64 - start / 64) ≤ lanes (end / 64 - from / 64) + 1
@@ -202,21 +211,16 @@ module _ (lanes : ℕ → ℕ) (join : (low mid high : ℕ) → low ≤ mid → 
 
       pub spent_none : (after : ℕ) → after ≤ mid + 1 + lanes (storage_words n - 1 - end / 64) → after ≤ first + 1 + 4 * length (zero_runs (of_words n ws)) + lanes (storage_words n - 1 - from / 64)
       spent_none after whole =
-          omega (
-            arith,
-            spent.bound,
-            all_begun n ws start searched.below,
-            search,
-            whole,
-            lanes_to_end,
-            join (from / 64) (end / 64) (storage_words n - 1) (omega (arith, searched.after, e.order)) (words_before n ws end end_in),
-          )
+          let rest = join (from / 64) (end / 64) (storage_words n - 1) (omega (arith, searched.after, e.order)) (words_before n ws end end_in) in
+          omega (arith, spent.bound, all_begun n ws start searched.below, search, whole, lanes_to_end, rest)
 
-      pub spent_on : (less : end - start < count) (next after : ℕ) → next_zero (of_words n ws) end ≡ Some next → after ≡ mid + 1 + lanes (next / 64 - end / 64) → IsSpent lanes n ws from first after next
+      pub spent_on : (less : end - start < count) (next after : ℕ) → next_zero (of_words n ws) end ≡ Some next
+          → after ≡ mid + 1 + lanes (next / 64 - end / 64) → IsSpent lanes n ws from first after next
       spent_on less next after is cost =
           let test = contains (complement (of_words n ws)) in
           let on = searched_on searched e less next is in
           let fails : test (next - 1) ≡ false = grind (arith, contains-complement (of_words n ws) (next - 1), set_before searched e less next is end_in) in
           let more = next_begun test start next (goes_on searched e less next is) (clear_passes n ws next on.below on.clear) fails in
           let least = next_zero_least (of_words n ws) end next is in
-          record { bound = omega (arith, spent.bound, more, search, cost, lanes_to_end, join (from / 64) (end / 64) (next / 64) (omega (arith, searched.after, e.order)) (omega (arith, least.1))) }
+          let rest = join (from / 64) (end / 64) (next / 64) (omega (arith, searched.after, e.order)) (omega (arith, least.1)) in
+          record { bound = omega (arith, spent.bound, more, search, cost, lanes_to_end, rest) }

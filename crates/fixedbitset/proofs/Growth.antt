@@ -19,7 +19,8 @@ pub get_or-zeros : (ws : List ℕ) (j i : ℕ) → get_or (ws ++ zeros j) i 0 �
 get_or-zeros ws j i = grind (arith, get_or_append_left ws (zeros j) 0 i, get_or-append_right ws (zeros j) (length ws) i 0, get_or-none j (i - length ws), get_or_past ws i 0)
 
 -- what `lengthen` leaves
-pub keeps_longer : (n m : ℕ) (ws : List ℕ) (v : Bits) (new : List ℕ) (len needed : ℕ) → of_words n ws ≡ v → IsClean n ws → m < 2 ^ 64 → n < m → len ≡ length ws → needed ≡ storage_words m → new ≡ ws ++ replicate (needed - len) 0 → Keeps m new (grow v m)
+pub keeps_longer : (n m : ℕ) (ws : List ℕ) (v : Bits) (new : List ℕ) (len needed : ℕ) → of_words n ws ≡ v → IsClean n ws
+    → m < 2 ^ 64 → n < m → len ≡ length ws → needed ≡ storage_words m → new ≡ ws ++ replicate (needed - len) 0 → Keeps m new (grow v m)
 keeps_longer n m ws v new len needed view clean fits longer same_len same_needed items =
     keeps m new (grow v m) fits
     (omega (arith, ap length items, length-append ws (zeros (needed - len)), length-replicate {A = ℕ} (needed - len) 0, clean.count))

@@ -65,7 +65,8 @@ module _ (t : Bool → Bool → Bool) (neither : t false false ≡ false) (n : �
 
 -- ---- of a range and a row of words
 
-module _ {f : ℕ → ℕ → ℕ} {t : Bool → Bool → Bool} {keep take : Bool} (law : IsWordOp f t keep take) (drops : take ≡ false) (n : ℕ) (ws : List ℕ) (clean : IsClean n ws) (start end : ℕ) (valid : is_valid (of_words n ws) start end ≡ true) where
+module _ {f : ℕ → ℕ → ℕ} {t : Bool → Bool → Bool} {keep take : Bool} (law : IsWordOp f t keep take) (drops : take ≡ false)
+    (n : ℕ) (ws : List ℕ) (clean : IsClean n ws) (start end : ℕ) (valid : is_valid (of_words n ws) start end ≡ true) where
   pub count_range-is : count_joined t (range_set start end) (of_words n ws) + count_below (bit_test (t true) ws) start ≡ count_below (bit_test (t true) ws) end
   unfolding bit_test
   count_range-is =
@@ -121,17 +122,17 @@ subset_of v w = ap (λ n. n == 0) (difference_count_of v w) ∙ none_left v.posi
 
 -- ---- the same of a range
 
-module _ (v : Bits) (start end : ℕ) where
-  same_range : (p : ℕ) → set.contains (numbers_between start end) p ≡ contains (range_set start end) p
-  same_range p = numbers.contains-numbers_between start end p ∙ sym (contains-range_set start end p)
+same_range : (start end p : ℕ) → set.contains (numbers_between start end) p ≡ contains (range_set start end) p
+same_range start end p = numbers.contains-numbers_between start end p ∙ sym (contains-range_set start end p)
 
+module _ (v : Bits) (start end : ℕ) where
   pub count_ones_of : count_joined (λ x y. x && y) (range_set start end) v ≡ count_ones v start end
   unfolding count_ones contains
-  count_ones_of = count_joined-size (λ x y. x && y) refl (range_set start end) v _ (λ p. set.contains-intersection nat_cmp_total (numbers_between start end) v.positions p ∙ ap (λ b. b && contains v p) (same_range p))
+  count_ones_of = count_joined-size _ refl (range_set start end) v _ (λ p. grind (arith, same_range start end p, set.contains-intersection nat_cmp_total (numbers_between start end) v.positions p))
 
   pub count_zeroes_of : count_joined (λ x y. x && not y) (range_set start end) v ≡ count_zeroes v start end
   unfolding count_zeroes contains
-  count_zeroes_of = count_joined-size (λ x y. x && not y) refl (range_set start end) v _ (λ p. set.contains-difference nat_cmp_total (numbers_between start end) v.positions p ∙ ap (λ b. b && not (contains v p)) (same_range p))
+  count_zeroes_of = count_joined-size _ refl (range_set start end) v _ (λ p. grind (arith, same_range start end p, set.contains-difference nat_cmp_total (numbers_between start end) v.positions p))
 
   pub contains_any_of : not (count_joined (λ x y. x && y) (range_set start end) v == 0) ≡ contains_any v start end
   unfolding contains_any

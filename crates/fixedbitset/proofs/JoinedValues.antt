@@ -30,7 +30,8 @@ pub difference_grown : (v g k : Bits) → joined (λ x y. x || y) (grow v g.leng
 difference_grown v g k = ap (λ n. joined (λ x y. x || y) (grow v n) (difference g k)) (sym (length-difference g k)) ∙ union_grown v (difference g k)
 
 pub symmetric_difference_grown : (v w : Bits) → joined either (grow v w.length) w ≡ symmetric_difference v w
-symmetric_difference_grown v w = joined_is _ (grow v w.length) w (symmetric_difference v w) (length-symmetric_difference v w ∙ sym (length-grow v w.length)) (λ p _. grind (arith, contains-symmetric_difference v w p, contains-grow v w.length p))
+symmetric_difference_grown v w = joined_is _ (grow v w.length) w (symmetric_difference v w) (length-symmetric_difference v w ∙ sym (length-grow v w.length))
+    (λ p _. grind (arith, contains-symmetric_difference v w p, contains-grow v w.length p))
 
 pub intersection_joined : (v w : Bits) → joined (λ x y. x && y) v w ≡ intersection v w
 intersection_joined v w = joined_is _ v w (intersection v w) (length-intersection v w) (λ p _. contains-intersection v w p)
@@ -42,13 +43,16 @@ difference_joined v w = joined_is _ v w (difference v w) (length-difference v w)
 
 module _ (v : Bits) (start end : ℕ) where
   pub insert_joined : joined (λ x y. x || y) v (range_set start end) ≡ insert_range v start end
-  insert_joined = joined_is _ v (range_set start end) (insert_range v start end) (length-insert_range v start end) (λ p below. grind (arith, nat_tests, contains-insert_range v start end p, contains-range_set start end p))
+  insert_joined = joined_is _ v (range_set start end) (insert_range v start end) (length-insert_range v start end)
+      (λ p below. grind (arith, nat_tests, contains-insert_range v start end p, contains-range_set start end p))
 
   pub remove_joined : joined (λ x y. x && not y) v (range_set start end) ≡ remove_range v start end
-  remove_joined = joined_is _ v (range_set start end) (remove_range v start end) (length-remove_range v start end) (λ p below. grind (arith, contains-remove_range v start end p, contains-range_set start end p))
+  remove_joined = joined_is _ v (range_set start end) (remove_range v start end) (length-remove_range v start end)
+      (λ p below. grind (arith, contains-remove_range v start end p, contains-range_set start end p))
 
   pub toggle_joined : joined either v (range_set start end) ≡ toggle_range v start end
-  toggle_joined = joined_is _ v (range_set start end) (toggle_range v start end) (length-toggle_range v start end) (λ p below. grind (arith, nat_tests, contains-toggle_range v start end p, contains-range_set start end p))
+  toggle_joined = joined_is _ v (range_set start end) (toggle_range v start end) (length-toggle_range v start end)
+      (λ p below. grind (arith, nat_tests, contains-toggle_range v start end p, contains-range_set start end p))
 
 -- ---- new sets, of which the first stays as long as it is
 

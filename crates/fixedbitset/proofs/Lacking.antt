@@ -36,7 +36,8 @@ module _ (n : ℕ) (xs : List ℕ) (m : ℕ) (ys : List ℕ) (clean : IsClean n 
   -- a third set takes them in
   pub keeps_taken : (k : ℕ) (ws new : List ℕ) → IsClean k ws → n ≤ k → IsJoined (λ x y. x || y) ws passes new → Keeps k new (joined (λ x y. x || y) (of_words k ws) left)
   keeps_taken k ws new clean_ws shorter done =
-      keeps_joined k ws new (of_words k ws) left refl clean_ws passes passes_left done true (λ y. refl) (λ _. omega (arith, shorter, length-difference (of_words n xs) (of_words m ys), length-of_words n xs, length-of_words k ws))
+      keeps_joined k ws new (of_words k ws) left refl clean_ws passes passes_left done true (λ y. refl)
+      (λ _. omega (arith, shorter, length-difference (of_words n xs) (of_words m ys), length-of_words n xs, length-of_words k ws))
 
   -- how many of them a third set gains
   pub gained_left : (k : ℕ) (ws : List ℕ) → IsClean k ws → n ≤ k

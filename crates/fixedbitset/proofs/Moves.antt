@@ -15,7 +15,8 @@ use Rattle.fixedbitset.specs.WordsFacts.{length-having, contains-having, length-
 use Rattle.fixedbitset.proofs.Words.{Keeps, keeps, having_is, contains_word}
 
 -- a row joined with the positions of a test, and then cut at n
-pub keeps_moved : (n : ℕ) → n < 2 ^ 64 → (ws mid new : List ℕ) (f : Bool → Bool → Bool) (test : ℕ → Bool) → length ws ≡ storage_words n → IsJoined f ws test mid → IsJoined (λ x y. x && y) mid (λ p. nat_lt p n) new
+pub keeps_moved : (n : ℕ) → n < 2 ^ 64 → (ws mid new : List ℕ) (f : Bool → Bool → Bool) (test : ℕ → Bool)
+    → length ws ≡ storage_words n → IsJoined f ws test mid → IsJoined (λ x y. x && y) mid (λ p. nat_lt p n) new
     → Keeps n new (having n (λ p. f (has_bit ws p) (test p)))
 keeps_moved n fits ws mid new f test count moved cut =
     let passes : ℕ → Bool = λ p. f (has_bit ws p) (test p) in
@@ -39,7 +40,8 @@ module _ (n : ℕ) (ws : List ℕ) (clean : IsClean n ws) where
   unfolding union_with_shifted
   having_with_own by = λ i. having (long i) (λ p. same p i || (nat_le by p && same (p - by) i))
 
-  pub having_with_shifted : (m : ℕ) (xs : List ℕ) → IsClean m xs → (by : ℕ) → having n (λ p. has_bit ws p || (nat_le by p && has_bit xs (p - by))) ≡ union_with_shifted (of_words n ws) (of_words m xs) by
+  pub having_with_shifted : (m : ℕ) (xs : List ℕ) → IsClean m xs → (by : ℕ)
+      → having n (λ p. has_bit ws p || (nat_le by p && has_bit xs (p - by))) ≡ union_with_shifted (of_words n ws) (of_words m xs) by
   unfolding union_with_shifted
   having_with_shifted m xs other by = λ i. having (long i) (λ p. same p i || (nat_le by p && contains_word m xs (p - by) other i))
 
@@ -60,10 +62,12 @@ module _ (n : ℕ) (ws : List ℕ) (clean : IsClean n ws) where
 
   -- moved by 0, the value stays
   pub stays_up : of_words n ws ≡ shift_up (of_words n ws) 0
-  stays_up = same_bits (of_words n ws) (shift_up (of_words n ws) 0) (sym (length-shift_up (of_words n ws) 0)) (λ p. grind (arith, nat_tests, contains-shift_up (of_words n ws) 0 p, contains-past (of_words n ws) p))
+  stays_up = same_bits (of_words n ws) (shift_up (of_words n ws) 0) (sym (length-shift_up (of_words n ws) 0))
+      (λ p. grind (arith, nat_tests, contains-shift_up (of_words n ws) 0 p, contains-past (of_words n ws) p))
 
   pub stays_with_own : of_words n ws ≡ union_with_shifted (of_words n ws) (of_words n ws) 0
-  stays_with_own = same_bits (of_words n ws) (union_with_shifted (of_words n ws) (of_words n ws) 0) (sym (length-union_with_shifted (of_words n ws) (of_words n ws) 0)) (λ p. grind (arith, nat_tests, contains-union_with_shifted (of_words n ws) (of_words n ws) 0 p, contains-past (of_words n ws) p))
+  stays_with_own = same_bits (of_words n ws) (union_with_shifted (of_words n ws) (of_words n ws) 0) (sym (length-union_with_shifted (of_words n ws) (of_words n ws) 0))
+      (λ p. grind (arith, nat_tests, contains-union_with_shifted (of_words n ws) (of_words n ws) 0 p, contains-past (of_words n ws) p))
 
 -- ---- positions written over with those of another row
 
@@ -73,7 +77,8 @@ keeps_copied n m old ws new clean other start end at room done =
     let v : Bits = of_words n old in
     let w : Bits = of_words m ws in
     keeps n new (copy_range v w start end at) clean.fits (done.long ∙ clean.count) (length-copy_range v w start end at ∙ length-of_words n old) (λ p.
-    grind (arith, nat_tests, done.before p, done.copied p, done.behind p, clean.tail p, contains_word n old p clean, contains_word m ws (start + (p - at)) other, contains-copy_range v w start end at p, length-of_words n old))
+    grind (arith, nat_tests, done.before p, done.copied p, done.behind p, clean.tail p, contains_word n old p clean,
+    contains_word m ws (start + (p - at)) other, contains-copy_range v w start end at p, length-of_words n old))
 
 -- ---- parts put together
 
@@ -106,7 +111,8 @@ truncate_longer v n longer = same_bits v (truncate v n) (omega (arith, length-tr
 module _ (v : Bits) (n : ℕ) where
   pub resize_shorter : (enabled : Bool) → n ≤ v.length → truncate v n ≡ resize v n enabled
   resize_shorter enabled shorter =
-      same_bits (truncate v n) (resize v n enabled) (omega (arith, length-truncate v n, length-resize v n enabled)) (λ p. grind (arith, nat_tests, contains-truncate v n p, contains-resize v n enabled p))
+      same_bits (truncate v n) (resize v n enabled) (omega (arith, length-truncate v n, length-resize v n enabled))
+      (λ p. grind (arith, nat_tests, contains-truncate v n p, contains-resize v n enabled p))
 
   pub resize_with : v.length < n → insert_range (grow v n) v.length n ≡ resize v n true
   resize_with longer =
@@ -115,4 +121,5 @@ module _ (v : Bits) (n : ℕ) where
 
   pub resize_without : v.length < n → grow v n ≡ resize v n false
   resize_without longer =
-      same_bits (grow v n) (resize v n false) (omega (arith, length-grow v n, length-resize v n false)) (λ p. grind (arith, nat_tests, contains-grow v n p, contains-past v p, contains-resize v n false p))
+      same_bits (grow v n) (resize v n false) (omega (arith, length-grow v n, length-resize v n false))
+      (λ p. grind (arith, nat_tests, contains-grow v n p, contains-past v p, contains-resize v n false p))

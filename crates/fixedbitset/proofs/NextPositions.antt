@@ -18,45 +18,58 @@ use Rattle.fixedbitset.proofs.Words.{contains_word}
 -- ---- among the numbers below n that pass
 
 module _ (test : ℕ → Bool) (n : ℕ) where
-  next : (from : ℕ) (found : Option ℕ) → IfSome found (IsNext test from n) → IfNone found (NonePasses test from n) → found ≡ slice_get (filter (nat_le from) (ascending test 0 n)) 0
+  next : (from : ℕ) (found : Option ℕ) → IfSome found (IsNext test from n) → IfNone found (NonePasses test from n)
+      → found ≡ slice_get (filter (nat_le from) (ascending test 0 n)) 0
   next from (Some x) is none =
       sym (ap (λ xs. slice_get xs 0) (filter-ascending test (nat_le from) 0 n)
-      ∙ first-ascending (λ i. test i && nat_le from i) n x is.below (grind (arith, nat_tests, is.passes, is.after)) (λ i before. grind (arith, nat_tests, is.none i)))
+      ∙ first-ascending (λ i. test i && nat_le from i) n x is.below
+      (grind (arith, nat_tests, is.passes, is.after)) (λ i before. grind (arith, nat_tests, is.none i)))
   next from None is none =
-      sym (ap (λ xs. slice_get xs 0) (filter-ascending test (nat_le from) 0 n ∙ ascending-none (λ i. test i && nat_le from i) 0 n (λ i above below. grind (arith, nat_tests, none i))))
+      sym (ap (λ xs. slice_get xs 0) (filter-ascending test (nat_le from) 0 n
+      ∙ ascending-none (λ i. test i && nat_le from i) 0 n (λ i above below. grind (arith, nat_tests, none i))))
 
-  previous : (below : ℕ) (found : Option ℕ) → IfSome found (IsPrevious test (min below n)) → IfNone found (NonePasses test 0 (min below n)) → found ≡ last_or None (filter (λ p. nat_lt p below) (ascending test 0 n))
+  previous : (below : ℕ) (found : Option ℕ) → IfSome found (IsPrevious test (min below n)) → IfNone found (NonePasses test 0 (min below n))
+      → found ≡ last_or None (filter (λ p. nat_lt p below) (ascending test 0 n))
   previous below (Some x) is none =
       sym (ap (last_or None) (filter-ascending test (λ p. nat_lt p below) 0 n)
-      ∙ last-ascending (λ i. test i && nat_lt i below) n x (omega (arith, is.below)) (grind (arith, nat_tests, is.passes, is.below)) (λ i above within. grind (arith, nat_tests, is.none i above)))
+      ∙ last-ascending (λ i. test i && nat_lt i below) n x (omega (arith, is.below))
+      (grind (arith, nat_tests, is.passes, is.below)) (λ i above within. grind (arith, nat_tests, is.none i above)))
   previous below None is none =
-      sym (ap (last_or None) (filter-ascending test (λ p. nat_lt p below) 0 n ∙ ascending-none (λ i. test i && nat_lt i below) 0 n (λ i above within. grind (arith, nat_tests, none i (omega arith)))))
+      sym (ap (last_or None) (filter-ascending test (λ p. nat_lt p below) 0 n
+      ∙ ascending-none (λ i. test i && nat_lt i below) 0 n (λ i above within. grind (arith, nat_tests, none i (omega arith)))))
 
 -- ---- in the words of a value
 
 module _ (n : ℕ) (ws : List ℕ) (clean : IsClean n ws) where
-  ones : ascending (bit_test (λ y. true && y) ws) 0 n ≡ asc (of_words n ws)
+  abbrev sets : ℕ → Bool
+  sets = bit_test (λ y. true && y) ws
+
+  abbrev lacks : ℕ → Bool
+  lacks = bit_test (λ y. true && not y) ws
+
+  ones : ascending sets 0 n ≡ asc (of_words n ws)
   unfolding bit_test
   ones = below-asc (of_words n ws) _ n (sym (length-of_words n ws)) (λ p _. contains_word n ws p clean)
 
-  zeroes : ascending (bit_test (λ y. true && not y) ws) 0 n ≡ asc (complement (of_words n ws))
+  zeroes : ascending lacks 0 n ≡ asc (complement (of_words n ws))
   unfolding bit_test
   zeroes =
       let v = of_words n ws in
       below-asc (complement v) _ n (sym (length-complement v ∙ length-of_words n ws)) (λ p below. grind (arith, nat_tests, contains_word n ws p clean, contains-complement v p, length-of_words n ws))
 
-  pub next_one_of : (from : ℕ) (found : Option ℕ) → IfSome found (IsNext (bit_test (λ y. true && y) ws) from n) → IfNone found (NonePasses (bit_test (λ y. true && y) ws) from n) → found ≡ next_one (of_words n ws) from
+  pub next_one_of : (from : ℕ) (found : Option ℕ) → IfSome found (IsNext sets from n) → IfNone found (NonePasses sets from n) → found ≡ next_one (of_words n ws) from
   unfolding next_one
   next_one_of from found is none = next _ n from found is none ∙ ap (λ xs. slice_get (filter (nat_le from) xs) 0) ones
 
-  pub next_zero_of : (from : ℕ) (found : Option ℕ) → IfSome found (IsNext (bit_test (λ y. true && not y) ws) from n) → IfNone found (NonePasses (bit_test (λ y. true && not y) ws) from n) → found ≡ next_zero (of_words n ws) from
+  pub next_zero_of : (from : ℕ) (found : Option ℕ) → IfSome found (IsNext lacks from n) → IfNone found (NonePasses lacks from n) → found ≡ next_zero (of_words n ws) from
   unfolding next_one next_zero
   next_zero_of from found is none = next _ n from found is none ∙ ap (λ xs. slice_get (filter (nat_le from) xs) 0) zeroes
 
-  pub previous_one_of : (below : ℕ) (found : Option ℕ) → IfSome found (IsPrevious (bit_test (λ y. true && y) ws) (min below n)) → IfNone found (NonePasses (bit_test (λ y. true && y) ws) 0 (min below n)) → found ≡ previous_one (of_words n ws) below
+  pub previous_one_of : (below : ℕ) (found : Option ℕ) → IfSome found (IsPrevious sets (min below n)) → IfNone found (NonePasses sets 0 (min below n)) → found ≡ previous_one (of_words n ws) below
   unfolding previous_one
   previous_one_of below found is none = previous _ n below found is none ∙ ap (λ xs. last_or None (filter (λ p. nat_lt p below) xs)) ones
 
-  pub previous_zero_of : (below : ℕ) (found : Option ℕ) → IfSome found (IsPrevious (bit_test (λ y. true && not y) ws) (min below n)) → IfNone found (NonePasses (bit_test (λ y. true && not y) ws) 0 (min below n)) → found ≡ previous_zero (of_words n ws) below
+  pub previous_zero_of : (below : ℕ) (found : Option ℕ) → IfSome found (IsPrevious lacks (min below n))
+      → IfNone found (NonePasses lacks 0 (min below n)) → found ≡ previous_zero (of_words n ws) below
   unfolding previous_one previous_zero
   previous_zero_of below found is none = previous _ n below found is none ∙ ap (λ xs. last_or None (filter (λ p. nat_lt p below) xs)) zeroes

@@ -85,7 +85,8 @@ module _ (v : Bits) where
   zeroes-row n long = below-asc (complement v) (has_bit inverted) (n - 0) (omega (arith, long, length-complement v)) (λ p below. has_bit-zeroes p (omega (arith, long, below)))
 
   -- the positions of a range, in a row that has those of the value
-  range-asc : (row : List ℕ) (start end : ℕ) → start ≤ end → end ≤ v.length → ((p : ℕ) → p < v.length → has_bit row p ≡ contains v p) → ascending (has_bit row) start (end - start) ≡ ones_of v start end
+  range-asc : (row : List ℕ) (start end : ℕ) → start ≤ end → end ≤ v.length
+      → ((p : ℕ) → p < v.length → has_bit row p ≡ contains v p) → ascending (has_bit row) start (end - start) ≡ ones_of v start end
   unfolding asc
   range-asc row start end order valid same =
       let part = within v start end in
@@ -93,7 +94,8 @@ module _ (v : Bits) where
       let members = contains-within v start end in
       sym (ap (ascending (contains part) 0) long
       ∙ ascending-skip (contains part) (contains part) 0 start ((end - start) + (v.length - end)) (λ p _ below. grind (arith, nat_tests, members p)) (λ p _ _. refl)
-      ∙ ascending-cut (contains part) (has_bit row) (0 + start) (end - start) (v.length - end) (λ p above below. grind (arith, nat_tests, members p, same p)) (λ p above _. grind (arith, nat_tests, members p))
+      ∙ ascending-cut (contains part) (has_bit row) (0 + start) (end - start) (v.length - end)
+      (λ p above below. grind (arith, nat_tests, members p, same p)) (λ p above _. grind (arith, nat_tests, members p))
       ∙ (let from : 0 + start ≡ start = omega arith in ap (λ low. ascending (has_bit row) low (end - start)) from))
 
   pub ones-within : (start end : ℕ) → IsTrue (is_valid v start end) → ascending (has_bit (words v)) start (end - start) ≡ ones_of v start end

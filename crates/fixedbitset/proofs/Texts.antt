@@ -89,7 +89,8 @@ module _ (bs : List ℕ) (small : (j : ℕ) → get_or bs j 0 < 256) (n : ℕ) w
       record { value = cut.value ∙ ap (of_words n) is ∙ of_words-made; clean = cut.clean }
 
   -- the same of a vector whose words are lent and given back
-  pub keeps_vec : {Z : Type 0} → n < 2 ^ 64 → (words : Vec ℕ Z) (new : List ℕ) → words.items ≡ made → IsJoined (λ x y. x && y) words.items (λ p. nat_lt p n) new → Keeps n (with_items words new).items (of_bytes n bs)
+  pub keeps_vec : {Z : Type 0} → n < 2 ^ 64 → (words : Vec ℕ Z) (new : List ℕ) → words.items ≡ made
+      → IsJoined (λ x y. x && y) words.items (λ p. nat_lt p n) new → Keeps n (with_items words new).items (of_bytes n bs)
   keeps_vec fits words new is done = rw (with_items_is words new (done.long ∙ sym words.ok.0)) (keeps_made fits words.items new is done)
 
 -- a byte of the words of a value is that of its positions
@@ -102,13 +103,9 @@ byte_of-words v j h =
 pub bytes_of-words : (v : Bits) → bytes_of (words v) ≡ bytes v
 unfolding bytes bytes_of
 bytes_of-words v =
-    let long : 8 * length (words v) ≡ 8 * words_needed v.length = ap (λ n. 8 * n) (length-words v) in
-    ap (λ n. map (byte_of (words v)) (range_with_len 0 n)) long
-    ∙ ext_get_or 0 _ _ (length-map-range_with_len (byte_of (words v)) 0 _ ∙ sym (length-map-range_with_len (byte v) 0 _)) (λ j h.
+    rw (length-words v) (ext_get_or 0 _ _ (length-map-range_with_len (byte_of (words v)) 0 _ ∙ sym (length-map-range_with_len (byte v) 0 _)) (λ j h.
     let lt : j < 8 * words_needed v.length = rw (length-map-range_with_len (byte_of (words v)) 0 (8 * words_needed v.length)) at h in
-    get_or-map-range_with_len (byte_of (words v)) 0 _ j j 0 lt (omega arith)
-    ∙ byte_of-words v j lt
-    ∙ sym (get_or-map-range_with_len (byte v) 0 _ j j 0 lt (omega arith)))
+    get_or-map-range_with_len (byte_of (words v)) 0 _ j j 0 lt (omega arith) ∙ byte_of-words v j lt ∙ sym (get_or-map-range_with_len (byte v) 0 _ j j 0 lt (omega arith))))
 
 -- what is made of the words is what is written
 pub object_of-words : (v : Bits) → object_of v.length (bytes_of (words v)) ≡ written v

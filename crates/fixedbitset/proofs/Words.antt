@@ -114,7 +114,8 @@ module _ {t : Bool → Bool → Bool} (n : ℕ) (ws new : List ℕ) (v w : Bits)
       let long = viewed_length n ws v view in
       let test : ℕ → Bool = λ p. t (contains v p) (contains w p) in
       keeps n new (having v.length test) clean.fits (done.long ∙ clean.count) (length-having v.length test ∙ sym long) (λ p.
-      grind (arith, nat_tests, long, clean.count, done.bits p, done.long, has_bit-past new p, has_bit-of n ws v view clean p, clean.tail p, same p, of_second (contains w p), contains-past w p, shorter, contains-having v.length test p))
+      grind (arith, nat_tests, long, clean.count, done.bits p, done.long, has_bit-past new p, has_bit-of n ws v view clean p, clean.tail p, same p,
+      of_second (contains w p), contains-past w p, shorter, contains-having v.length test p))
 
   -- by those of another set, with an operation whose laws are known
   pub keeps_pair : (m : ℕ) (ys : List ℕ) → of_words m ys ≡ w → IsClean m ys → IsJoined t ws (has_bit ys) new

@@ -15,7 +15,8 @@ returns-in_err-start-clause-gap c =
 
 pub loop-start-init : goal.loop-start-init
 loop-start-init c =
-    let searched = begun c.args.length c.args.words.now c.args.count c.args.from (omega (arith, c.if-count-eq0.false)) c.in_ok-start.start (sym c.next_zero_counted.ensures.next ∙ c.in_ok-start.was) in
+    let searched = begun c.args.length c.args.words.now c.args.count c.args.from
+        (omega (arith, c.if-count-eq0.false)) c.in_ok-start.start (sym c.next_zero_counted.ensures.next ∙ c.in_ok-start.was) in
     record { searched = searched; spent = spent_first lane_steps lanes_join searched _ _ (rw c.in_ok-start.was at c.next_zero_counted.ensures.cost) }
 
 pub returns-then-length-start-clause-gap : goal.returns-then-length-start-clause-gap
@@ -58,5 +59,6 @@ loop-start-preserved c =
     let is = sym c.next_zero_counted-in-loop-start.ensures.next ∙ c.in_ok-start-2.was in
     record {
       searched = searched_on c.loop-start.invariant.searched e c.if-end-start.false _ is;
-      spent = spent_on lane_steps lanes_join c.loop-start.invariant.searched c.loop-start.invariant.spent e below _ search c.if-end-start.false _ _ is (rw c.in_ok-start-2.was at c.next_zero_counted-in-loop-start.ensures.cost);
+      spent = spent_on lane_steps lanes_join c.loop-start.invariant.searched c.loop-start.invariant.spent e below _ search c.if-end-start.false _ _ is
+          (rw c.in_ok-start-2.was at c.next_zero_counted-in-loop-start.ensures.cost);
     }

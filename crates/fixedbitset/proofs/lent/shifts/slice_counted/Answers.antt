@@ -3,7 +3,9 @@ use Rattle.fixedbitset.proofs.Moves.{keeps_moved, having_slice}
 use Rattle.fixedbitset.proofs.lent.shifts.slice_counted.Goals as goal
 
 pub returns-clause-value : goal.returns-clause-value
-returns-clause-value c = (keeps_moved (c.args.end - c.args.start) (omega (arith, c.ranges.end.fits)) _ _ _ _ _ c.requires.count c.join_down.ensures.bits c.clear_from.ensures).value ∙ having_slice _ _ c.requires.lent c.args.start c.args.end
+returns-clause-value c =
+    (keeps_moved (c.args.end - c.args.start) (omega (arith, c.ranges.end.fits)) _ _ _ _ _ c.requires.count c.join_down.ensures.bits c.clear_from.ensures).value
+    ∙ having_slice _ _ c.requires.lent c.args.start c.args.end
 
 pub returns-clause-clean : goal.returns-clause-clean
 returns-clause-clean c = (keeps_moved (c.args.end - c.args.start) (omega (arith, c.ranges.end.fits)) _ _ _ _ _ c.requires.count c.join_down.ensures.bits c.clear_from.ensures).clean

@@ -1,4 +1,4 @@
-use Rattle.std.proofs.Common.{rules, ◌≡◌, ◌<◌, ℕ, get_or, map, length, ◌∙◌}
+use Rattle.std.proofs.Common.{rules, ◌≡◌, map}
 use Rattle.std.specs.List.{range_with_len}
 use Rattle.bitjson.specs.Bytes.{word_of}
 use Rattle.fixedbitset.specs.Bits.{storage_words}
@@ -8,13 +8,11 @@ use Rattle.fixedbitset.proofs.set.FixedBitSet.from_bytes.Goals as goal
 pub invariant_of-result : goal.invariant_of-result
 invariant_of-result c =
     let done = rw c.deref_mut.ensures.value at c.clear_from.ensures in
-    let small : (j : ℕ) → get_or c.args.source.now j 0 < 256 = λ j. search rules in
     let made : c.in_ok-words.words.items ≡ map (word_of c.args.source.now) (range_with_len 0 (storage_words c.args.bits)) = search rules in
-    (keeps_vec _ small _ c.ranges.bits.fits c.in_ok-words.words _ made done).clean
+    (keeps_vec c.args.source.now (λ j. search rules) _ c.ranges.bits.fits c.in_ok-words.words _ made done).clean
 
 pub returns : goal.returns
 returns c =
     let done = rw c.deref_mut.ensures.value at c.clear_from.ensures in
-    let small : (j : ℕ) → get_or c.args.source.now j 0 < 256 = λ j. search rules in
     let made : c.in_ok-words.words.items ≡ map (word_of c.args.source.now) (range_with_len 0 (storage_words c.args.bits)) = search rules in
-    (keeps_vec _ small _ c.ranges.bits.fits c.in_ok-words.words _ made done).value
+    (keeps_vec c.args.source.now (λ j. search rules) _ c.ranges.bits.fits c.in_ok-words.words _ made done).value

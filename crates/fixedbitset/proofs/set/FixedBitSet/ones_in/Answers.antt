@@ -7,13 +7,17 @@ use Rattle.fixedbitset.proofs.Words.{valid_range, viewed_length}
 use Rattle.fixedbitset.proofs.set.FixedBitSet.ones_in.Goals as goal
 
 pub within-requires-clause-order : goal.within-requires-clause-order
-within-requires-clause-order g c = rw (c.unwrap_or-start.ensures, c.start.ensures, c.unwrap_or-end.ensures, c.end.ensures, viewed_length _ _ _ c.self.view_is) (valid_range c.args.self.now _ _ c.requires).0
+within-requires-clause-order g c =
+    rw (c.unwrap_or-start.ensures, c.start.ensures, c.unwrap_or-end.ensures, c.end.ensures, viewed_length _ _ _ c.self.view_is) (valid_range c.args.self.now _ _ c.requires).0
 
 pub within-requires-clause-within : goal.within-requires-clause-within
-within-requires-clause-within g c = rw (c.unwrap_or-end.ensures, c.end.ensures, viewed_length _ _ _ c.self.view_is) (omega (arith, valid_range c.args.self.now _ _ c.requires, c.used_words.ensures.count))
+within-requires-clause-within g c =
+    rw (c.unwrap_or-end.ensures, c.end.ensures, viewed_length _ _ _ c.self.view_is) (omega (arith, valid_range c.args.self.now _ _ c.requires, c.used_words.ensures.count))
 
 pub returns-clause-items : goal.returns-clause-items
-returns-clause-items g c = rw (c.within.ensures, c.used_words.ensures.value, c.unwrap_or-start.ensures, c.start.ensures, c.unwrap_or-end.ensures, c.end.ensures, viewed_length _ _ _ c.self.view_is) (ones-within c.args.self.now _ _ c.requires)
+returns-clause-items g c =
+    rw (c.within.ensures, c.used_words.ensures.value, c.unwrap_or-start.ensures, c.start.ensures, c.unwrap_or-end.ensures, c.end.ensures, viewed_length _ _ _ c.self.view_is)
+    (ones-within c.args.self.now _ _ c.requires)
 
 pub returns-clause-fits : goal.returns-clause-fits
 returns-clause-fits g c =
@@ -26,4 +30,5 @@ pub returns-clause-runs_back : goal.returns-clause-runs_back
 returns-clause-runs_back g c = walk_backwards _ _ (returns-clause-items g c)
 
 pub returns-clause-words : goal.returns-clause-words
-returns-clause-words g c = rw (c.within.ensures, c.used_words.ensures.value, c.unwrap_or-start.ensures, c.start.ensures, c.unwrap_or-end.ensures, c.end.ensures, viewed_length _ _ _ c.self.view_is) refl
+returns-clause-words g c =
+    rw (c.within.ensures, c.used_words.ensures.value, c.unwrap_or-start.ensures, c.start.ensures, c.unwrap_or-end.ensures, c.end.ensures, viewed_length _ _ _ c.self.view_is) refl

@@ -15,7 +15,6 @@ loop-word-preserved g c =
     let v = c.args.self.now in
     let k = c.loop-word.word-index in
     let count = c.min-count.result in
-    let left = c.loop-word.invariant.left in
     let same : c.as_slice-word-items.result.now ≡ words v = c.as_slice-word-items.ensures in
     let long : length c.as_slice-word-items.result.now ≡ words_needed v.length = ap length same ∙ length-words v in
     let inside : k < words_needed v.length = omega arith in
@@ -28,7 +27,8 @@ loop-word-preserved g c =
       left = omega arith;
       written = λ flush.
           let so_far = c.loop-word.invariant.written flush in
-          has_written_styled_of_eq _ _ _ _ _ (ap (λ n. characters v 0 n ++ c.from_utf8_unchecked.result.now) before ∙ ap (λ t. characters v 0 (64 * k) ++ t) text ∙ characters-append v (64 * k) count _ after)
+          has_written_styled_of_eq _ _ _ _ _ (ap (λ n. characters v 0 n ++ c.from_utf8_unchecked.result.now) before
+          ∙ ap (λ t. characters v 0 (64 * k) ++ t) text ∙ characters-append v (64 * k) count _ after)
           (has_written_styled_append _ _ _ _ _ _ so_far (c.in_ok-write_str.ensures.styled so_far.flush refl));
     }
 
@@ -36,6 +36,5 @@ pub returns : goal.returns
 returns g c = λ flush _.
     let v = c.args.self.now in
     let long : length c.as_slice-word-items.result.now ≡ words_needed v.length = ap length c.as_slice-word-items.ensures ∙ length-words v in
-    let left = c.loop-word.invariant.left in
     let done : v.length - c.loop-word.left ≡ v.length = omega arith in
     has_written_styled_of_eq _ _ _ _ _ (text_is v _ done) (c.loop-word.invariant.written flush)

@@ -22,5 +22,6 @@ returns-clause-runs_back c = walk_backwards _ _ (returns-clause-items c)
 
 pub returns-clause-words : goal.returns-clause-words
 returns-clause-words c =
-    let bound : length (map (bit_not w64) c.used_words.result.now) ≤ div_ceil c.self.inside.length 64 = omega (arith, length-map c.used_words.result.now (bit_not w64), c.used_words.ensures.count, viewed_length _ _ _ c.self.view_is) in
+    let bound : length (map (bit_not w64) c.used_words.result.now) ≤ div_ceil c.self.inside.length 64 =
+    omega (arith, length-map c.used_words.result.now (bit_not w64), c.used_words.ensures.count, viewed_length _ _ _ c.self.view_is) in
     rw (c.within.ensures, range_cut-whole c.self.inside.length (map (bit_not w64) c.used_words.result.now) bound, c.used_words.ensures.value) refl
