@@ -1,5 +1,5 @@
 -- Equality, the order and the ends of a set by positions.
-use Rattle.std.proofs.Common.{◌≡◌, ℕ, ◌<◌, ◌≤◌, true, false, IsTrue, List, [], ◌∷◌, Option, Some, None, refl, sym, ap, ◌∙◌, arith, ⊎_elim}
+use Rattle.std.proofs.Common.{◌≡◌, ◌↔◌, ℕ, ◌<◌, ◌≤◌, false, IsTrue, List, [], ◌∷◌, Option, Some, None, refl, sym, ap, ◌∙◌, arith, ⊎_elim}
 use Rattle.std.specs.List.{Contains, last_or}
 use Rattle.std.proofs.lemmas.Bool.{true≢false}
 use Rattle.std.proofs.lemmas.List.Kept.{AllPairs-from_increasing}
@@ -23,19 +23,17 @@ compare_tells v w = ordered v w (compare v w) refl
 
 -- ---- the ends
 
--- what is found in a set is p, where p is in it and what is found can only be p
-found : (v : Bits) (o : Option ℕ) (p : ℕ) → contains v p ≡ true → (o ≡ None → (q : ℕ) → contains v q ≡ false)
-    → ((q : ℕ) → o ≡ Some q → q ≡ p) → o ≡ Some p
-found v None p one none only = absurd (true≢false (sym one ∙ none refl p))
-found v (Some q) p one none only = ap Some (only q refl)
+-- a position is what is found in a set exactly if it is in it and all others are behind it
+found : (v : Bits) (o : Option ℕ) (Behind : ℕ → ℕ → Type 0) → ((p q : ℕ) → Behind p q → Behind q p → q ≡ p)
+    → (o ≡ None → (q : ℕ) → contains v q ≡ false)
+    → ((p : ℕ) → o ≡ Some p → IsTrue (contains v p) × ((q : ℕ) → IsTrue (contains v q) → Behind p q))
+    → (p : ℕ) → (o ≡ Some p) ↔ (IsTrue (contains v p) × ((q : ℕ) → IsTrue (contains v q) → Behind p q))
+found v None Behind one none tells p = (tells p, λ first. absurd (true≢false (sym first.0 ∙ none refl p)))
+found v (Some q) Behind one none tells p =
+    (tells p, λ first. let other = tells q refl in ap Some (one p q (first.1 q other.0) (other.1 p first.0)))
 
 pub minimum_is_least : MinimumIsLeast
-minimum_is_least v p = (
-  minimum_least v p,
-  λ least. found v (minimum v) p least.0 (minimum_none v) (λ q is.
-      let other = minimum_least v q is in
-      omega (arith, least.1 q other.0, other.1 p least.0)),
-)
+minimum_is_least v = found v (minimum v) (λ p q. p ≤ q) (λ p q a b. omega arith) (minimum_none v) (minimum_least v)
 
 -- the last of an ascending list is one of its members, and none is greater
 last_greatest : (x : ℕ) (xs : List ℕ) (p : ℕ) → Ascends (x ∷ xs) → last_or (Some x) xs ≡ Some p
@@ -78,9 +76,4 @@ unfolding maximum
 maximum_none v e = no_item v (has_none (asc v) e)
 
 pub maximum_is_greatest : MaximumIsGreatest
-maximum_is_greatest v p = (
-  maximum_greatest v p,
-  λ greatest. found v (maximum v) p greatest.0 (maximum_none v) (λ q is.
-      let other = maximum_greatest v q is in
-      omega (arith, greatest.1 q other.0, other.1 p greatest.0)),
-)
+maximum_is_greatest v = found v (maximum v) (λ p q. q ≤ p) (λ p q a b. omega arith) (maximum_none v) (maximum_greatest v)

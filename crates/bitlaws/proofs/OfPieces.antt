@@ -1,6 +1,5 @@
 -- The laws of a set in pieces are proved: for two slices that meet, and then for any cuts; and what joins, counts and
 -- questions answer of a piece in which nothing is set.
-use Rattle.std.proofs.Math.Bool.{and-true, and-false}
 use Rattle.std.proofs.Common.{zero-add, ◌≡◌, ℕ, ◌+◌, ◌-◌, ◌≤◌, max, Bool, true, false, not, ◌&&◌, ◌||◌, ◌==◌, List, [], ◌∷◌, map, sum, sum_by, zip, refl, sym, ap, ◌∙◌, arith, ◌<◌}
 use Rattle.std.specs.Cmp.{nat_cmp_total}
 use Rattle.std.specs.FinSet as set
@@ -112,8 +111,7 @@ pub record IsJoin (join : Bits → Bits → Bits) (f : Bool → Bool → Bool) (
 
 module _ {join : Bits → Bits → Bits} {f : Bool → Bool → Bool} {long : ℕ → ℕ → ℕ} (law : IsJoin join f long) where
   both_kept : (a b l : Bool) → (f a b && l) ≡ f (a && l) (b && l)
-  both_kept a b true = simp and-true
-  both_kept a b false = simp (and-false, law.neither)
+  both_kept a b l = grind (arith, law.neither)
 
   slice-join : (v w : Bits) (start end : ℕ) → slice (join v w) start end ≡ join (slice v start end) (slice w start end)
   slice-join v w start end =

@@ -1,15 +1,16 @@
 -- The stretches of the numbers that pass, one after the other.
-use Rattle.std.proofs.Common.{inl, inr, ◌⊎◌, ◌≡◌, ℕ, zero, suc, ◌+◌, ◌-◌, ◌<◌, ◌≤◌, Bool, true, false, not, nat_le, nat_lt, ◌∷◌, ◌++◌, map, refl, sym, ap, ◌∙◌, subst, arith, ⊎_elim}
-use Rattle.std.proofs.lemmas.Bool.{not-true, not-false, cases_eq, le-leb, leb-true, and_parts, and_from, true≢false, false_from_ne_true}
-use Rattle.bitwords.specs.Ascending.{ascending}
+use Rattle.std.proofs.Common.{inl, inr, ◌⊎◌, ◌≡◌, ℕ, zero, suc, ◌+◌, ◌-◌, ◌<◌, ◌≤◌, Bool, true, false, not, ◌∷◌, map, refl, sym, ap, ◌∙◌, subst, arith, ⊎_elim}
+use Rattle.std.proofs.lemmas.Bool.{not-true, not-false, cases_eq, true≢false}
+use Rattle.std.proofs.lemmas.Bool.Decides.{nat_tests}
 use Rattle.bitwords.specs.AscendingFacts.{ascending-none, first-from}
 use Rattle.bitwords.specs.Neighbours.{IsNext, NonePasses}
 use Rattle.bitwords.specs.Runs.{begins, end_from, stretches}
-use Rattle.bitwords.specs.RunsFacts.{around, none_begin, ends_at, ends_last, and_begins}
+use Rattle.bitwords.specs.RunsFacts.{around, none_begin, ends_at, ends_last}
 use Rattle.bitlaws.specs.RunLaws.{AreStretches, RunsAreTheSet, ZeroRunsAreTheOthers, RoomTells, GapIsLeast}
 use Rattle.fixedbitset.specs.Bits.{contains, complement}
 use Rattle.fixedbitset.specs.BitsFacts.{length-complement}
 use Rattle.fixedbitset.specs.RangesFacts.{contains_any-tells}
+use Rattle.fixedbitset.specs.Ranges.{contains_any}
 use Rattle.fixedbitset.specs.Runs.{runs, zero_runs, has_room, first_gap}
 
 -- the least number that passes, if there is one
@@ -17,13 +18,10 @@ least : (test : ℕ → Bool) (k low end : ℕ) → low + k ≡ end → NonePass
 least test zero low end is = inl (λ i above below. absurd (omega (arith, above, below)))
 least test (suc k) low end is = at_low (test low) refl (least test k (low + 1) end (omega arith))
   where
-    one_more : test low ≡ false → (end : ℕ) → NonePasses test (low + 1) end → NonePasses test low end
-    one_more fails end none i above below = ⊎_elim (λ (here : low ≡ i). ap test (sym here) ∙ fails) (λ later. none i (omega (arith, above, later)) below) (cases_eq low i)
-
     at_low : (b : Bool) → test low ≡ b → NonePasses test (low + 1) end ⊎ ((p : ℕ) × IsNext test (low + 1) end p) → NonePasses test low end ⊎ ((p : ℕ) × IsNext test low end p)
-    at_low true passes rest = inr (low, record { after = omega arith; below = omega arith; passes = passes; none = λ i above below. absurd (omega (arith, above, below)) })
-    at_low false fails (inl none) = inl (one_more fails end none)
-    at_low false fails (inr next) = inr (next.0, record { after = omega (arith, next.1.after); below = next.1.below; passes = next.1.passes; none = one_more fails next.0 next.1.none })
+    at_low true passes rest = inr (low, record { after = omega arith; below = omega arith; passes = passes; none = λ i above below. absurd (omega arith) })
+    at_low false fails (inl none) = inl (λ i above below. grind (arith, none i))
+    at_low false fails (inr next) = inr (next.0, record { after = omega (arith, next.1.after); below = next.1.below; passes = next.1.passes; none = λ i above below. grind (arith, next.1.none i) })
 
 module _ (test : ℕ → Bool) (n : ℕ) where
   -- what begins at `low` is not cut by it
@@ -33,24 +31,17 @@ module _ (test : ℕ → Bool) (n : ℕ) where
   -- one stretch, and those behind it
   module _ (low start end : ℕ) (edge : IsEdge low) (next : IsNext test low n start) (some : start < end) (within : end ≤ n) (all : (p : ℕ) → start ≤ p → p < end → test p ≡ true) (stops : end < n → test end ≡ false) where
     first : begins test start ≡ true
-    first =
-        elim (cases_eq low start) [
-          | inl here ↦ ap (begins test) (sym here) ∙ edge (omega (arith, here, next.below)) (ap test here ∙ next.passes)
-          | inr later ↦ and_begins (test start) (nat_lt 0 start) (test (start - 1)) next.passes (next.none (start - 1) (omega (arith, later, next.after)) (omega (arith, later, next.after)))
-        ]
+    first = grind (arith, nat_tests, next.none (start - 1))
 
     ending : end_from test n start ≡ end
     ending =
         elim (cases_eq end n) [
-          | inl last ↦ ap (λ m. end_from test m start) (sym last) ∙ ends_last test end start some all
-          | inr before ↦ ends_at test n start end some (omega (arith, before, within)) all (stops (omega (arith, before, within)))
+          | inl last ↦ ends_last test n start (omega arith) (λ p above below. all p above (omega arith)) ∙ sym last
+          | inr before ↦ ends_at test n start end some (omega arith) all (stops (omega arith))
         ]
 
     listed : stretches test n low n ≡ (start, end) ∷ stretches test n end n
-    listed =
-        ap (map (λ p. (p, end_from test n p)))
-        (around test n low start end n next.after some within first all ∙ ap (λ xs. xs ++ start ∷ ascending (begins test) end (n - end)) (none_begin test n low start next.none))
-        ∙ ap (λ e. (start, e) ∷ stretches test n end n) ending
+    listed = rw (around test n low start end n next.after some within first all, none_begin test n low start next.none, ending) refl
 
     one_stretch : AreStretches test end n (stretches test n end n) → AreStretches test low n (stretches test n low n)
     unfolding AreStretches
@@ -71,8 +62,7 @@ module _ (test : ℕ → Bool) (n : ℕ) where
       from_end more start next (inr found) =
           let end : ℕ = found.0 in
           let fails : test end ≡ false = not-true (test end) found.1.passes in
-          let apart : ¬ (start ≡ end) = λ same. true≢false (sym next.passes ∙ ap test same ∙ fails) in
-          let some : start < end = omega (arith, found.1.after) in
+          let some : start < end = grind (arith, next.passes, found.1.after) in
           one_stretch low start end edge next some (omega (arith, found.1.below)) (λ p above below. not-false (test p) (found.1.none p above below)) (λ less. fails)
           (more end (omega (arith, short, some, next.after)) (omega (arith, found.1.below)) (λ less passes. absurd (true≢false (sym passes ∙ fails))))
 
@@ -96,13 +86,13 @@ zero_runs_are_the_others v = subst (λ n. AreStretches (contains (complement v))
 pub room_tells : RoomTells
 unfolding has_room
 room_tells v count p = (
-  λ room.
-      let parts = and_parts (nat_le (p + count) v.length) _ room in (
-        leb-true (p + count) v.length parts.0,
-        λ q above below one. true≢false (sym ((contains_any-tells v p (p + count)).1 (q, above, below, one)) ∙ not-true _ parts.1),
-      ),
-  λ free. and_from _ _ (le-leb (p + count) v.length free.0)
-      (ap not (false_from_ne_true _ (λ some. let one = (contains_any-tells v p (p + count)).0 some in free.1 one.0 one.1 one.2 one.3))),
+  λ room. (
+    grind (arith, nat_tests),
+    λ q above below one. let some = (contains_any-tells v p (p + count)).1 (q, above, below, one) in grind arith,
+  ),
+  λ free.
+      let none : ¬ (contains_any v p (p + count) ≡ true) = λ some. let one = (contains_any-tells v p (p + count)).0 some in free.1 one.0 one.1 one.2 one.3 in
+      grind (arith, nat_tests),
 )
 
 pub gap_is_least : GapIsLeast
@@ -112,15 +102,14 @@ gap_is_least v count from =
     let steps : ℕ = v.length + 1 - from in
     ⊎_elim
     (λ (none : NonePasses room from (from + steps)).
-    rw (ascending-none room from steps none) (λ p above holds. true≢false (sym holds ∙ none p above (omega (arith, past p holds)))))
+    rw (ascending-none room from steps none) (λ p above holds. grind (arith, none p, past p holds)))
     (λ (found : (p : ℕ) × IsNext room from (from + steps) p).
     let next = found.1 in
     rw (first-from room from steps found.0 next.after next.below next.passes next.none) (
       next.after,
       next.passes,
       λ q above holds.
-          let not_less : ¬ (q < found.0) = λ less. true≢false (sym holds ∙ next.none q above less) in
-          omega arith,
+          grind (arith, next.none q),
     ))
     (least room steps from (from + steps) refl)
   where

@@ -1,5 +1,5 @@
 -- Calls of a walk from its two ends, in any order.
-use Rattle.std.proofs.Common.{◌≡◌, ℕ, suc, refl, ◌+◌, ◌≤◌, List, [], ◌∷◌, ◌++◌, length, reverse, Option, Some, None, sym, ap, ◌∙◌, arith, append_assoc, append-nil}
+use Rattle.std.proofs.Common.{◌≡◌, ℕ, suc, ◌+◌, ◌≤◌, List, [], ◌∷◌, ◌++◌, length, reverse, Option, Some, None, sym, ap, ◌∙◌, arith, append_assoc, append-nil}
 use Rattle.std.proofs.lemmas.List.{length-append, reverse-append}
 use Rattle.std.specs.Iterator.{YieldsFirst, YieldsLast}
 use Rattle.bitwords.specs.Walk.{Walk, TakesFromFront, TakesFromBack}
@@ -22,22 +22,14 @@ module _ {S : Type 0} (items : S → List ℕ) (first last : S → Option ℕ �
 -- ---- turns
 
 took_front : (calls : ℕ) (s u t : Walk) → TakesFromFront 1 s u → TookWords calls u t → TookWords (suc calls) s t
-took_front calls s u t one rest = record {
-  front = one.words ++ rest.front;
-  back = rest.back;
-  stretch = simp (one.front, rest.stretch, append_assoc);
-  taken = omega (arith, one.counts.taken, rest.taken, length-append one.words rest.front);
-  turns = omega (arith, one.counts.turns, rest.turns, length-append one.words rest.front);
-}
+took_front calls s u t one rest =
+    let long = length-append one.words rest.front in
+    record { front = one.words ++ rest.front; back = rest.back; stretch = simp (one.front, rest.stretch, append_assoc); taken = omega arith; turns = omega arith }
 
 took_back : (calls : ℕ) (s u t : Walk) → TakesFromBack 1 s u → TookWords calls u t → TookWords (suc calls) s t
-took_back calls s u t one rest = record {
-  front = rest.front;
-  back = rest.back ++ one.words;
-  stretch = simp (one.back, rest.stretch, append_assoc);
-  taken = omega (arith, one.counts.taken, rest.taken, length-append rest.back one.words);
-  turns = omega (arith, one.counts.turns, rest.turns, length-append rest.back one.words);
-}
+took_back calls s u t one rest =
+    let long = length-append rest.back one.words in
+    record { front = rest.front; back = rest.back ++ one.words; stretch = simp (one.back, rest.stretch, append_assoc); taken = omega arith; turns = omega arith }
 
 pub turns_of_calls : TurnsOfCalls
 turns_of_calls [] s t same = rw same (record { front = []; back = []; stretch = sym (append-nil t.words); taken = omega arith; turns = omega arith })
@@ -58,38 +50,24 @@ effort_back : (s t : Sieved) → AsksBack s t → effort t ≤ effort s + 1
 effort_back s t asks = omega (arith, spent_back asks.calls s.source t.source asks.takes, asks.asks.few)
 
 pub looks_up_once : LooksUpOnce
-looks_up_once [] s t same = rw same (record { asked = refl; turns = omega arith })
-looks_up_once (from_front r ∷ calls) s t call =
-    let rest = looks_up_once calls call.0 t call.2 in
-    let effort = effort_front s call.0 call.1.1 in
-    record { asked = omega arith; turns = omega arith }
-looks_up_once (from_back r ∷ calls) s t call =
-    let rest = looks_up_once calls call.0 t call.2 in
-    let effort = effort_back s call.0 call.1.1 in
-    record { asked = omega arith; turns = omega arith }
+looks_up_once [] s t same = rw same (omega arith)
+looks_up_once (from_front r ∷ calls) s t call = omega (arith, looks_up_once calls call.0 t call.2, effort_front s call.0 call.1.1)
+looks_up_once (from_back r ∷ calls) s t call = omega (arith, looks_up_once calls call.0 t call.2, effort_back s call.0 call.1.1)
 
 pub joins_once : JoinsOnce
-joins_once [] s t same = rw same (record { asked = refl; turns = omega arith })
+joins_once [] s t same = rw same (omega arith)
 joins_once (from_front r ∷ calls) s t call =
-    let rest = joins_once calls call.0 t call.2 in
     let first = spent_front _ s.first call.0.first call.1.1.0.takes in
-    let second = effort_front s.second call.0.second call.1.1.1 in
-    record { asked = omega arith; turns = omega arith }
+    omega (arith, joins_once calls call.0 t call.2, first, effort_front s.second call.0.second call.1.1.1)
 joins_once (from_back r ∷ calls) s t call =
-    let rest = joins_once calls call.0 t call.2 in
     let first = spent_back _ s.first call.0.first call.1.1.0.takes in
-    let second = effort_back s.second call.0.second call.1.1.1 in
-    record { asked = omega arith; turns = omega arith }
+    omega (arith, joins_once calls call.0 t call.2, first, effort_back s.second call.0.second call.1.1.1)
 
 pub splits_once : SplitsOnce
-splits_once [] s t same = rw same (record { asked_first = refl; asked_second = refl; turns = omega arith })
+splits_once [] s t same = rw same (omega arith)
 splits_once (from_front r ∷ calls) s t call =
-    let rest = splits_once calls call.0 t call.2 in
     let first = effort_front s.first call.0.first call.1.1.0 in
-    let second = effort_front s.second call.0.second call.1.1.1 in
-    record { asked_first = omega arith; asked_second = omega arith; turns = omega arith }
+    omega (arith, splits_once calls call.0 t call.2, first, effort_front s.second call.0.second call.1.1.1)
 splits_once (from_back r ∷ calls) s t call =
-    let rest = splits_once calls call.0 t call.2 in
     let first = effort_back s.first call.0.first call.1.1.0 in
-    let second = effort_back s.second call.0.second call.1.1.1 in
-    record { asked_first = omega arith; asked_second = omega arith; turns = omega arith }
+    omega (arith, splits_once calls call.0 t call.2, first, effort_back s.second call.0.second call.1.1.1)

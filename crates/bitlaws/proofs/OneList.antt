@@ -65,12 +65,10 @@ listed test low (suc n) p from to passes =
     let others = ascending test (low + 1) n in
     elim (cases_eq low p) [
       | inl here ↦ let at_low : test low ≡ true = ap test here ∙ passes in rw at_low (0, omega arith, here)
-      | inr later ↦ behind (test low) low others p (listed test (low + 1) n p (omega arith) (omega arith) passes)
+      | inr later ↦
+          let rest = listed test (low + 1) n p (omega arith) (omega arith) passes in
+          elim (test low) as (λ b. Contains (cond b (low ∷ others) others) p) [ true ↦ Contains-later low others p rest | false ↦ rest ]
     ]
-  where
-    behind : (b : Bool) (x : ℕ) (xs : List ℕ) (p : ℕ) → Contains xs p → Contains (cond b (x ∷ xs) xs) p
-    behind true x xs p member = Contains-later x xs p member
-    behind false x xs p member = member
 
 IsStrictlyIncreasing-asc : (v : Bits) → IsStrictlyIncreasing (asc v)
 unfolding asc
