@@ -1,11 +1,12 @@
 -- Calls of a walk, one after the other.
-use Rattle.std.proofs.Common.{◌≡◌, ℕ, ◌+◌, ◌-◌, ◌<◌, ◌≤◌, List, [], ◌∷◌, ◌++◌, length, get_or, drop, slice_get, Option, Some, None, MatchOption, refl, ap, sym, ◌∙◌, arith, append_assoc, append-nil}
+use Rattle.std.proofs.Common.{◌≡◌, ℕ, ◌+◌, ◌-◌, ◌<◌, ◌≤◌, List, [], ◌∷◌, ◌++◌, length, get_or, drop, slice_get, Option, Some, None, MatchOption, refl, sym, arith, append_assoc, append-nil}
 use Rattle.std.proofs.lemmas.Grind.{common_steps}
-use Rattle.std.proofs.lemmas.List.{at_drop_more, at_drop_all}
+use Rattle.std.proofs.lemmas.List.{drop_more, drop_all}
 use Rattle.std.proofs.Math.Seq.{take-append_seam}
 use Rattle.bitcommands.specs.declared.commands.arguments.End.{End}
 use Rattle.bitcommands.specs.declared.commands.arguments.End.TheVariants.{Front, Back}
-use Rattle.bitcommands.specs.Calls.{calls, item_at, without_item_at}
+use Rattle.bitcommands.specs.Calls.{calls}
+use Rattle.bitcommands.specs.OneCall.{item_at, without_item_at}
 
 -- a call gave the item at this end, and left the others
 abbrev pub IsCall : End → List ℕ → Option ℕ → List ℕ → Type 0
@@ -28,17 +29,17 @@ pub back_call : (xs ys : List ℕ) (r : Option ℕ) → MatchOption r ((xs ≡ [
 back_call xs ys None h = rw (h.0, h.1) (refl, refl)
 back_call xs ys (Some x) h = rw (h, last_place ys x) (sym (get-last ys x), sym (take-append_seam ys (x ∷ [])))
 
--- one call more has its answer behind those so far
-calls_next : (all done : List (Option ℕ)) (e : End) (es : List End) (xs ys : List ℕ) (r : Option ℕ) → all ≡ done ++ calls (e ∷ es) xs → IsCall e xs r ys → all ≡ (done ++ r ∷ []) ++ calls es ys
-calls_next all done e es xs ys r h call = rw (call.0, call.1) (h ∙ sym (append_assoc done (item_at e xs ∷ []) _))
-
-pub calls_more : (all done : List (Option ℕ)) (ends : List End) (i : ℕ) (e : End) (xs ys : List ℕ) (r : Option ℕ) → all ≡ done ++ calls (drop i ends) xs → i < length ends → e ≡ get_or ends i e
-    → r ≡ item_at e xs → ys ≡ without_item_at e xs → all ≡ (done ++ r ∷ []) ++ calls (drop (i + 1) ends) ys
-calls_more all done ends i e xs ys r h lt is item left =
-    calls_next all done e (drop (i + 1) ends) xs ys r (h ∙ at_drop_more (λ u. done ++ calls u xs) ends i e lt ∙ ap (λ u. done ++ calls (u ∷ drop (i + 1) ends) xs) (sym is)) (item, left)
+calls-cons : (e : End) (es : List End) (xs : List ℕ) → calls (e ∷ es) xs ≡ item_at e xs ∷ calls es (without_item_at e xs)
+calls-cons Front es xs = refl
+calls-cons Back es xs = refl
 
 pub calls_start : (ends : List End) (xs : List ℕ) → calls ends xs ≡ [] ++ calls ends xs
 calls_start ends xs = refl
 
+-- one call more has its answer behind those so far
+pub calls_more : (all done : List (Option ℕ)) (ends : List End) (i : ℕ) (e : End) (xs ys : List ℕ) (r : Option ℕ) → all ≡ done ++ calls (drop i ends) xs → i < length ends → e ≡ get_or ends i e
+    → r ≡ item_at e xs → ys ≡ without_item_at e xs → all ≡ (done ++ r ∷ []) ++ calls (drop (i + 1) ends) ys
+calls_more all done ends i e xs ys r h lt is item left = rw (h, drop_more ends i e lt, ← is, calls-cons, item, left, append_assoc) refl
+
 pub calls_end : (all done : List (Option ℕ)) (ends : List End) (i : ℕ) (xs : List ℕ) → all ≡ done ++ calls (drop i ends) xs → length ends ≤ i → done ≡ all
-calls_end all done ends i xs h past = sym (h ∙ at_drop_all (λ u. done ++ calls u xs) ends i past ∙ append-nil done)
+calls_end all done ends i xs h past = rw (h, drop_all i ends past, append-nil) refl

@@ -3,17 +3,8 @@ use Rattle.std.specs.Prelude.{ℕ, ◌-◌, List, [], ◌∷◌, length, take, d
 use Rattle.bitcommands.specs.declared.commands.arguments.End.{End}
 use Rattle.bitcommands.specs.declared.commands.arguments.End.TheVariants.{Front, Back}
 
--- the first or the last of the items that are left, or `None` where none is left
-abbrev pub item_at : End → List ℕ → Option ℕ
-item_at Front xs = slice_get xs 0
-item_at Back xs = slice_get xs (length xs - 1)
-
--- the items that are left without that one
-abbrev pub without_item_at : End → List ℕ → List ℕ
-without_item_at Front xs = drop 1 xs
-without_item_at Back xs = take (length xs - 1) xs
-
--- what the calls of a walk answer, one an end, in order
+-- what the calls of a walk answer: one item an end, in order, the first or the last of those left, or `None` where none is left
 abbrev pub calls : List End → List ℕ → List (Option ℕ)
 calls [] xs = []
-calls (end ∷ ends) xs = item_at end xs ∷ calls ends (without_item_at end xs)
+calls (Front ∷ ends) xs = slice_get xs 0 ∷ calls ends (drop 1 xs)
+calls (Back ∷ ends) xs = slice_get xs (length xs - 1) ∷ calls ends (take (length xs - 1) xs)

@@ -11,7 +11,7 @@ pub mod Texts
 pub mod Outcomes
 -- facts for callers
 pub mod TextsFacts
-pub mod OneLineFacts
 -- private
+pub mod OneCall
 pub mod Joints
 pub mod Quoting

@@ -13,7 +13,6 @@ use Rattle.std.proofs.lemmas.Fmt.{digits_decimal, digits_value-decimal, decimal_
 use Rattle.std.proofs.lemmas.List.Folds.{list_all-append}
 use Rattle.std.proofs.lemmas.List.Splits.{slice_split-cons_yes, slice_split-cons_no}
 use Rattle.bitcommands.specs.declared.commands.arguments.End.{End}
-use Rattle.bitcommands.specs.declared.commands.arguments.End.TheVariants.{Front, Back}
 use Rattle.bitcommands.specs.Texts.{flag_text}
 use Rattle.bitlines.specs.Words.{number_of}
 use Rattle.bitlines.specs.Arguments.{flag_of, end_of, ends_from, ends_of}
@@ -51,9 +50,8 @@ number_read n h = rw (lt-ltb 0 (length (decimal n)) (decimal_nonempty n h), digi
 pub digits_lack : (b : ℕ) (ds : List ℕ) → is_ascii_digit b ≡ false → all_ascii_digits ds ≡ true → lacks b ds ≡ true
 digits_lack b [] none e = refl
 digits_lack b (d ∷ ds) none e =
-    let digit : is_ascii_digit d ≡ true = (and_parts _ _ e).0 in
-    let other : eqb d b ≡ false = grind (arith, nat_tests) in
-    rw other (digits_lack b ds none (and_parts _ _ e).1)
+    let parts = and_parts (is_ascii_digit d) _ e in
+    grind (arith, nat_tests, parts, digits_lack b ds none parts.1)
 
 -- ---- a range
 
@@ -74,24 +72,20 @@ not_first (x ∷ xs) e = not-true _ (and_parts _ _ e).0
 -- ---- flags and letters
 
 pub flag_lacks : (e : Bool) → lacks 32 (flag_text e) ≡ true
-flag_lacks true = refl
-flag_lacks false = refl
+flag_lacks e = grind arith
 
 pub flag_read : (e : Bool) → flag_of (flag_text e) ≡ Some e
 unfolding flag_of
-flag_read true = refl
-flag_read false = refl
+flag_read e = grind arith
 
 pub letters_lack : (es : List End) → lacks 32 (map letter es) ≡ true
 letters_lack [] = refl
-letters_lack (Front ∷ es) = letters_lack es
-letters_lack (Back ∷ es) = letters_lack es
+letters_lack (e ∷ es) = grind (arith, letters_lack es)
 
 letters_from : (es : List End) → ends_from (map letter es) ≡ Some es
 unfolding ends_from end_of
 letters_from [] = refl
-letters_from (Front ∷ es) = rw (letters_from es) refl
-letters_from (Back ∷ es) = rw (letters_from es) refl
+letters_from (e ∷ es) = grind (arith, letters_from es)
 
 pub letters_read : (es : List End) → 0 < length es → ends_of (map letter es) ≡ Some es
 unfolding ends_of

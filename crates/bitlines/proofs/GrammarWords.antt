@@ -1,10 +1,10 @@
 -- Numbers, ranges, flags, ends and JSON texts as the grammar spells them.
 use Rattle.std.proofs.Common.{◌≡◌, ℕ, zero, suc, ◌^◌, ◌<◌, Bool, true, false, eqb, nat_lt, List, [], ◌∷◌, ◌++◌, length}
-use Rattle.std.proofs.Common.{replicate, Some, true≢false, refl, sym, ap, subst, ◌∙◌, arith, decimal, ◌+◌, ◌⊎◌, inl}
-use Rattle.std.proofs.Common.{inr, cond, take, drop, Option, None, get_or, map, append-nil}
+use Rattle.std.proofs.Common.{replicate, Some, refl, sym, ap, subst, ◌∙◌, arith, decimal, ◌+◌, ◌⊎◌, inl}
+use Rattle.std.proofs.Common.{inr, ◌≢◌, ⊎_elim, cond, take, drop, Option, None, get_or, map, append-nil}
 use Rattle.std.specs.Str.{all_ascii_digits, bytes_eq, is_utf8}
 use Rattle.std.specs.Str.Parse.{digits_value}
-use Rattle.std.proofs.lemmas.Bool.{eq-eqb, and_parts}
+use Rattle.std.proofs.lemmas.Bool.{cases_eq, and_parts}
 use Rattle.std.proofs.lemmas.Bool.Decides.{nat_tests}
 use Rattle.std.proofs.lemmas.Option.{cond_some, same_Some, option_and_then_some}
 use Rattle.std.proofs.lemmas.Fmt.{decimal-digits_value}
@@ -28,7 +28,6 @@ use Rattle.bitlines.proofs.Numbers.{number_empty}
 use Rattle.serde_json.specs.Data.{Data}
 use Rattle.serde_json.specs.Read.{read}
 use Rattle.bitcommands.specs.declared.commands.arguments.End.{End}
-use Rattle.bitcommands.specs.declared.commands.arguments.End.TheVariants.{Front, Back}
 use Rattle.bitcommands.specs.Texts.{flag_text}
 use Rattle.bitcommands.specs.Arguments.{json}
 use Rattle.bitlines.specs.Written.{letter}
@@ -57,23 +56,13 @@ without_zeros [] some digits fits = absurd (omega arith)
 without_zeros (c ∷ []) some digits fits =
     (0, sym (decimal-digits_value own (c ∷ []) digits some (λ z. refl) fits))
 without_zeros (c ∷ d ∷ ds) some digits fits =
-    by_first (eqb c 48) refl (without_zeros (d ∷ ds) (omega arith) (and_parts _ _ digits).1)
-  where
-    by_first : (b : Bool) → eqb c 48 ≡ b
-        → (digits_value 10 (d ∷ ds) < 2 ^ 64
-        → (zeros : ℕ) × (d ∷ ds ≡ replicate zeros 48 ++ decimal (digits_value 10 (d ∷ ds))))
-        → (zeros : ℕ) × (c ∷ d ∷ ds ≡ replicate zeros 48 ++ decimal
-        (digits_value 10 (c ∷ d ∷ ds)))
-    by_first true e rest =
-        let is_zero : c ≡ 48 = grind (arith, nat_tests) in
-        let same : digits_value 10 (c ∷ d ∷ ds) ≡ digits_value 10 (d ∷ ds) =
-        ap (λ x. digits_value 10 (x ∷ d ∷ ds)) is_zero in
-        let more = rest (subst (λ v. v < 2 ^ 64) same fits) in
-        (suc more.0, cc (is_zero, more.1, same))
-    by_first false e rest =
-        let is_other : c ≡ 48 → length (c ∷ d ∷ ds) ≡ 1 =
-        λ z. absurd (true≢false (sym (eq-eqb c 48 z) ∙ e)) in
-        (0, sym (decimal-digits_value own (c ∷ d ∷ ds) digits some is_other fits))
+    ⊎_elim
+    (λ (zero : c ≡ 48).
+    let more = without_zeros (d ∷ ds) (omega arith) (and_parts (is_ascii_digit c) (all_ascii_digits (d ∷ ds)) digits).1 (rw zero at fits) in
+    let same : digits_value 10 (c ∷ d ∷ ds) ≡ digits_value 10 (d ∷ ds) = ap (λ x. digits_value 10 (x ∷ d ∷ ds)) zero in
+    (suc more.0, cc (zero, more.1, same)))
+    (λ (other : c ≢ 48). (0, sym (decimal-digits_value own (c ∷ d ∷ ds) digits some (λ z. absurd (other z)) fits)))
+    (cases_eq c 48)
 
 -- what is read as a number spells it
 pub number_spelled : (n : ℕ) (w : List ℕ) → number_of w ≡ Some n → SpellsNumber n w
@@ -176,8 +165,7 @@ second_cut w k e =
 
 pub then_some : {A : Type 0} (b : Bool) (x : Option A) (y : A) → cond b x None ≡ Some y
     → (b ≡ true) × (x ≡ Some y)
-then_some true x y e = (refl, e)
-then_some false x y e = absurd (cc)
+then_some b x y e = grind arith
 
 bounds_spelled : (r : Range) (start end : List ℕ) → bounds_of start end ≡ Some r
     → SpellsBound r.0 start × (SpellsBound r.1 end ⊎ SpellsLast r.1 end)
@@ -207,15 +195,13 @@ the_text xs ys e = grind (arith, nat_tests, bytes_eq-Decides xs ys)
 
 pub flag_spelled : (e : Bool) (w : List ℕ) → flag_of w ≡ Some e → w ≡ flag_text e
 unfolding flag_of
-flag_spelled true w f = grind (arith, nat_tests, bytes_eq-Decides w (codes "true"), bytes_eq-Decides w (codes "false"))
-flag_spelled false w f = grind (arith, nat_tests, bytes_eq-Decides w (codes "true"), bytes_eq-Decides w (codes "false"))
+flag_spelled e w f = grind (arith, nat_tests, bytes_eq-Decides w (codes "true"), bytes_eq-Decides w (codes "false"))
 
 -- ---- ends
 
 letter_spelled : (e : End) (c : ℕ) → end_of c ≡ Some e → c ≡ letter e
 unfolding end_of
-letter_spelled Front c f = grind (arith, nat_tests)
-letter_spelled Back c f = grind (arith, nat_tests)
+letter_spelled e c f = grind (arith, nat_tests)
 
 letters_spelled : (es : List End) (w : List ℕ) → ends_from w ≡ Some es → w ≡ map letter es
 unfolding ends_from

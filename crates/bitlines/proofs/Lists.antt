@@ -10,16 +10,13 @@ onto xs (Some ys) = Some (xs ++ ys)
 onto xs None = None
 
 pub onto-onto : {A : Type 0} (xs : List A) (x : A) (o : Option (List A)) → onto xs (onto (x ∷ []) o) ≡ onto (xs ++ x ∷ []) o
-onto-onto xs x (Some ys) = ap Some (sym (append_assoc xs (x ∷ []) ys))
-onto-onto xs x None = refl
+onto-onto xs x o = grind (arith, append_assoc xs (x ∷ []))
 
 pub onto-nil : {A : Type 0} (o : Option (List A)) → o ≡ onto [] o
-onto-nil (Some ys) = refl
-onto-nil None = refl
+onto-nil o = grind arith
 
 pub onto-one : {A : Type 0} (x : A) (o : Option (List A)) → option_and_then (λ xs. Some (x ∷ xs)) o ≡ onto (x ∷ []) o
-onto-one x (Some xs) = refl
-onto-one x None = refl
+onto-one x o = grind arith
 
 -- ---- numbers
 

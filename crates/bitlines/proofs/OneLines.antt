@@ -2,7 +2,7 @@
 use Rattle.std.proofs.Common.{◌≡◌, ℕ, suc, List, [], ◌∷◌, ◌++◌, length, Option, Some, None, MatchOption, true, codes, refl, ap, ◌∙◌}
 use Rattle.bitcommands.specs.Actions.{Action}
 use Rattle.bitcommands.specs.Answers.{Answer}
-use Rattle.bitcommands.specs.OneLineFacts.{is_one_line, step_line}
+use Rattle.bitcommands.specs.TextsFacts.{is_one_line, step_line}
 use Rattle.bitcommands.specs.Sets.{Sets}
 use Rattle.bitcommands.specs.Steps.{Step}
 use Rattle.bitcommands.specs.Texts.{answer_text}

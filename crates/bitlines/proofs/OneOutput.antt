@@ -1,9 +1,10 @@
 -- The law of outputs is proved.
-use Rattle.std.proofs.Common.{◌≡◌, ◌≢◌, ℕ, List, [], ◌∷◌, ◌++◌, Option, Some, None, MatchOption, codes, Bool, true, false, eqb, ◌⊎◌, refl, sym, ap, ◌∙◌, arith}
+use Rattle.std.proofs.Common.{◌≡◌, ◌≢◌, ℕ, List, [], ◌∷◌, ◌++◌, Option, Some, None, MatchOption, codes, true, eqb, ◌⊎◌, refl, sym, ap, ◌∙◌, arith}
 use Rattle.std.specs.List.{slice_split}
 use Rattle.std.proofs.lemmas.Bool.{eq-eqb}
+use Rattle.std.proofs.lemmas.Bool.Decides.{nat_tests}
 use Rattle.std.proofs.lemmas.List.Elements.{Contains-append_left, Contains-append_right}
-use Rattle.std.proofs.lemmas.List.Splits.{slice_split-cons_yes}
+use Rattle.std.proofs.lemmas.List.Splits.{slice_split-cons_yes, slice_split-cons_no}
 use Rattle.bitcommands.specs.declared.commands.refusals.Refusal.{Refusal}
 use Rattle.bitcommands.specs.declared.commands.refusals.Refusal.TheVariants.{Memory}
 use Rattle.bitcommands.specs.Actions.{Action}
@@ -21,12 +22,7 @@ use Rattle.bitlines.proofs.LineSplits.{parts}
 -- what stands before a byte and what stands behind it are cut by themselves
 slice_split-append : (b : ℕ) (xs ys : List ℕ) → slice_split (λ x. eqb x b) (xs ++ b ∷ ys) ≡ slice_split (λ x. eqb x b) xs ++ slice_split (λ x. eqb x b) ys
 slice_split-append b [] ys = slice_split-cons_yes (λ x. eqb x b) b ys (eq-eqb b b refl)
-slice_split-append b (x ∷ xs) ys = at_head (eqb x b) refl (slice_split-append b xs ys)
-  where
-    at_head : (t : Bool) → eqb x b ≡ t → slice_split (λ x. eqb x b) (xs ++ b ∷ ys) ≡ slice_split (λ x. eqb x b) xs ++ slice_split (λ x. eqb x b) ys
-        → slice_split (λ x. eqb x b) (x ∷ xs ++ b ∷ ys) ≡ slice_split (λ x. eqb x b) (x ∷ xs) ++ slice_split (λ x. eqb x b) ys
-    at_head true e h = rw (e, h) refl
-    at_head false e h = rw (e, h, (parts b xs).2) refl
+slice_split-append b (x ∷ xs) ys = grind (arith, nat_tests, slice_split-cons_yes (λ x. eqb x b) x, slice_split-cons_no (λ x. eqb x b) x, slice_split-append b xs ys, parts b xs)
 
 without_empty_last-append : (first rest : List (List ℕ)) (p : List ℕ) (ps : List (List ℕ)) → rest ≡ p ∷ ps → without_empty_last (first ++ rest) ≡ first ++ without_empty_last rest
 without_empty_last-append [] rest p ps e = refl

@@ -2,7 +2,8 @@
 ghost use Rattle.std.specs.Prelude.{◌≡◌, ◌≤◌, [], length, IfOk};
 ghost use Rattle.std.specs.Vec.{vec_capacity};
 ghost use Rattle.bitwalks.specs.Pairs.{joined_items, split_items};
-ghost use Rattle.bitcommands.specs.Calls.{calls, item_at, without_item_at};
+ghost use Rattle.bitcommands.specs.Calls.{calls};
+ghost use Rattle.bitcommands.specs.OneCall.{item_at, without_item_at};
 
 use crate::commands::arguments::End;
 use fixedbitset::{Difference, Intersection, IntoOnes, Ones, SymmetricDifference, Union, Zeroes};
