@@ -77,8 +77,18 @@ keeps_copied n m old ws new clean other start end at room done =
     let v : Bits = of_words n old in
     let w : Bits = of_words m ws in
     keeps n new (copy_range v w start end at) clean.fits (done.long ∙ clean.count) (length-copy_range v w start end at ∙ length-of_words n old) (λ p.
-    grind (arith, nat_tests, done.before p, done.copied p, done.behind p, clean.tail p, contains_word n old p clean,
-    contains_word m ws (start + (p - at)) other, contains-copy_range v w start end at p, length-of_words n old))
+    grind (
+      arith,
+      nat_tests,
+      done.before p,
+      done.copied p,
+      done.behind p,
+      clean.tail p,
+      contains_word n old p clean,
+      contains_word m ws (start + (p - at)) other,
+      contains-copy_range v w start end at p,
+      length-of_words n old,
+    ))
 
 -- ---- parts put together
 

@@ -16,7 +16,7 @@ returns-in_err-start-clause-gap c =
 pub loop-start-init : goal.loop-start-init
 loop-start-init c =
     let searched = begun c.args.length c.args.words.now c.args.count c.args.from
-        (omega (arith, c.if-count-eq0.false)) c.in_ok-start.start (sym c.next_zero_counted.ensures.next ∙ c.in_ok-start.was) in
+    (omega (arith, c.if-count-eq0.false)) c.in_ok-start.start (sym c.next_zero_counted.ensures.next ∙ c.in_ok-start.was) in
     record { searched = searched; spent = spent_first lane_steps lanes_join searched _ _ (rw c.in_ok-start.was at c.next_zero_counted.ensures.cost) }
 
 pub returns-then-length-start-clause-gap : goal.returns-then-length-start-clause-gap

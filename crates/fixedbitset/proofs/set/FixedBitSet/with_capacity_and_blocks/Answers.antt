@@ -34,7 +34,7 @@ returns g c =
           omega (arith, run.2.0, c.div_ceil.ensures),
           λ short. run.2.1 (omega (arith, short, c.div_ceil.ensures)),
           rw (with_items_is (with_items words c.fill.new.words) c.clear_from.new.words (done.long ∙ long))
-          ((keeps_cut _ c.ranges.bits.fits _ _ (long ∙ needed) done).value ∙ of_filled _ run.0.items _ is),
+              ((keeps_cut _ c.ranges.bits.fits _ _ (long ∙ needed) done).value ∙ of_filled _ run.0.items _ is),
         ),
       ),
     )
