@@ -1,5 +1,6 @@
 -- Items that a set took in from a list.
-use Rattle.std.proofs.Common.{◌≡◌, ℕ, ◌+◌, ◌-◌, ◌^◌, ◌<◌, true, false, cond, ◌||◌, List, [], ◌∷◌, ◌++◌, length, get_or, drop, Option, Some, None, Result, Ok, Err, MatchResult, inr, refl, arith, append-nil}
+use Rattle.std.proofs.Common.{◌≡◌, ℕ, ◌+◌, ◌-◌, ◌^◌, ◌<◌, true, false, cond, ◌||◌, List, [], ◌∷◌, ◌++◌, length, get_or, drop, Option, Some, None, Result, Ok, Err, MatchResult, inr, refl, sym, arith, append-nil}
+use Rattle.std.specs.Prelude.{slice_set}
 use Rattle.std.specs.List.{All}
 use Rattle.std.specs.Iterator.{Drains, YieldsThen}
 use Rattle.std.proofs.lemmas.Bool.Decides.{nat_tests}
@@ -9,7 +10,8 @@ use Rattle.std.proofs.lemmas.Iterator.Consumers.{YieldsList-so_far, YieldsList-t
 use Rattle.std.proofs.lemmas.List.{drop_more, map-id, take-append-drop}
 use Rattle.std.proofs.lemmas.List.Elements.{All-tail}
 use Rattle.std.proofs.lemmas.List.Sums.{take_while-cons}
-use Rattle.fixedbitset.specs.Bits.{Bits, add_all}
+use Rattle.fixedbitset.specs.Bits.{Bits, insert, grow, add, add_all}
+use Rattle.fixedbitset.specs.AddFacts.{insert-grow}
 use Rattle.fixedbitset.specs.Extended.{Extends}
 use Rattle.fixedbitset.specs.declared.extend.ExtendFault.{ExtendFault}
 use Rattle.fixedbitset.specs.declared.extend.ExtendFault.TheVariants as fault
@@ -17,8 +19,12 @@ use Rattle.bitcommands.specs.Guards.{is_greatest, before_greatest, has_greatest,
 use Rattle.bitcommands.specs.Actions.{extend}
 use Rattle.bitcommands.specs.Answers as answer
 use Rattle.bitcommands.specs.Outcomes.{fault_refusal}
-use Rattle.bitcommands.specs.Sets.{Sets, at, place}
+use Rattle.bitcommands.specs.Sets.{Sets, at}
 use Rattle.bitcommands.specs.Steps.{StopsAtItem, Step}
+
+-- a position that a set grows for is set once it has grown
+pub grown : (v : Bits) (bit : ℕ) → add v bit ≡ insert (grow v (bit + 1)) bit
+grown v bit = sym (insert-grow v bit)
 
 no_item : (before_greatest [] ≡ []) × (has_greatest [] ≡ false)
 unfolding before_greatest has_greatest
@@ -63,7 +69,7 @@ module _ {S : Type 0} {steps : S → Option ℕ → S → Type 0} {s : S} {items
 
 -- a fault of `extend` is a step, with what is left of the set in its place
 pub fault_step : (m k : ℕ) (old : Sets) (v w : Bits) (items : List ℕ) (f : ExtendFault) → no_items m old k items ≡ None → v ≡ get_or old k v → Stopped (get_or old k v) w items f
-    → Step m old (extend k items) (answer.refused (fault_refusal f)) (place old k w)
+    → Step m old (extend k items) (answer.refused (fault_refusal f)) (slice_set old k w)
 fault_step m k old v w items fault.Position none here left = grind (arith, common_steps)
 fault_step m k old v w items fault.Memory none here left =
     let there : at old k ≡ get_or old k v = grind (arith, common_steps) in

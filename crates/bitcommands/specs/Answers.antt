@@ -13,9 +13,8 @@ pub data Answer : Type 0 where
   number : ℕ → Answer
   position : Option ℕ → Answer
   items : List (Option ℕ) → Answer
-  words : List ℕ → Answer
+  words text : List ℕ → Answer
   order : Ordering → Answer
-  text : List ℕ → Answer
   value : Data → Answer
   refused : Refusal → Answer
 

@@ -10,7 +10,3 @@ Sets = List Bits
 -- the set with this number (an empty one where there is none)
 abbrev pub at : Sets → ℕ → Bits
 at s k = slice_index_or s k (model.empty 0)
-
--- the sets with this value in the place of that number
-abbrev pub place : Sets → ℕ → Bits → Sets
-place s k v = slice_set s k v

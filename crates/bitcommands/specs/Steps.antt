@@ -1,5 +1,5 @@
 -- Steps and runs: the table, one command after another.
-use Rattle.std.specs.Prelude.{◌≡◌, ℕ, ◌+◌, IsTrue, List, [], ◌∷◌, ◌++◌, MatchOption, ◌⊎◌}
+use Rattle.std.specs.Prelude.{◌≡◌, ℕ, ◌+◌, IsTrue, List, [], ◌∷◌, ◌++◌, MatchOption, ◌⊎◌, slice_set}
 use Rattle.fixedbitset.specs.Bits as model
 use Rattle.fixedbitset.specs.Bits.{Bits}
 use Rattle.bitcommands.specs.declared.commands.refusals.Refusal.TheVariants as refusal
@@ -7,7 +7,7 @@ use Rattle.bitcommands.specs.Actions as action
 use Rattle.bitcommands.specs.Actions.{Action}
 use Rattle.bitcommands.specs.Answers as answer
 use Rattle.bitcommands.specs.Answers.{Answer}
-use Rattle.bitcommands.specs.Sets.{Sets, at, place}
+use Rattle.bitcommands.specs.Sets.{Sets, at}
 use Rattle.bitcommands.specs.Guards.{before_greatest, needs_more_words}
 use Rattle.bitcommands.specs.Table.{row_of}
 
@@ -19,7 +19,7 @@ StopsAtItem v items w = (added : List ℕ) × (item : ℕ) × (others : List ℕ
 -- Memory may be refused for this command, and then all sets are as they were; but of the items of `extend` those before
 -- the one that memory was refused for stand.
 abbrev pub LacksMemory : ℕ → Sets → Action → Sets → Type 0
-LacksMemory m old (action.extend k items) new = (v : Bits) × StopsAtItem (at old k) (before_greatest items) v × (new ≡ place old k v)
+LacksMemory m old (action.extend k items) new = (v : Bits) × StopsAtItem (at old k) (before_greatest items) v × (new ≡ slice_set old k v)
 LacksMemory m old c new = IsTrue (row_of m old c).may_lack_memory × (new ≡ old)
 
 -- The first guard that refuses gives the answer, and nothing changes. Where none does, the answer and the sets left

@@ -1,5 +1,5 @@
 -- The texts of replies.
-use Rattle.std.specs.Prelude.{◌≡◌, ◌≤◌, ℕ, Bool, true, false, not, List, [], ◌∷◌, ◌++◌, map, Option, Some, None, codes, if◌then◌else◌}
+use Rattle.std.specs.Prelude.{◌≡◌, ◌≤◌, ℕ, Bool, true, false, not, List, [], ◌∷◌, ◌++◌, map, Option, Some, None, codes, if◌then◌else◌, length, ◌==◌}
 use Rattle.std.specs.List.{join_with_byte}
 use Rattle.std.specs.Fmt.{decimal}
 use Rattle.std.specs.declared.cmp.Ordering.{Ordering}
@@ -38,8 +38,7 @@ refusal_text Limit = codes "F7 length above the limit"
 
 -- the text of a truth value
 abbrev pub flag_text : Bool → List ℕ
-flag_text true = codes "true"
-flag_text false = codes "false"
+flag_text flag = if flag then codes "true" else codes "false"
 
 -- the text of an item, or `none` where none was left
 abbrev pub item_text : Option ℕ → List ℕ
@@ -52,8 +51,7 @@ spaced_text text list = join_with_byte 32 (map text list)
 
 -- one number a word, one space between two of them, or `-` where there are none
 abbrev pub words_text : List ℕ → List ℕ
-words_text [] = codes "-"
-words_text (w ∷ ws) = spaced_text decimal (w ∷ ws)
+words_text ws = if length ws == 0 then codes "-" else spaced_text decimal ws
 
 -- which of two comes first
 abbrev pub order_text : Ordering → List ℕ

@@ -19,7 +19,7 @@ use Rattle.bitcommands.specs.Answers.{Answer}
 use Rattle.bitcommands.specs.Guards.{has_greatest}
 use Rattle.bitcommands.specs.Sets.{Sets, at}
 use Rattle.bitcommands.specs.Steps.{Step}
-use Rattle.bitcommands.specs.Table.{row_of, outcome_of_items}
+use Rattle.bitcommands.specs.Table.{row_of}
 use Rattle.bitcommands.specs.Texts.{item_text, words_text, answer_text, one_text}
 
 -- ---- texts with no line end
@@ -83,7 +83,7 @@ answer_one : (r : Answer) → IsPlain r → one_text r ≡ Some (answer_text r)
 answer_one (answer.value d) plain = rw plain.1 refl
 answer_one r plain = refl
 
-outcome_plain : (items : List ℕ) → IsPlain (outcome_of_items items)
+outcome_plain : (items : List ℕ) → IsPlain (if has_greatest items then answer.refused refusal.Greatest else answer.done)
 outcome_plain items = by (has_greatest items)
   where
     by : (met : Bool) → IsPlain (if met then answer.refused refusal.Greatest else answer.done)

@@ -10,8 +10,7 @@ use Rattle.bitlines.specs.Lines.{command_of}
 use Rattle.bitlines.specs.Output.{IsOutputFrom, lines_of}
 use Rattle.bitlines.specs.OutputLaws.{AreReplies, OneLineEach}
 use Rattle.bitlines.proofs.ArgumentTexts.{not_cut}
-use Rattle.bitlines.proofs.OneOutput.{lines_of-append}
-use Rattle.bitlines.proofs.Outputs.{lines_of_nil}
+use Rattle.bitlines.proofs.Outputs.{lines_of-append, lines_of_nil}
 
 -- ---- the lines of an output
 

@@ -1,10 +1,7 @@
 -- The law of outputs is proved.
 use Rattle.std.proofs.Common.{◌≡◌, ◌≢◌, ℕ, List, [], ◌∷◌, ◌++◌, Option, Some, None, MatchOption, codes, true, eqb, ◌⊎◌, refl, sym, ap, ◌∙◌, arith}
 use Rattle.std.specs.List.{slice_split}
-use Rattle.std.proofs.lemmas.Bool.{eq-eqb}
-use Rattle.std.proofs.lemmas.Bool.Decides.{nat_tests}
 use Rattle.std.proofs.lemmas.List.Elements.{Contains-append_left, Contains-append_right}
-use Rattle.std.proofs.lemmas.List.Splits.{slice_split-cons_yes, slice_split-cons_no}
 use Rattle.bitcommands.specs.declared.commands.refusals.Refusal.{Refusal}
 use Rattle.bitcommands.specs.declared.commands.refusals.Refusal.TheVariants.{Memory}
 use Rattle.bitcommands.specs.Actions.{Action}
@@ -13,27 +10,9 @@ use Rattle.bitcommands.specs.Texts.{refusal_text, answer_text}
 use Rattle.bitcommands.specs.Sets.{Sets}
 use Rattle.bitcommands.specs.Steps.{Step}
 use Rattle.bitlines.specs.Lines.{command_of}
-use Rattle.bitlines.specs.Output.{IsOutputFrom, lines_of, without_empty_last}
+use Rattle.bitlines.specs.Output.{IsOutputFrom, lines_of}
 use Rattle.bitlines.specs.OutputLaws.{LacksNothing, OneOutput}
-use Rattle.bitlines.proofs.LineSplits.{parts}
-
--- ---- a text cut at a byte 10
-
--- what stands before a byte and what stands behind it are cut by themselves
-slice_split-append : (b : ℕ) (xs ys : List ℕ) → slice_split (λ x. eqb x b) (xs ++ b ∷ ys) ≡ slice_split (λ x. eqb x b) xs ++ slice_split (λ x. eqb x b) ys
-slice_split-append b [] ys = slice_split-cons_yes (λ x. eqb x b) b ys (eq-eqb b b refl)
-slice_split-append b (x ∷ xs) ys = grind (arith, nat_tests, slice_split-cons_yes (λ x. eqb x b) x, slice_split-cons_no (λ x. eqb x b) x, slice_split-append b xs ys, parts b xs)
-
-without_empty_last-append : (first rest : List (List ℕ)) (p : List ℕ) (ps : List (List ℕ)) → rest ≡ p ∷ ps → without_empty_last (first ++ rest) ≡ first ++ without_empty_last rest
-without_empty_last-append [] rest p ps e = refl
-without_empty_last-append (l ∷ []) rest p ps e = rw e refl
-without_empty_last-append (l ∷ m ∷ first) rest p ps e = ap (λ ls. l ∷ ls) (without_empty_last-append (m ∷ first) rest p ps e)
-
-pub lines_of-append : (xs ys : List ℕ) → lines_of (xs ++ 10 ∷ ys) ≡ slice_split (λ x. eqb x 10) xs ++ lines_of ys
-unfolding lines_of
-lines_of-append xs ys =
-    let rest = parts 10 ys in
-    ap without_empty_last (slice_split-append 10 xs ys) ∙ without_empty_last-append _ _ rest.0 rest.1 rest.2
+use Rattle.bitlines.proofs.Outputs.{lines_of-append}
 
 -- ---- a line of an output
 

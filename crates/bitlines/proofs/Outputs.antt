@@ -1,6 +1,11 @@
 -- Lines and texts from the front.
-use Rattle.std.proofs.Common.{◌≡◌, ℕ, ◌+◌, ◌<◌, List, [], ◌∷◌, ◌++◌, length, take, drop, Option, Some, None, Bool, Result, Ok, Err, OnOk, is_ok, cond, eqb, IfSome, codes, refl, ap, subst, ◌∙◌, arith, append_assoc}
-use Rattle.std.specs.List.{position}
+use Rattle.std.proofs.Common.{◌≡◌, ℕ, ◌+◌, ◌<◌, List, [], ◌∷◌, ◌++◌, length, take, drop, Option, Some, None, Bool, Result, Ok, Err, OnOk, is_ok, cond, eqb, IfSome, codes, refl, ap, subst, ◌∙◌, arith, append_assoc, append-nil, ◌-◌}
+use Rattle.std.specs.List.{position, slice_split}
+use Rattle.std.specs.Io.BufRead.{strip_last}
+use Rattle.std.proofs.Math.Seq.{take-append-add}
+use Rattle.std.proofs.lemmas.Bool.{eq-eqb}
+use Rattle.std.proofs.lemmas.List.{length-append, get_or-append-add}
+use Rattle.std.proofs.lemmas.List.Splits.{slice_split-cons_yes, slice_split-cons_no}
 use Rattle.std.proofs.lemmas.Bool.Decides.{nat_tests}
 use Rattle.std.proofs.lemmas.Grind.{common_steps}
 use Rattle.bitcommands.specs.Actions.{Action}
@@ -10,21 +15,42 @@ use Rattle.bitcommands.specs.TextsFacts.{step_one_text}
 use Rattle.bitcommands.specs.Sets.{Sets}
 use Rattle.bitcommands.specs.Steps.{Step}
 use Rattle.bitlines.specs.Lines.{command_of}
-use Rattle.bitlines.specs.Output.{IsOutputFrom, lines_of, without_empty_last}
+use Rattle.bitlines.specs.Output.{IsOutputFrom, lines_of}
 use Rattle.bitlines.specs.Reads.{Reads}
 use Rattle.bitlines.specs.declared.fault.LineFault.{LineFault}
 use Rattle.bitlines.specs.declared.fault.LineFault.TheVariants.{NotACommand}
 use Rattle.bitlines.specs.OneLine.{AnswersLine, AnswersCommand}
-use Rattle.bitlines.proofs.LineSplits.{parts, cut_found, cut_none}
+use Rattle.bitlines.proofs.LineSplits.{parts, found_at, last_fails, cut_none}
+
+-- ---- a text cut at a byte 10
+
+-- what stands before a byte and what stands behind it are cut by themselves
+slice_split-append : (b : ℕ) (xs ys : List ℕ) → slice_split (λ x. eqb x b) (xs ++ b ∷ ys) ≡ slice_split (λ x. eqb x b) xs ++ slice_split (λ x. eqb x b) ys
+slice_split-append b [] ys = slice_split-cons_yes (λ x. eqb x b) b ys (eq-eqb b b refl)
+slice_split-append b (x ∷ xs) ys = grind (arith, nat_tests, slice_split-cons_yes (λ x. eqb x b) x, slice_split-cons_no (λ x. eqb x b) x, slice_split-append b xs ys, parts b xs)
+
+-- the last byte of a text is that of what stands behind
+strip_last-append : (b : ℕ) (xs ys : List ℕ) → 0 < length ys → strip_last b (xs ++ ys) ≡ xs ++ strip_last b ys
+strip_last-append b xs ys some =
+    let at : length (xs ++ ys) - 1 ≡ length xs + (length ys - 1) = omega (arith, length-append xs ys) in
+    grind (arith, nat_tests, at, get_or-append-add xs ys (length ys - 1) 0, take-append-add xs ys (length ys - 1), length-append xs ys)
+
+pub lines_of-append : (xs ys : List ℕ) → lines_of (xs ++ 10 ∷ ys) ≡ slice_split (λ x. eqb x 10) xs ++ lines_of ys
+unfolding lines_of
+lines_of-append xs [] = grind (arith, nat_tests, strip_last-append 10 xs (10 ∷ []) (omega arith), length-append xs (10 ∷ []), append-nil)
+lines_of-append xs (y ∷ ys) =
+    let cut : strip_last 10 (xs ++ 10 ∷ y ∷ ys) ≡ xs ++ 10 ∷ strip_last 10 (y ∷ ys) =
+    strip_last-append 10 xs (10 ∷ y ∷ ys) (omega arith) ∙ ap (λ zs. xs ++ zs) (strip_last-append 10 (10 ∷ []) (y ∷ ys) (omega arith)) in
+    grind (arith, nat_tests, cut, slice_split-append 10 xs (strip_last 10 (y ∷ ys)), length-append xs (10 ∷ y ∷ ys))
 
 pub lines_of_found : (xs : List ℕ) (k : ℕ) → position (λ x. eqb x 10) xs ≡ Some k → lines_of xs ≡ take k xs ∷ lines_of (drop (k + 1) xs)
-unfolding lines_of
-lines_of_found xs k e = rw (cut_found 10 xs k e, (parts 10 (drop (k + 1) xs)).2) refl
+lines_of_found xs k e =
+    let f = found_at 10 xs k e in
+    ap lines_of f.0 ∙ lines_of-append (take k xs) (drop (k + 1) xs) ∙ ap (λ part. part ++ lines_of (drop (k + 1) xs)) f.1
 
 pub lines_of_none : (xs : List ℕ) → 0 < length xs → position (λ x. eqb x 10) xs ≡ None → lines_of xs ≡ xs ∷ []
 unfolding lines_of
-lines_of_none (x ∷ xs) lt e = ap without_empty_last (cut_none 10 (x ∷ xs) e) ∙ grind (arith, nat_tests)
-lines_of_none [] lt e = absurd (omega arith)
+lines_of_none xs some e = grind (arith, nat_tests, last_fails 10 xs e some, cut_none 10 xs e)
 
 pub lines_of_nil : lines_of [] ≡ []
 unfolding lines_of

@@ -1,5 +1,6 @@
 -- A command leaves each set but its target as it was, and a refused one every set.
 use Rattle.std.proofs.Common.{◌≡◌, ◌≢◌, ℕ, Bool, true, false, List, Option, Some, None, MatchOption, IsTrue, if◌then◌else◌, ◌⊎◌, inl, inr, refl, sym, ◌∙◌}
+use Rattle.std.specs.Prelude.{slice_set}
 use Rattle.std.proofs.lemmas.List.{length-set, get_or-set_other}
 use Rattle.fixedbitset.specs.Bits as model
 use Rattle.fixedbitset.specs.Bits.{Bits}
@@ -10,7 +11,7 @@ use Rattle.bitcommands.specs.Actions.{Action}
 use Rattle.bitcommands.specs.Answers as answer
 use Rattle.bitcommands.specs.Answers.{Answer, refused}
 use Rattle.bitcommands.specs.Guards.{has_greatest}
-use Rattle.bitcommands.specs.Sets.{Sets, place}
+use Rattle.bitcommands.specs.Sets.{Sets}
 use Rattle.bitcommands.specs.Steps.{Step}
 use Rattle.bitlines.specs.StepLaws.{LeavesOthers, target}
 
@@ -19,7 +20,7 @@ use Rattle.bitlines.specs.StepLaws.{LeavesOthers, target}
 unchanged : (k : ℕ) (old new : Sets) → new ≡ old → LeavesOthers k old new
 unchanged k old new is = rw is (refl, λ j apart. refl)
 
-changed : (k : ℕ) (old new : Sets) (v : Bits) → new ≡ place old k v → LeavesOthers k old new
+changed : (k : ℕ) (old new : Sets) (v : Bits) → new ≡ slice_set old k v → LeavesOthers k old new
 changed k old new v is = rw is (length-set old k v, λ j apart. get_or-set_other old k j v (model.empty 0) apart)
 
 -- what a command on set k leaves
@@ -45,14 +46,14 @@ stepped k c r old new None answer left may others plain (inr s) = keeps_all k c 
 
 -- `from_iter` leaves the sets where it meets the greatest number
 made_of : (k : ℕ) (c : Action) (met : Bool) (r : Answer) (old new : Sets) (test : Option Refusal) (v : Bits) (may : Bool)
-    → Stepped test (if met then refused Greatest else answer.done) r (if met then old else place old k v) old new (IsTrue may × (new ≡ old))
+    → Stepped test (if met then refused Greatest else answer.done) r (if met then old else slice_set old k v) old new (IsTrue may × (new ≡ old))
     → Keeps k c r old new
 made_of k c true r old new test v may s = stepped k c r old new test _ old may (refl, λ j apart. refl) (λ f is. refl) s
 made_of k c false r old new test v may s = stepped k c r old new test _ _ may (changed k old _ v refl) (λ f is. cc) s
 
 -- `extend` keeps the items before the one that memory was refused for
 taken_in : (k : ℕ) (r : Answer) (old new : Sets) (test : Option Refusal) (answer : Answer) (v : Bits) (Taken : Bits → Type 0)
-    → Stepped test answer r (place old k v) old new ((w : Bits) × Taken w × (new ≡ place old k w)) → LeavesOthers k old new
+    → Stepped test answer r (slice_set old k v) old new ((w : Bits) × Taken w × (new ≡ slice_set old k w)) → LeavesOthers k old new
 taken_in k r old new (Some f) answer v Taken s = unchanged k old new s.1
 taken_in k r old new None answer v Taken (inl s) = changed k old new v s.1
 taken_in k r old new None answer v Taken (inr s) = changed k old new s.1.0 s.1.2

@@ -1,6 +1,7 @@
 -- What the program writes for an input.
 use Rattle.std.specs.Prelude.{◌≡◌, ℕ, List, [], ◌∷◌, ◌++◌, length, replicate, MatchOption, ◌==◌, if◌then◌else◌, codes}
 use Rattle.std.specs.List.{slice_split}
+use Rattle.std.specs.Io.BufRead.{strip_last}
 use Rattle.fixedbitset.specs.Bits.{empty}
 use Rattle.bitcommands.specs.Answers.{Answer}
 use Rattle.bitcommands.specs.Sets.{Sets}
@@ -10,15 +11,9 @@ use Rattle.bitcommands.specs.Texts.{answer_text}
 
 -- ---- lines
 
--- the parts between the line ends, without an empty one behind the last line end
-abbrev pub without_empty_last : List (List ℕ) → List (List ℕ)
-without_empty_last [] = []
-without_empty_last (part ∷ []) = if length part == 0 then [] else part ∷ []
-without_empty_last (part ∷ next ∷ parts) = part ∷ without_empty_last (next ∷ parts)
-
--- an input is cut at each byte 10; what stands behind the last one is a line too if it isn't empty
+-- an input is cut at each byte 10, but for one at its end; an empty input has no line
 unfoldable pub lines_of : List ℕ → List (List ℕ)
-lines_of input = without_empty_last (slice_split (λ b. b == 10) input)
+lines_of input = if length input == 0 then [] else slice_split (λ b. b == 10) (strip_last 10 input)
 
 -- ---- the output
 

@@ -110,6 +110,7 @@ fn grow(sets: &mut [FixedBitSet], set: usize, bits: usize, limit: usize) -> Resu
     Ok(Reply::Done)
 }
 
+#[tactic(auto, using(crate::proofs::TakenIn::grown))]
 fn grow_and_insert(
     sets: &mut [FixedBitSet],
     set: usize,
@@ -139,6 +140,7 @@ fn remove(sets: &mut [FixedBitSet], set: usize, bit: usize) -> Result<Reply, Ref
     Ok(Reply::Done)
 }
 
+#[tactic(auto, unfolding(fixedbitset::specs::Bits::toggle))]
 fn toggle(sets: &mut [FixedBitSet], set: usize, bit: usize) -> Result<Reply, Refusal>
     ensures { AnswersAlways sets.old (action.toggle set bit) result sets.new }
 {
@@ -162,6 +164,7 @@ fn set_to(sets: &mut [FixedBitSet], set: usize, bit: usize, value: bool) -> Resu
     Ok(Reply::Done)
 }
 
+#[tactic(auto, unfolding(fixedbitset::specs::Bits::copy_bit))]
 fn copy_bit(sets: &mut [FixedBitSet], set: usize, from: usize, to: usize) -> Result<Reply, Refusal>
     ensures { AnswersAlways sets.old (action.copy_bit set from to) result sets.new }
 {
@@ -170,6 +173,7 @@ fn copy_bit(sets: &mut [FixedBitSet], set: usize, from: usize, to: usize) -> Res
     Ok(Reply::Done)
 }
 
+#[tactic(auto, unfolding(fixedbitset::specs::Bits::set_block))]
 fn set_block(
     sets: &mut [FixedBitSet],
     set: usize,

@@ -29,6 +29,7 @@ pub enum Compare {
     Cmp { a: usize, b: usize },
 }
 
+#[tactic(auto, unfolding(fixedbitset::specs::TwoSets::union_count, fixedbitset::specs::TwoSets::intersection_count, fixedbitset::specs::TwoSets::difference_count, fixedbitset::specs::TwoSets::symmetric_difference_count, fixedbitset::specs::TwoSets::is_disjoint, fixedbitset::specs::TwoSets::is_subset))]
 pub(super) fn apply_compare(
     sets: &[FixedBitSet],
     command: &Compare,

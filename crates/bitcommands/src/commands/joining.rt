@@ -1,9 +1,9 @@
 //! Commands that change one set by another one, or by itself.
-ghost use Rattle.std.specs.Prelude.{◌≡◌, ◌<◌, length, IsTrue, OnOk, OnErr};
+ghost use Rattle.std.specs.Prelude.{◌≡◌, ◌<◌, length, IsTrue, OnOk, OnErr, slice_set};
 ghost use Rattle.bitcommands.specs.Actions as action;
 ghost use Rattle.bitcommands.specs.Actions.{whole_action};
 ghost use Rattle.bitcommands.specs.Joints.{combination, joint_may_lack_memory};
-ghost use Rattle.bitcommands.specs.Sets.{at, place};
+ghost use Rattle.bitcommands.specs.Sets.{at};
 ghost use Rattle.bitcommands.specs.Outcomes.{Answers, AnswersAlways};
 
 use crate::commands::refusals::{Refusal, check_sets};
@@ -118,7 +118,7 @@ pub(super) fn join(
 ) -> Result<(), AllocError>
     requires first { target < length sets.old }
     requires second { other < length sets.old }
-    ensures ok { OnOk result (sets.new ≡ place sets.old target (combination joint (at sets.old target) (at sets.old other))) }
+    ensures ok { OnOk result (sets.new ≡ slice_set sets.old target (combination joint (at sets.old target) (at sets.old other))) }
     ensures err { OnErr result (sets.new ≡ sets.old) }
     ensures lacks { OnErr result (IsTrue (joint_may_lack_memory joint (at sets.old target) (at sets.old other))) }
 {

@@ -34,6 +34,7 @@ pub enum Look {
     ToValue { set: usize },
 }
 
+#[tactic(auto, unfolding(fixedbitset::specs::Bits::is_clear, fixedbitset::specs::Bits::is_full))]
 pub(super) fn apply_look(
     alloc: Global,
     sets: &[FixedBitSet],
