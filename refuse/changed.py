@@ -11,6 +11,7 @@ TOP = pathlib.Path(__file__).resolve().parent.parent
 FUNCTION = re.compile(r"( *)(?:pub(?:\(\w+\))? )?(?:(?:const |unsafe |extern \"C\" )*fn|(?<= {4})const(?=.*;)) (\w+)")
 DEFINITION = re.compile(r"( *)((?:pub |abbrev |unfoldable |opaque )*)((?:record |data )?)(\S*)(.*)")
 IMPL = re.compile(r"(?:pub )?(?:unsafe )?(?:impl|trait)\b ?(.*)")
+HOLE = "use Rattle.{}.proofs.{}.Statement.{{statement}}\n\npub {name}_spec : {{M : Type 1}} → statement M\n{name}_spec = ?\n"
 
 
 class Crate:
@@ -44,6 +45,13 @@ class Crate:
         place = f"/{function.symbol.replace('::', '/')}/"
         return [it for it in self.sources if it.startswith("proofs/") and place in it]
 
+    def place_of(self, function):
+        """The path of the function as a check prints it: by the module of its type, and else by that of its file."""
+        head = re.compile(rf"(?m)^(?:pub(?:\(\w+\))? )?(?:struct|enum) {function.owner}\b")
+        homes = (module_of(it) for it, text in self.sources.items() if function.owner and it.endswith(".rt") and head.search(text))
+        home = next(homes, function.module)
+        return f"{home}::{function.symbol.removeprefix(home + '::')}".removeprefix("::")
+
     def root_without_main(self, texts):
         """The root of a program with empty lines in place of `main`, by its path: then it is a library."""
         lines = texts.get(self.root, self.sources[self.root]).split("\n")
@@ -68,7 +76,8 @@ def symbol_of_impl(heading):
 class Function:
     """A function by the line of its head: its lines with those of its attributes, from 1, its text, the end of its symbol,
     and by how many lines it stands behind the one that it copies. In rt fmt's layout it ends at the first brace with its own
-    indent. It is plain where it may have another name: it is no method of a trait, and does not call itself."""
+    indent. It is plain where it may have another name: it is no method of a trait, and does not call itself. Its body is a
+    range of lines from 0, and empty where another body cannot take its place."""
     def __init__(self, path, lines, at):
         indent, name = FUNCTION.match(lines[at]).groups()
         body = next((it for it in range(at, len(lines)) if re.search(r"(?:;|\{|\{\})(?: //.*)?$", lines[it])), at)
@@ -76,13 +85,16 @@ class Function:
         last = next((it for it in range(body, len(lines)) if lines[it] in ends), at)
         first = next(it for it in range(at, -1, -1) if it == 0 or not lines[it - 1].startswith(indent + "#["))
         impl = next((it for it in map(IMPL.match, lines[at::-1]) if it), None) if indent else None
-        module = "::".join(it for it in path.removesuffix(".rt").split("/")[1:] if it not in ("lib", "main", "mod"))
-        place = symbol_of_impl(impl[1]) if impl else module
+        self.module = module_of(path)
+        place = symbol_of_impl(impl[1]) if impl else self.module
         self.path, self.lines, self.symbol = path, range(first + 1, last + 2), f"{place}::{name}".removeprefix("::")
         self.name, self.text, self.moved = name, "\n".join(lines[first : last + 1]), 0
         is_of_trait = indent and (not impl or "trait" in impl[0].split()[:2] or " for " in impl[0])
-        calls_itself = re.search(rf"(?<!fn )(?<![\w:.]){name}\(|\b[sS]elf(\.|::){name}\(", self.text)
-        self.is_plain = not is_of_trait and name != "main" and not calls_itself
+        self.owner = place if indent and not is_of_trait else None
+        is_alone = not re.search(rf"(?<!fn )(?<![\w:.]){name}\(|\b[sS]elf(\.|::){name}\(|#\[(?:cycle|test)\b", self.text)
+        self.is_plain = not is_of_trait and name != "main" and is_alone
+        has_body = is_alone and lines[body].endswith("{") and lines[last] == indent + "}" and not (impl and "trait" in impl[0].split()[:2])
+        self.body = range(body + 1, last) if has_body and name not in ("main", "drop") else range(0)
 
 
 class Edit:
@@ -234,6 +246,27 @@ def together(edits):
                 it.moved = it.lines.start - function.lines.start
                 judges[edit].append(it)
     return texts, judges
+
+
+def without_bodies(crate, texts, judged):
+    """The texts with an endless loop in place of the body of each function that is not judged, and a hole in place of its proof.
+    So a check reads of it the contract alone, from which its callers are proved. Each line stays where it was."""
+    made = dict(texts)
+    for path, text in {**crate.sources, **texts}.items():
+        lines = text.split("\n")
+        for it in functions_of(path, lines) if path.endswith(".rt") else ():
+            own = crate.place_of(it)
+            if it.body and not judged & {own, it.symbol}:
+                lines[it.body.start : it.body.stop] = ["loop {}", *[""] * (len(it.body) - 1)]
+                place = f"proofs/{own.replace('::', '/')}/"
+                made |= {old: None for old in crate.sources if old.startswith(place)}
+                made[f"{place}Proof.antt"] = HOLE.format(crate.name, own.replace("::", "."), name=it.name)
+        made |= {path: "\n".join(lines)} if path.endswith(".rt") else {}
+    return made
+
+
+def module_of(path):
+    return "::".join(it for it in path.removesuffix(".rt").split("/")[1:] if it not in ("lib", "main", "mod"))
 
 
 def functions_of(path, lines):
