@@ -94,7 +94,8 @@ class Function:
         is_alone = not re.search(rf"(?<!fn )(?<![\w:.]){name}\(|\b[sS]elf(\.|::){name}\(|#\[(?:cycle|test)\b", self.text)
         self.is_plain = not is_of_trait and name != "main" and is_alone
         has_body = is_alone and lines[body].endswith("{") and lines[last] == indent + "}" and not (impl and "trait" in impl[0].split()[:2])
-        self.body = range(body + 1, last) if has_body and name not in ("main", "drop") else range(0)
+        opens = next((it for it in range(at, last) if lines[it] == indent + "{"), body)  # (a clause may end with a brace)
+        self.body = range(opens + 1, last) if has_body and name not in ("main", "drop") else range(0)
 
 
 class Edit:

@@ -1,5 +1,5 @@
 -- Sets by number.
-use Rattle.std.specs.Prelude.{ℕ, List, slice_index_or, slice_set}
+use Rattle.std.specs.Prelude.{ℕ, List, slice_index_or}
 use Rattle.fixedbitset.specs.Bits as model
 use Rattle.fixedbitset.specs.Bits.{Bits}
 

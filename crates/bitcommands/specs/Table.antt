@@ -17,7 +17,6 @@ use Rattle.fixedbitset.specs.Text as printed
 use Rattle.fixedbitset.specs.Json.{meaning, written}
 use Rattle.bitcommands.specs.declared.commands.refusals.Refusal.{Refusal}
 use Rattle.bitcommands.specs.declared.commands.refusals.Refusal.TheVariants as refusal
-use Rattle.bitcommands.specs.declared.commands.arguments.End.{End}
 use Rattle.bitcommands.specs.Actions as action
 use Rattle.bitcommands.specs.Actions.{Action, Range}
 use Rattle.bitcommands.specs.Arguments.{Argument, number, flag, range, ends, json}
