@@ -216,12 +216,36 @@ def taken_together(edits, most):
     for it in sorted(edits, key=lambda it: (it.reach is None, it.wrong_body is not None)):
         if now and (None in (it.reach, now[0].reach) or len(now) == most):
             continue
+        reach = {(it.crate.name, symbol) for symbol in it.reach or ()}
         if it.wrong_body is not None:
-            now += [it] * (not it.reach & shaken)
-        elif not (it.reach or set()) & taken and (made := it.applied(texts)) is not None:
-            now, texts, taken = [*now, it], made, taken | (it.reach or set())
+            now += [it] * (not reach & shaken)
+        elif not reach & taken and (made := it.applied(texts.get(it.crate, {}))) is not None:
+            now, texts[it.crate], taken = [*now, it], made, taken | reach
             shaken |= taken if any(path.startswith("specs/") for path, _, _ in it.pairs) else set()
     return now
+
+
+def groups(edits, crates, most):
+    """The edits to try one group beside another: those of each crate that has more than so many, the longest lists first, and
+    then those of several crates, none of which stands on another of them. These are functions' edits alone."""
+    alone, left, shared = [], sorted(filter(None, edits), key=len), []
+    while left:
+        now, below = [], set()
+        for own in left:
+            under = crates_below(own[0].crate, crates)
+            is_plain = len(own) <= most and not any(it.is_lone or it.is_bad for it in own)
+            if is_plain and own[0].crate not in below and not under & {it[0].crate for it in now}:
+                now, below = [*now, own], below | under
+        alone += [] if now else left
+        left = [it for it in left if it not in now] if now else []
+        shared += [sum(now, [])] * bool(now)
+    return [*reversed(alone), *shared]
+
+
+def crates_below(crate, crates):
+    """The crates that this one stands on."""
+    own = {crates[it] for it in crate.deps if it in crates}
+    return own.union(*(crates_below(it, crates) for it in own))
 
 
 def together(edits):
