@@ -37,9 +37,9 @@ pub calls_start : (ends : List End) (xs : List ℕ) → calls ends xs ≡ [] ++ 
 calls_start ends xs = refl
 
 -- one call more has its answer behind those so far
-pub calls_more : (all done : List (Option ℕ)) (ends : List End) (i : ℕ) (e : End) (xs ys : List ℕ) (r : Option ℕ) → all ≡ done ++ calls (drop i ends) xs → i < length ends → e ≡ get_or ends i e
-    → r ≡ item_at e xs → ys ≡ without_item_at e xs → all ≡ (done ++ r ∷ []) ++ calls (drop (i + 1) ends) ys
-calls_more all done ends i e xs ys r h lt is item left = rw (h, drop_more ends i e lt, ← is, calls-cons, item, left, append_assoc) refl
+pub calls_more : (all done : List (Option ℕ)) (ends : List End) (i : ℕ) (d : End) (xs ys : List ℕ) (r : Option ℕ) → all ≡ done ++ calls (drop i ends) xs → i < length ends
+    → r ≡ item_at (get_or ends i d) xs → ys ≡ without_item_at (get_or ends i d) xs → all ≡ (done ++ r ∷ []) ++ calls (drop (i + 1) ends) ys
+calls_more all done ends i d xs ys r h lt item left = rw (h, drop_more ends i d lt, calls-cons, item, left, append_assoc) refl
 
 pub calls_end : (all done : List (Option ℕ)) (ends : List End) (i : ℕ) (xs : List ℕ) → all ≡ done ++ calls (drop i ends) xs → length ends ≤ i → done ≡ all
 calls_end all done ends i xs h past = rw (h, drop_all i ends past, append-nil) refl

@@ -1,5 +1,5 @@
 -- Items that a set took in from a list.
-use Rattle.std.proofs.Common.{◌≡◌, ℕ, ◌+◌, ◌-◌, ◌^◌, ◌<◌, true, false, cond, ◌||◌, List, [], ◌∷◌, ◌++◌, length, get_or, drop, Option, Some, None, Result, Ok, Err, MatchResult, inr, refl, sym, arith, append-nil}
+use Rattle.std.proofs.Common.{◌≡◌, ℕ, ◌+◌, ◌-◌, ◌^◌, ◌<◌, IsTrue, true, false, cond, ◌||◌, List, [], ◌∷◌, ◌++◌, length, get_or, drop, Option, Some, None, Result, Ok, Err, MatchResult, inr, refl, sym, ap, arith, append-nil}
 use Rattle.std.specs.Prelude.{slice_set}
 use Rattle.std.specs.List.{All}
 use Rattle.std.specs.Iterator.{Drains, YieldsThen}
@@ -15,12 +15,12 @@ use Rattle.fixedbitset.specs.AddFacts.{insert-grow}
 use Rattle.fixedbitset.specs.Extended.{Extends}
 use Rattle.fixedbitset.specs.declared.extend.ExtendFault.{ExtendFault}
 use Rattle.fixedbitset.specs.declared.extend.ExtendFault.TheVariants as fault
-use Rattle.bitcommands.specs.Guards.{is_greatest, before_greatest, has_greatest, no_items}
+use Rattle.bitcommands.specs.Guards.{is_greatest, before_greatest, has_greatest, no_items, needs_more_words}
 use Rattle.bitcommands.specs.Actions.{extend}
 use Rattle.bitcommands.specs.Answers as answer
 use Rattle.bitcommands.specs.Outcomes.{fault_refusal}
 use Rattle.bitcommands.specs.Sets.{Sets, at}
-use Rattle.bitcommands.specs.Steps.{StopsAtItem, Step}
+use Rattle.bitcommands.specs.Steps.{Step}
 
 -- a position that a set grows for is set once it has grown
 pub grown : (v : Bits) (bit : ℕ) → add v bit ≡ insert (grow v (bit + 1)) bit
@@ -46,7 +46,8 @@ Took v w items = (has_greatest items ≡ false) × (before_greatest items ≡ it
 -- what is left of one that a fault stopped
 abbrev pub Stopped : Bits → Bits → List ℕ → ExtendFault → Type 0
 Stopped v w items fault.Position = (has_greatest items ≡ true) × (w ≡ add_all v (before_greatest items))
-Stopped v w items fault.Memory = StopsAtItem v (before_greatest items) w
+Stopped v w items fault.Memory = (added : List ℕ) × (item : ℕ) × (others : List ℕ) × (before_greatest items ≡ added ++ item ∷ others)
+    × IsTrue (needs_more_words (add_all v added) (item + 1)) × (w ≡ add_all v added)
 
 module _ {S : Type 0} {steps : S → Option ℕ → S → Type 0} {s : S} {items : List ℕ} (road : YieldsList steps (λ x. x) s items) where
   drained : (taken : List ℕ) → Drains steps s taken → taken ≡ items
@@ -65,7 +66,7 @@ module _ {S : Type 0} {steps : S → Option ℕ → S → Type 0} {s : S} {items
       grind (arith, nat_tests, first_item h.next.0 cut.0, cut.1, behind_items (h.next.0 ∷ cut.0) h.taken h.positions, append-nil h.taken, h.added)
   took v w (Err fault.Memory) h =
       let cut = stopped h.taken h.next.0 h.next.1 h.next.2 in
-      (h.taken, h.next.0, before_greatest cut.0, grind (arith, nat_tests, first_item h.next.0 cut.0, cut.1, behind_items (h.next.0 ∷ cut.0) h.taken h.positions), h.added, grind (arith, nat_tests))
+      (h.taken, h.next.0, before_greatest cut.0, grind (arith, nat_tests, first_item h.next.0 cut.0, cut.1, behind_items (h.next.0 ∷ cut.0) h.taken h.positions), rw (← h.added) (grind (arith, nat_tests)), h.added)
 
 -- a fault of `extend` is a step, with what is left of the set in its place
 pub fault_step : (m k : ℕ) (old : Sets) (v w : Bits) (items : List ℕ) (f : ExtendFault) → no_items m old k items ≡ None → v ≡ get_or old k v → Stopped (get_or old k v) w items f
@@ -73,4 +74,4 @@ pub fault_step : (m k : ℕ) (old : Sets) (v w : Bits) (items : List ℕ) (f : E
 fault_step m k old v w items fault.Position none here left = grind (arith, common_steps)
 fault_step m k old v w items fault.Memory none here left =
     let there : at old k ≡ get_or old k v = grind (arith, common_steps) in
-    rw none (inr (refl, (w, rw there left, refl)))
+    rw (none, there) (inr (refl, (left.0, left.1, left.2, left.3, left.4, ap (slice_set old k) left.5)))

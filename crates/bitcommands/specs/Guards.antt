@@ -1,12 +1,12 @@
 -- The guards of commands: what refuses a command before it does anything.
-use Rattle.std.specs.Prelude.{ℕ, ◌-◌, ◌^◌, Bool, not, ◌==◌, List, length, Option, Some, None, Result, Ok, Err, nat_lt, if◌then◌else◌}
-use Rattle.std.specs.Option.{option_or}
+use Rattle.std.specs.Prelude.{ℕ, ◌-◌, ◌^◌, Bool, not, ◌==◌, List, length, Option, Some, None, nat_lt, if◌then◌else◌}
+use Rattle.std.specs.Option.{option_or, option_map}
+use Rattle.std.specs.Result.{result_err, result_unwrap_or}
 use Rattle.std.specs.List.{list_any, list_all, take_while}
 use Rattle.fixedbitset.specs.Bits as model
 use Rattle.fixedbitset.specs.Bits.{Bits}
 use Rattle.fixedbitset.specs.Ranges.{over, is_valid}
 use Rattle.fixedbitset.specs.Json.{length_of}
-use Rattle.bitjson.specs.declared.fault.JsonFault.{JsonFault}
 use Rattle.serde_json.specs.Data.{Data}
 use Rattle.bitcommands.specs.Actions.{Range}
 use Rattle.bitcommands.specs.declared.commands.refusals.Refusal.{Refusal}
@@ -41,14 +41,9 @@ no_word s k i = option_or (no_set s k) (refuse refusal.Position (not (nat_lt i (
 abbrev pub past_limit : ℕ → ℕ → Option Refusal
 past_limit limit n = refuse refusal.Limit (nat_lt limit n)
 
--- the length of a value is above the limit, or the value has a fault
-abbrev pub not_read : ℕ → Result ℕ JsonFault → Option Refusal
-not_read limit (Ok n) = past_limit limit n
-not_read limit (Err f) = Some (refusal.Json f)
-
--- there is no such set, or no set is made of the value: it is not in the form, or its length is above the limit
+-- there is no such set, or the value is not in the form, or its length is above the limit
 abbrev pub no_value : ℕ → Sets → ℕ → Data → Option Refusal
-no_value limit s d json = option_or (no_set s d) (not_read limit (length_of json))
+no_value limit s d json = option_or (no_set s d) (option_or (option_map refusal.Json (result_err (length_of json))) (past_limit limit (result_unwrap_or (length_of json) 0)))
 
 -- whether the set needs more words for this length than it has
 abbrev pub needs_more_words : Bits → ℕ → Bool

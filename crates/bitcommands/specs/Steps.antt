@@ -11,15 +11,11 @@ use Rattle.bitcommands.specs.Sets.{Sets, at}
 use Rattle.bitcommands.specs.Guards.{before_greatest, needs_more_words}
 use Rattle.bitcommands.specs.Table.{row_of}
 
--- one of the items needs more words than the set has once those before it are added, and these are added alone
-abbrev pub StopsAtItem : Bits → List ℕ → Bits → Type 0
-StopsAtItem v items w = (added : List ℕ) × (item : ℕ) × (others : List ℕ) × (items ≡ added ++ item ∷ others)
-    × (w ≡ model.add_all v added) × IsTrue (needs_more_words w (item + 1))
-
 -- Memory may be refused for this command, and then all sets are as they were; but of the items of `extend` those before
--- the one that memory was refused for stand.
+-- the one that memory was refused for stand. That one needs more words than the set has once these are added.
 abbrev pub LacksMemory : ℕ → Sets → Action → Sets → Type 0
-LacksMemory m old (action.extend k items) new = (v : Bits) × StopsAtItem (at old k) (before_greatest items) v × (new ≡ slice_set old k v)
+LacksMemory m old (action.extend k items) new = (added : List ℕ) × (item : ℕ) × (others : List ℕ) × (before_greatest items ≡ added ++ item ∷ others)
+    × IsTrue (needs_more_words (model.add_all (at old k) added) (item + 1)) × (new ≡ slice_set old k (model.add_all (at old k) added))
 LacksMemory m old c new = IsTrue (row_of m old c).may_lack_memory × (new ≡ old)
 
 -- The first guard that refuses gives the answer, and nothing changes. Where none does, the answer and the sets left

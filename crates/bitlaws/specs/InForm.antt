@@ -18,13 +18,10 @@ HasParts d l x = (d ≡ array (item l (item x no_items)))
 abbrev pub InForm : Data → ℕ → List ℕ → Type 0
 InForm d n bs = HasParts d (number (unsigned n)) (array (items_of (numbers bs))) × (list_all (λ b. nat_lt b 256) bs ≡ true)
 
--- item j is a byte
-abbrev pub IsByteAt : Items → ℕ → Type 0
-IsByteAt ds j = (b : ℕ) × (b < 256) × (get_item j ds ≡ Some (number (unsigned b)))
-
 -- item k is there and no byte, and the items before it are bytes
 abbrev pub IsFirstNoByte : Items → ℕ → Type 0
-IsFirstNoByte ds k = (e : Data) × (get_item k ds ≡ Some e) × ((b : ℕ) → b < 256 → e ≢ number (unsigned b)) × ((j : ℕ) → j < k → IsByteAt ds j)
+IsFirstNoByte ds k = (e : Data) × (get_item k ds ≡ Some e) × ((b : ℕ) → b < 256 → e ≢ number (unsigned b))
+    × ((j : ℕ) → j < k → (b : ℕ) × (b < 256) × (get_item j ds ≡ Some (number (unsigned b))))
 
 -- the fault that a value has: of any value at most one
 abbrev pub HasFault : Data → JsonFault → Type 0

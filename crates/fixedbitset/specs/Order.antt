@@ -7,13 +7,10 @@ use Rattle.std.specs.Hash as fed
 use Rattle.std.specs.Hash.{HashWrites}
 use Rattle.fixedbitset.specs.Bits.{Bits, contains, words}
 
--- position `at` is in w and not in v, the two agree on all earlier stretches of 64 positions, and on the greater positions of its own stretch
-pub record Leads (w v : Bits) : Type 0 where
-  pub at : ℕ
-  pub has : contains w at ≡ true
-  pub lacks : contains v at ≡ false
-  pub before : (p : ℕ) → p / 64 < at / 64 → contains v p ≡ contains w p
-  pub above : (p : ℕ) → p / 64 ≡ at / 64 → at < p → contains v p ≡ contains w p
+-- some position is in w and not in v, and the two agree on all earlier stretches of 64 positions, and on the greater positions of its own stretch
+abbrev pub Leads : Bits → Bits → Type 0
+Leads w v = (at : ℕ) × (contains w at ≡ true) × (contains v at ≡ false)
+    × ((p : ℕ) → (p / 64 < at / 64) ⊎ ((p / 64 ≡ at / 64) × (at < p)) → contains v p ≡ contains w p)
 
 -- v comes before w: it is shorter, or of the same length and w leads
 abbrev pub IsBelow : Bits → Bits → Type 0

@@ -67,22 +67,27 @@ same_position : (v w : Bits) (k i p : ℕ) → i < 64 → 64 * k + i ≡ p
     → bit_at (get_or (words v) k 0) i ≡ bit_at (get_or (words w) k 0) i → contains v p ≡ contains w p
 same_position v w k i p low at e = rw (← at) (contains-word v k i low ∙ ap (λ b. b == 1) e ∙ sym (contains-word w k i low))
 
+-- where the words before word k are the same, so are their positions
+agree_before : (v w : Bits) (k p : ℕ) → take k (words v) ≡ take k (words w) → p / 64 < k → contains v p ≡ contains w p
+agree_before v w k p agree j =
+    let same = sym (get_or-take k (words v) (p / 64) 0 j) ∙ ap (λ ws. get_or ws (p / 64) 0) agree ∙ get_or-take k (words w) (p / 64) 0 j in
+    same_position v w (p / 64) (p % 64) p (omega arith) (omega arith) (ap (λ x. bit_at x (p % 64)) same)
+
 -- where the first words that differ are word k, and w's is greater, w leads
 leads_at : (v w : Bits) (k : ℕ) → get_or (words v) k 0 < get_or (words w) k 0 → take k (words v) ≡ take k (words w) → Leads w v
 leads_at v w k less agree =
     let t = top_bit 64 (get_or (words v) k 0) (get_or (words w) k 0) (are_words w k) less in
     let i = t.0 in
-    let low : i < 64 = t.1 in
-    record {
-      at = 64 * k + i;
-      has = contains-word w k i low ∙ ap (λ b. b == 1) t.2.one;
-      lacks = contains-word v k i low ∙ ap (λ b. b == 1) t.2.clear;
-      before = λ p earlier.
-          let j : p / 64 < k = omega arith in
-          let same = sym (get_or-take k (words v) (p / 64) 0 j) ∙ ap (λ ws. get_or ws (p / 64) 0) agree ∙ get_or-take k (words w) (p / 64) 0 j in
-          same_position v w (p / 64) (p % 64) p (omega arith) (omega arith) (ap (λ x. bit_at x (p % 64)) same);
-      above = λ p stretch up. same_position v w k (p - 64 * k) p (omega arith) (omega arith) (t.2.above (p - 64 * k) (omega arith));
-    }
+    let low : i < 64 = t.1 in (
+      64 * k + i,
+      contains-word w k i low ∙ ap (λ b. b == 1) t.2.one,
+      contains-word v k i low ∙ ap (λ b. b == 1) t.2.clear,
+      λ p.
+          ⊎_elim
+          (λ (earlier : p / 64 < (64 * k + i) / 64). agree_before v w k p agree (omega arith))
+          (λ (up : (p / 64 ≡ (64 * k + i) / 64) × (64 * k + i < p)).
+          same_position v w k (p - 64 * k) p (omega (arith, up)) (omega (arith, up)) (t.2.above (p - 64 * k) (omega (arith, up)))),
+    )
 
 -- of two values of one length, that whose words come later leads
 leads_by_words : (v w : Bits) → v.length ≡ w.length → slice_cmp nat_cmp (words v) (words w) ≡ Less → Leads w v

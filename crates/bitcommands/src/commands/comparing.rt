@@ -1,6 +1,7 @@
 //! Commands that compare two sets and change nothing.
+ghost use Rattle.bitcommands.specs.Actions as action;
 ghost use Rattle.bitcommands.specs.Actions.{compare_action};
-ghost use Rattle.bitcommands.specs.Outcomes.{Answers};
+ghost use Rattle.bitcommands.specs.Outcomes.{Answers, AnswersAlways};
 
 use crate::commands::refusals::{Refusal, check_sets};
 use crate::commands::replies::Reply;
@@ -29,7 +30,6 @@ pub enum Compare {
     Cmp { a: usize, b: usize },
 }
 
-#[tactic(auto, unfolding(fixedbitset::specs::TwoSets::union_count, fixedbitset::specs::TwoSets::intersection_count, fixedbitset::specs::TwoSets::difference_count, fixedbitset::specs::TwoSets::symmetric_difference_count, fixedbitset::specs::TwoSets::is_disjoint, fixedbitset::specs::TwoSets::is_subset))]
 pub(super) fn apply_compare(
     sets: &[FixedBitSet],
     command: &Compare,
@@ -38,41 +38,84 @@ pub(super) fn apply_compare(
     ensures { Answers limit sets.now (compare_action command.now) result sets.now }
 {
     match command {
-        Compare::UnionCount { a, b } => {
-            check_sets(sets, *a, *b)?;
-            Ok(Reply::Number(sets[*a].union_count(&sets[*b])))
-        }
-        Compare::IntersectionCount { a, b } => {
-            check_sets(sets, *a, *b)?;
-            Ok(Reply::Number(sets[*a].intersection_count(&sets[*b])))
-        }
-        Compare::DifferenceCount { a, b } => {
-            check_sets(sets, *a, *b)?;
-            Ok(Reply::Number(sets[*a].difference_count(&sets[*b])))
-        }
-        Compare::SymmetricDifferenceCount { a, b } => {
-            check_sets(sets, *a, *b)?;
-            Ok(Reply::Number(sets[*a].symmetric_difference_count(&sets[*b])))
-        }
-        Compare::IsDisjoint { a, b } => {
-            check_sets(sets, *a, *b)?;
-            Ok(Reply::Bool(sets[*a].is_disjoint(&sets[*b])))
-        }
-        Compare::IsSubset { a, b } => {
-            check_sets(sets, *a, *b)?;
-            Ok(Reply::Bool(sets[*a].is_subset(&sets[*b])))
-        }
-        Compare::IsSuperset { a, b } => {
-            check_sets(sets, *a, *b)?;
-            Ok(Reply::Bool(sets[*a].is_superset(&sets[*b])))
-        }
-        Compare::Eq { a, b } => {
-            check_sets(sets, *a, *b)?;
-            Ok(Reply::Bool(sets[*a] == sets[*b]))
-        }
-        Compare::Cmp { a, b } => {
-            check_sets(sets, *a, *b)?;
-            Ok(Reply::Order(sets[*a].cmp(&sets[*b])))
-        }
+        Compare::UnionCount { a, b } => union_count(sets, *a, *b),
+        Compare::IntersectionCount { a, b } => intersection_count(sets, *a, *b),
+        Compare::DifferenceCount { a, b } => difference_count(sets, *a, *b),
+        Compare::SymmetricDifferenceCount { a, b } => symmetric_difference_count(sets, *a, *b),
+        Compare::IsDisjoint { a, b } => is_disjoint(sets, *a, *b),
+        Compare::IsSubset { a, b } => is_subset(sets, *a, *b),
+        Compare::IsSuperset { a, b } => is_superset(sets, *a, *b),
+        Compare::Eq { a, b } => eq(sets, *a, *b),
+        Compare::Cmp { a, b } => cmp(sets, *a, *b),
     }
+}
+
+#[tactic(auto, unfolding(fixedbitset::specs::TwoSets::union_count))]
+fn union_count(sets: &[FixedBitSet], a: usize, b: usize) -> Result<Reply, Refusal>
+    ensures { AnswersAlways sets.now (action.union_count a b) result sets.now }
+{
+    check_sets(sets, a, b)?;
+    Ok(Reply::Number(sets[a].union_count(&sets[b])))
+}
+
+#[tactic(auto, unfolding(fixedbitset::specs::TwoSets::intersection_count))]
+fn intersection_count(sets: &[FixedBitSet], a: usize, b: usize) -> Result<Reply, Refusal>
+    ensures { AnswersAlways sets.now (action.intersection_count a b) result sets.now }
+{
+    check_sets(sets, a, b)?;
+    Ok(Reply::Number(sets[a].intersection_count(&sets[b])))
+}
+
+#[tactic(auto, unfolding(fixedbitset::specs::TwoSets::difference_count))]
+fn difference_count(sets: &[FixedBitSet], a: usize, b: usize) -> Result<Reply, Refusal>
+    ensures { AnswersAlways sets.now (action.difference_count a b) result sets.now }
+{
+    check_sets(sets, a, b)?;
+    Ok(Reply::Number(sets[a].difference_count(&sets[b])))
+}
+
+#[tactic(auto, unfolding(fixedbitset::specs::TwoSets::symmetric_difference_count))]
+fn symmetric_difference_count(sets: &[FixedBitSet], a: usize, b: usize) -> Result<Reply, Refusal>
+    ensures { AnswersAlways sets.now (action.symmetric_difference_count a b) result sets.now }
+{
+    check_sets(sets, a, b)?;
+    Ok(Reply::Number(sets[a].symmetric_difference_count(&sets[b])))
+}
+
+#[tactic(auto, unfolding(fixedbitset::specs::TwoSets::is_disjoint, fixedbitset::specs::TwoSets::intersection_count))]
+fn is_disjoint(sets: &[FixedBitSet], a: usize, b: usize) -> Result<Reply, Refusal>
+    ensures { AnswersAlways sets.now (action.is_disjoint a b) result sets.now }
+{
+    check_sets(sets, a, b)?;
+    Ok(Reply::Bool(sets[a].is_disjoint(&sets[b])))
+}
+
+#[tactic(auto, unfolding(fixedbitset::specs::TwoSets::is_subset))]
+fn is_subset(sets: &[FixedBitSet], a: usize, b: usize) -> Result<Reply, Refusal>
+    ensures { AnswersAlways sets.now (action.is_subset a b) result sets.now }
+{
+    check_sets(sets, a, b)?;
+    Ok(Reply::Bool(sets[a].is_subset(&sets[b])))
+}
+
+#[tactic(auto, unfolding(fixedbitset::specs::TwoSets::is_subset))]
+fn is_superset(sets: &[FixedBitSet], a: usize, b: usize) -> Result<Reply, Refusal>
+    ensures { AnswersAlways sets.now (action.is_superset a b) result sets.now }
+{
+    check_sets(sets, a, b)?;
+    Ok(Reply::Bool(sets[a].is_superset(&sets[b])))
+}
+
+fn eq(sets: &[FixedBitSet], a: usize, b: usize) -> Result<Reply, Refusal>
+    ensures { AnswersAlways sets.now (action.eq a b) result sets.now }
+{
+    check_sets(sets, a, b)?;
+    Ok(Reply::Bool(sets[a] == sets[b]))
+}
+
+fn cmp(sets: &[FixedBitSet], a: usize, b: usize) -> Result<Reply, Refusal>
+    ensures { AnswersAlways sets.now (action.cmp a b) result sets.now }
+{
+    check_sets(sets, a, b)?;
+    Ok(Reply::Order(sets[a].cmp(&sets[b])))
 }

@@ -1,6 +1,7 @@
 //! Commands that look at one set and change nothing.
+ghost use Rattle.bitcommands.specs.Actions as action;
 ghost use Rattle.bitcommands.specs.Actions.{look_action};
-ghost use Rattle.bitcommands.specs.Outcomes.{Answers};
+ghost use Rattle.bitcommands.specs.Outcomes.{Answers, AnswersAlways};
 
 use crate::commands::refusals::{Refusal, set_at};
 use crate::commands::replies::Reply;
@@ -34,7 +35,6 @@ pub enum Look {
     ToValue { set: usize },
 }
 
-#[tactic(auto, unfolding(fixedbitset::specs::Bits::is_clear, fixedbitset::specs::Bits::is_full))]
 pub(super) fn apply_look(
     alloc: Global,
     sets: &[FixedBitSet],
@@ -44,20 +44,86 @@ pub(super) fn apply_look(
     ensures { Answers limit sets.now (look_action command.now) result sets.now }
 {
     match command {
-        Look::Len { set } => Ok(Reply::Number(set_at(sets, *set)?.len())),
-        Look::IsEmpty { set } => Ok(Reply::Bool(set_at(sets, *set)?.is_empty())),
-        Look::IsClear { set } => Ok(Reply::Bool(set_at(sets, *set)?.is_clear())),
-        Look::IsFull { set } => Ok(Reply::Bool(set_at(sets, *set)?.is_full())),
-        Look::Minimum { set } => Ok(Reply::Position(set_at(sets, *set)?.minimum())),
-        Look::Maximum { set } => Ok(Reply::Position(set_at(sets, *set)?.maximum())),
-        Look::AsSlice { set } => {
-            let mut words = Vec::new(alloc);
-            words.extend_from_slice(set_at(sets, *set)?.as_slice())?;
-            Ok(Reply::Words(words))
-        }
-        Look::Contains { set, bit } => Ok(Reply::Bool(set_at(sets, *set)?.contains(*bit))),
-        Look::Index { set, bit } => Ok(Reply::Bool(set_at(sets, *set)?[*bit])),
-        Look::Text { set } => Ok(Reply::Text(set_at(sets, *set)?.to_string(alloc)?)),
-        Look::ToValue { set } => Ok(Reply::Value(set_at(sets, *set)?.to_value(alloc)?)),
+        Look::Len { set } => len(sets, *set),
+        Look::IsEmpty { set } => is_empty(sets, *set),
+        Look::IsClear { set } => is_clear(sets, *set),
+        Look::IsFull { set } => is_full(sets, *set),
+        Look::Minimum { set } => minimum(sets, *set),
+        Look::Maximum { set } => maximum(sets, *set),
+        Look::AsSlice { set } => as_slice(alloc, sets, *set),
+        Look::Contains { set, bit } => contains(sets, *set, *bit),
+        Look::Index { set, bit } => index(sets, *set, *bit),
+        Look::Text { set } => text(alloc, sets, *set),
+        Look::ToValue { set } => to_value(alloc, sets, *set),
     }
+}
+
+fn len(sets: &[FixedBitSet], set: usize) -> Result<Reply, Refusal>
+    ensures { AnswersAlways sets.now (action.len set) result sets.now }
+{
+    Ok(Reply::Number(set_at(sets, set)?.len()))
+}
+
+fn is_empty(sets: &[FixedBitSet], set: usize) -> Result<Reply, Refusal>
+    ensures { AnswersAlways sets.now (action.is_empty set) result sets.now }
+{
+    Ok(Reply::Bool(set_at(sets, set)?.is_empty()))
+}
+
+#[tactic(auto, unfolding(fixedbitset::specs::Bits::is_clear))]
+fn is_clear(sets: &[FixedBitSet], set: usize) -> Result<Reply, Refusal>
+    ensures { AnswersAlways sets.now (action.is_clear set) result sets.now }
+{
+    Ok(Reply::Bool(set_at(sets, set)?.is_clear()))
+}
+
+#[tactic(auto, unfolding(fixedbitset::specs::Bits::is_full))]
+fn is_full(sets: &[FixedBitSet], set: usize) -> Result<Reply, Refusal>
+    ensures { AnswersAlways sets.now (action.is_full set) result sets.now }
+{
+    Ok(Reply::Bool(set_at(sets, set)?.is_full()))
+}
+
+fn minimum(sets: &[FixedBitSet], set: usize) -> Result<Reply, Refusal>
+    ensures { AnswersAlways sets.now (action.minimum set) result sets.now }
+{
+    Ok(Reply::Position(set_at(sets, set)?.minimum()))
+}
+
+fn maximum(sets: &[FixedBitSet], set: usize) -> Result<Reply, Refusal>
+    ensures { AnswersAlways sets.now (action.maximum set) result sets.now }
+{
+    Ok(Reply::Position(set_at(sets, set)?.maximum()))
+}
+
+fn as_slice(alloc: Global, sets: &[FixedBitSet], set: usize) -> Result<Reply, Refusal>
+    ensures { AnswersAlways sets.now (action.as_slice set) result sets.now }
+{
+    let mut words = Vec::new(alloc);
+    words.extend_from_slice(set_at(sets, set)?.as_slice())?;
+    Ok(Reply::Words(words))
+}
+
+fn contains(sets: &[FixedBitSet], set: usize, bit: usize) -> Result<Reply, Refusal>
+    ensures { AnswersAlways sets.now (action.contains set bit) result sets.now }
+{
+    Ok(Reply::Bool(set_at(sets, set)?.contains(bit)))
+}
+
+fn index(sets: &[FixedBitSet], set: usize, bit: usize) -> Result<Reply, Refusal>
+    ensures { AnswersAlways sets.now (action.index set bit) result sets.now }
+{
+    Ok(Reply::Bool(set_at(sets, set)?[bit]))
+}
+
+fn text(alloc: Global, sets: &[FixedBitSet], set: usize) -> Result<Reply, Refusal>
+    ensures { AnswersAlways sets.now (action.text set) result sets.now }
+{
+    Ok(Reply::Text(set_at(sets, set)?.to_string(alloc)?))
+}
+
+fn to_value(alloc: Global, sets: &[FixedBitSet], set: usize) -> Result<Reply, Refusal>
+    ensures { AnswersAlways sets.now (action.to_value set) result sets.now }
+{
+    Ok(Reply::Value(set_at(sets, set)?.to_value(alloc)?))
 }

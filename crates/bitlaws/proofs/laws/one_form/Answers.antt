@@ -3,9 +3,10 @@ use Rattle.std.specs.Prelude.{Result}
 use Rattle.std.specs.List.{list_all}
 use Rattle.std.proofs.lemmas.Bool.Decides.{nat_tests}
 use Rattle.serde_json.specs.Data.{Data, Items, number, array, no_items, item, unsigned}
+use Rattle.serde_json.specs.Find.{get_item}
 use Rattle.serde_json.specs.View.{items_of}
 use Rattle.bitjson.specs.Form.{form, parts, bytes, bytes_from, byte, whole, numbers, or_fault, ◌>>=◌}
-use Rattle.bitlaws.specs.InForm.{HasParts, InForm, HasFault, IsFirstNoByte, IsByteAt}
+use Rattle.bitlaws.specs.InForm.{HasParts, InForm, HasFault, IsFirstNoByte}
 use Rattle.bitlaws.specs.JsonLaws.{ReadsForm}
 use Rattle.bitjson.specs.declared.fault.JsonFault.{JsonFault}
 use Rattle.bitjson.specs.declared.fault.JsonFault.TheVariants as fault
@@ -34,6 +35,10 @@ items_ok i ds bs = grind arith
 items_late : (i : ℕ) (ds : Items) (f : JsonFault) → bytes_from i ds ≡ Err f → (k : ℕ) × (f ≡ fault.Item k) × (i ≤ k)
 items_late i no_items f = grind arith
 items_late i (item e ds) f = let later = items_late (i + 1) ds in grind (arith, later)
+
+-- item j is a byte
+abbrev IsByteAt : Items → ℕ → Type 0
+IsByteAt ds j = (b : ℕ) × (b < 256) × (get_item j ds ≡ Some (number (unsigned b)))
 
 -- and that it is the first that is no byte
 before : (e : Data) (ds : Items) (k b : ℕ) → byte e ≡ Some b → ((j : ℕ) → j < k → IsByteAt ds j)

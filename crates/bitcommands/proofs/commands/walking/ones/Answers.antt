@@ -1,0 +1,6 @@
+use Rattle.std.proofs.Common.{arith}
+use Rattle.std.proofs.lemmas.Grind.{common_steps}
+use Rattle.bitcommands.proofs.commands.walking.ones.Goals as goal
+
+pub returns : goal.returns
+returns c = λ m. grind (arith, common_steps)
