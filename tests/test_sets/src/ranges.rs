@@ -334,12 +334,15 @@ fn every_range_of_six_lengths(rt: HostRuntime) -> Result<(), Fail> {
     Ok(())
 }
 
-// The calls on the range that has its last position too are those on the range up to the next position.
+// The calls on the range that has its last position too are those on the range up to the next position. The changes are made
+// in the last two sets.
 fn assert_alike(
     rt: &impl Abort,
     set: &FixedBitSet,
     start: usize,
     last: usize,
+    one: &mut FixedBitSet,
+    other: &mut FixedBitSet,
 ) -> Result<(), AllocError> {
     let end = last + 1;
     assert_eq!(rt; set.count_ones(start..=last), set.count_ones(start..end));
@@ -362,11 +365,12 @@ fn assert_alike(
         Change::Set(true),
         Change::Set(false),
     ] {
-        let (mut one, mut other) = (set.clone()?, set.clone()?);
-        change_range(rt, &mut one, start..=last, change);
-        change_range(rt, &mut other, start..end, change);
+        one.clone_from(set)?;
+        other.clone_from(set)?;
+        change_range(rt, one, start..=last, change);
+        change_range(rt, other, start..end, change);
         assert!(rt;
-            one == other,
+            *one == *other,
             "{change:?} of {start}..={last} of {}",
             set.len()
         );
@@ -378,9 +382,10 @@ fn assert_alike(
 fn every_inclusive_range_of_every_length_to_130(rt: HostRuntime) -> Result<(), Fail> {
     for bits in 0..131 {
         let set = filled(rt.alloc(), &chosen(rt.alloc(), bits)?)?;
+        let (mut one, mut other) = (set.clone()?, set.clone()?);
         for last in 0..bits {
             for start in 0..last + 2 {
-                assert_alike(&rt, &set, start, last)?;
+                assert_alike(&rt, &set, start, last, &mut one, &mut other)?;
             }
         }
     }
