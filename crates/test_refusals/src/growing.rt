@@ -29,7 +29,7 @@ pub enum Growing {
     CountedUnionWithDifference,
 }
 
-pub const CALLS: [(&str, Growing); 17] = [
+pub const CALLS: &[(&str, Growing); 17] = &[
     ("grow", Growing::Grow),
     ("grow_and_insert", Growing::GrowAndInsert),
     ("extend", Growing::Extend),
@@ -108,7 +108,6 @@ fn appended(set: &mut FixedBitSet, long: &FixedBitSet) -> Result<(), AllocError>
 fn joined(set: &mut FixedBitSet, starts: &Starts, call: Growing) -> Result<(), AllocError> {
     let (short, long) = (&starts.short, &starts.long);
     match call {
-        Growing::Grow | Growing::Extend => Ok(()),
         Growing::GrowAndInsert => set.grow_and_insert(LONG),
         Growing::CloneFrom => set.clone_from(long),
         Growing::UnionWith => set.union_with(long),
@@ -119,6 +118,17 @@ fn joined(set: &mut FixedBitSet, starts: &Starts, call: Growing) -> Result<(), A
         Growing::UnionWithDifference => set.union_with_difference(long, short).map(|_| ()),
         Growing::Append => appended(set, long),
         Growing::Resize => set.resize(LONG, false),
+        _ => joined_counted(set, short, long, call),
+    }
+}
+
+fn joined_counted(
+    set: &mut FixedBitSet,
+    short: &FixedBitSet,
+    long: &FixedBitSet,
+    call: Growing,
+) -> Result<(), AllocError> {
+    match call {
         Growing::CountedCloneFrom => counted::clone_from(set, long, &mut Steps::new()),
         Growing::CountedUnionWith => counted::union_with(set, long, &mut Steps::new()),
         Growing::CountedSymmetricDifferenceWith => {
@@ -130,6 +140,7 @@ fn joined(set: &mut FixedBitSet, starts: &Starts, call: Growing) -> Result<(), A
         Growing::CountedUnionWithDifference => {
             counted::union_with_difference(set, long, short, &mut Steps::new()).map(|_| ())
         }
+        _ => Ok(()),
     }
 }
 

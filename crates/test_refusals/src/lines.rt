@@ -3,14 +3,14 @@
 
 use crate::outcome::Fault;
 use crate::starts::{LONG, Starts};
-use bitcommands::commands::apply;
+use bitcommands::commands::{Command, apply};
 use bitlines::lines::{LineFault, parse_line};
 use bitlines::program::{RunFault, status};
-use std::alloc::Global;
+use std::alloc::{AllocError, Global};
 
 /// At least one line of each command that is never refused memory, with its reply, and lines that are no commands. The
 /// last lines are of commands that may be refused it, where the set has words enough.
-pub const REPLIES: [(&str, &str); 61] = [
+pub const REPLIES: &[(&str, &str); 61] = &[
     ("len 0", "10"),
     ("is_empty 0", "false"),
     ("is_clear 0", "false"),
@@ -78,7 +78,7 @@ pub const REPLIES: [(&str, &str); 61] = [
 ];
 
 /// Lines that are no commands; the list of the second would take memory.
-pub const NO_COMMANDS: [&str; 4] = ["", "len", "len 0 0", "Extend 0 1"];
+pub const NO_COMMANDS: &[&str; 4] = &["", "len", "len 0 0", "Extend 0 1"];
 
 /// Whether each line gets its reply. The exit status takes no memory either.
 pub fn are_answered(alloc: Global, starts: &mut Starts) -> Result<bool, Fault> {
@@ -87,20 +87,46 @@ pub fn are_answered(alloc: Global, starts: &mut Starts) -> Result<bool, Fault> {
             return Ok(false);
         }
     }
+    Ok(are_no_commands(alloc) && are_statuses())
+}
+
+fn are_no_commands(alloc: Global) -> bool {
     for line in NO_COMMANDS {
-        if !matches!(
-            parse_line(alloc, line.as_bytes()),
-            Err(LineFault::NotACommand)
-        ) {
-            return Ok(false);
+        if !is_no_command(alloc, line) {
+            return false;
         }
     }
-    Ok(status(&Ok(())) == 0 && status(&Err(RunFault::Memory)) == 3)
+    true
+}
+
+fn are_statuses() -> bool {
+    status(&Ok(())) == 0 && status(&Err(RunFault::Memory)) == 3
+}
+
+fn is_no_command(alloc: Global, line: &str) -> bool {
+    matches!(
+        parse_line(alloc, line.as_bytes()),
+        Err(LineFault::NotACommand)
+    )
 }
 
 fn is_answered(alloc: Global, starts: &mut Starts, line: &str, reply: &str) -> Result<bool, Fault> {
     let command = parse_line(alloc, line.as_bytes())?;
+    gets_reply(alloc, starts, &command, reply)
+}
+
+fn gets_reply(
+    alloc: Global,
+    starts: &mut Starts,
+    command: &Command,
+    reply: &str,
+) -> Result<bool, Fault> {
     starts.output.clear();
-    apply(alloc, starts.sets.as_mut_slice(), &command, LONG).push_text(&mut starts.output)?;
+    write_reply(alloc, starts, command)?;
     Ok(starts.output.as_slice() == reply.as_bytes())
+}
+
+fn write_reply(alloc: Global, starts: &mut Starts, command: &Command) -> Result<(), AllocError> {
+    let reply = apply(alloc, starts.sets.as_mut_slice(), command, LONG);
+    reply.push_text(&mut starts.output)
 }

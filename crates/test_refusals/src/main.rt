@@ -25,8 +25,7 @@ use std::io::Read;
 use std::process::ExitCode;
 
 fn main(rt: HostRuntime) -> ExitCode {
-    let mut letters = [0];
-    let forgets = matches!(rt.stdin().read(&mut letters), Ok(1));
+    let forgets = has_input(&rt);
     let Ok(mut starts) = Starts::new(rt.alloc()) else {
         return ExitCode::from(3);
     };
@@ -34,6 +33,11 @@ fn main(rt: HostRuntime) -> ExitCode {
         Ok(true) => ExitCode::from(0),
         _ => ExitCode::from(1),
     }
+}
+
+fn has_input(rt: &HostRuntime) -> bool {
+    let mut letters = [0];
+    matches!(rt.stdin().read(&mut letters), Ok(1))
 }
 
 // Makes all calls, and answers whether each of them did right.
@@ -57,30 +61,77 @@ fn make_refusable(
     forgets: bool,
 ) -> io::Result<Tally> {
     let mut tally = Tally::new();
+    count_growing(rt, starts, forgets, &mut tally)?;
+    count_making(rt, starts, &mut tally)?;
+    count_lines(rt, &mut tally)?;
+    count_problems(rt, starts, &mut tally)?;
+    Ok(tally)
+}
+
+fn count_growing(
+    rt: &impl Print,
+    starts: &mut Starts,
+    forgets: bool,
+    tally: &mut Tally,
+) -> io::Result<()> {
     for (name, call) in growing::CALLS {
-        tally.count(rt, name, growing::grown(starts, call, forgets))?;
+        tally.count(rt, name, growing::grown(starts, *call, forgets))?;
     }
+    Ok(())
+}
+
+fn count_making(
+    rt: &(impl Print + AllocGlobal),
+    starts: &mut Starts,
+    tally: &mut Tally,
+) -> io::Result<()> {
     for (name, call) in making::CALLS {
-        tally.count(rt, name, making::made(rt.alloc(), starts, call))?;
+        tally.count(rt, name, making::made(rt.alloc(), starts, *call))?;
     }
+    Ok(())
+}
+
+fn count_lines(rt: &(impl Print + AllocGlobal), tally: &mut Tally) -> io::Result<()> {
     for line in making::LINES {
         tally.count(rt, line, making::line_read(rt.alloc(), line))?;
     }
+    Ok(())
+}
+
+fn count_problems(
+    rt: &(impl Print + AllocGlobal),
+    starts: &Starts,
+    tally: &mut Tally,
+) -> io::Result<()> {
     for ((name, problem), nodes) in solving::PROBLEMS.iter().zip(starts.nodes.iter()) {
         tally.count(rt, name, solving::solved(rt.alloc(), nodes, problem))?;
     }
-    Ok(tally)
+    Ok(())
 }
 
 fn make_plain(rt: &(impl Print + AllocGlobal), starts: &mut Starts) -> io::Result<Tally> {
     let mut tally = Tally::new();
-    for (name, group) in plain::GROUPS {
-        tally.count(rt, name, plain::holds(rt.alloc(), starts, group))?;
-    }
-    for (name, walk) in walking::WALKS {
-        tally.count(rt, name, walking::gives(starts, walk))?;
-    }
+    count_groups(rt, starts, &mut tally)?;
+    count_walks(rt, starts, &mut tally)?;
     tally.count(rt, "words", Ok(words::hold()))?;
     tally.count(rt, "lines", lines::are_answered(rt.alloc(), starts))?;
     Ok(tally)
+}
+
+fn count_groups(
+    rt: &(impl Print + AllocGlobal),
+    starts: &mut Starts,
+    tally: &mut Tally,
+) -> io::Result<()> {
+    for (name, group) in plain::GROUPS {
+        tally.count(rt, name, plain::holds(rt.alloc(), starts, *group))?;
+    }
+    Ok(())
+}
+
+fn count_walks(rt: &impl Print, starts: &mut Starts, tally: &mut Tally) -> io::Result<()> {
+    for (name, walk) in walking::WALKS {
+        tally.count(rt, name, walking::gives(starts, *walk))?;
+    }
+    Ok(())
 }

@@ -6,7 +6,7 @@ use crate::outcome::Fault;
 use crate::starts::{LONG, Starts, is_long, is_short, is_value};
 use fixedbitset::{ExtendFault, FixedBitSet, IndexRange, JsonFault, Steps, counted};
 use serde_json::Value;
-use std::alloc::Global;
+use std::alloc::{AllocError, Global};
 use std::cmp::Ordering;
 use std::hash::{DefaultHasher, Hash, Hasher};
 
@@ -29,7 +29,7 @@ pub enum Group {
     Json,
 }
 
-pub const GROUPS: [(&str, Group); 15] = [
+pub const GROUPS: &[(&str, Group); 15] = &[
     ("looks", Group::Looks),
     ("positions", Group::Positions),
     ("unchecked", Group::Unchecked),
@@ -74,32 +74,53 @@ fn values(json: &Value) -> bool {
 }
 
 fn looks(alloc: Global, starts: &mut Starts) -> Result<bool, Fault> {
-    let (empty, default) = (FixedBitSet::new(alloc), FixedBitSet::default(alloc));
+    let are_empty = makes_empty(alloc);
     let mut set = starts.take_short()?;
-    let asked = set.len() == 10
+    let is_seen = sees(&set) && sees_nearest(&set) && sees_walks(&set);
+    let is_replaced = replaces(&mut set);
+    Ok(are_empty && is_seen && is_replaced)
+}
+
+fn makes_empty(alloc: Global) -> bool {
+    let (empty, default) = (FixedBitSet::new(alloc), FixedBitSet::default(alloc));
+    empty.is_empty() && default.is_full()
+}
+
+// Writes the first word of the set, and then clears it.
+fn replaces(set: &mut FixedBitSet) -> bool {
+    if set.as_slice().is_empty() {
+        return false;
+    }
+    set.set_block(0, 6);
+    let is_set = is_value(set, 10, &[1, 2]);
+    set.clear();
+    is_set && is_value(set, 10, &[])
+}
+
+fn sees(set: &FixedBitSet) -> bool {
+    set.len() == 10
         && !set.is_empty()
         && !set.is_clear()
         && !set.is_full()
         && set.minimum() == Some(3)
         && set.maximum() == Some(3)
-        && set.next_one(0) == Some(3)
+}
+
+fn sees_nearest(set: &FixedBitSet) -> bool {
+    set.next_one(0) == Some(3)
         && set.next_zero(3) == Some(4)
         && set.previous_one(10) == Some(3)
         && set.previous_zero(4) == Some(2)
+}
+
+fn sees_walks(set: &FixedBitSet) -> bool {
+    set.len() == 10
         && set.ones_in(3..).next() == Some(3)
         && set.zeroes_in(..4).next_back() == Some(2)
         && set.runs().next() == Some((3, 4))
         && set.zero_runs().next_back() == Some((4, 10))
         && set.first_gap(5, 0) == Some(4)
-        && set.as_slice() == [8].as_slice();
-    if set.as_slice().is_empty() {
-        return Ok(false);
-    }
-    set.set_block(0, 6);
-    let is_set = is_value(&set, 10, &[1, 2]);
-    set.clear();
-    let is_cleared = is_value(&set, 10, &[]);
-    Ok(empty.is_empty() && default.is_full() && asked && is_set && is_cleared)
+        && set.as_slice() == [8].as_slice()
 }
 
 // A call on one position. `CopyBit` copies what the position before it is.
@@ -113,7 +134,7 @@ enum Placing {
     CopyBit,
 }
 
-const PLACINGS: [(usize, Placing); 6] = [
+const PLACINGS: &[(usize, Placing); 6] = &[
     (4, Placing::Insert),
     (3, Placing::Remove),
     (5, Placing::Toggle),
@@ -156,7 +177,7 @@ fn place_unchecked(set: &mut FixedBitSet, position: usize, placing: Placing) -> 
 fn positions(starts: &mut Starts) -> Result<bool, Fault> {
     let mut set = starts.take_short()?;
     for (position, placing) in PLACINGS {
-        if !place(&mut set, position, placing) {
+        if !place(&mut set, *position, *placing) {
             return Ok(false);
         }
     }
@@ -166,7 +187,7 @@ fn positions(starts: &mut Starts) -> Result<bool, Fault> {
 fn unchecked(starts: &mut Starts) -> Result<bool, Fault> {
     let mut set = starts.take_short()?;
     for (position, placing) in PLACINGS {
-        if !place_unchecked(&mut set, position, placing) {
+        if !place_unchecked(&mut set, *position, *placing) {
             return Ok(false);
         }
     }
@@ -255,25 +276,31 @@ fn ranges_inclusive(starts: &mut Starts) -> Result<bool, Fault> {
     change(&mut set, 3..=3, Changing::Remove);
     change(&mut set, 8..=9, Changing::Set);
     change_counted(&mut set, 8..=8, Changing::Toggle);
-    Ok(is_value(&set, 10, &[0, 1, 4, 9]) && inclusive_asked(&set))
+    Ok(is_value(&set, 10, &[0, 1, 4, 9]) && inclusive_asked(&set) && inclusive_counted(&set))
 }
 
 fn inclusive_asked(set: &FixedBitSet) -> bool {
     if !set.range_is_valid(&(1..=4)) || set.range_is_valid(&(1..=10)) {
         return false;
     }
-    let steps = &mut Steps::new();
     set.count_ones(1..=4) == 2
         && set.count_zeroes(1..=4) == 2
         && !set.contains_all_in_range(1..=4)
         && set.contains_any_in_range(1..=4)
-        && counted::count_ones(set, 1..=4, steps) == 2
-        && counted::count_zeroes(set, 1..=4, steps) == 2
-        && !counted::contains_all_in_range(set, 1..=4, steps)
-        && counted::contains_any_in_range(set, 1..=4, steps)
         && IndexRange::start(&(1..=4)) == Some(1)
         && IndexRange::end(&(1..=4)) == Some(5)
         && IndexRange::end(&(..=4)) == Some(5)
+}
+
+fn inclusive_counted(set: &FixedBitSet) -> bool {
+    if !set.range_is_valid(&(1..=4)) {
+        return false;
+    }
+    let steps = &mut Steps::new();
+    counted::count_ones(set, 1..=4, steps) == 2
+        && counted::count_zeroes(set, 1..=4, steps) == 2
+        && !counted::contains_all_in_range(set, 1..=4, steps)
+        && counted::contains_any_in_range(set, 1..=4, steps)
 }
 
 // The calls on two sets that leave the length of the first.
@@ -292,22 +319,29 @@ fn lesser(starts: &mut Starts) -> Result<bool, Fault> {
 // The calls that move positions, and the one that cuts them off.
 fn shifts(starts: &mut Starts) -> Result<bool, Fault> {
     let mut set = starts.take_short()?;
+    let is_moved = moves(&mut set, &starts.short);
+    let is_cut = cuts(&mut set, &starts.short);
+    Ok(is_moved && is_cut)
+}
+
+fn moves(set: &mut FixedBitSet, short: &FixedBitSet) -> bool {
     set.shift_up(5);
-    let is_up = is_value(&set, 10, &[8]);
+    let is_up = is_value(set, 10, &[8]);
     set.shift_down(2);
-    let is_down = is_value(&set, 10, &[6]);
+    let is_down = is_value(set, 10, &[6]);
     set.union_with_own_shift(3);
-    set.union_with_shifted(&starts.short, 1);
-    let is_joined = is_value(&set, 10, &[4, 6, 9]);
+    set.union_with_shifted(short, 1);
+    is_up && is_down && is_value(set, 10, &[4, 6, 9])
+}
+
+fn cuts(set: &mut FixedBitSet, short: &FixedBitSet) -> bool {
     set.truncate(7);
-    let is_cut = is_value(&set, 7, &[4, 6]);
-    let is_copied = if set.len() == 7 && starts.short.len() == 10 {
-        set.copy_range(&starts.short, 2..5, 4);
-        is_value(&set, 7, &[5])
-    } else {
-        false
-    };
-    Ok(is_up && is_down && is_joined && is_cut && is_copied)
+    let is_cut = is_value(set, 7, &[4, 6]);
+    if set.len() != 7 || short.len() != 10 {
+        return false;
+    }
+    set.copy_range(short, 2..5, 4);
+    is_cut && is_value(set, 7, &[5])
 }
 
 fn counts(short: &FixedBitSet, long: &FixedBitSet) -> bool {
@@ -324,10 +358,25 @@ fn counts(short: &FixedBitSet, long: &FixedBitSet) -> bool {
 }
 
 fn counted_calls(starts: &mut Starts) -> Result<bool, Fault> {
-    let (mut set, mut wide) = (starts.take_short()?, starts.take_long()?);
-    let (short, long) = (&starts.short, &starts.long);
+    let mut set = starts.take_short()?;
+    let mut wide = starts.take_long()?;
+    makes_counted(&mut set, &mut wide, &starts.short, &starts.long)
+}
+
+// The set is a short one, and the wide one a long one.
+fn makes_counted(
+    set: &mut FixedBitSet,
+    wide: &mut FixedBitSet,
+    short: &FixedBitSet,
+    long: &FixedBitSet,
+) -> Result<bool, Fault> {
+    let is_counted = are_counted(short, long) && are_found(short, long);
+    Ok(changes_counted(set, wide, short, long)? && is_counted)
+}
+
+fn are_counted(short: &FixedBitSet, long: &FixedBitSet) -> bool {
     let steps = &mut Steps::new();
-    let is_counted = counted::union_count(short, long, steps) == 2
+    counted::union_count(short, long, steps) == 2
         && counted::intersection_count(short, long, steps) == 0
         && counted::difference_count(short, long, steps) == 1
         && counted::symmetric_difference_count(short, long, steps) == 2
@@ -336,29 +385,60 @@ fn counted_calls(starts: &mut Starts) -> Result<bool, Fault> {
         && counted::first_lacking(short, long, steps) == Some(LONG - 1)
         && !counted::is_equal(short, long, steps)
         && counted::cmp(short, long, steps) == short.cmp(long)
-        && !counted::is_full(short, steps)
+}
+
+fn are_found(short: &FixedBitSet, long: &FixedBitSet) -> bool {
+    let steps = &mut Steps::new();
+    !counted::is_full(short, steps)
         && !counted::is_clear(short, steps)
         && counted::minimum(short, steps) == short.minimum()
         && counted::maximum(long, steps) == long.maximum()
         && counted::next_one(short, 0, steps) == short.next_one(0)
         && counted::next_zero(short, 0, steps) == short.next_zero(0)
         && counted::previous_one(short, 10, steps) == short.previous_one(10)
-        && counted::previous_zero(short, 10, steps) == short.previous_zero(10);
-    counted::intersect_with(&mut set, short, steps);
-    counted::difference_with(&mut set, long, steps);
-    counted::union_with(&mut wide, short, steps)?;
-    let is_joined = is_value(&wide, LONG, &[3, LONG - 1]);
-    counted::symmetric_difference_with(&mut wide, short, steps)?;
-    let has_changed = counted::union_with_change(&mut wide, short, steps)?
-        && !counted::intersect_with_change(&mut set, short, steps)
-        && counted::difference_with_change(&mut wide, short, steps)
-        && counted::union_with_difference(&mut wide, short, long, steps)?
-        && counted::difference_with_change(&mut wide, short, steps);
-    let is_kept = is_short(&set) && is_long(&wide);
-    counted::clear(&mut set, steps);
-    counted::clone_from(&mut wide, short, steps)?;
-    let is_replaced = is_value(&set, 10, &[]) && is_short(&wide);
-    Ok(is_counted && is_joined && has_changed && is_kept && is_replaced)
+        && counted::previous_zero(short, 10, steps) == short.previous_zero(10)
+}
+
+fn changes_counted(
+    set: &mut FixedBitSet,
+    wide: &mut FixedBitSet,
+    short: &FixedBitSet,
+    long: &FixedBitSet,
+) -> Result<bool, AllocError> {
+    let steps = &mut Steps::new();
+    counted::intersect_with(set, short, steps);
+    counted::difference_with(set, long, steps);
+    let is_joined = joins_counted(wide, short)?;
+    let has_changed = tells_change_counted(set, wide, short, long)?;
+    let is_kept = is_short(set) && is_long(wide);
+    counted::clear(set, steps);
+    counted::clone_from(wide, short, steps)?;
+    let is_replaced = is_value(set, 10, &[]) && is_short(wide);
+    Ok(is_joined && has_changed && is_kept && is_replaced)
+}
+
+fn joins_counted(wide: &mut FixedBitSet, short: &FixedBitSet) -> Result<bool, AllocError> {
+    let steps = &mut Steps::new();
+    counted::union_with(wide, short, steps)?;
+    let is_joined = is_value(wide, LONG, &[3, LONG - 1]);
+    counted::symmetric_difference_with(wide, short, steps)?;
+    Ok(is_joined)
+}
+
+fn tells_change_counted(
+    set: &mut FixedBitSet,
+    wide: &mut FixedBitSet,
+    short: &FixedBitSet,
+    long: &FixedBitSet,
+) -> Result<bool, AllocError> {
+    let steps = &mut Steps::new();
+    Ok(
+        counted::union_with_change(wide, short, steps)?
+            && !counted::intersect_with_change(set, short, steps)
+            && counted::difference_with_change(wide, short, steps)
+            && counted::union_with_difference(wide, short, long, steps)?
+            && counted::difference_with_change(wide, short, steps),
+    )
 }
 
 fn hash_of(set: &FixedBitSet) -> u64 {
@@ -378,46 +458,66 @@ fn order(short: &FixedBitSet, long: &FixedBitSet) -> bool {
 
 // What needs no more words than the set has. An item that is no position stops `extend` without a request.
 fn growth_in_place(starts: &mut Starts) -> Result<bool, Fault> {
-    let mut set = starts.take_short()?;
+    let has_grown = grows_in_place(&mut starts.take_short()?)?;
+    let has_stopped = stops(&mut starts.take_short()?);
+    Ok(has_grown && has_stopped)
+}
+
+fn grows_in_place(set: &mut FixedBitSet) -> Result<bool, Fault> {
     set.grow(64)?;
     set.grow_and_insert(63)?;
     set.extend([5, 63, 6])?;
-    let has_grown = is_value(&set, 64, &[3, 5, 6, 63]);
-    let mut stopped = starts.take_short()?;
+    Ok(is_value(set, 64, &[3, 5, 6, 63]))
+}
+
+fn stops(set: &mut FixedBitSet) -> bool {
     let mut items = Asked {
         items: &[4, usize::MAX, LONG],
         count: 0,
     };
-    let fault = stopped.extend(&mut items);
+    let fault = set.extend(&mut items);
     let has_stopped = matches!(fault, Err(ExtendFault::Position)) && items.count == 2;
-    Ok(has_grown && has_stopped && is_value(&stopped, 10, &[3, 4]))
+    has_stopped && is_value(set, 10, &[3, 4])
 }
 
 // A long set joined with a short one.
 fn joins_in_place(starts: &mut Starts) -> Result<bool, Fault> {
     let mut set = starts.take_long()?;
-    let short = &starts.short;
-    set.union_with(short)?;
-    let is_joined = is_value(&set, LONG, &[3, LONG - 1]);
-    set.symmetric_difference_with(short)?;
-    let is_back = is_long(&set);
-    set.bitor_assign(short)?;
-    let is_joined_again = is_value(&set, LONG, &[3, LONG - 1]);
-    set.bitxor_assign(short)?;
-    let is_back_again = is_long(&set);
-    let has_changed = set.union_with_change(short)?
-        && set.difference_with_change(short)
-        && set.union_with_difference(short, &starts.long)?
-        && set.difference_with_change(short);
-    let is_back_at_last = is_long(&set) && !set.intersect_with_change(&starts.long);
+    joins(&mut set, &starts.short, &starts.long)
+}
+
+fn joins(set: &mut FixedBitSet, short: &FixedBitSet, long: &FixedBitSet) -> Result<bool, Fault> {
+    let is_joined = joins_by_methods(set, short)?;
+    let is_joined_again = joins_by_operators(set, short)?;
+    let has_changed = tells_change(set, short, long)?;
+    let is_back = is_long(set) && !set.intersect_with_change(long);
     set.clone_from(short)?;
+    Ok(is_joined && is_joined_again && has_changed && is_back && is_short(set))
+}
+
+fn joins_by_methods(set: &mut FixedBitSet, short: &FixedBitSet) -> Result<bool, AllocError> {
+    set.union_with(short)?;
+    let is_joined = is_value(set, LONG, &[3, LONG - 1]);
+    set.symmetric_difference_with(short)?;
+    Ok(is_joined && is_long(set))
+}
+
+fn joins_by_operators(set: &mut FixedBitSet, short: &FixedBitSet) -> Result<bool, AllocError> {
+    set.bitor_assign(short)?;
+    let is_joined = is_value(set, LONG, &[3, LONG - 1]);
+    set.bitxor_assign(short)?;
+    Ok(is_joined && is_long(set))
+}
+
+fn tells_change(
+    set: &mut FixedBitSet,
+    short: &FixedBitSet,
+    long: &FixedBitSet,
+) -> Result<bool, AllocError> {
     Ok(
-        is_joined
-            && is_back
-            && is_joined_again
-            && is_back_again
-            && has_changed
-            && is_back_at_last
-            && is_short(&set),
+        set.union_with_change(short)?
+            && set.difference_with_change(short)
+            && set.union_with_difference(short, long)?
+            && set.difference_with_change(short),
     )
 }

@@ -21,7 +21,7 @@ pub struct Problem {
 }
 
 /// Facts along a loop of two nodes; a loop with no fact; an edge from a node to itself, twice; no facts; and no nodes.
-pub const PROBLEMS: [(&str, Problem); 5] = [
+pub const PROBLEMS: &[(&str, Problem); 5] = &[
     (
         "solve of four nodes",
         Problem {

@@ -48,19 +48,20 @@ pub struct Starts {
 impl Starts {
     /// Makes all of them. Where memory is refused there are none.
     pub fn new(alloc: Global) -> Result<Starts, Fault> {
-        let json = Value::from_str(alloc, r#"{"length":10,"data":[8]}"#).map_err(
-            |_| Fault::Memory,
-        )?;
+        let json = short_json(alloc)?;
+        let (short_sets, long_sets) = sets_to_take(alloc)?;
+        let (short, long) = sets_to_keep(alloc)?;
+        let (sets, nodes, output) = places_to_use(alloc)?;
         Ok(Starts {
-            short_sets: short_sets(alloc, SHORT_SETS)?,
-            long_sets: long_sets(alloc, LONG_SETS)?,
-            short: short_set(alloc)?,
-            long: long_set(alloc)?,
-            sets: short_sets(alloc, 2)?,
-            nodes: all_nodes(alloc)?,
+            short_sets,
+            long_sets,
+            short,
+            long,
+            sets,
+            nodes,
             json,
             full: Vec::new(alloc),
-            output: Vec::with_capacity(alloc, ROOM)?,
+            output,
         })
     }
 
@@ -73,6 +74,27 @@ impl Starts {
     pub fn take_long(&mut self) -> Result<FixedBitSet, Fault> {
         self.long_sets.pop().ok_or(Fault::Other)
     }
+}
+
+fn short_json(alloc: Global) -> Result<Value, Fault> {
+    Value::from_str(alloc, r#"{"length":10,"data":[8]}"#).map_err(|_| Fault::Memory)
+}
+
+fn sets_to_take(alloc: Global) -> Result<(Vec<FixedBitSet>, Vec<FixedBitSet>), AllocError> {
+    let short_sets = short_sets(alloc, SHORT_SETS)?;
+    Ok((short_sets, long_sets(alloc, LONG_SETS)?))
+}
+
+fn sets_to_keep(alloc: Global) -> Result<(FixedBitSet, FixedBitSet), AllocError> {
+    let short = short_set(alloc)?;
+    Ok((short, long_set(alloc)?))
+}
+
+// The sets of commands, the nodes, and the output.
+fn places_to_use(alloc: Global) -> Result<(Vec<FixedBitSet>, Vec<Nodes>, Vec<u8>), AllocError> {
+    let sets = short_sets(alloc, 2)?;
+    let nodes = all_nodes(alloc)?;
+    Ok((sets, nodes, Vec::with_capacity(alloc, ROOM)?))
 }
 
 fn short_sets(alloc: Global, count: usize) -> Result<Vec<FixedBitSet>, AllocError> {
@@ -99,7 +121,7 @@ fn all_nodes(alloc: Global) -> Result<Vec<Nodes>, AllocError> {
     Ok(all)
 }
 
-fn nodes_of(alloc: Global, problem: Problem) -> Result<Nodes, AllocError> {
+fn nodes_of(alloc: Global, problem: &Problem) -> Result<Nodes, AllocError> {
     Ok(Nodes {
         gens: fact_sets(alloc, problem.facts, problem.gens)?,
         kills: fact_sets(alloc, problem.facts, problem.kills)?,
@@ -114,15 +136,23 @@ fn fact_sets(
 ) -> Result<Vec<FixedBitSet>, AllocError> {
     let mut sets = Vec::new(alloc);
     for facts in members {
-        let mut set = FixedBitSet::with_capacity(alloc, length)?;
-        for fact in *facts {
-            if *fact < set.len() {
-                set.insert(*fact);
-            }
-        }
-        sets.push(set)?;
+        sets.push(fact_set(alloc, length, facts)?)?;
     }
     Ok(sets)
+}
+
+fn fact_set(alloc: Global, length: usize, facts: &[usize]) -> Result<FixedBitSet, AllocError> {
+    let mut set = FixedBitSet::with_capacity(alloc, length)?;
+    for fact in facts {
+        insert_fact(&mut set, *fact);
+    }
+    Ok(set)
+}
+
+fn insert_fact(set: &mut FixedBitSet, fact: usize) {
+    if fact < set.len() {
+        set.insert(fact);
+    }
 }
 
 #[tactic(auto, using(fixedbitset::specs::BitsFacts::facts))]

@@ -2,7 +2,7 @@
 
 use crate::outcome::Fault;
 use crate::starts::{LONG, Starts};
-use fixedbitset::{IntoOnes, Ones};
+use fixedbitset::{FixedBitSet, IntoOnes, Ones};
 
 #[derive(Clone, Copy, PartialEq, Eq)]
 pub enum Walk {
@@ -16,7 +16,7 @@ pub enum Walk {
     LastBit,
 }
 
-pub const WALKS: [(&str, Walk); 8] = [
+pub const WALKS: &[(&str, Walk); 8] = &[
     ("ones", Walk::Ones),
     ("into_ones", Walk::IntoOnes),
     ("zeroes", Walk::Zeroes),
@@ -47,26 +47,35 @@ pub fn gives(starts: &mut Starts, walk: Walk) -> Result<bool, Fault> {
         return Ok(false);
     }
     set.insert(9);
-    let (short, long) = (&starts.short, &starts.long);
-    Ok(match walk {
+    if walk == Walk::IntoOnes {
+        return Ok(gives_two(set.into_ones(), 3, 9));
+    }
+    Ok(gives_lent(&set, &starts.short, &starts.long, walk))
+}
+
+// All walks but the one that takes its set.
+fn gives_lent(set: &FixedBitSet, short: &FixedBitSet, long: &FixedBitSet, walk: Walk) -> bool {
+    match walk {
         Walk::Ones => gives_two(set.ones(), 3, 9),
-        Walk::IntoOnes => gives_two(set.into_ones(), 3, 9),
-        Walk::Zeroes => {
-            let mut zeroes = short.zeroes();
-            zeroes.nth(3) == Some(4)
-                && zeroes.size_hint().1 >= Some(5)
-                && zeroes.next_back() == Some(9)
-        }
-        Walk::Intersection => gives_two(set.intersection(&set), 3, 9),
+        Walk::IntoOnes => false,
+        Walk::Zeroes => gives_zeroes(short),
+        Walk::Intersection => gives_two(set.intersection(set), 3, 9),
         Walk::Difference => gives_two(set.difference(long), 3, 9),
         Walk::Union => gives_two(short.union(long), 3, LONG - 1),
         Walk::SymmetricDifference => gives_two(long.symmetric_difference(short), LONG - 1, 3),
-        Walk::LastBit => {
-            let (mut word, mut other) = (12, 12);
-            Ones::last_positive_bit_and_unset(&mut word) == 2
-                && IntoOnes::last_positive_bit_and_unset(&mut other) == 2
-                && word == 8
-                && other == 8
-        }
-    })
+        Walk::LastBit => gives_last_bit(),
+    }
+}
+
+fn gives_zeroes(set: &FixedBitSet) -> bool {
+    let mut zeroes = set.zeroes();
+    zeroes.nth(3) == Some(4) && zeroes.size_hint().1 >= Some(5) && zeroes.next_back() == Some(9)
+}
+
+fn gives_last_bit() -> bool {
+    let (mut word, mut other) = (12, 12);
+    Ones::last_positive_bit_and_unset(&mut word) == 2
+        && IntoOnes::last_positive_bit_and_unset(&mut other) == 2
+        && word == 8
+        && other == 8
 }
