@@ -52,16 +52,16 @@ made_of k c true r old new test v may s = stepped k c r old new test _ old may (
 made_of k c false r old new test v may s = stepped k c r old new test _ _ may (changed k old _ v refl) (λ f is. cc) s
 
 -- `extend` keeps the items before the one that memory was refused for
-taken_in : (k : ℕ) (r : Answer) (old new : Sets) (test : Option Refusal) (answer : Answer) (v : Bits) (Taken : Bits → Type 0)
-    → Stepped test answer r (slice_set old k v) old new ((w : Bits) × Taken w × (new ≡ slice_set old k w)) → LeavesOthers k old new
-taken_in k r old new (Some f) answer v Taken s = unchanged k old new s.1
-taken_in k r old new None answer v Taken (inl s) = changed k old new v s.1
-taken_in k r old new None answer v Taken (inr s) = changed k old new s.1.0 s.1.2
+taken_in : (k : ℕ) (r : Answer) (old new : Sets) (test : Option Refusal) (answer : Answer) (v : Bits) (Kept : Type 0)
+    → (Kept → (w : Bits) × (new ≡ slice_set old k w)) → Stepped test answer r (slice_set old k v) old new Kept → LeavesOthers k old new
+taken_in k r old new (Some f) answer v Kept left s = unchanged k old new s.1
+taken_in k r old new None answer v Kept left (inl s) = changed k old new v s.1
+taken_in k r old new None answer v Kept left (inr s) = let w = left s.1 in changed k old new w.0 w.1
 
 -- ---- the rows
 
 pub of_row : (m : ℕ) (c : Action) (r : Answer) (old new : Sets) → Step m old c r new → Keeps (target c) c r old new
 of_row m (action.from_iter a b) r old new s = made_of a _ (has_greatest b) r old new _ _ _ s
-of_row m (action.extend a b) r old new s = (taken_in a r old new _ _ _ _ s, λ f is other. absurd (other a b refl))
+of_row m (action.extend a b) r old new s = (taken_in a r old new _ _ _ _ (λ kept. (_, kept.5)) s, λ f is other. absurd (other a b refl))
 of_row m c r old new s =
     stepped (target c) c r old new _ _ _ _ (search (length-set, get_or-set_other)) (λ f is. cc) s
