@@ -335,7 +335,7 @@ fn every_range_of_six_lengths(rt: HostRuntime) -> Result<(), Fail> {
 }
 
 // The calls on the range that has its last position too are those on the range up to the next position. The changes are made
-// in the last two sets.
+// in the last two sets, one upon the other: each but the second is seen where the range has a position.
 fn assert_alike(
     rt: &impl Abort,
     set: &FixedBitSet,
@@ -358,15 +358,16 @@ fn assert_alike(
         set.contains_any_in_range(start..=last),
         set.contains_any_in_range(start..end)
     );
+    one.clone_from(set)?;
+    other.clone_from(set)?;
     for change in [
-        Change::Insert,
-        Change::Remove,
         Change::Toggle,
         Change::Set(true),
+        Change::Remove,
+        Change::Insert,
         Change::Set(false),
+        Change::Set(true),
     ] {
-        one.clone_from(set)?;
-        other.clone_from(set)?;
         change_range(rt, one, start..=last, change);
         change_range(rt, other, start..end, change);
         assert!(rt;
