@@ -1,4 +1,4 @@
-use Rattle.std.proofs.Common.{rules, ◌≡◌, ℕ, ◌+◌, ◌*◌, ◌<◌, arith, get_or}
+use Rattle.std.proofs.Common.{rules, ◌≡◌, ℕ, ◌+◌, ◌*◌, ◌/◌, ◌%◌, ◌<◌, arith, get_or}
 use Rattle.bitlanes.specs.Shifts.{window}
 use Rattle.bitlanes.proofs.Moved.{joined_behind, lane_joined, word_joined}
 use Rattle.bitlanes.proofs.shifts.join_down.Goals as goal
@@ -18,7 +18,9 @@ pub loop-at-preserved : goal.loop-at-preserved
 unfolding window
 loop-at-preserved g c =
     let moved : ℕ → ℕ = λ k. window c.args.src.now (c.args.from + 64 * k) in
-    let word : c.window_word.result ≡ moved c.loop-at.at = grind (arith, c.window_word.ensures) in
+    let quotient : (c.args.from + 64 * c.loop-at.at) / 64 ≡ c.args.from / 64 + c.loop-at.at = omega arith in
+    let rest : (c.args.from + 64 * c.loop-at.at) % 64 ≡ c.args.from % 64 = omega arith in
+    let word : c.window_word.result ≡ moved c.loop-at.at = rw (quotient, rest) c.window_word.ensures in
     record {
       are = joined_behind (omega arith) (omega arith) c.loop-at.invariant.are (word_joined c.loop-at.at _ c.word.result c.window_word.result (omega arith) (omega arith) word c.word.ensures);
       cost = search rules;

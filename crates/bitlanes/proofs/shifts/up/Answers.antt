@@ -1,4 +1,5 @@
 use Rattle.std.proofs.Common.{◌≡◌, ℕ, ◌+◌, ◌-◌, ◌*◌, ◌<◌, arith, get_or, List, length}
+use Rattle.std.proofs.lemmas.Grind.{common_steps}
 use Rattle.bitlanes.specs.Shifts.{window}
 use Rattle.bitlanes.proofs.Moved.{joined_before, lane_joined, word_joined}
 use Rattle.bitlanes.proofs.shifts.up.Goals as goal
@@ -32,3 +33,6 @@ loop-at-preserved g c =
       are = joined_before (omega arith) (omega arith) are (word_joined at _ c.word.result c.window_word.result (omega arith) (omega arith) word c.word.ensures);
       order = omega arith;
     }
+
+pub returns-then-shift-gt0-clause-first : goal.returns-then-shift-gt0-clause-first
+returns-then-shift-gt0-clause-first g c = grind (arith, common_steps)

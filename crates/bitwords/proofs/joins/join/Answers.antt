@@ -1,4 +1,4 @@
-use Rattle.std.proofs.Common.{◌∙◌, ap, rules, length, replicate, arith, length-take, length-drop}
+use Rattle.std.proofs.Common.{◌∙◌, ap, rules, length, replicate, arith, length-take, length-drop, ℕ}
 use Rattle.bitwords.proofs.Cleared.{IsJoined-kept, IsJoined-zeroed}
 use Rattle.bitwords.proofs.Written.{length-kept}
 use Rattle.bitwords.proofs.joins.join.Goals as goal
@@ -13,3 +13,10 @@ pub returns-else-not-KEEP-clause-bits : goal.returns-else-not-KEEP-clause-bits
 returns-else-not-KEEP-clause-bits g c =
     rw c.apply.ensures.words
     (IsJoined-kept g.met.O.WordOp.laws c.args.words.now c.args.other.now (λ k. search rules) (λ k. search rules) (rw (c.apply.ensures.words, c.KEEP.ensures) at c.else-not-KEEP.either))
+
+pub returns-then-common-words-clause-cost : goal.returns-then-common-words-clause-cost
+returns-then-common-words-clause-cost g c =
+    rw (← c.KEEP.ensures, c.if-not-KEEP.true) (omega (arith, length-take {A = ℕ}, length-drop {A = ℕ}))
+
+pub returns-else-not-KEEP-clause-cost : goal.returns-else-not-KEEP-clause-cost
+returns-else-not-KEEP-clause-cost g c = grind arith

@@ -1,4 +1,4 @@
-use Rattle.std.proofs.Common.{◌∙◌, ◌≡◌, ◌≤◌, ap, rules, length, drop, replicate, ⊎_elim, inl, inr, arith}
+use Rattle.std.proofs.Common.{◌∙◌, ◌≡◌, ◌≤◌, ap, rules, length, drop, replicate, ⊎_elim, inl, inr, arith, ℕ, length-take, length-drop}
 use Rattle.std.proofs.lemmas.Bool.{cases_Bool}
 use Rattle.bitwords.proofs.Cleared.{IsJoined-kept, IsJoined-zeroed}
 use Rattle.bitwords.proofs.Written.{over_all, placed_all, placed_rest, placed_zeros, length-placed, length-kept, slice_rest}
@@ -31,3 +31,9 @@ returns-else-common-words-clause-bits g c =
     rw (c.apply_joined.ensures.words, placed_all g.O.WordOp.joined c.args.to.now xs ys c.requires.long (omega (arith, c.if-common-words.false)))
     (IsJoined-kept g.met.O.WordOp.laws xs ys (λ k. search rules) (λ k. search rules)
     (⊎_elim (λ e. inr e) (λ e. inl (e, omega (arith, length-kept g.O.WordOp.joined xs ys))) (cases_Bool g.O.WordOp.KEEP)))
+
+pub returns-then-KEEP-clause-cost : goal.returns-then-KEEP-clause-cost
+returns-then-KEEP-clause-cost g c = omega (arith, length-take {A = ℕ}, length-drop {A = ℕ})
+
+pub returns-else-KEEP-clause-cost : goal.returns-else-KEEP-clause-cost
+returns-else-KEEP-clause-cost g c = omega (arith, length-take {A = ℕ}, length-drop {A = ℕ})

@@ -1,4 +1,4 @@
-use Rattle.std.proofs.Common.{◌∙◌, true, ap, sym, rules, length, replicate, arith, if◌then◌else◌, length-take, length-drop}
+use Rattle.std.proofs.Common.{◌∙◌, true, ap, sym, rules, length, replicate, arith, if◌then◌else◌, length-take, length-drop, ℕ}
 use Rattle.bitwords.proofs.TwoRows.{changed-zeroed, changed-kept}
 use Rattle.bitwords.proofs.Cleared.{IsJoined-kept, IsJoined-zeroed}
 use Rattle.bitwords.proofs.Written.{length-kept}
@@ -30,3 +30,7 @@ pub returns-clause-changed : goal.returns-clause-changed
 returns-clause-changed g c =
     c.apply-joined.ensures.changed
     ∙ changed-kept g.met.O.WordOp.laws c.args.words.now c.args.other.now (λ k. search rules) (λ k. search rules) c.requires.shorter (rw (c.apply-joined.ensures.words, c.KEEP.ensures) at c.else-not-KEEP.either)
+
+pub returns-then-common-words-clause-cost : goal.returns-then-common-words-clause-cost
+returns-then-common-words-clause-cost g c =
+    rw (← c.KEEP.ensures, c.if-not-KEEP.true) (omega (arith, length-take {A = ℕ}, length-drop {A = ℕ}))

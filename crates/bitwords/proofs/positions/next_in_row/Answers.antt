@@ -1,4 +1,5 @@
-use Rattle.std.proofs.Common.{rules}
+use Rattle.std.proofs.Common.{rules, arith, ◌-◌, ◌^◌}
+use Rattle.std.proofs.lemmas.List.{length-map}
 use Rattle.bitwords.proofs.Neighbouring.{own_next, later_next, none_later}
 use Rattle.bitwords.proofs.positions.next_in_row.Goals as goal
 
@@ -17,3 +18,32 @@ pub returns-clause-found : goal.returns-clause-found
 returns-clause-found g c =
     later_next g.met.O.WordOp.laws c.requires.drops c.args.words.now (λ k. search rules) c.args.from c.stretch.result c.word-word.result c.stretch.type_inv c.stretch.ensures c.word-word.ensures
     c.if-word-ne0.false c.in_ok-at.at c.word.result c.word.ensures c.lowest_bit-2.result c.in_ok-at.ensures.found c.lowest_bit-2.ensures
+
+pub returns-in_err-at-clause-whole : goal.returns-in_err-at-clause-whole
+returns-in_err-at-clause-whole g c = omega (arith, c.in_err-at.ensures.whole)
+
+pub returns-clause-cost : goal.returns-clause-cost
+returns-clause-cost g c = omega (arith, c.in_ok-at.ensures.cost, c.in_ok-at.ensures.found.after, c.lowest_bit-2.ensures.within)
+
+pub returns-clause-whole : goal.returns-clause-whole
+returns-clause-whole g c =
+    omega (arith, c.in_ok-at.ensures.cost, c.in_ok-at.ensures.found.within, length-map c.args.words.now (g.O.WordOp.joined (2 ^ 64 - 1)))
+
+pub overflow_mul-result-2 : goal.overflow_mul-result-2
+overflow_mul-result-2 g c =
+    omega (arith, c.in_ok-at.ensures.found.within, length-map c.args.words.now (g.O.WordOp.joined (2 ^ 64 - 1)))
+
+pub overflow_add-result-2 : goal.overflow_add-result-2
+overflow_add-result-2 g c =
+    let long = length-map c.args.words.now (g.O.WordOp.joined (2 ^ 64 - 1)) in
+    omega (arith, c.in_ok-at.ensures.found.within, long, c.lowest_bit-2.ensures.within)
+
+pub bounds-words-at-2 : goal.bounds-words-at-2
+bounds-words-at-2 g c =
+    omega (arith, c.in_ok-at.ensures.found.within, length-map c.args.words.now (g.O.WordOp.joined (2 ^ 64 - 1)))
+
+pub returns-then-word-ne0-clause-cost : goal.returns-then-word-ne0-clause-cost
+returns-then-word-ne0-clause-cost g c = omega (arith, c.lowest_bit.ensures.within)
+
+pub returns-then-word-ne0-clause-whole : goal.returns-then-word-ne0-clause-whole
+returns-then-word-ne0-clause-whole g c = omega arith

@@ -22,3 +22,11 @@ returns-clause-found g c =
     rw all
     (earlier_previous g.met.O.WordOp.laws c.requires.drops c.args.words.now (λ k. search rules) c.in_ok-last.last c.stretch.result c.word-word.result c.stretch.type_inv c.stretch.ensures c.word-word.ensures
     (omega (arith, all, c.requires.within)) c.if-word-ne0.false c.in_ok-at.at c.word.result c.word.ensures c.highest_bit-2.result c.in_ok-at.ensures.found c.highest_bit-2.ensures)
+
+pub returns-clause-cost : goal.returns-clause-cost
+returns-clause-cost g c =
+    let all : c.args.below ≡ c.in_ok-last.last + 1 = search rules in
+    omega (arith, all, c.in_ok-at.ensures.cost, c.highest_bit-2.ensures.within)
+
+pub returns-clause-whole : goal.returns-clause-whole
+returns-clause-whole g c = omega (arith, c.in_ok-at.ensures.cost)

@@ -13,3 +13,6 @@ returns-clause-bits c =
     let middle = IsCopied-between ws (from + (low - start)) start c.args.end low high _ _ cut c.copy_whole.ensures.bits in
     let upto = IsCopied-append ws from start low high _ _ _ cut.first cut.middle c.copy_part.ensures.bits middle in
     IsCopied-append ws from start high c.args.end _ _ _ (omega (arith, cut.first, cut.middle)) cut.last upto c.copy_part-2.ensures.bits
+
+pub returns-clause-cost : goal.returns-clause-cost
+returns-clause-cost c = grind arith

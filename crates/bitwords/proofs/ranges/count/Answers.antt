@@ -18,3 +18,6 @@ pub returns-clause-count : goal.returns-clause-count
 returns-clause-count g c =
     let bits : ℕ → Bool = bit_test (g.O.WordOp.truth true) c.args.words.now in
     omega (arith, c.count_part-first.ensures.count, count-between _ _ _ _ c.cut-low.ensures bits c.count_whole-middle.result c.count_whole-middle.ensures.count, c.count_part-last.ensures.count)
+
+pub returns-clause-cost : goal.returns-clause-cost
+returns-clause-cost g c = grind arith

@@ -14,3 +14,6 @@ returns-clause-bits c =
     IsJoined_down laws_of_second old old (λ k. search rules) (λ k. search rules) _ (length-cut_row row c.zero.new.dst kept inside are ∙ omega arith) c.args.by
     (λ k within some. get_or-cut_row_below row c.zero.new.dst kept inside are k (omega arith) ∙ c.down.ensures.words k some)
     (λ k within past. inr (refl, get_or-cut_row_from row c.zero.new.dst kept inside are k (omega arith) (omega arith)))
+
+pub returns-clause-cost : goal.returns-clause-cost
+returns-clause-cost c = omega (arith, length-take {A = ℕ}, length-drop {A = ℕ})

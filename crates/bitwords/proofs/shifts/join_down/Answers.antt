@@ -20,3 +20,7 @@ returns-else-not-KEEP-clause-bits g c =
     (λ all. let few : length c.join_down.new.dst ≤ c.saturating_sub-common.result = all.1 in absurd (omega arith))
     (λ (kept : c.KEEP.result ≡ true). inl ((cc), c.join_down.ensures.rest k past))
     c.else-not-KEEP.either)
+
+pub returns-then-common-words-clause-cost : goal.returns-then-common-words-clause-cost
+returns-then-common-words-clause-cost g c =
+    rw (← c.KEEP.ensures, c.if-not-KEEP.true) (omega (arith, length-take {A = ℕ}, length-drop {A = ℕ}))

@@ -20,3 +20,7 @@ returns-then-not-KEEP-clause-bits g c =
 pub returns-else-not-KEEP-clause-bits : goal.returns-else-not-KEEP-clause-bits
 returns-else-not-KEEP-clause-bits g c =
     IsJoined_moved_up g.met.O.WordOp.laws c.args.words.now (λ k. search rules) _ (omega arith) c.args.by c.up.ensures.words c.up.ensures.first (λ k _ below. inl ((cc), c.up.ensures.rest k below))
+
+pub returns-then-not-KEEP-clause-cost : goal.returns-then-not-KEEP-clause-cost
+returns-then-not-KEEP-clause-cost g c =
+    rw (← c.KEEP.ensures, c.if-not-KEEP.true) (omega (arith, length-take {A = ℕ}, length-drop {A = ℕ}))

@@ -50,3 +50,8 @@ returns-in-None-clause-steps g c =
 
 pub returns-in-None-clause-goes : goal.returns-in-None-clause-goes
 returns-in-None-clause-goes g c = progress_first (λ walk. walk.items) _ (Some _) _ (returns-in-None-clause-steps g c).0
+
+pub invariant_of-self-in-None : goal.invariant_of-self-in-None
+invariant_of-self-in-None g c =
+    let before = c.loop-self.invariant.spaced in
+    record { apart = λ some. omega (arith, some, ap length c.in-None.ensures.1); order = omega arith; fits = before.fits }

@@ -1,6 +1,8 @@
 use Rattle.std.proofs.Common.{◌≡◌, ℕ, ◌≤◌, false, arith}
+use Rattle.std.proofs.lemmas.Grind.{common_steps}
 use Rattle.bitwords.specs.Steps.{join_steps, both_steps}
 use Rattle.fixedbitset.specs.Bits.{storage_words}
+use Rattle.fixedbitset.proofs.JoinedValues.{bitand_longer, bitand_shorter}
 use Rattle.fixedbitset.proofs.Words.{viewed_length}
 use Rattle.fixedbitset.proofs.counted.copies.bitand.Goals as goal
 
@@ -15,3 +17,9 @@ pub returns-else-set-other-clause-whole : goal.returns-else-set-other-clause-who
 returns-else-set-other-clause-whole c =
     let shorter : c.args.other.now.length ≤ c.args.set.now.length = omega (arith, c.if-set-other.false, viewed_length _ _ _ c.set.view_is, viewed_length _ _ _ c.other.view_is) in
     rw (← join_whole c.args.other.now.length c.args.set.now.length shorter) c.joined_copy-else-set-other.ensures.whole
+
+pub returns-else-set-other-clause-value : goal.returns-else-set-other-clause-value
+returns-else-set-other-clause-value c = grind (arith, bitand_shorter, bitand_longer, viewed_length)
+
+pub returns-then-set-other-clause-whole : goal.returns-then-set-other-clause-whole
+returns-then-set-other-clause-whole c = grind (arith, common_steps, viewed_length)

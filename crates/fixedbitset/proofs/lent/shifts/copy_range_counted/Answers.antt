@@ -6,3 +6,6 @@ returns-clause-value c = (keeps_copied _ _ _ _ _ c.requires.lent c.requires.lent
 
 pub returns-clause-clean : goal.returns-clause-clean
 returns-clause-clean c = (keeps_copied _ _ _ _ _ c.requires.lent c.requires.lent_other _ _ _ c.requires.room c.copy.ensures.bits).clean
+
+pub returns-clause-cost : goal.returns-clause-cost
+returns-clause-cost c = c.copy.ensures.cost

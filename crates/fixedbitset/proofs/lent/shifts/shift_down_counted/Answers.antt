@@ -6,3 +6,6 @@ returns-clause-value c = (keeps_down _ _ c.requires _ _ c.down.ensures.bits).val
 
 pub returns-clause-clean : goal.returns-clause-clean
 returns-clause-clean c = (keeps_down _ _ c.requires _ _ c.down.ensures.bits).clean
+
+pub returns-clause-cost : goal.returns-clause-cost
+returns-clause-cost c = cc (c.down.ensures.cost, c.requires.count)

@@ -9,3 +9,6 @@ returns-clause-value c =
 
 pub returns-clause-clean : goal.returns-clause-clean
 returns-clause-clean c = (keeps_moved (c.args.end - c.args.start) (omega (arith, c.ranges.end.fits)) _ _ _ _ _ c.requires.count c.join_down.ensures.bits c.clear_from.ensures).clean
+
+pub returns-clause-cost : goal.returns-clause-cost
+returns-clause-cost c = cc (c.join_down.ensures.cost, c.requires.count, c.requires.lent.count)

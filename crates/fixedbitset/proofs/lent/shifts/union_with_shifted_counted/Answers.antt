@@ -8,3 +8,6 @@ returns-clause-value c = (keeps_moved _ c.ranges.length.fits _ _ _ _ _ c.require
 
 pub returns-clause-clean : goal.returns-clause-clean
 returns-clause-clean c = (keeps_moved _ c.ranges.length.fits _ _ _ _ _ c.requires.lent.count c.join_up.ensures.bits c.clear_from.ensures).clean
+
+pub returns-clause-cost : goal.returns-clause-cost
+returns-clause-cost c = cc (c.join_up.ensures.cost, c.requires.lent.count, c.requires.lent_other.count)

@@ -12,3 +12,9 @@ pub returns-clause-cost : goal.returns-clause-cost
 returns-clause-cost c =
     let needed = c.len-2.ensures ∙ c.source.inside.words.ok.0 ∙ viewed_count _ _ _ c.source.view_is c.source.invariant in
     rw (← needed) c.tick_lanes.ensures
+
+pub invariant_of-self-2 : goal.invariant_of-self-2
+invariant_of-self-2 c = grind arith
+
+pub returns-clause-ok : goal.returns-clause-ok
+returns-clause-ok c = grind arith

@@ -8,3 +8,9 @@ loop-item-preserved g c = record {
   added = grind (arith, add_all-last);
   positions = All-push (λ item. item < 2 ^ 64 - 1) _ _ c.loop-item.invariant.positions (search rules);
 }
+
+pub returns-in_err-add_item : goal.returns-in_err-add_item
+returns-in_err-add_item g c = grind arith
+
+pub returns : goal.returns
+returns g c = grind arith
