@@ -25,7 +25,11 @@ loop-row-preserved c =
       | then-get w ↦
           let value : new ≡ with_row t r (union (row_of t r) (row_of t k)) = ap (table_in c.args.rows c.args.columns) w.words-is ∙ w.union_rows.ensures.value in
           let bits = passed_joined edge k r t before.bits new within (sym c.get.ensures ∙ w.if-get.true) value in
-          search (rules, arith, bits, joins_more edge k r true (known ∙ w.if-get.true), w.union_rows.ensures.lent, w.words-is)
+          record {
+            lent = rw w.words-is w.union_rows.ensures.lent;
+            bits = bits;
+            joins = omega (arith, before.joins, joins_more edge k r true (known ∙ w.if-get.true));
+          }
       | else-get w ↦
           let bits = passed_kept edge k r t before.bits new (sym c.get.ensures ∙ w.if-get.false) (ap (table_in c.args.rows c.args.columns) w.words-is) in
           search (rules, arith, bits, joins_more edge k r false (known ∙ w.if-get.false), w.words-is)

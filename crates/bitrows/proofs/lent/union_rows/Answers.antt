@@ -1,3 +1,4 @@
+use Rattle.std.proofs.Common.{refl}
 use Rattle.fixedbitset.specs.Bits.{empty}
 use Rattle.bitrows.specs.Tables.{row_of}
 use Rattle.bitrows.specs.Stored.{table_in}
@@ -16,21 +17,20 @@ join_rows-requires-clause-rows c = rw c.width-wide.ensures c.requires.lent
 pub returns-clause-value : goal.returns-clause-value
 returns-clause-value c =
     let done = rw c.width-wide.ensures at c.join_rows.ensures in
-    cc (
+    rw (
       done.words,
-      done.value,
       table_of-put _ _ _ c.args.words.now c.args.into done.row c.requires.lent c.requires.into done.clean,
+      done.value,
       get_or-table c.args.columns _ c.args.rows c.args.words.now c.args.into (empty 0) c.requires.into,
       get_or-table c.args.columns _ c.args.rows c.args.words.now c.args.from (empty 0) c.requires.from,
-    )
+    ) refl
 
 pub returns-clause-changed : goal.returns-clause-changed
 returns-clause-changed c =
-    cc (
-      (rw c.width-wide.ensures at c.join_rows.ensures).told,
+    rw (
       get_or-table c.args.columns _ c.args.rows c.args.words.now c.args.into (empty 0) c.requires.into,
       get_or-table c.args.columns _ c.args.rows c.args.words.now c.args.from (empty 0) c.requires.from,
-    )
+    ) (rw c.width-wide.ensures at c.join_rows.ensures).told
 
 pub returns-clause-lent : goal.returns-clause-lent
 returns-clause-lent c =

@@ -9,4 +9,4 @@ get-requires c = record {
 }
 
 pub returns : goal.returns
-returns c = cc (c.get.ensures, c.deref.ensures.value, c.self.view_is)
+returns c = rw (← c.self.view_is, ← c.deref.ensures.value) c.get.ensures

@@ -17,4 +17,4 @@ pub invariant_of-self : goal.invariant_of-self
 invariant_of-self c = rw (back c) c.set.ensures.lent
 
 pub returns : goal.returns
-returns c = cc (back c, c.set.ensures.value, c.deref_mut.ensures.value, c.self.view_is)
+returns c = rw (back c, ← c.self.view_is, ← c.deref_mut.ensures.value) c.set.ensures.value

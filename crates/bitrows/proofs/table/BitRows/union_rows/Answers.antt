@@ -17,7 +17,7 @@ pub invariant_of-self : goal.invariant_of-self
 invariant_of-self c = rw (back c) c.union_rows.ensures.lent
 
 pub returns-clause-value : goal.returns-clause-value
-returns-clause-value c = cc (back c, c.union_rows.ensures.value, c.deref_mut.ensures.value, c.self.view_is)
+returns-clause-value c = rw (back c, ← c.self.view_is, ← c.deref_mut.ensures.value) c.union_rows.ensures.value
 
 pub returns-clause-changed : goal.returns-clause-changed
-returns-clause-changed c = cc (c.union_rows.ensures.changed, c.deref_mut.ensures.value, c.self.view_is)
+returns-clause-changed c = rw (← c.self.view_is, ← c.deref_mut.ensures.value) c.union_rows.ensures.changed
