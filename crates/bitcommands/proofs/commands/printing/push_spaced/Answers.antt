@@ -9,3 +9,12 @@ returns-clause-ok g c = rw (c.in-Some.ensures.cases.0, spaced_text-cons, c.loop-
 
 pub loop-part-preserved : goal.loop-part-preserved
 loop-part-preserved g c = grind (arith, common_steps)
+
+pub returns-in_err-push_to-clause-err : goal.returns-in_err-push_to-clause-err
+returns-in_err-push_to-clause-err g c = grind (arith, common_steps)
+
+pub returns-in_err-push-clause-err : goal.returns-in_err-push-clause-err
+returns-in_err-push-clause-err g c = grind (arith, common_steps)
+
+pub returns-in_err-push_to-2-clause-err : goal.returns-in_err-push_to-2-clause-err
+returns-in_err-push_to-2-clause-err g c = grind (arith, common_steps)
