@@ -34,6 +34,7 @@ typedef struct Stored {
 
 /* As many blocks as fit behind a header of one byte, and how many words a lane can have behind its first. */
 #define SHORT_WORDS 15
+#define SHORT_LENGTH (SHORT_WORDS * 64)
 #define LANE_REST 3
 
 StaticAssertDecl(VARHDRSZ_SHORT + sizeof(uint32) + SHORT_WORDS * WORD_SIZE <= VARATT_SHORT_MAX,

@@ -9,34 +9,33 @@ PG_MODULE_MAGIC;
 
 /* How many words a set is stored with: the blocks that it needs where these are few, and else all. */
 static size_t stored_words(const bits *set) {
-    size_t blocks = bits_blocks(set->length);
-    return blocks <= SHORT_WORDS ? blocks : set->count;
+    return set->length <= SHORT_LENGTH ? bits_blocks(set->length) : set->count;
 }
 
 /* The set of a datum. Its words are those of the datum itself, or a copy, which done_reading frees. What the library asks of
- * a set is looked at here, so that no damaged value gets past. */
+ * a set is looked at here: that its words are as many as its length needs, and have no position past it. So no damaged value
+ * gets past. Each row of a query is read so: a long set costs one call of the library, and a short one two more. */
 const bits *read_set(Reading *reading, Datum datum) {
-    struct varlena *given = (struct varlena *)DatumGetPointer(datum);
-    struct varlena *flat = pg_detoast_datum_packed(given);
-    size_t size = VARSIZE_ANY_EXHDR(flat), stored;
+    struct varlena *flat = PG_DETOAST_DATUM_PACKED(datum);
+    size_t size = VARSIZE_ANY_EXHDR(flat), stored = size / WORD_SIZE;
     char *data = VARDATA_ANY(flat);
     bits *set = &reading->set;
-    uint32 length = 0;
-    if (size >= sizeof(length))
-        memcpy(&length, data, sizeof(length));
-    *set = BITS_OF((uint64_t *)(data + sizeof(length)), length);
-    stored = stored_words(set);
+    uint32 length;
+    bool fits;
     if (size != sizeof(length) + stored * WORD_SIZE)
-        REFUSE(DATA_CORRUPTED, "bitset of length %u has %zu bytes", length, size);
+        REFUSE(DATA_CORRUPTED, "bitset of %zu bytes", size);
+    memcpy(&length, data, sizeof(length));
+    fits = length > SHORT_LENGTH || stored == bits_blocks(length);
 
-    reading->copy = flat == given ? NULL : flat;
-    if (stored <= SHORT_WORDS) {
-        set->words = memcpy(reading->room, set->words, stored * WORD_SIZE);
+    reading->copy = PointerGetDatum(flat) == datum ? NULL : flat;
+    *set = (bits){(uint64_t *)(data + sizeof(length)), stored, length};
+    if (fits && length <= SHORT_LENGTH) {
+        *set = BITS_OF(memcpy(reading->room, set->words, stored * WORD_SIZE), length);
         memset(reading->room + stored, 0, LANE_REST * WORD_SIZE);
     }
-    Assert(PointerIsAligned(set->words, uint64_t));
-    if (!IS_SET(set))
-        REFUSE(DATA_CORRUPTED, "bitset of length %u has a position past its length", length);
+    Assert(!fits || PointerIsAligned(set->words, uint64_t));
+    if (!fits || !IS_SET(set))
+        REFUSE(DATA_CORRUPTED, "bitset of length %u has %zu bytes, or a position past its length", length, size);
     return set;
 }
 
