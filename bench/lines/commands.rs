@@ -1,5 +1,6 @@
 //! The commands over sixteen sets.
 
+use crate::form;
 use crate::replies::{Reply, push_each};
 use crate::words::{Span, Words, split};
 use fixedbitset::FixedBitSet;
@@ -15,6 +16,7 @@ pub enum Fault {
     Range,
     Greatest,
     Limit,
+    Json,
     NotACommand,
 }
 
@@ -41,6 +43,7 @@ impl Machine {
                 Fault::Position => b"F2 position not below the length",
                 Fault::Range => b"F3 range not valid",
                 Fault::Greatest => b"F4 position too great",
+                Fault::Json => b"F5 not JSON",
                 Fault::Limit => b"F7 length above the limit",
                 Fault::NotACommand => b"F8 not a command",
             });
@@ -100,6 +103,7 @@ impl Machine {
         match name {
             b"from_iter" => self.from_iter(args),
             b"set_block" => self.set_block(args),
+            b"from_value" => self.from_value(args),
             b"is_subset" => self.ask_two(args, |a, b| a.is_subset(b)),
             b"clone_from" => self.join(args, |a, b| a.clone_from(b)),
             b"count_ones" => self.on_range(args, |set, range| set.count_ones(range)),
@@ -118,9 +122,9 @@ impl Machine {
 
     fn longest(&mut self, name: &[u8], args: Words<'_>) -> Outcome {
         match name {
-            b"with_capacity" => self.sized(args, |set, bits| {
-                *set = FixedBitSet::with_capacity(bits)
-            }),
+            b"with_capacity" => {
+                self.sized(args, |set, bits| *set = FixedBitSet::with_capacity(bits))
+            }
             b"intersect_with" => self.join(args, |a, b| a.intersect_with(b)),
             b"difference_with" => self.join(args, |a, b| a.difference_with(b)),
             b"grow_and_insert" => self.grow_and_insert(args),
@@ -268,6 +272,17 @@ impl Machine {
         let set = self.set(set)?;
         items.iter().try_for_each(|item| check_item(*item))?;
         *set = FixedBitSet::from_iter(items);
+        self.reply(())
+    }
+
+    /// It answers one fault for all texts that are not in the form, where `bits` says which.
+    fn from_value(&mut self, mut args: Words<'_>) -> Outcome {
+        let set = args.number()?;
+        let text = args.text()?;
+        let set = self.set(set)?;
+        let (length, data) = form::read(text).ok_or(Fault::Json)?;
+        check_limit(length)?;
+        *set = form::set_of(length, &data);
         self.reply(())
     }
 

@@ -3,6 +3,7 @@
 //! `run_lines` times, with the checks and the replies of `bits`.
 
 mod commands;
+mod form;
 mod replies;
 mod words;
 

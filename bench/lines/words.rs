@@ -73,6 +73,11 @@ impl<'a> Words<'a> {
         Ok(value)
     }
 
+    /// What stands behind the space.
+    pub fn text(self) -> Result<&'a [u8], Fault> {
+        self.rest.strip_prefix(b" ").ok_or(Fault::NotACommand)
+    }
+
     pub fn numbers(mut self) -> Result<Vec<usize>, Fault> {
         let mut list = Vec::new();
         while !self.rest.is_empty() {
