@@ -32,7 +32,7 @@ typedef struct Stored {
 #define MAX_LENGTH PG_UINT32_MAX
 #define WORD_SIZE sizeof(uint64_t)
 
-/* As many blocks as fit behind a header of one byte, and how many words a lane can have behind its first. */
+/* As many blocks as fit behind a header of one byte, their positions, and how many words a lane can have behind its first. */
 #define SHORT_WORDS 15
 #define SHORT_LENGTH (SHORT_WORDS * 64)
 #define LANE_REST 3

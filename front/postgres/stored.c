@@ -25,7 +25,7 @@ const bits *read_set(Reading *reading, Datum datum) {
     if (size != sizeof(length) + stored * WORD_SIZE)
         REFUSE(DATA_CORRUPTED, "bitset of %zu bytes", size);
     memcpy(&length, data, sizeof(length));
-    fits = length > SHORT_LENGTH || stored == bits_blocks(length);
+    fits = length > SHORT_LENGTH ? stored > SHORT_WORDS : stored == bits_blocks(length);
 
     reading->copy = PointerGetDatum(flat) == datum ? NULL : flat;
     *set = (bits){(uint64_t *)(data + sizeof(length)), stored, length};
