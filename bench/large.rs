@@ -27,8 +27,10 @@ fn least_time(side: impl Fn(usize) -> usize) -> f64 {
 }
 
 fn print_row(name: &str, ours: f64, upstream: Option<f64>) {
-    let upstream = upstream.map_or(String::new(), |time| format!("{time:.1}"));
-    println!("| `{name}` | {ours:.1} | {upstream} |");
+    match upstream {
+        Some(time) => println!("| `{name}` | {ours:.1}, {time:.1} | {:.2} |", ours / time),
+        None => println!("| `{name}` | {ours:.1} |  |"),
+    }
 }
 
 fn print_call(name: &str, ours: Rounds, upstream: Option<Rounds>) {
@@ -55,8 +57,8 @@ pub fn print() {
         "\nTwo sets of {BITS} bits: {} megabytes with the program.",
         peak()
     );
-    println!("\nCalls of sets of {BITS} bits, milliseconds:\n");
-    println!("| call | ours | upstream |\n|---|---|---|");
+    println!("\nMilliseconds of a call:\n");
+    println!("| call | {BITS} bits: ours, upstream | ratio |\n|---|---|---|");
     for (name, ours, upstream) in sets::large() {
         print_call(name, ours, upstream);
     }

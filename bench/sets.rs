@@ -12,10 +12,16 @@ use std::time::Instant;
 
 /// How many positions the sets have: as many as fill their words, and as many as do not.
 /// Each of the functions below asks for at least 128.
-const BITS: [usize; 4] = [1_000, 1_024, 1_000_000, 1_000_040];
+const BITS: [usize; 6] = [128, 1_000, 1_024, 1_040, 1_000_000, 1_000_040];
+
+/// How many they have where a call is made at each position in turn.
+const SINGLE_BITS: usize = 1_000;
+
+/// How many they have where two sets are counted once more.
+const COUNTED_BITS: usize = 30_000;
 
 /// How many batches of each call are timed, in turn with those of the others.
-const BATCHES: usize = 300;
+const BATCHES: usize = 200;
 
 /// About how many words a batch goes over, or how many single positions.
 const BATCH_WORDS: usize = 480_000;
@@ -86,7 +92,7 @@ calls! {
     union_count intersection_count difference_count symmetric_difference_count
     is_disjoint is_subset is_superset maximum eq cmp bitand bitor bitxor contains put grow
     insert_middle count_zeroes is_clear hash clone clone_from extend contains_in_loop remove
-    grow_and_insert set_block
+    grow_and_insert set_block from_iter
 }
 
 /// The words of a set of so many positions, with those from `start` up to and without `end`.
@@ -182,7 +188,7 @@ macro_rules! full {
     };
 }
 
-const WHOLE: [Call; 29] = [
+const WHOLE: [Call; 31] = [
     change!("insert_range(..)", insert_range, |bits, set, _| {
         loops::insert_range(set, 0, bits)
     }),
@@ -248,10 +254,12 @@ const WHOLE: [Call; 29] = [
     call!("hash", hash, One),
     call!("clone", clone, One),
     call!("clone_from", clone_from, One),
+    call!("extend, by ones", extend, EachOfHalf),
+    call!("from_iter, of ones", from_iter, EachOfHalf),
 ];
 
-/// Calls of one position or one word, which are timed at the first length alone.
-const SINGLE: [Call; 8] = [
+/// Calls of one position or one word.
+const SINGLE: [Call; 7] = [
     call!("contains", contains, EachPosition),
     call!(
         "contains, in the caller's loop",
@@ -262,7 +270,6 @@ const SINGLE: [Call; 8] = [
     call!("remove", remove, EachPosition),
     call!("grow_and_insert", grow_and_insert, EachPosition),
     call!("set_block", set_block, EachPosition),
-    call!("extend, by ones", extend, EachOfHalf),
     call!("grow by 64", grow, EachWord),
 ];
 
@@ -270,7 +277,7 @@ const SINGLE: [Call; 8] = [
 fn least_times(bits: usize, call: &Call) -> [f64; 3] {
     let calls = call.calls.of(bits);
     let words = bits.div_ceil(64);
-    let rounds = BATCH_WORDS / words.max(calls);
+    let rounds = (BATCH_WORDS / words.max(calls)).max(1);
     let sides = [Some(call.ours), call.upstream, call.loops];
     let mut least = sides.map(|side| {
         [if side.is_some() {
@@ -316,18 +323,24 @@ pub fn large() -> impl Iterator<Item = (&'static str, Rounds, Option<Rounds>)> {
         "union_with",
         "intersection_count",
         "is_subset",
+        "==, of equal sets",
+        "cmp, of equal sets",
         "bitor",
+        "clone",
+        "clone_from",
     ];
     let calls = WHOLE.iter().filter(move |call| names.contains(&call.name));
     calls.map(|call| (call.name, call.ours, call.upstream))
 }
 
 pub fn rows() -> Vec<Row> {
-    let single = SINGLE.iter().map(|call| row(BITS[0], call));
+    let single = SINGLE.iter().map(|call| row(SINGLE_BITS, call));
     let whole = BITS
         .iter()
         .flat_map(|&bits| WHOLE.iter().map(move |call| row(bits, call)));
-    single.chain(whole).collect()
+    let counts = WHOLE.iter().filter(|call| call.name.ends_with("_count"));
+    let counted = counts.map(|call| row(COUNTED_BITS, call));
+    single.chain(whole).chain(counted).collect()
 }
 
 /// Calls whose loops go over whole rows, at two lengths, for memory that begins elsewhere.

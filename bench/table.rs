@@ -82,7 +82,8 @@ fn print_ratios(subject: &str, rows: &[Row], side: &Side) {
         return;
     }
     println!("\n{subject}, our time / that of {}:\n", side.name);
-    let lengths = each(rows, |row| row.bits);
+    let mut lengths = each(rows, |row| row.bits);
+    lengths.sort_unstable();
     head("call", lengths.iter().map(|bits| format!("{bits} bits")));
     for call in each(rows, |row| row.call.clone()) {
         let of_call: Vec<_> = timed.iter().filter(|row| row.call == call).collect();

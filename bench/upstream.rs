@@ -178,6 +178,20 @@ pub fn grow(bits: usize, rounds: usize) -> usize {
     length
 }
 
+#[inline(never)]
+fn collected(set: &FixedBitSet) -> FixedBitSet {
+    set.ones().collect()
+}
+
+pub fn from_iter(bits: usize, rounds: usize) -> usize {
+    let set = filled(bits, 0, bits / 2);
+    let mut length = collected(&set).len();
+    for _ in 0..rounds {
+        length = collected(&set).len();
+    }
+    length
+}
+
 /// The walks over the positions of a set, each made for so many rounds.
 pub mod walks {
     use fixedbitset::FixedBitSet;
@@ -228,6 +242,16 @@ pub mod walks {
     });
     walk!(intersection, |total, set, other| {
         for bit in set.intersection(other) {
+            total = total.wrapping_add(bit);
+        }
+    });
+    walk!(difference, |total, set, other| {
+        for bit in set.difference(other) {
+            total = total.wrapping_add(bit);
+        }
+    });
+    walk!(symmetric_difference, |total, set, other| {
+        for bit in set.symmetric_difference(other) {
             total = total.wrapping_add(bit);
         }
     });

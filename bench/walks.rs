@@ -53,11 +53,13 @@ macro_rules! walks {
     };
 }
 
-const WALKS: [Walk; 5] = walks! {
+const WALKS: [Walk; 7] = walks! {
     "ones", ones, true;
     "ones, from the back", ones_back, true;
     "zeroes", zeroes, false;
     "intersection", intersection, true;
+    "difference", difference, true;
+    "symmetric_difference", symmetric_difference, true;
     "union", union, true;
 };
 

@@ -65,6 +65,7 @@ impl Machine {
             b"eq" => self.ask_two(args, |a, b| a == b),
             b"cmp" => self.ask_two(args, |a, b| a.cmp(b)),
             b"len" => self.on_set(args, |set| set.len()),
+            b"new" => self.on_set(args, |set| *set = FixedBitSet::new()),
             b"put" => self.on_position(args, FixedBitSet::put),
             b"set" => self.set_to(args),
             b"grow" => self.sized(args, |set, bits| set.grow(bits)),
@@ -73,6 +74,7 @@ impl Machine {
             b"bitor" => self.make_of_two(args, |a, b| a | b),
             b"clear" => self.on_set(args, |set| set.clear()),
             b"clone" => self.clone(args),
+            b"index" => self.contains(args),
             b"union" => self.walk_two(args, |a, b| a.union(b)),
             _ => Err(Fault::NotACommand),
         }
@@ -82,12 +84,14 @@ impl Machine {
         match name {
             b"bitand" => self.make_of_two(args, |a, b| a & b),
             b"bitxor" => self.make_of_two(args, |a, b| a ^ b),
+            b"default" => self.on_set(args, |set| *set = FixedBitSet::default()),
             b"extend" => self.extend(args),
             b"insert" => self.on_position(args, FixedBitSet::insert),
             b"remove" => self.on_position(args, FixedBitSet::remove),
             b"toggle" => self.on_position(args, FixedBitSet::toggle),
             b"zeroes" => self.walk_forward(args, |set| set.zeroes()),
             b"is_full" => self.on_set(args, |set| set.is_full()),
+            b"is_empty" => self.on_set(args, |set| set.is_empty()),
             b"maximum" => self.on_set(args, |set| set.maximum()),
             b"minimum" => self.on_set(args, |set| set.minimum()),
             b"as_slice" => self.as_slice(args),
@@ -102,7 +106,9 @@ impl Machine {
     fn long(&mut self, name: &[u8], args: Words<'_>) -> Outcome {
         match name {
             b"from_iter" => self.from_iter(args),
+            b"into_ones" => self.into_ones(args),
             b"set_block" => self.set_block(args),
+            b"set_range" => self.set_range(args),
             b"from_value" => self.from_value(args),
             b"is_subset" => self.ask_two(args, |a, b| a.is_subset(b)),
             b"clone_from" => self.join(args, |a, b| a.clone_from(b)),
@@ -110,6 +116,8 @@ impl Machine {
             b"difference" => self.walk_two(args, |a, b| a.difference(b)),
             b"union_with" => self.join(args, |a, b| a.union_with(b)),
             b"is_disjoint" => self.ask_two(args, |a, b| a.is_disjoint(b)),
+            b"is_superset" => self.ask_two(args, |a, b| a.is_superset(b)),
+            b"bitor_assign" => self.join(args, |a, b| *a |= b),
             b"union_count" => self.ask_two(args, |a, b| a.union_count(b)),
             b"count_zeroes" => self.on_range(args, |set, range| set.count_zeroes(range)),
             b"insert_range" => self.on_range(args, |set, range| set.insert_range(range)),
@@ -125,6 +133,9 @@ impl Machine {
             b"with_capacity" => {
                 self.sized(args, |set, bits| *set = FixedBitSet::with_capacity(bits))
             }
+            b"range_is_valid" => self.range_is_valid(args),
+            b"bitand_assign" => self.join(args, |a, b| *a &= b),
+            b"bitxor_assign" => self.join(args, |a, b| *a ^= b),
             b"intersect_with" => self.join(args, |a, b| a.intersect_with(b)),
             b"difference_with" => self.join(args, |a, b| a.difference_with(b)),
             b"grow_and_insert" => self.grow_and_insert(args),
@@ -137,6 +148,7 @@ impl Machine {
             b"contains_any_in_range" => {
                 self.on_range(args, |set, range| set.contains_any_in_range(range))
             }
+            b"with_capacity_and_blocks" => self.with_capacity_and_blocks(args),
             b"symmetric_difference_with" => self.join(args, |a, b| a.symmetric_difference_with(b)),
             b"symmetric_difference_count" => {
                 self.ask_two(args, |a, b| a.symmetric_difference_count(b))
@@ -210,6 +222,29 @@ impl Machine {
         let range = range_in(set, span)?;
         let reply = call(set, range);
         self.reply(reply)
+    }
+
+    fn set_range(&mut self, mut args: Words<'_>) -> Outcome {
+        let (set, span, value) = (args.number()?, args.range()?, args.flag()?);
+        args.end()?;
+        let set = self.set(set)?;
+        set.set_range(range_in(set, span)?, value);
+        self.reply(())
+    }
+
+    fn range_is_valid(&mut self, mut args: Words<'_>) -> Outcome {
+        let (set, span) = (args.number()?, args.range()?);
+        args.end()?;
+        let reply = range_in(self.set(set)?, span).is_ok();
+        self.reply(reply)
+    }
+
+    fn with_capacity_and_blocks(&mut self, mut args: Words<'_>) -> Outcome {
+        let (set, bits, words) = (args.number()?, args.number()?, args.numbers()?);
+        let set = self.set(set)?;
+        check_limit(bits)?;
+        *set = FixedBitSet::with_capacity_and_blocks(bits, words);
+        self.reply(())
     }
 
     fn contains(&mut self, mut args: Words<'_>) -> Outcome {
@@ -358,6 +393,14 @@ impl Machine {
         let (set, ends) = (args.number()?, args.ends()?);
         args.end()?;
         let mut walk = walk(self.sets.get(set).ok_or(Fault::NoSet)?);
+        push_each(items_of(&mut walk, ends), b' ', &mut self.output);
+        Ok(())
+    }
+
+    fn into_ones(&mut self, mut args: Words<'_>) -> Outcome {
+        let (set, ends) = (args.number()?, args.ends()?);
+        args.end()?;
+        let mut walk = std::mem::take(self.set(set)?).into_ones();
         push_each(items_of(&mut walk, ends), b' ', &mut self.output);
         Ok(())
     }

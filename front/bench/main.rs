@@ -10,10 +10,10 @@ use std::time::{Duration, Instant};
 use turns::turns;
 
 /// How often each side is timed, and for how long at least.
-const TURNS: usize = 81;
+const TURNS: usize = 61;
 const LEAST: Duration = Duration::from_micros(100);
 
-const LENGTHS: [usize; 3] = [100, 1_000, 1_000_000];
+const LENGTHS: [usize; 5] = [100, 1_000, 1_040, 1_000_000, 1_000_040];
 
 /// Something that is timed, and how many items one round of it has.
 pub struct Row {
@@ -64,15 +64,18 @@ type Times = [[f64; 2]; LENGTHS.len()];
 
 /// Times each row.
 fn timed() -> Vec<(&'static str, Times)> {
-    let sides = LENGTHS.map(|bits| (ours::rows::rows(bits), theirs::rows::rows(bits)));
-    let mut columns = sides.map(|(ours, theirs)| ours.into_iter().zip(theirs));
     let mut rows = Vec::new();
-    while let [Some(first), Some(second), Some(third)] = columns.each_mut().map(Iterator::next) {
-        let times = |(one, other): (Row, Row)| {
+    for (column, bits) in LENGTHS.into_iter().enumerate() {
+        let sides = ours::rows::rows(bits)
+            .into_iter()
+            .zip(theirs::rows::rows(bits));
+        for (index, (one, other)) in sides.enumerate() {
             assert_eq!(one.items, other.items);
-            least([one, other])
-        };
-        rows.push((first.0.name, [first, second, third].map(times)));
+            if column == 0 {
+                rows.push((one.name, [[f64::NAN; 2]; LENGTHS.len()]));
+            }
+            rows[index].1[column] = least([one, other]);
+        }
     }
     rows
 }

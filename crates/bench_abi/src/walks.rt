@@ -80,6 +80,21 @@ impl Walk for Intersection {
     }
 }
 
+/// `difference`, from the front.
+struct Difference;
+
+impl Walk for Difference {
+    ghost items = { λ v w. asc (difference v w) };
+
+    #[inline(never)]
+    fn add_to(mut total: usize, set: &FixedBitSet, other: &FixedBitSet) -> usize {
+        for bit in set.difference(other) {
+            total = total.wrapping_add(bit);
+        }
+        total
+    }
+}
+
 /// `union`, from the front.
 struct Union;
 
@@ -89,6 +104,21 @@ impl Walk for Union {
     #[inline(never)]
     fn add_to(mut total: usize, set: &FixedBitSet, other: &FixedBitSet) -> usize {
         for bit in set.union(other) {
+            total = total.wrapping_add(bit);
+        }
+        total
+    }
+}
+
+/// `symmetric_difference`, from the front.
+struct SymmetricDifference;
+
+impl Walk for SymmetricDifference {
+    ghost items = { λ v w. asc (difference v w) ++ asc (difference w v) };
+
+    #[inline(never)]
+    fn add_to(mut total: usize, set: &FixedBitSet, other: &FixedBitSet) -> usize {
+        for bit in set.symmetric_difference(other) {
             total = total.wrapping_add(bit);
         }
         total
@@ -175,12 +205,34 @@ pub extern "C" fn walks_intersection(alloc: Global, bits: usize, limit: u64, rou
     added::<Intersection>(alloc, bits, limit, rounds).unwrap_or(REFUSED)
 }
 
+/// The positions of one such set that the other lacks, added up in each round.
+#[unsafe(no_mangle)]
+pub extern "C" fn walks_difference(alloc: Global, bits: usize, limit: u64, rounds: usize) -> usize
+    ensures { result < 2 ^ 64 - 1 → result ≡ rounds * sum (asc (difference (scattered bits limit 1) (scattered bits limit 2))) % 2 ^ 64 }
+{
+    added::<Difference>(alloc, bits, limit, rounds).unwrap_or(REFUSED)
+}
+
 /// The positions of one such set and then those of the other that the first lacks, added up in each round.
 #[unsafe(no_mangle)]
 pub extern "C" fn walks_union(alloc: Global, bits: usize, limit: u64, rounds: usize) -> usize
     ensures { result < 2 ^ 64 - 1 → result ≡ rounds * sum (asc (scattered bits limit 1) ++ asc (difference (scattered bits limit 2) (scattered bits limit 1))) % 2 ^ 64 }
 {
     added::<Union>(alloc, bits, limit, rounds).unwrap_or(REFUSED)
+}
+
+/// The positions of one such set that the other lacks and then those of the other that the first lacks, added up in each
+/// round.
+#[unsafe(no_mangle)]
+pub extern "C" fn walks_symmetric_difference(
+    alloc: Global,
+    bits: usize,
+    limit: u64,
+    rounds: usize,
+) -> usize
+    ensures { result < 2 ^ 64 - 1 → result ≡ rounds * sum (asc (difference (scattered bits limit 1) (scattered bits limit 2)) ++ asc (difference (scattered bits limit 2) (scattered bits limit 1))) % 2 ^ 64 }
+{
+    added::<SymmetricDifference>(alloc, bits, limit, rounds).unwrap_or(REFUSED)
 }
 
 /// The positions not set, added up in each round, where those are set for which a number below `limit` is drawn.
