@@ -23,7 +23,7 @@ const fn of_nodes(facts: usize) -> Problem {
         facts,
         nodes: 10_000,
         rounds: 4,
-        runs: 10,
+        runs: 6,
     }
 }
 
