@@ -1,6 +1,5 @@
 pub mod Sets
 pub mod Given
-pub mod Passing
 pub mod Ranked
 pub mod Tables
 pub mod Turned

@@ -1,9 +1,9 @@
 -- What a contract sees of a walk that a caller keeps: the positions left.
-use Rattle.std.specs.Prelude.{ℕ, ◌≡◌, ◌-◌, min, Bool, true, false, not, if◌then◌else◌, Option, Some, None, List, ◌++◌, length, take, drop, reverse, map, filter}
+use Rattle.std.specs.Prelude.{ℕ, ◌≡◌, ◌-◌, min, Bool, if◌then◌else◌, Option, Some, None, List, ◌++◌, length, take, drop, reverse, map, bit_and}
 use Rattle.std.specs.Int.{bit_not, w64}
-use Rattle.bitwords.specs.Rows.{has_bit}
+use Rattle.bitlanes.specs.Bits.{bit_without}
 use Rattle.bitwords.specs.Runs.{stretches, is_like}
-use Rattle.bitwords.specs.WalkedWords.{held_items}
+use Rattle.bitwords.specs.WalkedWords.{beside, held_items}
 use Rattle.bits_c.specs.declared.structs.Ones.{Ones}
 use Rattle.bits_c.specs.declared.structs.Zeroes.{Zeroes}
 use Rattle.bits_c.specs.declared.structs.Runs.{Runs}
@@ -30,21 +30,17 @@ stretches_left walk = stretches (is_like walk.are_set walk.words.now) walk.end w
 abbrev pub given_run : Bool → ℕ → ℕ → Option (ℕ × ℕ)
 given_run found start end = if found then Some (start, end) else None
 
--- whether a position passes that the other set has or not
-abbrev pub passes : (shared has : Bool) → Bool
-passes shared has = if shared then has else not has
-
--- the positions left that pass
-abbrev pub sieved : Bool → Sieve → List ℕ
-sieved shared sieve = filter (λ p. passes shared (has_bit sieve.other.now p)) (ones_left sieve.walk)
+-- the positions of the words left, where those between the first and the last are joined by f with the other set's
+abbrev pub sieved : (ℕ → ℕ → ℕ) → Sieve → List ℕ
+sieved f sieve = held_items sieve.walk.front_at sieve.walk.front (beside f sieve.walk.words.now sieve.other.now) sieve.walk.back
 
 -- the positions left that the other set has
 abbrev pub shared_left : Sieve → List ℕ
-shared_left = sieved true
+shared_left = sieved bit_and
 
 -- the positions left that the other set lacks
 abbrev pub lacked_left : Sieve → List ℕ
-lacked_left = sieved false
+lacked_left = sieved bit_without
 
 -- the positions left of the first set, and then those of the second that the first lacks
 abbrev pub joined_left : Pair → List ℕ

@@ -3,17 +3,16 @@
 //! Such a call leaves the walk where as many calls for one position leave it, and both may be mixed. Places that it has
 //! no position for stay as they are.
 
-ghost use Rattle.std.specs.Prelude.{◌≡◌, ◌++◌, ℕ, List, filter, reverse};
+ghost use Rattle.std.specs.Prelude.{◌≡◌, ◌++◌, ℕ, List, reverse};
 ghost use Rattle.std.specs.Iterator.{YieldsFirst, YieldsLast};
-ghost use Rattle.bitwords.specs.Rows.{has_bit};
-ghost use Rattle.bits_c.specs.Walks.{TakesFirst, TakesLast, passes, sieved, ones_left, zeroes_left};
+ghost use Rattle.bits_c.specs.Walks.{TakesFirst, TakesLast, ones_left, zeroes_left};
 ghost use Rattle.bits_c.specs.Walks.{shared_left, lacked_left, joined_left, split_left};
 
-use crate::sieves::{first_passing, last_passing};
 use crate::structs::{Ones, Pair, Sieve, Zeroes};
 use bitlanes::Block;
+use bitlanes::ops::{And, AndNot};
 use bitlanes::word::take_lowest_bit;
-use bitwords::cursors::{Cursor, Middle, Plain};
+use bitwords::cursors::{Cursor, Middle};
 
 // What gives positions from both ends.
 trait Giver {
@@ -79,27 +78,6 @@ impl<'a> Giver for Zeroes<'a> {
         let item = cursor.next_back();
         *self = Zeroes::of(cursor);
         item
-    }
-}
-
-// The positions of a walk that other words have, or those that they lack.
-#[derive(Drop)]
-struct Passing<'a, const SHARED: bool> {
-    cursor: Cursor<Plain<'a>>,
-    other: &'a [Block],
-}
-
-impl<'a, const SHARED: bool> Giver for Passing<'a, SHARED> {
-    ghost left = { λ it. filter (λ p. passes SHARED (has_bit it.other.now p)) it.cursor.items };
-
-    #[inline(always)]
-    fn take_first(&mut self) -> Option<usize> {
-        first_passing(&mut self.cursor, self.other, SHARED)
-    }
-
-    #[inline(always)]
-    fn take_last(&mut self) -> Option<usize> {
-        last_passing(&mut self.cursor, self.other, SHARED)
     }
 }
 
@@ -174,30 +152,6 @@ fn fill_both_back<A: Giver + Drop, B: Giver + Drop>(
     (count, back.giver, front.giver)
 }
 
-impl<'a, const SHARED: bool> Passing<'a, SHARED> {
-    #[inline(always)]
-    fn of(sieve: &Sieve<'a>) -> Passing<'a, SHARED>
-        ensures { filter (λ p. passes SHARED (has_bit result.other.now p)) result.cursor.items
-            ≡ sieved SHARED sieve.now }
-    {
-        Passing {
-            cursor: sieve.walk.cursor(),
-            other: sieve.other,
-        }
-    }
-
-    #[inline(always)]
-    fn into_sieve(self) -> Sieve<'a>
-        ensures { sieved SHARED result
-            ≡ filter (λ p. passes SHARED (has_bit self.entry.other.now p)) self.entry.cursor.items }
-    {
-        Sieve {
-            walk: Ones::of(self.cursor),
-            other: self.other,
-        }
-    }
-}
-
 /// Writes the first positions left to `positions`, from its front on and in ascending order: as many as there is room
 /// for, or as are left. It answers how many.
 #[unsafe(no_mangle)]
@@ -250,9 +204,9 @@ pub extern "C" fn bits_zeroes_take_back(walk: &mut Zeroes<'_>, positions: &mut [
 pub extern "C" fn bits_intersection_take(walk: &mut Sieve<'_>, positions: &mut [usize]) -> usize
     ensures { TakesFirst shared_left walk.old positions.old result positions.new walk.new }
 {
-    let mut passing = Passing::<true>::of(walk);
-    let count = fill(&mut passing, positions);
-    *walk = passing.into_sieve();
+    let mut shared = walk.cursor::<And>();
+    let count = fill(&mut shared, positions);
+    *walk = Sieve::of(shared);
     count
 }
 
@@ -265,8 +219,8 @@ pub extern "C" fn bits_intersection_take_back(
 ) -> usize
     ensures { TakesLast shared_left walk.old positions.old result positions.new walk.new }
 {
-    let (count, passing) = fill_back(Passing::<true>::of(walk), positions);
-    *walk = passing.into_sieve();
+    let (count, shared) = fill_back(walk.cursor::<And>(), positions);
+    *walk = Sieve::of(shared);
     count
 }
 
@@ -276,9 +230,9 @@ pub extern "C" fn bits_intersection_take_back(
 pub extern "C" fn bits_difference_take(walk: &mut Sieve<'_>, positions: &mut [usize]) -> usize
     ensures { TakesFirst lacked_left walk.old positions.old result positions.new walk.new }
 {
-    let mut passing = Passing::<false>::of(walk);
-    let count = fill(&mut passing, positions);
-    *walk = passing.into_sieve();
+    let mut lacked = walk.cursor::<AndNot>();
+    let count = fill(&mut lacked, positions);
+    *walk = Sieve::of(lacked);
     count
 }
 
@@ -288,8 +242,8 @@ pub extern "C" fn bits_difference_take(walk: &mut Sieve<'_>, positions: &mut [us
 pub extern "C" fn bits_difference_take_back(walk: &mut Sieve<'_>, positions: &mut [usize]) -> usize
     ensures { TakesLast lacked_left walk.old positions.old result positions.new walk.new }
 {
-    let (count, passing) = fill_back(Passing::<false>::of(walk), positions);
-    *walk = passing.into_sieve();
+    let (count, lacked) = fill_back(walk.cursor::<AndNot>(), positions);
+    *walk = Sieve::of(lacked);
     count
 }
 
@@ -300,10 +254,10 @@ pub extern "C" fn bits_union_take(walk: &mut Pair<'_>, positions: &mut [usize]) 
     ensures { TakesFirst joined_left walk.old positions.old result positions.new walk.new }
 {
     let mut first = walk.first.walk.cursor();
-    let mut second = Passing::<false>::of(&walk.second);
+    let mut second = walk.second.cursor::<AndNot>();
     let count = fill_both(&mut first, &mut second, positions);
     walk.first.walk = Ones::of(first);
-    walk.second = second.into_sieve();
+    walk.second = Sieve::of(second);
     count
 }
 
@@ -314,10 +268,10 @@ pub extern "C" fn bits_union_take_back(walk: &mut Pair<'_>, positions: &mut [usi
     ensures { TakesLast joined_left walk.old positions.old result positions.new walk.new }
 {
     let first = walk.first.walk.cursor();
-    let second = Passing::<false>::of(&walk.second);
+    let second = walk.second.cursor::<AndNot>();
     let (count, first, second) = fill_both_back(first, second, positions);
     walk.first.walk = Ones::of(first);
-    walk.second = second.into_sieve();
+    walk.second = Sieve::of(second);
     count
 }
 
@@ -330,11 +284,11 @@ pub extern "C" fn bits_symmetric_difference_take(
 ) -> usize
     ensures { TakesFirst split_left walk.old positions.old result positions.new walk.new }
 {
-    let mut first = Passing::<false>::of(&walk.first);
-    let mut second = Passing::<false>::of(&walk.second);
+    let mut first = walk.first.cursor::<AndNot>();
+    let mut second = walk.second.cursor::<AndNot>();
     let count = fill_both(&mut first, &mut second, positions);
-    walk.first = first.into_sieve();
-    walk.second = second.into_sieve();
+    walk.first = Sieve::of(first);
+    walk.second = Sieve::of(second);
     count
 }
 
@@ -347,10 +301,10 @@ pub extern "C" fn bits_symmetric_difference_take_back(
 ) -> usize
     ensures { TakesLast split_left walk.old positions.old result positions.new walk.new }
 {
-    let first = Passing::<false>::of(&walk.first);
-    let second = Passing::<false>::of(&walk.second);
+    let first = walk.first.cursor::<AndNot>();
+    let second = walk.second.cursor::<AndNot>();
     let (count, first, second) = fill_both_back(first, second, positions);
-    walk.first = first.into_sieve();
-    walk.second = second.into_sieve();
+    walk.first = Sieve::of(first);
+    walk.second = Sieve::of(second);
     count
 }

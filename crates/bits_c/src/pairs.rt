@@ -1,30 +1,62 @@
 //! Walks over the positions of two sets in turn: from the front those of the first before those of the second, and from
 //! the back those of the second before those of the first. Their calls are those of `walks`.
 
-ghost use Rattle.std.specs.Prelude.{◌≡◌, ◌++◌, false};
+ghost use Rattle.std.specs.Prelude.{◌≡◌, ◌++◌, [], false};
 ghost use Rattle.std.specs.Iterator.{YieldsFirst, YieldsLast};
 ghost use Rattle.bits_c.specs.Sets.{value};
-ghost use Rattle.bits_c.specs.Walks.{given, joined_left, split_left};
+ghost use Rattle.bits_c.specs.Walks.{given, joined_left, lacked_left, split_left};
 ghost use Rattle.fixedbitset.specs.Bits as model;
 ghost use Rattle.fixedbitset.specs.TwoSets as sets;
 
-use crate::structs::{Pair, Set, Sieve};
+use crate::structs::{Ones, Pair, Set, Sieve};
 use crate::walks::hand_out;
+use bitlanes::ops::AndNot;
+use bitlanes::word::BITS;
+use fixedbitset::lent;
 
 impl<'a> Pair<'a> {
-    // The walks over the two sets, before the first call.
+    // The first position of the second walk. The other bits of its word become the first walk: so the next calls find them
+    // without a look at a walk that has none left.
     #[inline(always)]
-    fn over(set: &'a Set<'_>, other: &'a Set<'_>) -> Pair<'a>
-        ensures joined { joined_left result ≡ model.asc (value set.now)
-            ++ model.asc (sets.difference (value other.now) (value set.now)) }
-        ensures split { split_left result
-            ≡ model.asc (sets.difference (value set.now) (value other.now))
-            ++ model.asc (sets.difference (value other.now) (value set.now)) }
+    fn take_first_of_second(&mut self) -> Option<usize>
+        ensures joined { YieldsFirst (λ all. all)
+            (lacked_left self.old.second) result (joined_left self.new) }
+        ensures split { YieldsFirst (λ all. all)
+            (lacked_left self.old.second) result (split_left self.new) }
     {
-        Pair {
-            first: Sieve::over(set, other),
-            second: Sieve::over(other, set),
+        let item = self.second.take_first::<AndNot>();
+        let second = &mut self.second.walk;
+        self.first.walk = Ones {
+            front: second.front,
+            back: 0,
+            front_at: second.front_at,
+            back_at: second.front_at,
+            words: &[],
+        };
+        second.front = 0;
+        item
+    }
+
+    // The last word of the first walk becomes the second one, which has none left: so the next calls from the back find its
+    // bits without a look at that.
+    #[inline(always)]
+    fn bring_last_word(&mut self)
+        requires { lacked_left self.old.second ≡ [] }
+        ensures joined { joined_left self.new ≡ joined_left self.old }
+        ensures split { split_left self.new ≡ split_left self.old }
+    {
+        let first = &mut self.first.walk;
+        if first.back == 0 {
+            return;
         }
+        self.second.walk = Ones {
+            front: 0,
+            back: first.back,
+            front_at: first.back_at - BITS,
+            back_at: first.back_at,
+            words: &[],
+        };
+        first.back = 0;
     }
 }
 
@@ -35,7 +67,13 @@ pub extern "C" fn bits_union<'a>(walk: &mut Pair<'a>, set: &'a Set<'_>, other: &
     ensures { joined_left walk.new ≡ model.asc (value set.now)
         ++ model.asc (sets.difference (value other.now) (value set.now)) }
 {
-    *walk = Pair::over(set, other);
+    *walk = Pair {
+        first: Sieve {
+            walk: Ones::of(lent::ones(set.words, set.length)),
+            other: other.words,
+        },
+        second: Sieve::lacking(other, set),
+    };
 }
 
 /// Gives the first position left.
@@ -47,7 +85,7 @@ pub extern "C" fn bits_union_next(walk: &mut Pair<'_>, position: &mut usize) -> 
 {
     let item = match walk.first.walk.take_first() {
         Some(found) => Some(found),
-        None => walk.second.take_first(false),
+        None => walk.take_first_of_second(),
     };
     hand_out(item, position)
 }
@@ -59,9 +97,13 @@ pub extern "C" fn bits_union_next_back(walk: &mut Pair<'_>, position: &mut usize
     ensures gives { YieldsLast joined_left walk.old (given result position.new) walk.new }
     ensures stays { result ≡ false → position.new ≡ position.old }
 {
-    let item = match walk.second.take_last(false) {
+    let item = match walk.second.take_last::<AndNot>() {
         Some(found) => Some(found),
-        None => walk.first.walk.take_last(),
+        None => {
+            let last = walk.first.walk.take_last();
+            walk.bring_last_word();
+            last
+        }
     };
     hand_out(item, position)
 }
@@ -77,7 +119,10 @@ pub extern "C" fn bits_symmetric_difference<'a>(
     ensures { split_left walk.new ≡ model.asc (sets.difference (value set.now) (value other.now))
         ++ model.asc (sets.difference (value other.now) (value set.now)) }
 {
-    *walk = Pair::over(set, other);
+    *walk = Pair {
+        first: Sieve::lacking(set, other),
+        second: Sieve::lacking(other, set),
+    };
 }
 
 /// Gives the first position left.
@@ -87,9 +132,9 @@ pub extern "C" fn bits_symmetric_difference_next(walk: &mut Pair<'_>, position: 
     ensures gives { YieldsFirst split_left walk.old (given result position.new) walk.new }
     ensures stays { result ≡ false → position.new ≡ position.old }
 {
-    let item = match walk.first.take_first(false) {
+    let item = match walk.first.take_first::<AndNot>() {
         Some(found) => Some(found),
-        None => walk.second.take_first(false),
+        None => walk.take_first_of_second(),
     };
     hand_out(item, position)
 }
@@ -104,9 +149,13 @@ pub extern "C" fn bits_symmetric_difference_next_back(
     ensures gives { YieldsLast split_left walk.old (given result position.new) walk.new }
     ensures stays { result ≡ false → position.new ≡ position.old }
 {
-    let item = match walk.second.take_last(false) {
+    let item = match walk.second.take_last::<AndNot>() {
         Some(found) => Some(found),
-        None => walk.first.take_last(false),
+        None => {
+            let last = walk.first.take_last::<AndNot>();
+            walk.bring_last_word();
+            last
+        }
     };
     hand_out(item, position)
 }

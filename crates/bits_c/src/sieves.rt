@@ -1,92 +1,83 @@
 //! Walks over the positions of a set that another one has, or lacks. Their calls are those of `walks`.
+//!
+//! The positions of a word are looked up in the other set at once, when the walk takes the word. So a call costs by the
+//! positions that it gives.
 
-ghost use Rattle.std.specs.Prelude.{◌≡◌, false, filter};
+ghost use Rattle.std.specs.Prelude.{◌≡◌, false};
 ghost use Rattle.std.specs.Iterator.{YieldsFirst, YieldsLast};
-ghost use Rattle.bitwords.specs.Rows.{has_bit};
 ghost use Rattle.bits_c.specs.Sets.{value};
-ghost use Rattle.bits_c.specs.Walks.{given, ones_left, passes, sieved, shared_left, lacked_left};
+ghost use Rattle.bits_c.specs.Walks.{given, sieved, shared_left, lacked_left};
 ghost use Rattle.fixedbitset.specs.Bits as model;
 ghost use Rattle.fixedbitset.specs.TwoSets as sets;
 
 use crate::structs::{Ones, Set, Sieve};
 use crate::walks::hand_out;
-use bitlanes::Block;
-use bitwords::cursors::{Cursor, Plain};
-use bitwords::positions;
+use bitlanes::ops::{And, AndNot, WordOp};
+use bitwords::cursors::{Beside, Cursor, Held};
 use fixedbitset::lent;
 
 impl<'a> Sieve<'a> {
-    // The walk over the first set, before its first call.
+    // The walk over the positions of the first set that the second lacks, before its first call.
     #[inline(always)]
-    pub(crate) fn over(set: &'a Set<'_>, other: &'a Set<'_>) -> Sieve<'a>
-        ensures ones { ones_left result.walk ≡ model.asc (value set.now) }
-        ensures shared { shared_left result
-            ≡ model.asc (sets.intersection (value set.now) (value other.now)) }
-        ensures lacked { lacked_left result
+    pub(crate) fn lacking(set: &'a Set<'_>, other: &'a Set<'_>) -> Sieve<'a>
+        ensures { lacked_left result
             ≡ model.asc (sets.difference (value set.now) (value other.now)) }
     {
-        let ones = lent::ones_beside(set.words, set.length, other.words, other.length);
+        let cursor = lent::difference(set.words, set.length, other.words, other.length);
+        Sieve::of(cursor)
+    }
+
+    #[inline(always)]
+    pub(crate) fn of<O: WordOp>(cursor: Cursor<Beside<'a, O>>) -> Sieve<'a>
+        ensures { sieved O.joined result ≡ cursor.entry.items }
+    {
+        let held = cursor.into_held();
         Sieve {
-            walk: Ones::of(ones),
-            other: other.words,
+            walk: Ones {
+                front: held.front,
+                back: held.back,
+                front_at: held.front_at,
+                back_at: held.back_at,
+                words: held.middle.plain.words,
+            },
+            other: held.middle.other,
         }
     }
 
-    // The first position left that the other set has, or the first that it lacks.
     #[inline(always)]
-    pub(crate) fn take_first(&mut self, shared: bool) -> Option<usize>
-        ensures { YieldsFirst (sieved shared) self.old result self.new }
+    pub(crate) fn cursor<O: WordOp>(&self) -> Cursor<Beside<'a, O>>
+        ensures { result.items ≡ sieved O.joined self.now }
     {
-        let mut cursor = self.walk.cursor();
-        let item = first_passing(&mut cursor, self.other, shared);
-        self.walk = Ones::of(cursor);
+        Cursor::of_held(Held {
+            front: self.walk.front,
+            back: self.walk.back,
+            front_at: self.walk.front_at,
+            back_at: self.walk.back_at,
+            middle: Beside::of(self.walk.words, self.other),
+        })
+    }
+
+    // The first position left that passes.
+    #[inline(always)]
+    pub(crate) fn take_first<O: WordOp>(&mut self) -> Option<usize>
+        ensures { YieldsFirst (sieved O.joined) self.old result self.new }
+    {
+        let mut cursor = self.cursor::<O>();
+        let item = cursor.next();
+        *self = Sieve::of(cursor);
         item
     }
 
-    // The last position left that the other set has, or the last that it lacks.
+    // The last position left that passes.
     #[inline(always)]
-    pub(crate) fn take_last(&mut self, shared: bool) -> Option<usize>
-        ensures { YieldsLast (sieved shared) self.old result self.new }
+    pub(crate) fn take_last<O: WordOp>(&mut self) -> Option<usize>
+        ensures { YieldsLast (sieved O.joined) self.old result self.new }
     {
-        let mut cursor = self.walk.cursor();
-        let item = last_passing(&mut cursor, self.other, shared);
-        self.walk = Ones::of(cursor);
+        let mut cursor = self.cursor::<O>();
+        let item = cursor.next_back();
+        *self = Sieve::of(cursor);
         item
     }
-}
-
-#[inline(always)]
-pub(crate) fn first_passing(
-    cursor: &mut Cursor<Plain<'_>>,
-    other: &[Block],
-    shared: bool,
-) -> Option<usize>
-    ensures { YieldsFirst (λ walk. filter (λ p. passes shared (has_bit other.now p)) walk.items)
-        cursor.old result cursor.new }
-{
-    while let Some(position) = cursor.next() {
-        if positions::contains(other, position) == shared {
-            return Some(position);
-        }
-    }
-    None
-}
-
-#[inline(always)]
-pub(crate) fn last_passing(
-    cursor: &mut Cursor<Plain<'_>>,
-    other: &[Block],
-    shared: bool,
-) -> Option<usize>
-    ensures { YieldsLast (λ walk. filter (λ p. passes shared (has_bit other.now p)) walk.items)
-        cursor.old result cursor.new }
-{
-    while let Some(position) = cursor.next_back() {
-        if positions::contains(other, position) == shared {
-            return Some(position);
-        }
-    }
-    None
 }
 
 /// Begins the walk over the positions that both sets have, in ascending order.
@@ -95,7 +86,7 @@ pub extern "C" fn bits_intersection<'a>(walk: &mut Sieve<'a>, set: &'a Set<'_>, 
     ensures { shared_left walk.new
         ≡ model.asc (sets.intersection (value set.now) (value other.now)) }
 {
-    *walk = Sieve::over(set, other);
+    *walk = Sieve::of(lent::intersection(set.words, set.length, other.words, other.length));
 }
 
 /// Gives the least position left.
@@ -105,7 +96,7 @@ pub extern "C" fn bits_intersection_next(walk: &mut Sieve<'_>, position: &mut us
     ensures gives { YieldsFirst shared_left walk.old (given result position.new) walk.new }
     ensures stays { result ≡ false → position.new ≡ position.old }
 {
-    hand_out(walk.take_first(true), position)
+    hand_out(walk.take_first::<And>(), position)
 }
 
 /// Gives the greatest position left.
@@ -115,7 +106,7 @@ pub extern "C" fn bits_intersection_next_back(walk: &mut Sieve<'_>, position: &m
     ensures gives { YieldsLast shared_left walk.old (given result position.new) walk.new }
     ensures stays { result ≡ false → position.new ≡ position.old }
 {
-    hand_out(walk.take_last(true), position)
+    hand_out(walk.take_last::<And>(), position)
 }
 
 /// Begins the walk over the positions of the first set that the second lacks, in ascending order.
@@ -124,7 +115,7 @@ pub extern "C" fn bits_difference<'a>(walk: &mut Sieve<'a>, set: &'a Set<'_>, ot
     ensures { lacked_left walk.new
         ≡ model.asc (sets.difference (value set.now) (value other.now)) }
 {
-    *walk = Sieve::over(set, other);
+    *walk = Sieve::lacking(set, other);
 }
 
 /// Gives the least position left.
@@ -134,7 +125,7 @@ pub extern "C" fn bits_difference_next(walk: &mut Sieve<'_>, position: &mut usiz
     ensures gives { YieldsFirst lacked_left walk.old (given result position.new) walk.new }
     ensures stays { result ≡ false → position.new ≡ position.old }
 {
-    hand_out(walk.take_first(false), position)
+    hand_out(walk.take_first::<AndNot>(), position)
 }
 
 /// Gives the greatest position left.
@@ -144,5 +135,5 @@ pub extern "C" fn bits_difference_next_back(walk: &mut Sieve<'_>, position: &mut
     ensures gives { YieldsLast lacked_left walk.old (given result position.new) walk.new }
     ensures stays { result ≡ false → position.new ≡ position.old }
 {
-    hand_out(walk.take_last(false), position)
+    hand_out(walk.take_last::<AndNot>(), position)
 }

@@ -69,7 +69,8 @@ pub struct Runs<'a> {
     pub ghost fits: { 64 * length words.now ≤ 2 ^ 64 },
 }
 
-/// A walk over the positions of one set, and the words of another one in which each of them is looked up.
+/// A walk over the positions of one set that another one has, or over those that it lacks. Its first and its last word
+/// have no other bits. Each of the words between is joined with the word at its place of `other` when it is taken.
 #[repr(C)]
 #[derive(Drop)]
 pub struct Sieve<'a> {
@@ -77,7 +78,7 @@ pub struct Sieve<'a> {
     pub other: &'a [Block],
 }
 
-/// A walk over each of two sets, and the words of the other one.
+/// Two such walks, one behind the other. In a union the first takes the words of its set as they are.
 #[repr(C)]
 #[derive(Drop)]
 pub struct Pair<'a> {

@@ -12,6 +12,7 @@ pub mod CountFacts
 pub mod RowFacts
 pub mod CallFacts
 pub mod WalkFacts
+pub mod BesideFacts
 -- private, but WalkedWords for callers who keep the parts of a cursor
 pub mod Cuts
 pub mod WalkedWords

@@ -12,6 +12,12 @@ ones_from start words = ascending (λ p. has_bit words (p - start)) start (64 * 
 abbrev pub held_items : (front_at front : ℕ) → List ℕ → (back : ℕ) → List ℕ
 held_items front_at front middle back = ones_from front_at (front ∷ (middle ++ back ∷ []))
 
+-- the words of a row, each joined by f with the word at its place of another row, and past the end of that with 0
+abbrev pub beside : (ℕ → ℕ → ℕ) → List ℕ → List ℕ → List ℕ
+beside f [] others = []
+beside f (word ∷ words) [] = f word 0 ∷ beside f words []
+beside f (word ∷ words) (other ∷ others) = f word other ∷ beside f words others
+
 -- the words at these positions have so many words between them, and end within a usize; a last word that is 0 and has no
 -- word before it may stand anywhere from the first one on
 pub record IsSpaced (front_at back_at between back : ℕ) : Type 0 where

@@ -1,7 +1,8 @@
 //! A cursor over the positions that are set in a row of words, in ascending order, from both ends.
 //!
 //! It holds the first and the last word of those left, without the bits that were given. The words between them stand in
-//! a `Middle`, which says where they come from: a slice, a slice of inverted words, or a vector that the cursor owns.
+//! a `Middle`, which says where they come from: a slice, a slice of inverted words, two slices joined, or a vector that the
+//! cursor owns.
 
 ghost use Rattle.std.specs.Prelude.{◌≡◌, ℕ, ◌+◌, ◌*◌, ◌^◌, ◌<◌, ◌≤◌, ◌∷◌, ◌++◌, [], List, length, map, Some, IfSome};
 ghost use Rattle.std.specs.Int.{bit_not, w64};
@@ -10,12 +11,13 @@ ghost use Rattle.std.specs.Iterator.SizeHint.{IsWithinCount};
 ghost use Rattle.std.specs.Vec.Iter.{into_iter_items};
 ghost use Rattle.bitwords.specs.Rows.{has_bit};
 ghost use Rattle.bitwords.specs.Walk.{GivesFirst, GivesLast, between_ends, over_row, within_row, range_row};
-ghost use Rattle.bitwords.specs.WalkedWords.{held_items, held_walk, IsSpaced};
+ghost use Rattle.bitwords.specs.WalkedWords.{beside, held_items, held_walk, IsSpaced};
 
 use bitlanes::counter::Steps;
+use bitlanes::ops::WordOp;
 use bitlanes::word::{BITS, Block, ones_below, stretch, take_highest_bit, take_lowest_bit};
 use std::alloc::Global;
-use std::marker::Model;
+use std::marker::{Model, PhantomData};
 use std::vec;
 
 /// Words that a cursor has still to take, from either end.
@@ -102,6 +104,68 @@ impl<'a> Middle for Inverted<'a> {
     #[inline]
     fn take_last(&mut self) -> Option<Block> {
         Some(!self.plain.take_last()?)
+    }
+
+    #[inline]
+    fn left(&self) -> usize {
+        self.plain.left()
+    }
+}
+
+/// Words of a slice, each joined by `O` with the word at its place of another slice. Past the end of that it is joined
+/// with 0.
+///
+/// So the positions of a word are looked up in the other slice at once, when the word is taken.
+///
+/// ```
+/// let beside = Beside::<AndNot>::of(&[11, 1], &[8]);
+/// assert!(rt; Cursor::over(beside).eq([0, 1, 64]));
+/// ```
+#[derive(Drop)]
+pub struct Beside<'a, O> {
+    pub plain: Plain<'a>,
+    pub other: &'a [Block],
+    operation: PhantomData<O>,
+}
+
+impl<'a, O: WordOp> Beside<'a, O> {
+    /// The words of the first slice, each with the word at its place of the other one.
+    ///
+    /// ```
+    /// let beside = Beside::<And>::of(&[11, 1], &[8]);
+    /// assert!(rt; Cursor::over(beside).eq([3]));
+    /// ```
+    #[inline(always)]
+    pub fn of(words: &'a [Block], other: &'a [Block]) -> Beside<'a, O>
+        ensures words { result.plain.words.now ≡ words.now }
+        ensures other { result.other.now ≡ other.now }
+    {
+        Beside {
+            plain: Plain { words },
+            other,
+            operation: PhantomData,
+        }
+    }
+}
+
+impl<'a, O: WordOp> Middle for Beside<'a, O> {
+    ghost words = { λ middle. beside O.joined middle.plain.words.now middle.other.now };
+
+    #[inline]
+    fn take_first(&mut self) -> Option<Block> {
+        let word = self.plain.take_first()?;
+        let Some((other, rest)) = self.other.split_first() else {
+            return Some(O::word(word, 0));
+        };
+        self.other = rest;
+        Some(O::word(word, *other))
+    }
+
+    #[inline]
+    fn take_last(&mut self) -> Option<Block> {
+        let word = self.plain.take_last()?;
+        let other = self.other.get(self.plain.left());
+        Some(O::word(word, other.copied().unwrap_or(0)))
     }
 
     #[inline]

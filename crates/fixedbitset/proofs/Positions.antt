@@ -5,12 +5,15 @@ use Rattle.std.specs.List.{last_or}
 use Rattle.std.proofs.lemmas.Bool.Decides.{nat_tests}
 use Rattle.std.proofs.lemmas.List.{get_or-map, take_all, length-append}
 use Rattle.bitlanes.specs.BitLaws.{bit-not}
+use Rattle.bitlanes.specs.Ops.{IsWordOp}
 use Rattle.bitwords.specs.Ascending.{ascending}
 use Rattle.bitwords.specs.AscendingFacts.{ascending-same, ascending-skip, ascending-cut, filter-ascending, length-count}
+use Rattle.bitwords.specs.BesideFacts.{length-beside, has_bit-beside}
 use Rattle.bitwords.specs.CountFacts.{count-zero, count-suc, count-shorter}
 use Rattle.bitwords.specs.Rows.{has_bit, count_below}
 use Rattle.bitwords.specs.RowFacts.{AreWords}
 use Rattle.bitwords.specs.Walk.{Walk, between_ends, over_row, range_cut, range_row}
+use Rattle.bitwords.specs.WalkedWords.{beside}
 use Rattle.bitwalks.specs.Pairs.{Sieved, sieve_over}
 use Rattle.fixedbitset.specs.Ranges.{is_valid, within, over}
 use Rattle.fixedbitset.specs.RangesFacts.{length-within, contains-within}
@@ -129,6 +132,14 @@ module _ (v w : Bits) where
 
   pub asc-difference : filter (λ p. not (contains w p)) (asc v) ≡ asc (difference v w)
   asc-difference = sieved v (difference v w) _ (length-difference v w) (contains-difference v w)
+
+  -- the positions of the words of v, each joined with the word at its place of a row that has those of w
+  module _ {f : ℕ → ℕ → ℕ} {t : Bool → Bool → Bool} {keep take_right : Bool} (law : IsWordOp f t keep take_right) (drops : take_right ≡ false)
+      (u : Bits) (long : u.length ≡ v.length) (members : (p : ℕ) → contains u p ≡ t (contains v p) (contains w p)) where
+    pub asc-beside : (row : List ℕ) → AreWords row → ((p : ℕ) → has_bit row p ≡ contains w p) → ascending (has_bit (beside f (words v) row)) 0 (64 * length (beside f (words v) row)) ≡ asc u
+    asc-beside row are has =
+        row-asc u _ _ (omega (arith, long, length-beside f (words v) row, length-words v)) (λ p.
+        has_bit-beside law drops (words v) row (are_words v) are p ∙ (let own = has_bit-words v p in let other = has p in λ i. t (own i) (other i)) ∙ sym (members p))
 
   -- the walk over the words of one value, sieved by those of another
   sieved_items : (passes : Bool → Bool) → (sieve_over passes (words v) (words w)).items ≡ filter (λ p. passes (contains w p)) (asc v)

@@ -12,8 +12,9 @@ ghost use Rattle.fixedbitset.specs.Walks.{ones_of, zeroes_of};
 
 use crate::lent::used_words;
 use bitlanes::Block;
+use bitlanes::ops::{And, AndNot};
 use bitwalks::runs::Runs;
-use bitwords::cursors::{Cursor, Inverted, Plain, ones_within, zeroes_within};
+use bitwords::cursors::{Beside, Cursor, Inverted, Plain, ones_within, zeroes_within};
 
 /// The positions that are set, in ascending order.
 ///
@@ -56,6 +57,52 @@ pub fn ones_beside<'a>(
         (sets.difference (of_words length words.now) (of_words other_length other.now)) }
 {
     ones(words, length)
+}
+
+/// The positions that both sets have, in ascending order.
+///
+/// ```
+/// let (mut words, mut other) = ([9, 2, 0, 0], [1, 2, 0, 0]);
+/// lent::settle(&mut words, 70, 70);
+/// lent::settle(&mut other, 66, 66);
+/// assert!(rt; lent::intersection(&words, 70, &other, 66).eq([0, 65]));
+/// ```
+#[inline(always)]
+pub fn intersection<'a>(
+    words: &'a [Block],
+    length: usize,
+    other: &'a [Block],
+    other_length: usize,
+) -> Cursor<Beside<'a, And>>
+    requires lent { IsClean length words.now }
+    requires lent_other { IsClean other_length other.now }
+    ensures { result.items ≡ model.asc
+        (sets.intersection (of_words length words.now) (of_words other_length other.now)) }
+{
+    Cursor::over(Beside::of(used_words(words, length), other))
+}
+
+/// The positions of the first set that the second lacks, in ascending order.
+///
+/// ```
+/// let (mut words, mut other) = ([9, 2, 0, 0], [1, 2, 0, 0]);
+/// lent::settle(&mut words, 70, 70);
+/// lent::settle(&mut other, 66, 66);
+/// assert!(rt; lent::difference(&words, 70, &other, 66).eq([3]));
+/// ```
+#[inline(always)]
+pub fn difference<'a>(
+    words: &'a [Block],
+    length: usize,
+    other: &'a [Block],
+    other_length: usize,
+) -> Cursor<Beside<'a, AndNot>>
+    requires lent { IsClean length words.now }
+    requires lent_other { IsClean other_length other.now }
+    ensures { result.items ≡ model.asc
+        (sets.difference (of_words length words.now) (of_words other_length other.now)) }
+{
+    Cursor::over(Beside::of(used_words(words, length), other))
 }
 
 /// The positions below the length that are not set, in ascending order.

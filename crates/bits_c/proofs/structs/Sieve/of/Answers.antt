@@ -1,0 +1,7 @@
+use Rattle.bitwords.specs.BesideFacts.{length-beside}
+use Rattle.bits_c.proofs.structs.Sieve.of.Goals as goal
+
+pub invariant_of-result : goal.invariant_of-result
+invariant_of-result g c =
+    let held = c.into_held-held in
+    record { spaced = rw (length-beside g.O.WordOp.joined held.result.middle.plain.words.now held.result.middle.other.now) at held.ensures.spaced }

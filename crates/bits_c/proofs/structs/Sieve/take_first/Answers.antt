@@ -1,4 +1,0 @@
-use Rattle.bits_c.proofs.structs.Sieve.take_first.Goals as goal
-
-pub returns : goal.returns
-returns c = rw (c.cursor-cursor.ensures, ← c.of-self.ensures) at c.first_passing-item.ensures
