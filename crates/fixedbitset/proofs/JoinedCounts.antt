@@ -1,19 +1,24 @@
 -- The counts of two sets and of ranges, and the questions that a count of 0 answers.
-use Rattle.std.proofs.Common.{◌≡◌, ◌≢◌, ℕ, ◌+◌, ◌*◌, ◌^◌, ◌<◌, ◌≤◌, max, Bool, true, false, not, ◌&&◌, ◌||◌, ◌==◌, List, length, refl, sym, ap, ◌∙◌, arith}
+use Rattle.std.proofs.Common.{◌≡◌, ◌≢◌, ℕ, ◌+◌, ◌-◌, ◌*◌, ◌/◌, ◌^◌, ◌<◌, ◌≤◌, min, max, Bool, true, false, not, ◌&&◌, ◌||◌, ◌==◌, List, length, take, refl, sym, ap, ◌∙◌, arith}
 use Rattle.std.specs.Ordering.{nat_cmp}
 use Rattle.std.specs.Cmp.{nat_cmp_total}
+use Rattle.std.specs.Int.{div_ceil}
 use Rattle.std.specs.FinSet as set
 use Rattle.std.specs.FinSet.{FinSet}
 use Rattle.std.proofs.lemmas.Bool.{false_from_ne_true}
 use Rattle.std.proofs.lemmas.Bool.Decides.{nat_tests}
+use Rattle.std.proofs.lemmas.List.{length-take, get_or-take, take_all}
 use Rattle.bitlanes.specs.Bits.{either}
 use Rattle.bitlanes.specs.Ops.{IsWordOp}
+use Rattle.bitlanes.specs.Words.{lane_steps}
 use Rattle.bitwords.specs.Rows.{has_bit, in_range, count_below, bit_test, bits_test}
+use Rattle.bitwords.specs.RowFacts.{has_bit-past}
 use Rattle.bitwords.specs.CountFacts.{count-same, count-shorter, count-in_range, count-le}
+use Rattle.bitwords.specs.Steps.{both_steps}
 use Rattle.fixedbitset.specs.Numbers.{numbers_between, symmetric_difference}
 use Rattle.fixedbitset.specs.NumbersFacts as numbers
 use Rattle.fixedbitset.specs.NumbersFacts.{same_set, contains-kept, len-below, none_len, same_truth}
-use Rattle.fixedbitset.specs.Bits.{Bits, contains, of_words}
+use Rattle.fixedbitset.specs.Bits.{Bits, words_needed, storage_words, contains, of_words}
 use Rattle.fixedbitset.specs.BitsFacts.{same_bits, contains-past}
 use Rattle.fixedbitset.specs.Order.{equal}
 use Rattle.fixedbitset.specs.OrderFacts.{equal_if_same, same_if_equal}
@@ -21,7 +26,7 @@ use Rattle.fixedbitset.specs.Ranges.{count_ones, count_zeroes, contains_all, con
 use Rattle.fixedbitset.specs.Stored.{IsClean, count_joined, range_set}
 use Rattle.fixedbitset.specs.TwoSets.{union_count, intersection_count, difference_count, symmetric_difference_count, is_disjoint, is_subset}
 use Rattle.fixedbitset.specs.WordsFacts.{length-of_words}
-use Rattle.fixedbitset.proofs.Words.{contains-range_set, length-range_set, contains_word, valid_range, holds_all}
+use Rattle.fixedbitset.proofs.Words.{contains-range_set, length-range_set, contains_word, valid_range}
 
 -- ---- a count of what two values share, by positions
 
@@ -49,19 +54,58 @@ module _ (t : Bool → Bool → Bool) (neither : t false false ≡ false) (v w :
 
 -- ---- of two rows of words
 
-module _ (t : Bool → Bool → Bool) (neither : t false false ≡ false) (n : ℕ) (xs : List ℕ) (m : ℕ) (ys : List ℕ) (clean : IsClean n xs) (clean_ys : IsClean m ys) where
-  pub count_rows : count_joined t (of_words n xs) (of_words m ys) ≡ count_below (bits_test t xs ys) (64 * max (length xs) (length ys))
+-- a row of words with exactly the positions of a value, and room for its length
+pub record Shows (v : Bits) (ws : List ℕ) : Type 0 where
+  pub fits : v.length < 2 ^ 64
+  pub room : v.length ≤ 64 * length ws
+  pub bits : (p : ℕ) → has_bit ws p ≡ contains v p
+
+-- the words of a set, cut behind at least as many as its length needs
+pub shows_cut : (n k : ℕ) (ws : List ℕ) → IsClean n ws → words_needed n ≤ k → Shows (of_words n ws) (take k ws)
+unfolding has_bit
+shows_cut n k ws clean enough = record {
+  fits = omega (arith, clean.fits, length-of_words n ws);
+  room = omega (arith, clean.count, length-of_words n ws, length-take k ws);
+  bits = λ p. grind (arith, clean.count, clean.tail p, contains_word n ws p clean, length-take k ws, has_bit-past (take k ws) p, get_or-take k ws (p / 64) 0);
+}
+
+-- all words of a set
+pub shows : (n : ℕ) (ws : List ℕ) → IsClean n ws → Shows (of_words n ws) ws
+shows n ws clean =
+    let all = take_all (length ws) ws (omega arith) in
+    rw all at (shows_cut n (length ws) ws clean (omega (arith, clean.count)))
+
+-- the count of two values is that of rows that show them, and a word holds it
+module _ (t : Bool → Bool → Bool) (neither : t false false ≡ false) (v w : Bits) (xs ys : List ℕ) (first : Shows v xs) (second : Shows w ys) where
+  pub count_rows : count_joined t v w ≡ count_below (bits_test t xs ys) (64 * max (length xs) (length ys))
   unfolding bits_test
   count_rows =
-      let room = holds_all n xs _ refl clean in
-      let room_ys = holds_all m ys _ refl clean_ys in
-      count_joined-below t neither _ _ (64 * max (length xs) (length ys)) (bits_test t xs ys) (omega arith) (omega arith) (λ p. cc (contains_word n xs p clean, contains_word m ys p clean_ys))
+      count_joined-below t neither v w (64 * max (length xs) (length ys)) (bits_test t xs ys) (omega (arith, first.room)) (omega (arith, second.room)) (λ p. cc (first.bits p, second.bits p))
 
   pub count_rows-fits : count_below (bits_test t xs ys) (64 * max (length xs) (length ys)) < 2 ^ 64
   count_rows-fits =
-      let c : ℕ → Bool = λ p. t (contains (of_words n xs) p) (contains (of_words m ys) p) in
-      let below = count_joined-below t neither (of_words n xs) (of_words m ys) (max n m) c (omega (arith, length-of_words n xs)) (omega (arith, length-of_words m ys)) (λ p. refl) in
-      omega (arith, count_rows, below, count-le c (max n m), clean.fits, clean_ys.fits)
+      let c : ℕ → Bool = λ p. t (contains v p) (contains w p) in
+      let below = count_joined-below t neither v w (max v.length w.length) c (omega arith) (omega arith) (λ p. refl) in
+      omega (arith, count_rows, below, count-le c (max v.length w.length), first.fits, second.fits)
+
+-- ---- the steps over rows that are cut
+
+-- words of whole lanes behind others, both cut within the last lane, lie in as many lanes
+lanes_cut : (a b used : ℕ) → div_ceil used 4 ≡ max a b → lane_steps (min (4 * a) used - min (4 * b) used) ≡ lane_steps (4 * a - 4 * b)
+lanes_cut a b used last = omega arith
+
+-- so do the words that both have
+lanes_cut-both : (a b used : ℕ) → div_ceil used 4 ≡ max a b → lane_steps (min (min (4 * a) used) (min (4 * b) used)) ≡ lane_steps (min (4 * a) (4 * b))
+lanes_cut-both a b used last = omega arith
+
+-- two rows, each cut behind as many words as the longer length needs, take as many steps as whole ones
+pub both_steps-cut : (keep also : Bool) (n m i j : ℕ) → i ≡ min (storage_words n) (words_needed (max n m)) → j ≡ min (storage_words m) (words_needed (max n m))
+    → both_steps keep also i j ≡ both_steps keep also (storage_words n) (storage_words m)
+both_steps-cut keep also n m i j first second =
+    let a : ℕ = div_ceil (words_needed n) 4 in
+    let b : ℕ = div_ceil (words_needed m) 4 in
+    let used : ℕ = words_needed (max n m) in
+    rw (first, second, lanes_cut-both a b used (omega arith), lanes_cut a b used (omega arith), lanes_cut b a used (omega arith)) refl
 
 -- ---- of a range and a row of words
 

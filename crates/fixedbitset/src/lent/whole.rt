@@ -12,6 +12,7 @@ ghost use Rattle.fixedbitset.specs.TwoSets as sets;
 
 use crate::lent::used_words;
 use bitlanes::ops::{And, AndNot, Or, WordOp, Xor};
+use bitlanes::word::BITS;
 use bitlanes::{Block, Steps};
 use bitwords::joins;
 use std::cmp::Ordering;
@@ -388,7 +389,8 @@ pub(crate) fn join<O: WordOp>(
     joins::join::<O>(words, other, steps);
 }
 
-// How many positions of either set pass the operation's truth function.
+// How many positions of either set pass the operation's truth function. It goes over the words
+// that the longer length needs: those behind them, which make up a whole lane, are 0.
 #[inline(always)]
 pub(crate) fn count<O: WordOp>(
     words: &[Block],
@@ -405,6 +407,9 @@ pub(crate) fn count<O: WordOp>(
         + both_steps O.KEEP O.TAKE (model.storage_words length)
         (model.storage_words other_length) }
 {
+    let used = length.max(other_length).div_ceil(BITS);
+    let words = &words[..words.len().min(used)];
+    let other = &other[..other.len().min(used)];
     joins::count::<O>(words, other, steps)
 }
 
