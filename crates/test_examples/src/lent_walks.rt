@@ -19,6 +19,22 @@ fn ones_beside(rt: HostRuntime) {
 }
 
 #[test]
+fn intersection(rt: HostRuntime) {
+    let (mut words, mut other) = ([9, 2, 0, 0], [1, 2, 0, 0]);
+    lent::settle(&mut words, 70, 70);
+    lent::settle(&mut other, 66, 66);
+    gives(&rt, lent::intersection(&words, 70, &other, 66), &[0, 65]);
+}
+
+#[test]
+fn difference(rt: HostRuntime) {
+    let (mut words, mut other) = ([9, 2, 0, 0], [1, 2, 0, 0]);
+    lent::settle(&mut words, 70, 70);
+    lent::settle(&mut other, 66, 66);
+    gives(&rt, lent::difference(&words, 70, &other, 66), &[3]);
+}
+
+#[test]
 fn zeroes(rt: HostRuntime) {
     let mut words = [Block::MAX - 8, 60, 0, 0];
     lent::settle(&mut words, 70, 70);

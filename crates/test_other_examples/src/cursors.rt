@@ -1,8 +1,9 @@
 //! The examples in the docs of `bitwords::cursors`. docs/make_examples writes this file.
 
 use crate::calls::{equal, gives, ok};
+use bitlanes::ops::{And, AndNot};
 use bitwords::cursors;
-use bitwords::cursors::{Cursor, Inverted, Middle, Plain};
+use bitwords::cursors::{Beside, Cursor, Inverted, Middle, Plain};
 use fixedbitset::Block;
 
 #[test]
@@ -26,6 +27,18 @@ fn inverted(rt: HostRuntime) {
     let plain = Plain { words: &words };
     let cursor = Cursor::over(Inverted { plain });
     gives(&rt, cursor, &[3]);
+}
+
+#[test]
+fn beside(rt: HostRuntime) {
+    let beside = Beside::<AndNot>::of(&[11, 1], &[8]);
+    gives(&rt, Cursor::over(beside), &[0, 1, 64]);
+}
+
+#[test]
+fn of(rt: HostRuntime) {
+    let beside = Beside::<And>::of(&[11, 1], &[8]);
+    gives(&rt, Cursor::over(beside), &[3]);
 }
 
 #[test]
