@@ -1,7 +1,7 @@
-use Rattle.std.proofs.Common.{List, ◌≡◌, ℕ, ◌-◌, ◌++◌, ◌∷◌, [], length, sym, ap, ◌∙◌, arith, append-nil}
+use Rattle.std.proofs.Common.{◌-◌, ◌++◌, ◌∷◌, sym, ap, ◌∙◌, arith, append-nil}
 use Rattle.bitlanes.specs.Bits.{bit_without}
 use Rattle.bitwords.specs.BesideFacts.{length-beside}
-use Rattle.bitwords.specs.WalkedWords.{beside, ones_from}
+use Rattle.bitwords.specs.WalkedWords.{beside}
 use Rattle.bits_c.specs.Walks.{ones_left, lacked_left}
 use Rattle.bits_c.proofs.Words.{back_apart}
 use Rattle.bits_c.proofs.structs.Pair.bring_last_word.Goals as goal

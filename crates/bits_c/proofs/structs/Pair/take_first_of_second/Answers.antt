@@ -1,4 +1,4 @@
-use Rattle.std.proofs.Common.{List, ℕ, ◌++◌, ◌∷◌, [], sym, subst}
+use Rattle.std.proofs.Common.{◌++◌, ◌∷◌, [], sym, subst}
 use Rattle.std.specs.Iterator.{YieldsFirst}
 use Rattle.bits_c.specs.Walks.{lacked_left}
 use Rattle.bits_c.proofs.Words.{front_apart}
