@@ -1,6 +1,6 @@
 //! The walk over one row of words, sieved by another one. Each walk over two rows stands on it.
 
-ghost use Rattle.std.specs.Prelude.{◌≡◌, ◌+◌, ◌*◌, ◌^◌, ◌<◌, ◌≤◌, ℕ, Bool, not, filter, length, Some, IfSome};
+ghost use Rattle.std.specs.Prelude.{◌≡◌, ◌+◌, ◌*◌, ◌^◌, ◌<◌, ◌≤◌, ℕ, Bool, not, filter, length, slice_index, Some, IfSome};
 ghost use Rattle.std.specs.Iterator.{item_count, UpTo};
 ghost use Rattle.std.specs.Iterator.SizeHint.{IsWithinCount};
 ghost use Rattle.bitwords.specs.Rows.{has_bit};
@@ -8,8 +8,7 @@ ghost use Rattle.bitwalks.specs.Pairs.{sieve_over, SievesFirst, SievesLast};
 
 use crate::walks::Ones;
 use bitlanes::counter::Steps;
-use bitlanes::word::Block;
-use bitwords::positions::contains;
+use bitlanes::word::{BITS, Block};
 use std::iter::FusedIterator;
 use std::marker::{Model, PhantomData};
 
@@ -49,6 +48,26 @@ impl Choice for Lacked {
     fn passes(is_set: bool) -> bool {
         !is_set
     }
+}
+
+// The word at this index, and 0 past the last one.
+#[inline(always)]
+fn word_at(words: &[Block], index: usize) -> Block
+    ensures { result ≡ slice_index words.now index }
+{
+    match words.get(index) {
+        Some(word) => *word,
+        None => 0,
+    }
+}
+
+// Whether the position is set: `false` past the words. One test answers within them and past them,
+// so that the compiler keeps no mark of whether a position was given.
+#[inline(always)]
+fn is_set(words: &[Block], position: usize) -> bool
+    ensures { result ≡ has_bit words.now position }
+{
+    word_at(words, position / BITS) & (1 << (position % BITS)) != 0
 }
 
 /// The positions of one row that pass, in ascending order.
@@ -126,7 +145,7 @@ impl<'a, C: Choice> Iterator for Sieve<'a, C> {
     fn next(&mut self) -> Option<usize> {
         while let Some(position) = self.source.next() {
             self.asked.tick();
-            if C::passes(contains(self.other, position)) {
+            if C::passes(is_set(self.other, position)) {
                 return Some(position);
             }
         }
@@ -156,7 +175,7 @@ impl<'a, C: Choice> DoubleEndedIterator for Sieve<'a, C> {
     fn next_back(&mut self) -> Option<usize> {
         while let Some(position) = self.source.next_back() {
             self.asked.tick();
-            if C::passes(contains(self.other, position)) {
+            if C::passes(is_set(self.other, position)) {
                 return Some(position);
             }
         }

@@ -7,7 +7,7 @@ pub returns-then-passes-clause-steps : goal.returns-then-passes-clause-steps
 returns-then-passes-clause-steps g c =
     let before = c.loop-position.invariant in
     let call = c.in-Some.ensures.steps in
-    let passes = ap g.C.Choice.passes (sym c.contains.ensures) ∙ sym c.passes.ensures ∙ c.if-passes.true in
+    let passes = ap g.C.Choice.passes (sym c.is_set.ensures) ∙ sym c.passes.ensures ∙ c.if-passes.true in
     let fewer = ap length call.0 ∙ length-append _ (c.in-Some.position ∷ []) in
     let takes = takes_back before.calls 1 _ _ _ before.takes call.1 in
     (last_passes _ _ _ before.same _ _ call.0 passes, record { calls = before.calls + 1; asks = omega (arith, before.asked, before.each, fewer); takes = takes })
@@ -16,7 +16,7 @@ pub loop-position-preserved : goal.loop-position-preserved
 loop-position-preserved g c =
     let before = c.loop-position.invariant in
     let call = c.in-Some.ensures.steps in
-    let fails = ap g.C.Choice.passes (sym c.contains.ensures) ∙ sym c.passes.ensures ∙ c.if-passes.false in
+    let fails = ap g.C.Choice.passes (sym c.is_set.ensures) ∙ sym c.passes.ensures ∙ c.if-passes.false in
     let fewer = ap length call.0 ∙ length-append _ (c.in-Some.position ∷ []) in
     record {
       same = last_fails _ _ _ before.same _ _ call.0 fails;
