@@ -145,14 +145,13 @@ impl<A: Part + Drop, B: Part + Drop> InTurn<A, B> {
         ensures first { A.front self.old.first self.new.first }
         ensures second { B.front self.old.second self.new.second }
     {
-        // A way out of its own, so that the compiler keeps the caller's numbers in registers.
-        if !self.first_left {
-            return self.second.take_first();
+        // A loop of one turn at most, so that the compiler keeps the caller's numbers in registers.
+        while self.first_left {
+            if let Some(position) = self.first.take_first() {
+                return Some(position);
+            }
+            self.first_left = false;
         }
-        if let Some(position) = self.first.take_first() {
-            return Some(position);
-        }
-        self.first_left = false;
         self.second.take_first()
     }
 

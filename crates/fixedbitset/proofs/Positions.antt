@@ -1,5 +1,5 @@
 -- The positions of a value, as those of its words and of the words in which a set keeps it, and the walks over them.
-use Rattle.std.proofs.Common.{◌≡◌, ℕ, zero, suc, Bool, IsTrue, take, filter, ◌+◌, ◌-◌, ◌*◌, ◌/◌, ◌%◌, ◌^◌, ◌<◌, ◌≤◌, max, not, ◌&&◌, List, ◌++◌, length, map, get_or, slice_get, Option, Some, None, is_some, unwrap_or, true, false, refl, sym, ap, ◌∙◌, arith}
+use Rattle.std.proofs.Common.{◌≡◌, ℕ, zero, suc, Bool, IsTrue, take, filter, ◌+◌, ◌-◌, ◌*◌, ◌/◌, ◌%◌, ◌^◌, ◌<◌, ◌≤◌, max, not, ◌&&◌, List, ◌++◌, length, map, get_or, slice_get, Option, Some, None, is_some, true, false, refl, sym, ap, ◌∙◌, arith}
 use Rattle.std.specs.Int.{bit_not, w64, div_ceil}
 use Rattle.std.specs.List.{last_or}
 use Rattle.std.proofs.lemmas.Bool.Decides.{nat_tests}
@@ -12,12 +12,12 @@ use Rattle.bitwords.specs.BesideFacts.{length-beside, has_bit-beside}
 use Rattle.bitwords.specs.CountFacts.{count-zero, count-suc, count-shorter}
 use Rattle.bitwords.specs.Rows.{has_bit, count_below}
 use Rattle.bitwords.specs.RowFacts.{AreWords}
-use Rattle.bitwords.specs.Walk.{Walk, between_ends, over_row, range_cut, range_row}
+use Rattle.bitwords.specs.Walk.{between_ends, over_row, range_cut}
 use Rattle.bitwords.specs.WalkedWords.{beside}
 use Rattle.bitwalks.specs.Pairs.{Sieved, sieve_over}
-use Rattle.fixedbitset.specs.Ranges.{is_valid, within, over}
+use Rattle.fixedbitset.specs.Ranges.{is_valid, within}
 use Rattle.fixedbitset.specs.RangesFacts.{length-within, contains-within}
-use Rattle.fixedbitset.specs.Walks.{begun, ones_of, zeroes_of, words_of, zero_words_of}
+use Rattle.fixedbitset.specs.Walks.{begun, ones_of, zeroes_of}
 use Rattle.fixedbitset.specs.Bits.{Bits, contains, asc, minimum, maximum, complement, is_clear, words, of_words}
 use Rattle.fixedbitset.specs.BitsFacts.{length-complement, contains-complement, contains-past}
 use Rattle.fixedbitset.specs.FirstFacts.{minimum_least, minimum_none}
@@ -47,6 +47,16 @@ row-asc v test n room same =
 pub below-asc : (v : Bits) (test : ℕ → Bool) (n : ℕ) → n ≡ v.length → ((p : ℕ) → p < n → test p ≡ contains v p) → ascending test 0 n ≡ asc v
 unfolding asc
 below-asc v test n long same = ap (ascending test 0) long ∙ ascending-same test (contains v) 0 v.length (λ p _ below. same p (omega arith))
+
+-- those of a test that says below a bound what the value has, which has none past it
+upto-asc : (v : Bits) (test : ℕ → Bool) (n : ℕ) → ((p : ℕ) → p < n → test p ≡ contains v p) → ((p : ℕ) → n ≤ p → contains v p ≡ false) → ascending test 0 n ≡ asc v
+unfolding asc
+upto-asc v test n same past =
+    let all : ℕ = n + v.length in
+    let turned : v.length + n ≡ all = omega arith in
+    sym (ascending-cut (contains v) test 0 n v.length (λ p _ below. sym (same p (omega arith))) (λ p above _. past p (omega arith)))
+    ∙ ap (ascending (contains v) 0) (sym turned)
+    ∙ ascending-cut (contains v) (contains v) 0 v.length n (λ p _ _. refl) (λ p above _. contains-past v p (omega arith))
 
 -- the first and the last position of the words that a set keeps
 module _ (n : ℕ) (ws : List ℕ) (clean : IsClean n ws) where
@@ -126,20 +136,23 @@ unfolding asc
 sieved v u test long members =
     filter-ascending (contains v) test 0 v.length ∙ ascending-same _ (contains u) 0 v.length (λ p _ _. sym (members p)) ∙ ap (ascending (contains u) 0) (sym long)
 
+-- the positions of words that have those of v, each joined with the word at its place of a row that has those of w
+module _ {f : ℕ → ℕ → ℕ} {t : Bool → Bool → Bool} {keep take_right : Bool} (law : IsWordOp f t keep take_right) (drops : take_right ≡ false)
+    (v w u : Bits) (members : (p : ℕ) → contains u p ≡ t (contains v p) (contains w p)) where
+  pub asc-beside : (ws row : List ℕ) → AreWords ws → AreWords row → ((p : ℕ) → p < 64 * length ws → has_bit ws p ≡ contains v p) → ((p : ℕ) → has_bit row p ≡ contains w p)
+      → ((p : ℕ) → 64 * length ws ≤ p → contains u p ≡ false) → ascending (has_bit (beside f ws row)) 0 (64 * length (beside f ws row)) ≡ asc u
+  asc-beside ws row are_ws are_row own other past =
+      let long = length-beside f ws row in
+      upto-asc u _ (64 * length (beside f ws row))
+      (λ p below. let first = own p (omega (arith, below, long)) in let second = other p in has_bit-beside law drops ws row are_ws are_row p ∙ (λ i. t (first i) (second i)) ∙ sym (members p))
+      (λ p above. past p (omega (arith, above, long)))
+
 module _ (v w : Bits) where
   pub asc-intersection : filter (λ p. contains w p) (asc v) ≡ asc (intersection v w)
   asc-intersection = sieved v (intersection v w) _ (length-intersection v w) (contains-intersection v w)
 
   pub asc-difference : filter (λ p. not (contains w p)) (asc v) ≡ asc (difference v w)
   asc-difference = sieved v (difference v w) _ (length-difference v w) (contains-difference v w)
-
-  -- the positions of the words of v, each joined with the word at its place of a row that has those of w
-  module _ {f : ℕ → ℕ → ℕ} {t : Bool → Bool → Bool} {keep take_right : Bool} (law : IsWordOp f t keep take_right) (drops : take_right ≡ false)
-      (u : Bits) (long : u.length ≡ v.length) (members : (p : ℕ) → contains u p ≡ t (contains v p) (contains w p)) where
-    pub asc-beside : (row : List ℕ) → AreWords row → ((p : ℕ) → has_bit row p ≡ contains w p) → ascending (has_bit (beside f (words v) row)) 0 (64 * length (beside f (words v) row)) ≡ asc u
-    asc-beside row are has =
-        row-asc u _ _ (omega (arith, long, length-beside f (words v) row, length-words v)) (λ p.
-        has_bit-beside law drops (words v) row (are_words v) are p ∙ (let own = has_bit-words v p in let other = has p in λ i. t (own i) (other i)) ∙ sym (members p))
 
   -- the walk over the words of one value, sieved by those of another
   sieved_items : (passes : Bool → Bool) → (sieve_over passes (words v) (words w)).items ≡ filter (λ p. passes (contains w p)) (asc v)

@@ -12,12 +12,11 @@ use Rattle.std.proofs.lemmas.Str.{IsUtf8-from_ascii}
 use Rattle.std.proofs.lemmas.Str.Ascii.{IsAscii-from_reads}
 use Rattle.bitlanes.specs.Bits.{bit}
 use Rattle.bitwords.specs.AscendingFacts.{range-append}
-use Rattle.bitwords.specs.CountFacts.{indicator}
 use Rattle.bitwords.specs.Rows.{has_bit, IsJoined}
 use Rattle.bitjson.specs.Bytes.{word_of, byte_of, bytes_of}
 use Rattle.bitjson.specs.BytesFacts.{bit_at-word_of, bit_at-byte_of, byte_of-lt}
 use Rattle.bitjson.specs.Form.{object_of}
-use Rattle.fixedbitset.specs.Bits.{Bits, contains, of_words, word, words, words_needed, storage_words}
+use Rattle.fixedbitset.specs.Bits.{Bits, of_words, word, words, words_needed, storage_words}
 use Rattle.fixedbitset.specs.Json.{of_bytes, byte, bytes, written}
 use Rattle.fixedbitset.specs.Text.{digit, text}
 use Rattle.fixedbitset.specs.WordsFacts.{length-of_words, contains-of_words, number_at-lt, bit_at-number_at, length-words, get_or-words}

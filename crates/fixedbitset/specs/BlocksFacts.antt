@@ -12,7 +12,7 @@ use Rattle.fixedbitset.specs.BitsFacts.{same_bits}
 use Rattle.fixedbitset.specs.WordsFacts.{length-of_words, contains-of_words}
 use Rattle.fixedbitset.specs.Blocks.{FirstItems}
 
-has_bit-take : (n k p : ℕ) (ws : List ℕ) → words_needed n ≤ k → p < n → has_bit (take k ws) p ≡ has_bit ws p
+pub has_bit-take : (n k p : ℕ) (ws : List ℕ) → words_needed n ≤ k → p < n → has_bit (take k ws) p ≡ has_bit ws p
 unfolding has_bit
 has_bit-take n k p ws enough inside = ap (λ w. bit w (p % 64)) (get_or-take k ws (p / 64) 0 (omega arith))
 

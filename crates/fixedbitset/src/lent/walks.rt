@@ -59,7 +59,7 @@ pub fn ones_beside<'a>(
     ones(words, length)
 }
 
-/// The positions that both sets have, in ascending order.
+/// The positions that both sets have, in ascending order. It looks at words that both have alone.
 ///
 /// ```
 /// let (mut words, mut other) = ([9, 2, 0, 0], [1, 2, 0, 0]);
@@ -79,7 +79,9 @@ pub fn intersection<'a>(
     ensures { result.items ≡ model.asc
         (sets.intersection (of_words length words.now) (of_words other_length other.now)) }
 {
-    Cursor::over(Beside::of(used_words(words, length), other))
+    let words = used_words(words, length);
+    let shared = words.len().min(other.len());
+    Cursor::over(Beside::of(&words[..shared], other))
 }
 
 /// The positions of the first set that the second lacks, in ascending order.

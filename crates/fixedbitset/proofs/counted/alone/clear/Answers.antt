@@ -1,4 +1,3 @@
-use Rattle.std.proofs.Common.{arith}
 use Rattle.fixedbitset.proofs.Words.{viewed_length}
 use Rattle.fixedbitset.proofs.counted.alone.clear.Goals as goal
 
