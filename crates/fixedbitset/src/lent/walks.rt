@@ -59,7 +59,7 @@ pub fn ones_beside<'a>(
     ones(words, length)
 }
 
-/// The positions that both sets have, in ascending order. It looks at words that both have alone.
+/// The positions that both sets have, in ascending order. It looks at no word that only one of them has.
 ///
 /// ```
 /// let (mut words, mut other) = ([9, 2, 0, 0], [1, 2, 0, 0]);
