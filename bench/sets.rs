@@ -26,6 +26,9 @@ const BATCHES: usize = 200;
 /// About how many words a batch goes over, or how many single positions.
 const BATCH_WORDS: usize = 480_000;
 
+/// A call takes about as long as so many words more than those that it goes over.
+const CALL_WORDS: usize = 16;
+
 /// Makes sets of so many positions, and a call so many times.
 /// It answers how many positions are left, or what the last call answered.
 pub type Rounds = fn(usize, usize) -> usize;
@@ -277,7 +280,7 @@ const SINGLE: [Call; 7] = [
 fn least_times(bits: usize, call: &Call) -> [f64; 3] {
     let calls = call.calls.of(bits);
     let words = bits.div_ceil(64);
-    let rounds = (BATCH_WORDS / words.max(calls)).max(1);
+    let rounds = (BATCH_WORDS / (words.max(calls) + CALL_WORDS)).max(1);
     let sides = [Some(call.ours), call.upstream, call.loops];
     let mut least = sides.map(|side| {
         [if side.is_some() {

@@ -18,7 +18,7 @@ const SHARES: [u64; 3] = [1, 10, 50];
 const BATCHES: usize = 30;
 
 /// About how many words and positions a batch goes over.
-const BATCH_WORK: usize = 6_000_000;
+const BATCH_WORK: usize = 2_000_000;
 
 /// Makes a set of so many positions, of those for which a number below a limit is drawn, and a walk so many times.
 /// It answers the sum of the positions that the walks gave.

@@ -1,8 +1,7 @@
 -- The counts of two sets and of ranges, and the questions that a count of 0 answers.
-use Rattle.std.proofs.Common.{◌≡◌, ◌≢◌, ℕ, ◌+◌, ◌-◌, ◌*◌, ◌/◌, ◌^◌, ◌<◌, ◌≤◌, min, max, Bool, true, false, not, ◌&&◌, ◌||◌, ◌==◌, List, length, take, refl, sym, ap, ◌∙◌, arith}
+use Rattle.std.proofs.Common.{◌≡◌, ◌≢◌, ℕ, ◌+◌, ◌*◌, ◌/◌, ◌^◌, ◌<◌, ◌≤◌, max, Bool, true, false, not, ◌&&◌, ◌||◌, ◌==◌, List, length, take, refl, sym, ap, ◌∙◌, arith}
 use Rattle.std.specs.Ordering.{nat_cmp}
 use Rattle.std.specs.Cmp.{nat_cmp_total}
-use Rattle.std.specs.Int.{div_ceil}
 use Rattle.std.specs.FinSet as set
 use Rattle.std.specs.FinSet.{FinSet}
 use Rattle.std.proofs.lemmas.Bool.{false_from_ne_true}
@@ -10,15 +9,13 @@ use Rattle.std.proofs.lemmas.Bool.Decides.{nat_tests}
 use Rattle.std.proofs.lemmas.List.{length-take, get_or-take, take_all}
 use Rattle.bitlanes.specs.Bits.{either}
 use Rattle.bitlanes.specs.Ops.{IsWordOp}
-use Rattle.bitlanes.specs.Words.{lane_steps}
 use Rattle.bitwords.specs.Rows.{has_bit, in_range, count_below, bit_test, bits_test}
 use Rattle.bitwords.specs.RowFacts.{has_bit-past}
 use Rattle.bitwords.specs.CountFacts.{count-same, count-shorter, count-in_range, count-le}
-use Rattle.bitwords.specs.Steps.{both_steps}
 use Rattle.fixedbitset.specs.Numbers.{numbers_between, symmetric_difference}
 use Rattle.fixedbitset.specs.NumbersFacts as numbers
 use Rattle.fixedbitset.specs.NumbersFacts.{same_set, contains-kept, len-below, none_len, same_truth}
-use Rattle.fixedbitset.specs.Bits.{Bits, words_needed, storage_words, contains, of_words}
+use Rattle.fixedbitset.specs.Bits.{Bits, words_needed, contains, of_words}
 use Rattle.fixedbitset.specs.BitsFacts.{same_bits, contains-past}
 use Rattle.fixedbitset.specs.Order.{equal}
 use Rattle.fixedbitset.specs.OrderFacts.{equal_if_same, same_if_equal}
@@ -87,25 +84,6 @@ module _ (t : Bool → Bool → Bool) (neither : t false false ≡ false) (v w :
       let c : ℕ → Bool = λ p. t (contains v p) (contains w p) in
       let below = count_joined-below t neither v w (max v.length w.length) c (omega arith) (omega arith) (λ p. refl) in
       omega (arith, count_rows, below, count-le c (max v.length w.length), first.fits, second.fits)
-
--- ---- the steps over rows that are cut
-
--- words of whole lanes behind others, both cut within the last lane, lie in as many lanes
-lanes_cut : (a b used : ℕ) → div_ceil used 4 ≡ max a b → lane_steps (min (4 * a) used - min (4 * b) used) ≡ lane_steps (4 * a - 4 * b)
-lanes_cut a b used last = omega arith
-
--- so do the words that both have
-lanes_cut-both : (a b used : ℕ) → div_ceil used 4 ≡ max a b → lane_steps (min (min (4 * a) used) (min (4 * b) used)) ≡ lane_steps (min (4 * a) (4 * b))
-lanes_cut-both a b used last = omega arith
-
--- two rows, each cut behind as many words as the longer length needs, take as many steps as whole ones
-pub both_steps-cut : (keep also : Bool) (n m i j : ℕ) → i ≡ min (storage_words n) (words_needed (max n m)) → j ≡ min (storage_words m) (words_needed (max n m))
-    → both_steps keep also i j ≡ both_steps keep also (storage_words n) (storage_words m)
-both_steps-cut keep also n m i j first second =
-    let a : ℕ = div_ceil (words_needed n) 4 in
-    let b : ℕ = div_ceil (words_needed m) 4 in
-    let used : ℕ = words_needed (max n m) in
-    rw (first, second, lanes_cut-both a b used (omega arith), lanes_cut a b used (omega arith), lanes_cut b a used (omega arith)) refl
 
 -- ---- of a range and a row of words
 

@@ -11,6 +11,7 @@ ghost use Rattle.fixedbitset.specs.Stored.{IsClean, joined, count_joined};
 ghost use Rattle.fixedbitset.specs.TwoSets as sets;
 
 use crate::lent::used_words;
+use bitlanes::lanes::LANE;
 use bitlanes::ops::{And, AndNot, Or, WordOp, Xor};
 use bitlanes::word::BITS;
 use bitlanes::{Block, Steps};
@@ -389,8 +390,8 @@ pub(crate) fn join<O: WordOp>(
     joins::join::<O>(words, other, steps);
 }
 
-// How many positions of either set pass the operation's truth function. It goes over the words
-// that the longer length needs: those behind them, which make up a whole lane, are 0.
+// How many positions of either set pass the operation's truth function. Of sets of one lane it goes over the words that the
+// longer length needs. Of longer ones whole lanes are quicker.
 #[inline(always)]
 pub(crate) fn count<O: WordOp>(
     words: &[Block],
@@ -407,9 +408,10 @@ pub(crate) fn count<O: WordOp>(
         + both_steps O.KEEP O.TAKE (model.storage_words length)
         (model.storage_words other_length) }
 {
-    let used = length.max(other_length).div_ceil(BITS);
-    let words = &words[..words.len().min(used)];
-    let other = &other[..other.len().min(used)];
+    if words.len() == LANE && other.len() == LANE {
+        let used = length.max(other_length).div_ceil(BITS).min(LANE);
+        return joins::count::<O>(&words[..used], &other[..used], steps);
+    }
     joins::count::<O>(words, other, steps)
 }
 
