@@ -44,6 +44,7 @@ impl<'a> Pair<'a> {
         requires { lacked_left self.old.second ≡ [] }
         ensures joined { joined_left self.new ≡ joined_left self.old }
         ensures split { split_left self.new ≡ split_left self.old }
+        ensures brought { self.new.first.walk.back ≡ 0 }
     {
         let first = &mut self.first.walk;
         if first.back == 0 {

@@ -1,7 +1,7 @@
 //! Walks over the positions of a set that another one has, or lacks. Their calls are those of `walks`.
 //!
 //! The positions of a word are looked up in the other set at once, when the walk takes the word. So a call costs by the
-//! positions that it gives.
+//! words that it takes and the positions that it gives.
 
 ghost use Rattle.std.specs.Prelude.{◌≡◌, false};
 ghost use Rattle.std.specs.Iterator.{YieldsFirst, YieldsLast};
