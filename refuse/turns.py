@@ -33,11 +33,15 @@ class Turns:
         return self.processors - threads_that_run({os.getpid(), *(it.pid for it in self.ours)})
 
     def give_way(self):
-        while True:
+        parent = os.getppid()
+        while os.getppid() == parent:
             time.sleep(2)
             free = self.free() if self.ours else 0
             for place, process in enumerate([*self.ours]):
                 process.send_signal(signal.SIGCONT if place < free else signal.SIGSTOP)
+        # What began this has ended, so nobody waits for an answer.
+        [it.kill() for it in self.ours]
+        os._exit(1)
 
 
 def threads_that_run(but):
