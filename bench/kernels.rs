@@ -11,7 +11,7 @@ const MOST: usize = 15_625;
 const BITS: [usize; 3] = [16, 1_000, 1_000_000];
 
 /// How many batches of each call are timed, in turn with those of the other side.
-const BATCHES: usize = 4_000;
+const BATCHES: usize = 2_000;
 
 /// About how many words a batch goes over, however short the slices.
 const BATCH_WORDS: usize = 40_000;

@@ -21,7 +21,7 @@ const SINGLE_BITS: usize = 1_000;
 const COUNTED_BITS: usize = 30_000;
 
 /// How many batches of each call are timed, in turn with those of the others.
-const BATCHES: usize = 200;
+const BATCHES: usize = 100;
 
 /// About how many words a batch goes over, or how many single positions.
 const BATCH_WORDS: usize = 480_000;

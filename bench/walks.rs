@@ -15,7 +15,7 @@ const BITS: [usize; 2] = [1_000, 1_000_000];
 const SHARES: [u64; 3] = [1, 10, 50];
 
 /// How many batches of each walk are timed, in turn with those of the other side.
-const BATCHES: usize = 30;
+const BATCHES: usize = 20;
 
 /// About how many words and positions a batch goes over.
 const BATCH_WORK: usize = 2_000_000;

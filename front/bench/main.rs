@@ -10,7 +10,7 @@ use std::time::{Duration, Instant};
 use turns::turns;
 
 /// How often each side is timed, and for how long at least.
-const TURNS: usize = 61;
+const TURNS: usize = 31;
 const LEAST: Duration = Duration::from_micros(100);
 
 const LENGTHS: [usize; 5] = [100, 1_000, 1_040, 1_000_000, 1_000_040];

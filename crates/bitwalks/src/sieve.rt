@@ -1,6 +1,6 @@
 //! The walk over one row of words, sieved by another one. Each walk over two rows stands on it.
 
-ghost use Rattle.std.specs.Prelude.{◌≡◌, ◌+◌, ◌*◌, ◌^◌, ◌<◌, ◌≤◌, ℕ, Bool, not, filter, length, slice_index, Some, IfSome};
+ghost use Rattle.std.specs.Prelude.{◌≡◌, ◌+◌, ◌*◌, ◌^◌, ◌<◌, ◌≤◌, ℕ, Bool, not, filter, length, Some, IfSome};
 ghost use Rattle.std.specs.Iterator.{item_count, UpTo};
 ghost use Rattle.std.specs.Iterator.SizeHint.{IsWithinCount};
 ghost use Rattle.bitwords.specs.Rows.{has_bit};
@@ -50,24 +50,14 @@ impl Choice for Lacked {
     }
 }
 
-// The word at this index, and 0 past the last one.
-#[inline(always)]
-fn word_at(words: &[Block], index: usize) -> Block
-    ensures { result ≡ slice_index words.now index }
-{
-    match words.get(index) {
-        Some(word) => *word,
-        None => 0,
-    }
-}
-
 // Whether the position is set: `false` past the words. One test answers within them and past them,
 // so that the compiler keeps no mark of whether a position was given.
 #[inline(always)]
 fn is_set(words: &[Block], position: usize) -> bool
     ensures { result ≡ has_bit words.now position }
 {
-    word_at(words, position / BITS) & (1 << (position % BITS)) != 0
+    let word = words.get(position / BITS).copied().unwrap_or(0);
+    word & (1 << (position % BITS)) != 0
 }
 
 /// The positions of one row that pass, in ascending order.

@@ -14,7 +14,7 @@ ghost use Rattle.fixedbitset.specs.Order.{compare};
 ghost use Rattle.fixedbitset.specs.Stored.{joined};
 ghost use Rattle.fixedbitset.specs.TwoSets as sets;
 
-use crate::lent::whole::{count, equal, join, lacking, none, ordering};
+use crate::lent::whole::{count_used, equal, join, lacking, none, ordering};
 use crate::set::FixedBitSet;
 use bitlanes::Steps;
 use bitlanes::ops::{And, AndNot, Or, WordOp, Xor};
@@ -163,7 +163,7 @@ pub fn union_count(set: &FixedBitSet, other: &FixedBitSet, steps: &mut Steps) ->
         + both_steps true true (model.storage_words set.now.length)
         (model.storage_words other.now.length) }
 {
-    count::<Or>(&set.words, set.length, &other.words, other.length, steps)
+    count_used::<Or>(&set.words, set.length, &other.words, other.length, steps)
 }
 
 /// [`FixedBitSet::intersection_count`], with the steps that it takes.
@@ -182,7 +182,7 @@ pub fn intersection_count(set: &FixedBitSet, other: &FixedBitSet, steps: &mut St
         + both_steps false false (model.storage_words set.now.length)
         (model.storage_words other.now.length) }
 {
-    count::<And>(&set.words, set.length, &other.words, other.length, steps)
+    count_used::<And>(&set.words, set.length, &other.words, other.length, steps)
 }
 
 /// [`FixedBitSet::difference_count`], with the steps that it takes.
@@ -201,7 +201,7 @@ pub fn difference_count(set: &FixedBitSet, other: &FixedBitSet, steps: &mut Step
         + both_steps true false (model.storage_words set.now.length)
         (model.storage_words other.now.length) }
 {
-    count::<AndNot>(&set.words, set.length, &other.words, other.length, steps)
+    count_used::<AndNot>(&set.words, set.length, &other.words, other.length, steps)
 }
 
 /// [`FixedBitSet::symmetric_difference_count`], with the steps that it takes.
@@ -224,7 +224,7 @@ pub fn symmetric_difference_count(
         + both_steps true true (model.storage_words set.now.length)
         (model.storage_words other.now.length) }
 {
-    count::<Xor>(&set.words, set.length, &other.words, other.length, steps)
+    count_used::<Xor>(&set.words, set.length, &other.words, other.length, steps)
 }
 
 /// [`FixedBitSet::is_disjoint`], with the steps that it takes.

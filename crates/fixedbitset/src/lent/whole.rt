@@ -390,10 +390,30 @@ pub(crate) fn join<O: WordOp>(
     joins::join::<O>(words, other, steps);
 }
 
-// How many positions of either set pass the operation's truth function. Of sets of one lane it goes over the words that the
-// longer length needs. Of longer ones whole lanes are quicker.
+// How many positions of either set pass the operation's truth function.
 #[inline(always)]
 pub(crate) fn count<O: WordOp>(
+    words: &[Block],
+    length: usize,
+    other: &[Block],
+    other_length: usize,
+    steps: &mut Steps,
+) -> usize
+    requires lent { IsClean length words.now }
+    requires lent_other { IsClean other_length other.now }
+    ensures count { result
+        ≡ count_joined O.truth (of_words length words.now) (of_words other_length other.now) }
+    ensures cost { steps.new ≡ steps.old
+        + both_steps O.KEEP O.TAKE (model.storage_words length)
+        (model.storage_words other_length) }
+{
+    joins::count::<O>(words, other, steps)
+}
+
+// The same, where sets of one lane are counted by the words that the longer length needs. Compiled by the kit for AVX2, the
+// four words of a lane become one vector, which takes longer than two words.
+#[inline(always)]
+pub(crate) fn count_used<O: WordOp>(
     words: &[Block],
     length: usize,
     other: &[Block],
@@ -412,7 +432,7 @@ pub(crate) fn count<O: WordOp>(
         let used = length.max(other_length).div_ceil(BITS).min(LANE);
         return joins::count::<O>(&words[..used], &other[..used], steps);
     }
-    joins::count::<O>(words, other, steps)
+    count::<O>(words, length, other, other_length, steps)
 }
 
 // Whether no position of either set passes the operation's truth function.

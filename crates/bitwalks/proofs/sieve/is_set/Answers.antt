@@ -1,4 +1,5 @@
-use Rattle.std.proofs.Common.{◌%◌, ap, ◌∙◌, arith}
+use Rattle.std.specs.Prelude.{slice_index}
+use Rattle.std.proofs.Common.{◌≡◌, ◌/◌, ◌%◌, ap, ◌∙◌, arith}
 use Rattle.bitlanes.specs.Bits.{bit}
 use Rattle.bitlanes.specs.BitLaws.{test_of_and}
 use Rattle.bitwords.specs.Rows.{has_bit}
@@ -8,4 +9,5 @@ pub returns : goal.returns
 unfolding has_bit
 returns c =
     let at = c.args.position in
-    test_of_and _ (at % 64) (omega arith) ∙ ap (λ w. bit w (at % 64)) c.word_at.ensures
+    let word : c.unwrap_or-word.result ≡ slice_index c.args.words.now (at / 64) = grind arith in
+    test_of_and _ (at % 64) (omega arith) ∙ ap (λ w. bit w (at % 64)) word
