@@ -40,7 +40,8 @@ class Turns:
             for place, process in enumerate([*self.ours]):
                 process.send_signal(signal.SIGCONT if place < free else signal.SIGSTOP)
         # What began this has ended, so nobody waits for an answer.
-        [it.kill() for it in self.ours]
+        for process in [*self.ours]:
+            process.kill()
         os._exit(1)
 
 
