@@ -8,6 +8,7 @@
 #include <cstdint>
 #include <cstdio>
 #include <functional>
+#include <new>
 #include <random>
 #include <roaring/roaring.h>
 #include <vector>
@@ -18,8 +19,20 @@ extern "C" {
 
 constexpr size_t LENGTH = 1000000;
 
+// Each set's words begin at a multiple of this, so that none lie better than the others'.
+constexpr std::align_val_t LINE{64};
+
+template <class T> struct InLines {
+    using value_type = T;
+    InLines() = default;
+    template <class U> InLines(const InLines<U> &) {}
+    T *allocate(size_t count) { return static_cast<T *>(operator new(count * sizeof(T), LINE)); }
+    void deallocate(T *words, size_t) { operator delete(words, LINE); }
+    template <class U> bool operator==(const InLines<U> &) const { return true; }
+};
+
 using Std = std::bitset<LENGTH>;
-using Boost = boost::dynamic_bitset<uint64_t>;
+using Boost = boost::dynamic_bitset<uint64_t, InLines<uint64_t>>;
 
 static volatile size_t kept;
 
@@ -54,9 +67,9 @@ static void row(const char *call, double share, std::initializer_list<std::funct
 
 // The same drawn positions in each kind of set.
 struct Sets {
-    std::vector<uint64_t> words = std::vector<uint64_t>(bits_words(LENGTH));
+    std::vector<uint64_t, InLines<uint64_t>> words = std::vector<uint64_t, InLines<uint64_t>>(bits_words(LENGTH));
     bits ours = BITS_OF(words.data(), LENGTH);
-    Std plain;
+    alignas(64) Std plain;
     Boost boost = Boost(LENGTH);
     roaring_bitmap_t *roaring = roaring_bitmap_create();
 
