@@ -5,6 +5,7 @@
 mod flows;
 mod kernels;
 mod large;
+mod limits;
 mod memory;
 mod sets;
 mod table;
@@ -32,14 +33,18 @@ unsafe extern "C" {
     static shift_end: u8;
 }
 
-/// Prints the times alone, or with a file of such times the tables of the least of both, or with `large` the times at a
-/// billion positions.
+/// Prints the times alone, or with a file of such times the tables of the least of both; or with `large` the times at a
+/// billion positions, or with `limits` those beside what the machine can do.
 fn main() {
     black_box(&raw const shift_end);
-    if std::env::args().nth(1).is_some_and(|word| word == "large") {
+    let given = std::env::args().nth(1);
+    if given.as_deref() == Some("large") {
         return large::print();
     }
     memory::keep_freed();
+    if given.as_deref() == Some("limits") {
+        return limits::print();
+    }
     let mut tables: Vec<(&str, Vec<table::Row>)> = vec![
         ("Calls of a set", sets::rows()),
         ("A position of a walk", walks::rows()),
@@ -48,7 +53,7 @@ fn main() {
     ];
     memory::lay_as_malloc();
     tables.push(("Calls of a set elsewhere in memory", sets::laid()));
-    let Some(file) = std::env::args().nth(1) else {
+    let Some(file) = given else {
         for (_, rows) in &tables {
             table::print_times(rows);
         }

@@ -318,7 +318,14 @@ fn row(bits: usize, call: &Call) -> Row {
     }
 }
 
-/// Those of the calls that are timed at a billion positions too.
+/// The calls over whole sets, of ours and of upstream's.
+pub fn whole() -> impl Iterator<Item = (&'static str, Rounds, Option<Rounds>)> {
+    WHOLE
+        .iter()
+        .map(|call| (call.name, call.ours, call.upstream))
+}
+
+/// Those of them that are timed at a billion positions too.
 pub fn large() -> impl Iterator<Item = (&'static str, Rounds, Option<Rounds>)> {
     let names = [
         "insert_range(..)",
@@ -332,8 +339,7 @@ pub fn large() -> impl Iterator<Item = (&'static str, Rounds, Option<Rounds>)> {
         "clone",
         "clone_from",
     ];
-    let calls = WHOLE.iter().filter(move |call| names.contains(&call.name));
-    calls.map(|call| (call.name, call.ours, call.upstream))
+    whole().filter(move |(name, ..)| names.contains(name))
 }
 
 pub fn rows() -> Vec<Row> {

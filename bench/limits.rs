@@ -1,0 +1,176 @@
+//! Times calls of a set beside what the machine can do at most: loops that only read, write or count as many words.
+
+use crate::sets::{self, Rounds};
+use crate::turns::{said, turns};
+use std::arch::asm;
+use std::hint::black_box;
+use std::time::Instant;
+
+/// How many positions the sets have. The loops leave out the last eight bytes of them, which are not a whole turn.
+const BITS: usize = 1_000_000;
+
+/// How many batches of each call are timed, in turn with those of its limit, and how many calls each has.
+const BATCHES: usize = 200;
+const ROUNDS: usize = 30;
+
+/// A loop over two blocks, or over the first of them alone.
+type Loop = fn(&mut [u64], &[u64]);
+
+/// A loop with these instructions for each vector: `\at` bytes from `{a}`, and from `{b}`. A turn goes over 64 bytes. Where
+/// `AHEAD` is not 0 each turn asks for what lies so many bytes further on.
+macro_rules! over_vectors {
+    ($name:ident, $narrow:literal, $wide:literal) => {
+        fn $name<const AHEAD: usize>(a: &mut [u64], b: &[u64]) {
+            let turns = a.len().min(b.len()) / 8;
+            assert!(
+                turns > 0 && a.as_ptr().align_offset(32) == 0 && b.as_ptr().align_offset(32) == 0
+            );
+            unsafe {
+                asm!("2:", ".if {ahead}", "prefetcht0 [{a} + {ahead}]", "prefetcht0 [{b} + {ahead}]", ".endif",
+                    ".if {wide}", ".irp at, 0, 32", $wide, ".endr",
+                    ".else", ".irp at, 0, 16, 32, 48", $narrow, ".endr", ".endif",
+                    "add {a}, 64", "add {b}, 64", "dec {turns}", "jnz 2b",
+                    ahead = const AHEAD, wide = const cfg!(target_feature = "avx2") as usize,
+                    a = inout(reg) a.as_mut_ptr() => _, b = inout(reg) b.as_ptr() => _, turns = inout(reg) turns => _,
+                    out("rax") _, out("xmm0") _, options(nostack));
+            }
+        }
+    };
+}
+
+over_vectors!(
+    read,
+    "movdqa xmm0, [{a} + \\at]",
+    "vmovdqa ymm0, [{a} + \\at]"
+);
+over_vectors!(
+    read_both,
+    "movdqa xmm0, [{a} + \\at]\nmovdqa xmm0, [{b} + \\at]",
+    "vmovdqa ymm0, [{a} + \\at]\nvmovdqa ymm0, [{b} + \\at]"
+);
+over_vectors!(
+    write,
+    "movdqa [{a} + \\at], xmm0",
+    "vmovdqa [{a} + \\at], ymm0"
+);
+over_vectors!(
+    change,
+    "movdqa xmm0, [{a} + \\at]\nmovdqa [{a} + \\at], xmm0",
+    "vmovdqa ymm0, [{a} + \\at]\nvmovdqa [{a} + \\at], ymm0"
+);
+over_vectors!(
+    join,
+    "movdqa xmm0, [{a} + \\at]\npor xmm0, [{b} + \\at]\nmovdqa [{a} + \\at], xmm0",
+    "vmovdqa ymm0, [{a} + \\at]\nvpor ymm0, ymm0, [{b} + \\at]\nvmovdqa [{a} + \\at], ymm0"
+);
+over_vectors!(
+    count,
+    ".irp word, 0, 8\nxor eax, eax\npopcnt rax, [{a} + \\at + \\word]\n.endr",
+    ".irp word, 0, 8, 16, 24\nxor eax, eax\npopcnt rax, [{a} + \\at + \\word]\n.endr"
+);
+
+/// What the C library does.
+fn fill(a: &mut [u64], _: &[u64]) {
+    a.fill(u64::MAX);
+    black_box(a);
+}
+
+/// What a call has to do at least, loops that do no more, and the calls.
+struct Limit {
+    work: &'static str,
+    loops: &'static [Loop],
+    calls: &'static [&'static str],
+}
+
+const AHEAD: usize = 512;
+
+const LIMITS: [Limit; 6] = [
+    Limit {
+        work: "reads a set",
+        loops: &[read::<0>, read::<AHEAD>],
+        calls: &["maximum, of the first 64", "is_clear, of no position"],
+    },
+    Limit {
+        work: "reads two sets",
+        loops: &[read_both::<0>, read_both::<AHEAD>],
+        calls: &[
+            "is_disjoint",
+            "is_subset",
+            "is_superset",
+            "==, of equal sets",
+        ],
+    },
+    Limit {
+        work: "writes a set",
+        loops: &[write::<0>, fill],
+        calls: &["insert_range(..)"],
+    },
+    Limit {
+        work: "reads a set and writes it",
+        loops: &[change::<0>, change::<AHEAD>],
+        calls: &["toggle_range(..)"],
+    },
+    Limit {
+        work: "reads two sets and writes one",
+        loops: &[join::<0>, join::<AHEAD>],
+        calls: &[
+            "union_with",
+            "intersect_with",
+            "difference_with",
+            "symmetric_difference_with",
+        ],
+    },
+    Limit {
+        work: "counts the bits of each word",
+        loops: &[count::<0>, count::<AHEAD>],
+        calls: &[
+            "count_ones(..)",
+            "count_zeroes(..)",
+            "union_count",
+            "intersection_count",
+            "difference_count",
+            "symmetric_difference_count",
+        ],
+    },
+];
+
+fn nanoseconds(run: impl FnOnce()) -> f64 {
+    let start = Instant::now();
+    run();
+    start.elapsed().as_nanos() as f64 / ROUNDS as f64
+}
+
+/// The least nanoseconds of the loops, and of a call.
+fn least_times(loops: &[Loop], call: Rounds) -> [f64; 2] {
+    let mut changed = vec![0; BITS / 64];
+    let other = vec![0; BITS / 64];
+    let [mut limit, mut none, mut all] = [f64::INFINITY; 3];
+    for () in turns(BATCHES) {
+        for run in loops {
+            limit = limit.min(nanoseconds(|| {
+                (0..ROUNDS).for_each(|_| run(&mut changed, &other));
+            }));
+        }
+        for (time, rounds) in [(&mut none, 0), (&mut all, ROUNDS)] {
+            *time = time.min(nanoseconds(|| {
+                black_box(call(black_box(BITS), rounds));
+            }));
+        }
+    }
+    [limit, all - none]
+}
+
+pub fn print() {
+    println!("\n| call | what it does at least | limit, ours: nanoseconds | ours / limit |");
+    println!("|---|---|---|---|");
+    for Limit { work, loops, calls } in LIMITS {
+        for (name, call, _) in sets::whole().filter(|(name, ..)| calls.contains(name)) {
+            let [limit, ours] = least_times(loops, call);
+            println!(
+                "| `{name}` | {work} | {limit:.1}, {ours:.1} | {:.2} |",
+                ours / limit
+            );
+        }
+    }
+    println!("\n{}", said());
+}
