@@ -113,13 +113,14 @@ pub(crate) fn find(text: &[u8], byte: u8) -> Option<usize>
     text.iter().position(|b| *b == byte)
 }
 
-/// Whether the word is this text.
+/// Whether the word is this text. The first bytes are compared before all are, so a caller with many texts is compiled to a
+/// jump by that byte.
 #[inline(always)]
 pub(crate) fn is<const N: usize>(word: &[u8], text: &[u8; N]) -> bool
     ensures { result ≡ is word.now text.now }
 {
     match word.as_array::<N>() {
-        Some(word) => *word == *text,
+        Some(word) => (N == 0 || word[0] == text[0]) && *word == *text,
         None => false,
     }
 }
