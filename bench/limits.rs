@@ -16,21 +16,22 @@ const ROUNDS: usize = 30;
 /// A loop over two blocks, or over the first of them alone.
 type Loop = fn(&mut [u64], &[u64]);
 
-/// A loop with these instructions for each vector: `\at` bytes from `{a}`, and from `{b}`. A turn goes over 64 bytes. Where
-/// `AHEAD` is not 0 each turn asks for what lies so many bytes further on.
+/// A loop with these instructions for each vector: `\at` bytes from `{a}`, and from `{b}` where it goes over both. A turn goes
+/// over 64 bytes. Where `AHEAD` is not 0 each turn asks for what lies so many bytes further on, in the blocks that it reads.
 macro_rules! over_vectors {
-    ($name:ident, $narrow:literal, $wide:literal) => {
+    ($name:ident, $both:literal, $narrow:literal, $wide:literal) => {
         fn $name<const AHEAD: usize>(a: &mut [u64], b: &[u64]) {
             let turns = a.len().min(b.len()) / 8;
             assert!(
                 turns > 0 && a.as_ptr().align_offset(32) == 0 && b.as_ptr().align_offset(32) == 0
             );
             unsafe {
-                asm!("2:", ".if {ahead}", "prefetcht0 [{a} + {ahead}]", "prefetcht0 [{b} + {ahead}]", ".endif",
+                asm!("2:", ".if {ahead}", "prefetcht0 [{a} + {ahead}]",
+                    ".if {both}", "prefetcht0 [{b} + {ahead}]", ".endif", ".endif",
                     ".if {wide}", ".irp at, 0, 32", $wide, ".endr",
                     ".else", ".irp at, 0, 16, 32, 48", $narrow, ".endr", ".endif",
                     "add {a}, 64", "add {b}, 64", "dec {turns}", "jnz 2b",
-                    ahead = const AHEAD, wide = const cfg!(target_feature = "avx2") as usize,
+                    ahead = const AHEAD, both = const $both as usize, wide = const cfg!(target_feature = "avx2") as usize,
                     a = inout(reg) a.as_mut_ptr() => _, b = inout(reg) b.as_ptr() => _, turns = inout(reg) turns => _,
                     out("rax") _, out("xmm0") _, options(nostack));
             }
@@ -40,31 +41,37 @@ macro_rules! over_vectors {
 
 over_vectors!(
     read,
+    false,
     "movdqa xmm0, [{a} + \\at]",
     "vmovdqa ymm0, [{a} + \\at]"
 );
 over_vectors!(
     read_both,
+    true,
     "movdqa xmm0, [{a} + \\at]\nmovdqa xmm0, [{b} + \\at]",
     "vmovdqa ymm0, [{a} + \\at]\nvmovdqa ymm0, [{b} + \\at]"
 );
 over_vectors!(
     write,
+    false,
     "movdqa [{a} + \\at], xmm0",
     "vmovdqa [{a} + \\at], ymm0"
 );
 over_vectors!(
     change,
+    false,
     "movdqa xmm0, [{a} + \\at]\nmovdqa [{a} + \\at], xmm0",
     "vmovdqa ymm0, [{a} + \\at]\nvmovdqa [{a} + \\at], ymm0"
 );
 over_vectors!(
     join,
+    true,
     "movdqa xmm0, [{a} + \\at]\npor xmm0, [{b} + \\at]\nmovdqa [{a} + \\at], xmm0",
     "vmovdqa ymm0, [{a} + \\at]\nvpor ymm0, ymm0, [{b} + \\at]\nvmovdqa [{a} + \\at], ymm0"
 );
 over_vectors!(
     count,
+    false,
     ".irp word, 0, 8\nxor eax, eax\npopcnt rax, [{a} + \\at + \\word]\n.endr",
     ".irp word, 0, 8, 16, 24\nxor eax, eax\npopcnt rax, [{a} + \\at + \\word]\n.endr"
 );
