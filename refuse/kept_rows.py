@@ -33,6 +33,8 @@ TRIED_AGAIN = [
     ("a clause of the judged function", SOURCE_PATH, "number < 2 ^ 63", "number < 2 ^ 61"),
     ("a clause of another function", SOURCE_PATH, "number + 2", "number + 1 + 1"),
     ("a constant", SOURCE_PATH, "u64 = 10;", "u64 = 9 + 1;"),
+    ("an attribute of another function", SOURCE_PATH, "pub fn second(", "#[inline(always)]\npub fn second("),
+    ("the tactic of the judged function", SOURCE_PATH, "pub fn next(", "#[tactic(auto, using(crate::proofs::Lemmas::more))]\npub fn next("),
     ("a proof file of the function", "crates/numbers/proofs/next/Answers.antt", "answer", "reply"),
     ("a file of lemmas", "crates/numbers/proofs/Lemmas.antt", "more", "less"),
     ("a definition", "crates/numbers/specs/Sizes.antt", "n < 2", "n < 1 + 1"),
@@ -46,6 +48,7 @@ TRIED_AGAIN = [
 NOT_TRIED_AGAIN = [
     ("the body of another function", SOURCE_PATH, "    next(next(number))", "    let one = next(number);\n    next(one)"),
     ("the proof of another function", "crates/numbers/proofs/second/Answers.antt", "other", "another"),
+    ("the tactic of another function", SOURCE_PATH, "pub fn second(", "#[tactic(auto, using(crate::proofs::Lemmas::more))]\npub fn second("),
     ("a comment and an empty line", SOURCE_PATH, "/// The number after the next one.", "\n// Two more.\n/// Two more than this one."),
     ("a body in a crate below", f"{RLIB}/format", "checked 1\nsum 1", "checked 2\nsum 2"),
     ("a proof in a crate below", f"{RLIB}/lang/antt/proofs/Own.antt", "own", "its_own"),

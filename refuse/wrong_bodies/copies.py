@@ -126,7 +126,7 @@ def without_bodies(crate, texts, judging):
         if path.endswith(".rt"):
             functions = rattle.functions_of(path, text)
             others = outermost(it for it in functions if it.body and not judging & {crate.place_of(it), it.symbol})
-            made[path] = with_loops(text, tuple(it.body for it in others))
+            made[path] = with_loops(text, tuple(others))
             for it in others:
                 put_hole(crate, it, made)
     return made
@@ -143,11 +143,16 @@ def outermost(functions):
 
 
 @functools.lru_cache(maxsize=1024)
-def with_loops(text, bodies):
-    """The text with an endless loop in place of each of these bodies. Each line stays where it was."""
+def with_loops(text, functions):
+    """The text with an endless loop in place of the body of each of these functions, and no tactic for its proof. Each line
+    stays where it was."""
     lines = text.split("\n")
-    for body in bodies:
+    for function in functions:
+        body = function.body
         lines[body.start : body.stop] = ["loop {}", *[""] * (len(body) - 1)]
+        for number in range(function.lines.start - 1, body.start):
+            if lines[number].lstrip().startswith("#[tactic("):
+                lines[number] = ""
     return "\n".join(lines)
 
 

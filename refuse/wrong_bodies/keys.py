@@ -10,8 +10,8 @@ REFUSE = pathlib.Path(__file__).resolve().parent.parent
 sys.path.append(str(REFUSE))
 import kept  # noqa: E402
 
-# What of a library a check above does not read: sums of all its files, which change with each body.
-SUMS = re.compile(r"(?m)^(?:rattle-build|checked|sum) .*\n")
+# The lines of a library's `format` that change with each body: sums of its files.
+SUMS = re.compile(r"(?m)^(?:checked|sum) .*\n")
 
 
 class Verdicts:
