@@ -118,6 +118,7 @@ def check_kept(counts):
     check_stubs(counts)
     check_what_is_not_kept(counts)
     check_entries(counts)
+    check_store(counts)
     check_runs_over_kept(counts)
 
 
@@ -172,6 +173,9 @@ def check_entries(counts):
             entry.write_text(damage(entry.read_text()))
             counts.compare(f"an entry that is {name} counts as none", it.run(REFUSES)[0], 1)
             counts.compare(f"an entry that is {name} is written anew", it.run()[0], 0)
+
+
+def check_store(counts):
     with tries() as it:
         counts.compare("the store is its owner's alone", f"{(it.top / 'store').stat().st_mode & 0o777:o}", "700")
         with mock.patch("kept.LEFT_ON_DISK", 1 << 60):
@@ -180,7 +184,8 @@ def check_entries(counts):
         with mock.patch("kept.MOST_ENTRIES", 1):
             it.store.put("later", {})
             it.store.shrink()
-        counts.compare("the entry longest unused goes where they are too many", [path.name for path in it.entries()], ["later"])
+        left = [path.name for path in it.entries()]
+        counts.compare("the entry longest unused goes where they are too many", left, ["later"])
     with tempfile.TemporaryDirectory() as folder:
         pathlib.Path(folder, "store").write_text("")
         store = Kept(folder=pathlib.Path(folder, "store"))

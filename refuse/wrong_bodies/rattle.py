@@ -8,7 +8,9 @@ HEAD = re.compile(r"( *)(?:pub(?:\(\w+\))? )?(?:(?:const |unsafe |extern \"C\" )
 HEADING = re.compile(r"(?:pub )?(?:unsafe )?(?:impl|trait)\b ?(.*)")
 # A line that ends the signature and the clauses of a function, or the whole of a constant.
 OPENS = re.compile(r"(?:;|\{|\{\})(?: //.*)?$")
-DEFINITION = re.compile(r"(?P<indent> *)(?P<words>(?:pub |abbrev |unfoldable |opaque )*)(?P<kind>(?:record |data )?)(?P<name>\S*)(?P<rest>.*)")
+DEFINITION = re.compile(
+    r"(?P<indent> *)(?P<words>(?:pub |abbrev |unfoldable |opaque )*)(?P<kind>(?:record |data )?)(?P<name>\S*)(?P<rest>.*)"
+)
 # A line of specs/ that defines nothing of its own.
 OTHER_ITEMS = ("use", "mod", "module", "open", "syntax")
 COMMENT = {".rt": re.compile(r" *//"), ".antt": re.compile(r" *--(?: |$)")}
@@ -80,21 +82,15 @@ def first_line(lines, start, is_wanted, otherwise):
 
 
 def function_at(path, lines, at):
-    """The function whose head is this line. It ends at the first brace with its own indent."""
+    """The function whose head is this line."""
     indent, name = HEAD.match(lines[at]).groups()
-    opens = first_line(lines, at, OPENS.search, at)
-    ends = {indent + "}", indent + "{}"}
-    if lines[opens][-1] not in "{}":
-        ends.add(lines[opens])
-    last = first_line(lines, opens, lambda it: it in ends, at)
-    first = at
-    while first > 0 and lines[first - 1].startswith(indent + "#["):
-        first -= 1
+    first, opens, last = extent_of(lines, at)
     text = "\n".join(lines[first : last + 1])
     heading = heading_above(lines, at) if indent else None
     place = heading.symbol if heading else module_of(path)
     is_of_trait = bool(indent) and (not heading or heading.is_of_trait)
     is_alone = not calls_itself(name, text)
+    may_change = is_alone and not (heading and heading.declares_trait)
     return Function(
         path=path,
         name=name,
@@ -103,8 +99,23 @@ def function_at(path, lines, at):
         lines=range(first + 1, last + 2),
         text=text,
         is_plain=not is_of_trait and name != "main" and is_alone,
-        body=body_of(lines, at, opens, last, may_change=is_alone and not (heading and heading.declares_trait)),
+        body=body_of(lines, at, opens, last) if may_change else range(0),
     )
+
+
+def extent_of(lines, at):
+    """The numbers from 0 of the first line of a function, with those of its attributes, of the line that ends its signature,
+    and of its last: the first brace with its own indent."""
+    indent = HEAD.match(lines[at])[1]
+    opens = first_line(lines, at, OPENS.search, at)
+    ends = {indent + "}", indent + "{}"}
+    if lines[opens][-1] not in "{}":
+        ends.add(lines[opens])
+    last = first_line(lines, opens, lambda it: it in ends, at)
+    first = at
+    while first > 0 and lines[first - 1].startswith(indent + "#["):
+        first -= 1
+    return first, opens, last
 
 
 def calls_itself(name, text):
@@ -112,18 +123,18 @@ def calls_itself(name, text):
     return bool(re.search(rf"(?<!fn )(?<![\w:.]){name}\(|\b[sS]elf(\.|::){name}\(|#\[(?:cycle|test)\b", text))
 
 
-def body_of(lines, at, opens, last, may_change):
-    """The lines of a body for which another may stand. A clause may end with a brace too, so the last word has a brace that
-    is a line of its own."""
+def body_of(lines, at, opens, last):
+    """The lines of a body for which another may stand. A clause may end with a brace too, so the body begins at the brace that
+    is a line of its own, if there is one."""
     indent, name = HEAD.match(lines[at]).groups()
     has_braces = lines[opens].endswith("{") and lines[last] == indent + "}"
-    if not may_change or not has_braces or name in ("main", "drop"):
+    if not has_braces or name in ("main", "drop"):
         return range(0)
     begins = next((it for it in range(at, last) if lines[it] == indent + "{"), opens)
     return range(begins + 1, last)
 
 
-@functools.lru_cache(maxsize=None)
+@functools.lru_cache(maxsize=2048)
 def functions_of(path, text):
     """The functions of a file, in their order."""
     if not path.endswith(".rt"):
