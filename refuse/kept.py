@@ -116,9 +116,13 @@ class Kept:
         if not anew:
             self.folder = usable(pathlib.Path(folder) if folder else kit().parent / "fixedbitset-kept")
 
+    @property
+    def is_usable(self):
+        return self.folder is not None
+
     def get(self, key):
         """What was kept by this key, or None."""
-        if self.folder is None:
+        if not self.is_usable:
             return None
         path = self.folder / key
         try:
@@ -145,7 +149,7 @@ class Kept:
 
     def has_room(self):
         try:
-            return self.folder is not None and shutil.disk_usage(self.folder).free >= LEFT_ON_DISK
+            return self.is_usable and shutil.disk_usage(self.folder).free >= LEFT_ON_DISK
         except OSError:
             return False
 
@@ -169,8 +173,9 @@ class Kept:
 
 
 def usable(folder):
-    """The folder, made where there is none, or None where it is not one of ours alone."""
+    """The folder, made where there is none, or None where it is not one of ours alone, or where the kit cannot be read."""
     try:
+        kit_sum()
         os.makedirs(folder, 0o700, exist_ok=True)
         found = os.lstat(folder)
         if stat.S_ISDIR(found.st_mode) and found.st_uid == os.geteuid():

@@ -2,7 +2,6 @@
 import os
 import pathlib
 import shutil
-import tempfile
 
 
 class Checks:
@@ -10,10 +9,13 @@ class Checks:
     def __init__(self, project, processes):
         self.project, self.processes = project, processes
 
+    def room(self):
+        return self.processes.room()
+
     def check(self, copy, work=None, fills=False):
         """What a check says of a copy: from nothing, or over a copy of the work that a check left in a folder, or over that
         folder itself, which it fills."""
-        with tempfile.TemporaryDirectory(prefix="edits-") as room:
+        with self.room() as room:
             for path, text in copy.files().items():
                 os.makedirs(os.path.dirname(f"{room}/{path}"), exist_ok=True)
                 pathlib.Path(room, path).write_text(text)

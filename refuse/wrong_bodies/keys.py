@@ -21,6 +21,8 @@ class Verdicts:
 
     def kept(self, edit):
         """What an earlier run said of the same edit, which was refused, or None."""
+        if not self.store.is_usable:
+            return None
         for key in (self.key_in_round(edit), self.key_alone(edit)):
             value = self.store.get(key) if key else None
             if value and value.get("edit") == f"{edit.crate.name}/{edit.name}":
@@ -28,6 +30,8 @@ class Verdicts:
         return None
 
     def keep(self, edit, why, is_alone=False):
+        if not self.store.is_usable:
+            return
         key = self.key_alone(edit) if is_alone else self.key_in_round(edit)
         if key and self.libraries_are_as_read(edit.crate):
             value = {"edit": f"{edit.crate.name}/{edit.name}", "why": why, "first_line": first_line(edit)}

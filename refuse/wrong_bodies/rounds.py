@@ -1,6 +1,5 @@
 """Tries the edits in rounds, in lanes."""
 import re
-import tempfile
 import threading
 import time
 from concurrent.futures import FIRST_COMPLETED, ThreadPoolExecutor, wait
@@ -68,7 +67,7 @@ class Runner:
         edits = self.those_to_judge(edits)
         known = {it: why for it in edits if (why := self.kept.kept(it)) is not None}
         left = [it for it in edits if it not in known]
-        with tempfile.TemporaryDirectory(prefix="edits-kept-") as work:
+        with self.checks.room() as work:
             keeps = False
             if self.wants_first_check(left):
                 keeps, said = self.first_check(left, work)
