@@ -1,4 +1,5 @@
-"""Processes that give way to others on this machine, which would all take longer side by side than one after another.
+"""The checks that a run of edits begins, and how they give way to others on this machine: all would take longer side by side
+than one after another.
 
 refuse/edits stands on it.
 """
@@ -10,23 +11,48 @@ import threading
 import time
 
 
-class Turns:
-    """Our processes beside those of others. One begins once a processor is free, and those begun last stand still while more
-    want to run than there are processors."""
+class Processes:
+    """The processes that run for us. None is left where we are told to end."""
     def __init__(self):
-        self.ours, self.starting, self.processors = [], threading.Lock(), len(os.sched_getaffinity(0))
+        self.ours = []
+
+    def run(self, words, folder):
+        """Runs a command in a folder, and answers what it printed."""
+        process = self.begin(words, folder)
+        said = process.communicate()[0]
+        self.ours.remove(process)
+        return said.decode(errors="replace")
+
+    def begin(self, words, folder):
+        how = {"stdin": subprocess.DEVNULL, "stdout": subprocess.PIPE, "stderr": subprocess.STDOUT}
+        process = subprocess.Popen(words, cwd=folder, **how)
+        self.ours.append(process)
+        return process
+
+    def end_all(self, status):
+        """Ends all of them, and this process."""
+        for process in list(self.ours):
+            process.kill()
+        os._exit(status)
+
+    def end_on_signals(self):
+        for number in (signal.SIGTERM, signal.SIGINT, signal.SIGHUP):
+            signal.signal(number, lambda received, _: self.end_all(128 + received))
+
+
+class Turns(Processes):
+    """Our processes beside those of others. One begins once a processor is free, and those begun last stand still while more
+    want to run than there are processors. They end with the process that began us, for then nobody waits for an answer."""
+    def __init__(self):
+        super().__init__()
+        self.starting, self.processors = threading.Lock(), len(os.sched_getaffinity(0))
         threading.Thread(target=self.give_way, daemon=True).start()
 
-    def run(self, words, **more):
-        """Runs a command in its turn, and answers what it printed."""
+    def begin(self, words, folder):
         with self.starting:
             while self.free() <= len(self.ours):
                 time.sleep(1)
-            process = subprocess.Popen(words, **more)
-            self.ours.append(process)
-        said = process.communicate()[0]
-        self.ours.remove(process)
-        return said
+            return super().begin(words, folder)
 
     def free(self):
         """How many processors others leave."""
@@ -37,12 +63,9 @@ class Turns:
         while os.getppid() == parent:
             time.sleep(2)
             free = self.free() if self.ours else 0
-            for place, process in enumerate([*self.ours]):
+            for place, process in enumerate(list(self.ours)):
                 process.send_signal(signal.SIGCONT if place < free else signal.SIGSTOP)
-        # What began this has ended, so nobody waits for an answer.
-        for process in [*self.ours]:
-            process.kill()
-        os._exit(1)
+        self.end_all(1)
 
 
 def threads_that_run(but):
