@@ -86,10 +86,10 @@ class Plan:
     def fronts(self):
         """What stands above the static library and is no Rattle."""
         library = self.sources("bits_c", parts=("src", "specs", "proofs"))
-        front = Stage("the crate for Rust and the header for C", ("front/test",), ("front", "README.md", *library), MAKERS)
+        front = Stage("the crate for Rust and the header for C", ("front/test",), ("front", *library), MAKERS, ("README.md",))
         server = ("pg_config", "postgres", "psql", *MAKERS)
-        inputs = ("front/postgres", "front/lib", "front/c", "README.md")
-        postgres = Stage("the type for PostgreSQL", ("front/postgres/test",), inputs, server)
+        inputs = ("front/postgres", "front/lib", "front/c")
+        postgres = Stage("the type for PostgreSQL", ("front/postgres/test",), inputs, server, ("README.md",))
         return [front, postgres] if self.has("bits_c") else []
 
     def last(self):
@@ -97,16 +97,16 @@ class Plan:
         bits = (*self.sources("bits"), "bits", "build.sh", "examples", f"{SCRIPTS}/programs", f"{SCRIPTS}/report.sh")
         shared = ("refuse/running.py", "refuse/slow.py", "refuse/slow_answers.py", "refuse/refuse.c", "refuse/memory.txt",
                   "refuse/calls.py")
-        uses = [it for it in self.crates if it.startswith("use_") and it != "use_text"]
+        uses = [it for it in self.names if it.startswith("use_") and it != "use_text"]
         stored = [f"crates/{it}/{part}" for it in uses for part in ("cases", "wrong", "stdin", "stdout")]
         stored = [it for it in stored if (self.top / it).exists()]
         commands = ("docs/COMMANDS.md", "docs/check_commands")
         refusals = self.sources("test_refusals", "bits")
         stages = [
-            ("bits", Stage("programs", (f"{SCRIPTS}/programs",), bits, ("cc",))),
-            ("bits", Stage("examples of docs/COMMANDS.md", ("docs/check_commands",), (*bits, *commands))),
-            ("bits", Stage("lines with one byte changed", ("refuse/mutants",), (*bits, *commands, "refuse/mutants", *shared))),
-            ("use_text", Stage("input of the uses", ("refuse/uses",), (*self.sources(*uses), *stored, "refuse/uses", *shared))),
-            ("test_refusals", Stage("memory refused", ("refuse/sweep",), (*refusals, "refuse/sweep", "examples", *shared))),
+            (["bits"], Stage("programs", (f"{SCRIPTS}/programs",), bits, ("cc",))),
+            (["bits"], Stage("examples of docs/COMMANDS.md", ("docs/check_commands",), (*bits, *commands))),
+            (["bits"], Stage("lines with one byte changed", ("refuse/mutants",), (*bits, *commands, "refuse/mutants", *shared))),
+            (uses, Stage("input of the uses", ("refuse/uses", *uses), (*self.sources(*uses), *stored, "refuse/uses", *shared))),
+            (["test_refusals"], Stage("memory refused", ("refuse/sweep",), (*refusals, "refuse/sweep", "examples", "docs/COMMANDS.md", *shared))),
         ]
-        return [stage for name, stage in stages if self.has(name)]
+        return [stage for names, stage in stages if self.has(*names)]

@@ -19,12 +19,14 @@ class Stage:
     inputs   the files and folders that it reads, from the top: where a run that read the same has passed, it is kept.
              With none it runs each time
     tools    the commands of this machine that it calls
+    blocks   the pages of which it reads the blocks of code alone
     keeps    whether the command keeps what it found by itself, and so takes --anew
     """
     name: str
     command: tuple
     inputs: tuple = ()
     tools: tuple = ()
+    blocks: tuple = ()
     keeps: bool = False
 
     def words(self, anew):
@@ -34,8 +36,9 @@ class Stage:
             return [*self.command, *flag]
         if not self.inputs:
             return [*self.command]
-        tools = [word for tool in self.tools for word in ("--tool", tool)]
-        return ["refuse/kept_stage", *flag, self.name, "--inputs", *self.inputs, *tools, "--", *self.command]
+        more = [word for it in self.blocks for word in ("--blocks", it)]
+        more += [word for it in self.tools for word in ("--tool", it)]
+        return ["refuse/kept_stage", *flag, self.name, "--inputs", *self.inputs, *more, "--", *self.command]
 
 
 class Run:
