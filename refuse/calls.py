@@ -1,5 +1,7 @@
 """How the scripts of this folder answer a call that they do not know: one sentence on standard error, and status 2."""
 import argparse
+import contextlib
+import os
 import sys
 
 
@@ -21,8 +23,9 @@ class Parser(argparse.ArgumentParser):
 
     def parse_args(self, words=None):
         if "--help" in words or "-h" in words:
-            print(self.text.strip())
-            sys.exit(0)
+            with contextlib.suppress(BrokenPipeError):
+                print(self.text.strip(), flush=True)
+            os._exit(0)
         return super().parse_args(words)
 
 

@@ -10,8 +10,8 @@ REFUSE = pathlib.Path(__file__).resolve().parent.parent
 sys.path.append(str(REFUSE))
 import kept  # noqa: E402
 
-# The lines of a library's `format` that change with each body: sums of its files.
-SUMS = re.compile(r"(?m)^(?:checked|sum) .*\n")
+# The lines of a library's `format` that change with each body, here or below: sums of its files, and how it was built.
+SUMS = re.compile(r"(?m)^(?:checked|sum|needs|carries|incremental)\b.*\n?")
 
 
 class Verdicts:
