@@ -25,8 +25,8 @@ def check_endings(counts, edits, script):
         counts.compare("none of its checks is left", running(pids(top)), [])
         counts.compare("none of its files is left", [it.name for it in top.glob("files/*")], [])
         write(top / "log", "rt: halves proved\n")
-        own = begin(top, ["sh", "-c", '"$@" & echo $! >run; until [ -e files/* ]; do sleep 0.1; done', "sh", *words, "--beside", top / "log"])
-        own.wait()
+        shell = '"$@" & echo $! >run; until [ -e files/* ]; do sleep 0.1; done'
+        begin(top, ["sh", "-c", shell, "sh", *words, "--beside", top / "log"]).wait()
         run = [int((top / "run").read_text())]
         wait_for(lambda: not running(run))
         counts.compare("a run beside another ends with what began it", running(run), [])
