@@ -114,7 +114,7 @@ class Kept:
     def __init__(self, anew=False, folder=None):
         self.folder, self.puts = None, 0
         if not anew:
-            self.folder = usable(pathlib.Path(folder) if folder else kit().parent / "fixedbitset-kept")
+            self.folder = usable(folder)
 
     @property
     def is_usable(self):
@@ -127,12 +127,14 @@ class Kept:
         path = self.folder / key
         try:
             found = json.loads(path.read_text())
-            if found["key"] == key and found["sum"] == sum_of_value(found["value"]):
-                os.utime(path)
-                return found["value"]
+            is_whole = found["key"] == key and found["sum"] == sum_of_value(found["value"])
         except (OSError, ValueError, KeyError, TypeError):
-            pass
-        return None
+            return None
+        if not is_whole:
+            return None
+        with contextlib.suppress(OSError):
+            os.utime(path)
+        return found["value"]
 
     def put(self, key, value):
         """Keeps a value, which is a dict of what JSON has."""
@@ -143,9 +145,9 @@ class Kept:
             with tempfile.NamedTemporaryFile("w", prefix=f"new-{os.getpid()}-", dir=self.folder, delete=False) as file:
                 json.dump(entry, file)
             os.replace(file.name, self.folder / key)
-        self.puts += 1
-        if self.puts % 500 == 1:
-            self.shrink()
+            self.puts += 1
+            if self.puts % 500 == 1:
+                self.shrink()
 
     def has_room(self):
         try:
@@ -156,7 +158,7 @@ class Kept:
     def shrink(self):
         """Removes what runs that were ended left, and the entries longest unused until the others are not too many."""
         entries = []
-        for path in self.folder.iterdir():
+        for path in [self.folder / it for it in os.listdir(self.folder)]:
             with contextlib.suppress(OSError):
                 found = re.match(r"new-(\d+)-", path.name)
                 if not found:
@@ -173,15 +175,17 @@ class Kept:
 
 
 def usable(folder):
-    """The folder, made where there is none, or None where it is not one of ours alone, or where the kit cannot be read."""
+    """The folder, or the one beside the kit, made where there is none. None where it is not one of ours alone, or where the
+    kit cannot be read."""
     try:
         kit_sum()
+        folder = folder or kit().parent / "fixedbitset-kept"
         os.makedirs(folder, 0o700, exist_ok=True)
         found = os.lstat(folder)
         if stat.S_ISDIR(found.st_mode) and found.st_uid == os.geteuid():
             os.chmod(folder, 0o700)
-            return folder
-    except OSError:
+            return pathlib.Path(folder)
+    except (OSError, subprocess.SubprocessError):
         pass
     return None
 
