@@ -23,7 +23,8 @@ class Verdicts:
         """What an earlier run said of the same edit, which was refused, or None."""
         if not self.store.is_usable:
             return None
-        for key in (self.key_in_round(edit), self.key_alone(edit)):
+        for key_of in (self.key_in_round, self.key_alone):
+            key = key_of(edit)
             value = self.store.get(key) if key else None
             if value and value.get("edit") == f"{edit.crate.name}/{edit.name}":
                 return moved(edit, value["why"], first_line(edit) - value["first_line"])
