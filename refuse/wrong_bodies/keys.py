@@ -10,8 +10,9 @@ REFUSE = pathlib.Path(__file__).resolve().parent.parent
 sys.path.append(str(REFUSE))
 import kept  # noqa: E402
 
-# The lines of a library's `format` that change with each body, here or below: sums of its files, and how it was built.
-SUMS = re.compile(r"(?m)^(?:checked|sum|needs|carries|incremental)\b.*\n?")
+# The lines of a library's `format` that change with each body, here or below, or with how it was built: sums of its files, and
+# what it has of the libraries below it.
+SUMS = re.compile(r"(?m)^(?:checked|sum|needs|over|carries|incremental)\b.*\n?")
 
 
 class Verdicts:
@@ -115,11 +116,17 @@ def library_read_above(crate):
     folder, said = library_of(crate), format_of(crate)
     if said is None:
         return None
-    parts = [SUMS.sub("", said)]
+    parts = [said_of_own(crate, said)]
     for part in ("interface/lang", "lang/src", "lang/antt/specs", "lang/antt/specs.antt"):
         for path in kept.files_below(folder / part):
             parts += [str(path.relative_to(folder)), path.read_bytes()]
     return kept.sum_of(parts)
+
+
+def said_of_own(crate, said):
+    """What a library's `format` says of its own functions and modules."""
+    of_others = re.compile(rf"(?m)^free\S* Rattle[-.](?!{crate.name}\b).*\n?")
+    return of_others.sub("", SUMS.sub("", said))
 
 
 def library_as_it_is(crate):
