@@ -36,20 +36,21 @@ pub fn join_down<O: WordOp>(dst: &mut [Block], src: &[Block], from: usize, steps
     let first = from / BITS;
     let shift = from % BITS;
     let words = dst.len().min(src.len().saturating_sub(first));
-    let lanes = words.saturating_sub(1) / LANE;
-    for lane in 0..lanes {
-        steps.tick();
-        join_lane::<O>(
-            dst,
-            LANE * lane,
-            window_lane(src, first + LANE * lane, shift),
-        );
+    if words == 0 {
+        return;
     }
-    for at in LANE * lanes..words {
+    let (dst, src) = (&mut dst[..words], &src[first..]);
+    let mut done = 0;
+    while words - done > LANE {
+        steps.tick();
+        join_lane::<O>(dst, done, window_lane(src, done, shift));
+        done += LANE;
+    }
+    for at in done..words {
         if at % LANE == 0 {
             steps.tick();
         }
-        dst[at] = O::word(dst[at], window_word(src, first + at, shift));
+        dst[at] = O::word(dst[at], window_word(src, at, shift));
     }
 }
 
@@ -166,8 +167,8 @@ fn window_lane(words: &[Block], at: usize, shift: usize) -> u64x4
 {
     straddle_lane(
         shift,
-        u64x4::from_slice(&words[at..]),
-        u64x4::from_slice(&words[at + 1..]),
+        u64x4::from_slice(&words[at..at + 4]),
+        u64x4::from_slice(&words[at + 1..at + 5]),
     )
 }
 
