@@ -148,10 +148,10 @@ module _ {f : ℕ → ℕ → ℕ} {t : Bool → Bool → Bool} {keep take_right
       (λ p above. past p (omega (arith, above, long)))
 
 module _ (v w : Bits) where
-  pub asc-intersection : filter (λ p. contains w p) (asc v) ≡ asc (intersection v w)
+  asc-intersection : filter (λ p. contains w p) (asc v) ≡ asc (intersection v w)
   asc-intersection = sieved v (intersection v w) _ (length-intersection v w) (contains-intersection v w)
 
-  pub asc-difference : filter (λ p. not (contains w p)) (asc v) ≡ asc (difference v w)
+  asc-difference : filter (λ p. not (contains w p)) (asc v) ≡ asc (difference v w)
   asc-difference = sieved v (difference v w) _ (length-difference v w) (contains-difference v w)
 
   -- the walk over the words of one value, sieved by those of another

@@ -41,9 +41,7 @@ pub use ranges::{
 pub use shifts::{
     copy_range, shift_down, shift_up, slice, union_with_own_shift, union_with_shifted,
 };
-pub use walks::{
-    difference, intersection, ones, ones_beside, ones_in, runs, zero_runs, zeroes, zeroes_in,
-};
+pub use walks::{difference, intersection, ones, ones_in, runs, zero_runs, zeroes, zeroes_in};
 pub use whole::{
     compare, difference_count, difference_with, first_lacking, intersect_with, intersection_count,
     is_disjoint, is_equal, is_subset, symmetric_difference_count, symmetric_difference_with,

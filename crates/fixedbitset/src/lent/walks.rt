@@ -1,7 +1,6 @@
 //! Walks over the positions of a set, and over those that it lacks.
 
-ghost use Rattle.std.specs.Prelude.{◌≡◌, IsTrue, not, filter};
-ghost use Rattle.bitwords.specs.Rows.{has_bit};
+ghost use Rattle.std.specs.Prelude.{◌≡◌, IsTrue};
 ghost use Rattle.fixedbitset.specs.Bits as model;
 ghost use Rattle.fixedbitset.specs.Bits.{of_words};
 ghost use Rattle.fixedbitset.specs.Ranges.{is_valid};
@@ -30,33 +29,6 @@ pub fn ones<'a>(words: &'a [Block], length: usize) -> Cursor<Plain<'a>>
 {
     let words = used_words(words, length);
     Cursor::over(Plain { words })
-}
-
-/// The positions that are set, in ascending order, for a walk that looks each of them up in `other`: those that `other`
-/// has are the intersection, and those that it lacks the difference.
-///
-/// ```
-/// let (mut words, mut other) = ([9, 2, 0, 0], [1, 2, 0, 0]);
-/// lent::settle(&mut words, 70, 70);
-/// lent::settle(&mut other, 66, 66);
-/// assert!(rt; lent::ones_beside(&words, 70, &other, 66).eq([0, 3, 65]));
-/// ```
-#[inline(always)]
-pub fn ones_beside<'a>(
-    words: &'a [Block],
-    length: usize,
-    other: &[Block],
-    other_length: usize,
-) -> Cursor<Plain<'a>>
-    requires lent { IsClean length words.now }
-    requires lent_other { IsClean other_length other.now }
-    ensures items { result.items ≡ model.asc (of_words length words.now) }
-    ensures shared { filter (λ p. has_bit other.now p) result.items ≡ model.asc
-        (sets.intersection (of_words length words.now) (of_words other_length other.now)) }
-    ensures lacked { filter (λ p. not (has_bit other.now p)) result.items ≡ model.asc
-        (sets.difference (of_words length words.now) (of_words other_length other.now)) }
-{
-    ones(words, length)
 }
 
 /// The positions that both sets have, in ascending order. It looks at no word that only one of them has.
