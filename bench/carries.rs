@@ -3,7 +3,7 @@
 //! At each place of a vector the bits of sixteen vectors are added as by hand, in binary. Four vectors keep the digits of
 //! the sums so far, and what is carried out of them is counted: one vector in sixteen.
 
-use std::arch::x86_64 as cpu;
+use std::arch::{asm, x86_64 as cpu};
 
 // What is done with vectors, under one name for both widths.
 macro_rules! operations {
@@ -68,9 +68,9 @@ fn ones_of(vector: Vector) -> Vector {
 // Adds three bits at each place: the last digit of the sum stays, and the answer is the first one.
 #[inline(always)]
 fn add_three(digit: &mut Vector, first: Vector, second: Vector) -> Vector {
-    let either = xor(first, second);
-    let carried = or(and(first, second), and(either, *digit));
-    *digit = xor(either, *digit);
+    let either = xor(*digit, first);
+    let carried = or(and(*digit, first), and(either, second));
+    *digit = xor(either, second);
     carried
 }
 
@@ -79,9 +79,9 @@ macro_rules! carried {
     ($($name:ident: two of $half:ident, at $place:literal;)*) => {
         $(
             #[inline(always)]
-            fn $name(digits: &mut [Vector; 4], further: &mut impl FnMut() -> Vector) -> Vector {
-                let first = $half(digits, further);
-                let second = $half(digits, further);
+            fn $name(digits: &mut [Vector; 4], rows: &mut impl Rows) -> Vector {
+                let first = $half(digits, rows);
+                let second = $half(digits, rows);
                 add_three(&mut digits[$place], first, second)
             }
         )*
@@ -89,8 +89,8 @@ macro_rules! carried {
 }
 
 #[inline(always)]
-fn one(_: &mut [Vector; 4], further: &mut impl FnMut() -> Vector) -> Vector {
-    further()
+fn one(_: &mut [Vector; 4], rows: &mut impl Rows) -> Vector {
+    rows.take()
 }
 
 carried! {
@@ -100,18 +100,14 @@ carried! {
     sixteen: two of eight, at 3;
 }
 
-// The bits of so many turns, whose vectors are asked for in order.
+// The bits of so many turns.
 #[inline(always)]
-fn count_turns(
-    turns: usize,
-    mut further: impl FnMut() -> Vector,
-    ask_ahead: impl Fn(usize),
-) -> u64 {
+fn count_turns(turns: usize, mut rows: impl Rows) -> u64 {
     let mut digits = [zeros(); 4];
     let mut total = zeros();
-    for turn in 0..turns {
-        ask_ahead(TURN * turn);
-        let carried = sixteen(&mut digits, &mut further);
+    for _ in 0..turns {
+        rows.begin();
+        let carried = sixteen(&mut digits, &mut rows);
         total = add_numbers(total, ones_of(carried));
     }
     for digit in digits.iter().rev() {
@@ -121,32 +117,69 @@ fn count_turns(
     numbers.iter().sum()
 }
 
-// Asks for what lies `AHEAD` bytes behind the turn.
-#[inline(always)]
-fn ask<const AHEAD: usize>(words: &[u64], at: usize) {
-    if AHEAD > 0 {
-        for line in 0..TURN / 8 {
-            let place = words.as_ptr().wrapping_add(at + 8 * line + AHEAD / 8);
-            unsafe { cpu::_mm_prefetch::<{ cpu::_MM_HINT_T0 }>(place.cast()) };
+// What gives vectors in order.
+trait Rows {
+    // Begins a turn of sixteen.
+    fn begin(&mut self);
+
+    fn take(&mut self) -> Vector;
+}
+
+// The words from here on, of which each turn asks for what lies `AHEAD` bytes behind it, where that is not 0.
+struct Row<const AHEAD: usize> {
+    next: *const u64,
+}
+
+impl<const AHEAD: usize> Rows for Row<AHEAD> {
+    #[inline(always)]
+    fn begin(&mut self) {
+        if AHEAD > 0 {
+            for line in 0..TURN / 8 {
+                let place = self.next.wrapping_add(8 * line + AHEAD / 8);
+                unsafe { cpu::_mm_prefetch::<{ cpu::_MM_HINT_T0 }>(place.cast()) };
+            }
         }
+    }
+
+    #[inline(always)]
+    fn take(&mut self) -> Vector {
+        let vector = unsafe { self.next.cast::<Vector>().read_unaligned() };
+        self.next = self.next.wrapping_add(WIDTH);
+        vector
+    }
+}
+
+// What two rows both have.
+struct Shared<const AHEAD: usize>(Row<AHEAD>, Row<AHEAD>);
+
+impl<const AHEAD: usize> Rows for Shared<AHEAD> {
+    #[inline(always)]
+    fn begin(&mut self) {
+        // So each row keeps a pointer of its own: an address of two registers takes one operation more.
+        let (mut first, mut second) = (self.0.next, self.1.next);
+        unsafe {
+            asm!("/* {} {} */", inout(reg) first, inout(reg) second, options(nomem, nostack, preserves_flags));
+        }
+        (self.0.next, self.1.next) = (first, second);
+        self.0.begin();
+        self.1.begin();
+    }
+
+    #[inline(always)]
+    fn take(&mut self) -> Vector {
+        and(self.0.take(), self.1.take())
     }
 }
 
 /// How many bits are set in the words.
 pub fn count<const AHEAD: usize>(words: &[u64]) -> u64 {
     let turns = words.len() / TURN;
-    let mut at = 0;
-    let further = || {
-        at += WIDTH;
-        unsafe {
-            words
-                .as_ptr()
-                .add(at - WIDTH)
-                .cast::<Vector>()
-                .read_unaligned()
-        }
-    };
-    let total = count_turns(turns, further, |at| ask::<AHEAD>(words, at));
+    let total = count_turns(
+        turns,
+        Row::<AHEAD> {
+            next: words.as_ptr(),
+        },
+    );
     let rest = words[TURN * turns..].iter();
     total + rest.map(|word| u64::from(word.count_ones())).sum::<u64>()
 }
@@ -154,21 +187,8 @@ pub fn count<const AHEAD: usize>(words: &[u64]) -> u64 {
 /// How many bits are set in both rows of words, as far as both go.
 pub fn count_both<const AHEAD: usize>(words: &[u64], others: &[u64]) -> u64 {
     let turns = words.len().min(others.len()) / TURN;
-    let mut at = 0;
-    let further = || {
-        at += WIDTH;
-        let [first, second] = [words, others].map(|row| unsafe {
-            row.as_ptr()
-                .add(at - WIDTH)
-                .cast::<Vector>()
-                .read_unaligned()
-        });
-        and(first, second)
-    };
-    let total = count_turns(turns, further, |at| {
-        ask::<AHEAD>(words, at);
-        ask::<AHEAD>(others, at);
-    });
+    let [first, second] = [words, others].map(|row| Row::<AHEAD> { next: row.as_ptr() });
+    let total = count_turns(turns, Shared(first, second));
     let rest = words[TURN * turns..].iter().zip(&others[TURN * turns..]);
     total
         + rest
