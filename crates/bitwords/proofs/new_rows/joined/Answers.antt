@@ -1,5 +1,5 @@
 use Rattle.std.proofs.Common.{arith, take_at}
-use Rattle.bitwords.proofs.joins.joined.Goals as goal
+use Rattle.bitwords.proofs.new_rows.joined.Goals as goal
 
 pub returns-clause-bits : goal.returns-clause-bits
 returns-clause-bits g c =
