@@ -9,6 +9,7 @@ fn bitjson_fills_10() {
     use crate::proved::bitjson::*;
     use crate::shim::u64x4;
     use core::cmp::Ordering;
+    use core::mem::{size_of, size_of_val};
 
     let mut words = [7, 7];
     fills::fill_words(&[1, 2], &mut words);
@@ -23,6 +24,7 @@ fn bitjson_fills_26() {
     use crate::proved::bitjson::*;
     use crate::shim::u64x4;
     use core::cmp::Ordering;
+    use core::mem::{size_of, size_of_val};
 
     let mut made = [7; 8];
     fills::fill_bytes(&[513], &mut made);
@@ -37,6 +39,7 @@ fn bitlanes_changes_16() {
     use crate::proved::bitlanes::*;
     use crate::shim::u64x4;
     use core::cmp::Ordering;
+    use core::mem::{size_of, size_of_val};
 
     let mut words = [1, 2, 4, 8, 16];
     assert!(changes::apply::<Or>(&mut words, &[2, 2], &mut Steps::new()));
@@ -52,6 +55,7 @@ fn bitlanes_changes_44() {
     use crate::proved::bitlanes::*;
     use crate::shim::u64x4;
     use core::cmp::Ordering;
+    use core::mem::{size_of, size_of_val};
 
     let mut words = [1, 2, 4, 8, 16];
     let mut steps = Steps::new();
@@ -68,6 +72,7 @@ fn bitlanes_changes_82() {
     use crate::proved::bitlanes::*;
     use crate::shim::u64x4;
     use core::cmp::Ordering;
+    use core::mem::{size_of, size_of_val};
 
     let mut words = [1; 6];
     assert!(changes::zero(&mut words[1..], &mut Steps::new()));
@@ -83,6 +88,7 @@ fn bitlanes_counter_25() {
     use crate::proved::bitlanes::*;
     use crate::shim::u64x4;
     use core::cmp::Ordering;
+    use core::mem::{size_of, size_of_val};
 
     let mut steps = Steps::new();
     lanes::zero(&mut [1; 9], &mut steps);
@@ -97,6 +103,7 @@ fn bitlanes_counter_39() {
     use crate::proved::bitlanes::*;
     use crate::shim::u64x4;
     use core::cmp::Ordering;
+    use core::mem::{size_of, size_of_val};
 
     let mut steps = Steps::new();
     steps.tick();
@@ -112,6 +119,7 @@ fn bitlanes_counter_54() {
     use crate::proved::bitlanes::*;
     use crate::shim::u64x4;
     use core::cmp::Ordering;
+    use core::mem::{size_of, size_of_val};
 
     let mut steps = Steps::new();
     steps.tick_lanes(9);
@@ -126,6 +134,7 @@ fn bitlanes_lanes_26() {
     use crate::proved::bitlanes::*;
     use crate::shim::u64x4;
     use core::cmp::Ordering;
+    use core::mem::{size_of, size_of_val};
 
     let mut words = [1, 2, 4, 8, 16];
     lanes::apply::<Or>(&mut words, &[2, 2], &mut Steps::new());
@@ -140,6 +149,7 @@ fn bitlanes_lanes_51() {
     use crate::proved::bitlanes::*;
     use crate::shim::u64x4;
     use core::cmp::Ordering;
+    use core::mem::{size_of, size_of_val};
 
     let count = lanes::count::<And>(&[7, 1, 1, 1, 255], &[2, 0, 1, 1, 15], &mut Steps::new());
     assert_eq!(count, 7);
@@ -153,6 +163,7 @@ fn bitlanes_lanes_70() {
     use crate::proved::bitlanes::*;
     use crate::shim::u64x4;
     use core::cmp::Ordering;
+    use core::mem::{size_of, size_of_val};
 
     assert!(lanes::none::<And>(&[1, 2], &[2, 1, 255], &mut Steps::new()));
     assert!(!lanes::none::<And>(&[1, 2], &[2, 3, 255], &mut Steps::new()));
@@ -166,6 +177,7 @@ fn bitlanes_lanes_96() {
     use crate::proved::bitlanes::*;
     use crate::shim::u64x4;
     use core::cmp::Ordering;
+    use core::mem::{size_of, size_of_val};
 
     let mut words = [1; 6];
     lanes::zero(&mut words[1..], &mut Steps::new());
@@ -180,6 +192,7 @@ fn bitlanes_lanes_120() {
     use crate::proved::bitlanes::*;
     use crate::shim::u64x4;
     use core::cmp::Ordering;
+    use core::mem::{size_of, size_of_val};
 
     let count = lanes::count_one(&[7, 0, 1 << 63], &mut Steps::new());
     assert_eq!(count, 4);
@@ -193,6 +206,7 @@ fn bitlanes_lanes_134() {
     use crate::proved::bitlanes::*;
     use crate::shim::u64x4;
     use core::cmp::Ordering;
+    use core::mem::{size_of, size_of_val};
 
     assert!(lanes::none_one(&[0; 9], &mut Steps::new()));
     assert!(!lanes::none_one(&[0, 0, 0, 0, 1], &mut Steps::new()));
@@ -206,6 +220,7 @@ fn bitlanes_lanes_161() {
     use crate::proved::bitlanes::*;
     use crate::shim::u64x4;
     use core::cmp::Ordering;
+    use core::mem::{size_of, size_of_val};
 
     assert!(lanes::none_masked::<And>(4, &[3, 8, 1], &mut Steps::new()));
     assert!(!lanes::none_masked::<AndNot>(4, &[4, 8], &mut Steps::new()));
@@ -219,6 +234,7 @@ fn bitlanes_ops_11() {
     use crate::proved::bitlanes::*;
     use crate::shim::u64x4;
     use core::cmp::Ordering;
+    use core::mem::{size_of, size_of_val};
 
     assert_eq!(<Xor as WordOp>::word(10, 6), 12);
     let lane = <Xor as WordOp>::lane(u64x4::splat(10), u64x4::splat(6));
@@ -233,6 +249,7 @@ fn bitlanes_ops_32() {
     use crate::proved::bitlanes::*;
     use crate::shim::u64x4;
     use core::cmp::Ordering;
+    use core::mem::{size_of, size_of_val};
 
     assert_eq!(<Or as WordOp>::word(10, 6), 14);
     assert!(<Or as WordOp>::KEEP && <Or as WordOp>::TAKE);
@@ -246,6 +263,7 @@ fn bitlanes_ops_57() {
     use crate::proved::bitlanes::*;
     use crate::shim::u64x4;
     use core::cmp::Ordering;
+    use core::mem::{size_of, size_of_val};
 
     assert_eq!(<And as WordOp>::word(10, 6), 2);
     assert!(!<And as WordOp>::KEEP && !<And as WordOp>::TAKE);
@@ -259,6 +277,7 @@ fn bitlanes_ops_82() {
     use crate::proved::bitlanes::*;
     use crate::shim::u64x4;
     use core::cmp::Ordering;
+    use core::mem::{size_of, size_of_val};
 
     assert_eq!(<AndNot as WordOp>::word(10, 6), 8);
     assert!(<AndNot as WordOp>::KEEP && !<AndNot as WordOp>::TAKE);
@@ -272,6 +291,7 @@ fn bitlanes_ops_107() {
     use crate::proved::bitlanes::*;
     use crate::shim::u64x4;
     use core::cmp::Ordering;
+    use core::mem::{size_of, size_of_val};
 
     assert_eq!(<Xor as WordOp>::word(10, 6), 12);
     assert!(<Xor as WordOp>::KEEP && <Xor as WordOp>::TAKE);
@@ -285,6 +305,7 @@ fn bitlanes_ops_132() {
     use crate::proved::bitlanes::*;
     use crate::shim::u64x4;
     use core::cmp::Ordering;
+    use core::mem::{size_of, size_of_val};
 
     assert_eq!(<Second as WordOp>::word(10, 6), 6);
     assert!(!<Second as WordOp>::KEEP && <Second as WordOp>::TAKE);
@@ -298,6 +319,7 @@ fn bitlanes_search_21() {
     use crate::proved::bitlanes::*;
     use crate::shim::u64x4;
     use core::cmp::Ordering;
+    use core::mem::{size_of, size_of_val};
 
     let mut steps = Steps::new();
     assert_eq!(search::first_one(&[0, 0, 8, 1, 0], &mut steps), Some(2));
@@ -312,6 +334,7 @@ fn bitlanes_search_36() {
     use crate::proved::bitlanes::*;
     use crate::shim::u64x4;
     use core::cmp::Ordering;
+    use core::mem::{size_of, size_of_val};
 
     let mut steps = Steps::new();
     assert_eq!(search::last_one(&[0, 0, 8, 1, 0], &mut steps), Some(3));
@@ -326,6 +349,7 @@ fn bitlanes_search_49() {
     use crate::proved::bitlanes::*;
     use crate::shim::u64x4;
     use core::cmp::Ordering;
+    use core::mem::{size_of, size_of_val};
 
     let words = [7, 0, 0, 1];
     let mut steps = Steps::new();
@@ -342,6 +366,7 @@ fn bitlanes_search_86() {
     use crate::proved::bitlanes::*;
     use crate::shim::u64x4;
     use core::cmp::Ordering;
+    use core::mem::{size_of, size_of_val};
 
     let words = [1, 0, 0, 7];
     let mut steps = Steps::new();
@@ -358,6 +383,7 @@ fn bitlanes_search_123() {
     use crate::proved::bitlanes::*;
     use crate::shim::u64x4;
     use core::cmp::Ordering;
+    use core::mem::{size_of, size_of_val};
 
     let mut steps = Steps::new();
     assert_eq!(search::first_joined::<AndNot>(&[1, 3, 7], &[1, 2], &mut steps), Some(1));
@@ -372,6 +398,7 @@ fn bitlanes_shifts_18() {
     use crate::proved::bitlanes::*;
     use crate::shim::u64x4;
     use core::cmp::Ordering;
+    use core::mem::{size_of, size_of_val};
 
     let mut words = [1, 0, 4];
     shifts::join_down::<Or>(&mut words, &[5 << 60, 9, 1 << 63], 62, &mut Steps::new());
@@ -386,6 +413,7 @@ fn bitlanes_shifts_50() {
     use crate::proved::bitlanes::*;
     use crate::shim::u64x4;
     use core::cmp::Ordering;
+    use core::mem::{size_of, size_of_val};
 
     let mut words = [5 << 60, 9, 1 << 63];
     shifts::down(&mut words, 62, &mut Steps::new());
@@ -400,6 +428,7 @@ fn bitlanes_shifts_80() {
     use crate::proved::bitlanes::*;
     use crate::shim::u64x4;
     use core::cmp::Ordering;
+    use core::mem::{size_of, size_of_val};
 
     let mut words = [37, 0, 2];
     shifts::up::<Or>(&mut words, 62, &mut Steps::new());
@@ -414,6 +443,7 @@ fn bitlanes_shifts_114() {
     use crate::proved::bitlanes::*;
     use crate::shim::u64x4;
     use core::cmp::Ordering;
+    use core::mem::{size_of, size_of_val};
 
     assert_eq!(shifts::word_from(&[5 << 60, 9], 62), 37);
     assert_eq!(shifts::word_from(&[5 << 60, 9], 128), 0);
@@ -427,6 +457,7 @@ fn bitlanes_word_12() {
     use crate::proved::bitlanes::*;
     use crate::shim::u64x4;
     use core::cmp::Ordering;
+    use core::mem::{size_of, size_of_val};
 
     assert_eq!(word::lowest_bit(12), 2);
     assert_eq!(word::lowest_bit(1 << 63), 63);
@@ -440,6 +471,7 @@ fn bitlanes_word_23() {
     use crate::proved::bitlanes::*;
     use crate::shim::u64x4;
     use core::cmp::Ordering;
+    use core::mem::{size_of, size_of_val};
 
     assert_eq!(word::highest_bit(12), 3);
     assert_eq!(word::highest_bit(Block::MAX), 63);
@@ -453,6 +485,7 @@ fn bitlanes_word_34() {
     use crate::proved::bitlanes::*;
     use crate::shim::u64x4;
     use core::cmp::Ordering;
+    use core::mem::{size_of, size_of_val};
 
     assert_eq!(word::clear_bit(12, 3), 4);
     assert_eq!(word::clear_bit(12, 0), 12);
@@ -466,6 +499,7 @@ fn bitlanes_word_45() {
     use crate::proved::bitlanes::*;
     use crate::shim::u64x4;
     use core::cmp::Ordering;
+    use core::mem::{size_of, size_of_val};
 
     assert_eq!(word::clear_lowest_bit(12), 8);
     assert_eq!(word::clear_lowest_bit(8), 0);
@@ -479,6 +513,7 @@ fn bitlanes_word_56() {
     use crate::proved::bitlanes::*;
     use crate::shim::u64x4;
     use core::cmp::Ordering;
+    use core::mem::{size_of, size_of_val};
 
     let mut bits = 12;
     assert_eq!(word::take_lowest_bit(&mut bits), 2);
@@ -493,6 +528,7 @@ fn bitlanes_word_70() {
     use crate::proved::bitlanes::*;
     use crate::shim::u64x4;
     use core::cmp::Ordering;
+    use core::mem::{size_of, size_of_val};
 
     let mut bits = 12;
     assert_eq!(word::take_highest_bit(&mut bits), 3);
@@ -507,6 +543,7 @@ fn bitlanes_word_84() {
     use crate::proved::bitlanes::*;
     use crate::shim::u64x4;
     use core::cmp::Ordering;
+    use core::mem::{size_of, size_of_val};
 
     assert_eq!(word::ones_below(3), 7);
     assert_eq!(word::ones_below(64), Block::MAX);
@@ -520,6 +557,7 @@ fn bitlanes_word_101() {
     use crate::proved::bitlanes::*;
     use crate::shim::u64x4;
     use core::cmp::Ordering;
+    use core::mem::{size_of, size_of_val};
 
     assert_eq!(word::stretch(2, 5), 28);
     assert_eq!(word::stretch(0, 64), Block::MAX);
@@ -534,6 +572,7 @@ fn bitranks_directory_20() {
     use crate::proved::bitranks::*;
     use crate::shim::u64x4;
     use core::cmp::Ordering;
+    use core::mem::{size_of, size_of_val};
 
     assert_eq!(directory::entries(0), 0);
     assert_eq!(directory::entries(8), 1);
@@ -548,6 +587,7 @@ fn bitranks_directory_35() {
     use crate::proved::bitranks::*;
     use crate::shim::u64x4;
     use core::cmp::Ordering;
+    use core::mem::{size_of, size_of_val};
 
     let mut counts = [0; 2];
     directory::fill(&[3, 0, 0, 0, 0, 0, 0, 1, 1], &mut counts, &mut Steps::new());
@@ -562,6 +602,7 @@ fn bitranks_directory_56() {
     use crate::proved::bitranks::*;
     use crate::shim::u64x4;
     use core::cmp::Ordering;
+    use core::mem::{size_of, size_of_val};
 
     let (words, mut counts) = ([9, 2], [0]);
     directory::fill(&words, &mut counts, &mut Steps::new());
@@ -577,6 +618,7 @@ fn bitranks_directory_87() {
     use crate::proved::bitranks::*;
     use crate::shim::u64x4;
     use core::cmp::Ordering;
+    use core::mem::{size_of, size_of_val};
 
     let (words, mut counts) = ([9, 2], [0]);
     directory::fill(&words, &mut counts, &mut Steps::new());
@@ -592,6 +634,7 @@ fn bitrows_lent_15() {
     use crate::proved::bitrows::*;
     use crate::shim::u64x4;
     use core::cmp::Ordering;
+    use core::mem::{size_of, size_of_val};
 
     assert_eq!(lent::width(0), 0);
     assert_eq!(lent::width(257), 8);
@@ -605,6 +648,7 @@ fn bitrows_lent_27() {
     use crate::proved::bitrows::*;
     use crate::shim::u64x4;
     use core::cmp::Ordering;
+    use core::mem::{size_of, size_of_val};
 
     let mut words = [7; 8];
     lent::clear(&mut words, 2, 70);
@@ -619,6 +663,7 @@ fn bitrows_lent_54() {
     use crate::proved::bitrows::*;
     use crate::shim::u64x4;
     use core::cmp::Ordering;
+    use core::mem::{size_of, size_of_val};
 
     let mut words = [7; 8];
     lent::clear(&mut words, 2, 70);
@@ -635,6 +680,7 @@ fn bitrows_lent_69() {
     use crate::proved::bitrows::*;
     use crate::shim::u64x4;
     use core::cmp::Ordering;
+    use core::mem::{size_of, size_of_val};
 
     let mut words = [7; 8];
     lent::clear(&mut words, 2, 70);
@@ -650,6 +696,7 @@ fn bitrows_lent_93() {
     use crate::proved::bitrows::*;
     use crate::shim::u64x4;
     use core::cmp::Ordering;
+    use core::mem::{size_of, size_of_val};
 
     let mut words = [7; 8];
     lent::clear(&mut words, 2, 70);
@@ -666,6 +713,7 @@ fn bitrows_lent_119() {
     use crate::proved::bitrows::*;
     use crate::shim::u64x4;
     use core::cmp::Ordering;
+    use core::mem::{size_of, size_of_val};
 
     let mut words = [7; 12];
     lent::clear(&mut words, 3, 3);
@@ -683,6 +731,7 @@ fn bitwalks_runs_54() {
     use crate::proved::bitwalks::*;
     use crate::shim::u64x4;
     use core::cmp::Ordering;
+    use core::mem::{size_of, size_of_val};
 
     let words = [12, 1];
     assert!(Runs::below(&words, true, 128).eq([(2, 4), (64, 65)]));
@@ -697,6 +746,7 @@ fn bitwalks_runs_75() {
     use crate::proved::bitwalks::*;
     use crate::shim::u64x4;
     use core::cmp::Ordering;
+    use core::mem::{size_of, size_of_val};
 
     let walk = Runs::below(&[12, 1], true, 128);
     let held = walk.into_held();
@@ -712,6 +762,7 @@ fn bitwalks_runs_94() {
     use crate::proved::bitwalks::*;
     use crate::shim::u64x4;
     use core::cmp::Ordering;
+    use core::mem::{size_of, size_of_val};
 
     let held = Runs::below(&[12, 1], true, 128).into_held();
     assert!(Runs::of_held(held).eq([(2, 4), (64, 65)]));
@@ -725,6 +776,7 @@ fn bitwords_cursors_16() {
     use crate::proved::bitwords::*;
     use crate::shim::u64x4;
     use core::cmp::Ordering;
+    use core::mem::{size_of, size_of_val};
 
     let mut middle = Plain { words: &[3, 5, 7] };
     assert_eq!(Middle::take_first(&mut middle), Some(3));
@@ -740,6 +792,7 @@ fn bitwords_cursors_35() {
     use crate::proved::bitwords::*;
     use crate::shim::u64x4;
     use core::cmp::Ordering;
+    use core::mem::{size_of, size_of_val};
 
     let mut cursor = Cursor::over(Plain { words: &[8, 0, 1] });
     assert_eq!(cursor.next_back(), Some(128));
@@ -754,6 +807,7 @@ fn bitwords_cursors_68() {
     use crate::proved::bitwords::*;
     use crate::shim::u64x4;
     use core::cmp::Ordering;
+    use core::mem::{size_of, size_of_val};
 
     let words = [Block::MAX - 8];
     let plain = Plain { words: &words };
@@ -769,6 +823,7 @@ fn bitwords_cursors_101() {
     use crate::proved::bitwords::*;
     use crate::shim::u64x4;
     use core::cmp::Ordering;
+    use core::mem::{size_of, size_of_val};
 
     let beside = Beside::<AndNot>::of(&[11, 1], &[8]);
     assert!(Cursor::over(beside).eq([0, 1, 64]));
@@ -782,6 +837,7 @@ fn bitwords_cursors_115() {
     use crate::proved::bitwords::*;
     use crate::shim::u64x4;
     use core::cmp::Ordering;
+    use core::mem::{size_of, size_of_val};
 
     let beside = Beside::<And>::of(&[11, 1], &[8]);
     assert!(Cursor::over(beside).eq([3]));
@@ -795,6 +851,7 @@ fn bitwords_cursors_228() {
     use crate::proved::bitwords::*;
     use crate::shim::u64x4;
     use core::cmp::Ordering;
+    use core::mem::{size_of, size_of_val};
 
     let cursor = Cursor::over(Plain { words: &[9, 0, 1] });
     assert!(cursor.eq([0, 3, 128]));
@@ -808,6 +865,7 @@ fn bitwords_cursors_242() {
     use crate::proved::bitwords::*;
     use crate::shim::u64x4;
     use core::cmp::Ordering;
+    use core::mem::{size_of, size_of_val};
 
     let cursor = Cursor::within(Plain { words: &[9, 255] }, 640, 1, 66);
     assert!(cursor.eq([643, 704, 705]));
@@ -821,6 +879,7 @@ fn bitwords_cursors_258() {
     use crate::proved::bitwords::*;
     use crate::shim::u64x4;
     use core::cmp::Ordering;
+    use core::mem::{size_of, size_of_val};
 
     let mut cursor = Cursor::over(Plain { words: &[9, 0, 1] });
     assert_eq!(cursor.next(), Some(0));
@@ -835,6 +894,7 @@ fn bitwords_cursors_285() {
     use crate::proved::bitwords::*;
     use crate::shim::u64x4;
     use core::cmp::Ordering;
+    use core::mem::{size_of, size_of_val};
 
     let cursor = Cursor::over(Plain { words: &[9, 0, 1] });
     let held = cursor.into_held();
@@ -849,6 +909,7 @@ fn bitwords_cursors_393() {
     use crate::proved::bitwords::*;
     use crate::shim::u64x4;
     use core::cmp::Ordering;
+    use core::mem::{size_of, size_of_val};
 
     let cursor = cursors::ones_within(&[9, 0, 7], 3, 130);
     assert!(cursor.eq([3, 128, 129]));
@@ -862,6 +923,7 @@ fn bitwords_cursors_408() {
     use crate::proved::bitwords::*;
     use crate::shim::u64x4;
     use core::cmp::Ordering;
+    use core::mem::{size_of, size_of_val};
 
     let cursor = cursors::zeroes_within(&[Block::MAX, 5], 60, 68);
     assert!(cursor.eq([65, 67]));
@@ -875,6 +937,7 @@ fn bitwords_joins_17() {
     use crate::proved::bitwords::*;
     use crate::shim::u64x4;
     use core::cmp::Ordering;
+    use core::mem::{size_of, size_of_val};
 
     let mut words = [11, 3, 1];
     joins::join::<And>(&mut words, &[9, 6], &mut Steps::new());
@@ -889,6 +952,7 @@ fn bitwords_joins_36() {
     use crate::proved::bitwords::*;
     use crate::shim::u64x4;
     use core::cmp::Ordering;
+    use core::mem::{size_of, size_of_val};
 
     let mut words = [11, 3, 1];
     assert!(joins::join_with_change::<And>(&mut words, &[9, 6], &mut Steps::new()));
@@ -903,6 +967,7 @@ fn bitwords_joins_57() {
     use crate::proved::bitwords::*;
     use crate::shim::u64x4;
     use core::cmp::Ordering;
+    use core::mem::{size_of, size_of_val};
 
     let mut to = [7; 3];
     joins::join_to::<Xor>(&mut to, &[11, 3, 1], &[9, 6], &mut Steps::new());
@@ -917,6 +982,7 @@ fn bitwords_joins_81() {
     use crate::proved::bitwords::*;
     use crate::shim::u64x4;
     use core::cmp::Ordering;
+    use core::mem::{size_of, size_of_val};
 
     let mut words = [1, 0, 8];
     let mut steps = Steps::new();
@@ -933,6 +999,7 @@ fn bitwords_joins_106() {
     use crate::proved::bitwords::*;
     use crate::shim::u64x4;
     use core::cmp::Ordering;
+    use core::mem::{size_of, size_of_val};
 
     let count = joins::count::<Xor>(&[11, 3], &[9], &mut Steps::new());
     assert_eq!(count, 3);
@@ -946,6 +1013,7 @@ fn bitwords_joins_120() {
     use crate::proved::bitwords::*;
     use crate::shim::u64x4;
     use core::cmp::Ordering;
+    use core::mem::{size_of, size_of_val};
 
     assert!(joins::none::<AndNot>(&[2], &[3, 1], &mut Steps::new()));
     assert!(!joins::none::<AndNot>(&[3, 1], &[3], &mut Steps::new()));
@@ -959,6 +1027,7 @@ fn bitwords_joins_135() {
     use crate::proved::bitwords::*;
     use crate::shim::u64x4;
     use core::cmp::Ordering;
+    use core::mem::{size_of, size_of_val};
 
     assert_eq!(joins::first_of_difference(&[7, 6], &[7, 2, 1], &mut Steps::new()), Some(66));
     assert_eq!(joins::first_of_difference(&[7, 6], &[7], &mut Steps::new()), Some(65));
@@ -973,6 +1042,7 @@ fn bitwords_positions_11() {
     use crate::proved::bitwords::*;
     use crate::shim::u64x4;
     use core::cmp::Ordering;
+    use core::mem::{size_of, size_of_val};
 
     assert!(positions::contains(&[8, 1], 64));
     assert!(!positions::contains(&[8, 1], 65));
@@ -987,6 +1057,7 @@ fn bitwords_positions_29() {
     use crate::proved::bitwords::*;
     use crate::shim::u64x4;
     use core::cmp::Ordering;
+    use core::mem::{size_of, size_of_val};
 
     let mut steps = Steps::new();
     assert_eq!(positions::first(&[0, 12], &mut steps), Some(66));
@@ -1001,6 +1072,7 @@ fn bitwords_positions_45() {
     use crate::proved::bitwords::*;
     use crate::shim::u64x4;
     use core::cmp::Ordering;
+    use core::mem::{size_of, size_of_val};
 
     let mut steps = Steps::new();
     assert_eq!(positions::last(&[12, 12, 0], &mut steps), Some(67));
@@ -1015,6 +1087,7 @@ fn bitwords_positions_62() {
     use crate::proved::bitwords::*;
     use crate::shim::u64x4;
     use core::cmp::Ordering;
+    use core::mem::{size_of, size_of_val};
 
     let mut steps = Steps::new();
     assert_eq!(positions::next::<And>(&[9, 0, 2], 1, 192, &mut steps), Some(3));
@@ -1031,6 +1104,7 @@ fn bitwords_positions_84() {
     use crate::proved::bitwords::*;
     use crate::shim::u64x4;
     use core::cmp::Ordering;
+    use core::mem::{size_of, size_of_val};
 
     let mut steps = Steps::new();
     assert_eq!(positions::previous::<And>(&[9, 0, 2], 192, &mut steps), Some(129));
@@ -1047,6 +1121,7 @@ fn bitwords_positions_109() {
     use crate::proved::bitwords::*;
     use crate::shim::u64x4;
     use core::cmp::Ordering;
+    use core::mem::{size_of, size_of_val};
 
     assert!(positions::none_from(&[9, 2, 0], 66));
     assert!(!positions::none_from(&[9, 2, 0], 65));
@@ -1061,6 +1136,7 @@ fn bitwords_positions_121() {
     use crate::proved::bitwords::*;
     use crate::shim::u64x4;
     use core::cmp::Ordering;
+    use core::mem::{size_of, size_of_val};
 
     let mut words = [Block::MAX; 3];
     positions::clear_from(&mut words, 67);
@@ -1075,6 +1151,7 @@ fn bitwords_ranges_17() {
     use crate::proved::bitwords::*;
     use crate::shim::u64x4;
     use core::cmp::Ordering;
+    use core::mem::{size_of, size_of_val};
 
     let mut words = [0, 3];
     ranges::change::<Xor>(&mut words, 63, 66, &mut Steps::new());
@@ -1089,6 +1166,7 @@ fn bitwords_ranges_35() {
     use crate::proved::bitwords::*;
     use crate::shim::u64x4;
     use core::cmp::Ordering;
+    use core::mem::{size_of, size_of_val};
 
     let count = ranges::count::<And>(&[Block::MAX, 9], 62, 128, &mut Steps::new());
     assert_eq!(count, 4);
@@ -1102,6 +1180,7 @@ fn bitwords_ranges_54() {
     use crate::proved::bitwords::*;
     use crate::shim::u64x4;
     use core::cmp::Ordering;
+    use core::mem::{size_of, size_of_val};
 
     assert!(ranges::none::<And>(&[0, 8], 0, 67, &mut Steps::new()));
     assert!(!ranges::none::<And>(&[0, 8], 0, 68, &mut Steps::new()));
@@ -1115,6 +1194,7 @@ fn bitwords_ranges_71() {
     use crate::proved::bitwords::*;
     use crate::shim::u64x4;
     use core::cmp::Ordering;
+    use core::mem::{size_of, size_of_val};
 
     let mut words = [9, 9];
     ranges::copy(&mut words, 1, 67, &[5 << 60, 9], 62, &mut Steps::new());
@@ -1129,6 +1209,7 @@ fn bitwords_shifts_15() {
     use crate::proved::bitwords::*;
     use crate::shim::u64x4;
     use core::cmp::Ordering;
+    use core::mem::{size_of, size_of_val};
 
     let mut words = [1, 0];
     shifts::join_down::<Or>(&mut words, &[0, 12, 0], 65, &mut Steps::new());
@@ -1143,6 +1224,7 @@ fn bitwords_shifts_34() {
     use crate::proved::bitwords::*;
     use crate::shim::u64x4;
     use core::cmp::Ordering;
+    use core::mem::{size_of, size_of_val};
 
     let mut words = [1, 0, 0];
     shifts::join_up::<Or>(&mut words, &[1 << 63 | 1, 1], 65, &mut Steps::new());
@@ -1157,6 +1239,7 @@ fn bitwords_shifts_60() {
     use crate::proved::bitwords::*;
     use crate::shim::u64x4;
     use core::cmp::Ordering;
+    use core::mem::{size_of, size_of_val};
 
     let mut words = [7, 1];
     shifts::down(&mut words, 2, &mut Steps::new());
@@ -1171,6 +1254,7 @@ fn bitwords_shifts_77() {
     use crate::proved::bitwords::*;
     use crate::shim::u64x4;
     use core::cmp::Ordering;
+    use core::mem::{size_of, size_of_val};
 
     let mut words = [7, 1];
     shifts::up::<Second>(&mut words, 62, &mut Steps::new());
@@ -1185,6 +1269,7 @@ fn fixedbitset_lent_bytes_15() {
     use crate::proved::fixedbitset::*;
     use crate::shim::u64x4;
     use core::cmp::Ordering;
+    use core::mem::{size_of, size_of_val};
 
     let mut words = [7; 4];
     lent::from_bytes(&mut words, 10, &[76, 255]);
@@ -1199,6 +1284,7 @@ fn fixedbitset_lent_bytes_28() {
     use crate::proved::fixedbitset::*;
     use crate::shim::u64x4;
     use core::cmp::Ordering;
+    use core::mem::{size_of, size_of_val};
 
     let (mut words, mut data) = ([516, 0, 0, 0], [7; 8]);
     lent::settle(&mut words, 10, 10);
@@ -1214,6 +1300,7 @@ fn fixedbitset_lent_changes_10() {
     use crate::proved::fixedbitset::*;
     use crate::shim::u64x4;
     use core::cmp::Ordering;
+    use core::mem::{size_of, size_of_val};
 
     let (mut words, mut other) = ([9, 0, 0, 0], [3, 0, 0, 0]);
     lent::settle(&mut words, 70, 70);
@@ -1230,6 +1317,7 @@ fn fixedbitset_lent_changes_29() {
     use crate::proved::fixedbitset::*;
     use crate::shim::u64x4;
     use core::cmp::Ordering;
+    use core::mem::{size_of, size_of_val};
 
     let (mut words, mut other) = ([9, 1, 0, 0], [3, 0, 0, 0]);
     lent::settle(&mut words, 70, 70);
@@ -1246,6 +1334,7 @@ fn fixedbitset_lent_changes_48() {
     use crate::proved::fixedbitset::*;
     use crate::shim::u64x4;
     use core::cmp::Ordering;
+    use core::mem::{size_of, size_of_val};
 
     let (mut words, mut other) = ([9, 1, 0, 0], [3, 0, 0, 0]);
     lent::settle(&mut words, 70, 70);
@@ -1262,6 +1351,7 @@ fn fixedbitset_lent_changes_68() {
     use crate::proved::fixedbitset::*;
     use crate::shim::u64x4;
     use core::cmp::Ordering;
+    use core::mem::{size_of, size_of_val};
 
     let (mut words, mut gens, mut kills) = ([1, 0, 0, 0], [7, 0, 0, 0], [4, 1, 0, 0]);
     lent::settle(&mut words, 9, 9);
@@ -1279,6 +1369,7 @@ fn fixedbitset_lent_copies_12() {
     use crate::proved::fixedbitset::*;
     use crate::shim::u64x4;
     use core::cmp::Ordering;
+    use core::mem::{size_of, size_of_val};
 
     let (mut to, mut words) = ([7; 4], [9, 34, 0, 0]);
     lent::settle(&mut words, 70, 70);
@@ -1294,6 +1385,7 @@ fn fixedbitset_lent_copies_28() {
     use crate::proved::fixedbitset::*;
     use crate::shim::u64x4;
     use core::cmp::Ordering;
+    use core::mem::{size_of, size_of_val};
 
     let (mut to, mut words, mut other) = ([7; 4], [9, 1, 0, 0], [3, 0, 0, 0]);
     lent::settle(&mut words, 70, 70);
@@ -1310,6 +1402,7 @@ fn fixedbitset_lent_copies_54() {
     use crate::proved::fixedbitset::*;
     use crate::shim::u64x4;
     use core::cmp::Ordering;
+    use core::mem::{size_of, size_of_val};
 
     let (mut to, mut words, mut other) = ([7; 4], [9, 1, 0, 0], [3, 0, 0, 0]);
     lent::settle(&mut words, 70, 70);
@@ -1326,6 +1419,7 @@ fn fixedbitset_lent_copies_80() {
     use crate::proved::fixedbitset::*;
     use crate::shim::u64x4;
     use core::cmp::Ordering;
+    use core::mem::{size_of, size_of_val};
 
     let (mut to, mut words, mut other) = ([7; 4], [9, 1, 0, 0], [3, 0, 0, 0]);
     lent::settle(&mut words, 70, 70);
@@ -1342,6 +1436,7 @@ fn fixedbitset_lent_copies_106() {
     use crate::proved::fixedbitset::*;
     use crate::shim::u64x4;
     use core::cmp::Ordering;
+    use core::mem::{size_of, size_of_val};
 
     let (mut to, mut words, mut other) = ([7; 4], [9, 1, 0, 0], [3, 0, 0, 0]);
     lent::settle(&mut words, 70, 70);
@@ -1358,6 +1453,7 @@ fn fixedbitset_lent_gaps_9() {
     use crate::proved::fixedbitset::*;
     use crate::shim::u64x4;
     use core::cmp::Ordering;
+    use core::mem::{size_of, size_of_val};
 
     let mut words = [9, 2, 0, 0];
     lent::settle(&mut words, 70, 70);
@@ -1373,6 +1469,7 @@ fn fixedbitset_lent_neighbours_12() {
     use crate::proved::fixedbitset::*;
     use crate::shim::u64x4;
     use core::cmp::Ordering;
+    use core::mem::{size_of, size_of_val};
 
     let mut words = [9, 2, 0, 0];
     lent::settle(&mut words, 70, 70);
@@ -1389,6 +1486,7 @@ fn fixedbitset_lent_neighbours_26() {
     use crate::proved::fixedbitset::*;
     use crate::shim::u64x4;
     use core::cmp::Ordering;
+    use core::mem::{size_of, size_of_val};
 
     let mut words = [9, 63, 0, 0];
     lent::settle(&mut words, 70, 70);
@@ -1404,6 +1502,7 @@ fn fixedbitset_lent_neighbours_39() {
     use crate::proved::fixedbitset::*;
     use crate::shim::u64x4;
     use core::cmp::Ordering;
+    use core::mem::{size_of, size_of_val};
 
     let mut words = [9, 2, 0, 0];
     lent::settle(&mut words, 70, 70);
@@ -1420,6 +1519,7 @@ fn fixedbitset_lent_neighbours_53() {
     use crate::proved::fixedbitset::*;
     use crate::shim::u64x4;
     use core::cmp::Ordering;
+    use core::mem::{size_of, size_of_val};
 
     let mut words = [9, 63, 0, 0];
     lent::settle(&mut words, 70, 70);
@@ -1435,6 +1535,7 @@ fn fixedbitset_lent_ranges_9() {
     use crate::proved::fixedbitset::*;
     use crate::shim::u64x4;
     use core::cmp::Ordering;
+    use core::mem::{size_of, size_of_val};
 
     let mut words = [9, 0, 0, 0];
     lent::settle(&mut words, 70, 70);
@@ -1450,6 +1551,7 @@ fn fixedbitset_lent_ranges_22() {
     use crate::proved::fixedbitset::*;
     use crate::shim::u64x4;
     use core::cmp::Ordering;
+    use core::mem::{size_of, size_of_val};
 
     let mut words = [9, 0, 0, 0];
     lent::settle(&mut words, 70, 70);
@@ -1465,6 +1567,7 @@ fn fixedbitset_lent_ranges_35() {
     use crate::proved::fixedbitset::*;
     use crate::shim::u64x4;
     use core::cmp::Ordering;
+    use core::mem::{size_of, size_of_val};
 
     let mut words = [9, 1, 0, 0];
     lent::settle(&mut words, 70, 70);
@@ -1480,6 +1583,7 @@ fn fixedbitset_lent_ranges_48() {
     use crate::proved::fixedbitset::*;
     use crate::shim::u64x4;
     use core::cmp::Ordering;
+    use core::mem::{size_of, size_of_val};
 
     let mut words = [9, 0, 0, 0];
     lent::settle(&mut words, 70, 70);
@@ -1495,6 +1599,7 @@ fn fixedbitset_lent_ranges_61() {
     use crate::proved::fixedbitset::*;
     use crate::shim::u64x4;
     use core::cmp::Ordering;
+    use core::mem::{size_of, size_of_val};
 
     let mut words = [9, 3, 0, 0];
     lent::settle(&mut words, 70, 70);
@@ -1509,6 +1614,7 @@ fn fixedbitset_lent_ranges_73() {
     use crate::proved::fixedbitset::*;
     use crate::shim::u64x4;
     use core::cmp::Ordering;
+    use core::mem::{size_of, size_of_val};
 
     let mut words = [9, 3, 0, 0];
     lent::settle(&mut words, 70, 70);
@@ -1523,6 +1629,7 @@ fn fixedbitset_lent_ranges_85() {
     use crate::proved::fixedbitset::*;
     use crate::shim::u64x4;
     use core::cmp::Ordering;
+    use core::mem::{size_of, size_of_val};
 
     let mut words = [9, 3, 0, 0];
     lent::settle(&mut words, 70, 70);
@@ -1537,6 +1644,7 @@ fn fixedbitset_lent_ranges_97() {
     use crate::proved::fixedbitset::*;
     use crate::shim::u64x4;
     use core::cmp::Ordering;
+    use core::mem::{size_of, size_of_val};
 
     let mut words = [9, 3, 0, 0];
     lent::settle(&mut words, 70, 70);
@@ -1551,6 +1659,7 @@ fn fixedbitset_lent_shifts_10() {
     use crate::proved::fixedbitset::*;
     use crate::shim::u64x4;
     use core::cmp::Ordering;
+    use core::mem::{size_of, size_of_val};
 
     let mut words = [9, 0, 0, 0];
     lent::settle(&mut words, 70, 70);
@@ -1568,6 +1677,7 @@ fn fixedbitset_lent_shifts_33() {
     use crate::proved::fixedbitset::*;
     use crate::shim::u64x4;
     use core::cmp::Ordering;
+    use core::mem::{size_of, size_of_val};
 
     let mut words = [9, 8, 0, 0];
     lent::settle(&mut words, 70, 70);
@@ -1583,6 +1693,7 @@ fn fixedbitset_lent_shifts_52() {
     use crate::proved::fixedbitset::*;
     use crate::shim::u64x4;
     use core::cmp::Ordering;
+    use core::mem::{size_of, size_of_val};
 
     let (mut words, mut other) = ([9, 0, 0, 0], [7, 0, 0, 0]);
     lent::settle(&mut words, 70, 70);
@@ -1599,6 +1710,7 @@ fn fixedbitset_lent_shifts_88() {
     use crate::proved::fixedbitset::*;
     use crate::shim::u64x4;
     use core::cmp::Ordering;
+    use core::mem::{size_of, size_of_val};
 
     let mut words = [1, 0, 0, 0];
     lent::settle(&mut words, 70, 70);
@@ -1615,6 +1727,7 @@ fn fixedbitset_lent_shifts_117() {
     use crate::proved::fixedbitset::*;
     use crate::shim::u64x4;
     use core::cmp::Ordering;
+    use core::mem::{size_of, size_of_val};
 
     let (mut words, mut to) = ([9, 8, 0, 0], [0; 4]);
     lent::settle(&mut words, 70, 70);
@@ -1630,6 +1743,7 @@ fn fixedbitset_lent_shifts_147() {
     use crate::proved::fixedbitset::*;
     use crate::shim::u64x4;
     use core::cmp::Ordering;
+    use core::mem::{size_of, size_of_val};
 
     let (mut words, mut other) = ([5, 34, 0, 0], [2 | 1 << 63, 2, 0, 0]);
     lent::settle(&mut words, 70, 70);
@@ -1646,6 +1760,7 @@ fn fixedbitset_lent_walks_12() {
     use crate::proved::fixedbitset::*;
     use crate::shim::u64x4;
     use core::cmp::Ordering;
+    use core::mem::{size_of, size_of_val};
 
     let mut words = [9, 2, 0, 0];
     lent::settle(&mut words, 70, 70);
@@ -1660,6 +1775,7 @@ fn fixedbitset_lent_walks_26() {
     use crate::proved::fixedbitset::*;
     use crate::shim::u64x4;
     use core::cmp::Ordering;
+    use core::mem::{size_of, size_of_val};
 
     let (mut words, mut other) = ([9, 2, 0, 0], [1, 2, 0, 0]);
     lent::settle(&mut words, 70, 70);
@@ -1675,6 +1791,7 @@ fn fixedbitset_lent_walks_44() {
     use crate::proved::fixedbitset::*;
     use crate::shim::u64x4;
     use core::cmp::Ordering;
+    use core::mem::{size_of, size_of_val};
 
     let (mut words, mut other) = ([9, 2, 0, 0], [1, 2, 0, 0]);
     lent::settle(&mut words, 70, 70);
@@ -1690,6 +1807,7 @@ fn fixedbitset_lent_walks_64() {
     use crate::proved::fixedbitset::*;
     use crate::shim::u64x4;
     use core::cmp::Ordering;
+    use core::mem::{size_of, size_of_val};
 
     let (mut words, mut other) = ([9, 2, 0, 0], [1, 2, 0, 0]);
     lent::settle(&mut words, 70, 70);
@@ -1705,6 +1823,7 @@ fn fixedbitset_lent_walks_82() {
     use crate::proved::fixedbitset::*;
     use crate::shim::u64x4;
     use core::cmp::Ordering;
+    use core::mem::{size_of, size_of_val};
 
     let mut words = [Block::MAX - 8, 60, 0, 0];
     lent::settle(&mut words, 70, 70);
@@ -1719,6 +1838,7 @@ fn fixedbitset_lent_walks_94() {
     use crate::proved::fixedbitset::*;
     use crate::shim::u64x4;
     use core::cmp::Ordering;
+    use core::mem::{size_of, size_of_val};
 
     let mut words = [Block::MAX, 1, 0, 0];
     lent::settle(&mut words, 70, 70);
@@ -1733,6 +1853,7 @@ fn fixedbitset_lent_walks_106() {
     use crate::proved::fixedbitset::*;
     use crate::shim::u64x4;
     use core::cmp::Ordering;
+    use core::mem::{size_of, size_of_val};
 
     let mut words = [Block::MAX, 1, 0, 0];
     lent::settle(&mut words, 70, 70);
@@ -1747,6 +1868,7 @@ fn fixedbitset_lent_walks_118() {
     use crate::proved::fixedbitset::*;
     use crate::shim::u64x4;
     use core::cmp::Ordering;
+    use core::mem::{size_of, size_of_val};
 
     let mut words = [9, 2, 0, 0];
     lent::settle(&mut words, 70, 70);
@@ -1761,6 +1883,7 @@ fn fixedbitset_lent_walks_130() {
     use crate::proved::fixedbitset::*;
     use crate::shim::u64x4;
     use core::cmp::Ordering;
+    use core::mem::{size_of, size_of_val};
 
     let mut words = [Block::MAX - 8, 60, 0, 0];
     lent::settle(&mut words, 70, 70);
@@ -1775,6 +1898,7 @@ fn fixedbitset_lent_whole_14() {
     use crate::proved::fixedbitset::*;
     use crate::shim::u64x4;
     use core::cmp::Ordering;
+    use core::mem::{size_of, size_of_val};
 
     let (mut words, mut other) = ([9, 0, 0, 0], [3, 0, 0, 0]);
     lent::settle(&mut words, 70, 70);
@@ -1791,6 +1915,7 @@ fn fixedbitset_lent_whole_28() {
     use crate::proved::fixedbitset::*;
     use crate::shim::u64x4;
     use core::cmp::Ordering;
+    use core::mem::{size_of, size_of_val};
 
     let (mut words, mut other) = ([9, 0, 0, 0], [3, 0, 0, 0]);
     lent::settle(&mut words, 70, 70);
@@ -1807,6 +1932,7 @@ fn fixedbitset_lent_whole_47() {
     use crate::proved::fixedbitset::*;
     use crate::shim::u64x4;
     use core::cmp::Ordering;
+    use core::mem::{size_of, size_of_val};
 
     let (mut words, mut other) = ([9, 1, 0, 0], [3, 0, 0, 0]);
     lent::settle(&mut words, 70, 70);
@@ -1823,6 +1949,7 @@ fn fixedbitset_lent_whole_61() {
     use crate::proved::fixedbitset::*;
     use crate::shim::u64x4;
     use core::cmp::Ordering;
+    use core::mem::{size_of, size_of_val};
 
     let (mut words, mut other) = ([9, 1, 0, 0], [3, 0, 0, 0]);
     lent::settle(&mut words, 70, 70);
@@ -1839,6 +1966,7 @@ fn fixedbitset_lent_whole_75() {
     use crate::proved::fixedbitset::*;
     use crate::shim::u64x4;
     use core::cmp::Ordering;
+    use core::mem::{size_of, size_of_val};
 
     let (mut words, mut other) = ([9, 1, 0, 0], [3, 0, 0, 0]);
     lent::settle(&mut words, 70, 70);
@@ -1854,6 +1982,7 @@ fn fixedbitset_lent_whole_88() {
     use crate::proved::fixedbitset::*;
     use crate::shim::u64x4;
     use core::cmp::Ordering;
+    use core::mem::{size_of, size_of_val};
 
     let (mut words, mut other) = ([9, 1, 0, 0], [3, 0, 0, 0]);
     lent::settle(&mut words, 70, 70);
@@ -1869,6 +1998,7 @@ fn fixedbitset_lent_whole_106() {
     use crate::proved::fixedbitset::*;
     use crate::shim::u64x4;
     use core::cmp::Ordering;
+    use core::mem::{size_of, size_of_val};
 
     let (mut words, mut other) = ([9, 1, 0, 0], [3, 0, 0, 0]);
     lent::settle(&mut words, 70, 70);
@@ -1884,6 +2014,7 @@ fn fixedbitset_lent_whole_124() {
     use crate::proved::fixedbitset::*;
     use crate::shim::u64x4;
     use core::cmp::Ordering;
+    use core::mem::{size_of, size_of_val};
 
     let (mut words, mut other) = ([9, 1, 0, 0], [3, 0, 0, 0]);
     lent::settle(&mut words, 70, 70);
@@ -1899,6 +2030,7 @@ fn fixedbitset_lent_whole_142() {
     use crate::proved::fixedbitset::*;
     use crate::shim::u64x4;
     use core::cmp::Ordering;
+    use core::mem::{size_of, size_of_val};
 
     let (mut words, mut other) = ([9, 1, 0, 0], [6, 0, 0, 0]);
     lent::settle(&mut words, 70, 70);
@@ -1914,6 +2046,7 @@ fn fixedbitset_lent_whole_155() {
     use crate::proved::fixedbitset::*;
     use crate::shim::u64x4;
     use core::cmp::Ordering;
+    use core::mem::{size_of, size_of_val};
 
     let (mut words, mut other) = ([9, 0, 0, 0], [11, 0, 0, 0]);
     lent::settle(&mut words, 70, 70);
@@ -1929,6 +2062,7 @@ fn fixedbitset_lent_whole_168() {
     use crate::proved::fixedbitset::*;
     use crate::shim::u64x4;
     use core::cmp::Ordering;
+    use core::mem::{size_of, size_of_val};
 
     let (mut words, mut other) = ([9, 0, 0, 0], [11, 1, 0, 0]);
     lent::settle(&mut words, 9, 9);
@@ -1945,6 +2079,7 @@ fn fixedbitset_lent_whole_187() {
     use crate::proved::fixedbitset::*;
     use crate::shim::u64x4;
     use core::cmp::Ordering;
+    use core::mem::{size_of, size_of_val};
 
     let (mut words, mut other) = ([9, 0, 0, 0], [9, 0, 0, 0]);
     lent::settle(&mut words, 70, 70);
@@ -1960,6 +2095,7 @@ fn fixedbitset_lent_whole_200() {
     use crate::proved::fixedbitset::*;
     use crate::shim::u64x4;
     use core::cmp::Ordering;
+    use core::mem::{size_of, size_of_val};
 
     let (mut words, mut other) = ([9, 0, 0, 0], [11, 0, 0, 0]);
     lent::settle(&mut words, 70, 70);
@@ -1975,6 +2111,7 @@ fn fixedbitset_lent_52() {
     use crate::proved::fixedbitset::*;
     use crate::shim::u64x4;
     use core::cmp::Ordering;
+    use core::mem::{size_of, size_of_val};
 
     let mut words = [8, Block::MAX, 1, 0];
     lent::settle(&mut words, 70, 66);
@@ -1989,6 +2126,7 @@ fn fixedbitset_lent_67() {
     use crate::proved::fixedbitset::*;
     use crate::shim::u64x4;
     use core::cmp::Ordering;
+    use core::mem::{size_of, size_of_val};
 
     assert!(lent::is_clean(&[8, 63, 0, 0], 70));
     assert!(!lent::is_clean(&[8, 64, 0, 0], 70));
@@ -2003,6 +2141,7 @@ fn fixedbitset_lent_79() {
     use crate::proved::fixedbitset::*;
     use crate::shim::u64x4;
     use core::cmp::Ordering;
+    use core::mem::{size_of, size_of_val};
 
     let mut words = [8, 1, 0, 0];
     lent::settle(&mut words, 70, 70);
@@ -2018,6 +2157,7 @@ fn fixedbitset_lent_92() {
     use crate::proved::fixedbitset::*;
     use crate::shim::u64x4;
     use core::cmp::Ordering;
+    use core::mem::{size_of, size_of_val};
 
     let mut words = [8, 0, 0, 0];
     lent::settle(&mut words, 70, 70);
@@ -2033,6 +2173,7 @@ fn fixedbitset_lent_105() {
     use crate::proved::fixedbitset::*;
     use crate::shim::u64x4;
     use core::cmp::Ordering;
+    use core::mem::{size_of, size_of_val};
 
     let mut words = [9, 1, 0, 0];
     lent::settle(&mut words, 70, 70);
@@ -2048,6 +2189,7 @@ fn fixedbitset_lent_118() {
     use crate::proved::fixedbitset::*;
     use crate::shim::u64x4;
     use core::cmp::Ordering;
+    use core::mem::{size_of, size_of_val};
 
     let mut words = [9, 0, 0, 0];
     lent::settle(&mut words, 70, 70);
@@ -2063,6 +2205,7 @@ fn fixedbitset_lent_131() {
     use crate::proved::fixedbitset::*;
     use crate::shim::u64x4;
     use core::cmp::Ordering;
+    use core::mem::{size_of, size_of_val};
 
     let mut words = [8, 0, 0, 0];
     lent::settle(&mut words, 70, 70);
@@ -2078,6 +2221,7 @@ fn fixedbitset_lent_146() {
     use crate::proved::fixedbitset::*;
     use crate::shim::u64x4;
     use core::cmp::Ordering;
+    use core::mem::{size_of, size_of_val};
 
     let mut words = [9, 0, 0, 0];
     lent::settle(&mut words, 70, 70);
@@ -2093,6 +2237,7 @@ fn fixedbitset_lent_163() {
     use crate::proved::fixedbitset::*;
     use crate::shim::u64x4;
     use core::cmp::Ordering;
+    use core::mem::{size_of, size_of_val};
 
     let mut words = [9, 0, 0, 0];
     lent::settle(&mut words, 70, 70);
@@ -2108,6 +2253,7 @@ fn fixedbitset_lent_177() {
     use crate::proved::fixedbitset::*;
     use crate::shim::u64x4;
     use core::cmp::Ordering;
+    use core::mem::{size_of, size_of_val};
 
     let mut words = [9, 1, 0, 0];
     lent::settle(&mut words, 70, 70);
@@ -2123,6 +2269,7 @@ fn fixedbitset_lent_190() {
     use crate::proved::fixedbitset::*;
     use crate::shim::u64x4;
     use core::cmp::Ordering;
+    use core::mem::{size_of, size_of_val};
 
     let mut words = [0, 64, 0, 0];
     lent::settle(&mut words, 70, 70);
@@ -2137,6 +2284,7 @@ fn fixedbitset_lent_202() {
     use crate::proved::fixedbitset::*;
     use crate::shim::u64x4;
     use core::cmp::Ordering;
+    use core::mem::{size_of, size_of_val};
 
     let mut words = [0, 6, 0, 0];
     lent::settle(&mut words, 70, 70);
@@ -2151,6 +2299,7 @@ fn fixedbitset_lent_214() {
     use crate::proved::fixedbitset::*;
     use crate::shim::u64x4;
     use core::cmp::Ordering;
+    use core::mem::{size_of, size_of_val};
 
     let mut words = [9, Block::MAX, 0, 0];
     lent::settle(&mut words, 70, 70);

@@ -7,6 +7,8 @@ use core::fmt::{Debug, Formatter, Result};
 ///
 /// The directory takes one word of memory for eight words of the set. While it lives the set cannot change.
 ///
+/// Proved: what `rank` and `select` answer ([contract](../../../docs/API.md#bitranksdirectoryrank)).
+///
 /// ```
 /// use fixedbitset::{FixedBitSet, Ranks};
 ///

@@ -7,6 +7,8 @@ use core::fmt::{Debug, Formatter, Result};
 ///
 /// The rows stand in one row of words. Each keeps the words that a set of so many columns has: whole lanes of four.
 ///
+/// Proved: what its calls answer and leave ([contract](../../../docs/API.md#bitrowslentclose)).
+///
 /// ```
 /// use fixedbitset::BitRows;
 ///

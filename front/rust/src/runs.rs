@@ -58,6 +58,9 @@ impl FixedBitSet {
 
 /// The walk of [`FixedBitSet::runs`] and of [`FixedBitSet::zero_runs`].
 ///
+/// Proved: each stretch that it gives, in any mix of calls from both ends
+/// ([contract](../../../docs/API.md#fixedbitsetlentruns)).
+///
 /// ```
 /// # use fixedbitset::FixedBitSet;
 /// let set: FixedBitSet = [3, 4, 9].into_iter().collect();

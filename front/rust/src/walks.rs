@@ -174,6 +174,9 @@ impl FixedBitSet {
 
 /// The walk of [`FixedBitSet::ones`] and of [`FixedBitSet::ones_in`].
 ///
+/// Proved: each item that it gives, in any mix of calls from both ends
+/// ([contract](../../../docs/API.md#fixedbitsetlentones)).
+///
 /// ```
 /// # use fixedbitset::FixedBitSet;
 /// let set: FixedBitSet = [9, 3, 70].into_iter().collect();
@@ -187,6 +190,9 @@ pub struct Ones<'a> {
 
 /// The walk of [`FixedBitSet::into_ones`].
 ///
+/// Proved: each item that it gives, in any mix of calls from both ends
+/// ([contract](../../../docs/API.md#bitwordscursorscursorover)).
+///
 /// ```
 /// # use fixedbitset::{FixedBitSet, IntoOnes};
 /// let walk: IntoOnes = FixedBitSet::with_capacity(10).into_ones();
@@ -197,6 +203,9 @@ pub struct IntoOnes {
 }
 
 /// The walk of [`FixedBitSet::zeroes`] and of [`FixedBitSet::zeroes_in`].
+///
+/// Proved: each item that it gives, in any mix of calls from both ends
+/// ([contract](../../../docs/API.md#fixedbitsetlentzeroes)).
 ///
 /// ```
 /// # use fixedbitset::FixedBitSet;
@@ -210,6 +219,9 @@ pub struct Zeroes<'a> {
 
 /// The walk of [`FixedBitSet::intersection`].
 ///
+/// Proved: each item that it gives, in any mix of calls from both ends
+/// ([contract](../../../docs/API.md#fixedbitsetlentintersection)).
+///
 /// ```
 /// # use fixedbitset::FixedBitSet;
 /// let set: FixedBitSet = [1, 3].into_iter().collect();
@@ -221,6 +233,9 @@ pub struct Intersection<'a> {
 }
 
 /// The walk of [`FixedBitSet::difference`].
+///
+/// Proved: each item that it gives, in any mix of calls from both ends
+/// ([contract](../../../docs/API.md#fixedbitsetlentdifference)).
 ///
 /// ```
 /// # use fixedbitset::FixedBitSet;
@@ -234,6 +249,9 @@ pub struct Difference<'a> {
 
 /// The walk of [`FixedBitSet::union`]. From the back it begins with what the second set alone has.
 ///
+/// Proved: each item that it gives, in any mix of calls from both ends
+/// ([contract](../../../docs/API.md#bitwalksunionover)).
+///
 /// ```
 /// # use fixedbitset::FixedBitSet;
 /// let (set, other): (FixedBitSet, FixedBitSet) = ([1, 3].into_iter().collect(), [2, 3].into_iter().collect());
@@ -245,6 +263,9 @@ pub struct Union<'a> {
 }
 
 /// The walk of [`FixedBitSet::symmetric_difference`]. From the back it begins with what the second set alone has.
+///
+/// Proved: each item that it gives, in any mix of calls from both ends
+/// ([contract](../../../docs/API.md#bitwalkssymmetricdifferenceover)).
 ///
 /// ```
 /// # use fixedbitset::FixedBitSet;
