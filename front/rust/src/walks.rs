@@ -3,7 +3,7 @@ use crate::proved::bitlanes::word::take_lowest_bit;
 use crate::words::{
     JoinedLeft, LackedLeft, OnesLeft, OwnedLeft, SharedLeft, SplitLeft, ZeroesLeft,
 };
-use crate::{panics, Block, FixedBitSet, IndexRange};
+use crate::{panics, words, Block, FixedBitSet, IndexRange};
 use core::fmt::{Debug, Formatter, Result};
 use core::iter::FusedIterator;
 
@@ -279,9 +279,11 @@ pub struct SymmetricDifference<'a> {
 
 /// The traits of a walk over one row of words, which ascends.
 macro_rules! walks {
-    ($($name:ty),*) => { $(
+    ($($name:ty { $($more:tt)* })*) => { $(
         impl Iterator for $name {
             type Item = usize;
+
+            $($more)*
 
             #[inline]
             fn next(&mut self) -> Option<usize> {
@@ -326,13 +328,18 @@ macro_rules! walks {
         }
     )* };
 }
-walks!(
-    Ones<'_>,
-    Zeroes<'_>,
-    Intersection<'_>,
-    Difference<'_>,
-    IntoOnes
-);
+walks! {
+    Ones<'_> {
+        #[inline]
+        fn count(self) -> usize {
+            words::left_of(self.walk)
+        }
+    }
+    Zeroes<'_> {}
+    Intersection<'_> {}
+    Difference<'_> {}
+    IntoOnes {}
+}
 
 /// The traits of two walks in turn.
 macro_rules! walks_in_turn {

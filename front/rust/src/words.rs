@@ -5,7 +5,7 @@
 //! asks of its numbers stands at it, and its caller sees to that.
 use crate::proved::bitlanes::ops::{And, AndNot};
 use crate::proved::bitlanes::word::BITS;
-use crate::proved::bitlanes::Steps;
+use crate::proved::bitlanes::{lanes, Steps};
 use crate::proved::bitranks::directory;
 use crate::proved::bitrows::lent as tables;
 use crate::proved::bitwalks::in_turn::InTurn;
@@ -360,6 +360,14 @@ impl Words {
     pub fn select(&self, entries: &[usize], index: usize) -> Option<usize> {
         directory::select(self.blocks(), entries, index, &mut Steps::new())
     }
+}
+
+/// How many positions a walk has left: those of the words between its ends, and of its ends.
+#[inline]
+pub fn left_of(walk: OnesLeft<'_>) -> usize {
+    let (held, mut steps) = (walk.into_held(), Steps::new());
+    let ends = [held.front, held.back];
+    lanes::count_one(held.middle.words, &mut steps) + lanes::count_one(&ends, &mut steps)
 }
 
 /// The words of a table: for each row as many as a set of so many columns has, with no bit past them.
