@@ -1,5 +1,5 @@
 #!/usr/bin/env python3
-"""Compares the declarations of differ/archive.rs and c/bits.h, and their structs, with the exports of crates/bits_c.
+"""Compares the declarations of differ/declared.rs and c/bits.h, and their structs, with the exports of crates/bits_c.
 
 usage: front/declarations.py
 
@@ -12,7 +12,7 @@ import re
 import sys
 
 TOP = pathlib.Path(__file__).resolve().parent.parent
-# What a value is where it crosses, by its type in crates/bits_c, in archive.rs and in bits.h.
+# What a value is where it crosses, by its type in crates/bits_c, in declared.rs and in bits.h.
 KINDS = {
     "usize": "word", "Block": "word", "size_t": "word", "uint64_t": "word",
     "isize": "signed", "ptrdiff_t": "signed",
@@ -86,19 +86,19 @@ def letters_of(text, kind):
 
 def main():
     sources = "\n".join(it.read_text() for it in sorted((TOP / "crates/bits_c/src").rglob("*.rt")))
-    archive, header = (TOP / it for it in ("front/differ/archive.rs", "front/c/bits.h"))
+    archive, header = (TOP / it for it in ("front/differ/declared.rs", "front/c/bits.h"))
     archive, header = archive.read_text(), header.read_text()
     exported, wrong = of_rust(sources), []
-    for side, declared in (("archive.rs", of_rust(archive)), ("bits.h", of_c(header))):
+    for side, declared in (("declared.rs", of_rust(archive)), ("bits.h", of_c(header))):
         # (The program that compares need not declare all.)
-        names = declared.keys() if side == "archive.rs" else exported.keys() | declared.keys()
+        names = declared.keys() if side == "declared.rs" else exported.keys() | declared.keys()
         for it in sorted(names):
             if exported.get(it) != declared.get(it):
                 wrong.append(f"{side}: {it} is {exported.get(it)}, and declared {declared.get(it)}")
     for name, (of_sources, of_archive) in STRUCTS.items():
         fields = [fields_of(sources, of_sources), fields_of(archive, of_archive), fields_of(header, name)]
         if len(set(fields)) != 1:
-            wrong.append(f"struct {name} is {fields[0]}, in archive.rs {fields[1]}, in bits.h {fields[2]}")
+            wrong.append(f"struct {name} is {fields[0]}, in declared.rs {fields[1]}, in bits.h {fields[2]}")
     for one, other, name in (("Ones", "Zeroes", "bits_walk"), ("Set", "Room", "bits")):
         if fields_of(sources, one) != fields_of(sources, other):
             wrong.append(f"the structs {one} and {other} differ, and {name} stands for both")

@@ -1,172 +1,13 @@
 //! The proved archive as sets, ranks and tables, with the calls that `world.rs` makes.
 //!
 //! A caller hands over what a call asks for. A walk, and ranks, are used while their words stay as they are.
+use crate::declared::*;
 use std::cmp::Ordering;
 use std::marker::PhantomData;
 use std::ops::{BitAnd, BitOr, BitXor, Index, Range};
 use std::ptr::NonNull;
 
 pub type Block = usize;
-
-/// A set that is lent, the struct `bits` of bits.h.
-#[repr(C)]
-pub struct Lent {
-    words: NonNull<usize>,
-    count: usize,
-    length: usize,
-}
-
-/// A walk over one set, the struct `bits_walk` of bits.h.
-#[repr(C)]
-pub struct Walk {
-    front: usize,
-    back: usize,
-    front_at: usize,
-    back_at: usize,
-    words: NonNull<usize>,
-    count: usize,
-}
-
-/// A walk over stretches, the struct `bits_run_walk` of bits.h.
-#[repr(C)]
-pub struct Runs {
-    are_set: bool,
-    end: usize,
-    low: usize,
-    high: usize,
-    words: NonNull<usize>,
-    count: usize,
-}
-
-/// A walk over one set that is sieved by another, the struct `bits_sieve` of bits.h.
-#[repr(C)]
-pub struct Sieve {
-    walk: Walk,
-    other: NonNull<usize>,
-    other_count: usize,
-}
-
-/// Two such walks in turn, the struct `bits_pair` of bits.h.
-#[repr(C)]
-pub struct Pair {
-    first: Sieve,
-    second: Sieve,
-}
-
-/// A table that is lent, the struct `bits_rows` of bits.h.
-#[repr(C)]
-pub struct Rows {
-    words: NonNull<usize>,
-    count: usize,
-    rows: usize,
-    columns: usize,
-}
-
-/// A set that is lent with a directory of its words, the struct `bits_ranks` of bits.h.
-#[repr(C)]
-pub struct LentRanks {
-    words: NonNull<usize>,
-    count: usize,
-    length: usize,
-    directory: NonNull<usize>,
-    entries: usize,
-}
-
-unsafe extern "C" {
-    fn bits_words(length: usize) -> usize;
-    fn bits_blocks(length: usize) -> usize;
-    fn bits_settle(words: NonNull<usize>, count: usize, length: usize, kept: usize) -> bool;
-    fn bits_contains(set: &Lent, bit: usize) -> bool;
-    fn bits_insert(set: &mut Lent, bit: usize) -> bool;
-    fn bits_remove(set: &mut Lent, bit: usize) -> bool;
-    fn bits_toggle(set: &mut Lent, bit: usize) -> bool;
-    fn bits_put(set: &mut Lent, bit: usize) -> bool;
-    fn bits_set(set: &mut Lent, bit: usize, enabled: bool) -> bool;
-    fn bits_set_block(set: &mut Lent, index: usize, value: usize) -> bool;
-    fn bits_insert_all(set: &mut Lent, positions: *const usize, count: usize) -> bool;
-    fn bits_contains_each(set: &Lent, positions: *const usize, count: usize, answers: NonNull<bool>, places: usize) -> bool;
-    fn bits_clear(set: &mut Lent);
-    fn bits_minimum(set: &Lent) -> usize;
-    fn bits_maximum(set: &Lent) -> usize;
-    fn bits_next_one(set: &Lent, from: usize) -> usize;
-    fn bits_next_zero(set: &Lent, from: usize) -> usize;
-    fn bits_first_gap(set: &Lent, count: usize, from: usize) -> usize;
-    fn bits_previous_one(set: &Lent, below: usize) -> usize;
-    fn bits_previous_zero(set: &Lent, below: usize) -> usize;
-    fn bits_is_clear(set: &Lent) -> bool;
-    fn bits_is_full(set: &Lent) -> bool;
-    fn bits_insert_range(set: &mut Lent, start: usize, end: usize) -> bool;
-    fn bits_remove_range(set: &mut Lent, start: usize, end: usize) -> bool;
-    fn bits_toggle_range(set: &mut Lent, start: usize, end: usize) -> bool;
-    fn bits_count_ones(set: &Lent, start: usize, end: usize) -> usize;
-    fn bits_count_zeroes(set: &Lent, start: usize, end: usize) -> usize;
-    fn bits_contains_all_in_range(set: &Lent, start: usize, end: usize) -> bool;
-    fn bits_contains_any_in_range(set: &Lent, start: usize, end: usize) -> bool;
-    fn bits_union_with(set: &mut Lent, other: &Lent) -> bool;
-    fn bits_symmetric_difference_with(set: &mut Lent, other: &Lent) -> bool;
-    fn bits_intersect_with(set: &mut Lent, other: &Lent);
-    fn bits_difference_with(set: &mut Lent, other: &Lent);
-    fn bits_union_with_change(set: &mut Lent, other: &Lent, changed: &mut bool) -> bool;
-    fn bits_intersect_with_change(set: &mut Lent, other: &Lent) -> bool;
-    fn bits_difference_with_change(set: &mut Lent, other: &Lent) -> bool;
-    fn bits_union_with_difference(set: &mut Lent, gens: &Lent, kills: &Lent, changed: &mut bool) -> bool;
-    fn bits_union_of(to: &mut Lent, set: &Lent, other: &Lent) -> bool;
-    fn bits_symmetric_difference_of(to: &mut Lent, set: &Lent, other: &Lent) -> bool;
-    fn bits_intersection_of(to: &mut Lent, set: &Lent, other: &Lent) -> bool;
-    fn bits_difference_of(to: &mut Lent, set: &Lent, other: &Lent) -> bool;
-    fn bits_union_count(set: &Lent, other: &Lent) -> usize;
-    fn bits_intersection_count(set: &Lent, other: &Lent) -> usize;
-    fn bits_difference_count(set: &Lent, other: &Lent) -> usize;
-    fn bits_symmetric_difference_count(set: &Lent, other: &Lent) -> usize;
-    fn bits_is_disjoint(set: &Lent, other: &Lent) -> bool;
-    fn bits_is_subset(set: &Lent, other: &Lent) -> bool;
-    fn bits_first_lacking(set: &Lent, other: &Lent) -> usize;
-    fn bits_equal(set: &Lent, other: &Lent) -> bool;
-    fn bits_compare(set: &Lent, other: &Lent) -> isize;
-    fn bits_shift_up(set: &mut Lent, by: usize);
-    fn bits_shift_down(set: &mut Lent, by: usize);
-    fn bits_union_with_shifted(set: &mut Lent, other: &Lent, by: usize);
-    fn bits_union_with_own_shift(set: &mut Lent, by: usize);
-    fn bits_slice(part: &mut Lent, set: &Lent, start: usize, end: usize) -> bool;
-    fn bits_copy_range(set: &mut Lent, other: &Lent, start: usize, end: usize, at: usize) -> bool;
-    fn bits_bytes(length: usize) -> usize;
-    fn bits_from_bytes(set: &mut Lent, bytes: *const u8, count: usize);
-    fn bits_to_bytes(set: &Lent, bytes: NonNull<u8>, count: usize) -> bool;
-    fn bits_rows_words(rows: usize, columns: usize) -> usize;
-    fn bits_rows_get(rows: &Rows, row: usize, column: usize) -> bool;
-    fn bits_rows_set(rows: &mut Rows, row: usize, column: usize, enabled: bool) -> bool;
-    fn bits_rows_union(rows: &mut Rows, from: usize, into: usize, changed: &mut bool) -> bool;
-    fn bits_rows_ones(walk: &mut Walk, rows: &Rows, row: usize) -> bool;
-    fn bits_rows_close(rows: &mut Rows);
-    fn bits_ranks_entries(length: usize) -> usize;
-    fn bits_ranks_fill(ranks: &mut LentRanks, set: &Lent, directory: NonNull<usize>, entries: usize) -> bool;
-    fn bits_rank(ranks: &LentRanks, position: usize) -> usize;
-    fn bits_select(ranks: &LentRanks, index: usize) -> usize;
-    fn bits_ones(walk: &mut Walk, set: &Lent);
-    fn bits_ones_next(walk: &mut Walk, position: &mut usize) -> bool;
-    fn bits_ones_next_back(walk: &mut Walk, position: &mut usize) -> bool;
-    fn bits_zeroes(walk: &mut Walk, set: &Lent);
-    fn bits_zeroes_next(walk: &mut Walk, position: &mut usize) -> bool;
-    fn bits_zeroes_next_back(walk: &mut Walk, position: &mut usize) -> bool;
-    fn bits_ones_in(walk: &mut Walk, set: &Lent, start: usize, end: usize) -> bool;
-    fn bits_zeroes_in(walk: &mut Walk, set: &Lent, start: usize, end: usize) -> bool;
-    fn bits_runs(walk: &mut Runs, set: &Lent);
-    fn bits_zero_runs(walk: &mut Runs, set: &Lent);
-    fn bits_runs_next(walk: &mut Runs, start: &mut usize, end: &mut usize) -> bool;
-    fn bits_runs_next_back(walk: &mut Runs, start: &mut usize, end: &mut usize) -> bool;
-    fn bits_intersection(walk: &mut Sieve, set: &Lent, other: &Lent);
-    fn bits_intersection_next(walk: &mut Sieve, position: &mut usize) -> bool;
-    fn bits_intersection_next_back(walk: &mut Sieve, position: &mut usize) -> bool;
-    fn bits_difference(walk: &mut Sieve, set: &Lent, other: &Lent);
-    fn bits_difference_next(walk: &mut Sieve, position: &mut usize) -> bool;
-    fn bits_difference_next_back(walk: &mut Sieve, position: &mut usize) -> bool;
-    fn bits_union(walk: &mut Pair, set: &Lent, other: &Lent);
-    fn bits_union_next(walk: &mut Pair, position: &mut usize) -> bool;
-    fn bits_union_next_back(walk: &mut Pair, position: &mut usize) -> bool;
-    fn bits_symmetric_difference(walk: &mut Pair, set: &Lent, other: &Lent);
-    fn bits_symmetric_difference_next(walk: &mut Pair, position: &mut usize) -> bool;
-    fn bits_symmetric_difference_next_back(walk: &mut Pair, position: &mut usize) -> bool;
-}
 
 /// A set.
 #[derive(Clone, Default)]
@@ -429,7 +270,15 @@ impl FixedBitSet {
 
     pub fn contains_each(&self, positions: &[usize], answers: &mut [bool]) {
         let (places, count) = (NonNull::from(&mut *answers).cast(), answers.len());
-        assert!(unsafe { bits_contains_each(&self.lent(), positions.as_ptr(), positions.len(), places, count) });
+        assert!(unsafe {
+            bits_contains_each(
+                &self.lent(),
+                positions.as_ptr(),
+                positions.len(),
+                places,
+                count,
+            )
+        });
     }
 
     pub fn set_range(&mut self, range: Range<usize>, enabled: bool) {
@@ -443,7 +292,9 @@ impl FixedBitSet {
     pub fn union_with_change(&mut self, other: &Self) -> bool {
         self.grow(other.length);
         let mut changed = false;
-        assert!(unsafe { bits_union_with_change(&mut self.lent_mut(), &other.lent(), &mut changed) });
+        assert!(unsafe {
+            bits_union_with_change(&mut self.lent_mut(), &other.lent(), &mut changed)
+        });
         changed
     }
 
@@ -451,7 +302,9 @@ impl FixedBitSet {
         self.grow(gens.length);
         let mut changed = false;
         let (gens, kills) = (gens.lent(), kills.lent());
-        assert!(unsafe { bits_union_with_difference(&mut self.lent_mut(), &gens, &kills, &mut changed) });
+        assert!(unsafe {
+            bits_union_with_difference(&mut self.lent_mut(), &gens, &kills, &mut changed)
+        });
         changed
     }
 
@@ -522,8 +375,20 @@ impl FixedBitSet {
     }
 
     pub fn into_ones(self) -> Owned {
-        let Walked { walk, next, next_back, words, .. } = self.ones();
-        let walked = Walked { walk, next, next_back, words, lent: PhantomData };
+        let Walked {
+            walk,
+            next,
+            next_back,
+            words,
+            ..
+        } = self.ones();
+        let walked = Walked {
+            walk,
+            next,
+            next_back,
+            words,
+            lent: PhantomData,
+        };
         Owned { walked, _set: self }
     }
 
@@ -540,11 +405,19 @@ impl FixedBitSet {
     }
 
     fn lent(&self) -> Lent {
-        Lent { words: NonNull::from(&self.words[..]).cast(), count: self.words.len(), length: self.length }
+        Lent {
+            words: NonNull::from(&self.words[..]).cast(),
+            count: self.words.len(),
+            length: self.length,
+        }
     }
 
     fn lent_mut(&mut self) -> Lent {
-        Lent { words: NonNull::from(&mut self.words[..]).cast(), count: self.words.len(), length: self.length }
+        Lent {
+            words: NonNull::from(&mut self.words[..]).cast(),
+            count: self.words.len(),
+            length: self.length,
+        }
     }
 }
 
@@ -586,29 +459,6 @@ operators! {
     BitAnd bitand intersection_of;
     BitOr bitor union_of;
     BitXor bitxor symmetric_difference_of;
-}
-
-impl Walk {
-    /// Over no words.
-    const NONE: Self =
-        Walk { front: 0, back: 0, front_at: 0, back_at: 0, words: NonNull::dangling(), count: 0 };
-}
-
-impl Sieve {
-    const NONE: Self = Sieve { walk: Walk::NONE, other: NonNull::dangling(), other_count: 0 };
-}
-
-impl Pair {
-    const NONE: Self = Pair { first: Sieve::NONE, second: Sieve::NONE };
-
-    fn words(&self) -> usize {
-        self.first.walk.count + self.second.walk.count + 4
-    }
-}
-
-impl Runs {
-    const NONE: Self =
-        Runs { are_set: false, end: 0, low: 0, high: 0, words: NonNull::dangling(), count: 0 };
 }
 
 /// A call of a walk.
@@ -695,9 +545,19 @@ impl<'a> Ranks<'a> {
         let mut directory = vec![0; unsafe { bits_ranks_entries(set.length) }];
         let (places, entries) = (NonNull::from(&mut directory[..]).cast(), directory.len());
         let none = NonNull::dangling();
-        let mut ranks = LentRanks { words: none, count: 0, length: 0, directory: none, entries: 0 };
+        let mut ranks = LentRanks {
+            words: none,
+            count: 0,
+            length: 0,
+            directory: none,
+            entries: 0,
+        };
         assert!(unsafe { bits_ranks_fill(&mut ranks, &set.lent(), places, entries) });
-        Ranks { ranks, _directory: directory, lent: PhantomData }
+        Ranks {
+            ranks,
+            _directory: directory,
+            lent: PhantomData,
+        }
     }
 
     pub fn rank(&self, position: usize) -> usize {
@@ -720,7 +580,11 @@ pub struct BitRows {
 impl BitRows {
     pub fn new(rows: usize, columns: usize) -> Self {
         let words = vec![0; unsafe { bits_rows_words(rows, columns) }];
-        BitRows { words, rows, columns }
+        BitRows {
+            words,
+            rows,
+            columns,
+        }
     }
 
     pub fn rows(&self) -> usize {
@@ -748,8 +612,17 @@ impl BitRows {
     pub fn row(&self, row: usize) -> Walked<'_, Walk> {
         let mut walk = Walk::NONE;
         assert!(unsafe { bits_rows_ones(&mut walk, &self.lent(), row) });
-        let (next, next_back) = (bits_ones_next as Next<Walk>, bits_ones_next_back as Next<Walk>);
-        Walked { walk, next, next_back, words: |walk| walk.count + 2, lent: PhantomData }
+        let (next, next_back) = (
+            bits_ones_next as Next<Walk>,
+            bits_ones_next_back as Next<Walk>,
+        );
+        Walked {
+            walk,
+            next,
+            next_back,
+            words: |walk| walk.count + 2,
+            lent: PhantomData,
+        }
     }
 
     pub fn close(&mut self) {
@@ -758,11 +631,21 @@ impl BitRows {
 
     fn lent(&self) -> Rows {
         let words = NonNull::from(&self.words[..]).cast();
-        Rows { words, count: self.words.len(), rows: self.rows, columns: self.columns }
+        Rows {
+            words,
+            count: self.words.len(),
+            rows: self.rows,
+            columns: self.columns,
+        }
     }
 
     fn lent_mut(&mut self) -> Rows {
         let words = NonNull::from(&mut self.words[..]).cast();
-        Rows { words, count: self.words.len(), rows: self.rows, columns: self.columns }
+        Rows {
+            words,
+            count: self.words.len(),
+            rows: self.rows,
+            columns: self.columns,
+        }
     }
 }

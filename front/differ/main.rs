@@ -2,6 +2,7 @@
 //!
 //! usage: differ STEPS SEED
 mod archive;
+mod declared;
 
 mod proved_side {
     use crate::archive as it;
@@ -28,7 +29,10 @@ fn main() {
         for step in 0..left.min(STEPS_OF_ONE) {
             digest = one.step();
             if digest != other.step() {
-                eprintln!("seed {seed}, sets {world}, step {step}: {:?} and {:?}", one.said, other.said);
+                eprintln!(
+                    "seed {seed}, sets {world}, step {step}: {:?} and {:?}",
+                    one.said, other.said
+                );
                 std::process::exit(1);
             }
         }

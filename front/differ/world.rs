@@ -78,7 +78,9 @@ impl World {
 
     fn say(&mut self, answer: u64) {
         self.said.1.push(answer);
-        self.digest = (self.digest ^ answer).wrapping_mul(0x1000_0000_01b3).rotate_left(23);
+        self.digest = (self.digest ^ answer)
+            .wrapping_mul(0x1000_0000_01b3)
+            .rotate_left(23);
     }
 
     fn say_if(&mut self, answer: Option<usize>) {
@@ -92,21 +94,33 @@ impl World {
         self.say_if(high);
         let bits = self.word();
         for turn in 0..self.below(40) {
-            let item = if bits >> (turn % 64) & 1 == 1 { walk.next() } else { walk.next_back() };
+            let item = if bits >> (turn % 64) & 1 == 1 {
+                walk.next()
+            } else {
+                walk.next_back()
+            };
             self.say_if(item);
         }
-        let rest = walk.take(3000).fold(0_u64, |made, item| made.wrapping_mul(31) ^ item as u64);
+        let rest = walk
+            .take(3000)
+            .fold(0_u64, |made, item| made.wrapping_mul(31) ^ item as u64);
         self.say(rest);
     }
 
     fn walk_pairs(&mut self, mut walk: impl DoubleEndedIterator<Item = (usize, usize)>) {
         let bits = self.word();
         for turn in 0..self.below(20) {
-            let item = if bits >> turn & 1 == 1 { walk.next() } else { walk.next_back() };
+            let item = if bits >> turn & 1 == 1 {
+                walk.next()
+            } else {
+                walk.next_back()
+            };
             self.say_if(item.map(|it| it.0));
             self.say_if(item.map(|it| it.1));
         }
-        let rest = walk.take(500).fold(0_u64, |made, it| made.wrapping_mul(31) ^ (it.0 as u64) << 20 ^ it.1 as u64);
+        let rest = walk.take(500).fold(0_u64, |made, it| {
+            made.wrapping_mul(31) ^ (it.0 as u64) << 20 ^ it.1 as u64
+        });
         self.say(rest);
     }
 
@@ -135,11 +149,24 @@ impl World {
             61..72 => self.walk_over(&set, &other, call),
             72..78 => self.rank_and_tabulate(&set, call),
             78 => set = &other & &third,
-            _ => set = if self.below(2) == 0 { &other | &third } else { &other ^ &third },
+            _ => {
+                set = if self.below(2) == 0 {
+                    &other | &third
+                } else {
+                    &other ^ &third
+                }
+            }
         }
         self.say(set.len() as u64);
-        let mixed = |made: u64, word: &Block| (made ^ *word as u64).wrapping_mul(0x1000_0000_01b3).rotate_left(31);
-        let left = set.as_slice().iter().fold(set.as_slice().len() as u64, mixed);
+        let mixed = |made: u64, word: &Block| {
+            (made ^ *word as u64)
+                .wrapping_mul(0x1000_0000_01b3)
+                .rotate_left(31)
+        };
+        let left = set
+            .as_slice()
+            .iter()
+            .fold(set.as_slice().len() as u64, mixed);
         self.say(left);
         self.sets[one] = set;
         self.digest
@@ -173,7 +200,11 @@ impl World {
             13 if bit < n => set.set(bit, enabled),
             14 if bit < n => set.copy_bit(from, bit),
             15 if n > 0 => set.set_block(self.below(n.div_ceil(64)), self.block()),
-            16 if n > 0 => set.insert_all(&(0..self.below(9)).map(|_| self.below(n)).collect::<Vec<_>>()),
+            16 if n > 0 => set.insert_all(
+                &(0..self.below(9))
+                    .map(|_| self.below(n))
+                    .collect::<Vec<_>>(),
+            ),
             17 => {
                 let all: Vec<usize> = (0..self.below(9)).map(|_| self.near(n)).collect();
                 let mut answers = vec![false; all.len()];
@@ -198,7 +229,13 @@ impl World {
         }
     }
 
-    fn join(&mut self, set: &mut FixedBitSet, other: &FixedBitSet, third: &FixedBitSet, call: usize) {
+    fn join(
+        &mut self,
+        set: &mut FixedBitSet,
+        other: &FixedBitSet,
+        third: &FixedBitSet,
+        call: usize,
+    ) {
         let mut changed = false;
         match call {
             26 => set.clear(),
@@ -259,7 +296,10 @@ impl World {
             54 if n + other.len() < 100_000 => set.append(other),
             55 => {
                 let bytes = set.to_bytes();
-                bytes.iter().step_by(7).for_each(|byte| self.say(*byte as u64));
+                bytes
+                    .iter()
+                    .step_by(7)
+                    .for_each(|byte| self.say(*byte as u64));
                 let (length, count) = (self.length(), self.near(bytes.len()).min(bytes.len()));
                 *set = FixedBitSet::from_bytes(length, &bytes[..count]);
             }
