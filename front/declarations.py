@@ -1,5 +1,5 @@
 #!/usr/bin/env python3
-"""Compares the declarations of rust/src/raw.rs and c/bits.h, and their structs, with the exports of crates/bits_c.
+"""Compares the declarations of differ/declared.rs and c/bits.h, and their structs, with the exports of crates/bits_c.
 
 usage: front/declarations.py
 
@@ -12,7 +12,7 @@ import re
 import sys
 
 TOP = pathlib.Path(__file__).resolve().parent.parent
-# What a value is where it crosses, by its type in crates/bits_c, in raw.rs and in bits.h.
+# What a value is where it crosses, by its type in crates/bits_c, in declared.rs and in bits.h.
 KINDS = {
     "usize": "word", "Block": "word", "size_t": "word", "uint64_t": "word",
     "isize": "signed", "ptrdiff_t": "signed",
@@ -30,7 +30,8 @@ KINDS = {
     "&[u8]": "const byte* word", "*const u8": "const byte*", "const uint8_t *": "const byte*",
     "&mut [u8]": "byte* word", "NonNull<u8>": "byte*", "uint8_t *": "byte*",
     "&mut Rows": "rows*", "bits_rows *": "rows*", "&Rows": "const rows*", "const bits_rows *": "const rows*",
-    "&mut Ranks": "ranks*", "bits_ranks *": "ranks*", "&Ranks": "const ranks*", "const bits_ranks *": "const ranks*",
+    "&mut Ranks": "ranks*", "&mut LentRanks": "ranks*", "bits_ranks *": "ranks*", "&LentRanks": "const ranks*",
+    "&Ranks": "const ranks*", "const bits_ranks *": "const ranks*",
 }
 # The struct that each of the three has, by its name in bits.h.
 STRUCTS = {
@@ -40,7 +41,7 @@ STRUCTS = {
     "bits_run_walk": ("Runs", "Runs"),
     "bits_sieve": ("Sieve", "Sieve"),
     "bits_pair": ("Pair", "Pair"),
-    "bits_ranks": ("Ranks", "Ranks"),
+    "bits_ranks": ("Ranks", "LentRanks"),
     "bits_rows": ("Rows", "Rows"),
 }
 
@@ -85,19 +86,19 @@ def letters_of(text, kind):
 
 def main():
     sources = "\n".join(it.read_text() for it in sorted((TOP / "crates/bits_c/src").rglob("*.rt")))
-    raw, header = (TOP / it for it in ("front/rust/src/raw.rs", "front/c/bits.h"))
-    raw, header = raw.read_text(), header.read_text()
+    archive, header = (TOP / it for it in ("front/differ/declared.rs", "front/c/bits.h"))
+    archive, header = archive.read_text(), header.read_text()
     exported, wrong = of_rust(sources), []
-    for side, declared in (("raw.rs", of_rust(raw)), ("bits.h", of_c(header))):
-        # (Rust's own crate need not declare all.)
-        names = declared.keys() if side == "raw.rs" else exported.keys() | declared.keys()
+    for side, declared in (("declared.rs", of_rust(archive)), ("bits.h", of_c(header))):
+        # (The program that compares need not declare all.)
+        names = declared.keys() if side == "declared.rs" else exported.keys() | declared.keys()
         for it in sorted(names):
             if exported.get(it) != declared.get(it):
                 wrong.append(f"{side}: {it} is {exported.get(it)}, and declared {declared.get(it)}")
-    for name, (of_sources, of_raw) in STRUCTS.items():
-        fields = [fields_of(sources, of_sources), fields_of(raw, of_raw), fields_of(header, name)]
+    for name, (of_sources, of_archive) in STRUCTS.items():
+        fields = [fields_of(sources, of_sources), fields_of(archive, of_archive), fields_of(header, name)]
         if len(set(fields)) != 1:
-            wrong.append(f"struct {name} is {fields[0]}, in raw.rs {fields[1]}, in bits.h {fields[2]}")
+            wrong.append(f"struct {name} is {fields[0]}, in declared.rs {fields[1]}, in bits.h {fields[2]}")
     for one, other, name in (("Ones", "Zeroes", "bits_walk"), ("Set", "Room", "bits")):
         if fields_of(sources, one) != fields_of(sources, other):
             wrong.append(f"the structs {one} and {other} differ, and {name} stands for both")

@@ -6,6 +6,7 @@
 
 pub mod bytes;
 pub mod fault;
+pub mod fills;
 pub mod form;
 
 pub use fault::JsonFault;

@@ -180,8 +180,8 @@ fn straddle_lane(shift: usize, low: u64x4, high: u64x4) -> u64x4
     ensures words { (k : ℕ) → k < 4 → slice_index result k
         ≡ straddle shift (slice_index low k) (slice_index high k) }
 {
-    let right = u64x4::splat(shift as u64);
-    let left = u64x4::splat((BITS - 1 - shift) as u64);
+    let right = u64x4::splat(shift as Block);
+    let left = u64x4::splat((BITS - 1 - shift) as Block);
     (low >> right) | ((high << u64x4::splat(1)) << left)
 }
 

@@ -2,11 +2,10 @@
 
 ghost use Rattle.std.specs.Prelude.{◌≡◌, ℕ, ◌+◌, ◌*◌, ◌^◌, ◌<◌, ◌++◌, List, [], true, false, length, Some, IfSome};
 ghost use Rattle.std.specs.Iterator.{YieldsFirst, YieldsLast, UpTo, at_most};
-ghost use Rattle.bitwalks.specs.Pairs.{WalksFront, WalksBack, AsksFront, AsksBack};
-ghost use Rattle.bitwalks.specs.PairsFacts.{walk_stays, walk_stays_back, sieve_stays, sieve_stays_back};
+ghost use Rattle.bitwalks.specs.Pairs.{WalksFront, WalksBack};
+ghost use Rattle.bitwalks.specs.PairsFacts.{walk_stays, walk_stays_back};
 
-use crate::sieve::{Choice, Sieve};
-use crate::walks::Ones;
+use bitwords::cursors::{Cursor, Middle};
 use std::marker::Model;
 
 /// A walk that may be one of two in turn.
@@ -45,7 +44,7 @@ pub trait Part {
     ghost back_stays: { (walk : Self) → back walk walk };
 }
 
-impl<'a> Part for Ones<'a> {
+impl<M: Middle + Drop> Part for Cursor<M> {
     ghost items = { λ walk. walk.items };
 
     ghost front = { WalksFront };
@@ -72,35 +71,6 @@ impl<'a> Part for Ones<'a> {
     ghost front_stays = { walk_stays };
 
     ghost back_stays = { walk_stays_back };
-}
-
-impl<'a, C: Choice> Part for Sieve<'a, C> {
-    ghost items = { λ sieved. sieved.items };
-
-    ghost front = { AsksFront };
-
-    ghost back = { AsksBack };
-
-    ghost room = { λ sieved. 64 * (length sieved.source.words + 2) };
-
-    #[inline]
-    fn take_first(&mut self) -> Option<usize> {
-        self.next()
-    }
-
-    #[inline]
-    fn take_last(&mut self) -> Option<usize> {
-        self.next_back()
-    }
-
-    #[inline]
-    fn most(&self) -> Option<usize> {
-        self.size_hint().1
-    }
-
-    ghost front_stays = { sieve_stays };
-
-    ghost back_stays = { sieve_stays_back };
 }
 
 /// The items of the first walk, and then those of the second.

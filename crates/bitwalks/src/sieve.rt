@@ -4,8 +4,10 @@ ghost use Rattle.std.specs.Prelude.{◌≡◌, ◌+◌, ◌*◌, ◌^◌, ◌<�
 ghost use Rattle.std.specs.Iterator.{item_count, UpTo};
 ghost use Rattle.std.specs.Iterator.SizeHint.{IsWithinCount};
 ghost use Rattle.bitwords.specs.Rows.{has_bit};
-ghost use Rattle.bitwalks.specs.Pairs.{sieve_over, SievesFirst, SievesLast};
+ghost use Rattle.bitwalks.specs.Pairs.{sieve_over, SievesFirst, SievesLast, AsksFront, AsksBack};
+ghost use Rattle.bitwalks.specs.PairsFacts.{sieve_stays, sieve_stays_back};
 
+use crate::in_turn::Part;
 use crate::walks::Ones;
 use bitlanes::counter::Steps;
 use bitlanes::word::{BITS, Block};
@@ -174,3 +176,32 @@ impl<'a, C: Choice> DoubleEndedIterator for Sieve<'a, C> {
 }
 
 impl<'a, C: Choice> FusedIterator for Sieve<'a, C> {}
+
+impl<'a, C: Choice> Part for Sieve<'a, C> {
+    ghost items = { λ sieved. sieved.items };
+
+    ghost front = { AsksFront };
+
+    ghost back = { AsksBack };
+
+    ghost room = { λ sieved. 64 * (length sieved.source.words + 2) };
+
+    #[inline]
+    fn take_first(&mut self) -> Option<usize> {
+        self.next()
+    }
+
+    #[inline]
+    fn take_last(&mut self) -> Option<usize> {
+        self.next_back()
+    }
+
+    #[inline]
+    fn most(&self) -> Option<usize> {
+        self.size_hint().1
+    }
+
+    ghost front_stays = { sieve_stays };
+
+    ghost back_stays = { sieve_stays_back };
+}

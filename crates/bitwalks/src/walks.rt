@@ -14,7 +14,10 @@ ghost use Rattle.std.specs.Iterator.SizeHint.{IsWithinCount};
 ghost use Rattle.bitlanes.specs.Word.{IsLowestBit, ClearsBit};
 ghost use Rattle.bitwords.specs.RowFacts.{AreWords};
 ghost use Rattle.bitwords.specs.Walk.{GivesFirst, GivesLast, over_row, range_row};
+ghost use Rattle.bitwalks.specs.Pairs.{WalksFront, WalksBack};
+ghost use Rattle.bitwalks.specs.PairsFacts.{walk_stays, walk_stays_back};
 
+use crate::in_turn::Part;
 use bitlanes::word::{Block, take_lowest_bit};
 use bitwords::cursors::{Cursor, Inverted, Plain, ones_within, zeroes_within};
 use std::alloc::Global;
@@ -350,3 +353,32 @@ impl<'a> DoubleEndedIterator for Zeroes<'a> {
 }
 
 impl<'a> FusedIterator for Zeroes<'a> {}
+
+impl<'a> Part for Ones<'a> {
+    ghost items = { λ walk. walk.items };
+
+    ghost front = { WalksFront };
+
+    ghost back = { WalksBack };
+
+    ghost room = { λ walk. 64 * (length walk.words + 2) };
+
+    #[inline]
+    fn take_first(&mut self) -> Option<usize> {
+        self.next()
+    }
+
+    #[inline]
+    fn take_last(&mut self) -> Option<usize> {
+        self.next_back()
+    }
+
+    #[inline]
+    fn most(&self) -> Option<usize> {
+        self.size_hint().1
+    }
+
+    ghost front_stays = { walk_stays };
+
+    ghost back_stays = { walk_stays_back };
+}

@@ -6,6 +6,7 @@
 
 pub mod cursors;
 pub mod joins;
+pub mod new_rows;
 pub mod positions;
 pub mod ranges;
 pub mod shifts;

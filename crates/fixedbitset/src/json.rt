@@ -5,7 +5,8 @@ ghost use Rattle.serde_json.specs.View.{view};
 ghost use Rattle.bitjson.specs.declared.fault.JsonFault.TheVariants.{Memory};
 ghost use Rattle.fixedbitset.specs.Json as json;
 
-use crate::set::{FixedBitSet, storage_words};
+use crate::lent::storage_words;
+use crate::set::FixedBitSet;
 pub use bitjson::JsonFault;
 use bitjson::bytes::{value_of_words, words_of_items};
 use bitjson::form::read_form;

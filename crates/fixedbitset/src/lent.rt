@@ -23,7 +23,6 @@ pub(crate) mod shifts;
 mod walks;
 pub(crate) mod whole;
 
-use crate::set::storage_words;
 use bitlanes::word::{BITS, Block, ones_below};
 use bitlanes::{Steps, lanes};
 use bitwords::positions;
@@ -364,4 +363,12 @@ fn used_bits(length: usize, index: usize) -> usize
     } else {
         BITS
     }
+}
+
+// How many words a set of so many positions keeps.
+#[inline]
+pub(crate) fn storage_words(bits: usize) -> usize
+    ensures { result ≡ model.storage_words bits }
+{
+    lanes::LANE * bits.div_ceil(BITS).div_ceil(lanes::LANE)
 }

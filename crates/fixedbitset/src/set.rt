@@ -7,8 +7,8 @@ ghost use Rattle.fixedbitset.specs.Bits as model;
 ghost use Rattle.fixedbitset.specs.Blocks.{FirstItems};
 
 use crate::lent;
+use crate::lent::storage_words;
 use bitlanes::Steps;
-use bitlanes::lanes::LANE;
 use bitlanes::word::{BITS, Block};
 use bitwords::positions;
 use std::alloc::{AllocError, Global};
@@ -291,14 +291,6 @@ impl Clone for FixedBitSet {
             length: self.length,
         })
     }
-}
-
-// How many words a set of so many positions keeps.
-#[inline]
-pub(crate) fn storage_words(bits: usize) -> usize
-    ensures { result ≡ model.storage_words bits }
-{
-    LANE * bits.div_ceil(BITS).div_ceil(LANE)
 }
 
 // A row of words in memory of its own.

@@ -35,22 +35,8 @@ fn words_of_bytes(rt: HostRuntime) {
 }
 
 #[test]
-fn fill_words(rt: HostRuntime) {
-    let mut words = [7, 7];
-    bytes::fill_words(&[1, 2], &mut words);
-    equal(&rt, words, [513, 0]);
-}
-
-#[test]
 fn bytes_of_words(rt: HostRuntime) {
     let alloc = rt.alloc();
     let data = ok(&rt, bytes::bytes_of_words(alloc, &[513]));
     equal(&rt, data.as_slice(), [1, 2, 0, 0, 0, 0, 0, 0].as_slice());
-}
-
-#[test]
-fn fill_bytes(rt: HostRuntime) {
-    let mut made = [7; 8];
-    bytes::fill_bytes(&[513], &mut made);
-    equal(&rt, made, [1, 2, 0, 0, 0, 0, 0, 0]);
 }

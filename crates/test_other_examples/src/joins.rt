@@ -1,6 +1,6 @@
 //! The examples in the docs of `bitwords::joins`. docs/make_examples writes this file.
 
-use crate::calls::{equal, holds, ok};
+use crate::calls::{equal, holds};
 use bitlanes::ops::{And, AndNot, Xor};
 use bitwords::joins;
 use fixedbitset::Steps;
@@ -76,14 +76,4 @@ fn first_of_difference(rt: HostRuntime) {
         joins::first_of_difference(&[7], &[7, 2, 1], &mut Steps::new()),
         None,
     );
-}
-
-#[test]
-fn joined(rt: HostRuntime) {
-    let alloc = rt.alloc();
-    let new = ok(
-        &rt,
-        joins::joined::<And>(alloc, &[11, 3, 1], &[9, 6], &mut Steps::new()),
-    );
-    equal(&rt, new.as_slice(), [9, 2, 0].as_slice());
 }

@@ -27,6 +27,8 @@ mod cursors;
 #[cfg(test)]
 mod fault;
 #[cfg(test)]
+mod fills;
+#[cfg(test)]
 mod form;
 #[cfg(test)]
 mod joins;
@@ -38,6 +40,8 @@ mod laws;
 mod lent;
 #[cfg(test)]
 mod lines;
+#[cfg(test)]
+mod new_rows;
 #[cfg(test)]
 mod ops;
 #[cfg(test)]

@@ -1,8 +1,10 @@
 //! Single positions.
-use crate::{FixedBitSet, raw};
+use crate::{panics, FixedBitSet};
 
 impl FixedBitSet {
     /// Whether position `bit` is set. At or past the length none is. `set[bit]` is the same.
+    ///
+    /// Proved: the answer, for all sets and all numbers ([contract](../../../docs/API.md#fixedbitsetlentcontains)).
     ///
     /// ```
     /// # use fixedbitset::FixedBitSet;
@@ -11,12 +13,15 @@ impl FixedBitSet {
     /// ```
     #[inline]
     pub fn contains(&self, bit: usize) -> bool {
-        raw::bits_contains(&self.words.lent(), bit)
+        self.words.contains(bit)
     }
 
     /// Sets position `bit`.
     ///
     /// **Panics** where it is at or past the length.
+    ///
+    /// Proved: what it leaves, for all sets and each position below the length
+    /// ([contract](../../../docs/API.md#fixedbitsetlentinsert)).
     ///
     /// ```
     /// # use fixedbitset::FixedBitSet;
@@ -27,13 +32,16 @@ impl FixedBitSet {
     #[inline]
     #[track_caller]
     pub fn insert(&mut self, bit: usize) {
-        let done = raw::bits_insert(&mut self.words.lent_mut(), bit);
-        self.assert_done(done, "insert at", bit);
+        self.assert_below("insert at", bit);
+        self.words.insert(bit);
     }
 
     /// Clears position `bit`.
     ///
     /// **Panics** where it is at or past the length.
+    ///
+    /// Proved: what it leaves, for all sets and each position below the length
+    /// ([contract](../../../docs/API.md#fixedbitsetlentremove)).
     ///
     /// ```
     /// # use fixedbitset::FixedBitSet;
@@ -44,13 +52,16 @@ impl FixedBitSet {
     #[inline]
     #[track_caller]
     pub fn remove(&mut self, bit: usize) {
-        let done = raw::bits_remove(&mut self.words.lent_mut(), bit);
-        self.assert_done(done, "remove at", bit);
+        self.assert_below("remove at", bit);
+        self.words.remove(bit);
     }
 
     /// Sets position `bit`, and answers whether it was set before.
     ///
     /// **Panics** where it is at or past the length.
+    ///
+    /// Proved: the answer and what it leaves, for all sets and each position below the length
+    /// ([contract](../../../docs/API.md#fixedbitsetlentput)).
     ///
     /// ```
     /// # use fixedbitset::FixedBitSet;
@@ -60,14 +71,16 @@ impl FixedBitSet {
     #[inline]
     #[track_caller]
     pub fn put(&mut self, bit: usize) -> bool {
-        let before = raw::bits_put(&mut self.words.lent_mut(), bit);
-        self.assert_done(bit < self.len(), "put at", bit);
-        before
+        self.assert_below("put at", bit);
+        self.words.put(bit)
     }
 
     /// Turns position `bit`: it is set where it was not, and cleared where it was.
     ///
     /// **Panics** where it is at or past the length.
+    ///
+    /// Proved: what it leaves, for all sets and each position below the length
+    /// ([contract](../../../docs/API.md#fixedbitsetlenttoggle)).
     ///
     /// ```
     /// # use fixedbitset::FixedBitSet;
@@ -78,13 +91,16 @@ impl FixedBitSet {
     #[inline]
     #[track_caller]
     pub fn toggle(&mut self, bit: usize) {
-        let done = raw::bits_toggle(&mut self.words.lent_mut(), bit);
-        self.assert_done(done, "toggle at", bit);
+        self.assert_below("toggle at", bit);
+        self.words.toggle(bit);
     }
 
     /// Sets position `bit` where `enabled` is true, and else clears it.
     ///
     /// **Panics** where it is at or past the length.
+    ///
+    /// Proved: what it leaves, for all sets and each position below the length
+    /// ([contract](../../../docs/API.md#fixedbitsetlentset)).
     ///
     /// ```
     /// # use fixedbitset::FixedBitSet;
@@ -95,13 +111,16 @@ impl FixedBitSet {
     #[inline]
     #[track_caller]
     pub fn set(&mut self, bit: usize, enabled: bool) {
-        let done = raw::bits_set(&mut self.words.lent_mut(), bit, enabled);
-        self.assert_done(done, "set at", bit);
+        self.assert_below("set at", bit);
+        self.words.set(bit, enabled);
     }
 
     /// Makes position `to` what position `from` is. At or past the length `from` is not set.
     ///
     /// **Panics** where `to` is at or past the length.
+    ///
+    /// Proved: the answer about `from`, and what is then set or cleared
+    /// ([contract](../../../docs/API.md#fixedbitsetlentset)).
     ///
     /// ```
     /// # use fixedbitset::FixedBitSet;
@@ -113,13 +132,15 @@ impl FixedBitSet {
     #[track_caller]
     pub fn copy_bit(&mut self, from: usize, to: usize) {
         let enabled = self.contains(from);
-        let done = raw::bits_set(&mut self.words.lent_mut(), to, enabled);
-        self.assert_done(done, "copy to", to);
+        self.assert_below("copy to", to);
+        self.words.set(to, enabled);
     }
 
     /// Sets each of the positions, in any order.
     ///
     /// **Panics** where one is at or past the length, with the first that is. Then nothing is set.
+    ///
+    /// Proved: what each position leaves ([contract](../../../docs/API.md#fixedbitsetlentinsert)).
     ///
     /// ```
     /// # use fixedbitset::FixedBitSet;
@@ -130,15 +151,17 @@ impl FixedBitSet {
     #[inline]
     #[track_caller]
     pub fn insert_all(&mut self, positions: &[usize]) {
-        if !self.words.insert_all(positions) {
-            let past = positions.iter().find(|bit| **bit >= self.len());
-            self.assert_done(false, "insert at", *past.expect("one is past the length"));
+        if let Some(past) = positions.iter().find(|bit| **bit >= self.len()) {
+            self.assert_below("insert at", *past);
         }
+        positions.iter().for_each(|bit| self.words.insert(*bit));
     }
 
     /// Writes for each of the positions whether it is set. At or past the length none is.
     ///
     /// **Panics** where there are not as many answers as positions.
+    ///
+    /// Proved: each of the answers ([contract](../../../docs/API.md#fixedbitsetlentcontains)).
     ///
     /// ```
     /// # use fixedbitset::FixedBitSet;
@@ -151,15 +174,19 @@ impl FixedBitSet {
     #[track_caller]
     pub fn contains_each(&self, positions: &[usize], answers: &mut [bool]) {
         let (count, places) = (positions.len(), answers.len());
-        let done = self.words.contains_each(positions, answers);
-        assert!(done, "{places} answers for {count} positions");
+        if count != places {
+            panics::unlike(places, count);
+        }
+        let each = positions.iter().zip(answers);
+        each.for_each(|(bit, answer)| *answer = self.contains(*bit));
     }
 
     /// The panic of upstream's calls on a position at or past the length.
     #[inline]
     #[track_caller]
-    fn assert_done(&self, done: bool, call: &str, bit: usize) {
-        let length = self.len();
-        assert!(done, "{call} index {bit} exceeds fixedbitset size {length}");
+    fn assert_below(&self, call: &str, bit: usize) {
+        if bit >= self.len() {
+            panics::past(call, bit, self.len());
+        }
     }
 }

@@ -1,9 +1,11 @@
 //! The positions of a set next to a given one. The crate of this name has no such calls.
 
-use crate::{FixedBitSet, raw};
+use crate::FixedBitSet;
 
 impl FixedBitSet {
     /// The least position at or past `from` that is set, if there is one. Any number may be given.
+    ///
+    /// Proved: the answer, for all sets and all numbers ([contract](../../../docs/API.md#fixedbitsetlentnext_one)).
     ///
     /// ```
     /// # use fixedbitset::FixedBitSet;
@@ -12,10 +14,12 @@ impl FixedBitSet {
     /// ```
     #[inline]
     pub fn next_one(&self, from: usize) -> Option<usize> {
-        crate::position(raw::bits_next_one(&self.words.lent(), from))
+        self.words.next_one(from)
     }
 
     /// The least position at or past `from` and below the length that is not set, if there is one.
+    ///
+    /// Proved: the answer, for all sets and all numbers ([contract](../../../docs/API.md#fixedbitsetlentnext_zero)).
     ///
     /// ```
     /// # use fixedbitset::FixedBitSet;
@@ -24,10 +28,12 @@ impl FixedBitSet {
     /// ```
     #[inline]
     pub fn next_zero(&self, from: usize) -> Option<usize> {
-        crate::position(raw::bits_next_zero(&self.words.lent(), from))
+        self.words.next_zero(from)
     }
 
     /// The greatest position below `below` that is set, if there is one. Any number may be given.
+    ///
+    /// Proved: the answer, for all sets and all numbers ([contract](../../../docs/API.md#fixedbitsetlentprevious_one)).
     ///
     /// ```
     /// # use fixedbitset::FixedBitSet;
@@ -36,10 +42,13 @@ impl FixedBitSet {
     /// ```
     #[inline]
     pub fn previous_one(&self, below: usize) -> Option<usize> {
-        crate::position(raw::bits_previous_one(&self.words.lent(), below))
+        self.words.previous_one(below)
     }
 
     /// The greatest position below `below` and below the length that is not set, if there is one.
+    ///
+    /// Proved: the answer, for all sets and all numbers
+    /// ([contract](../../../docs/API.md#fixedbitsetlentprevious_zero)).
     ///
     /// ```
     /// # use fixedbitset::FixedBitSet;
@@ -48,6 +57,6 @@ impl FixedBitSet {
     /// ```
     #[inline]
     pub fn previous_zero(&self, below: usize) -> Option<usize> {
-        crate::position(raw::bits_previous_zero(&self.words.lent(), below))
+        self.words.previous_zero(below)
     }
 }

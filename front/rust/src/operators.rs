@@ -1,7 +1,7 @@
 //! Operators, and sets from positions, put together from the calls.
 //!
 //! `|` and `^` join a copy of the longer set with the shorter one. So nothing has to grow, and the call refuses nothing.
-use crate::{FixedBitSet, raw};
+use crate::FixedBitSet;
 use core::ops::{BitAnd, BitAndAssign, BitOr, BitOrAssign, BitXor, BitXorAssign, Index};
 
 impl BitAnd for &FixedBitSet {
@@ -23,7 +23,7 @@ impl BitOr for &FixedBitSet {
     fn bitor(self, other: &FixedBitSet) -> FixedBitSet {
         let (shorter, longer) = by_length(self, other);
         let mut set = longer.clone();
-        raw::bits_union_with(&mut set.words.lent_mut(), &shorter.words.lent());
+        set.words.union_with(&shorter.words);
         set
     }
 }
@@ -35,7 +35,7 @@ impl BitXor for &FixedBitSet {
     fn bitxor(self, other: &FixedBitSet) -> FixedBitSet {
         let (shorter, longer) = by_length(self, other);
         let mut set = longer.clone();
-        raw::bits_symmetric_difference_with(&mut set.words.lent_mut(), &shorter.words.lent());
+        set.words.symmetric_difference_with(&shorter.words);
         set
     }
 }
@@ -94,7 +94,11 @@ impl Index<usize> for FixedBitSet {
     /// Whether the position is set. At or past the length none is.
     #[inline]
     fn index(&self, bit: usize) -> &bool {
-        if self.contains(bit) { &true } else { &false }
+        if self.contains(bit) {
+            &true
+        } else {
+            &false
+        }
     }
 }
 

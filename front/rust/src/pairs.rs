@@ -1,8 +1,11 @@
 //! Two sets, of any two lengths.
-use crate::{FixedBitSet, raw};
+use crate::FixedBitSet;
 
 impl FixedBitSet {
     /// Adds the positions of `other`. The length is then that of the longer.
+    ///
+    /// Proved: what it leaves, once the length is great enough
+    /// ([contract](../../../docs/API.md#fixedbitsetlentunion_with)).
     ///
     /// ```
     /// # use fixedbitset::FixedBitSet;
@@ -13,10 +16,12 @@ impl FixedBitSet {
     #[inline]
     pub fn union_with(&mut self, other: &FixedBitSet) {
         self.grow(other.len());
-        raw::bits_union_with(&mut self.words.lent_mut(), &other.words.lent());
+        self.words.union_with(&other.words);
     }
 
     /// Leaves the positions that `other` has too, and the length.
+    ///
+    /// Proved: what it leaves, for any two sets ([contract](../../../docs/API.md#fixedbitsetlentintersect_with)).
     ///
     /// ```
     /// # use fixedbitset::FixedBitSet;
@@ -26,10 +31,12 @@ impl FixedBitSet {
     /// ```
     #[inline]
     pub fn intersect_with(&mut self, other: &FixedBitSet) {
-        raw::bits_intersect_with(&mut self.words.lent_mut(), &other.words.lent());
+        self.words.intersect_with(&other.words);
     }
 
     /// Leaves the positions that `other` lacks, and the length.
+    ///
+    /// Proved: what it leaves, for any two sets ([contract](../../../docs/API.md#fixedbitsetlentdifference_with)).
     ///
     /// ```
     /// # use fixedbitset::FixedBitSet;
@@ -39,10 +46,13 @@ impl FixedBitSet {
     /// ```
     #[inline]
     pub fn difference_with(&mut self, other: &FixedBitSet) {
-        raw::bits_difference_with(&mut self.words.lent_mut(), &other.words.lent());
+        self.words.difference_with(&other.words);
     }
 
     /// Leaves the positions that exactly one of both has. The length is then that of the longer.
+    ///
+    /// Proved: what it leaves, once the length is great enough
+    /// ([contract](../../../docs/API.md#fixedbitsetlentsymmetric_difference_with)).
     ///
     /// ```
     /// # use fixedbitset::FixedBitSet;
@@ -53,11 +63,14 @@ impl FixedBitSet {
     #[inline]
     pub fn symmetric_difference_with(&mut self, other: &FixedBitSet) {
         self.grow(other.len());
-        raw::bits_symmetric_difference_with(&mut self.words.lent_mut(), &other.words.lent());
+        self.words.symmetric_difference_with(&other.words);
     }
 
     /// [`union_with`](Self::union_with), with the answer whether a position came in. The length may become greater even where
     /// none came in. Upstream has no such call.
+    ///
+    /// Proved: the answer and what it leaves, once the length is great enough
+    /// ([contract](../../../docs/API.md#fixedbitsetlentunion_with_change)).
     ///
     /// ```
     /// # use fixedbitset::FixedBitSet;
@@ -69,16 +82,13 @@ impl FixedBitSet {
     #[inline]
     pub fn union_with_change(&mut self, other: &FixedBitSet) -> bool {
         self.grow(other.len());
-        let mut changed = false;
-        raw::bits_union_with_change(
-            &mut self.words.lent_mut(),
-            &other.words.lent(),
-            &mut changed,
-        );
-        changed
+        self.words.union_with_change(&other.words)
     }
 
     /// [`intersect_with`](Self::intersect_with), with the answer whether a position went. Upstream has no such call.
+    ///
+    /// Proved: the answer and what it leaves, for any two sets
+    /// ([contract](../../../docs/API.md#fixedbitsetlentintersect_with_change)).
     ///
     /// ```
     /// # use fixedbitset::FixedBitSet;
@@ -89,10 +99,13 @@ impl FixedBitSet {
     /// ```
     #[inline]
     pub fn intersect_with_change(&mut self, other: &FixedBitSet) -> bool {
-        raw::bits_intersect_with_change(&mut self.words.lent_mut(), &other.words.lent())
+        self.words.intersect_with_change(&other.words)
     }
 
     /// [`difference_with`](Self::difference_with), with the answer whether a position went. Upstream has no such call.
+    ///
+    /// Proved: the answer and what it leaves, for any two sets
+    /// ([contract](../../../docs/API.md#fixedbitsetlentdifference_with_change)).
     ///
     /// ```
     /// # use fixedbitset::FixedBitSet;
@@ -103,11 +116,14 @@ impl FixedBitSet {
     /// ```
     #[inline]
     pub fn difference_with_change(&mut self, other: &FixedBitSet) -> bool {
-        raw::bits_difference_with_change(&mut self.words.lent_mut(), &other.words.lent())
+        self.words.difference_with_change(&other.words)
     }
 
     /// Adds the positions of `gens` that `kills` lacks, and answers whether one came in. The length is then that of the
     /// longer of this set and `gens`. Upstream has no such call.
+    ///
+    /// Proved: the answer and what it leaves, once the length is great enough
+    /// ([contract](../../../docs/API.md#fixedbitsetlentunion_with_difference)).
     ///
     /// ```
     /// # use fixedbitset::FixedBitSet;
@@ -120,18 +136,14 @@ impl FixedBitSet {
     #[inline]
     pub fn union_with_difference(&mut self, gens: &FixedBitSet, kills: &FixedBitSet) -> bool {
         self.grow(gens.len());
-        let mut changed = false;
-        raw::bits_union_with_difference(
-            &mut self.words.lent_mut(),
-            &gens.words.lent(),
-            &kills.words.lent(),
-            &mut changed,
-        );
-        changed
+        self.words.union_with_difference(&gens.words, &kills.words)
     }
 
     /// Becomes the positions of either set. The length is that of the longer. It goes over both sets once, and takes memory
     /// only where it needs more words than it has. Upstream has no such call.
+    ///
+    /// Proved: what it leaves, once the length is that of the result
+    /// ([contract](../../../docs/API.md#fixedbitsetlentunion_of)).
     ///
     /// ```
     /// # use fixedbitset::FixedBitSet;
@@ -142,12 +154,14 @@ impl FixedBitSet {
     #[inline]
     pub fn union_of(&mut self, set: &FixedBitSet, other: &FixedBitSet) {
         self.fit(set.len().max(other.len()));
-        let (set, other) = (set.words.lent(), other.words.lent());
-        raw::bits_union_of(&mut self.words.lent_mut(), &set, &other);
+        self.words.union_of(&set.words, &other.words);
     }
 
     /// Becomes the positions of exactly one of both sets. The length is that of the longer. It goes over both sets
     /// once, and takes memory only where it needs more words than it has. Upstream has no such call.
+    ///
+    /// Proved: what it leaves, once the length is that of the result
+    /// ([contract](../../../docs/API.md#fixedbitsetlentsymmetric_difference_of)).
     ///
     /// ```
     /// # use fixedbitset::FixedBitSet;
@@ -158,12 +172,14 @@ impl FixedBitSet {
     #[inline]
     pub fn symmetric_difference_of(&mut self, set: &FixedBitSet, other: &FixedBitSet) {
         self.fit(set.len().max(other.len()));
-        let (set, other) = (set.words.lent(), other.words.lent());
-        raw::bits_symmetric_difference_of(&mut self.words.lent_mut(), &set, &other);
+        self.words.symmetric_difference_of(&set.words, &other.words);
     }
 
     /// Becomes the positions of both sets. The length is that of the shorter. It goes over both sets once, and takes
     /// memory only where it needs more words than it has. Upstream has no such call.
+    ///
+    /// Proved: what it leaves, once the length is that of the result
+    /// ([contract](../../../docs/API.md#fixedbitsetlentintersection_of)).
     ///
     /// ```
     /// # use fixedbitset::FixedBitSet;
@@ -174,12 +190,14 @@ impl FixedBitSet {
     #[inline]
     pub fn intersection_of(&mut self, set: &FixedBitSet, other: &FixedBitSet) {
         self.fit(set.len().min(other.len()));
-        let (set, other) = (set.words.lent(), other.words.lent());
-        raw::bits_intersection_of(&mut self.words.lent_mut(), &set, &other);
+        self.words.intersection_of(&set.words, &other.words);
     }
 
     /// Becomes the positions of `set` that `other` lacks. The length is that of `set`. It goes over both sets once, and
     /// takes memory only where it needs more words than it has. Upstream has no such call.
+    ///
+    /// Proved: what it leaves, once the length is that of the result
+    /// ([contract](../../../docs/API.md#fixedbitsetlentdifference_of)).
     ///
     /// ```
     /// # use fixedbitset::FixedBitSet;
@@ -190,8 +208,7 @@ impl FixedBitSet {
     #[inline]
     pub fn difference_of(&mut self, set: &FixedBitSet, other: &FixedBitSet) {
         self.fit(set.len());
-        let (set, other) = (set.words.lent(), other.words.lent());
-        raw::bits_difference_of(&mut self.words.lent_mut(), &set, &other);
+        self.words.difference_of(&set.words, &other.words);
     }
 
     /// Makes the length `length`, for a call that writes over all positions.
@@ -205,6 +222,8 @@ impl FixedBitSet {
 
     /// How many positions are in either set.
     ///
+    /// Proved: the answer, for any two sets ([contract](../../../docs/API.md#fixedbitsetlentunion_count)).
+    ///
     /// ```
     /// # use fixedbitset::FixedBitSet;
     /// let (few, more): (FixedBitSet, FixedBitSet) = ([1].into_iter().collect(), [1, 4, 9].into_iter().collect());
@@ -212,10 +231,12 @@ impl FixedBitSet {
     /// ```
     #[inline]
     pub fn union_count(&self, other: &FixedBitSet) -> usize {
-        raw::bits_union_count(&self.words.lent(), &other.words.lent())
+        self.words.union_count(&other.words)
     }
 
     /// How many positions are in both sets.
+    ///
+    /// Proved: the answer, for any two sets ([contract](../../../docs/API.md#fixedbitsetlentintersection_count)).
     ///
     /// ```
     /// # use fixedbitset::FixedBitSet;
@@ -224,10 +245,12 @@ impl FixedBitSet {
     /// ```
     #[inline]
     pub fn intersection_count(&self, other: &FixedBitSet) -> usize {
-        raw::bits_intersection_count(&self.words.lent(), &other.words.lent())
+        self.words.intersection_count(&other.words)
     }
 
     /// How many positions of this set `other` lacks.
+    ///
+    /// Proved: the answer, for any two sets ([contract](../../../docs/API.md#fixedbitsetlentdifference_count)).
     ///
     /// ```
     /// # use fixedbitset::FixedBitSet;
@@ -236,10 +259,13 @@ impl FixedBitSet {
     /// ```
     #[inline]
     pub fn difference_count(&self, other: &FixedBitSet) -> usize {
-        raw::bits_difference_count(&self.words.lent(), &other.words.lent())
+        self.words.difference_count(&other.words)
     }
 
     /// How many positions are in exactly one of both sets.
+    ///
+    /// Proved: the answer, for any two sets
+    /// ([contract](../../../docs/API.md#fixedbitsetlentsymmetric_difference_count)).
     ///
     /// ```
     /// # use fixedbitset::FixedBitSet;
@@ -248,10 +274,12 @@ impl FixedBitSet {
     /// ```
     #[inline]
     pub fn symmetric_difference_count(&self, other: &FixedBitSet) -> usize {
-        raw::bits_symmetric_difference_count(&self.words.lent(), &other.words.lent())
+        self.words.symmetric_difference_count(&other.words)
     }
 
     /// Whether no position is in both sets.
+    ///
+    /// Proved: the answer, for any two sets ([contract](../../../docs/API.md#fixedbitsetlentis_disjoint)).
     ///
     /// ```
     /// # use fixedbitset::FixedBitSet;
@@ -260,10 +288,12 @@ impl FixedBitSet {
     /// ```
     #[inline]
     pub fn is_disjoint(&self, other: &FixedBitSet) -> bool {
-        raw::bits_is_disjoint(&self.words.lent(), &other.words.lent())
+        self.words.is_disjoint(&other.words)
     }
 
     /// Whether `other` has each position of this set. The lengths do not matter.
+    ///
+    /// Proved: the answer, for any two sets ([contract](../../../docs/API.md#fixedbitsetlentis_subset)).
     ///
     /// ```
     /// # use fixedbitset::FixedBitSet;
@@ -272,10 +302,12 @@ impl FixedBitSet {
     /// ```
     #[inline]
     pub fn is_subset(&self, other: &FixedBitSet) -> bool {
-        raw::bits_is_subset(&self.words.lent(), &other.words.lent())
+        self.words.is_subset(&other.words)
     }
 
     /// Whether this set has each position of `other`. The lengths do not matter.
+    ///
+    /// Proved: the answer, for any two sets ([contract](../../../docs/API.md#fixedbitsetlentis_subset)).
     ///
     /// ```
     /// # use fixedbitset::FixedBitSet;
@@ -290,6 +322,8 @@ impl FixedBitSet {
     /// The least position of `other` that this set lacks, if there is one. The lengths do not matter. Upstream has no such
     /// call.
     ///
+    /// Proved: the answer, for any two sets ([contract](../../../docs/API.md#fixedbitsetlentfirst_lacking)).
+    ///
     /// ```
     /// # use fixedbitset::FixedBitSet;
     /// let (few, more): (FixedBitSet, FixedBitSet) = ([1].into_iter().collect(), [1, 4, 9].into_iter().collect());
@@ -297,9 +331,6 @@ impl FixedBitSet {
     /// ```
     #[inline]
     pub fn first_lacking(&self, other: &FixedBitSet) -> Option<usize> {
-        crate::position(raw::bits_first_lacking(
-            &self.words.lent(),
-            &other.words.lent(),
-        ))
+        self.words.first_lacking(&other.words)
     }
 }

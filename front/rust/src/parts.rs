@@ -1,8 +1,10 @@
 //! Positions moved up or down, parts of a set, and sets put together. The crate of this name has no such calls.
-use crate::{FixedBitSet, IndexRange, raw};
+use crate::{panics, FixedBitSet, IndexRange};
 
 impl FixedBitSet {
     /// Moves each position up by `by`, any number. Those that are not below the length then fall away.
+    ///
+    /// Proved: what it leaves, for all sets and all numbers ([contract](../../../docs/API.md#fixedbitsetlentshift_up)).
     ///
     /// ```
     /// # use fixedbitset::FixedBitSet;
@@ -12,10 +14,13 @@ impl FixedBitSet {
     /// ```
     #[inline]
     pub fn shift_up(&mut self, by: usize) {
-        raw::bits_shift_up(&mut self.words.lent_mut(), by);
+        self.words.shift_up(by);
     }
 
     /// Moves each position down by `by`, any number. Those below `by` fall away.
+    ///
+    /// Proved: what it leaves, for all sets and all numbers
+    /// ([contract](../../../docs/API.md#fixedbitsetlentshift_down)).
     ///
     /// ```
     /// # use fixedbitset::FixedBitSet;
@@ -25,11 +30,14 @@ impl FixedBitSet {
     /// ```
     #[inline]
     pub fn shift_down(&mut self, by: usize) {
-        raw::bits_shift_down(&mut self.words.lent_mut(), by);
+        self.words.shift_down(by);
     }
 
     /// Adds the positions of `other` moved up by `by`, any number, as far as they are below the length then. The length
     /// stays, and no memory is taken.
+    ///
+    /// Proved: what it leaves, for any two sets and all numbers
+    /// ([contract](../../../docs/API.md#fixedbitsetlentunion_with_shifted)).
     ///
     /// ```
     /// # use fixedbitset::FixedBitSet;
@@ -39,11 +47,14 @@ impl FixedBitSet {
     /// ```
     #[inline]
     pub fn union_with_shifted(&mut self, other: &FixedBitSet, by: usize) {
-        raw::bits_union_with_shifted(&mut self.words.lent_mut(), &other.words.lent(), by);
+        self.words.union_with_shifted(&other.words, by);
     }
 
     /// Adds the positions of the set itself moved up by `by`, any number, as far as they are below the length then. So
     /// where the set has the sums that some numbers make, it then has those that these numbers and `by` make.
+    ///
+    /// Proved: what it leaves, for all sets and all numbers
+    /// ([contract](../../../docs/API.md#fixedbitsetlentunion_with_own_shift)).
     ///
     /// ```
     /// # use fixedbitset::FixedBitSet;
@@ -54,12 +65,15 @@ impl FixedBitSet {
     /// ```
     #[inline]
     pub fn union_with_own_shift(&mut self, by: usize) {
-        raw::bits_union_with_own_shift(&mut self.words.lent_mut(), by);
+        self.words.union_with_own_shift(by);
     }
 
     /// The positions of the range, less its start, as a set of the length of the range.
     ///
     /// **Panics** where the range is not valid.
+    ///
+    /// Proved: the positions of the new set, for all sets and each valid range
+    /// ([contract](../../../docs/API.md#fixedbitsetlentslice)).
     ///
     /// ```
     /// # use fixedbitset::FixedBitSet;
@@ -69,15 +83,18 @@ impl FixedBitSet {
     #[inline]
     #[track_caller]
     pub fn slice<T: IndexRange>(&self, range: T) -> FixedBitSet {
-        let (set, start, end) = self.part(&range);
-        let mut part = FixedBitSet::with_capacity(end - start);
-        raw::bits_slice(&mut part.words.lent_mut(), &set, start, end);
-        part
+        let (start, end) = self.part(&range);
+        FixedBitSet {
+            words: self.words.slice(start, end),
+        }
     }
 
     /// Writes the positions of the range of `other` over those of this set from `at` on. All others stay.
     ///
     /// **Panics** where the range is not valid in `other`, and where from `at` on it does not end within this set.
+    ///
+    /// Proved: what it leaves, for any two sets where the range and its place are valid
+    /// ([contract](../../../docs/API.md#fixedbitsetlentcopy_range)).
     ///
     /// ```
     /// # use fixedbitset::FixedBitSet;
@@ -89,18 +106,20 @@ impl FixedBitSet {
     #[inline]
     #[track_caller]
     pub fn copy_range<T: IndexRange>(&mut self, other: &FixedBitSet, range: T, at: usize) {
-        let (source, start, end) = other.part(&range);
-        let done = raw::bits_copy_range(&mut self.words.lent_mut(), &source, start, end, at);
+        let (start, end) = other.part(&range);
         let (count, length) = (end - start, self.len());
-        assert!(
-            done,
-            "copy at index {at} of {count} positions exceeds fixedbitset size {length}"
-        );
+        if at > length || count > length - at {
+            panics::no_room(at, count, length);
+        }
+        self.words.copy_range(&other.words, start, end, at);
     }
 
     /// Puts the positions of `other` behind those of this set. The lengths are added.
     ///
     /// **Panics** where the sum of the lengths is past `usize::MAX`.
+    ///
+    /// Proved: what comes in behind, once the length is great enough
+    /// ([contract](../../../docs/API.md#fixedbitsetlentunion_with_shifted)).
     ///
     /// ```
     /// # use fixedbitset::FixedBitSet;
@@ -112,16 +131,17 @@ impl FixedBitSet {
     #[track_caller]
     pub fn append(&mut self, other: &FixedBitSet) {
         let length = self.len();
-        self.grow(
-            length
-                .checked_add(other.len())
-                .expect("no set has so great a length"),
-        );
+        match length.checked_add(other.len()) {
+            Some(sum) => self.grow(sum),
+            None => panics::no_length(),
+        }
         self.union_with_shifted(other, length);
     }
 
     /// Makes the length `bits`, where it is greater than that. The positions that are not below it fall away. The memory
     /// stays.
+    ///
+    /// Proved: which positions stay, for all sets ([contract](../../../docs/API.md#fixedbitsetlentsettle)).
     ///
     /// ```
     /// # use fixedbitset::FixedBitSet;
@@ -140,6 +160,8 @@ impl FixedBitSet {
     /// Makes the length `bits`. Where it was greater, the positions that are not below `bits` fall away. Where it was less,
     /// each new position is set or not, as `enabled` says.
     ///
+    /// Proved: which positions stay, and which are set ([contract](../../../docs/API.md#fixedbitsetlentinsert_range)).
+    ///
     /// ```
     /// # use fixedbitset::FixedBitSet;
     /// let mut set: FixedBitSet = [1, 3].into_iter().collect();
@@ -156,5 +178,19 @@ impl FixedBitSet {
         if enabled {
             self.insert_range(old.min(bits)..);
         }
+    }
+}
+
+#[cfg(test)]
+mod tests {
+    use crate::words::Words;
+    use crate::FixedBitSet;
+
+    #[test]
+    #[should_panic(expected = "no set has so great a length")]
+    fn a_length_past_the_greatest_panics() {
+        let words = Words::with_no_words(usize::MAX);
+        let mut set = FixedBitSet { words };
+        set.append(&FixedBitSet::with_capacity(1));
     }
 }

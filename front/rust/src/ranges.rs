@@ -1,11 +1,13 @@
 //! Ranges of positions. A range is valid where its start is not past its end, and its end not past the length.
-use crate::raw::{self, Lent, Shared};
-use crate::{FixedBitSet, IndexRange};
+use crate::{panics, FixedBitSet, IndexRange};
 
 impl FixedBitSet {
     /// How many positions of the range are set.
     ///
     /// **Panics** where the range is not valid.
+    ///
+    /// Proved: the answer, for all sets and each valid range
+    /// ([contract](../../../docs/API.md#fixedbitsetlentcount_ones)).
     ///
     /// ```
     /// # use fixedbitset::FixedBitSet;
@@ -15,13 +17,16 @@ impl FixedBitSet {
     #[inline]
     #[track_caller]
     pub fn count_ones<T: IndexRange>(&self, range: T) -> usize {
-        let (set, start, end) = self.part(&range);
-        raw::bits_count_ones(&set, start, end)
+        let (start, end) = self.part(&range);
+        self.words.count_ones(start, end)
     }
 
     /// How many positions of the range are not set.
     ///
     /// **Panics** where the range is not valid.
+    ///
+    /// Proved: the answer, for all sets and each valid range
+    /// ([contract](../../../docs/API.md#fixedbitsetlentcount_zeroes)).
     ///
     /// ```
     /// # use fixedbitset::FixedBitSet;
@@ -31,13 +36,16 @@ impl FixedBitSet {
     #[inline]
     #[track_caller]
     pub fn count_zeroes<T: IndexRange>(&self, range: T) -> usize {
-        let (set, start, end) = self.part(&range);
-        raw::bits_count_zeroes(&set, start, end)
+        let (start, end) = self.part(&range);
+        self.words.count_zeroes(start, end)
     }
 
     /// Whether each position of the range is set.
     ///
     /// **Panics** where the range is not valid.
+    ///
+    /// Proved: the answer, for all sets and each valid range
+    /// ([contract](../../../docs/API.md#fixedbitsetlentcontains_all_in_range)).
     ///
     /// ```
     /// # use fixedbitset::FixedBitSet;
@@ -47,13 +55,16 @@ impl FixedBitSet {
     #[inline]
     #[track_caller]
     pub fn contains_all_in_range<T: IndexRange>(&self, range: T) -> bool {
-        let (set, start, end) = self.part(&range);
-        raw::bits_contains_all_in_range(&set, start, end)
+        let (start, end) = self.part(&range);
+        self.words.contains_all_in_range(start, end)
     }
 
     /// Whether some position of the range is set.
     ///
     /// **Panics** where the range is not valid.
+    ///
+    /// Proved: the answer, for all sets and each valid range
+    /// ([contract](../../../docs/API.md#fixedbitsetlentcontains_any_in_range)).
     ///
     /// ```
     /// # use fixedbitset::FixedBitSet;
@@ -63,13 +74,16 @@ impl FixedBitSet {
     #[inline]
     #[track_caller]
     pub fn contains_any_in_range<T: IndexRange>(&self, range: T) -> bool {
-        let (set, start, end) = self.part(&range);
-        raw::bits_contains_any_in_range(&set, start, end)
+        let (start, end) = self.part(&range);
+        self.words.contains_any_in_range(start, end)
     }
 
     /// Sets each position of the range where `enabled` is true, and else clears each.
     ///
     /// **Panics** where the range is not valid.
+    ///
+    /// Proved: what it leaves, for all sets and each valid range
+    /// ([contract](../../../docs/API.md#fixedbitsetlentinsert_range)).
     ///
     /// ```
     /// # use fixedbitset::FixedBitSet;
@@ -91,6 +105,9 @@ impl FixedBitSet {
     ///
     /// **Panics** where the range is not valid.
     ///
+    /// Proved: what it leaves, for all sets and each valid range
+    /// ([contract](../../../docs/API.md#fixedbitsetlentinsert_range)).
+    ///
     /// ```
     /// # use fixedbitset::FixedBitSet;
     /// let mut set = FixedBitSet::with_capacity(5);
@@ -100,14 +117,16 @@ impl FixedBitSet {
     #[inline]
     #[track_caller]
     pub fn insert_range<T: IndexRange>(&mut self, range: T) {
-        let (start, end) = self.ends(&range);
-        let done = raw::bits_insert_range(&mut self.words.lent_mut(), start, end);
-        self.assert_valid(done, start, end);
+        let (start, end) = self.part(&range);
+        self.words.insert_range(start, end);
     }
 
     /// Clears each position of the range.
     ///
     /// **Panics** where the range is not valid.
+    ///
+    /// Proved: what it leaves, for all sets and each valid range
+    /// ([contract](../../../docs/API.md#fixedbitsetlentremove_range)).
     ///
     /// ```
     /// # use fixedbitset::FixedBitSet;
@@ -118,14 +137,16 @@ impl FixedBitSet {
     #[inline]
     #[track_caller]
     pub fn remove_range<T: IndexRange>(&mut self, range: T) {
-        let (start, end) = self.ends(&range);
-        let done = raw::bits_remove_range(&mut self.words.lent_mut(), start, end);
-        self.assert_valid(done, start, end);
+        let (start, end) = self.part(&range);
+        self.words.remove_range(start, end);
     }
 
     /// Turns each position of the range: it is set where it was not, and cleared where it was.
     ///
     /// **Panics** where the range is not valid.
+    ///
+    /// Proved: what it leaves, for all sets and each valid range
+    /// ([contract](../../../docs/API.md#fixedbitsetlenttoggle_range)).
     ///
     /// ```
     /// # use fixedbitset::FixedBitSet;
@@ -136,9 +157,8 @@ impl FixedBitSet {
     #[inline]
     #[track_caller]
     pub fn toggle_range<T: IndexRange>(&mut self, range: T) {
-        let (start, end) = self.ends(&range);
-        let done = raw::bits_toggle_range(&mut self.words.lent_mut(), start, end);
-        self.assert_valid(done, start, end);
+        let (start, end) = self.part(&range);
+        self.words.toggle_range(start, end);
     }
 
     #[inline]
@@ -149,23 +169,14 @@ impl FixedBitSet {
         )
     }
 
-    /// The set, lent, and the ends of a valid range.
+    /// The ends of a range, which has to be valid.
     #[inline]
     #[track_caller]
-    pub(crate) fn part<T: IndexRange>(&self, range: &T) -> (Shared<Lent<'_>>, usize, usize) {
+    pub(crate) fn part<T: IndexRange>(&self, range: &T) -> (usize, usize) {
         let (start, end) = self.ends(range);
-        let set = self.words.lent();
-        self.assert_valid(raw::bits_range_is_valid(&set, start, end), start, end);
-        (set, start, end)
-    }
-
-    #[inline]
-    #[track_caller]
-    pub(crate) fn assert_valid(&self, is_valid: bool, start: usize, end: usize) {
-        let length = self.len();
-        assert!(
-            is_valid,
-            "invalid range {start}..{end} for a fixedbitset of size {length}"
-        );
+        if !self.words.range_is_valid(start, end) {
+            panics::not_valid(start, end, self.len());
+        }
+        (start, end)
     }
 }

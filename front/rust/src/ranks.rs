@@ -1,10 +1,13 @@
 //! How many positions stand below a given one, and which is the k-th. The crate of this name has no such calls.
-use crate::{FixedBitSet, raw};
+use crate::FixedBitSet;
+use alloc::vec::Vec;
 use core::fmt::{Debug, Formatter, Result};
 
 /// A set that is lent, with a directory that answers how many positions stand below a given one.
 ///
 /// The directory takes one word of memory for eight words of the set. While it lives the set cannot change.
+///
+/// Proved: what `rank` and `select` answer ([contract](../../../docs/API.md#bitranksdirectoryrank)).
 ///
 /// ```
 /// use fixedbitset::{FixedBitSet, Ranks};
@@ -16,11 +19,13 @@ use core::fmt::{Debug, Formatter, Result};
 /// ```
 pub struct Ranks<'a> {
     set: &'a FixedBitSet,
-    directory: raw::Directory<'a>,
+    directory: Vec<usize>,
 }
 
 impl<'a> Ranks<'a> {
     /// The ranks of a set. It looks at each word of the set once.
+    ///
+    /// Proved: the directory, for all sets ([contract](../../../docs/API.md#bitranksdirectoryfill)).
     ///
     /// ```
     /// # use fixedbitset::{FixedBitSet, Ranks};
@@ -30,11 +35,13 @@ impl<'a> Ranks<'a> {
     pub fn of(set: &'a FixedBitSet) -> Self {
         Ranks {
             set,
-            directory: set.words.ranks(),
+            directory: set.words.directory(),
         }
     }
 
     /// The set.
+    ///
+    /// Not proved: it answers what is kept.
     ///
     /// ```
     /// # use fixedbitset::{FixedBitSet, Ranks};
@@ -49,6 +56,8 @@ impl<'a> Ranks<'a> {
     /// How many positions below this one are set. The position may be any number; past the length all are below it. It looks
     /// at one entry of the directory and at eight words of the set at most.
     ///
+    /// Proved: the answer, for all sets and all numbers ([contract](../../../docs/API.md#bitranksdirectoryrank)).
+    ///
     /// ```
     /// # use fixedbitset::{FixedBitSet, Ranks};
     /// let set: FixedBitSet = [3, 64, 70].into_iter().collect();
@@ -57,11 +66,13 @@ impl<'a> Ranks<'a> {
     /// ```
     #[inline]
     pub fn rank(&self, position: usize) -> usize {
-        raw::bits_rank(self.directory.ranks(), position)
+        self.set.words.rank(&self.directory, position)
     }
 
     /// The position with so many positions of the set below it: the first has index 0. `None` where the set has no more
     /// positions than that.
+    ///
+    /// Proved: the answer, for all sets and all numbers ([contract](../../../docs/API.md#bitranksdirectoryselect)).
     ///
     /// ```
     /// # use fixedbitset::{FixedBitSet, Ranks};
@@ -71,7 +82,7 @@ impl<'a> Ranks<'a> {
     /// ```
     #[inline]
     pub fn select(&self, index: usize) -> Option<usize> {
-        crate::position(raw::bits_select(self.directory.ranks(), index))
+        self.set.words.select(&self.directory, index)
     }
 }
 

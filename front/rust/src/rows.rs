@@ -1,10 +1,13 @@
 //! Tables of bits. The crate of this name has none.
-use crate::{Ones, raw};
+use crate::words::Table;
+use crate::{panics, Ones};
 use core::fmt::{Debug, Formatter, Result};
 
 /// A table of bits: so many rows of so many columns.
 ///
 /// The rows stand in one row of words. Each keeps the words that a set of so many columns has: whole lanes of four.
+///
+/// Proved: what its calls answer and leave ([contract](../../../docs/API.md#bitrowslentclose)).
 ///
 /// ```
 /// use fixedbitset::BitRows;
@@ -17,13 +20,16 @@ use core::fmt::{Debug, Formatter, Result};
 /// ```
 #[derive(Clone)]
 pub struct BitRows {
-    table: raw::Table,
+    table: Table,
 }
 
 impl BitRows {
     /// The table of so many rows and columns with no bit.
     ///
     /// **Panics** where its words would be more than a vector can have.
+    ///
+    /// Not proved: it makes words that are 0. How many a row has is proved
+    /// ([contract](../../../docs/API.md#bitrowslentwidth)).
     ///
     /// ```
     /// # use fixedbitset::BitRows;
@@ -32,11 +38,13 @@ impl BitRows {
     /// ```
     pub fn new(rows: usize, columns: usize) -> Self {
         BitRows {
-            table: raw::Table::new(rows, columns),
+            table: Table::new(rows, columns),
         }
     }
 
     /// How many rows there are.
+    ///
+    /// Not proved: it answers the number that is kept.
     ///
     /// ```
     /// # use fixedbitset::BitRows;
@@ -49,6 +57,8 @@ impl BitRows {
 
     /// How many columns there are.
     ///
+    /// Not proved: it answers the number that is kept.
+    ///
     /// ```
     /// # use fixedbitset::BitRows;
     /// assert_eq!(BitRows::new(3, 70).columns(), 70);
@@ -60,6 +70,8 @@ impl BitRows {
 
     /// Whether the row has a bit at the column: `false` past the rows and past the columns.
     ///
+    /// Proved: the answer, for all tables ([contract](../../../docs/API.md#bitrowslentget)).
+    ///
     /// ```
     /// # use fixedbitset::BitRows;
     /// let mut table = BitRows::new(3, 70);
@@ -68,12 +80,14 @@ impl BitRows {
     /// ```
     #[inline]
     pub fn get(&self, row: usize, column: usize) -> bool {
-        raw::bits_rows_get(&self.table.lent(), row, column)
+        row < self.rows() && self.table.get(row, column)
     }
 
     /// Sets the bit of the row at the column, or clears it where `enabled` is false.
     ///
     /// **Panics** where the table has no such row or no such column.
+    ///
+    /// Proved: what it leaves, for each row and column of the table ([contract](../../../docs/API.md#bitrowslentset)).
     ///
     /// ```
     /// # use fixedbitset::BitRows;
@@ -86,19 +100,20 @@ impl BitRows {
     #[inline]
     #[track_caller]
     pub fn set(&mut self, row: usize, column: usize, enabled: bool) {
-        let done = raw::bits_rows_set(&mut self.table.lent_mut(), row, column, enabled);
-        let columns = self.columns();
-        assert!(
-            done,
-            "set at row {row}, column {column} exceeds a table of {} rows and {columns} columns",
-            self.rows()
-        );
+        let (rows, columns) = (self.rows(), self.columns());
+        if row >= rows || column >= columns {
+            panics::no_cell(row, column, rows, columns);
+        }
+        self.table.set(row, column, enabled);
     }
 
     /// Row `into` takes in the bits of row `from`, and the other rows stay. It answers whether a bit came in. Where the two
     /// are one row, nothing changes.
     ///
     /// **Panics** where the table has not both rows.
+    ///
+    /// Proved: the answer and what it leaves, for any two rows of the table
+    /// ([contract](../../../docs/API.md#bitrowslentunion_rows)).
     ///
     /// ```
     /// # use fixedbitset::BitRows;
@@ -110,19 +125,18 @@ impl BitRows {
     #[inline]
     #[track_caller]
     pub fn union_rows(&mut self, from: usize, into: usize) -> bool {
-        let mut changed = false;
-        let done = raw::bits_rows_union(&mut self.table.lent_mut(), from, into, &mut changed);
         let rows = self.rows();
-        assert!(
-            done,
-            "union of row {from} into row {into} exceeds a table of {rows} rows"
-        );
-        changed
+        if from >= rows || into >= rows {
+            panics::no_pair(from, into, rows);
+        }
+        self.table.union_rows(from, into)
     }
 
     /// The columns at which the row has a bit, in ascending order.
     ///
     /// **Panics** where the table has no such row.
+    ///
+    /// Proved: each item, for each row of the table ([contract](../../../docs/API.md#bitrowslentwords_of)).
     ///
     /// ```
     /// # use fixedbitset::BitRows;
@@ -134,15 +148,20 @@ impl BitRows {
     #[inline]
     #[track_caller]
     pub fn row(&self, row: usize) -> Ones<'_> {
-        let (walk, is_there) = self.table.ones(row);
         let rows = self.rows();
-        assert!(is_there, "row {row} exceeds a table of {rows} rows");
-        Ones::of(walk)
+        if row >= rows {
+            panics::no_row(row, rows);
+        }
+        Ones {
+            walk: self.table.ones(row),
+        }
     }
 
     /// The transitive closure of the graph that has an edge from each row to each column at which the row has a bit:
     /// afterwards row `a` has a bit at column `b` exactly if some path of one or more edges led from `a` to `b`. Nothing
     /// leads on from a column that is no row.
+    ///
+    /// Proved: what it leaves, for all tables ([contract](../../../docs/API.md#bitrowslentclose)).
     ///
     /// ```
     /// # use fixedbitset::BitRows;
@@ -153,7 +172,7 @@ impl BitRows {
     /// assert_eq!(edges.row(0).collect::<Vec<_>>(), [0, 1]);
     /// ```
     pub fn close(&mut self) {
-        raw::bits_rows_close(&mut self.table.lent_mut());
+        self.table.close();
     }
 }
 

@@ -1,12 +1,15 @@
 //! The stretches of positions that follow each other without a gap. The crate of this name has no such calls.
 
-use crate::{FixedBitSet, raw};
+use crate::{proved, FixedBitSet};
 use core::fmt::{Debug, Formatter, Result};
 use core::iter::FusedIterator;
 
 impl FixedBitSet {
     /// The stretches of positions that are set, as start and end, in ascending order. The end is the first position behind.
     /// A stretch costs by its words, and not by its positions.
+    ///
+    /// Proved: each stretch, for all sets and any mix of calls from both ends
+    /// ([contract](../../../docs/API.md#fixedbitsetlentruns)).
     ///
     /// ```
     /// # use fixedbitset::FixedBitSet;
@@ -21,6 +24,9 @@ impl FixedBitSet {
     }
 
     /// The stretches of positions below the length that are not set, as start and end, in ascending order.
+    ///
+    /// Proved: each stretch, for all sets and any mix of calls from both ends
+    /// ([contract](../../../docs/API.md#fixedbitsetlentzero_runs)).
     ///
     /// ```
     /// # use fixedbitset::FixedBitSet;
@@ -37,6 +43,8 @@ impl FixedBitSet {
     /// The least number at or past `from` with `count` clear positions from there on, all below the length, if there is
     /// one. With a `count` of 0 that is `from`, up to the length.
     ///
+    /// Proved: the answer, for all sets and all numbers ([contract](../../../docs/API.md#fixedbitsetlentfirst_gap)).
+    ///
     /// ```
     /// # use fixedbitset::FixedBitSet;
     /// let set: FixedBitSet = [3, 6, 90].into_iter().collect();
@@ -44,11 +52,14 @@ impl FixedBitSet {
     /// ```
     #[inline]
     pub fn first_gap(&self, count: usize, from: usize) -> Option<usize> {
-        crate::position(raw::bits_first_gap(&self.words.lent(), count, from))
+        self.words.first_gap(count, from)
     }
 }
 
 /// The walk of [`FixedBitSet::runs`] and of [`FixedBitSet::zero_runs`].
+///
+/// Proved: each stretch that it gives, in any mix of calls from both ends
+/// ([contract](../../../docs/API.md#fixedbitsetlentruns)).
 ///
 /// ```
 /// # use fixedbitset::FixedBitSet;
@@ -58,16 +69,7 @@ impl FixedBitSet {
 /// ```
 #[derive(Clone)]
 pub struct Runs<'a> {
-    walk: raw::Runs<'a>,
-}
-
-impl Runs<'_> {
-    /// The stretch that a call of the walk gave, if it gave one.
-    #[inline]
-    fn given(next: impl FnOnce(&mut usize, &mut usize) -> bool) -> Option<(usize, usize)> {
-        let (mut start, mut end) = (0, 0);
-        next(&mut start, &mut end).then_some((start, end))
-    }
+    walk: proved::bitwalks::Runs<'a>,
 }
 
 impl Iterator for Runs<'_> {
@@ -75,14 +77,14 @@ impl Iterator for Runs<'_> {
 
     #[inline]
     fn next(&mut self) -> Option<(usize, usize)> {
-        Runs::given(|start, end| raw::bits_runs_next(&mut self.walk, start, end))
+        self.walk.next()
     }
 }
 
 impl DoubleEndedIterator for Runs<'_> {
     #[inline]
     fn next_back(&mut self) -> Option<(usize, usize)> {
-        Runs::given(|start, end| raw::bits_runs_next_back(&mut self.walk, start, end))
+        self.walk.next_back()
     }
 }
 

@@ -1,14 +1,17 @@
-//! The walks over positions. Each call of one is a proved call.
-use crate::handful::{
-    Handfuls, JoinedLeft, LackedLeft, OnesLeft, SharedLeft, SplitLeft, ZeroesLeft,
+//! The walks over positions. Each call of one is a call of a proved walk.
+use crate::proved::bitlanes::word::take_lowest_bit;
+use crate::words::{
+    JoinedLeft, LackedLeft, OnesLeft, OwnedLeft, SharedLeft, SplitLeft, ZeroesLeft,
 };
-use crate::raw::{self, Owned, Walk};
-use crate::{Block, FixedBitSet, IndexRange};
+use crate::{panics, words, Block, FixedBitSet, IndexRange};
 use core::fmt::{Debug, Formatter, Result};
 use core::iter::FusedIterator;
 
 impl FixedBitSet {
     /// The positions that are set, in ascending order.
+    ///
+    /// Proved: each item, for all sets and any mix of calls from both ends
+    /// ([contract](../../../docs/API.md#fixedbitsetlentones)).
     ///
     /// ```
     /// # use fixedbitset::FixedBitSet;
@@ -17,10 +20,15 @@ impl FixedBitSet {
     /// ```
     #[inline]
     pub fn ones(&self) -> Ones<'_> {
-        Ones::of(self.words.ones())
+        Ones {
+            walk: self.words.ones(),
+        }
     }
 
     /// The positions that are set, in ascending order. The walk owns the set.
+    ///
+    /// Proved: each item, for all words and any mix of calls from both ends
+    /// ([contract](../../../docs/API.md#bitwordscursorscursorover)).
     ///
     /// ```
     /// # use fixedbitset::FixedBitSet;
@@ -36,6 +44,9 @@ impl FixedBitSet {
 
     /// The positions below the length that are not set, in ascending order.
     ///
+    /// Proved: each item, for all sets and any mix of calls from both ends
+    /// ([contract](../../../docs/API.md#fixedbitsetlentzeroes)).
+    ///
     /// ```
     /// # use fixedbitset::FixedBitSet;
     /// let set: FixedBitSet = [1, 3].into_iter().collect();
@@ -44,7 +55,7 @@ impl FixedBitSet {
     #[inline]
     pub fn zeroes(&self) -> Zeroes<'_> {
         Zeroes {
-            walk: Handfuls::of(ZeroesLeft(self.words.zeroes())),
+            walk: self.words.zeroes(),
         }
     }
 
@@ -52,6 +63,9 @@ impl FixedBitSet {
     /// range.
     ///
     /// **Panics** where the range is not valid.
+    ///
+    /// Proved: each item, for all sets, each valid range, and any mix of calls from both ends
+    /// ([contract](../../../docs/API.md#fixedbitsetlentones_in)).
     ///
     /// ```
     /// # use fixedbitset::FixedBitSet;
@@ -61,16 +75,19 @@ impl FixedBitSet {
     #[inline]
     #[track_caller]
     pub fn ones_in<T: IndexRange>(&self, range: T) -> Ones<'_> {
-        let (start, end) = self.ends(&range);
-        let (walk, is_valid) = self.words.ones_in(start, end);
-        self.assert_valid(is_valid, start, end);
-        Ones::of(walk)
+        let (start, end) = self.part(&range);
+        Ones {
+            walk: self.words.ones_in(start, end),
+        }
     }
 
     /// The positions of the range that are not set, in ascending order. It takes only the words that hold a position of
     /// the range.
     ///
     /// **Panics** where the range is not valid.
+    ///
+    /// Proved: each item, for all sets, each valid range, and any mix of calls from both ends
+    /// ([contract](../../../docs/API.md#fixedbitsetlentzeroes_in)).
     ///
     /// ```
     /// # use fixedbitset::FixedBitSet;
@@ -80,15 +97,16 @@ impl FixedBitSet {
     #[inline]
     #[track_caller]
     pub fn zeroes_in<T: IndexRange>(&self, range: T) -> Zeroes<'_> {
-        let (start, end) = self.ends(&range);
-        let (walk, is_valid) = self.words.zeroes_in(start, end);
-        self.assert_valid(is_valid, start, end);
+        let part = self.part(&range);
         Zeroes {
-            walk: Handfuls::of(ZeroesLeft(walk)),
+            walk: self.words.zeroes_in(part.0, part.1),
         }
     }
 
     /// The positions of both sets, in ascending order.
+    ///
+    /// Proved: each item, for any two sets and any mix of calls from both ends
+    /// ([contract](../../../docs/API.md#fixedbitsetlentintersection)).
     ///
     /// ```
     /// # use fixedbitset::FixedBitSet;
@@ -98,11 +116,14 @@ impl FixedBitSet {
     #[inline]
     pub fn intersection<'a>(&'a self, other: &'a FixedBitSet) -> Intersection<'a> {
         Intersection {
-            walk: Handfuls::of(SharedLeft(self.words.intersection(&other.words))),
+            walk: self.words.intersection(&other.words),
         }
     }
 
     /// The positions of this set in ascending order, and then those that `other` alone has.
+    ///
+    /// Proved: each item of both parts and their order, for any mix of calls from both ends
+    /// ([contract](../../../docs/API.md#bitwalksunionover)).
     ///
     /// ```
     /// # use fixedbitset::FixedBitSet;
@@ -112,11 +133,14 @@ impl FixedBitSet {
     #[inline]
     pub fn union<'a>(&'a self, other: &'a FixedBitSet) -> Union<'a> {
         Union {
-            walk: Handfuls::of(JoinedLeft(self.words.union(&other.words))),
+            walk: self.words.union(&other.words),
         }
     }
 
     /// The positions of this set that `other` lacks, in ascending order.
+    ///
+    /// Proved: each item, for any two sets and any mix of calls from both ends
+    /// ([contract](../../../docs/API.md#fixedbitsetlentdifference)).
     ///
     /// ```
     /// # use fixedbitset::FixedBitSet;
@@ -126,11 +150,14 @@ impl FixedBitSet {
     #[inline]
     pub fn difference<'a>(&'a self, other: &'a FixedBitSet) -> Difference<'a> {
         Difference {
-            walk: Handfuls::of(LackedLeft(self.words.difference(&other.words))),
+            walk: self.words.difference(&other.words),
         }
     }
 
     /// The positions that this set alone has in ascending order, and then those that `other` alone has.
+    ///
+    /// Proved: each item of both parts and their order, for any mix of calls from both ends
+    /// ([contract](../../../docs/API.md#bitwalkssymmetricdifferenceover)).
     ///
     /// ```
     /// # use fixedbitset::FixedBitSet;
@@ -140,12 +167,15 @@ impl FixedBitSet {
     #[inline]
     pub fn symmetric_difference<'a>(&'a self, other: &'a FixedBitSet) -> SymmetricDifference<'a> {
         SymmetricDifference {
-            walk: Handfuls::of(SplitLeft(self.words.symmetric_difference(&other.words))),
+            walk: self.words.symmetric_difference(&other.words),
         }
     }
 }
 
 /// The walk of [`FixedBitSet::ones`] and of [`FixedBitSet::ones_in`].
+///
+/// Proved: each item that it gives, in any mix of calls from both ends
+/// ([contract](../../../docs/API.md#fixedbitsetlentones)).
 ///
 /// ```
 /// # use fixedbitset::FixedBitSet;
@@ -155,10 +185,13 @@ impl FixedBitSet {
 /// ```
 #[derive(Clone)]
 pub struct Ones<'a> {
-    walk: Handfuls<OnesLeft<'a>>,
+    pub(crate) walk: OnesLeft<'a>,
 }
 
 /// The walk of [`FixedBitSet::into_ones`].
+///
+/// Proved: each item that it gives, in any mix of calls from both ends
+/// ([contract](../../../docs/API.md#bitwordscursorscursorover)).
 ///
 /// ```
 /// # use fixedbitset::{FixedBitSet, IntoOnes};
@@ -166,10 +199,13 @@ pub struct Ones<'a> {
 /// assert_eq!(walk.count(), 0);
 /// ```
 pub struct IntoOnes {
-    walk: Owned,
+    walk: OwnedLeft,
 }
 
 /// The walk of [`FixedBitSet::zeroes`] and of [`FixedBitSet::zeroes_in`].
+///
+/// Proved: each item that it gives, in any mix of calls from both ends
+/// ([contract](../../../docs/API.md#fixedbitsetlentzeroes)).
 ///
 /// ```
 /// # use fixedbitset::FixedBitSet;
@@ -178,10 +214,13 @@ pub struct IntoOnes {
 /// ```
 #[derive(Clone)]
 pub struct Zeroes<'a> {
-    walk: Handfuls<ZeroesLeft<'a>>,
+    walk: ZeroesLeft<'a>,
 }
 
 /// The walk of [`FixedBitSet::intersection`].
+///
+/// Proved: each item that it gives, in any mix of calls from both ends
+/// ([contract](../../../docs/API.md#fixedbitsetlentintersection)).
 ///
 /// ```
 /// # use fixedbitset::FixedBitSet;
@@ -190,10 +229,13 @@ pub struct Zeroes<'a> {
 /// ```
 #[derive(Clone)]
 pub struct Intersection<'a> {
-    walk: Handfuls<SharedLeft<'a>>,
+    walk: SharedLeft<'a>,
 }
 
 /// The walk of [`FixedBitSet::difference`].
+///
+/// Proved: each item that it gives, in any mix of calls from both ends
+/// ([contract](../../../docs/API.md#fixedbitsetlentdifference)).
 ///
 /// ```
 /// # use fixedbitset::FixedBitSet;
@@ -202,10 +244,13 @@ pub struct Intersection<'a> {
 /// ```
 #[derive(Clone)]
 pub struct Difference<'a> {
-    walk: Handfuls<LackedLeft<'a>>,
+    walk: LackedLeft<'a>,
 }
 
 /// The walk of [`FixedBitSet::union`]. From the back it begins with what the second set alone has.
+///
+/// Proved: each item that it gives, in any mix of calls from both ends
+/// ([contract](../../../docs/API.md#bitwalksunionover)).
 ///
 /// ```
 /// # use fixedbitset::FixedBitSet;
@@ -214,10 +259,13 @@ pub struct Difference<'a> {
 /// ```
 #[derive(Clone)]
 pub struct Union<'a> {
-    walk: Handfuls<JoinedLeft<'a>>,
+    walk: JoinedLeft<'a>,
 }
 
 /// The walk of [`FixedBitSet::symmetric_difference`]. From the back it begins with what the second set alone has.
+///
+/// Proved: each item that it gives, in any mix of calls from both ends
+/// ([contract](../../../docs/API.md#bitwalkssymmetricdifferenceover)).
 ///
 /// ```
 /// # use fixedbitset::FixedBitSet;
@@ -226,60 +274,47 @@ pub struct Union<'a> {
 /// ```
 #[derive(Clone)]
 pub struct SymmetricDifference<'a> {
-    walk: Handfuls<SplitLeft<'a>>,
+    walk: SplitLeft<'a>,
 }
 
-/// The traits of a walk by its handfuls.
+/// The traits of a walk over one row of words, which ascends.
 macro_rules! walks {
-    ($($name:ty),*) => { $(
+    ($($name:ty { $($more:tt)* })*) => { $(
         impl Iterator for $name {
             type Item = usize;
 
+            $($more)*
+
             #[inline]
             fn next(&mut self) -> Option<usize> {
-                self.walk.with(|walk| walk.next())
+                self.walk.next()
             }
 
             #[inline]
             fn size_hint(&self) -> (usize, Option<usize>) {
-                self.walk.lent().size_hint()
+                self.walk.size_hint()
             }
 
             #[inline]
-            fn nth(&mut self, n: usize) -> Option<usize> {
-                self.walk.with(|walk| walk.nth(n))
-            }
-
-            #[inline]
-            fn fold<B, F: FnMut(B, usize) -> B>(mut self, init: B, f: F) -> B {
-                self.walk.with(|walk| walk.fold(init, f))
-            }
-
-            #[inline]
-            fn count(mut self) -> usize {
-                self.walk.with(|walk| walk.count())
-            }
-
-            #[inline]
-            fn last(mut self) -> Option<usize> {
-                self.next_back()
+            fn last(self) -> Option<usize> {
+                self.max()
             }
 
             #[inline]
             fn min(mut self) -> Option<usize> {
-                self.walk.with(|walk| walk.min())
+                self.next()
             }
 
             #[inline]
             fn max(mut self) -> Option<usize> {
-                self.walk.with(|walk| walk.max())
+                self.next_back()
             }
         }
 
         impl DoubleEndedIterator for $name {
             #[inline]
             fn next_back(&mut self) -> Option<usize> {
-                self.walk.with(|walk| walk.next_back())
+                self.walk.next_back()
             }
         }
 
@@ -288,34 +323,72 @@ macro_rules! walks {
         impl Debug for $name {
             /// The positions that are left.
             fn fmt(&self, f: &mut Formatter<'_>) -> Result {
-                self.walk.lent().fmt(f)
+                f.debug_set().entries(self.walk.clone()).finish()
             }
         }
     )* };
 }
-walks!(
-    Ones<'_>,
-    Zeroes<'_>,
-    Intersection<'_>,
-    Difference<'_>,
-    Union<'_>,
-    SymmetricDifference<'_>,
-    IntoOnes
-);
-
-impl<'a> Ones<'a> {
-    #[inline(always)]
-    pub(crate) fn of(walk: Walk<'a>) -> Self {
-        Ones {
-            walk: Handfuls::of(OnesLeft(walk)),
+walks! {
+    Ones<'_> {
+        #[inline]
+        fn count(self) -> usize {
+            words::left_of(self.walk)
         }
     }
+    Zeroes<'_> {}
+    Intersection<'_> {}
+    Difference<'_> {}
+    IntoOnes {}
 }
+
+/// The traits of two walks in turn.
+macro_rules! walks_in_turn {
+    ($($name:ty),*) => { $(
+        impl Iterator for $name {
+            type Item = usize;
+
+            #[inline]
+            fn next(&mut self) -> Option<usize> {
+                self.walk.take_first()
+            }
+
+            #[inline]
+            fn size_hint(&self) -> (usize, Option<usize>) {
+                (0, self.walk.most())
+            }
+
+            #[inline]
+            fn last(self) -> Option<usize> {
+                self.rev().next()
+            }
+        }
+
+        impl DoubleEndedIterator for $name {
+            #[inline]
+            fn next_back(&mut self) -> Option<usize> {
+                self.walk.take_last()
+            }
+        }
+
+        impl FusedIterator for $name {}
+
+        impl Debug for $name {
+            /// The positions that are left.
+            fn fmt(&self, f: &mut Formatter<'_>) -> Result {
+                f.debug_set().entries(self.clone()).finish()
+            }
+        }
+    )* };
+}
+walks_in_turn!(Union<'_>, SymmetricDifference<'_>);
 
 impl Ones<'_> {
     /// Clears the lowest bit of the word that is set, and answers its index.
     ///
     /// **Panics** where the word is 0.
+    ///
+    /// Proved: the answer and the word that it leaves, for each word but 0
+    /// ([contract](../../../docs/API.md#bitlaneswordtake_lowest_bit)).
     ///
     /// ```
     /// # use fixedbitset::Ones;
@@ -325,12 +398,18 @@ impl Ones<'_> {
     #[inline]
     #[track_caller]
     pub fn last_positive_bit_and_unset(n: &mut Block) -> usize {
-        crate::position(raw::bits_take_lowest_bit(n)).expect("the word is 0")
+        if *n == 0 {
+            panics::no_bit();
+        }
+        take_lowest_bit(n)
     }
 }
 
 impl IntoOnes {
     /// The same as [`Ones::last_positive_bit_and_unset`].
+    ///
+    /// Proved: the answer and the word that it leaves, for each word but 0
+    /// ([contract](../../../docs/API.md#bitlaneswordtake_lowest_bit)).
     ///
     /// ```
     /// # use fixedbitset::IntoOnes;

@@ -13,7 +13,7 @@ ghost use Rattle.fixedbitset.specs.TwoSets as sets;
 use crate::set::FixedBitSet;
 use bitlanes::Steps;
 use bitlanes::ops::{And, Or, WordOp, Xor};
-use bitwords::joins;
+use bitwords::new_rows;
 use std::alloc::AllocError;
 
 /// [`FixedBitSet::clone_from`], with the steps that it takes.
@@ -150,7 +150,7 @@ fn joined_copy<O: WordOp>(
         (model.storage_words other.now.length)) }
 {
     let alloc = *set.words.allocator();
-    let words = joins::joined::<O>(alloc, set.words.as_slice(), other.words.as_slice(), steps)?;
+    let words = new_rows::joined::<O>(alloc, set.words.as_slice(), other.words.as_slice(), steps)?;
     Ok(FixedBitSet {
         words,
         length: set.length,

@@ -17,7 +17,8 @@ use crate::lent::shifts::{
     copy_range_counted, shift_down_counted, shift_up_counted, slice_counted,
     union_with_own_shift_counted, union_with_shifted_counted,
 };
-use crate::set::{FixedBitSet, storage_words};
+use crate::lent::storage_words;
+use crate::set::FixedBitSet;
 use bitlanes::{IndexRange, Steps};
 use std::alloc::{AllocError, Global};
 

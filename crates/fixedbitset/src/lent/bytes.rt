@@ -8,7 +8,7 @@ ghost use Rattle.fixedbitset.specs.Json as json;
 ghost use Rattle.fixedbitset.specs.Stored.{IsClean};
 
 use crate::lent::used_words;
-use bitjson::bytes::{fill_bytes, fill_words};
+use bitjson::fills::{fill_bytes, fill_words};
 use bitlanes::Block;
 use bitwords::positions;
 

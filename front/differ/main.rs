@@ -1,0 +1,43 @@
+//! The same calls on the proved archive and on the crate of erased sources: answers and words have to agree.
+//!
+//! usage: differ STEPS SEED
+mod archive;
+mod declared;
+
+mod proved_side {
+    use crate::archive as it;
+    include!("world.rs");
+}
+
+mod erased_side {
+    use fixedbitset as it;
+    include!("world.rs");
+}
+
+/// How many steps are made on sets before new ones take their place.
+const STEPS_OF_ONE: u64 = 20_000;
+
+fn main() {
+    let mut numbers = std::env::args().skip(1).map(|word| word.parse::<u64>());
+    let (Some(Ok(steps)), Some(Ok(seed))) = (numbers.next(), numbers.next()) else {
+        panic!("usage: differ STEPS SEED");
+    };
+    let (mut digest, mut left, mut world) = (0, steps, 0);
+    while left > 0 {
+        let mut one = proved_side::World::new(seed.wrapping_add(world));
+        let mut other = erased_side::World::new(seed.wrapping_add(world));
+        for step in 0..left.min(STEPS_OF_ONE) {
+            digest = one.step();
+            if digest != other.step() {
+                eprintln!(
+                    "seed {seed}, sets {world}, step {step}: {:?} and {:?}",
+                    one.said, other.said
+                );
+                std::process::exit(1);
+            }
+        }
+        left -= left.min(STEPS_OF_ONE);
+        world += 1;
+    }
+    println!("seed {seed}: {steps} steps agree, and the last digest is {digest:016x}");
+}

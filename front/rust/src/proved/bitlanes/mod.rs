@@ -1,0 +1,12 @@
+// Made by front/erase from crates/bitlanes/src/lib.rt: change that, and not this.
+//! Words of 64 bits, and the loops over many of them.
+pub mod carries;
+pub mod changes;
+pub mod counter;
+pub mod lanes;
+pub mod ops;
+pub mod search;
+pub mod shifts;
+pub mod word;
+pub use self::counter::Steps;
+pub use self::word::Block;

@@ -1,0 +1,166 @@
+// Made by front/erase from crates/bitlanes/src/search.rt: change that, and not this.
+//! Searches for a word that is not 0, by sixteen words, then by lanes of four, and then by single words.
+//!
+//! Each word is joined with one mask first, so the same loops find a word that has a bit and a word that lacks one. A
+//! step is one lane of four words from the place on where the search begins: each lane counts once, up to the one that
+//! has the word, though the last sixteen words may be looked at again. The search of two rows goes by lanes alone.
+
+use crate::proved::bitlanes::lanes::{LANE, is_zero, lane_at, masked_lane_at, word_at};
+use crate::proved::bitlanes::ops::{And, WordOp};
+use crate::proved::bitlanes::{Block, Steps};
+use crate::shim::simd::prelude::*;
+
+// How many words four lanes have.
+const FOUR: usize = 4 * LANE;
+
+/// The place of the first word that is not 0, or `None` where each word is 0.
+///
+/// It looks at sixteen words at a time while as many are left behind them. Then it looks at four at a time up to those
+/// that have the word, and then at single words, which are four at most.
+///
+/// ```text
+/// let mut steps = Steps::new();
+/// assert_eq!(search::first_one(&[0, 0, 8, 1, 0], &mut steps), Some(2));
+/// assert_eq!(search::first_one(&[0; 9], &mut steps), None);
+/// ```
+#[inline(always)]
+pub fn first_one(words: &[Block], steps: &mut Steps) -> Option<usize> {
+    next_one::<And>(Block::MAX, words, 0, steps)
+}
+
+/// The place of the last word that is not 0, or `None` where each word is 0.
+///
+/// It looks at sixteen words at a time from the end on while as many are left before them. Then it looks at four at a
+/// time down to those that have the word, and then at single words, which are four at most.
+///
+/// ```text
+/// let mut steps = Steps::new();
+/// assert_eq!(search::last_one(&[0, 0, 8, 1, 0], &mut steps), Some(3));
+/// assert_eq!(search::last_one(&[0; 9], &mut steps), None);
+/// ```
+#[inline(always)]
+pub fn last_one(words: &[Block], steps: &mut Steps) -> Option<usize> {
+    previous_one::<And>(Block::MAX, words, words.len(), steps)
+}
+
+/// The place of the first word, from place `from` on, that is not 0 when `mask` is joined with it by `O`; `None` where
+/// there is none. The place may be the end of the words, and not past it.
+///
+/// ```text
+/// let words = [7, 0, 0, 1];
+/// let mut steps = Steps::new();
+/// assert_eq!(search::next_one::<And>(Block::MAX, &words, 1, &mut steps), Some(3));
+/// assert_eq!(search::next_one::<AndNot>(7, &words, 0, &mut steps), Some(1));
+/// assert_eq!(search::next_one::<And>(8, &words, 0, &mut steps), None);
+/// ```
+#[inline(always)]
+pub fn next_one<O: WordOp>(
+    mask: Block,
+    words: &[Block],
+    from: usize,
+    steps: &mut Steps,
+) -> Option<usize> {
+    let mut start = from;
+    while words.len() - start >= 2 * FOUR && are_zero_at::<O>(mask, words, start) {
+        tick_four(steps);
+        start += FOUR;
+    }
+    while words.len() - start >= LANE && is_zero(masked_lane_at::<O>(mask, words, start)) {
+        steps.tick();
+        start += LANE;
+    }
+    for at in start..words.len() {
+        if (at - start) % LANE == 0 {
+            steps.tick();
+        }
+        if O::word(mask, words[at]) != 0 {
+            return Some(at);
+        }
+    }
+    None
+}
+
+/// The place of the last word, below place `below`, that is not 0 when `mask` is joined with it by `O`; `None` where
+/// there is none. The place may be the end of the words, and not past it.
+///
+/// ```text
+/// let words = [1, 0, 0, 7];
+/// let mut steps = Steps::new();
+/// assert_eq!(search::previous_one::<And>(Block::MAX, &words, 3, &mut steps), Some(0));
+/// assert_eq!(search::previous_one::<AndNot>(7, &words, 4, &mut steps), Some(2));
+/// assert_eq!(search::previous_one::<And>(8, &words, 4, &mut steps), None);
+/// ```
+#[inline(always)]
+pub fn previous_one<O: WordOp>(
+    mask: Block,
+    words: &[Block],
+    below: usize,
+    steps: &mut Steps,
+) -> Option<usize> {
+    let mut end = below;
+    while end >= 2 * FOUR && are_zero_at::<O>(mask, words, end - FOUR) {
+        tick_four(steps);
+        end -= FOUR;
+    }
+    while end >= LANE && is_zero(masked_lane_at::<O>(mask, words, end - LANE)) {
+        steps.tick();
+        end -= LANE;
+    }
+    for at in (0..end).rev() {
+        if (end - 1 - at) % LANE == 0 {
+            steps.tick();
+        }
+        if O::word(mask, words[at]) != 0 {
+            return Some(at);
+        }
+    }
+    None
+}
+
+/// The place of the first word of `a` that is not 0 when the word of `b` at its place is joined with it by `O`, as far as
+/// both go; `None` where there is none.
+///
+/// ```text
+/// let mut steps = Steps::new();
+/// assert_eq!(search::first_joined::<AndNot>(&[1, 3, 7], &[1, 2], &mut steps), Some(1));
+/// assert_eq!(search::first_joined::<AndNot>(&[1, 3, 7], &[1, 3], &mut steps), None);
+/// ```
+#[inline(always)]
+pub fn first_joined<O: WordOp>(a: &[Block], b: &[Block], steps: &mut Steps) -> Option<usize> {
+    let common = a.len().min(b.len());
+    let mut lane = 0;
+    while common - lane >= LANE && is_zero(lane_at::<O>(a, b, lane)) {
+        steps.tick();
+        lane += LANE;
+    }
+    for at in lane..common {
+        if at % LANE == 0 {
+            steps.tick();
+        }
+        if word_at::<O>(a, b, at) != 0 {
+            return Some(at);
+        }
+    }
+    None
+}
+
+// Counts the four lanes of sixteen words.
+#[inline(always)]
+fn tick_four(steps: &mut Steps) {
+    steps.tick();
+    steps.tick();
+    steps.tick();
+    steps.tick();
+}
+
+// Whether the mask joined with each of the sixteen words from `at` on is 0.
+#[inline(always)]
+fn are_zero_at<O: WordOp>(mask: Block, words: &[Block], at: usize) -> bool {
+    is_zero(two_lanes_at::<O>(mask, words, at) | two_lanes_at::<O>(mask, words, at + 2 * LANE))
+}
+
+// The two lanes from `at` on, each joined with the mask, joined by `or`.
+#[inline(always)]
+fn two_lanes_at<O: WordOp>(mask: Block, words: &[Block], at: usize) -> u64x4 {
+    masked_lane_at::<O>(mask, words, at) | masked_lane_at::<O>(mask, words, at + LANE)
+}

@@ -1,0 +1,86 @@
+// Made by front/erase from crates/bitwalks/src/in_turn.rt: change that, and not this.
+//! Two walks in turn: from the front the first and then the second, from the back the second and then the first.
+
+use crate::proved::bitwords::cursors::{Cursor, Middle};
+
+/// A walk that may be one of two in turn.
+pub trait Part {
+    /// The first item left.
+    fn take_first(&mut self) -> Option<usize>;
+
+    /// The last item left.
+    fn take_last(&mut self) -> Option<usize>;
+
+    /// That number, which is not below the number of items left, where it is a `usize`.
+    fn most(&self) -> Option<usize>;
+}
+
+impl<M: Middle> Part for Cursor<M> {
+    #[inline]
+    fn take_first(&mut self) -> Option<usize> {
+        self.next()
+    }
+
+    #[inline]
+    fn take_last(&mut self) -> Option<usize> {
+        self.next_back()
+    }
+
+    #[inline]
+    fn most(&self) -> Option<usize> {
+        self.size_hint().1
+    }
+}
+
+/// The items of the first walk, and then those of the second.
+#[derive(Clone)]
+pub struct InTurn<A: Part, B: Part> {
+    first: A,
+    second: B,
+    // Whether the first walk may still have items: once it gave none, no call from the front asks it again.
+    first_left: bool,
+}
+
+impl<A: Part, B: Part> InTurn<A, B> {
+    /// These two walks, the first before the second.
+    #[inline]
+    pub fn of(first: A, second: B) -> InTurn<A, B> {
+        InTurn {
+            first,
+            second,
+            first_left: true,
+        }
+    }
+
+    /// The first item that the first walk has left, and once it has none, the first of the second.
+    #[inline]
+    pub fn take_first(&mut self) -> Option<usize> {
+        // A loop of one turn at most, so that the compiler keeps the caller's numbers in registers.
+        while self.first_left {
+            if let Some(position) = self.first.take_first() {
+                return Some(position);
+            }
+            self.first_left = false;
+        }
+        self.second.take_first()
+    }
+
+    /// The last item that the second walk has left, and where it has none, the last of the first.
+    #[inline]
+    pub fn take_last(&mut self) -> Option<usize> {
+        if let Some(position) = self.second.take_last() {
+            return Some(position);
+        }
+        if self.first_left {
+            self.first.take_last()
+        } else {
+            None
+        }
+    }
+
+    /// The sum of what both have, which is not below the number of items left, where it is a `usize`.
+    #[inline]
+    pub fn most(&self) -> Option<usize> {
+        self.first.most()?.checked_add(self.second.most()?)
+    }
+}

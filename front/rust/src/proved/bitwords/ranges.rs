@@ -1,0 +1,211 @@
+// Made by front/erase from crates/bitwords/src/ranges.rt: change that, and not this.
+//! A range of positions of one row: changes, counts and tests, and a copy from another row.
+//!
+//! A range is cut at the edges of words into three parts: positions of its first word, whole words, and positions of its
+//! last word. Each part may be empty. So no word but the first and the last is masked.
+
+use crate::proved::bitwords::shifts::join_down;
+use crate::proved::bitlanes::ops::{Second, WordOp};
+use crate::proved::bitlanes::shifts::word_from;
+use crate::proved::bitlanes::word::{BITS, Block, stretch};
+use crate::proved::bitlanes::{Steps, lanes};
+
+/// Joins each position of the range, as one that is set, to the words by `O`; the others stay.
+///
+/// It takes exactly one step for each word that holds a position of the range.
+///
+/// ```text
+/// let mut words = [0, 3];
+/// ranges::change::<Xor>(&mut words, 63, 66, &mut Steps::new());
+/// assert_eq!(words, [1 << 63, 0]);
+/// ```
+#[inline(always)]
+pub fn change<O: WordOp>(words: &mut [Block], start: usize, end: usize, steps: &mut Steps) {
+    let (low, high) = cut(start, end);
+    change_part::<O>(words, start, low, steps);
+    change_part::<O>(words, high, end, steps);
+    // Last, so that nothing has to be kept while the whole words are set or cleared in one call.
+    change_whole::<O>(words, low / BITS, high / BITS, steps);
+}
+
+/// How many positions of the range, each as one that is set joined by `O` with its bit in the words, are set then.
+///
+/// It takes exactly one step for each word that holds a position of the range.
+///
+/// ```text
+/// let count = ranges::count::<And>(&[Block::MAX, 9], 62, 128, &mut Steps::new());
+/// assert_eq!(count, 4);
+/// ```
+#[inline(always)]
+pub fn count<O: WordOp>(words: &[Block], start: usize, end: usize, steps: &mut Steps) -> usize {
+    let (low, high) = cut(start, end);
+    let first = count_part::<O>(words, start, low, steps);
+    let middle = count_whole::<O>(words, low / BITS, high / BITS, steps);
+    let last = count_part::<O>(words, high, end, steps);
+    first + middle + last
+}
+
+/// Whether `count` is 0.
+///
+/// It stops at the first lane or word that decides, so it takes at most `search_steps`: one step for each lane of four of
+/// the words that are wholly in the range, the last of which may have fewer, and one for each other word that holds a
+/// position of it. Where it answers `true` it takes exactly as many.
+///
+/// ```text
+/// assert!(ranges::none::<And>(&[0, 8], 0, 67, &mut Steps::new()));
+/// assert!(!ranges::none::<And>(&[0, 8], 0, 68, &mut Steps::new()));
+/// ```
+#[inline(always)]
+pub fn none<O: WordOp>(words: &[Block], start: usize, end: usize, steps: &mut Steps) -> bool {
+    let (low, high) = cut(start, end);
+    none_part::<O>(words, start, low, steps)
+        && none_whole::<O>(words, low / BITS, high / BITS, steps)
+        && none_part::<O>(words, high, end, steps)
+}
+
+/// Writes the positions of `other` from `from` on over those of the range; the others stay.
+///
+/// It takes exactly `search_steps`: one step for each lane of four of the words that are wholly in the range, the last of
+/// which may have fewer, and one for each other word that holds a position of it.
+///
+/// ```text
+/// let mut words = [9, 9];
+/// ranges::copy(&mut words, 1, 67, &[5 << 60, 9], 62, &mut Steps::new());
+/// assert_eq!(words, [75, 8]);
+/// ```
+#[inline(always)]
+pub fn copy(
+    words: &mut [Block],
+    start: usize,
+    end: usize,
+    other: &[Block],
+    from: usize,
+    steps: &mut Steps,
+) {
+    let (low, high) = cut(start, end);
+    copy_part(words, start, low, other, from, steps);
+    copy_whole(
+        words,
+        low / BITS,
+        high / BITS,
+        other,
+        from + (low - start),
+        steps,
+    );
+    copy_part(words, high, end, other, from + (high - start), steps);
+}
+
+// Where the whole words of the range begin and where they end. If it has none, both are the same place.
+#[inline(always)]
+fn cut(start: usize, end: usize) -> (usize, usize) {
+    let low = start + (end - start).min((BITS - start % BITS) % BITS);
+    let high = end - (end - low).min(end % BITS);
+    (low, high)
+}
+
+// The bits of a word that stand for the positions of a range within it.
+#[inline(always)]
+fn mask(start: usize, end: usize) -> Block {
+    let low = start % BITS;
+    stretch(low, low + (end - start))
+}
+
+// `change`, for a range within one word.
+#[inline(always)]
+fn change_part<O: WordOp>(words: &mut [Block], start: usize, end: usize, steps: &mut Steps) {
+    if start < end {
+        steps.tick();
+        let at = start / BITS;
+        words[at] = O::word(words[at], mask(start, end));
+    }
+}
+
+// `change`, for the words from `first` up to and without `last`.
+#[inline(always)]
+fn change_whole<O: WordOp>(words: &mut [Block], first: usize, last: usize, steps: &mut Steps) {
+    // Without this, a single word would be set or cleared by a call of `memset`.
+    if last - first == 1 {
+        steps.tick();
+        words[first] = O::word(words[first], Block::MAX);
+        return;
+    }
+    for k in first..last {
+        steps.tick();
+        words[k] = O::word(words[k], Block::MAX);
+    }
+}
+
+// `count`, for a range within one word.
+#[inline(always)]
+fn count_part<O: WordOp>(words: &[Block], start: usize, end: usize, steps: &mut Steps) -> usize {
+    if start < end {
+        steps.tick();
+        O::word(mask(start, end), words[start / BITS]).count_ones() as usize
+    } else {
+        0
+    }
+}
+
+// `count`, for the words from `first` up to and without `last`.
+#[inline(always)]
+fn count_whole<O: WordOp>(words: &[Block], first: usize, last: usize, steps: &mut Steps) -> usize {
+    let mut total = 0;
+    for k in first..last {
+        steps.tick();
+        total += O::word(Block::MAX, words[k]).count_ones() as usize;
+    }
+    total
+}
+
+// `none`, for a range within one word.
+#[inline(always)]
+fn none_part<O: WordOp>(words: &[Block], start: usize, end: usize, steps: &mut Steps) -> bool {
+    if start < end {
+        steps.tick();
+        O::word(mask(start, end), words[start / BITS]) == 0
+    } else {
+        true
+    }
+}
+
+// `none`, for the words from `first` up to and without `last`.
+#[inline(always)]
+fn none_whole<O: WordOp>(words: &[Block], first: usize, last: usize, steps: &mut Steps) -> bool {
+    // A single word is tested by itself: as a lane with zeros it would go through a vector register.
+    if last - first == 1 {
+        steps.tick();
+        return O::word(Block::MAX, words[first]) == 0;
+    }
+    lanes::none_masked::<O>(Block::MAX, &words[first..last], steps)
+}
+
+// `copy`, for a range within one word.
+#[inline(always)]
+fn copy_part(
+    words: &mut [Block],
+    start: usize,
+    end: usize,
+    other: &[Block],
+    from: usize,
+    steps: &mut Steps,
+) {
+    if start < end {
+        steps.tick();
+        let at = start / BITS;
+        let mask = mask(start, end);
+        words[at] = words[at] & !mask | word_from(other, from) << (start % BITS) & mask;
+    }
+}
+
+// `copy`, for the words from `first` up to and without `last`.
+#[inline(always)]
+fn copy_whole(
+    words: &mut [Block],
+    first: usize,
+    last: usize,
+    other: &[Block],
+    from: usize,
+    steps: &mut Steps,
+) {
+    join_down::<Second>(&mut words[first..last], other, from, steps);
+}

@@ -1,0 +1,43 @@
+// Made by front/erase from crates/fixedbitset/src/lent/gaps.rt: change that, and not this.
+//! Stretches of clear positions, long enough for a caller.
+
+use crate::proved::fixedbitset::lent::neighbours::{next_one_counted, next_zero_counted};
+use crate::proved::bitlanes::{Block, Steps};
+
+/// The least number at or past `from` with `count` clear positions from there on, or `None` where there is none.
+///
+/// ```text
+/// let mut words = [9, 2, 0, 0];
+/// lent::settle(&mut words, 70, 70);
+/// assert_eq!(lent::first_gap(&words, 70, 3, 0), Some(4));
+/// assert_eq!(lent::first_gap(&words, 70, 5, 62), None);
+/// ```
+#[inline]
+pub fn first_gap(words: &[Block], length: usize, count: usize, from: usize) -> Option<usize> {
+    first_gap_counted(words, length, count, from, &mut Steps::new())
+}
+
+// `first_gap`, with its steps.
+#[inline]
+pub(crate) fn first_gap_counted(
+    words: &[Block],
+    length: usize,
+    count: usize,
+    from: usize,
+    steps: &mut Steps,
+) -> Option<usize> {
+    if count == 0 {
+        return if from <= length { Some(from) } else { None };
+    }
+    let mut start = next_zero_counted(words, length, from, steps)?;
+    loop {
+        if length - start < count {
+            return None;
+        }
+        let end = next_one_counted(words, length, start, steps).unwrap_or(length);
+        if end - start >= count {
+            return Some(start);
+        }
+        start = next_zero_counted(words, length, end, steps)?;
+    }
+}

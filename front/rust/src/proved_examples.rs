@@ -1,0 +1,2307 @@
+// Made by front/erase_examples from the docs of the modules of `proved`: change those, and not this.
+#![allow(clippy::all, unused_imports, unused_mut)]
+
+#[test]
+fn bitjson_fills_10() {
+    use crate::proved::bitlanes::ops::*;
+    use crate::proved::bitlanes::{word, Block, Steps};
+    use crate::proved::bitwords::cursors::*;
+    use crate::proved::bitjson::*;
+    use crate::shim::u64x4;
+    use core::cmp::Ordering;
+    use core::mem::{size_of, size_of_val};
+
+    let mut words = [7, 7];
+    fills::fill_words(&[1, 2], &mut words);
+    assert_eq!(words, [513, 0]);
+}
+
+#[test]
+fn bitjson_fills_26() {
+    use crate::proved::bitlanes::ops::*;
+    use crate::proved::bitlanes::{word, Block, Steps};
+    use crate::proved::bitwords::cursors::*;
+    use crate::proved::bitjson::*;
+    use crate::shim::u64x4;
+    use core::cmp::Ordering;
+    use core::mem::{size_of, size_of_val};
+
+    let mut made = [7; 8];
+    fills::fill_bytes(&[513], &mut made);
+    assert_eq!(made, [1, 2, 0, 0, 0, 0, 0, 0]);
+}
+
+#[test]
+fn bitlanes_changes_16() {
+    use crate::proved::bitlanes::ops::*;
+    use crate::proved::bitlanes::{word, Block, Steps};
+    use crate::proved::bitwords::cursors::*;
+    use crate::proved::bitlanes::*;
+    use crate::shim::u64x4;
+    use core::cmp::Ordering;
+    use core::mem::{size_of, size_of_val};
+
+    let mut words = [1, 2, 4, 8, 16];
+    assert!(changes::apply::<Or>(&mut words, &[2, 2], &mut Steps::new()));
+    assert!(!changes::apply::<Or>(&mut words, &[3, 2], &mut Steps::new()));
+    assert_eq!(words, [3, 2, 4, 8, 16]);
+}
+
+#[test]
+fn bitlanes_changes_44() {
+    use crate::proved::bitlanes::ops::*;
+    use crate::proved::bitlanes::{word, Block, Steps};
+    use crate::proved::bitwords::cursors::*;
+    use crate::proved::bitlanes::*;
+    use crate::shim::u64x4;
+    use core::cmp::Ordering;
+    use core::mem::{size_of, size_of_val};
+
+    let mut words = [1, 2, 4, 8, 16];
+    let mut steps = Steps::new();
+    assert!(changes::apply_joined::<Or, AndNot>(&mut words, &[7, 7], &[4, 5], &mut steps));
+    assert!(!changes::apply_joined::<Or, AndNot>(&mut words, &[3, 6], &[0, 4], &mut steps));
+    assert_eq!(words, [3, 2, 4, 8, 16]);
+}
+
+#[test]
+fn bitlanes_changes_82() {
+    use crate::proved::bitlanes::ops::*;
+    use crate::proved::bitlanes::{word, Block, Steps};
+    use crate::proved::bitwords::cursors::*;
+    use crate::proved::bitlanes::*;
+    use crate::shim::u64x4;
+    use core::cmp::Ordering;
+    use core::mem::{size_of, size_of_val};
+
+    let mut words = [1; 6];
+    assert!(changes::zero(&mut words[1..], &mut Steps::new()));
+    assert!(!changes::zero(&mut words[1..], &mut Steps::new()));
+    assert_eq!(words, [1, 0, 0, 0, 0, 0]);
+}
+
+#[test]
+fn bitlanes_counter_25() {
+    use crate::proved::bitlanes::ops::*;
+    use crate::proved::bitlanes::{word, Block, Steps};
+    use crate::proved::bitwords::cursors::*;
+    use crate::proved::bitlanes::*;
+    use crate::shim::u64x4;
+    use core::cmp::Ordering;
+    use core::mem::{size_of, size_of_val};
+
+    let mut steps = Steps::new();
+    lanes::zero(&mut [1; 9], &mut steps);
+    assert_eq!(size_of::<Steps>(), 0);
+}
+
+#[test]
+fn bitlanes_counter_39() {
+    use crate::proved::bitlanes::ops::*;
+    use crate::proved::bitlanes::{word, Block, Steps};
+    use crate::proved::bitwords::cursors::*;
+    use crate::proved::bitlanes::*;
+    use crate::shim::u64x4;
+    use core::cmp::Ordering;
+    use core::mem::{size_of, size_of_val};
+
+    let mut steps = Steps::new();
+    steps.tick();
+    lanes::zero(&mut [1; 9], &mut steps);
+    assert_eq!(size_of_val(&steps), 0);
+}
+
+#[test]
+fn bitlanes_counter_54() {
+    use crate::proved::bitlanes::ops::*;
+    use crate::proved::bitlanes::{word, Block, Steps};
+    use crate::proved::bitwords::cursors::*;
+    use crate::proved::bitlanes::*;
+    use crate::shim::u64x4;
+    use core::cmp::Ordering;
+    use core::mem::{size_of, size_of_val};
+
+    let mut steps = Steps::new();
+    steps.tick_lanes(9);
+    assert_eq!(size_of_val(&steps), 0);
+}
+
+#[test]
+fn bitlanes_lanes_26() {
+    use crate::proved::bitlanes::ops::*;
+    use crate::proved::bitlanes::{word, Block, Steps};
+    use crate::proved::bitwords::cursors::*;
+    use crate::proved::bitlanes::*;
+    use crate::shim::u64x4;
+    use core::cmp::Ordering;
+    use core::mem::{size_of, size_of_val};
+
+    let mut words = [1, 2, 4, 8, 16];
+    lanes::apply::<Or>(&mut words, &[2, 2], &mut Steps::new());
+    assert_eq!(words, [3, 2, 4, 8, 16]);
+}
+
+#[test]
+fn bitlanes_lanes_51() {
+    use crate::proved::bitlanes::ops::*;
+    use crate::proved::bitlanes::{word, Block, Steps};
+    use crate::proved::bitwords::cursors::*;
+    use crate::proved::bitlanes::*;
+    use crate::shim::u64x4;
+    use core::cmp::Ordering;
+    use core::mem::{size_of, size_of_val};
+
+    let count = lanes::count::<And>(&[7, 1, 1, 1, 255], &[2, 0, 1, 1, 15], &mut Steps::new());
+    assert_eq!(count, 7);
+}
+
+#[test]
+fn bitlanes_lanes_70() {
+    use crate::proved::bitlanes::ops::*;
+    use crate::proved::bitlanes::{word, Block, Steps};
+    use crate::proved::bitwords::cursors::*;
+    use crate::proved::bitlanes::*;
+    use crate::shim::u64x4;
+    use core::cmp::Ordering;
+    use core::mem::{size_of, size_of_val};
+
+    assert!(lanes::none::<And>(&[1, 2], &[2, 1, 255], &mut Steps::new()));
+    assert!(!lanes::none::<And>(&[1, 2], &[2, 3, 255], &mut Steps::new()));
+}
+
+#[test]
+fn bitlanes_lanes_96() {
+    use crate::proved::bitlanes::ops::*;
+    use crate::proved::bitlanes::{word, Block, Steps};
+    use crate::proved::bitwords::cursors::*;
+    use crate::proved::bitlanes::*;
+    use crate::shim::u64x4;
+    use core::cmp::Ordering;
+    use core::mem::{size_of, size_of_val};
+
+    let mut words = [1; 6];
+    lanes::zero(&mut words[1..], &mut Steps::new());
+    assert_eq!(words, [1, 0, 0, 0, 0, 0]);
+}
+
+#[test]
+fn bitlanes_lanes_120() {
+    use crate::proved::bitlanes::ops::*;
+    use crate::proved::bitlanes::{word, Block, Steps};
+    use crate::proved::bitwords::cursors::*;
+    use crate::proved::bitlanes::*;
+    use crate::shim::u64x4;
+    use core::cmp::Ordering;
+    use core::mem::{size_of, size_of_val};
+
+    let count = lanes::count_one(&[7, 0, 1 << 63], &mut Steps::new());
+    assert_eq!(count, 4);
+}
+
+#[test]
+fn bitlanes_lanes_134() {
+    use crate::proved::bitlanes::ops::*;
+    use crate::proved::bitlanes::{word, Block, Steps};
+    use crate::proved::bitwords::cursors::*;
+    use crate::proved::bitlanes::*;
+    use crate::shim::u64x4;
+    use core::cmp::Ordering;
+    use core::mem::{size_of, size_of_val};
+
+    assert!(lanes::none_one(&[0; 9], &mut Steps::new()));
+    assert!(!lanes::none_one(&[0, 0, 0, 0, 1], &mut Steps::new()));
+}
+
+#[test]
+fn bitlanes_lanes_161() {
+    use crate::proved::bitlanes::ops::*;
+    use crate::proved::bitlanes::{word, Block, Steps};
+    use crate::proved::bitwords::cursors::*;
+    use crate::proved::bitlanes::*;
+    use crate::shim::u64x4;
+    use core::cmp::Ordering;
+    use core::mem::{size_of, size_of_val};
+
+    assert!(lanes::none_masked::<And>(4, &[3, 8, 1], &mut Steps::new()));
+    assert!(!lanes::none_masked::<AndNot>(4, &[4, 8], &mut Steps::new()));
+}
+
+#[test]
+fn bitlanes_ops_11() {
+    use crate::proved::bitlanes::ops::*;
+    use crate::proved::bitlanes::{word, Block, Steps};
+    use crate::proved::bitwords::cursors::*;
+    use crate::proved::bitlanes::*;
+    use crate::shim::u64x4;
+    use core::cmp::Ordering;
+    use core::mem::{size_of, size_of_val};
+
+    assert_eq!(<Xor as WordOp>::word(10, 6), 12);
+    let lane = <Xor as WordOp>::lane(u64x4::splat(10), u64x4::splat(6));
+    assert_eq!(lane.to_array(), [12; 4]);
+}
+
+#[test]
+fn bitlanes_ops_32() {
+    use crate::proved::bitlanes::ops::*;
+    use crate::proved::bitlanes::{word, Block, Steps};
+    use crate::proved::bitwords::cursors::*;
+    use crate::proved::bitlanes::*;
+    use crate::shim::u64x4;
+    use core::cmp::Ordering;
+    use core::mem::{size_of, size_of_val};
+
+    assert_eq!(<Or as WordOp>::word(10, 6), 14);
+    assert!(<Or as WordOp>::KEEP && <Or as WordOp>::TAKE);
+}
+
+#[test]
+fn bitlanes_ops_57() {
+    use crate::proved::bitlanes::ops::*;
+    use crate::proved::bitlanes::{word, Block, Steps};
+    use crate::proved::bitwords::cursors::*;
+    use crate::proved::bitlanes::*;
+    use crate::shim::u64x4;
+    use core::cmp::Ordering;
+    use core::mem::{size_of, size_of_val};
+
+    assert_eq!(<And as WordOp>::word(10, 6), 2);
+    assert!(!<And as WordOp>::KEEP && !<And as WordOp>::TAKE);
+}
+
+#[test]
+fn bitlanes_ops_82() {
+    use crate::proved::bitlanes::ops::*;
+    use crate::proved::bitlanes::{word, Block, Steps};
+    use crate::proved::bitwords::cursors::*;
+    use crate::proved::bitlanes::*;
+    use crate::shim::u64x4;
+    use core::cmp::Ordering;
+    use core::mem::{size_of, size_of_val};
+
+    assert_eq!(<AndNot as WordOp>::word(10, 6), 8);
+    assert!(<AndNot as WordOp>::KEEP && !<AndNot as WordOp>::TAKE);
+}
+
+#[test]
+fn bitlanes_ops_107() {
+    use crate::proved::bitlanes::ops::*;
+    use crate::proved::bitlanes::{word, Block, Steps};
+    use crate::proved::bitwords::cursors::*;
+    use crate::proved::bitlanes::*;
+    use crate::shim::u64x4;
+    use core::cmp::Ordering;
+    use core::mem::{size_of, size_of_val};
+
+    assert_eq!(<Xor as WordOp>::word(10, 6), 12);
+    assert!(<Xor as WordOp>::KEEP && <Xor as WordOp>::TAKE);
+}
+
+#[test]
+fn bitlanes_ops_132() {
+    use crate::proved::bitlanes::ops::*;
+    use crate::proved::bitlanes::{word, Block, Steps};
+    use crate::proved::bitwords::cursors::*;
+    use crate::proved::bitlanes::*;
+    use crate::shim::u64x4;
+    use core::cmp::Ordering;
+    use core::mem::{size_of, size_of_val};
+
+    assert_eq!(<Second as WordOp>::word(10, 6), 6);
+    assert!(!<Second as WordOp>::KEEP && <Second as WordOp>::TAKE);
+}
+
+#[test]
+fn bitlanes_search_21() {
+    use crate::proved::bitlanes::ops::*;
+    use crate::proved::bitlanes::{word, Block, Steps};
+    use crate::proved::bitwords::cursors::*;
+    use crate::proved::bitlanes::*;
+    use crate::shim::u64x4;
+    use core::cmp::Ordering;
+    use core::mem::{size_of, size_of_val};
+
+    let mut steps = Steps::new();
+    assert_eq!(search::first_one(&[0, 0, 8, 1, 0], &mut steps), Some(2));
+    assert_eq!(search::first_one(&[0; 9], &mut steps), None);
+}
+
+#[test]
+fn bitlanes_search_36() {
+    use crate::proved::bitlanes::ops::*;
+    use crate::proved::bitlanes::{word, Block, Steps};
+    use crate::proved::bitwords::cursors::*;
+    use crate::proved::bitlanes::*;
+    use crate::shim::u64x4;
+    use core::cmp::Ordering;
+    use core::mem::{size_of, size_of_val};
+
+    let mut steps = Steps::new();
+    assert_eq!(search::last_one(&[0, 0, 8, 1, 0], &mut steps), Some(3));
+    assert_eq!(search::last_one(&[0; 9], &mut steps), None);
+}
+
+#[test]
+fn bitlanes_search_49() {
+    use crate::proved::bitlanes::ops::*;
+    use crate::proved::bitlanes::{word, Block, Steps};
+    use crate::proved::bitwords::cursors::*;
+    use crate::proved::bitlanes::*;
+    use crate::shim::u64x4;
+    use core::cmp::Ordering;
+    use core::mem::{size_of, size_of_val};
+
+    let words = [7, 0, 0, 1];
+    let mut steps = Steps::new();
+    assert_eq!(search::next_one::<And>(Block::MAX, &words, 1, &mut steps), Some(3));
+    assert_eq!(search::next_one::<AndNot>(7, &words, 0, &mut steps), Some(1));
+    assert_eq!(search::next_one::<And>(8, &words, 0, &mut steps), None);
+}
+
+#[test]
+fn bitlanes_search_86() {
+    use crate::proved::bitlanes::ops::*;
+    use crate::proved::bitlanes::{word, Block, Steps};
+    use crate::proved::bitwords::cursors::*;
+    use crate::proved::bitlanes::*;
+    use crate::shim::u64x4;
+    use core::cmp::Ordering;
+    use core::mem::{size_of, size_of_val};
+
+    let words = [1, 0, 0, 7];
+    let mut steps = Steps::new();
+    assert_eq!(search::previous_one::<And>(Block::MAX, &words, 3, &mut steps), Some(0));
+    assert_eq!(search::previous_one::<AndNot>(7, &words, 4, &mut steps), Some(2));
+    assert_eq!(search::previous_one::<And>(8, &words, 4, &mut steps), None);
+}
+
+#[test]
+fn bitlanes_search_123() {
+    use crate::proved::bitlanes::ops::*;
+    use crate::proved::bitlanes::{word, Block, Steps};
+    use crate::proved::bitwords::cursors::*;
+    use crate::proved::bitlanes::*;
+    use crate::shim::u64x4;
+    use core::cmp::Ordering;
+    use core::mem::{size_of, size_of_val};
+
+    let mut steps = Steps::new();
+    assert_eq!(search::first_joined::<AndNot>(&[1, 3, 7], &[1, 2], &mut steps), Some(1));
+    assert_eq!(search::first_joined::<AndNot>(&[1, 3, 7], &[1, 3], &mut steps), None);
+}
+
+#[test]
+fn bitlanes_shifts_18() {
+    use crate::proved::bitlanes::ops::*;
+    use crate::proved::bitlanes::{word, Block, Steps};
+    use crate::proved::bitwords::cursors::*;
+    use crate::proved::bitlanes::*;
+    use crate::shim::u64x4;
+    use core::cmp::Ordering;
+    use core::mem::{size_of, size_of_val};
+
+    let mut words = [1, 0, 4];
+    shifts::join_down::<Or>(&mut words, &[5 << 60, 9, 1 << 63], 62, &mut Steps::new());
+    assert_eq!(words, [37, 0, 6]);
+}
+
+#[test]
+fn bitlanes_shifts_50() {
+    use crate::proved::bitlanes::ops::*;
+    use crate::proved::bitlanes::{word, Block, Steps};
+    use crate::proved::bitwords::cursors::*;
+    use crate::proved::bitlanes::*;
+    use crate::shim::u64x4;
+    use core::cmp::Ordering;
+    use core::mem::{size_of, size_of_val};
+
+    let mut words = [5 << 60, 9, 1 << 63];
+    shifts::down(&mut words, 62, &mut Steps::new());
+    assert_eq!(words, [37, 0, 2]);
+}
+
+#[test]
+fn bitlanes_shifts_80() {
+    use crate::proved::bitlanes::ops::*;
+    use crate::proved::bitlanes::{word, Block, Steps};
+    use crate::proved::bitwords::cursors::*;
+    use crate::proved::bitlanes::*;
+    use crate::shim::u64x4;
+    use core::cmp::Ordering;
+    use core::mem::{size_of, size_of_val};
+
+    let mut words = [37, 0, 2];
+    shifts::up::<Or>(&mut words, 62, &mut Steps::new());
+    assert_eq!(words, [37 | 1 << 62, 9, 2 | 1 << 63]);
+}
+
+#[test]
+fn bitlanes_shifts_114() {
+    use crate::proved::bitlanes::ops::*;
+    use crate::proved::bitlanes::{word, Block, Steps};
+    use crate::proved::bitwords::cursors::*;
+    use crate::proved::bitlanes::*;
+    use crate::shim::u64x4;
+    use core::cmp::Ordering;
+    use core::mem::{size_of, size_of_val};
+
+    assert_eq!(shifts::word_from(&[5 << 60, 9], 62), 37);
+    assert_eq!(shifts::word_from(&[5 << 60, 9], 128), 0);
+}
+
+#[test]
+fn bitlanes_word_12() {
+    use crate::proved::bitlanes::ops::*;
+    use crate::proved::bitlanes::{word, Block, Steps};
+    use crate::proved::bitwords::cursors::*;
+    use crate::proved::bitlanes::*;
+    use crate::shim::u64x4;
+    use core::cmp::Ordering;
+    use core::mem::{size_of, size_of_val};
+
+    assert_eq!(word::lowest_bit(12), 2);
+    assert_eq!(word::lowest_bit(1 << 63), 63);
+}
+
+#[test]
+fn bitlanes_word_23() {
+    use crate::proved::bitlanes::ops::*;
+    use crate::proved::bitlanes::{word, Block, Steps};
+    use crate::proved::bitwords::cursors::*;
+    use crate::proved::bitlanes::*;
+    use crate::shim::u64x4;
+    use core::cmp::Ordering;
+    use core::mem::{size_of, size_of_val};
+
+    assert_eq!(word::highest_bit(12), 3);
+    assert_eq!(word::highest_bit(Block::MAX), 63);
+}
+
+#[test]
+fn bitlanes_word_34() {
+    use crate::proved::bitlanes::ops::*;
+    use crate::proved::bitlanes::{word, Block, Steps};
+    use crate::proved::bitwords::cursors::*;
+    use crate::proved::bitlanes::*;
+    use crate::shim::u64x4;
+    use core::cmp::Ordering;
+    use core::mem::{size_of, size_of_val};
+
+    assert_eq!(word::clear_bit(12, 3), 4);
+    assert_eq!(word::clear_bit(12, 0), 12);
+}
+
+#[test]
+fn bitlanes_word_45() {
+    use crate::proved::bitlanes::ops::*;
+    use crate::proved::bitlanes::{word, Block, Steps};
+    use crate::proved::bitwords::cursors::*;
+    use crate::proved::bitlanes::*;
+    use crate::shim::u64x4;
+    use core::cmp::Ordering;
+    use core::mem::{size_of, size_of_val};
+
+    assert_eq!(word::clear_lowest_bit(12), 8);
+    assert_eq!(word::clear_lowest_bit(8), 0);
+}
+
+#[test]
+fn bitlanes_word_56() {
+    use crate::proved::bitlanes::ops::*;
+    use crate::proved::bitlanes::{word, Block, Steps};
+    use crate::proved::bitwords::cursors::*;
+    use crate::proved::bitlanes::*;
+    use crate::shim::u64x4;
+    use core::cmp::Ordering;
+    use core::mem::{size_of, size_of_val};
+
+    let mut bits = 12;
+    assert_eq!(word::take_lowest_bit(&mut bits), 2);
+    assert_eq!(bits, 8);
+}
+
+#[test]
+fn bitlanes_word_70() {
+    use crate::proved::bitlanes::ops::*;
+    use crate::proved::bitlanes::{word, Block, Steps};
+    use crate::proved::bitwords::cursors::*;
+    use crate::proved::bitlanes::*;
+    use crate::shim::u64x4;
+    use core::cmp::Ordering;
+    use core::mem::{size_of, size_of_val};
+
+    let mut bits = 12;
+    assert_eq!(word::take_highest_bit(&mut bits), 3);
+    assert_eq!(bits, 4);
+}
+
+#[test]
+fn bitlanes_word_84() {
+    use crate::proved::bitlanes::ops::*;
+    use crate::proved::bitlanes::{word, Block, Steps};
+    use crate::proved::bitwords::cursors::*;
+    use crate::proved::bitlanes::*;
+    use crate::shim::u64x4;
+    use core::cmp::Ordering;
+    use core::mem::{size_of, size_of_val};
+
+    assert_eq!(word::ones_below(3), 7);
+    assert_eq!(word::ones_below(64), Block::MAX);
+}
+
+#[test]
+fn bitlanes_word_101() {
+    use crate::proved::bitlanes::ops::*;
+    use crate::proved::bitlanes::{word, Block, Steps};
+    use crate::proved::bitwords::cursors::*;
+    use crate::proved::bitlanes::*;
+    use crate::shim::u64x4;
+    use core::cmp::Ordering;
+    use core::mem::{size_of, size_of_val};
+
+    assert_eq!(word::stretch(2, 5), 28);
+    assert_eq!(word::stretch(0, 64), Block::MAX);
+    assert_eq!(word::stretch(5, 2), 0);
+}
+
+#[test]
+fn bitranks_directory_20() {
+    use crate::proved::bitlanes::ops::*;
+    use crate::proved::bitlanes::{word, Block, Steps};
+    use crate::proved::bitwords::cursors::*;
+    use crate::proved::bitranks::*;
+    use crate::shim::u64x4;
+    use core::cmp::Ordering;
+    use core::mem::{size_of, size_of_val};
+
+    assert_eq!(directory::entries(0), 0);
+    assert_eq!(directory::entries(8), 1);
+    assert_eq!(directory::entries(9), 2);
+}
+
+#[test]
+fn bitranks_directory_35() {
+    use crate::proved::bitlanes::ops::*;
+    use crate::proved::bitlanes::{word, Block, Steps};
+    use crate::proved::bitwords::cursors::*;
+    use crate::proved::bitranks::*;
+    use crate::shim::u64x4;
+    use core::cmp::Ordering;
+    use core::mem::{size_of, size_of_val};
+
+    let mut counts = [0; 2];
+    directory::fill(&[3, 0, 0, 0, 0, 0, 0, 1, 1], &mut counts, &mut Steps::new());
+    assert_eq!(counts, [0, 3]);
+}
+
+#[test]
+fn bitranks_directory_56() {
+    use crate::proved::bitlanes::ops::*;
+    use crate::proved::bitlanes::{word, Block, Steps};
+    use crate::proved::bitwords::cursors::*;
+    use crate::proved::bitranks::*;
+    use crate::shim::u64x4;
+    use core::cmp::Ordering;
+    use core::mem::{size_of, size_of_val};
+
+    let (words, mut counts) = ([9, 2], [0]);
+    directory::fill(&words, &mut counts, &mut Steps::new());
+    assert_eq!(directory::rank(&words, &counts, 3, &mut Steps::new()), 1);
+    assert_eq!(directory::rank(&words, &counts, 1000, &mut Steps::new()), 3);
+}
+
+#[test]
+fn bitranks_directory_87() {
+    use crate::proved::bitlanes::ops::*;
+    use crate::proved::bitlanes::{word, Block, Steps};
+    use crate::proved::bitwords::cursors::*;
+    use crate::proved::bitranks::*;
+    use crate::shim::u64x4;
+    use core::cmp::Ordering;
+    use core::mem::{size_of, size_of_val};
+
+    let (words, mut counts) = ([9, 2], [0]);
+    directory::fill(&words, &mut counts, &mut Steps::new());
+    assert_eq!(directory::select(&words, &counts, 2, &mut Steps::new()), Some(65));
+    assert_eq!(directory::select(&words, &counts, 3, &mut Steps::new()), None);
+}
+
+#[test]
+fn bitrows_lent_15() {
+    use crate::proved::bitlanes::ops::*;
+    use crate::proved::bitlanes::{word, Block, Steps};
+    use crate::proved::bitwords::cursors::*;
+    use crate::proved::bitrows::*;
+    use crate::shim::u64x4;
+    use core::cmp::Ordering;
+    use core::mem::{size_of, size_of_val};
+
+    assert_eq!(lent::width(0), 0);
+    assert_eq!(lent::width(257), 8);
+}
+
+#[test]
+fn bitrows_lent_27() {
+    use crate::proved::bitlanes::ops::*;
+    use crate::proved::bitlanes::{word, Block, Steps};
+    use crate::proved::bitwords::cursors::*;
+    use crate::proved::bitrows::*;
+    use crate::shim::u64x4;
+    use core::cmp::Ordering;
+    use core::mem::{size_of, size_of_val};
+
+    let mut words = [7; 8];
+    lent::clear(&mut words, 2, 70);
+    assert_eq!(words, [0; 8]);
+}
+
+#[test]
+fn bitrows_lent_54() {
+    use crate::proved::bitlanes::ops::*;
+    use crate::proved::bitlanes::{word, Block, Steps};
+    use crate::proved::bitwords::cursors::*;
+    use crate::proved::bitrows::*;
+    use crate::shim::u64x4;
+    use core::cmp::Ordering;
+    use core::mem::{size_of, size_of_val};
+
+    let mut words = [7; 8];
+    lent::clear(&mut words, 2, 70);
+    lent::set(&mut words, 2, 70, 1, 64, true);
+    assert!(lent::get(&words, 2, 70, 1, 64));
+    assert!(!lent::get(&words, 2, 70, 0, 64));
+}
+
+#[test]
+fn bitrows_lent_69() {
+    use crate::proved::bitlanes::ops::*;
+    use crate::proved::bitlanes::{word, Block, Steps};
+    use crate::proved::bitwords::cursors::*;
+    use crate::proved::bitrows::*;
+    use crate::shim::u64x4;
+    use core::cmp::Ordering;
+    use core::mem::{size_of, size_of_val};
+
+    let mut words = [7; 8];
+    lent::clear(&mut words, 2, 70);
+    lent::set(&mut words, 2, 70, 1, 64, true);
+    assert_eq!(words, [0, 0, 0, 0, 0, 1, 0, 0]);
+}
+
+#[test]
+fn bitrows_lent_93() {
+    use crate::proved::bitlanes::ops::*;
+    use crate::proved::bitlanes::{word, Block, Steps};
+    use crate::proved::bitwords::cursors::*;
+    use crate::proved::bitrows::*;
+    use crate::shim::u64x4;
+    use core::cmp::Ordering;
+    use core::mem::{size_of, size_of_val};
+
+    let mut words = [7; 8];
+    lent::clear(&mut words, 2, 70);
+    lent::set(&mut words, 2, 70, 0, 64, true);
+    assert!(lent::union_rows(&mut words, 2, 70, 0, 1));
+    assert_eq!(words, [0, 1, 0, 0, 0, 1, 0, 0]);
+}
+
+#[test]
+fn bitrows_lent_119() {
+    use crate::proved::bitlanes::ops::*;
+    use crate::proved::bitlanes::{word, Block, Steps};
+    use crate::proved::bitwords::cursors::*;
+    use crate::proved::bitrows::*;
+    use crate::shim::u64x4;
+    use core::cmp::Ordering;
+    use core::mem::{size_of, size_of_val};
+
+    let mut words = [7; 12];
+    lent::clear(&mut words, 3, 3);
+    lent::set(&mut words, 3, 3, 0, 1, true);
+    lent::set(&mut words, 3, 3, 1, 2, true);
+    lent::close(&mut words, 3, 3, &mut Steps::new());
+    assert_eq!(words, [6, 0, 0, 0, 4, 0, 0, 0, 0, 0, 0, 0]);
+}
+
+#[test]
+fn bitwalks_runs_54() {
+    use crate::proved::bitlanes::ops::*;
+    use crate::proved::bitlanes::{word, Block, Steps};
+    use crate::proved::bitwords::cursors::*;
+    use crate::proved::bitwalks::*;
+    use crate::shim::u64x4;
+    use core::cmp::Ordering;
+    use core::mem::{size_of, size_of_val};
+
+    let words = [12, 1];
+    assert!(Runs::below(&words, true, 128).eq([(2, 4), (64, 65)]));
+    assert!(Runs::below(&words, false, 70).eq([(0, 2), (4, 64), (65, 70)]));
+}
+
+#[test]
+fn bitwalks_runs_75() {
+    use crate::proved::bitlanes::ops::*;
+    use crate::proved::bitlanes::{word, Block, Steps};
+    use crate::proved::bitwords::cursors::*;
+    use crate::proved::bitwalks::*;
+    use crate::shim::u64x4;
+    use core::cmp::Ordering;
+    use core::mem::{size_of, size_of_val};
+
+    let walk = Runs::below(&[12, 1], true, 128);
+    let held = walk.into_held();
+    assert_eq!(held.low, 0);
+    assert_eq!(held.high, 128);
+}
+
+#[test]
+fn bitwalks_runs_94() {
+    use crate::proved::bitlanes::ops::*;
+    use crate::proved::bitlanes::{word, Block, Steps};
+    use crate::proved::bitwords::cursors::*;
+    use crate::proved::bitwalks::*;
+    use crate::shim::u64x4;
+    use core::cmp::Ordering;
+    use core::mem::{size_of, size_of_val};
+
+    let held = Runs::below(&[12, 1], true, 128).into_held();
+    assert!(Runs::of_held(held).eq([(2, 4), (64, 65)]));
+}
+
+#[test]
+fn bitwords_cursors_16() {
+    use crate::proved::bitlanes::ops::*;
+    use crate::proved::bitlanes::{word, Block, Steps};
+    use crate::proved::bitwords::cursors::*;
+    use crate::proved::bitwords::*;
+    use crate::shim::u64x4;
+    use core::cmp::Ordering;
+    use core::mem::{size_of, size_of_val};
+
+    let mut middle = Plain { words: &[3, 5, 7] };
+    assert_eq!(Middle::take_first(&mut middle), Some(3));
+    assert_eq!(Middle::take_last(&mut middle), Some(7));
+    assert_eq!(Middle::left(&middle), 1);
+}
+
+#[test]
+fn bitwords_cursors_35() {
+    use crate::proved::bitlanes::ops::*;
+    use crate::proved::bitlanes::{word, Block, Steps};
+    use crate::proved::bitwords::cursors::*;
+    use crate::proved::bitwords::*;
+    use crate::shim::u64x4;
+    use core::cmp::Ordering;
+    use core::mem::{size_of, size_of_val};
+
+    let mut cursor = Cursor::over(Plain { words: &[8, 0, 1] });
+    assert_eq!(cursor.next_back(), Some(128));
+    assert!(cursor.eq([3]));
+}
+
+#[test]
+fn bitwords_cursors_68() {
+    use crate::proved::bitlanes::ops::*;
+    use crate::proved::bitlanes::{word, Block, Steps};
+    use crate::proved::bitwords::cursors::*;
+    use crate::proved::bitwords::*;
+    use crate::shim::u64x4;
+    use core::cmp::Ordering;
+    use core::mem::{size_of, size_of_val};
+
+    let words = [Block::MAX - 8];
+    let plain = Plain { words: &words };
+    let cursor = Cursor::over(Inverted { plain });
+    assert!(cursor.eq([3]));
+}
+
+#[test]
+fn bitwords_cursors_101() {
+    use crate::proved::bitlanes::ops::*;
+    use crate::proved::bitlanes::{word, Block, Steps};
+    use crate::proved::bitwords::cursors::*;
+    use crate::proved::bitwords::*;
+    use crate::shim::u64x4;
+    use core::cmp::Ordering;
+    use core::mem::{size_of, size_of_val};
+
+    let beside = Beside::<AndNot>::of(&[11, 1], &[8]);
+    assert!(Cursor::over(beside).eq([0, 1, 64]));
+}
+
+#[test]
+fn bitwords_cursors_115() {
+    use crate::proved::bitlanes::ops::*;
+    use crate::proved::bitlanes::{word, Block, Steps};
+    use crate::proved::bitwords::cursors::*;
+    use crate::proved::bitwords::*;
+    use crate::shim::u64x4;
+    use core::cmp::Ordering;
+    use core::mem::{size_of, size_of_val};
+
+    let beside = Beside::<And>::of(&[11, 1], &[8]);
+    assert!(Cursor::over(beside).eq([3]));
+}
+
+#[test]
+fn bitwords_cursors_228() {
+    use crate::proved::bitlanes::ops::*;
+    use crate::proved::bitlanes::{word, Block, Steps};
+    use crate::proved::bitwords::cursors::*;
+    use crate::proved::bitwords::*;
+    use crate::shim::u64x4;
+    use core::cmp::Ordering;
+    use core::mem::{size_of, size_of_val};
+
+    let cursor = Cursor::over(Plain { words: &[9, 0, 1] });
+    assert!(cursor.eq([0, 3, 128]));
+}
+
+#[test]
+fn bitwords_cursors_242() {
+    use crate::proved::bitlanes::ops::*;
+    use crate::proved::bitlanes::{word, Block, Steps};
+    use crate::proved::bitwords::cursors::*;
+    use crate::proved::bitwords::*;
+    use crate::shim::u64x4;
+    use core::cmp::Ordering;
+    use core::mem::{size_of, size_of_val};
+
+    let cursor = Cursor::within(Plain { words: &[9, 255] }, 640, 1, 66);
+    assert!(cursor.eq([643, 704, 705]));
+}
+
+#[test]
+fn bitwords_cursors_258() {
+    use crate::proved::bitlanes::ops::*;
+    use crate::proved::bitlanes::{word, Block, Steps};
+    use crate::proved::bitwords::cursors::*;
+    use crate::proved::bitwords::*;
+    use crate::shim::u64x4;
+    use core::cmp::Ordering;
+    use core::mem::{size_of, size_of_val};
+
+    let mut cursor = Cursor::over(Plain { words: &[9, 0, 1] });
+    assert_eq!(cursor.next(), Some(0));
+    assert_eq!(cursor.into_held().front, 8);
+}
+
+#[test]
+fn bitwords_cursors_285() {
+    use crate::proved::bitlanes::ops::*;
+    use crate::proved::bitlanes::{word, Block, Steps};
+    use crate::proved::bitwords::cursors::*;
+    use crate::proved::bitwords::*;
+    use crate::shim::u64x4;
+    use core::cmp::Ordering;
+    use core::mem::{size_of, size_of_val};
+
+    let cursor = Cursor::over(Plain { words: &[9, 0, 1] });
+    let held = cursor.into_held();
+    assert!(Cursor::of_held(held).eq([0, 3, 128]));
+}
+
+#[test]
+fn bitwords_cursors_393() {
+    use crate::proved::bitlanes::ops::*;
+    use crate::proved::bitlanes::{word, Block, Steps};
+    use crate::proved::bitwords::cursors::*;
+    use crate::proved::bitwords::*;
+    use crate::shim::u64x4;
+    use core::cmp::Ordering;
+    use core::mem::{size_of, size_of_val};
+
+    let cursor = cursors::ones_within(&[9, 0, 7], 3, 130);
+    assert!(cursor.eq([3, 128, 129]));
+}
+
+#[test]
+fn bitwords_cursors_408() {
+    use crate::proved::bitlanes::ops::*;
+    use crate::proved::bitlanes::{word, Block, Steps};
+    use crate::proved::bitwords::cursors::*;
+    use crate::proved::bitwords::*;
+    use crate::shim::u64x4;
+    use core::cmp::Ordering;
+    use core::mem::{size_of, size_of_val};
+
+    let cursor = cursors::zeroes_within(&[Block::MAX, 5], 60, 68);
+    assert!(cursor.eq([65, 67]));
+}
+
+#[test]
+fn bitwords_joins_17() {
+    use crate::proved::bitlanes::ops::*;
+    use crate::proved::bitlanes::{word, Block, Steps};
+    use crate::proved::bitwords::cursors::*;
+    use crate::proved::bitwords::*;
+    use crate::shim::u64x4;
+    use core::cmp::Ordering;
+    use core::mem::{size_of, size_of_val};
+
+    let mut words = [11, 3, 1];
+    joins::join::<And>(&mut words, &[9, 6], &mut Steps::new());
+    assert_eq!(words, [9, 2, 0]);
+}
+
+#[test]
+fn bitwords_joins_36() {
+    use crate::proved::bitlanes::ops::*;
+    use crate::proved::bitlanes::{word, Block, Steps};
+    use crate::proved::bitwords::cursors::*;
+    use crate::proved::bitwords::*;
+    use crate::shim::u64x4;
+    use core::cmp::Ordering;
+    use core::mem::{size_of, size_of_val};
+
+    let mut words = [11, 3, 1];
+    assert!(joins::join_with_change::<And>(&mut words, &[9, 6], &mut Steps::new()));
+    assert_eq!(words, [9, 2, 0]);
+}
+
+#[test]
+fn bitwords_joins_57() {
+    use crate::proved::bitlanes::ops::*;
+    use crate::proved::bitlanes::{word, Block, Steps};
+    use crate::proved::bitwords::cursors::*;
+    use crate::proved::bitwords::*;
+    use crate::shim::u64x4;
+    use core::cmp::Ordering;
+    use core::mem::{size_of, size_of_val};
+
+    let mut to = [7; 3];
+    joins::join_to::<Xor>(&mut to, &[11, 3, 1], &[9, 6], &mut Steps::new());
+    assert_eq!(to, [2, 5, 1]);
+}
+
+#[test]
+fn bitwords_joins_81() {
+    use crate::proved::bitlanes::ops::*;
+    use crate::proved::bitlanes::{word, Block, Steps};
+    use crate::proved::bitwords::cursors::*;
+    use crate::proved::bitwords::*;
+    use crate::shim::u64x4;
+    use core::cmp::Ordering;
+    use core::mem::{size_of, size_of_val};
+
+    let mut words = [1, 0, 8];
+    let mut steps = Steps::new();
+    assert!(joins::union_with_difference(&mut words, &[7, 3], &[5], &mut steps));
+    assert!(!joins::union_with_difference(&mut words, &[7, 3], &[4, 0, 9], &mut steps));
+    assert_eq!(words, [3, 3, 8]);
+}
+
+#[test]
+fn bitwords_joins_106() {
+    use crate::proved::bitlanes::ops::*;
+    use crate::proved::bitlanes::{word, Block, Steps};
+    use crate::proved::bitwords::cursors::*;
+    use crate::proved::bitwords::*;
+    use crate::shim::u64x4;
+    use core::cmp::Ordering;
+    use core::mem::{size_of, size_of_val};
+
+    let count = joins::count::<Xor>(&[11, 3], &[9], &mut Steps::new());
+    assert_eq!(count, 3);
+}
+
+#[test]
+fn bitwords_joins_120() {
+    use crate::proved::bitlanes::ops::*;
+    use crate::proved::bitlanes::{word, Block, Steps};
+    use crate::proved::bitwords::cursors::*;
+    use crate::proved::bitwords::*;
+    use crate::shim::u64x4;
+    use core::cmp::Ordering;
+    use core::mem::{size_of, size_of_val};
+
+    assert!(joins::none::<AndNot>(&[2], &[3, 1], &mut Steps::new()));
+    assert!(!joins::none::<AndNot>(&[3, 1], &[3], &mut Steps::new()));
+}
+
+#[test]
+fn bitwords_joins_135() {
+    use crate::proved::bitlanes::ops::*;
+    use crate::proved::bitlanes::{word, Block, Steps};
+    use crate::proved::bitwords::cursors::*;
+    use crate::proved::bitwords::*;
+    use crate::shim::u64x4;
+    use core::cmp::Ordering;
+    use core::mem::{size_of, size_of_val};
+
+    assert_eq!(joins::first_of_difference(&[7, 6], &[7, 2, 1], &mut Steps::new()), Some(66));
+    assert_eq!(joins::first_of_difference(&[7, 6], &[7], &mut Steps::new()), Some(65));
+    assert_eq!(joins::first_of_difference(&[7], &[7, 2, 1], &mut Steps::new()), None);
+}
+
+#[test]
+fn bitwords_positions_11() {
+    use crate::proved::bitlanes::ops::*;
+    use crate::proved::bitlanes::{word, Block, Steps};
+    use crate::proved::bitwords::cursors::*;
+    use crate::proved::bitwords::*;
+    use crate::shim::u64x4;
+    use core::cmp::Ordering;
+    use core::mem::{size_of, size_of_val};
+
+    assert!(positions::contains(&[8, 1], 64));
+    assert!(!positions::contains(&[8, 1], 65));
+    assert!(!positions::contains(&[8, 1], 128));
+}
+
+#[test]
+fn bitwords_positions_29() {
+    use crate::proved::bitlanes::ops::*;
+    use crate::proved::bitlanes::{word, Block, Steps};
+    use crate::proved::bitwords::cursors::*;
+    use crate::proved::bitwords::*;
+    use crate::shim::u64x4;
+    use core::cmp::Ordering;
+    use core::mem::{size_of, size_of_val};
+
+    let mut steps = Steps::new();
+    assert_eq!(positions::first(&[0, 12], &mut steps), Some(66));
+    assert_eq!(positions::first(&[0; 5], &mut steps), None);
+}
+
+#[test]
+fn bitwords_positions_45() {
+    use crate::proved::bitlanes::ops::*;
+    use crate::proved::bitlanes::{word, Block, Steps};
+    use crate::proved::bitwords::cursors::*;
+    use crate::proved::bitwords::*;
+    use crate::shim::u64x4;
+    use core::cmp::Ordering;
+    use core::mem::{size_of, size_of_val};
+
+    let mut steps = Steps::new();
+    assert_eq!(positions::last(&[12, 12, 0], &mut steps), Some(67));
+    assert_eq!(positions::last(&[0; 5], &mut steps), None);
+}
+
+#[test]
+fn bitwords_positions_62() {
+    use crate::proved::bitlanes::ops::*;
+    use crate::proved::bitlanes::{word, Block, Steps};
+    use crate::proved::bitwords::cursors::*;
+    use crate::proved::bitwords::*;
+    use crate::shim::u64x4;
+    use core::cmp::Ordering;
+    use core::mem::{size_of, size_of_val};
+
+    let mut steps = Steps::new();
+    assert_eq!(positions::next::<And>(&[9, 0, 2], 1, 192, &mut steps), Some(3));
+    assert_eq!(positions::next::<And>(&[9, 0, 2], 4, 192, &mut steps), Some(129));
+    assert_eq!(positions::next::<AndNot>(&[Block::MAX, 1], 7, 66, &mut steps), Some(65));
+    assert_eq!(positions::next::<And>(&[9, 0, 2], 4, 129, &mut steps), None);
+}
+
+#[test]
+fn bitwords_positions_84() {
+    use crate::proved::bitlanes::ops::*;
+    use crate::proved::bitlanes::{word, Block, Steps};
+    use crate::proved::bitwords::cursors::*;
+    use crate::proved::bitwords::*;
+    use crate::shim::u64x4;
+    use core::cmp::Ordering;
+    use core::mem::{size_of, size_of_val};
+
+    let mut steps = Steps::new();
+    assert_eq!(positions::previous::<And>(&[9, 0, 2], 192, &mut steps), Some(129));
+    assert_eq!(positions::previous::<And>(&[9, 0, 2], 129, &mut steps), Some(3));
+    assert_eq!(positions::previous::<AndNot>(&[5, Block::MAX], 128, &mut steps), Some(63));
+    assert_eq!(positions::previous::<And>(&[9, 0, 2], 0, &mut steps), None);
+}
+
+#[test]
+fn bitwords_positions_109() {
+    use crate::proved::bitlanes::ops::*;
+    use crate::proved::bitlanes::{word, Block, Steps};
+    use crate::proved::bitwords::cursors::*;
+    use crate::proved::bitwords::*;
+    use crate::shim::u64x4;
+    use core::cmp::Ordering;
+    use core::mem::{size_of, size_of_val};
+
+    assert!(positions::none_from(&[9, 2, 0], 66));
+    assert!(!positions::none_from(&[9, 2, 0], 65));
+    assert!(positions::none_from(&[Block::MAX], 64));
+}
+
+#[test]
+fn bitwords_positions_121() {
+    use crate::proved::bitlanes::ops::*;
+    use crate::proved::bitlanes::{word, Block, Steps};
+    use crate::proved::bitwords::cursors::*;
+    use crate::proved::bitwords::*;
+    use crate::shim::u64x4;
+    use core::cmp::Ordering;
+    use core::mem::{size_of, size_of_val};
+
+    let mut words = [Block::MAX; 3];
+    positions::clear_from(&mut words, 67);
+    assert_eq!(words, [Block::MAX, 7, 0]);
+}
+
+#[test]
+fn bitwords_ranges_17() {
+    use crate::proved::bitlanes::ops::*;
+    use crate::proved::bitlanes::{word, Block, Steps};
+    use crate::proved::bitwords::cursors::*;
+    use crate::proved::bitwords::*;
+    use crate::shim::u64x4;
+    use core::cmp::Ordering;
+    use core::mem::{size_of, size_of_val};
+
+    let mut words = [0, 3];
+    ranges::change::<Xor>(&mut words, 63, 66, &mut Steps::new());
+    assert_eq!(words, [1 << 63, 0]);
+}
+
+#[test]
+fn bitwords_ranges_35() {
+    use crate::proved::bitlanes::ops::*;
+    use crate::proved::bitlanes::{word, Block, Steps};
+    use crate::proved::bitwords::cursors::*;
+    use crate::proved::bitwords::*;
+    use crate::shim::u64x4;
+    use core::cmp::Ordering;
+    use core::mem::{size_of, size_of_val};
+
+    let count = ranges::count::<And>(&[Block::MAX, 9], 62, 128, &mut Steps::new());
+    assert_eq!(count, 4);
+}
+
+#[test]
+fn bitwords_ranges_54() {
+    use crate::proved::bitlanes::ops::*;
+    use crate::proved::bitlanes::{word, Block, Steps};
+    use crate::proved::bitwords::cursors::*;
+    use crate::proved::bitwords::*;
+    use crate::shim::u64x4;
+    use core::cmp::Ordering;
+    use core::mem::{size_of, size_of_val};
+
+    assert!(ranges::none::<And>(&[0, 8], 0, 67, &mut Steps::new()));
+    assert!(!ranges::none::<And>(&[0, 8], 0, 68, &mut Steps::new()));
+}
+
+#[test]
+fn bitwords_ranges_71() {
+    use crate::proved::bitlanes::ops::*;
+    use crate::proved::bitlanes::{word, Block, Steps};
+    use crate::proved::bitwords::cursors::*;
+    use crate::proved::bitwords::*;
+    use crate::shim::u64x4;
+    use core::cmp::Ordering;
+    use core::mem::{size_of, size_of_val};
+
+    let mut words = [9, 9];
+    ranges::copy(&mut words, 1, 67, &[5 << 60, 9], 62, &mut Steps::new());
+    assert_eq!(words, [75, 8]);
+}
+
+#[test]
+fn bitwords_shifts_15() {
+    use crate::proved::bitlanes::ops::*;
+    use crate::proved::bitlanes::{word, Block, Steps};
+    use crate::proved::bitwords::cursors::*;
+    use crate::proved::bitwords::*;
+    use crate::shim::u64x4;
+    use core::cmp::Ordering;
+    use core::mem::{size_of, size_of_val};
+
+    let mut words = [1, 0];
+    shifts::join_down::<Or>(&mut words, &[0, 12, 0], 65, &mut Steps::new());
+    assert_eq!(words, [7, 0]);
+}
+
+#[test]
+fn bitwords_shifts_34() {
+    use crate::proved::bitlanes::ops::*;
+    use crate::proved::bitlanes::{word, Block, Steps};
+    use crate::proved::bitwords::cursors::*;
+    use crate::proved::bitwords::*;
+    use crate::shim::u64x4;
+    use core::cmp::Ordering;
+    use core::mem::{size_of, size_of_val};
+
+    let mut words = [1, 0, 0];
+    shifts::join_up::<Or>(&mut words, &[1 << 63 | 1, 1], 65, &mut Steps::new());
+    assert_eq!(words, [1, 2, 3]);
+}
+
+#[test]
+fn bitwords_shifts_60() {
+    use crate::proved::bitlanes::ops::*;
+    use crate::proved::bitlanes::{word, Block, Steps};
+    use crate::proved::bitwords::cursors::*;
+    use crate::proved::bitwords::*;
+    use crate::shim::u64x4;
+    use core::cmp::Ordering;
+    use core::mem::{size_of, size_of_val};
+
+    let mut words = [7, 1];
+    shifts::down(&mut words, 2, &mut Steps::new());
+    assert_eq!(words, [1 | 1 << 62, 0]);
+}
+
+#[test]
+fn bitwords_shifts_77() {
+    use crate::proved::bitlanes::ops::*;
+    use crate::proved::bitlanes::{word, Block, Steps};
+    use crate::proved::bitwords::cursors::*;
+    use crate::proved::bitwords::*;
+    use crate::shim::u64x4;
+    use core::cmp::Ordering;
+    use core::mem::{size_of, size_of_val};
+
+    let mut words = [7, 1];
+    shifts::up::<Second>(&mut words, 62, &mut Steps::new());
+    assert_eq!(words, [3 << 62, 1 | 1 << 62]);
+}
+
+#[test]
+fn fixedbitset_lent_bytes_15() {
+    use crate::proved::bitlanes::ops::*;
+    use crate::proved::bitlanes::{word, Block, Steps};
+    use crate::proved::bitwords::cursors::*;
+    use crate::proved::fixedbitset::*;
+    use crate::shim::u64x4;
+    use core::cmp::Ordering;
+    use core::mem::{size_of, size_of_val};
+
+    let mut words = [7; 4];
+    lent::from_bytes(&mut words, 10, &[76, 255]);
+    assert_eq!(words, [844, 0, 0, 0]);
+}
+
+#[test]
+fn fixedbitset_lent_bytes_28() {
+    use crate::proved::bitlanes::ops::*;
+    use crate::proved::bitlanes::{word, Block, Steps};
+    use crate::proved::bitwords::cursors::*;
+    use crate::proved::fixedbitset::*;
+    use crate::shim::u64x4;
+    use core::cmp::Ordering;
+    use core::mem::{size_of, size_of_val};
+
+    let (mut words, mut data) = ([516, 0, 0, 0], [7; 8]);
+    lent::settle(&mut words, 10, 10);
+    lent::to_bytes(&words, 10, &mut data);
+    assert_eq!(data, [4, 2, 0, 0, 0, 0, 0, 0]);
+}
+
+#[test]
+fn fixedbitset_lent_changes_10() {
+    use crate::proved::bitlanes::ops::*;
+    use crate::proved::bitlanes::{word, Block, Steps};
+    use crate::proved::bitwords::cursors::*;
+    use crate::proved::fixedbitset::*;
+    use crate::shim::u64x4;
+    use core::cmp::Ordering;
+    use core::mem::{size_of, size_of_val};
+
+    let (mut words, mut other) = ([9, 0, 0, 0], [3, 0, 0, 0]);
+    lent::settle(&mut words, 70, 70);
+    lent::settle(&mut other, 9, 9);
+    assert!(lent::union_with_change(&mut words, 70, &other, 9));
+    assert!(!lent::union_with_change(&mut words, 70, &other, 9));
+}
+
+#[test]
+fn fixedbitset_lent_changes_29() {
+    use crate::proved::bitlanes::ops::*;
+    use crate::proved::bitlanes::{word, Block, Steps};
+    use crate::proved::bitwords::cursors::*;
+    use crate::proved::fixedbitset::*;
+    use crate::shim::u64x4;
+    use core::cmp::Ordering;
+    use core::mem::{size_of, size_of_val};
+
+    let (mut words, mut other) = ([9, 1, 0, 0], [3, 0, 0, 0]);
+    lent::settle(&mut words, 70, 70);
+    lent::settle(&mut other, 9, 9);
+    assert!(lent::intersect_with_change(&mut words, 70, &other, 9));
+    assert!(!lent::intersect_with_change(&mut words, 70, &other, 9));
+}
+
+#[test]
+fn fixedbitset_lent_changes_48() {
+    use crate::proved::bitlanes::ops::*;
+    use crate::proved::bitlanes::{word, Block, Steps};
+    use crate::proved::bitwords::cursors::*;
+    use crate::proved::fixedbitset::*;
+    use crate::shim::u64x4;
+    use core::cmp::Ordering;
+    use core::mem::{size_of, size_of_val};
+
+    let (mut words, mut other) = ([9, 1, 0, 0], [3, 0, 0, 0]);
+    lent::settle(&mut words, 70, 70);
+    lent::settle(&mut other, 9, 9);
+    assert!(lent::difference_with_change(&mut words, 70, &other, 9));
+    assert!(!lent::difference_with_change(&mut words, 70, &other, 9));
+}
+
+#[test]
+fn fixedbitset_lent_changes_68() {
+    use crate::proved::bitlanes::ops::*;
+    use crate::proved::bitlanes::{word, Block, Steps};
+    use crate::proved::bitwords::cursors::*;
+    use crate::proved::fixedbitset::*;
+    use crate::shim::u64x4;
+    use core::cmp::Ordering;
+    use core::mem::{size_of, size_of_val};
+
+    let (mut words, mut gens, mut kills) = ([1, 0, 0, 0], [7, 0, 0, 0], [4, 1, 0, 0]);
+    lent::settle(&mut words, 9, 9);
+    lent::settle(&mut gens, 9, 9);
+    lent::settle(&mut kills, 70, 70);
+    assert!(lent::union_with_difference(&mut words, 9, &gens, 9, &kills, 70));
+    assert!(!lent::union_with_difference(&mut words, 9, &gens, 9, &kills, 70));
+}
+
+#[test]
+fn fixedbitset_lent_copies_12() {
+    use crate::proved::bitlanes::ops::*;
+    use crate::proved::bitlanes::{word, Block, Steps};
+    use crate::proved::bitwords::cursors::*;
+    use crate::proved::fixedbitset::*;
+    use crate::shim::u64x4;
+    use core::cmp::Ordering;
+    use core::mem::{size_of, size_of_val};
+
+    let (mut to, mut words) = ([7; 4], [9, 34, 0, 0]);
+    lent::settle(&mut words, 70, 70);
+    lent::copy(&mut to, 66, &words, 70);
+    assert_eq!(to, [9, 2, 0, 0]);
+}
+
+#[test]
+fn fixedbitset_lent_copies_28() {
+    use crate::proved::bitlanes::ops::*;
+    use crate::proved::bitlanes::{word, Block, Steps};
+    use crate::proved::bitwords::cursors::*;
+    use crate::proved::fixedbitset::*;
+    use crate::shim::u64x4;
+    use core::cmp::Ordering;
+    use core::mem::{size_of, size_of_val};
+
+    let (mut to, mut words, mut other) = ([7; 4], [9, 1, 0, 0], [3, 0, 0, 0]);
+    lent::settle(&mut words, 70, 70);
+    lent::settle(&mut other, 9, 9);
+    lent::union_of(&mut to, &words, 70, &other, 9);
+    assert_eq!(to, [11, 1, 0, 0]);
+}
+
+#[test]
+fn fixedbitset_lent_copies_54() {
+    use crate::proved::bitlanes::ops::*;
+    use crate::proved::bitlanes::{word, Block, Steps};
+    use crate::proved::bitwords::cursors::*;
+    use crate::proved::fixedbitset::*;
+    use crate::shim::u64x4;
+    use core::cmp::Ordering;
+    use core::mem::{size_of, size_of_val};
+
+    let (mut to, mut words, mut other) = ([7; 4], [9, 1, 0, 0], [3, 0, 0, 0]);
+    lent::settle(&mut words, 70, 70);
+    lent::settle(&mut other, 9, 9);
+    lent::symmetric_difference_of(&mut to, &words, 70, &other, 9);
+    assert_eq!(to, [10, 1, 0, 0]);
+}
+
+#[test]
+fn fixedbitset_lent_copies_80() {
+    use crate::proved::bitlanes::ops::*;
+    use crate::proved::bitlanes::{word, Block, Steps};
+    use crate::proved::bitwords::cursors::*;
+    use crate::proved::fixedbitset::*;
+    use crate::shim::u64x4;
+    use core::cmp::Ordering;
+    use core::mem::{size_of, size_of_val};
+
+    let (mut to, mut words, mut other) = ([7; 4], [9, 1, 0, 0], [3, 0, 0, 0]);
+    lent::settle(&mut words, 70, 70);
+    lent::settle(&mut other, 9, 9);
+    lent::intersection_of(&mut to, &words, 70, &other, 9);
+    assert_eq!(to, [1, 0, 0, 0]);
+}
+
+#[test]
+fn fixedbitset_lent_copies_106() {
+    use crate::proved::bitlanes::ops::*;
+    use crate::proved::bitlanes::{word, Block, Steps};
+    use crate::proved::bitwords::cursors::*;
+    use crate::proved::fixedbitset::*;
+    use crate::shim::u64x4;
+    use core::cmp::Ordering;
+    use core::mem::{size_of, size_of_val};
+
+    let (mut to, mut words, mut other) = ([7; 4], [9, 1, 0, 0], [3, 0, 0, 0]);
+    lent::settle(&mut words, 70, 70);
+    lent::settle(&mut other, 9, 9);
+    lent::difference_of(&mut to, &words, 70, &other, 9);
+    assert_eq!(to, [8, 1, 0, 0]);
+}
+
+#[test]
+fn fixedbitset_lent_gaps_9() {
+    use crate::proved::bitlanes::ops::*;
+    use crate::proved::bitlanes::{word, Block, Steps};
+    use crate::proved::bitwords::cursors::*;
+    use crate::proved::fixedbitset::*;
+    use crate::shim::u64x4;
+    use core::cmp::Ordering;
+    use core::mem::{size_of, size_of_val};
+
+    let mut words = [9, 2, 0, 0];
+    lent::settle(&mut words, 70, 70);
+    assert_eq!(lent::first_gap(&words, 70, 3, 0), Some(4));
+    assert_eq!(lent::first_gap(&words, 70, 5, 62), None);
+}
+
+#[test]
+fn fixedbitset_lent_neighbours_12() {
+    use crate::proved::bitlanes::ops::*;
+    use crate::proved::bitlanes::{word, Block, Steps};
+    use crate::proved::bitwords::cursors::*;
+    use crate::proved::fixedbitset::*;
+    use crate::shim::u64x4;
+    use core::cmp::Ordering;
+    use core::mem::{size_of, size_of_val};
+
+    let mut words = [9, 2, 0, 0];
+    lent::settle(&mut words, 70, 70);
+    assert_eq!(lent::next_one(&words, 70, 3), Some(3));
+    assert_eq!(lent::next_one(&words, 70, 4), Some(65));
+    assert_eq!(lent::next_one(&words, 70, 66), None);
+}
+
+#[test]
+fn fixedbitset_lent_neighbours_26() {
+    use crate::proved::bitlanes::ops::*;
+    use crate::proved::bitlanes::{word, Block, Steps};
+    use crate::proved::bitwords::cursors::*;
+    use crate::proved::fixedbitset::*;
+    use crate::shim::u64x4;
+    use core::cmp::Ordering;
+    use core::mem::{size_of, size_of_val};
+
+    let mut words = [9, 63, 0, 0];
+    lent::settle(&mut words, 70, 70);
+    assert_eq!(lent::next_zero(&words, 70, 0), Some(1));
+    assert_eq!(lent::next_zero(&words, 70, 64), None);
+}
+
+#[test]
+fn fixedbitset_lent_neighbours_39() {
+    use crate::proved::bitlanes::ops::*;
+    use crate::proved::bitlanes::{word, Block, Steps};
+    use crate::proved::bitwords::cursors::*;
+    use crate::proved::fixedbitset::*;
+    use crate::shim::u64x4;
+    use core::cmp::Ordering;
+    use core::mem::{size_of, size_of_val};
+
+    let mut words = [9, 2, 0, 0];
+    lent::settle(&mut words, 70, 70);
+    assert_eq!(lent::previous_one(&words, 70, 65), Some(3));
+    assert_eq!(lent::previous_one(&words, 70, 500), Some(65));
+    assert_eq!(lent::previous_one(&words, 70, 0), None);
+}
+
+#[test]
+fn fixedbitset_lent_neighbours_53() {
+    use crate::proved::bitlanes::ops::*;
+    use crate::proved::bitlanes::{word, Block, Steps};
+    use crate::proved::bitwords::cursors::*;
+    use crate::proved::fixedbitset::*;
+    use crate::shim::u64x4;
+    use core::cmp::Ordering;
+    use core::mem::{size_of, size_of_val};
+
+    let mut words = [9, 63, 0, 0];
+    lent::settle(&mut words, 70, 70);
+    assert_eq!(lent::previous_zero(&words, 70, 70), Some(63));
+    assert_eq!(lent::previous_zero(&words, 70, 1), None);
+}
+
+#[test]
+fn fixedbitset_lent_ranges_9() {
+    use crate::proved::bitlanes::ops::*;
+    use crate::proved::bitlanes::{word, Block, Steps};
+    use crate::proved::bitwords::cursors::*;
+    use crate::proved::fixedbitset::*;
+    use crate::shim::u64x4;
+    use core::cmp::Ordering;
+    use core::mem::{size_of, size_of_val};
+
+    let mut words = [9, 0, 0, 0];
+    lent::settle(&mut words, 70, 70);
+    assert!(lent::range_is_valid(&words, 70, 60, 70));
+    assert!(!lent::range_is_valid(&words, 70, 60, 71));
+}
+
+#[test]
+fn fixedbitset_lent_ranges_22() {
+    use crate::proved::bitlanes::ops::*;
+    use crate::proved::bitlanes::{word, Block, Steps};
+    use crate::proved::bitwords::cursors::*;
+    use crate::proved::fixedbitset::*;
+    use crate::shim::u64x4;
+    use core::cmp::Ordering;
+    use core::mem::{size_of, size_of_val};
+
+    let mut words = [9, 0, 0, 0];
+    lent::settle(&mut words, 70, 70);
+    lent::insert_range(&mut words, 70, 62, 66);
+    assert_eq!(words, [9 | 3 << 62, 3, 0, 0]);
+}
+
+#[test]
+fn fixedbitset_lent_ranges_35() {
+    use crate::proved::bitlanes::ops::*;
+    use crate::proved::bitlanes::{word, Block, Steps};
+    use crate::proved::bitwords::cursors::*;
+    use crate::proved::fixedbitset::*;
+    use crate::shim::u64x4;
+    use core::cmp::Ordering;
+    use core::mem::{size_of, size_of_val};
+
+    let mut words = [9, 1, 0, 0];
+    lent::settle(&mut words, 70, 70);
+    lent::remove_range(&mut words, 70, 1, 70);
+    assert_eq!(words, [1, 0, 0, 0]);
+}
+
+#[test]
+fn fixedbitset_lent_ranges_48() {
+    use crate::proved::bitlanes::ops::*;
+    use crate::proved::bitlanes::{word, Block, Steps};
+    use crate::proved::bitwords::cursors::*;
+    use crate::proved::fixedbitset::*;
+    use crate::shim::u64x4;
+    use core::cmp::Ordering;
+    use core::mem::{size_of, size_of_val};
+
+    let mut words = [9, 0, 0, 0];
+    lent::settle(&mut words, 70, 70);
+    lent::toggle_range(&mut words, 70, 0, 3);
+    assert_eq!(words, [14, 0, 0, 0]);
+}
+
+#[test]
+fn fixedbitset_lent_ranges_61() {
+    use crate::proved::bitlanes::ops::*;
+    use crate::proved::bitlanes::{word, Block, Steps};
+    use crate::proved::bitwords::cursors::*;
+    use crate::proved::fixedbitset::*;
+    use crate::shim::u64x4;
+    use core::cmp::Ordering;
+    use core::mem::{size_of, size_of_val};
+
+    let mut words = [9, 3, 0, 0];
+    lent::settle(&mut words, 70, 70);
+    assert_eq!(lent::count_ones(&words, 70, 1, 65), 2);
+}
+
+#[test]
+fn fixedbitset_lent_ranges_73() {
+    use crate::proved::bitlanes::ops::*;
+    use crate::proved::bitlanes::{word, Block, Steps};
+    use crate::proved::bitwords::cursors::*;
+    use crate::proved::fixedbitset::*;
+    use crate::shim::u64x4;
+    use core::cmp::Ordering;
+    use core::mem::{size_of, size_of_val};
+
+    let mut words = [9, 3, 0, 0];
+    lent::settle(&mut words, 70, 70);
+    assert_eq!(lent::count_zeroes(&words, 70, 1, 65), 62);
+}
+
+#[test]
+fn fixedbitset_lent_ranges_85() {
+    use crate::proved::bitlanes::ops::*;
+    use crate::proved::bitlanes::{word, Block, Steps};
+    use crate::proved::bitwords::cursors::*;
+    use crate::proved::fixedbitset::*;
+    use crate::shim::u64x4;
+    use core::cmp::Ordering;
+    use core::mem::{size_of, size_of_val};
+
+    let mut words = [9, 3, 0, 0];
+    lent::settle(&mut words, 70, 70);
+    assert!(lent::contains_all_in_range(&words, 70, 64, 66));
+}
+
+#[test]
+fn fixedbitset_lent_ranges_97() {
+    use crate::proved::bitlanes::ops::*;
+    use crate::proved::bitlanes::{word, Block, Steps};
+    use crate::proved::bitwords::cursors::*;
+    use crate::proved::fixedbitset::*;
+    use crate::shim::u64x4;
+    use core::cmp::Ordering;
+    use core::mem::{size_of, size_of_val};
+
+    let mut words = [9, 3, 0, 0];
+    lent::settle(&mut words, 70, 70);
+    assert!(!lent::contains_any_in_range(&words, 70, 4, 64));
+}
+
+#[test]
+fn fixedbitset_lent_shifts_10() {
+    use crate::proved::bitlanes::ops::*;
+    use crate::proved::bitlanes::{word, Block, Steps};
+    use crate::proved::bitwords::cursors::*;
+    use crate::proved::fixedbitset::*;
+    use crate::shim::u64x4;
+    use core::cmp::Ordering;
+    use core::mem::{size_of, size_of_val};
+
+    let mut words = [9, 0, 0, 0];
+    lent::settle(&mut words, 70, 70);
+    lent::shift_up(&mut words, 70, 64);
+    assert_eq!(words, [0, 9, 0, 0]);
+    lent::shift_up(&mut words, 70, 3);
+    assert_eq!(words, [0, 8, 0, 0]);
+}
+
+#[test]
+fn fixedbitset_lent_shifts_33() {
+    use crate::proved::bitlanes::ops::*;
+    use crate::proved::bitlanes::{word, Block, Steps};
+    use crate::proved::bitwords::cursors::*;
+    use crate::proved::fixedbitset::*;
+    use crate::shim::u64x4;
+    use core::cmp::Ordering;
+    use core::mem::{size_of, size_of_val};
+
+    let mut words = [9, 8, 0, 0];
+    lent::settle(&mut words, 70, 70);
+    lent::shift_down(&mut words, 70, 3);
+    assert_eq!(words, [1, 1, 0, 0]);
+}
+
+#[test]
+fn fixedbitset_lent_shifts_52() {
+    use crate::proved::bitlanes::ops::*;
+    use crate::proved::bitlanes::{word, Block, Steps};
+    use crate::proved::bitwords::cursors::*;
+    use crate::proved::fixedbitset::*;
+    use crate::shim::u64x4;
+    use core::cmp::Ordering;
+    use core::mem::{size_of, size_of_val};
+
+    let (mut words, mut other) = ([9, 0, 0, 0], [7, 0, 0, 0]);
+    lent::settle(&mut words, 70, 70);
+    lent::settle(&mut other, 9, 9);
+    lent::union_with_shifted(&mut words, 70, &other, 9, 68);
+    assert_eq!(words, [9, 48, 0, 0]);
+}
+
+#[test]
+fn fixedbitset_lent_shifts_88() {
+    use crate::proved::bitlanes::ops::*;
+    use crate::proved::bitlanes::{word, Block, Steps};
+    use crate::proved::bitwords::cursors::*;
+    use crate::proved::fixedbitset::*;
+    use crate::shim::u64x4;
+    use core::cmp::Ordering;
+    use core::mem::{size_of, size_of_val};
+
+    let mut words = [1, 0, 0, 0];
+    lent::settle(&mut words, 70, 70);
+    lent::union_with_own_shift(&mut words, 70, 3);
+    lent::union_with_own_shift(&mut words, 70, 65);
+    assert_eq!(words, [9, 18, 0, 0]);
+}
+
+#[test]
+fn fixedbitset_lent_shifts_117() {
+    use crate::proved::bitlanes::ops::*;
+    use crate::proved::bitlanes::{word, Block, Steps};
+    use crate::proved::bitwords::cursors::*;
+    use crate::proved::fixedbitset::*;
+    use crate::shim::u64x4;
+    use core::cmp::Ordering;
+    use core::mem::{size_of, size_of_val};
+
+    let (mut words, mut to) = ([9, 8, 0, 0], [0; 4]);
+    lent::settle(&mut words, 70, 70);
+    lent::slice(&mut to, &words, 70, 3, 68);
+    assert_eq!(to, [1, 1, 0, 0]);
+}
+
+#[test]
+fn fixedbitset_lent_shifts_147() {
+    use crate::proved::bitlanes::ops::*;
+    use crate::proved::bitlanes::{word, Block, Steps};
+    use crate::proved::bitwords::cursors::*;
+    use crate::proved::fixedbitset::*;
+    use crate::shim::u64x4;
+    use core::cmp::Ordering;
+    use core::mem::{size_of, size_of_val};
+
+    let (mut words, mut other) = ([5, 34, 0, 0], [2 | 1 << 63, 2, 0, 0]);
+    lent::settle(&mut words, 70, 70);
+    lent::settle(&mut other, 66, 66);
+    lent::copy_range(&mut words, 70, &other, 66, 62, 66, 1);
+    assert_eq!(words, [21, 34, 0, 0]);
+}
+
+#[test]
+fn fixedbitset_lent_walks_12() {
+    use crate::proved::bitlanes::ops::*;
+    use crate::proved::bitlanes::{word, Block, Steps};
+    use crate::proved::bitwords::cursors::*;
+    use crate::proved::fixedbitset::*;
+    use crate::shim::u64x4;
+    use core::cmp::Ordering;
+    use core::mem::{size_of, size_of_val};
+
+    let mut words = [9, 2, 0, 0];
+    lent::settle(&mut words, 70, 70);
+    assert!(lent::ones(&words, 70).eq([0, 3, 65]));
+}
+
+#[test]
+fn fixedbitset_lent_walks_26() {
+    use crate::proved::bitlanes::ops::*;
+    use crate::proved::bitlanes::{word, Block, Steps};
+    use crate::proved::bitwords::cursors::*;
+    use crate::proved::fixedbitset::*;
+    use crate::shim::u64x4;
+    use core::cmp::Ordering;
+    use core::mem::{size_of, size_of_val};
+
+    let (mut words, mut other) = ([9, 2, 0, 0], [1, 2, 0, 0]);
+    lent::settle(&mut words, 70, 70);
+    lent::settle(&mut other, 66, 66);
+    assert!(lent::ones_beside(&words, 70, &other, 66).eq([0, 3, 65]));
+}
+
+#[test]
+fn fixedbitset_lent_walks_44() {
+    use crate::proved::bitlanes::ops::*;
+    use crate::proved::bitlanes::{word, Block, Steps};
+    use crate::proved::bitwords::cursors::*;
+    use crate::proved::fixedbitset::*;
+    use crate::shim::u64x4;
+    use core::cmp::Ordering;
+    use core::mem::{size_of, size_of_val};
+
+    let (mut words, mut other) = ([9, 2, 0, 0], [1, 2, 0, 0]);
+    lent::settle(&mut words, 70, 70);
+    lent::settle(&mut other, 66, 66);
+    assert!(lent::intersection(&words, 70, &other, 66).eq([0, 65]));
+}
+
+#[test]
+fn fixedbitset_lent_walks_64() {
+    use crate::proved::bitlanes::ops::*;
+    use crate::proved::bitlanes::{word, Block, Steps};
+    use crate::proved::bitwords::cursors::*;
+    use crate::proved::fixedbitset::*;
+    use crate::shim::u64x4;
+    use core::cmp::Ordering;
+    use core::mem::{size_of, size_of_val};
+
+    let (mut words, mut other) = ([9, 2, 0, 0], [1, 2, 0, 0]);
+    lent::settle(&mut words, 70, 70);
+    lent::settle(&mut other, 66, 66);
+    assert!(lent::difference(&words, 70, &other, 66).eq([3]));
+}
+
+#[test]
+fn fixedbitset_lent_walks_82() {
+    use crate::proved::bitlanes::ops::*;
+    use crate::proved::bitlanes::{word, Block, Steps};
+    use crate::proved::bitwords::cursors::*;
+    use crate::proved::fixedbitset::*;
+    use crate::shim::u64x4;
+    use core::cmp::Ordering;
+    use core::mem::{size_of, size_of_val};
+
+    let mut words = [Block::MAX - 8, 60, 0, 0];
+    lent::settle(&mut words, 70, 70);
+    assert!(lent::zeroes(&words, 70).eq([3, 64, 65]));
+}
+
+#[test]
+fn fixedbitset_lent_walks_94() {
+    use crate::proved::bitlanes::ops::*;
+    use crate::proved::bitlanes::{word, Block, Steps};
+    use crate::proved::bitwords::cursors::*;
+    use crate::proved::fixedbitset::*;
+    use crate::shim::u64x4;
+    use core::cmp::Ordering;
+    use core::mem::{size_of, size_of_val};
+
+    let mut words = [Block::MAX, 1, 0, 0];
+    lent::settle(&mut words, 70, 70);
+    assert!(lent::runs(&words, 70).eq([(0, 65)]));
+}
+
+#[test]
+fn fixedbitset_lent_walks_106() {
+    use crate::proved::bitlanes::ops::*;
+    use crate::proved::bitlanes::{word, Block, Steps};
+    use crate::proved::bitwords::cursors::*;
+    use crate::proved::fixedbitset::*;
+    use crate::shim::u64x4;
+    use core::cmp::Ordering;
+    use core::mem::{size_of, size_of_val};
+
+    let mut words = [Block::MAX, 1, 0, 0];
+    lent::settle(&mut words, 70, 70);
+    assert!(lent::zero_runs(&words, 70).eq([(65, 70)]));
+}
+
+#[test]
+fn fixedbitset_lent_walks_118() {
+    use crate::proved::bitlanes::ops::*;
+    use crate::proved::bitlanes::{word, Block, Steps};
+    use crate::proved::bitwords::cursors::*;
+    use crate::proved::fixedbitset::*;
+    use crate::shim::u64x4;
+    use core::cmp::Ordering;
+    use core::mem::{size_of, size_of_val};
+
+    let mut words = [9, 2, 0, 0];
+    lent::settle(&mut words, 70, 70);
+    assert!(lent::ones_in(&words, 70, 1, 66).eq([3, 65]));
+}
+
+#[test]
+fn fixedbitset_lent_walks_130() {
+    use crate::proved::bitlanes::ops::*;
+    use crate::proved::bitlanes::{word, Block, Steps};
+    use crate::proved::bitwords::cursors::*;
+    use crate::proved::fixedbitset::*;
+    use crate::shim::u64x4;
+    use core::cmp::Ordering;
+    use core::mem::{size_of, size_of_val};
+
+    let mut words = [Block::MAX - 8, 60, 0, 0];
+    lent::settle(&mut words, 70, 70);
+    assert!(lent::zeroes_in(&words, 70, 4, 65).eq([64]));
+}
+
+#[test]
+fn fixedbitset_lent_whole_14() {
+    use crate::proved::bitlanes::ops::*;
+    use crate::proved::bitlanes::{word, Block, Steps};
+    use crate::proved::bitwords::cursors::*;
+    use crate::proved::fixedbitset::*;
+    use crate::shim::u64x4;
+    use core::cmp::Ordering;
+    use core::mem::{size_of, size_of_val};
+
+    let (mut words, mut other) = ([9, 0, 0, 0], [3, 0, 0, 0]);
+    lent::settle(&mut words, 70, 70);
+    lent::settle(&mut other, 9, 9);
+    lent::union_with(&mut words, 70, &other, 9);
+    assert_eq!(words, [11, 0, 0, 0]);
+}
+
+#[test]
+fn fixedbitset_lent_whole_28() {
+    use crate::proved::bitlanes::ops::*;
+    use crate::proved::bitlanes::{word, Block, Steps};
+    use crate::proved::bitwords::cursors::*;
+    use crate::proved::fixedbitset::*;
+    use crate::shim::u64x4;
+    use core::cmp::Ordering;
+    use core::mem::{size_of, size_of_val};
+
+    let (mut words, mut other) = ([9, 0, 0, 0], [3, 0, 0, 0]);
+    lent::settle(&mut words, 70, 70);
+    lent::settle(&mut other, 9, 9);
+    lent::symmetric_difference_with(&mut words, 70, &other, 9);
+    assert_eq!(words, [10, 0, 0, 0]);
+}
+
+#[test]
+fn fixedbitset_lent_whole_47() {
+    use crate::proved::bitlanes::ops::*;
+    use crate::proved::bitlanes::{word, Block, Steps};
+    use crate::proved::bitwords::cursors::*;
+    use crate::proved::fixedbitset::*;
+    use crate::shim::u64x4;
+    use core::cmp::Ordering;
+    use core::mem::{size_of, size_of_val};
+
+    let (mut words, mut other) = ([9, 1, 0, 0], [3, 0, 0, 0]);
+    lent::settle(&mut words, 70, 70);
+    lent::settle(&mut other, 9, 9);
+    lent::intersect_with(&mut words, 70, &other, 9);
+    assert_eq!(words, [1, 0, 0, 0]);
+}
+
+#[test]
+fn fixedbitset_lent_whole_61() {
+    use crate::proved::bitlanes::ops::*;
+    use crate::proved::bitlanes::{word, Block, Steps};
+    use crate::proved::bitwords::cursors::*;
+    use crate::proved::fixedbitset::*;
+    use crate::shim::u64x4;
+    use core::cmp::Ordering;
+    use core::mem::{size_of, size_of_val};
+
+    let (mut words, mut other) = ([9, 1, 0, 0], [3, 0, 0, 0]);
+    lent::settle(&mut words, 70, 70);
+    lent::settle(&mut other, 9, 9);
+    lent::difference_with(&mut words, 70, &other, 9);
+    assert_eq!(words, [8, 1, 0, 0]);
+}
+
+#[test]
+fn fixedbitset_lent_whole_75() {
+    use crate::proved::bitlanes::ops::*;
+    use crate::proved::bitlanes::{word, Block, Steps};
+    use crate::proved::bitwords::cursors::*;
+    use crate::proved::fixedbitset::*;
+    use crate::shim::u64x4;
+    use core::cmp::Ordering;
+    use core::mem::{size_of, size_of_val};
+
+    let (mut words, mut other) = ([9, 1, 0, 0], [3, 0, 0, 0]);
+    lent::settle(&mut words, 70, 70);
+    lent::settle(&mut other, 9, 9);
+    assert_eq!(lent::union_count(&words, 70, &other, 9), 4);
+}
+
+#[test]
+fn fixedbitset_lent_whole_88() {
+    use crate::proved::bitlanes::ops::*;
+    use crate::proved::bitlanes::{word, Block, Steps};
+    use crate::proved::bitwords::cursors::*;
+    use crate::proved::fixedbitset::*;
+    use crate::shim::u64x4;
+    use core::cmp::Ordering;
+    use core::mem::{size_of, size_of_val};
+
+    let (mut words, mut other) = ([9, 1, 0, 0], [3, 0, 0, 0]);
+    lent::settle(&mut words, 70, 70);
+    lent::settle(&mut other, 9, 9);
+    assert_eq!(lent::intersection_count(&words, 70, &other, 9), 1);
+}
+
+#[test]
+fn fixedbitset_lent_whole_106() {
+    use crate::proved::bitlanes::ops::*;
+    use crate::proved::bitlanes::{word, Block, Steps};
+    use crate::proved::bitwords::cursors::*;
+    use crate::proved::fixedbitset::*;
+    use crate::shim::u64x4;
+    use core::cmp::Ordering;
+    use core::mem::{size_of, size_of_val};
+
+    let (mut words, mut other) = ([9, 1, 0, 0], [3, 0, 0, 0]);
+    lent::settle(&mut words, 70, 70);
+    lent::settle(&mut other, 9, 9);
+    assert_eq!(lent::difference_count(&words, 70, &other, 9), 2);
+}
+
+#[test]
+fn fixedbitset_lent_whole_124() {
+    use crate::proved::bitlanes::ops::*;
+    use crate::proved::bitlanes::{word, Block, Steps};
+    use crate::proved::bitwords::cursors::*;
+    use crate::proved::fixedbitset::*;
+    use crate::shim::u64x4;
+    use core::cmp::Ordering;
+    use core::mem::{size_of, size_of_val};
+
+    let (mut words, mut other) = ([9, 1, 0, 0], [3, 0, 0, 0]);
+    lent::settle(&mut words, 70, 70);
+    lent::settle(&mut other, 9, 9);
+    assert_eq!(lent::symmetric_difference_count(&words, 70, &other, 9), 3);
+}
+
+#[test]
+fn fixedbitset_lent_whole_142() {
+    use crate::proved::bitlanes::ops::*;
+    use crate::proved::bitlanes::{word, Block, Steps};
+    use crate::proved::bitwords::cursors::*;
+    use crate::proved::fixedbitset::*;
+    use crate::shim::u64x4;
+    use core::cmp::Ordering;
+    use core::mem::{size_of, size_of_val};
+
+    let (mut words, mut other) = ([9, 1, 0, 0], [6, 0, 0, 0]);
+    lent::settle(&mut words, 70, 70);
+    lent::settle(&mut other, 9, 9);
+    assert!(lent::is_disjoint(&words, 70, &other, 9));
+}
+
+#[test]
+fn fixedbitset_lent_whole_155() {
+    use crate::proved::bitlanes::ops::*;
+    use crate::proved::bitlanes::{word, Block, Steps};
+    use crate::proved::bitwords::cursors::*;
+    use crate::proved::fixedbitset::*;
+    use crate::shim::u64x4;
+    use core::cmp::Ordering;
+    use core::mem::{size_of, size_of_val};
+
+    let (mut words, mut other) = ([9, 0, 0, 0], [11, 0, 0, 0]);
+    lent::settle(&mut words, 70, 70);
+    lent::settle(&mut other, 9, 9);
+    assert!(lent::is_subset(&words, 70, &other, 9));
+}
+
+#[test]
+fn fixedbitset_lent_whole_168() {
+    use crate::proved::bitlanes::ops::*;
+    use crate::proved::bitlanes::{word, Block, Steps};
+    use crate::proved::bitwords::cursors::*;
+    use crate::proved::fixedbitset::*;
+    use crate::shim::u64x4;
+    use core::cmp::Ordering;
+    use core::mem::{size_of, size_of_val};
+
+    let (mut words, mut other) = ([9, 0, 0, 0], [11, 1, 0, 0]);
+    lent::settle(&mut words, 9, 9);
+    lent::settle(&mut other, 70, 70);
+    assert_eq!(lent::first_lacking(&words, 9, &other, 70), Some(1));
+    assert_eq!(lent::first_lacking(&other, 70, &words, 9), None);
+}
+
+#[test]
+fn fixedbitset_lent_whole_187() {
+    use crate::proved::bitlanes::ops::*;
+    use crate::proved::bitlanes::{word, Block, Steps};
+    use crate::proved::bitwords::cursors::*;
+    use crate::proved::fixedbitset::*;
+    use crate::shim::u64x4;
+    use core::cmp::Ordering;
+    use core::mem::{size_of, size_of_val};
+
+    let (mut words, mut other) = ([9, 0, 0, 0], [9, 0, 0, 0]);
+    lent::settle(&mut words, 70, 70);
+    lent::settle(&mut other, 9, 9);
+    assert!(!lent::is_equal(&words, 70, &other, 9));
+}
+
+#[test]
+fn fixedbitset_lent_whole_200() {
+    use crate::proved::bitlanes::ops::*;
+    use crate::proved::bitlanes::{word, Block, Steps};
+    use crate::proved::bitwords::cursors::*;
+    use crate::proved::fixedbitset::*;
+    use crate::shim::u64x4;
+    use core::cmp::Ordering;
+    use core::mem::{size_of, size_of_val};
+
+    let (mut words, mut other) = ([9, 0, 0, 0], [11, 0, 0, 0]);
+    lent::settle(&mut words, 70, 70);
+    lent::settle(&mut other, 9, 9);
+    assert_eq!(lent::compare(&words, 70, &other, 9), Ordering::Greater);
+}
+
+#[test]
+fn fixedbitset_lent_52() {
+    use crate::proved::bitlanes::ops::*;
+    use crate::proved::bitlanes::{word, Block, Steps};
+    use crate::proved::bitwords::cursors::*;
+    use crate::proved::fixedbitset::*;
+    use crate::shim::u64x4;
+    use core::cmp::Ordering;
+    use core::mem::{size_of, size_of_val};
+
+    let mut words = [8, Block::MAX, 1, 0];
+    lent::settle(&mut words, 70, 66);
+    assert_eq!(words, [8, 3, 0, 0]);
+}
+
+#[test]
+fn fixedbitset_lent_67() {
+    use crate::proved::bitlanes::ops::*;
+    use crate::proved::bitlanes::{word, Block, Steps};
+    use crate::proved::bitwords::cursors::*;
+    use crate::proved::fixedbitset::*;
+    use crate::shim::u64x4;
+    use core::cmp::Ordering;
+    use core::mem::{size_of, size_of_val};
+
+    assert!(lent::is_clean(&[8, 63, 0, 0], 70));
+    assert!(!lent::is_clean(&[8, 64, 0, 0], 70));
+    assert!(!lent::is_clean(&[8, 63], 70));
+}
+
+#[test]
+fn fixedbitset_lent_79() {
+    use crate::proved::bitlanes::ops::*;
+    use crate::proved::bitlanes::{word, Block, Steps};
+    use crate::proved::bitwords::cursors::*;
+    use crate::proved::fixedbitset::*;
+    use crate::shim::u64x4;
+    use core::cmp::Ordering;
+    use core::mem::{size_of, size_of_val};
+
+    let mut words = [8, 1, 0, 0];
+    lent::settle(&mut words, 70, 70);
+    assert!(lent::contains(&words, 70, 64));
+    assert!(!lent::contains(&words, 70, 500));
+}
+
+#[test]
+fn fixedbitset_lent_92() {
+    use crate::proved::bitlanes::ops::*;
+    use crate::proved::bitlanes::{word, Block, Steps};
+    use crate::proved::bitwords::cursors::*;
+    use crate::proved::fixedbitset::*;
+    use crate::shim::u64x4;
+    use core::cmp::Ordering;
+    use core::mem::{size_of, size_of_val};
+
+    let mut words = [8, 0, 0, 0];
+    lent::settle(&mut words, 70, 70);
+    lent::insert(&mut words, 70, 64);
+    assert_eq!(words, [8, 1, 0, 0]);
+}
+
+#[test]
+fn fixedbitset_lent_105() {
+    use crate::proved::bitlanes::ops::*;
+    use crate::proved::bitlanes::{word, Block, Steps};
+    use crate::proved::bitwords::cursors::*;
+    use crate::proved::fixedbitset::*;
+    use crate::shim::u64x4;
+    use core::cmp::Ordering;
+    use core::mem::{size_of, size_of_val};
+
+    let mut words = [9, 1, 0, 0];
+    lent::settle(&mut words, 70, 70);
+    lent::remove(&mut words, 70, 64);
+    assert_eq!(words, [9, 0, 0, 0]);
+}
+
+#[test]
+fn fixedbitset_lent_118() {
+    use crate::proved::bitlanes::ops::*;
+    use crate::proved::bitlanes::{word, Block, Steps};
+    use crate::proved::bitwords::cursors::*;
+    use crate::proved::fixedbitset::*;
+    use crate::shim::u64x4;
+    use core::cmp::Ordering;
+    use core::mem::{size_of, size_of_val};
+
+    let mut words = [9, 0, 0, 0];
+    lent::settle(&mut words, 70, 70);
+    lent::toggle(&mut words, 70, 0);
+    assert_eq!(words, [8, 0, 0, 0]);
+}
+
+#[test]
+fn fixedbitset_lent_131() {
+    use crate::proved::bitlanes::ops::*;
+    use crate::proved::bitlanes::{word, Block, Steps};
+    use crate::proved::bitwords::cursors::*;
+    use crate::proved::fixedbitset::*;
+    use crate::shim::u64x4;
+    use core::cmp::Ordering;
+    use core::mem::{size_of, size_of_val};
+
+    let mut words = [8, 0, 0, 0];
+    lent::settle(&mut words, 70, 70);
+    assert!(!lent::put(&mut words, 70, 0));
+    assert_eq!(words, [9, 0, 0, 0]);
+}
+
+#[test]
+fn fixedbitset_lent_146() {
+    use crate::proved::bitlanes::ops::*;
+    use crate::proved::bitlanes::{word, Block, Steps};
+    use crate::proved::bitwords::cursors::*;
+    use crate::proved::fixedbitset::*;
+    use crate::shim::u64x4;
+    use core::cmp::Ordering;
+    use core::mem::{size_of, size_of_val};
+
+    let mut words = [9, 0, 0, 0];
+    lent::settle(&mut words, 70, 70);
+    lent::set(&mut words, 70, 0, false);
+    assert_eq!(words, [8, 0, 0, 0]);
+}
+
+#[test]
+fn fixedbitset_lent_163() {
+    use crate::proved::bitlanes::ops::*;
+    use crate::proved::bitlanes::{word, Block, Steps};
+    use crate::proved::bitwords::cursors::*;
+    use crate::proved::fixedbitset::*;
+    use crate::shim::u64x4;
+    use core::cmp::Ordering;
+    use core::mem::{size_of, size_of_val};
+
+    let mut words = [9, 0, 0, 0];
+    lent::settle(&mut words, 70, 70);
+    lent::set_block(&mut words, 70, 1, Block::MAX);
+    assert_eq!(words, [9, 63, 0, 0]);
+}
+
+#[test]
+fn fixedbitset_lent_177() {
+    use crate::proved::bitlanes::ops::*;
+    use crate::proved::bitlanes::{word, Block, Steps};
+    use crate::proved::bitwords::cursors::*;
+    use crate::proved::fixedbitset::*;
+    use crate::shim::u64x4;
+    use core::cmp::Ordering;
+    use core::mem::{size_of, size_of_val};
+
+    let mut words = [9, 1, 0, 0];
+    lent::settle(&mut words, 70, 70);
+    lent::clear(&mut words, 70);
+    assert_eq!(words, [0, 0, 0, 0]);
+}
+
+#[test]
+fn fixedbitset_lent_190() {
+    use crate::proved::bitlanes::ops::*;
+    use crate::proved::bitlanes::{word, Block, Steps};
+    use crate::proved::bitwords::cursors::*;
+    use crate::proved::fixedbitset::*;
+    use crate::shim::u64x4;
+    use core::cmp::Ordering;
+    use core::mem::{size_of, size_of_val};
+
+    let mut words = [0, 64, 0, 0];
+    lent::settle(&mut words, 70, 70);
+    assert!(lent::is_clear(&words, 70));
+}
+
+#[test]
+fn fixedbitset_lent_202() {
+    use crate::proved::bitlanes::ops::*;
+    use crate::proved::bitlanes::{word, Block, Steps};
+    use crate::proved::bitwords::cursors::*;
+    use crate::proved::fixedbitset::*;
+    use crate::shim::u64x4;
+    use core::cmp::Ordering;
+    use core::mem::{size_of, size_of_val};
+
+    let mut words = [0, 6, 0, 0];
+    lent::settle(&mut words, 70, 70);
+    assert_eq!(lent::minimum(&words, 70), Some(65));
+}
+
+#[test]
+fn fixedbitset_lent_214() {
+    use crate::proved::bitlanes::ops::*;
+    use crate::proved::bitlanes::{word, Block, Steps};
+    use crate::proved::bitwords::cursors::*;
+    use crate::proved::fixedbitset::*;
+    use crate::shim::u64x4;
+    use core::cmp::Ordering;
+    use core::mem::{size_of, size_of_val};
+
+    let mut words = [9, Block::MAX, 0, 0];
+    lent::settle(&mut words, 70, 70);
+    assert_eq!(lent::maximum(&words, 70), Some(69));
+}

@@ -1,0 +1,1 @@
+//! It has tests alone: of the feature `serde` of the crate front/rust.
