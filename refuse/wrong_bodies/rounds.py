@@ -96,8 +96,9 @@ class Runner:
             self.told.tell(edit, True, why, is_kept=True)
 
     def tell_unproved(self, edits, why):
+        names = " or ".join(dict.fromkeys(it.crate.name for it in edits))
         for edit in edits:
-            self.told.tell(edit, False, f"UNCLEAR: {edit.crate.name} itself is not proved: {why}")
+            self.told.tell(edit, False, f"UNCLEAR: {names} itself is not proved: {why}")
 
     def wants_first_check(self, left):
         """Whether the crate of these edits, or their crates, have to be checked as they stand."""
