@@ -65,7 +65,7 @@ class Runner:
     def try_group(self, edits, most):
         """Tries these edits of a crate, or of several, and tells of each."""
         edits = self.those_to_judge(edits)
-        known = {it: why for it in edits if (why := self.kept.kept(it)) is not None}
+        known = self.known(edits)
         left = [it for it in edits if it not in known]
         with self.checks.room() as work:
             keeps = False
@@ -73,8 +73,7 @@ class Runner:
                 keeps, said = self.first_check(left, work)
                 if not verdicts.is_proved(said):
                     return self.tell_unproved(edits, said.strip()[-200:])
-            for edit, why in known.items():
-                self.told.tell(edit, True, why, is_kept=True)
+            self.tell_known(known)
             return self.try_in_rounds(left, work, most, keeps)
 
     def those_to_judge(self, edits):
@@ -88,9 +87,18 @@ class Runner:
                 self.told.tell(edit, False, BAD)
         return [it for it in edits if not it.is_bad]
 
+    def known(self, edits):
+        """What earlier runs said of those of these edits that they refused."""
+        return {it: why for it in edits if (why := self.kept.kept(it)) is not None}
+
+    def tell_known(self, known):
+        for edit, why in known.items():
+            self.told.tell(edit, True, why, is_kept=True)
+
     def tell_unproved(self, edits, why):
+        names = " or ".join(dict.fromkeys(it.crate.name for it in edits))
         for edit in edits:
-            self.told.tell(edit, False, f"UNCLEAR: {edit.crate.name} itself is not proved: {why}")
+            self.told.tell(edit, False, f"UNCLEAR: {names} itself is not proved: {why}")
 
     def wants_first_check(self, left):
         """Whether the crate of these edits, or their crates, have to be checked as they stand."""
@@ -107,7 +115,7 @@ class Runner:
         given = (work, True) if as_source else ()
         return as_source, self.pool.submit(self.checks.check, copy, *given).result()
 
-    def try_in_rounds(self, left, work, most, has_work):
+    def try_in_rounds(self, left, work, most, has_work, is_source=True):
         """Tries edits in rounds side by side. Where no check has left its work for them, the first round does."""
         running, alone = set(), []
         while left or running:
@@ -115,11 +123,11 @@ class Runner:
                 fits = has_work or len(left) <= most
                 now = together.taken_together(left, most if fits else min(most, MOST_AT_FIRST))
                 left = [it for it in left if it not in now]
-                running.add(self.pool.submit(self.round, now, work, not has_work))
+                running.add(self.pool.submit(self.round, now, work, not has_work, is_source))
             ended, running = wait(running, return_when=FIRST_COMPLETED)
             has_work = True
             for found, halves in (it.result() for it in ended):
-                running |= {self.pool.submit(self.round, it, work) for it in halves}
+                running |= {self.pool.submit(self.round, it, work, False, is_source) for it in halves}
                 left += self.settle(found, alone)
         for it in alone:
             it.result()
@@ -159,13 +167,16 @@ class Runner:
         if is_refused:
             self.kept.keep(edit, why, is_alone=True)
 
-    def one(self, edit):
-        """Tries one edit, over what `rt check` kept of its crate."""
-        work = edit.crate.folder / "out/incremental"
-        if edit.is_bad:
-            return self.told.tell(edit, False, BAD)
-        if work.is_dir():
-            found, _ = self.round([edit], work, is_source=edit.crate.is_library)
-            if found[0][1] == verdicts.REFUSED:
-                return self.told.tell(edit, True, found[0][2], is_tried=True)
-        return self.alone(edit)
+    def try_over_checks(self, edits, most=MOST):
+        """Tries these edits of some crates in rounds, each over what `rt check` kept of its crate."""
+        edits = self.those_to_judge(edits)
+        known = self.known(edits)
+        self.tell_known(known)
+        left = [it for it in edits if it not in known]
+        for crate in dict.fromkeys(it.crate for it in left):
+            own, kept = [it for it in left if it.crate is crate], crate.folder / "out/incremental"
+            if kept.is_dir():
+                self.try_in_rounds(own, kept, most, has_work=True, is_source=crate.is_library)
+            else:
+                with self.checks.room() as work:
+                    self.try_in_rounds(own, work, most, has_work=False)
