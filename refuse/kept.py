@@ -55,6 +55,11 @@ def size_and_time(path):
     return f"{found.st_mode} {found.st_size} {found.st_mtime_ns}"
 
 
+def place():
+    """The folder beside the kit for what is kept of this project, or the one that the environment names."""
+    return pathlib.Path(os.environ.get("FIXEDBITSET_KEPT") or kit().parent / "fixedbitset-kept")
+
+
 def files_below(folder):
     """The files of a folder in a fixed order, without those that git ignores, since no source is among them."""
     for at, folders, names in os.walk(folder):
@@ -179,7 +184,7 @@ def usable(folder):
     kit cannot be read."""
     try:
         kit_sum()
-        folder = folder or kit().parent / "fixedbitset-kept"
+        folder = folder or place() / "kept"
         os.makedirs(folder, 0o700, exist_ok=True)
         found = os.lstat(folder)
         if stat.S_ISDIR(found.st_mode) and found.st_uid == os.geteuid():

@@ -73,7 +73,7 @@ class Trees:
     """The trees on this machine, for the crates of a record."""
     def __init__(self, record):
         self.top, self.crates, self.own = record.top, record.crates, record.own
-        self.folder = kept.kit().parent / "fixedbitset-trees"
+        self.folder = kept.place() / "trees"
         self.lanes = len(os.sched_getaffinity(0))
         self.free, self.told = [], []
 

@@ -59,18 +59,29 @@ class Plan:
             Stage("calls that are not known", ("refuse/check_calls",), ("refuse", "tests/run", "test", SCRIPTS)),
         ]
 
-    def edits_script(self):
-        return Stage("the script that tries edits", ("refuse/check_edits",), ("refuse",))
+    def scripts(self):
+        """The tests of the scripts that judge."""
+        gate = ("refuse", "tests/libraries.txt", "crates.txt", "test", SCRIPTS)
+        return [
+            Stage("the script that tries edits", ("refuse/check_edits",), ("refuse",)),
+            Stage("the gate by itself", (f"{SCRIPTS}/check_gate",), gate),
+        ] if self.is_whole else []
+
+    def tests(self):
+        """The folders of tests of values that use one of the crates, each with the crates that it uses."""
+        libraries = (self.top / "tests/libraries.txt").read_text() + self.lines_of(EXAMPLES)
+        uses = {name: names.split() for name, names in re.findall(r"(?m)^(\w+): (.*)$", libraries)}
+        return {it: [name for name in uses[it] if name in self.crates] for it in uses if self.has(it, *uses[it])}
+
+    def needed(self):
+        """The crates that have to be proved: with those that the tests use, and all below."""
+        names = {*self.names, *(it for names in self.tests().values() for it in names)}
+        return names.union(*(below(self.crates, it) for it in names))
 
     def tests_of_values(self):
-        """The tests of each folder that uses one of the crates, or None."""
-        libraries = (self.top / "tests/libraries.txt").read_text() + self.lines_of(EXAMPLES)
-        uses = dict(re.findall(r"(?m)^(\w+): (.*)$", libraries))
-        chosen = [it for it in uses if self.has(it, *uses[it].split())]
-        if not chosen:
-            return None
-        inputs = ["tests", *self.sources(*(it for name in chosen for it in uses[name].split() if it in self.crates))]
-        return Stage("tests of values", ("tests/run", *chosen), tuple(inputs))
+        tests = self.tests()
+        used = sorted({it for names in tests.values() for it in names})
+        return Stage("tests of values", ("tests/run", *tests), ("tests", *self.sources(*used))) if tests else None
 
     def lines_of(self, names):
         return "".join(f"{it}: {' '.join(self.crates[it])}\n" for it in names if it in self.crates)
