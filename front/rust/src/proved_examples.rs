@@ -2104,7 +2104,7 @@ fn fixedbitset_lent_whole_200() {
 }
 
 #[test]
-fn fixedbitset_lent_52() {
+fn fixedbitset_lent_53() {
     use crate::proved::bitlanes::ops::*;
     use crate::proved::bitlanes::{word, Block, Steps};
     use crate::proved::bitwords::cursors::*;
@@ -2119,7 +2119,7 @@ fn fixedbitset_lent_52() {
 }
 
 #[test]
-fn fixedbitset_lent_67() {
+fn fixedbitset_lent_68() {
     use crate::proved::bitlanes::ops::*;
     use crate::proved::bitlanes::{word, Block, Steps};
     use crate::proved::bitwords::cursors::*;
@@ -2134,7 +2134,7 @@ fn fixedbitset_lent_67() {
 }
 
 #[test]
-fn fixedbitset_lent_79() {
+fn fixedbitset_lent_80() {
     use crate::proved::bitlanes::ops::*;
     use crate::proved::bitlanes::{word, Block, Steps};
     use crate::proved::bitwords::cursors::*;
@@ -2150,7 +2150,7 @@ fn fixedbitset_lent_79() {
 }
 
 #[test]
-fn fixedbitset_lent_92() {
+fn fixedbitset_lent_93() {
     use crate::proved::bitlanes::ops::*;
     use crate::proved::bitlanes::{word, Block, Steps};
     use crate::proved::bitwords::cursors::*;
@@ -2166,7 +2166,7 @@ fn fixedbitset_lent_92() {
 }
 
 #[test]
-fn fixedbitset_lent_105() {
+fn fixedbitset_lent_106() {
     use crate::proved::bitlanes::ops::*;
     use crate::proved::bitlanes::{word, Block, Steps};
     use crate::proved::bitwords::cursors::*;
@@ -2182,7 +2182,7 @@ fn fixedbitset_lent_105() {
 }
 
 #[test]
-fn fixedbitset_lent_118() {
+fn fixedbitset_lent_119() {
     use crate::proved::bitlanes::ops::*;
     use crate::proved::bitlanes::{word, Block, Steps};
     use crate::proved::bitwords::cursors::*;
@@ -2198,7 +2198,7 @@ fn fixedbitset_lent_118() {
 }
 
 #[test]
-fn fixedbitset_lent_131() {
+fn fixedbitset_lent_132() {
     use crate::proved::bitlanes::ops::*;
     use crate::proved::bitlanes::{word, Block, Steps};
     use crate::proved::bitwords::cursors::*;
@@ -2214,7 +2214,7 @@ fn fixedbitset_lent_131() {
 }
 
 #[test]
-fn fixedbitset_lent_146() {
+fn fixedbitset_lent_147() {
     use crate::proved::bitlanes::ops::*;
     use crate::proved::bitlanes::{word, Block, Steps};
     use crate::proved::bitwords::cursors::*;
@@ -2230,7 +2230,7 @@ fn fixedbitset_lent_146() {
 }
 
 #[test]
-fn fixedbitset_lent_163() {
+fn fixedbitset_lent_164() {
     use crate::proved::bitlanes::ops::*;
     use crate::proved::bitlanes::{word, Block, Steps};
     use crate::proved::bitwords::cursors::*;
@@ -2246,7 +2246,7 @@ fn fixedbitset_lent_163() {
 }
 
 #[test]
-fn fixedbitset_lent_177() {
+fn fixedbitset_lent_178() {
     use crate::proved::bitlanes::ops::*;
     use crate::proved::bitlanes::{word, Block, Steps};
     use crate::proved::bitwords::cursors::*;
@@ -2262,7 +2262,7 @@ fn fixedbitset_lent_177() {
 }
 
 #[test]
-fn fixedbitset_lent_190() {
+fn fixedbitset_lent_191() {
     use crate::proved::bitlanes::ops::*;
     use crate::proved::bitlanes::{word, Block, Steps};
     use crate::proved::bitwords::cursors::*;
@@ -2277,7 +2277,7 @@ fn fixedbitset_lent_190() {
 }
 
 #[test]
-fn fixedbitset_lent_202() {
+fn fixedbitset_lent_203() {
     use crate::proved::bitlanes::ops::*;
     use crate::proved::bitlanes::{word, Block, Steps};
     use crate::proved::bitwords::cursors::*;
@@ -2292,7 +2292,7 @@ fn fixedbitset_lent_202() {
 }
 
 #[test]
-fn fixedbitset_lent_214() {
+fn fixedbitset_lent_215() {
     use crate::proved::bitlanes::ops::*;
     use crate::proved::bitlanes::{word, Block, Steps};
     use crate::proved::bitwords::cursors::*;

@@ -318,7 +318,7 @@ fn assert_range(
     Ok(())
 }
 
-// All lengths to 130 are swept over the same calls in front/rust, where nothing is checked as it runs.
+// All lengths to 130 are swept over the same calls in front/rust, which takes less time.
 #[test]
 fn every_range_of_six_lengths(rt: HostRuntime) -> Result<(), Fail> {
     for bits in [0, 1, 63, 64, 65, 130] {
