@@ -80,7 +80,7 @@ pub fn count<O: WordOp>(a: &[Block], b: &[Block], steps: &mut Steps) -> usize
 /// Whether no bit is set in the words of `a` joined with those of `b` by `O`, as far as both go.
 ///
 /// It stops at the first lane with a bit, so it takes at most `m / 4` steps, rounded up, `m` being the number of words
-/// of the shorter slice; where it answers `true` it takes exactly as many.
+/// of the shorter slice; where it answers `true` it takes exactly as many, and where it answers `false` at least one.
 ///
 /// ```
 /// assert!(rt; lanes::none::<And>(&[1, 2], &[2, 1, 255], &mut Steps::new()));
@@ -93,6 +93,7 @@ pub fn none<O: WordOp>(a: &[Block], b: &[Block], steps: &mut Steps) -> bool
     ensures cost { steps.new ≤ steps.old + lane_steps (min (length a.now) (length b.now)) }
     ensures whole { IsTrue result
         → steps.new ≡ steps.old + lane_steps (min (length a.now) (length b.now)) }
+    ensures stops { result ≡ false → steps.old < steps.new }
 {
     let common = a.len().min(b.len());
     let (a, b) = (&a[..common], &b[..common]);
@@ -157,7 +158,7 @@ pub fn count_one(a: &[Block], steps: &mut Steps) -> usize
 /// Whether no bit is set in the words.
 ///
 /// It stops at the first lane with a bit, so it takes at most `m / 4` steps, rounded up, `m` being the number of words;
-/// where it answers `true` it takes exactly as many.
+/// where it answers `true` it takes exactly as many, and where it answers `false` at least one.
 ///
 /// ```
 /// assert!(rt; lanes::none_one(&[0; 9], &mut Steps::new()));
@@ -169,6 +170,7 @@ pub fn none_one(a: &[Block], steps: &mut Steps) -> bool
     ensures zero { result ≡ list_all (λ word. word == 0) a.now }
     ensures cost { steps.new ≤ steps.old + lane_steps (length a.now) }
     ensures whole { IsTrue result → steps.new ≡ steps.old + lane_steps (length a.now) }
+    ensures stops { result ≡ false → steps.old < steps.new }
 {
     let words = a.len();
     let mut at = 0;
@@ -190,7 +192,7 @@ pub fn none_one(a: &[Block], steps: &mut Steps) -> bool
 /// Whether no bit is set in the word `mask` joined with each word of `words` by `O`.
 ///
 /// It stops at the first lane with a bit, so it takes at most `m / 4` steps, rounded up, `m` being the number of words;
-/// where it answers `true` it takes exactly as many.
+/// where it answers `true` it takes exactly as many, and where it answers `false` at least one.
 ///
 /// ```
 /// assert!(rt; lanes::none_masked::<And>(4, &[3, 8, 1], &mut Steps::new()));
@@ -202,6 +204,7 @@ pub fn none_masked<O: WordOp>(mask: Block, words: &[Block], steps: &mut Steps) -
     ensures zero { result ≡ list_all (λ word. word == 0) (map (O.joined mask) words.now) }
     ensures cost { steps.new ≤ steps.old + lane_steps (length words.now) }
     ensures whole { IsTrue result → steps.new ≡ steps.old + lane_steps (length words.now) }
+    ensures stops { result ≡ false → steps.old < steps.new }
 {
     let count = words.len();
     let mut at = 0;
