@@ -6,7 +6,7 @@
 ghost use Rattle.std.specs.Prelude.{◌≡◌, ◌<◌, ◌≤◌, ◌*◌, ◌^◌, ◌↔◌, ◌&&◌, ℕ, [], ◌==◌, nat_lt, true, false, not, if◌then◌else◌, length};
 ghost use Rattle.bitrows.specs.Paths.{HasEdge, IsConnected};
 ghost use Rattle.bitrows.specs.Stored.{IsTable, table_in};
-ghost use Rattle.bitrows.specs.Tables.{row_of, has, blank, with_row, set_at};
+ghost use Rattle.bitrows.specs.Tables.{row_of, has, blank, with_row, set_at, HaveSameSize};
 ghost use Rattle.bits_c.specs.Sets.{table};
 ghost use Rattle.bits_c.specs.Walks.{ones_left};
 ghost use Rattle.fixedbitset.specs.Bits.{asc, storage_words};
@@ -125,10 +125,11 @@ pub extern "C" fn bits_rows_ones<'a>(walk: &mut Ones<'a>, rows: &'a Rows<'_>, ro
 }
 
 /// The transitive closure of the graph that has an edge from each row to each column at which the row has a bit: afterwards
-/// row `a` has a bit at column `b` exactly if some path of one or more edges led from `a` to `b`.
+/// row `a` has a bit at column `b` exactly if some path of one or more edges led from `a` to `b`. The table keeps its size.
 #[unsafe(no_mangle)]
 pub extern "C" fn bits_rows_close(rows: &mut Rows<'_>)
-    ensures { (a b : ℕ) → HasEdge (table rows.new) a b
+    ensures size { HaveSameSize (table rows.old) (table rows.new) }
+    ensures closed { (a b : ℕ) → HasEdge (table rows.new) a b
         ↔ IsConnected (HasEdge (table rows.old)) a b }
 {
     lent::close(rows.words, rows.rows, rows.columns, &mut Steps::new());
