@@ -1,5 +1,6 @@
 //! Times calls of a set beside what the machine can do at most: loops that only read, write or count as many words.
 
+use crate::carries;
 use crate::sets::{self, Rounds};
 use crate::turns::{said, turns};
 use std::arch::asm;
@@ -75,6 +76,22 @@ over_vectors!(
     ".irp word, 0, 8\nxor eax, eax\npopcnt rax, [{a} + \\at + \\word]\n.endr",
     ".irp word, 0, 8, 16, 24\nxor eax, eax\npopcnt rax, [{a} + \\at + \\word]\n.endr"
 );
+over_vectors!(
+    count_both,
+    true,
+    ".irp word, 0, 8\nmov rax, [{a} + \\at + \\word]\nand rax, [{b} + \\at + \\word]\npopcnt rax, rax\n.endr",
+    ".irp word, 0, 8, 16, 24\nmov rax, [{a} + \\at + \\word]\nand rax, [{b} + \\at + \\word]\npopcnt rax, rax\n.endr"
+);
+
+/// The bits of the first block, added by carries.
+fn add<const AHEAD: usize>(a: &mut [u64], _: &[u64]) {
+    black_box(carries::count::<AHEAD>(a));
+}
+
+/// The bits that both blocks have, added by carries.
+fn add_both<const AHEAD: usize>(a: &mut [u64], b: &[u64]) {
+    black_box(carries::count_both::<AHEAD>(a, b));
+}
 
 /// What the C library does.
 fn fill(a: &mut [u64], _: &[u64]) {
@@ -91,7 +108,7 @@ struct Limit {
 
 const AHEAD: usize = 512;
 
-const LIMITS: [Limit; 6] = [
+const LIMITS: [Limit; 7] = [
     Limit {
         work: "reads a set",
         loops: &[read::<0>, read::<AHEAD>],
@@ -128,11 +145,19 @@ const LIMITS: [Limit; 6] = [
         ],
     },
     Limit {
-        work: "counts the bits of each word",
-        loops: &[count::<0>, count::<AHEAD>],
+        work: "counts the bits of a set",
+        loops: &[count::<0>, count::<AHEAD>, add::<0>, add::<AHEAD>],
+        calls: &["count_ones(..)", "count_zeroes(..)"],
+    },
+    Limit {
+        work: "joins two sets and counts",
+        loops: &[
+            count_both::<0>,
+            count_both::<AHEAD>,
+            add_both::<0>,
+            add_both::<AHEAD>,
+        ],
         calls: &[
-            "count_ones(..)",
-            "count_zeroes(..)",
             "union_count",
             "intersection_count",
             "difference_count",
@@ -168,6 +193,7 @@ fn least_times(loops: &[Loop], call: Rounds) -> [f64; 2] {
 }
 
 pub fn print() {
+    carries::try_out();
     println!("\n| call | what it does at least | limit, ours: nanoseconds | ours / limit |");
     println!("|---|---|---|---|");
     for Limit { work, loops, calls } in LIMITS {

@@ -2,6 +2,7 @@
 //! source, and beside loops in Rust, and prints the least times as tables. `run` builds and starts it, once for each
 //! processor.
 
+mod carries;
 mod flows;
 mod kernels;
 mod large;

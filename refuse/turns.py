@@ -1,48 +1,88 @@
-"""Processes that give way to others on this machine, which would all take longer side by side than one after another.
+"""The checks that a run of edits begins, and how they give way to others on this machine: all would take longer side by side
+than one after another.
 
 refuse/edits stands on it.
 """
+import atexit
+import contextlib
 import glob
 import os
+import shutil
 import signal
 import subprocess
+import tempfile
 import threading
 import time
 
 
-class Turns:
-    """Our processes beside those of others. One begins once a processor is free, and those begun last stand still while more
-    want to run than there are processors."""
+class Processes:
+    """The processes that run for us, and the folder that has all their files. Neither is left where we are told to end."""
     def __init__(self):
-        self.ours, self.starting, self.processors = [], threading.Lock(), len(os.sched_getaffinity(0))
+        self.ours, self.folder = [], tempfile.mkdtemp(prefix="edits-")
+        self.beginning = threading.RLock()
+        atexit.register(shutil.rmtree, self.folder, ignore_errors=True)
+
+    def room(self):
+        """A folder for some files."""
+        return tempfile.TemporaryDirectory(dir=self.folder)
+
+    def run(self, words, folder):
+        """Runs a command in a folder, and answers what it printed."""
+        process = self.begin(words, folder)
+        said = process.communicate()[0]
+        self.ours.remove(process)
+        return said.decode(errors="replace")
+
+    def begin(self, words, folder):
+        how = {"stdin": subprocess.DEVNULL, "stdout": subprocess.PIPE, "stderr": subprocess.STDOUT}
+        with self.beginning:
+            process = subprocess.Popen(words, cwd=folder, **how)
+            self.ours.append(process)
+        return process
+
+    def end_all(self, status):
+        """Ends all of them, and this process. No other begins meanwhile."""
+        self.beginning.acquire()
+        for process in list(self.ours):
+            process.kill()
+        # (renamed first, so that no thread goes on in it)
+        with contextlib.suppress(OSError):
+            os.rename(self.folder, f"{self.folder}-gone")
+        for folder in (f"{self.folder}-gone", self.folder):
+            shutil.rmtree(folder, ignore_errors=True)
+        os._exit(status)
+
+    def end_on_signals(self):
+        for number in (signal.SIGTERM, signal.SIGINT, signal.SIGHUP):
+            signal.signal(number, lambda received, _: self.end_all(128 + received))
+
+
+class Turns(Processes):
+    """Our processes beside those of others. One begins once a processor is free, and those begun last stand still while more
+    want to run than there are processors. They end with the process that began us, for then nobody waits for an answer."""
+    def __init__(self):
+        self.parent = os.getppid()
+        super().__init__()
+        self.starting, self.processors = threading.Lock(), len(os.sched_getaffinity(0))
         threading.Thread(target=self.give_way, daemon=True).start()
 
-    def run(self, words, **more):
-        """Runs a command in its turn, and answers what it printed."""
+    def begin(self, words, folder):
         with self.starting:
             while self.free() <= len(self.ours):
                 time.sleep(1)
-            process = subprocess.Popen(words, **more)
-            self.ours.append(process)
-        said = process.communicate()[0]
-        self.ours.remove(process)
-        return said
+            return super().begin(words, folder)
 
     def free(self):
         """How many processors others leave."""
         return self.processors - threads_that_run({os.getpid(), *(it.pid for it in self.ours)})
 
     def give_way(self):
-        parent = os.getppid()
-        while os.getppid() == parent:
+        while os.getppid() == self.parent:
             time.sleep(2)
             free = self.free() if self.ours else 0
-            for place, process in enumerate([*self.ours]):
+            for place, process in enumerate(list(self.ours)):
                 process.send_signal(signal.SIGCONT if place < free else signal.SIGSTOP)
-        # What began this has ended, so nobody waits for an answer.
-        for process in [*self.ours]:
-            process.kill()
-        os._exit(1)
+        self.end_all(1)
 
 
 def threads_that_run(but):

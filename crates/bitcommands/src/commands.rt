@@ -55,7 +55,9 @@ pub enum Command {
 ///
 /// The guards of the command are tested first, in the order of the table (`specs/Table.antt`): the first that refuses is
 /// the reply, and then no set changes. `limit` is the greatest length that a command may ask for. The reply is
-/// `Refusal::Memory` only where the table says that memory may be refused, and then no set changes.
+/// `Refusal::Memory` only where the table says that memory may be refused, and then no set changes either, but for
+/// [`Change::Extend`]. The set of that one keeps the items before the item that stopped it: that is no position
+/// (`Refusal::Greatest`), or memory for it was refused.
 ///
 /// ```
 /// let mut sets = [FixedBitSet::with_capacity(alloc, 70)?];

@@ -1,5 +1,5 @@
 -- the bits that a join changes, by lanes of four and a last part
-use Rattle.std.proofs.Common.{min, ◌==◌, ◌&&◌, ◌≡◌, ℕ, zero, suc, ◌+◌, ◌*◌, ◌≤◌, true, false, List, ◌∷◌, take, drop, length, replicate, bit_xor, refl, sym, ap, ◌∙◌, arith}
+use Rattle.std.proofs.Common.{min, ◌==◌, ◌&&◌, ◌≡◌, ℕ, zero, suc, ◌+◌, ◌≤◌, true, false, List, ◌∷◌, take, drop, length, replicate, bit_xor, refl, sym, ap, ◌∙◌, arith}
 use Rattle.std.specs.List.{list_all}
 use Rattle.std.specs.Simd.Lanes.{zip2, chunk, put_chunk}
 use Rattle.std.proofs.lemmas.List.{take_all, take-replicate, length-replicate, replicate-append-replicate, drop-drop}
@@ -26,34 +26,33 @@ kept_chunk f i n xs ys = refl
 pub of_kept : (f g : ℕ → ℕ → ℕ) (i n : ℕ) (xs ys : List ℕ) → zip2 g (chunk i n (zip_longest f true false xs (take i ys))) (chunk i n ys) ≡ chunk i n (zip2 g xs ys)
 of_kept f g i n xs ys = ap (λ zs. zip2 g zs (chunk i n ys)) (kept_chunk f i n xs ys) ∙ sym (chunk_zip2 g i n xs ys)
 
--- whether words change, where the k lanes before are joined: of one lane more, and of the last n words
-module _ (f : ℕ → ℕ → ℕ) (old src : List ℕ) (k : ℕ) (mid lane : List ℕ) (kept : mid ≡ zip_longest f true false old (take (4 * k) src)) where
-  pub changed_lane : lane ≡ zip2 (changed_bits f) (chunk (4 * k) 4 mid) (chunk (4 * k) 4 src)
-      → list_all (λ w. w == 0) (take (4 * (k + 1)) (zip2 (changed_bits f) old src)) ≡ (list_all (λ w. w == 0) (take (4 * k) (zip2 (changed_bits f) old src)) && list_all (λ w. w == 0) lane)
-  changed_lane is = rw (is, kept, of_kept f (changed_bits f) (4 * k) 4 old src) (all_lane (λ w. w == 0) k (zip2 (changed_bits f) old src))
+-- whether words change, where the i words before are joined: of one lane more, and of the last n words
+module _ (f : ℕ → ℕ → ℕ) (old src : List ℕ) (i : ℕ) (mid lane : List ℕ) (kept : mid ≡ zip_longest f true false old (take i src)) where
+  pub changed_lane : lane ≡ zip2 (changed_bits f) (chunk i 4 mid) (chunk i 4 src)
+      → list_all (λ w. w == 0) (take (i + 4) (zip2 (changed_bits f) old src)) ≡ (list_all (λ w. w == 0) (take i (zip2 (changed_bits f) old src)) && list_all (λ w. w == 0) lane)
+  changed_lane is = rw (is, kept, of_kept f (changed_bits f) i 4 old src) (all_lane (λ w. w == 0) i (zip2 (changed_bits f) old src))
 
-  pub changed_part : (n : ℕ) → 4 * k + n ≡ min (length old) (length src) → lane ≡ filled (4 * k) n (zip2 (changed_bits f) mid src)
-      → (list_all (λ w. w == 0) (take (4 * k) (zip2 (changed_bits f) old src)) && list_all (λ w. w == 0) lane) ≡ list_all (λ w. w == 0) (zip2 (changed_bits f) old src)
+  pub changed_part : (n : ℕ) → i + n ≡ min (length old) (length src) → lane ≡ filled i n (zip2 (changed_bits f) mid src)
+      → (list_all (λ w. w == 0) (take i (zip2 (changed_bits f) old src)) && list_all (λ w. w == 0) lane) ≡ list_all (λ w. w == 0) (zip2 (changed_bits f) old src)
   changed_part n e is =
-      let whole = all_with_part k n (zip2 (changed_bits f) old src) (e ∙ sym (length_joined (changed_bits f) old src)) in
-      rw (is, kept, chunk_zip2 (changed_bits f) (4 * k) n _ src, of_kept f (changed_bits f) (4 * k) n old src) whole
+      let whole = all_with_part i n (zip2 (changed_bits f) old src) (e ∙ sym (length_joined (changed_bits f) old src)) in
+      rw (is, kept, chunk_zip2 (changed_bits f) i n _ src, of_kept f (changed_bits f) i n old src) whole
 
 -- ---- a row made 0
 
 -- the words from a lane on are as they were, where that lane was written
-pub rest_written : (k : ℕ) (old xs ys : List ℕ) → length ys ≡ 4 → drop (4 * k) xs ≡ drop (4 * k) old → drop (4 * (k + 1)) (put_chunk (4 * k) xs ys) ≡ drop (4 * (k + 1)) old
-rest_written k old xs ys four same =
-    let next : 4 * (k + 1) ≡ 4 * k + 4 = omega arith in
-    rw (drop_put (4 * (k + 1)) (4 * k) xs ys (omega (arith, four)), next, ← drop-drop 4 (4 * k) xs, ← drop-drop 4 (4 * k) old, same) refl
+pub rest_written : (i : ℕ) (old xs ys : List ℕ) → length ys ≡ 4 → drop i xs ≡ drop i old → drop (i + 4) (put_chunk i xs ys) ≡ drop (i + 4) old
+rest_written i old xs ys four same =
+    rw (drop_put (i + 4) i xs ys (omega (arith, four)), ← drop-drop 4 i xs, ← drop-drop 4 i old, same) refl
 
 -- the whole lanes are 0, and the last words are written
-pub zeros_written : (k n m : ℕ) (xs : List ℕ) → m ≡ 4 * k + n → length xs ≡ m → n ≤ 4 → take (4 * k) xs ≡ replicate (4 * k) 0 → put_chunk (4 * k) xs (take n (replicate 4 0)) ≡ replicate m 0
-zeros_written k n m xs e long few front =
+pub zeros_written : (i n m : ℕ) (xs : List ℕ) → m ≡ i + n → length xs ≡ m → n ≤ 4 → take i xs ≡ replicate i 0 → put_chunk i xs (take n (replicate 4 0)) ≡ replicate m 0
+zeros_written i n m xs e long few front =
     let zeros : List ℕ = replicate n 0 in
-    let all = take_all (4 * k + n) (put_chunk (4 * k) xs zeros) (omega (arith, length-put_chunk (4 * k) xs zeros)) in
-    let parts = take_more_put_chunk (4 * k) xs zeros (4 * k + n) (omega (arith, length-replicate {A = ℕ} n 0)) (omega arith) in
-    rw (take-replicate {X = ℕ} n 4 0 few, e, ← replicate-append-replicate {A = ℕ} (4 * k) n 0, ← front) (sym all ∙ parts)
+    let all = take_all (i + n) (put_chunk i xs zeros) (omega (arith, length-put_chunk i xs zeros)) in
+    let parts = take_more_put_chunk i xs zeros (i + n) (omega (arith, length-replicate {A = ℕ} n 0)) (omega arith) in
+    rw (take-replicate {X = ℕ} n 4 0 few, e, ← replicate-append-replicate {A = ℕ} i n 0, ← front) (sym all ∙ parts)
 
 -- where no word is left, the whole lanes are all
-pub zeros_in_lanes : (k m : ℕ) (xs : List ℕ) → m ≡ 4 * k → length xs ≡ m → take (4 * k) xs ≡ replicate (4 * k) 0 → xs ≡ replicate m 0
-zeros_in_lanes k m xs e long front = rw e (sym (take_all (4 * k) xs (omega arith)) ∙ front)
+pub zeros_in_lanes : (i m : ℕ) (xs : List ℕ) → m ≡ i → length xs ≡ m → take i xs ≡ replicate i 0 → xs ≡ replicate m 0
+zeros_in_lanes i m xs e long front = rw e (sym (take_all i xs (omega arith)) ∙ front)

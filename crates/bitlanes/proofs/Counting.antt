@@ -1,7 +1,10 @@
 -- the ones of a row, a word or more further
-use Rattle.std.proofs.Common.{◌≡◌, ℕ, ◌+◌, ◌-◌, ◌*◌, ◌<◌, ◌≤◌, List, length, take, drop, slice_index, sum_by, arith, take-add, drop-drop}
-use Rattle.std.specs.Simd.Lanes.{chunk}
+use Rattle.std.proofs.Common.{◌≡◌, ℕ, ◌+◌, ◌-◌, ◌*◌, ◌<◌, ◌≤◌, List, length, take, drop, slice_index, sum_by, refl, arith, take-add, drop-drop}
+use Rattle.std.specs.Simd.Lanes.{zip2, chunk}
+use Rattle.std.proofs.lemmas.List.{take_all, length-take}
 use Rattle.std.proofs.lemmas.List.Sums.{sum_by-append, sum_by_more, sum_by-take-le}
+use Rattle.bitlanes.specs.Ones.{ones_at}
+use Rattle.bitlanes.proofs.Zipping.{chunk_zip2, length_joined}
 
 -- one word more
 pub sum_more : (f : ℕ → ℕ) (k : ℕ) (xs : List ℕ) → k < length xs → sum_by f (take (k + 1) xs) ≡ sum_by f (take k xs) + f (slice_index xs k)
@@ -18,6 +21,13 @@ sum_take f m n xs = rw (take-add m n xs) (sum_by-append f (take m xs) (chunk m n
 -- a stretch is its first m words and the n behind them
 pub sum_chunk : (f : ℕ → ℕ) (i m n : ℕ) (xs : List ℕ) → sum_by f (chunk i (m + n) xs) ≡ sum_by f (chunk i m xs) + sum_by f (chunk (i + m) n xs)
 sum_chunk f i m n xs = rw (drop-drop m i xs) at (sum_take f m n (drop i xs))
+
+-- the ones of a stretch of two rows joined, where both are cut to it
+pub ones_cut : (f : ℕ → ℕ → ℕ) (i n : ℕ) (xs ys : List ℕ) → ones_at 0 n f (chunk i n xs) (chunk i n ys) ≡ ones_at i n f xs ys
+ones_cut f i n xs ys =
+    let row : List ℕ = zip2 f (chunk i n xs) (chunk i n ys) in
+    let few : length (chunk i n xs) ≤ n = omega (arith, length-take n (drop i xs)) in
+    rw (take_all n row (omega (arith, length_joined f (chunk i n xs) (chunk i n ys), few)), chunk_zip2 f i n xs ys) refl
 
 -- eight lanes more
 pub sum_eight : (f : ℕ → ℕ) (k : ℕ) (xs : List ℕ) → sum_by f (take (32 * (k + 1)) xs) ≡ sum_by f (take (32 * k) xs) + sum_by f (chunk (32 * k) 32 xs)

@@ -1,17 +1,17 @@
 -- the last lane: one to three words, and zeros
-use Rattle.std.proofs.Common.{◌≡◌, ℕ, zero, suc, ◌+◌, ◌-◌, ◌*◌, lit<, ◌≤◌, ◌==◌, Bool, true, false, ◌&&◌, List, [], ◌∷◌, ◌++◌, length, take, drop, get_or, slice_set, map, replicate, refl, ap, sym, ◌∙◌, arith, min, take-add}
+use Rattle.std.proofs.Common.{◌≡◌, ℕ, zero, suc, ◌+◌, ◌-◌, lit<, ◌≤◌, ◌==◌, Bool, true, false, ◌&&◌, List, [], ◌∷◌, ◌++◌, length, take, get_or, slice_set, map, replicate, refl, ap, sym, ◌∙◌, arith, take-add}
 use Rattle.std.specs.List.{list_all}
 use Rattle.std.specs.Simd.Lanes.{zip2, chunk, put_chunk}
 use Rattle.std.proofs.lemmas.Bool.Decides.{nat_tests}
-use Rattle.std.proofs.lemmas.List.{take_all, take-append-le, drop_all, take-replicate, length-map, length-replicate}
+use Rattle.std.proofs.lemmas.List.{take_all, take-append-le, take-replicate, length-map}
 use Rattle.std.proofs.lemmas.List.Folds.{list_all-append}
 use Rattle.std.proofs.lemmas.Nat.Bits.{same_from_bits, bit_at-zero, bit_at-lt}
-use Rattle.std.proofs.lemmas.Simd.{length-chunk, put_chunk_whole}
+use Rattle.std.proofs.lemmas.Simd.{length-chunk}
 use Rattle.bitlanes.specs.Bits.{bit}
 use Rattle.bitlanes.specs.Ops.{IsWordOp}
 use Rattle.bitlanes.specs.Words.{filled}
 use Rattle.bitlanes.proofs.Kept.{put_none}
-use Rattle.bitlanes.proofs.Zipping.{length_joined, chunk_zip2, chunk_masked}
+use Rattle.bitlanes.proofs.Zipping.{chunk_zip2, chunk_masked}
 
 -- ---- written, word by word
 
@@ -76,36 +76,17 @@ are_zeros zero = refl
 are_zeros (suc k) = are_zeros k
 
 -- each word is 0 exactly if those of the whole lanes are and those of the last lane
-pub all_with_part : (k n : ℕ) (xs : List ℕ) → 4 * k + n ≡ length xs → (list_all (λ w. w == 0) (take (4 * k) xs) && list_all (λ w. w == 0) (filled (4 * k) n xs)) ≡ list_all (λ w. w == 0) xs
-all_with_part k n xs e =
+pub all_with_part : (i n : ℕ) (xs : List ℕ) → i + n ≡ length xs → (list_all (λ w. w == 0) (take i xs) && list_all (λ w. w == 0) (filled i n xs)) ≡ list_all (λ w. w == 0) xs
+all_with_part i n xs e =
     let p = λ (w : ℕ). w == 0 in
-    let whole : take (4 * k) xs ++ chunk (4 * k) n xs ≡ xs = sym (take-add (4 * k) n xs) ∙ take_all (4 * k + n) xs (omega arith) in
-    let last = list_all-append p (chunk (4 * k) n xs) (replicate (4 - n) 0) in
-    grind (arith, nat_tests, last, are_zeros (4 - n), list_all-append p (take (4 * k) xs) (chunk (4 * k) n xs), ap (list_all p) whole)
+    let whole : take i xs ++ chunk i n xs ≡ xs = sym (take-add i n xs) ∙ take_all (i + n) xs (omega arith) in
+    let last = list_all-append p (chunk i n xs) (replicate (4 - n) 0) in
+    grind (arith, nat_tests, last, are_zeros (4 - n), list_all-append p (take i xs) (chunk i n xs), ap (list_all p) whole)
 
 -- where each word of the whole lanes is 0, the last lane tells of all
-pub all_part : (k n : ℕ) (xs : List ℕ) → 4 * k + n ≡ length xs → list_all (λ w. w == 0) (take (4 * k) xs) ≡ true → list_all (λ w. w == 0) (filled (4 * k) n xs) ≡ list_all (λ w. w == 0) xs
-all_part k n xs e zeros = rw zeros at (all_with_part k n xs e)
-
-pub all_joined_part : (f : ℕ → ℕ → ℕ) (k n : ℕ) (xs ys : List ℕ) → 4 * k + n ≡ min (length xs) (length ys) → list_all (λ w. w == 0) (take (4 * k) (zip2 f xs ys)) ≡ true → list_all (λ w. w == 0) (filled (4 * k) n (zip2 f xs ys)) ≡ list_all (λ w. w == 0) (zip2 f xs ys)
-all_joined_part f k n xs ys e zeros = all_part k n (zip2 f xs ys) (e ∙ sym (length_joined f xs ys)) zeros
+pub all_part : (i n : ℕ) (xs : List ℕ) → i + n ≡ length xs → list_all (λ w. w == 0) (take i xs) ≡ true → list_all (λ w. w == 0) (filled i n xs) ≡ list_all (λ w. w == 0) xs
+all_part i n xs e zeros = rw zeros at (all_with_part i n xs e)
 
 -- of words that were each made into another one
-pub all_mapped_part : (f : ℕ → ℕ) (k n : ℕ) (xs : List ℕ) → 4 * k + n ≡ length xs → list_all (λ w. w == 0) (take (4 * k) (map f xs)) ≡ true → list_all (λ w. w == 0) (filled (4 * k) n (map f xs)) ≡ list_all (λ w. w == 0) (map f xs)
-all_mapped_part f k n xs e zeros = all_part k n (map f xs) (e ∙ sym (length-map xs f)) zeros
-
--- written up to the end
-drop_put_rest : (i : ℕ) (xs ys : List ℕ) → i + length ys ≡ length xs → drop i (put_chunk i xs ys) ≡ ys
-drop_put_rest zero xs ys e = put_chunk_whole xs ys (omega arith)
-drop_put_rest (suc i) [] ys e = absurd (omega arith)
-drop_put_rest (suc i) (x ∷ xs) ys e = drop_put_rest i xs ys (omega arith)
-
--- zeros from the whole lanes on
-pub zeros_part : (k n : ℕ) (xs : List ℕ) → 4 * k + n ≡ length xs → n ≤ 4 → drop (4 * k) (put_chunk (4 * k) xs (take n (replicate 4 0))) ≡ replicate (length xs - 4 * k) 0
-zeros_part k n xs e few =
-    let rest : length xs - 4 * k ≡ n = omega arith in
-    rw (take-replicate {X = ℕ} n 4 0 few, rest) (drop_put_rest (4 * k) xs (replicate n 0) (omega (arith, length-replicate {A = ℕ} n 0)))
-
--- past the end there is none
-pub zeros_past : (n : ℕ) (xs : List ℕ) → length xs ≤ n → drop n xs ≡ replicate (length xs - n) 0
-zeros_past n xs past = let none : length xs - n ≡ 0 = omega arith in rw (drop_all n xs past, none) refl
+pub all_mapped_part : (f : ℕ → ℕ) (i n : ℕ) (xs : List ℕ) → i + n ≡ length xs → list_all (λ w. w == 0) (take i (map f xs)) ≡ true → list_all (λ w. w == 0) (filled i n (map f xs)) ≡ list_all (λ w. w == 0) (map f xs)
+all_mapped_part f i n xs e zeros = all_part i n (map f xs) (e ∙ sym (length-map xs f)) zeros

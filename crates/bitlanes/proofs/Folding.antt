@@ -1,9 +1,9 @@
 -- tests of a list, one lane of four further, and lists of zeros
-use Rattle.std.proofs.Common.{◌≡◌, ℕ, zero, suc, ◌+◌, ◌-◌, ◌*◌, ◌≤◌, Bool, true, false, ◌==◌, ◌<◌, ◌&&◌, List, slice_index, [], ◌∷◌, length, take, drop, replicate, bit_or, refl, ap, arith, take-add}
+use Rattle.std.proofs.Common.{◌≡◌, ℕ, zero, suc, ◌+◌, ◌-◌, ◌≤◌, Bool, true, false, ◌==◌, ◌<◌, ◌&&◌, List, slice_index, slice_set, [], ◌∷◌, length, take, drop, replicate, bit_or, refl, arith, take-add}
 use Rattle.std.specs.List.{list_all}
 use Rattle.std.specs.Simd.Lanes.{zip2, fold_l, chunk, put_chunk}
 use Rattle.std.proofs.lemmas.Bool.Decides.{nat_tests}
-use Rattle.std.proofs.lemmas.List.{get_or_past, take-append-drop, replicate-append-replicate, drop-drop}
+use Rattle.std.proofs.lemmas.List.{get_or_past, take-append-drop, replicate-append-replicate, drop-drop, take_more_set}
 use Rattle.std.proofs.lemmas.List.Folds.{list_all_at, list_all-append}
 use Rattle.std.proofs.lemmas.Nat.{le_or_l}
 use Rattle.std.proofs.lemmas.Simd.{chunk-drop, get_or-chunk, take_more_put_chunk}
@@ -21,18 +21,21 @@ pub or_of_lane : (xs : List ℕ) → (fold_l bit_or 0 xs == 0) ≡ list_all (λ 
 or_of_lane = fold_or 0
 
 -- the test of one lane more
-pub all_lane : (p : ℕ → Bool) (k : ℕ) (xs : List ℕ) → list_all p (take (4 * (k + 1)) xs) ≡ (list_all p (take (4 * k) xs) && list_all p (chunk (4 * k) 4 xs))
-all_lane p k xs = let e : 4 * (k + 1) ≡ 4 * k + 4 = omega arith in rw (e, take-add) (list_all-append p (take (4 * k) xs) (chunk (4 * k) 4 xs))
+pub all_lane : (p : ℕ → Bool) (i : ℕ) (xs : List ℕ) → list_all p (take (i + 4) xs) ≡ (list_all p (take i xs) && list_all p (chunk i 4 xs))
+all_lane p i xs = rw (take-add i 4 xs) (list_all-append p (take i xs) (chunk i 4 xs))
 
 -- where a stretch fails, the whole does
 pub fails_within : (p : ℕ → Bool) (i n : ℕ) (xs : List ℕ) → list_all p (chunk i n xs) ≡ false → list_all p xs ≡ false
 fails_within p i n xs h =
     grind (arith, nat_tests, take-append-drop i xs, chunk-drop i n xs, list_all-append p (take i xs) (drop i xs), list_all-append p (chunk i n xs) (drop (i + n) xs))
 
-pub zeros_lane : (k : ℕ) (xs : List ℕ) → 4 * k + 4 ≤ length xs → take (4 * k) xs ≡ replicate (4 * k) 0 → take (4 * (k + 1)) (put_chunk (4 * k) xs (replicate 4 0)) ≡ replicate (4 * (k + 1)) 0
-zeros_lane k xs le h =
-    let next : 4 * k + 4 ≡ 4 * (k + 1) = omega arith in
-    rw (take_more_put_chunk (4 * k) xs (replicate 4 0) (4 * (k + 1)) (omega arith) (omega arith), h, replicate-append-replicate {A = ℕ} (4 * k) 4 0, next) refl
+pub zeros_lane : (i : ℕ) (xs : List ℕ) → i + 4 ≤ length xs → take i xs ≡ replicate i 0 → take (i + 4) (put_chunk i xs (replicate 4 0)) ≡ replicate (i + 4) 0
+zeros_lane i xs le h =
+    rw (take_more_put_chunk i xs (replicate 4 0) (i + 4) (omega arith) (omega arith), h, replicate-append-replicate {A = ℕ} i 4 0) refl
+
+-- one word more
+pub zeros_word : (i : ℕ) (xs : List ℕ) → i < length xs → take i xs ≡ replicate i 0 → take (i + 1) (slice_set xs i 0) ≡ replicate (i + 1) 0
+zeros_word i xs le h = rw (take_more_set xs i 0 le, h) (replicate-append-replicate {A = ℕ} i 1 0)
 
 -- what lies past a lane stays as it is written
 pub drop_put : (n i : ℕ) (xs ys : List ℕ) → i + length ys ≤ n → drop n (put_chunk i xs ys) ≡ drop n xs
@@ -41,12 +44,6 @@ drop_put n zero (x ∷ xs) [] p = refl
 drop_put (suc n) zero (x ∷ xs) (y ∷ ys) p = drop_put n zero xs ys (omega arith)
 drop_put (suc n) (suc i) (x ∷ xs) ys p = drop_put n i xs ys (omega arith)
 drop_put n i xs ys p = absurd (omega arith)
-
--- zeros up to a word, and from there on
-pub zeros_whole : (n : ℕ) (xs : List ℕ) → n ≤ length xs → take n xs ≡ replicate n 0 → drop n xs ≡ replicate (length xs - n) 0 → xs ≡ replicate (length xs) 0
-zeros_whole n xs le front back =
-    let whole : n + (length xs - n) ≡ length xs = omega arith in
-    cc (take-append-drop n xs, front, back, replicate-append-replicate {A = ℕ} n (length xs - n) 0, ap (λ m. replicate {A = ℕ} m 0) whole)
 
 -- where each word is 0, so is word i
 all_zero : (xs : List ℕ) → list_all (λ w. w == 0) xs ≡ true → (i : ℕ) → slice_index xs i ≡ 0

@@ -1,5 +1,6 @@
 -- how the words of a row are joined with those of another one, by lanes of four and a last part; the rest is kept
-use Rattle.std.proofs.Common.{◌≡◌, ℕ, zero, suc, ◌+◌, ◌*◌, ◌≤◌, List, [], ◌∷◌, ◌++◌, length, take, refl, ap, sym, ◌∙◌, arith, min, true, false, take-add}
+use Rattle.std.proofs.Common.{◌≡◌, ℕ, zero, suc, ◌+◌, ◌-◌, ◌≤◌, List, [], ◌∷◌, ◌++◌, length, take, drop, refl, ap, arith, min, true, false, take-add}
+use Rattle.std.proofs.lemmas.List.{length-take-le, take_all}
 use Rattle.std.specs.Simd.Lanes.{zip2, chunk, put_chunk}
 use Rattle.bitlanes.specs.Words.{zip_longest}
 
@@ -20,18 +21,35 @@ kept_more f (suc n) zero (x ∷ xs) (y ∷ ys) p q = ap (λ t. f x y ∷ t) (rw 
 kept_more f n (suc i) (x ∷ xs) (y ∷ ys) p q = ap (λ t. f x y ∷ t) (kept_more f n i xs ys (omega arith) (omega arith))
 kept_more f n i xs ys p q = absurd (omega arith)
 
--- one lane more
-pub kept_lane : (f : ℕ → ℕ → ℕ) (k : ℕ) (xs ys : List ℕ) → 4 * k + 4 ≤ length xs → 4 * k + 4 ≤ length ys
-    → zip_longest f true false xs (take (4 * (k + 1)) ys) ≡ put_chunk (4 * k) (zip_longest f true false xs (take (4 * k) ys)) (zip2 f (chunk (4 * k) 4 (zip_longest f true false xs (take (4 * k) ys))) (chunk (4 * k) 4 ys))
-kept_lane f k xs ys p q = let e : 4 * (k + 1) ≡ 4 * k + 4 = omega arith in rw (e, take-add) (sym (kept_more f 4 (4 * k) xs ys p q))
+-- one lane more, or the last words
+pub kept_next : (f : ℕ → ℕ → ℕ) (n i : ℕ) (xs ys : List ℕ) → i + n ≤ length xs → i + n ≤ length ys
+    → put_chunk i (zip_longest f true false xs (take i ys)) (zip2 f (chunk i n (zip_longest f true false xs (take i ys))) (chunk i n ys)) ≡ zip_longest f true false xs (take (i + n) ys)
+kept_next f n i xs ys p q = rw (take-add) (kept_more f n i xs ys p q)
 
--- what lies past the end of either is not read
-pub kept_take : (f : ℕ → ℕ → ℕ) (k : ℕ) (xs ys : List ℕ) → min (length xs) (length ys) ≤ k → zip_longest f true false xs (take k ys) ≡ zip_longest f true false xs ys
-kept_take f zero (x ∷ xs) (y ∷ ys) p = absurd (omega arith)
-kept_take f (suc k) (x ∷ xs) (y ∷ ys) p = ap (λ t. f x y ∷ t) (kept_take f k xs ys (omega arith))
-kept_take f k xs ys p = refl
+-- ---- both rows cut to the length of the shorter one
 
--- the last words, which are fewer than a lane
-pub kept_part : (f : ℕ → ℕ → ℕ) (k n : ℕ) (xs ys : List ℕ) → 4 * k + n ≡ min (length xs) (length ys)
-    → put_chunk (4 * k) (zip_longest f true false xs (take (4 * k) ys)) (zip2 f (chunk (4 * k) n (zip_longest f true false xs (take (4 * k) ys))) (chunk (4 * k) n ys)) ≡ zip_longest f true false xs ys
-kept_part f k n xs ys e = kept_more f n (4 * k) xs ys (omega arith) (omega arith) ∙ rw (← take-add (4 * k) n ys) (kept_take f (4 * k + n) xs ys (omega arith))
+-- what is cut off stays
+kept_behind : (f : ℕ → ℕ → ℕ) (w : ℕ) (xs ys : List ℕ) → w ≡ min (length xs) (length ys) → zip_longest f true false (take w xs) (take w ys) ++ drop w xs ≡ zip_longest f true false xs ys
+kept_behind f zero [] [] e = refl
+kept_behind f zero [] (y ∷ ys) e = refl
+kept_behind f zero (x ∷ xs) [] e = refl
+kept_behind f zero (x ∷ xs) (y ∷ ys) e = absurd (omega (arith, e))
+kept_behind f (suc w) (x ∷ xs) (y ∷ ys) e = ap (λ t. f x y ∷ t) (kept_behind f w xs ys (omega (arith, e)))
+kept_behind f (suc w) [] ys e = absurd (omega (arith, e))
+kept_behind f (suc w) (x ∷ xs) [] e = absurd (omega (arith, e))
+
+-- where the words before i are joined: the last ones, and what is cut off
+module _ (f : ℕ → ℕ → ℕ) (w i : ℕ) (xs ys : List ℕ) (e : w ≡ min (length xs) (length ys)) where
+  pub kept_rest : i ≤ w
+      → put_chunk i (zip_longest f true false (take w xs) (take i (take w ys))) (zip2 f (chunk i (w - i) (zip_longest f true false (take w xs) (take i (take w ys)))) (chunk i (w - i) (take w ys))) ++ drop w xs ≡ zip_longest f true false xs ys
+  kept_rest within =
+      let long = length-take-le w xs (omega (arith, e)) in
+      let long_other = length-take-le w ys (omega (arith, e)) in
+      let all : i + (w - i) ≡ w = omega (arith, within) in
+      let last = kept_next f (w - i) i (take w xs) (take w ys) (omega (arith, long, all)) (omega (arith, long_other, all)) in
+      rw (last, all, take_all w (take w ys) (omega (arith, long_other))) (kept_behind f w xs ys e)
+
+  pub kept_whole : i ≡ w → zip_longest f true false (take w xs) (take i (take w ys)) ++ drop w xs ≡ zip_longest f true false xs ys
+  kept_whole all =
+      let long_other = length-take-le w ys (omega (arith, e)) in
+      rw (all, take_all w (take w ys) (omega (arith, long_other))) (kept_behind f w xs ys e)

@@ -1,7 +1,7 @@
 -- Words made of two words that follow each other.
-use Rattle.std.proofs.Common.{map, ◌≡◌, ℕ, ◌+◌, ◌-◌, ◌*◌, ◌/◌, ◌%◌, ◌^◌, ◌<◌, ◌≤◌, List, length, replicate, bit_or, get_or, set, refl, sym, ◌∙◌, arith, pow_pos}
+use Rattle.std.proofs.Common.{map, ◌≡◌, ℕ, ◌+◌, ◌-◌, ◌*◌, ◌/◌, ◌%◌, ◌^◌, ◌<◌, ◌≤◌, List, length, take, drop, replicate, bit_or, get_or, set, refl, sym, ◌∙◌, arith, pow_pos}
 use Rattle.std.specs.Simd.Lanes.{zip2, chunk, put_chunk}
-use Rattle.std.proofs.lemmas.List.{length-map, get_or-map, get_or-set_same, get_or-set_other, get_or_past}
+use Rattle.std.proofs.lemmas.List.{length-map, get_or-map, get_or-set_same, get_or-set_other, get_or_past, get_or-drop, take_all, length-drop}
 use Rattle.std.proofs.lemmas.Simd.{zip2_splat, map-map, get_or-zip2, length-zip2, length-chunk, get_or-chunk, get_or-put_chunk_at, get_or-put_chunk_below, get_or-put_chunk_above}
 use Rattle.bitlanes.specs.Shifts.{straddle, window}
 
@@ -33,6 +33,19 @@ module _ (low high : List ℕ) (r : ℕ) (four_low : length low ≡ 4) (four_hig
   length-straddled =
       let same = length-zip2 bit_or (map lowered low) (map raised high) (omega (arith, length-map low lowered, length-map high raised)) in
       rw (mapped, same) (omega (arith, length-map low lowered))
+
+-- a row from word n on
+pub up_to_end : (n : ℕ) (ws : List ℕ) → take (length ws - n) (drop n ws) ≡ drop n ws
+up_to_end n ws = take_all (length ws - n) (drop n ws) (omega (arith, length-drop n ws))
+
+-- the same bits, in the row from their first word on
+pub window_dropped : (ws : List ℕ) (p k : ℕ) → straddle (p % 64) (get_or (drop (p / 64) ws) k 0) (get_or (drop (p / 64) ws) (k + 1) 0) ≡ window ws (p + 64 * k)
+unfolding window
+window_dropped ws p k =
+    let quotient : (p + 64 * k) / 64 ≡ p / 64 + k = omega arith in
+    let rest : (p + 64 * k) % 64 ≡ p % 64 = omega arith in
+    let next : p / 64 + (k + 1) ≡ p / 64 + k + 1 = omega arith in
+    rw (get_or-drop (p / 64) ws k 0, get_or-drop (p / 64) ws (k + 1) 0, quotient, rest, next) refl
 
 -- past the row there is none
 pub window_past : (ws : List ℕ) (p : ℕ) → length ws ≤ p / 64 → 0 ≡ window ws p

@@ -33,7 +33,9 @@ pub(crate) fn count_eights<O: WordOp>(
     let mut sums = Sums::new();
     let mut eights = 0;
     for block in 0..blocks {
-        let carries = sums.add_eight::<O>(a, b, EIGHT * block, steps);
+        let at = EIGHT * block;
+        let (a, b) = (&a[at..at + EIGHT], &b[at..at + EIGHT]);
+        let carries = sums.add_eight::<O>(a, b, 0, steps);
         eights += ones_in(carries.to_array());
     }
     8 * eights + sums.count()

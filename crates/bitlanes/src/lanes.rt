@@ -34,21 +34,23 @@ const LONG: usize = 512;
 /// assert_eq!(rt; words, [3, 2, 4, 8, 16]);
 /// ```
 #[inline(always)]
-#[tactic(auto, using(crate::proofs::Kept::kept_none, crate::proofs::Kept::kept_lane, crate::proofs::Kept::kept_take, crate::proofs::Kept::kept_part))]
+#[tactic(auto, using(crate::proofs::Kept::kept_none))]
 pub fn apply<O: WordOp>(dst: &mut [Block], src: &[Block], steps: &mut Steps)
     ensures words { dst.new ≡ zip_longest O.joined true false dst.old src.now }
     ensures cost { steps.new ≡ steps.old + lane_steps (min (length dst.old) (length src.now)) }
 {
     let words = dst.len().min(src.len());
-    let lanes = words / LANE;
-    for lane in 0..lanes {
+    let (dst, src) = (&mut dst[..words], &src[..words]);
+    let mut at = 0;
+    while at + LANE <= words {
         steps.tick();
-        join_lane::<O>(dst, src, LANE * lane);
+        join_lane::<O>(dst, src, at);
+        at += LANE;
     }
-    let rest = words % LANE;
+    let rest = words - at;
     if rest > 0 {
         steps.tick();
-        join_part::<O>(dst, src, LANE * lanes, rest);
+        join_part::<O>(dst, src, at, rest);
     }
 }
 
@@ -85,7 +87,7 @@ pub fn count<O: WordOp>(a: &[Block], b: &[Block], steps: &mut Steps) -> usize
 /// assert!(rt; !lanes::none::<And>(&[1, 2], &[2, 3, 255], &mut Steps::new()));
 /// ```
 #[inline(always)]
-#[tactic(auto, using(crate::proofs::Folding::all_lane, crate::proofs::Zipping::all_joined, crate::proofs::Filling::all_joined_part))]
+#[tactic(auto, using(crate::proofs::Folding::all_lane, crate::proofs::Zipping::all_joined, crate::proofs::Zipping::cut_joined))]
 pub fn none<O: WordOp>(a: &[Block], b: &[Block], steps: &mut Steps) -> bool
     ensures zero { result ≡ list_all (λ word. word == 0) (zip2 O.joined a.now b.now) }
     ensures cost { steps.new ≤ steps.old + lane_steps (min (length a.now) (length b.now)) }
@@ -93,17 +95,19 @@ pub fn none<O: WordOp>(a: &[Block], b: &[Block], steps: &mut Steps) -> bool
         → steps.new ≡ steps.old + lane_steps (min (length a.now) (length b.now)) }
 {
     let common = a.len().min(b.len());
-    let lanes = common / LANE;
-    for lane in 0..lanes {
+    let (a, b) = (&a[..common], &b[..common]);
+    let mut at = 0;
+    while at + LANE <= common {
         steps.tick();
-        if !is_zero(lane_at::<O>(a, b, LANE * lane)) {
+        if !is_zero(lane_at::<O>(a, b, at)) {
             return false;
         }
+        at += LANE;
     }
-    let rest = common % LANE;
+    let rest = common - at;
     if rest > 0 {
         steps.tick();
-        return is_zero(joined_part_at::<O>(a, b, LANE * lanes, rest));
+        return is_zero(joined_part_at::<O>(a, b, at, rest));
     }
     true
 }
@@ -118,21 +122,17 @@ pub fn none<O: WordOp>(a: &[Block], b: &[Block], steps: &mut Steps) -> bool
 /// assert_eq!(rt; words, [1, 0, 0, 0, 0, 0]);
 /// ```
 #[inline(always)]
-#[tactic(auto, using(crate::proofs::Folding::zeros_lane, crate::proofs::Folding::drop_put, crate::proofs::Folding::zeros_whole))]
+#[tactic(auto, using(crate::proofs::Folding::zeros_word, crate::proofs::Changing::zeros_in_lanes))]
 pub fn zero(dst: &mut [Block], steps: &mut Steps)
     ensures words { dst.new ≡ replicate (length dst.old) 0 }
     ensures cost { steps.new ≡ steps.old + lane_steps (length dst.old) }
 {
-    let lanes = dst.len() / LANE;
-    // The rest comes first, for the loop is a call of `memset`, with no return to here.
-    let rest = dst.len() % LANE;
-    if rest > 0 {
-        steps.tick();
-        put_part(dst, LANE * lanes, rest, u64x4::splat(0));
-    }
-    for lane in 0..lanes {
-        steps.tick();
-        u64x4::splat(0).copy_to_slice(&mut dst[LANE * lane..]);
+    // The loop is one call of `memset`: a step is no code.
+    for place in 0..dst.len() {
+        if place % LANE == 0 {
+            steps.tick();
+        }
+        dst[place] = 0;
     }
 }
 
@@ -171,17 +171,18 @@ pub fn none_one(a: &[Block], steps: &mut Steps) -> bool
     ensures whole { IsTrue result → steps.new ≡ steps.old + lane_steps (length a.now) }
 {
     let words = a.len();
-    let lanes = words / LANE;
-    for lane in 0..lanes {
+    let mut at = 0;
+    while at + LANE <= words {
         steps.tick();
-        if !is_zero(u64x4::from_slice(&a[LANE * lane..])) {
+        if !is_zero(u64x4::from_slice(&a[at..at + LANE])) {
             return false;
         }
+        at += LANE;
     }
-    let rest = words % LANE;
+    let rest = words - at;
     if rest > 0 {
         steps.tick();
-        return is_zero(part_at(a, LANE * lanes, rest));
+        return is_zero(part_at(a, at, rest));
     }
     true
 }
@@ -203,17 +204,18 @@ pub fn none_masked<O: WordOp>(mask: Block, words: &[Block], steps: &mut Steps) -
     ensures whole { IsTrue result → steps.new ≡ steps.old + lane_steps (length words.now) }
 {
     let count = words.len();
-    let lanes = count / LANE;
-    for lane in 0..lanes {
+    let mut at = 0;
+    while at + LANE <= count {
         steps.tick();
-        if !is_zero(masked_lane_at::<O>(mask, words, LANE * lane)) {
+        if !is_zero(masked_lane_at::<O>(mask, words, at)) {
             return false;
         }
+        at += LANE;
     }
-    let rest = count % LANE;
+    let rest = count - at;
     if rest > 0 {
         steps.tick();
-        return is_zero(masked_part_at::<O>(mask, words, LANE * lanes, rest));
+        return is_zero(masked_part_at::<O>(mask, words, at, rest));
     }
     true
 }
@@ -226,8 +228,11 @@ fn join_lane<O: WordOp>(dst: &mut [Block], src: &[Block], at: usize)
     ensures { dst.new ≡ put_chunk at dst.old
         (zip2 O.joined (chunk at 4 dst.old) (chunk at 4 src.now)) }
 {
-    let lane = O::lane(u64x4::from_slice(&dst[at..]), u64x4::from_slice(&src[at..]));
-    lane.copy_to_slice(&mut dst[at..]);
+    let lane = O::lane(
+        u64x4::from_slice(&dst[at..at + LANE]),
+        u64x4::from_slice(&src[at..at + LANE]),
+    );
+    lane.copy_to_slice(&mut dst[at..at + LANE]);
 }
 
 // The four joined words from `at` on.
@@ -237,7 +242,10 @@ pub(crate) fn lane_at<O: WordOp>(a: &[Block], b: &[Block], at: usize) -> u64x4
     requires in_b { at + 4 ≤ length b.now }
     ensures { result ≡ chunk at 4 (zip2 O.joined a.now b.now) }
 {
-    O::lane(u64x4::from_slice(&a[at..]), u64x4::from_slice(&b[at..]))
+    O::lane(
+        u64x4::from_slice(&a[at..at + LANE]),
+        u64x4::from_slice(&b[at..at + LANE]),
+    )
 }
 
 // The mask joined with each of the four words from `at` on.
@@ -278,6 +286,7 @@ fn count_from<O: WordOp>(
     ensures ones { result ≡ sum_by count_ones (zip2 O.joined a.now b.now) }
     ensures cost { steps.new + lanes ≡ steps.old + lane_steps words }
 {
+    let (a, b) = (&a[..words], &b[..words]);
     let mut total = total;
     for at in LANE * lanes..words {
         if at % LANE == 0 {
@@ -330,9 +339,10 @@ pub(crate) fn part_at(words: &[Block], at: usize, rest: usize) -> u64x4
     requires within { at + rest ≤ length words.now }
     ensures { result ≡ filled at rest words.now }
 {
-    let second = if rest > 1 { words[at + 1] } else { 0 };
-    let third = if rest > 2 { words[at + 2] } else { 0 };
-    u64x4::from_array([words[at], second, third, 0])
+    let words = &words[at..at + rest];
+    let second = if rest > 1 { words[1] } else { 0 };
+    let third = if rest > 2 { words[2] } else { 0 };
+    u64x4::from_array([words[0], second, third, 0])
 }
 
 // Writes the first one to three words of the lane, from `at` on, by tests as `part_at` reads them.
@@ -343,12 +353,13 @@ pub(crate) fn put_part(words: &mut [Block], at: usize, rest: usize, lane: u64x4)
     requires within { at + rest ≤ length words.old }
     ensures { words.new ≡ put_chunk at words.old (take rest lane) }
 {
+    let words = &mut words[at..at + rest];
     let [first, second, third, _] = lane.to_array();
-    words[at] = first;
+    words[0] = first;
     if rest > 1 {
-        words[at + 1] = second;
+        words[1] = second;
         if rest > 2 {
-            words[at + 2] = third;
+            words[2] = third;
         }
     }
 }

@@ -33,23 +33,22 @@ pub fn join_down<O: WordOp>(dst: &mut [Block], src: &[Block], from: usize, steps
     ensures cost { steps.new ≡ steps.old
         + lane_steps (min (length dst.old) (length src.now - from / 64)) }
 {
-    let first = from / BITS;
+    let first = (from / BITS).min(src.len());
     let shift = from % BITS;
-    let words = dst.len().min(src.len().saturating_sub(first));
-    let lanes = words.saturating_sub(1) / LANE;
-    for lane in 0..lanes {
+    let words = dst.len().min(src.len() - first);
+    let (dst, src) = (&mut dst[..words], &src[first..]);
+    let whole = &src[..words];
+    let mut done = 0;
+    while done + LANE < words {
         steps.tick();
-        join_lane::<O>(
-            dst,
-            LANE * lane,
-            window_lane(src, first + LANE * lane, shift),
-        );
+        join_lane::<O>(dst, done, window_lane(whole, done, shift));
+        done += LANE;
     }
-    for at in LANE * lanes..words {
+    for at in done..words {
         if at % LANE == 0 {
             steps.tick();
         }
-        dst[at] = O::word(dst[at], window_word(src, first + at, shift));
+        dst[at] = O::word(dst[at], window_word(src, at, shift));
     }
 }
 
@@ -166,8 +165,8 @@ fn window_lane(words: &[Block], at: usize, shift: usize) -> u64x4
 {
     straddle_lane(
         shift,
-        u64x4::from_slice(&words[at..]),
-        u64x4::from_slice(&words[at + 1..]),
+        u64x4::from_slice(&words[at..at + LANE]),
+        u64x4::from_slice(&words[at + 1..at + 1 + LANE]),
     )
 }
 
@@ -218,5 +217,5 @@ fn join_lane<O: WordOp>(dst: &mut [Block], at: usize, lane: u64x4)
     requires within { at + 4 ≤ length dst.old }
     ensures { dst.new ≡ put_chunk at dst.old (zip2 O.joined (chunk at 4 dst.old) lane) }
 {
-    O::lane(u64x4::from_slice(&dst[at..]), lane).copy_to_slice(&mut dst[at..]);
+    O::lane(u64x4::from_slice(&dst[at..at + LANE]), lane).copy_to_slice(&mut dst[at..at + LANE]);
 }

@@ -1,7 +1,7 @@
 -- What holds of two sets of any two lengths, for all values.
 use Rattle.std.specs.Prelude.{◌≡◌, ℕ, ◌+◌, ◌-◌, ◌/◌, ◌≤◌, max, min, Bool, IsTrue, ◌↔◌}
 use Rattle.bitlanes.specs.Words.{lane_steps}
-use Rattle.bitwords.specs.Steps.{join_steps, both_steps}
+use Rattle.bitwords.specs.Steps.{join_steps, both_steps, join_up_steps, search_steps}
 use Rattle.fixedbitset.specs.Bits.{Bits, contains, words_needed, storage_words}
 use Rattle.fixedbitset.specs.Ranges.{count_ones}
 use Rattle.fixedbitset.specs.TwoSets.{union_count, intersection_count, difference_count, symmetric_difference_count, is_subset, is_disjoint}
@@ -34,6 +34,19 @@ most_steps n m = min n m / 4 + 3 + ((max n m - min n m) / 4 + 3)
 abbrev pub StepsBound : Type 0
 StepsBound = (keep take : Bool) (n m : ℕ) → (join_steps keep (storage_words n) (storage_words m) ≤ most_steps (words_needed n) (words_needed m))
     × (both_steps keep take (storage_words n) (storage_words m) ≤ most_steps (words_needed n) (words_needed m))
+
+-- one kernel over the words of the second set takes no more: it is what a call that grows takes, and a copy or a comparison
+abbrev pub WholeStepsBound : Type 0
+WholeStepsBound = (n m : ℕ) → (lane_steps (words_needed m) ≤ most_steps (words_needed n) (words_needed m))
+    × (lane_steps (storage_words m) ≤ most_steps (words_needed n) (words_needed m))
+
+-- nor does a set that is moved up into k words, as a shifted join and `append` take it
+abbrev pub MovedStepsBound : Type 0
+MovedStepsBound = (k n m by : ℕ) → join_up_steps k (storage_words m) by ≤ most_steps (words_needed n) (words_needed m)
+
+-- nor does a range of the second set that is copied to where the first has room
+abbrev pub CopyStepsBound : Type 0
+CopyStepsBound = (n m at size : ℕ) → size ≤ m → at + size ≤ n → search_steps at (at + size) ≤ most_steps (words_needed n) (words_needed m)
 
 -- where both lengths need as many words, each takes the steps of one kernel over them
 abbrev pub StepsOfEqual : Type 0

@@ -9,7 +9,7 @@ ghost use Rattle.bitlaws.specs.OrderLaws.{EqualTells, CompareTells, MinimumIsLea
 ghost use Rattle.bitlaws.specs.RangeLaws.{WordsOfRange, NumberOfRangeWords, RangeWordsBound, SearchBound, TogglingTwice, RangeCountsAddUp, IsValidTells, ContainsAllTells, ContainsAnyTells};
 ghost use Rattle.bitlaws.specs.RunLaws.{RunsAreTheSet, ZeroRunsAreTheOthers, RoomTells, GapIsLeast};
 ghost use Rattle.bitlaws.specs.SetLaws.{ClearHasNone, FullHasAll, InsertAddsOne, InsertKeeps, RemoveTakesOne, RemoveKeeps, WordsReadBack};
-ghost use Rattle.bitlaws.specs.TwoSetLaws.{CountsAddUp, SymmetricDifferenceIsSum, SubsetBothWays, IsSubsetTells, IsDisjointTells, StepsBound, StepsOfEqual};
+ghost use Rattle.bitlaws.specs.TwoSetLaws.{CountsAddUp, SymmetricDifferenceIsSum, SubsetBothWays, IsSubsetTells, IsDisjointTells, StepsBound, WholeStepsBound, MovedStepsBound, CopyStepsBound, StepsOfEqual};
 ghost use Rattle.bitlaws.specs.WalkLaws.{PartsAreTheList, TurnsOfCalls, LooksUpOnce, JoinsOnce, SplitsOnce};
 ghost use Rattle.bitwords.specs.Walk.{GivesFirst, GivesLast};
 ghost use Rattle.fixedbitset.specs.TwoSets.{union, symmetric_difference, intersection, bitand};
@@ -262,8 +262,8 @@ pub fn tests_of_two_sets()
 {}
 
 /// With `m` words that both lengths need and `t` that only the longer needs, a call over two sets takes at most
-/// `m / 4 + 3` steps for the first and `t / 4 + 3` for the second. Over as many words, `m` each, it takes exactly `m / 4`,
-/// rounded up.
+/// `m / 4 + 3` steps for the first and `t / 4 + 3` for the second. Over as many words, `m` each, a join, a count or a test
+/// that nothing stops takes exactly `m / 4`, rounded up.
 ///
 /// ```
 /// let mut set = FixedBitSet::with_capacity(alloc, 448)?;
@@ -274,6 +274,9 @@ pub fn tests_of_two_sets()
 /// ```
 pub fn steps_of_two_sets()
     ensures bound { StepsBound }
+    ensures whole { WholeStepsBound }
+    ensures moved { MovedStepsBound }
+    ensures copied { CopyStepsBound }
     ensures equal { StepsOfEqual }
 {}
 

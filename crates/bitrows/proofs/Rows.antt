@@ -3,18 +3,15 @@ use Rattle.std.proofs.Common.{◌≡◌, ◌≢◌, ◌∙◌, ℕ, ◌+◌, ◌
 use Rattle.std.specs.Prelude.{All, slice_range}
 use Rattle.std.specs.Vec.{with_items}
 use Rattle.std.proofs.lemmas.Bool.{cases_eq}
-use Rattle.std.proofs.lemmas.Bool.Decides.{nat_tests}
 use Rattle.std.proofs.lemmas.Grind.{common_steps}
 use Rattle.std.proofs.lemmas.List.{drop-take, length-set, length-append, length-take, length-drop, length-replicate, take-replicate, drop-replicate, get_or-replicate, get_or-set_same, get_or-set_other, get_or_past, with_items_is, set-get_or, take-take}
 use Rattle.std.proofs.lemmas.List.FromFn.{get_or-map-range_with_len, fill_by_all}
 use Rattle.std.proofs.lemmas.Slice.{take-put_mid_below, drop-put_mid, between-put_mid}
 use Rattle.std.proofs.lemmas.Nat.{row_fits}
 use borrow.Rule.Slice.PartMut.{put_mid}
-use Rattle.bitwords.specs.Ascending.{ascending}
-use Rattle.bitwords.specs.AscendingFacts.{ascending-cut}
 use Rattle.bitwords.specs.Rows.{has_bit}
 use Rattle.bitwords.specs.RowFacts.{bit-zero}
-use Rattle.fixedbitset.specs.Bits.{Bits, contains, empty, asc, of_words, storage_words}
+use Rattle.fixedbitset.specs.Bits.{Bits, empty, of_words, storage_words}
 use Rattle.fixedbitset.specs.BitsFacts.{same_bits, length-empty, contains-empty}
 use Rattle.fixedbitset.specs.Stored.{IsClean}
 use Rattle.fixedbitset.specs.TwoSets.{union, is_subset}
@@ -22,7 +19,7 @@ use Rattle.fixedbitset.specs.TwoSetsFacts.{union-same, is_subset-tells}
 use Rattle.fixedbitset.specs.WordsFacts.{length-of_words, contains-of_words}
 use Rattle.bitrows.specs.Tables.{Table, row_of, blank, with_row}
 use Rattle.bitrows.specs.Stored.{row_words, put_row, AreRows, IsTable, table_of}
-use Rattle.bitrows.specs.StoredFacts.{length-table}
+use Rattle.bitrows.specs.StoredFacts.{length-table, columns-table}
 
 -- ---- where a row lies
 
@@ -57,10 +54,6 @@ module _ (w : ℕ) (ws : List ℕ) (i : ℕ) (row : List ℕ) (within : i * w + 
 -- ---- the table of words
 
 module _ (n w count : ℕ) (ws : List ℕ) where
-  pub columns-table : (table_of n w count ws).columns ≡ n
-  unfolding table_of
-  columns-table = refl
-
   pub get_or-table : (i : ℕ) (d : Bits) → i < count → get_or (table_of n w count ws).rows i d ≡ of_words n (row_words w ws i)
   unfolding table_of
   get_or-table i d below = get_or-map-range_with_len (λ i. of_words n (row_words w ws i)) 0 count i i d below (omega arith)
@@ -153,18 +146,6 @@ row_written w i v ws row wide = rw wide (let long : i * w + w - i * w ≡ w = om
 
 pub row_of_low : (w from mid : ℕ) (ws : List ℕ) → from * w + w ≤ mid → slice_range (take mid ws) (from * w) (from * w + w) ≡ row_words w ws from
 row_of_low w from mid ws within = cc (row_is from w w (take mid ws) refl, cut_is w from (take mid ws), take-take (from * w + w) mid ws within, cut_is w from ws)
-
--- ---- the items of a row
-
-pub items_of : (n : ℕ) (ws : List ℕ) (v : Bits) → IsClean n ws → of_words n ws ≡ v → ascending (has_bit ws) 0 (64 * length ws) ≡ asc v
-unfolding asc
-items_of n ws v clean is =
-    let long : n ≡ v.length = cc (length-of_words n ws) in
-    let room : n + (64 * length ws - n) ≡ 64 * length ws = omega (arith, clean.count) in
-    rw (← room)
-    (ascending-cut (has_bit ws) (contains v) 0 n (64 * length ws - n)
-    (λ p _ lt. rw (← is) (grind (arith, nat_tests, contains-of_words n ws p))) (λ p ge _. clean.tail p (omega arith)))
-    ∙ ap (ascending (contains v) 0) long
 
 -- ---- a row joined with itself
 

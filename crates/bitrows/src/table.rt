@@ -2,8 +2,8 @@
 
 ghost use Rattle.std.specs.Prelude.{◌≡◌, ◌<◌, ◌↔◌, ℕ, not, All, IsTrue, IfOk, length};
 ghost use Rattle.std.specs.Iterator.Runs.{EachRunFrom, ItemsAre, ItemsAreReversed};
-ghost use Rattle.bitwords.specs.Walk.{GivesFirst, GivesLast};
-ghost use Rattle.fixedbitset.specs.Bits.{asc};
+ghost use Rattle.bitwords.specs.Walk.{GivesFirst, GivesLast, between_ends};
+ghost use Rattle.fixedbitset.specs.Bits.{asc, words};
 ghost use Rattle.fixedbitset.specs.TwoSets.{union, is_subset};
 ghost use Rattle.bitrows.specs.Tables.{row_of, has, blank, with_row, set_at, HaveSameSize};
 ghost use Rattle.bitrows.specs.Paths.{HasEdge, IsConnected};
@@ -12,6 +12,7 @@ use crate::{counted, lent};
 use bitlanes::Steps;
 use bitlanes::word::Block;
 use bitwalks::walks::Ones;
+use fixedbitset::lent as sets;
 use std::alloc::{AllocError, Global};
 use std::marker::Model;
 
@@ -150,7 +151,7 @@ impl BitRows {
     }
 
     /// The columns at which the row has a bit, in ascending order. The row has to be one of the table's. It takes no memory,
-    /// and reads the first and the last word of the row; those between are not yet taken.
+    /// and reads the first and the last word that the columns need; those between are not yet taken.
     ///
     /// ```
     /// let mut table = BitRows::new(alloc, 3, 70)?;
@@ -166,10 +167,12 @@ impl BitRows {
             (λ run. ItemsAre run (asc (row_of self.now row))) }
         ensures runs_back { EachRunFrom GivesLast result
             (λ run. ItemsAreReversed run (asc (row_of self.now row))) }
+        ensures words { result.words ≡ between_ends (words (row_of self.now row)) }
         ensures turns { result.turns ≡ 0 }
         ensures taken { result.taken ≡ 0 }
     {
-        Ones::over(lent::words_of(&self.words, self.rows, self.columns, row))
+        let words = lent::words_of(&self.words, self.rows, self.columns, row);
+        Ones::over(sets::used_words(words, self.columns))
     }
 
     /// The transitive closure of the graph that has an edge from each row to each column at which the row has a bit:

@@ -48,10 +48,11 @@ SievesLast old result new = YieldsLast (λ sieved. sieved.items) old result new 
 
 -- ---- two walks in turn
 
--- what each of the two shows
+-- what each of the two shows, and whether the first may have items left: it has none once it gave none from the front
 pub record Two (A B : Type 0) : Type 0 where
   pub first : A
   pub second : B
+  pub first_left : Bool
 
 -- a walk was called from the front once at most
 pub record WalksFront (old new : Walk) : Type 0 where

@@ -1,6 +1,6 @@
 //! Two walks in turn: from the front the first and then the second, from the back the second and then the first.
 
-ghost use Rattle.std.specs.Prelude.{◌≡◌, ℕ, ◌+◌, ◌*◌, ◌^◌, ◌<◌, ◌++◌, List, length, Some, IfSome};
+ghost use Rattle.std.specs.Prelude.{◌≡◌, ℕ, ◌+◌, ◌*◌, ◌^◌, ◌<◌, ◌++◌, List, [], true, false, length, Some, IfSome};
 ghost use Rattle.std.specs.Iterator.{YieldsFirst, YieldsLast, UpTo, at_most};
 ghost use Rattle.bitwalks.specs.Pairs.{WalksFront, WalksBack};
 ghost use Rattle.bitwalks.specs.PairsFacts.{walk_stays, walk_stays_back};
@@ -88,7 +88,11 @@ impl<A: Part + Drop, B: Part + Drop> Model for InTurn<A, B> {
 
     ghost Value = { Two A B };
 
-    ghost view = { λ s. record { first = s.first; second = s.second } };
+    ghost view = { λ s. record {
+      first = s.first;
+      second = s.second;
+      first_left = s.first_left;
+    } };
 
     ghost invariant = { λ s. s.first_left ≡ false → A.items s.first ≡ [] };
 }
@@ -99,6 +103,7 @@ impl<A: Part + Drop, B: Part + Drop> InTurn<A, B> {
     pub fn of(first: A, second: B) -> InTurn<A, B>
         ensures first { result.first ≡ first }
         ensures second { result.second ≡ second }
+        ensures left { result.first_left ≡ true }
     {
         InTurn {
             first,
@@ -107,13 +112,16 @@ impl<A: Part + Drop, B: Part + Drop> InTurn<A, B> {
         }
     }
 
-    /// The first item that the first walk has left, and once it has none, the first of the second.
+    /// The first item that the first walk has left, and once it has none, the first of the second. A first walk that
+    /// gave none is not asked again.
     #[inline]
     pub fn take_first(&mut self) -> Option<usize>
         ensures gives { YieldsFirst
             (λ walk. A.items walk.first ++ B.items walk.second) self.old result self.new }
         ensures first { A.front self.old.first self.new.first }
         ensures second { B.front self.old.second self.new.second }
+        ensures ended { A.items self.old.first ≡ [] → self.new.first_left ≡ false }
+        ensures once { self.old.first_left ≡ false → self.new.first ≡ self.old.first }
     {
         // A loop of one turn at most, so that the compiler keeps the caller's numbers in registers.
         while self.first_left {
@@ -125,13 +133,16 @@ impl<A: Part + Drop, B: Part + Drop> InTurn<A, B> {
         self.second.take_first()
     }
 
-    /// The last item that the second walk has left, and where it has none, the last of the first.
+    /// The last item that the second walk has left, and where it has none, the last of the first. A first walk that gave
+    /// none from the front is not asked again.
     #[inline]
     pub fn take_last(&mut self) -> Option<usize>
         ensures gives { YieldsLast
             (λ walk. A.items walk.first ++ B.items walk.second) self.old result self.new }
         ensures first { A.back self.old.first self.new.first }
         ensures second { B.back self.old.second self.new.second }
+        ensures left { self.new.first_left ≡ self.old.first_left }
+        ensures once { self.old.first_left ≡ false → self.new.first ≡ self.old.first }
     {
         if let Some(position) = self.second.take_last() {
             return Some(position);

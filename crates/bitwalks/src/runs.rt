@@ -125,6 +125,8 @@ impl<'a> Runs<'a> {
     #[inline(always)]
     pub fn into_held(self) -> HeldRuns<'a>
         ensures items { held_stretches result ≡ self.entry.items }
+        ensures low { result.low ≡ self.entry.low }
+        ensures high { result.high ≡ self.entry.high }
         ensures between { IsBetween (is_like result.are_set result.words.now) result.end
             result.low result.high }
         ensures long { result.end ≤ 64 * length result.words.now }
@@ -152,6 +154,8 @@ impl<'a> Runs<'a> {
         requires long { held.end ≤ 64 * length held.words.now }
         requires fits { 64 * length held.words.now ≤ 2 ^ 64 }
         ensures items { result.items ≡ held_stretches held.entry }
+        ensures low { result.low ≡ held.entry.low }
+        ensures high { result.high ≡ held.entry.high }
         ensures steps { result.steps ≡ 0 }
     {
         Runs {

@@ -1,14 +1,16 @@
 -- The positions of a value, as those of its words and of the words in which a set keeps it, and the walks over them.
-use Rattle.std.proofs.Common.{◌≡◌, ℕ, zero, suc, Bool, IsTrue, take, filter, ◌+◌, ◌-◌, ◌*◌, ◌/◌, ◌%◌, ◌^◌, ◌<◌, ◌≤◌, max, not, ◌&&◌, List, ◌++◌, length, map, get_or, slice_get, Option, Some, None, is_some, true, false, refl, sym, ap, ◌∙◌, arith}
+use Rattle.std.proofs.Common.{◌≡◌, ℕ, zero, suc, Bool, IsTrue, take, filter, ◌+◌, ◌-◌, ◌*◌, ◌/◌, ◌%◌, ◌^◌, ◌<◌, ◌≤◌, max, not, ◌&&◌, List, ◌++◌, length, map, get_or, slice_get, Option, Some, None, is_some, true, false, refl, sym, ap, ◌∙◌, arith, ⊎_elim}
 use Rattle.std.specs.Int.{bit_not, w64, div_ceil}
 use Rattle.std.specs.List.{last_or}
+use Rattle.std.proofs.Math.Pow.{pow_pos}
+use Rattle.std.proofs.lemmas.Bool.{cases_lt}
 use Rattle.std.proofs.lemmas.Bool.Decides.{nat_tests}
-use Rattle.std.proofs.lemmas.List.{get_or-map, take_all, length-append}
+use Rattle.std.proofs.lemmas.List.{get_or-map, get_or_past, take_all, length-append}
 use Rattle.bitlanes.specs.BitLaws.{bit-not}
 use Rattle.bitlanes.specs.Ops.{IsWordOp}
 use Rattle.bitwords.specs.Ascending.{ascending}
 use Rattle.bitwords.specs.AscendingFacts.{ascending-same, ascending-skip, ascending-cut, filter-ascending, length-count}
-use Rattle.bitwords.specs.BesideFacts.{length-beside, has_bit-beside}
+use Rattle.bitwords.specs.BesideFacts.{length-beside, get_or-beside, has_bit-beside}
 use Rattle.bitwords.specs.CountFacts.{count-zero, count-suc, count-shorter}
 use Rattle.bitwords.specs.Rows.{has_bit, count_below}
 use Rattle.bitwords.specs.RowFacts.{AreWords}
@@ -18,7 +20,7 @@ use Rattle.bitwalks.specs.Pairs.{Sieved, sieve_over}
 use Rattle.fixedbitset.specs.Ranges.{is_valid, within}
 use Rattle.fixedbitset.specs.RangesFacts.{length-within, contains-within}
 use Rattle.fixedbitset.specs.Walks.{begun, ones_of, zeroes_of}
-use Rattle.fixedbitset.specs.Bits.{Bits, contains, asc, minimum, maximum, complement, is_clear, words, of_words}
+use Rattle.fixedbitset.specs.Bits.{Bits, contains, asc, minimum, maximum, complement, is_clear, words, words_needed, of_words}
 use Rattle.fixedbitset.specs.BitsFacts.{length-complement, contains-complement, contains-past}
 use Rattle.fixedbitset.specs.FirstFacts.{minimum_least, minimum_none}
 use Rattle.fixedbitset.specs.MemberFacts.{is_clear-tells}
@@ -26,7 +28,7 @@ use Rattle.fixedbitset.specs.Stored.{IsClean}
 use Rattle.fixedbitset.specs.TwoSets.{intersection, difference}
 use Rattle.fixedbitset.specs.TwoSetsFacts.{length-intersection, contains-intersection, length-difference, contains-difference}
 use Rattle.fixedbitset.specs.WalkFacts.{length-asc}
-use Rattle.fixedbitset.specs.WordsFacts.{length-words, has_bit-words, are_words}
+use Rattle.fixedbitset.specs.WordsFacts.{length-words, has_bit-words, are_words, words_is, words-asc}
 use Rattle.fixedbitset.proofs.Words.{valid_range, contains_word, holds_all}
 
 -- ---- the positions of a value
@@ -87,9 +89,6 @@ module _ (v : Bits) where
   abbrev inverted : List ℕ
   inverted = map (bit_not w64) (words v)
 
-  pub words-asc : ascending (has_bit (words v)) 0 (64 * length (words v)) ≡ asc v
-  words-asc = row-asc v (has_bit (words v)) (64 * length (words v)) (omega (arith, length-words v)) (has_bit-words v)
-
   -- a position below the length, in the inverted words
   has_bit-zeroes : (p : ℕ) → p < v.length → has_bit inverted p ≡ contains (complement v) p
   has_bit-zeroes p below = grind (arith, nat_tests, has_bit-inverted (words v) p (are_words v) (omega (arith, length-words v)), has_bit-words v p, contains-complement v p)
@@ -116,7 +115,7 @@ module _ (v : Bits) where
 
   -- the walk over the words is that over the value
   pub over_row-begun : over_row (words v) (64 * length (words v)) ≡ begun v
-  over_row-begun = let items = words-asc in λ i. record { items = items i; words = between_ends (words v); turns = 0; taken = 0 }
+  over_row-begun = let items = words-asc v in λ i. record { items = items i; words = between_ends (words v); turns = 0; taken = 0 }
 
 -- the positions of a range that are not set, in the inverted words
 pub zeroes-within : (v : Bits) (start end : ℕ) → IsTrue (is_valid v start end) → ascending (has_bit (inverted v)) start (end - start) ≡ zeroes_of v start end
@@ -147,11 +146,27 @@ module _ {f : ℕ → ℕ → ℕ} {t : Bool → Bool → Bool} {keep take_right
       (λ p below. let first = own p (omega (arith, below, long)) in let second = other p in has_bit-beside law drops ws row are_ws are_row p ∙ (λ i. t (first i) (second i)) ∙ sym (members p))
       (λ p above. past p (omega (arith, above, long)))
 
+  -- they are words
+  words-beside : (ws row : List ℕ) → AreWords ws → AreWords row → AreWords (beside f ws row)
+  words-beside ws row are_ws are_row k =
+      ⊎_elim
+      (λ (within : k < length ws). rw (get_or-beside f ws row k within) (law.fits (get_or ws k 0) (get_or row k 0) (are_ws k) (are_row k)))
+      (λ (past : length ws ≤ k). rw (get_or_past (beside f ws row) k 0 (omega (arith, past, length-beside f ws row))) (pow_pos 64))
+      (cases_lt k (length ws))
+
+  -- as many as the length of a value with these positions needs are its words
+  pub beside-words : (ws row : List ℕ) → AreWords ws → AreWords row → length ws ≡ words_needed u.length → ((p : ℕ) → p < 64 * length ws → has_bit ws p ≡ contains v p)
+      → ((p : ℕ) → has_bit row p ≡ contains w p) → beside f ws row ≡ words u
+  beside-words ws row are_ws are_row count own other =
+      let long = length-beside f ws row in
+      words_is u (beside f ws row) (words-beside ws row are_ws are_row) (long ∙ count)
+      (λ p below. let first = own p (omega (arith, below, long)) in let second = other p in has_bit-beside law drops ws row are_ws are_row p ∙ (λ i. t (first i) (second i)) ∙ sym (members p))
+
 module _ (v w : Bits) where
-  pub asc-intersection : filter (λ p. contains w p) (asc v) ≡ asc (intersection v w)
+  asc-intersection : filter (λ p. contains w p) (asc v) ≡ asc (intersection v w)
   asc-intersection = sieved v (intersection v w) _ (length-intersection v w) (contains-intersection v w)
 
-  pub asc-difference : filter (λ p. not (contains w p)) (asc v) ≡ asc (difference v w)
+  asc-difference : filter (λ p. not (contains w p)) (asc v) ≡ asc (difference v w)
   asc-difference = sieved v (difference v w) _ (length-difference v w) (contains-difference v w)
 
   -- the walk over the words of one value, sieved by those of another

@@ -1,22 +1,24 @@
 -- The values that words stand for, and the words of a value against its positions, for those who call a set.
-use Rattle.std.proofs.Common.{get_or-set_same, get_or-set_other, pow_mono, pow_pos, pow-suc, min, ◌≡◌, ℕ, zero, suc, ◌+◌, ◌-◌, ◌*◌, ◌/◌, ◌%◌, ◌^◌, ◌<◌, ◌≤◌, Bool, true, false, cond, ◌&&◌, ◌==◌, nat_lt, nat_le, List, filter, sum_by, length, get_or, set, ap, ◌∙◌, arith, ⊎_elim}
+use Rattle.std.proofs.Common.{get_or-set_same, get_or-set_other, pow_mono, pow_pos, pow-suc, min, ◌≡◌, ℕ, zero, suc, ◌+◌, ◌-◌, ◌*◌, ◌/◌, ◌%◌, ◌^◌, ◌<◌, ◌≤◌, Bool, true, false, cond, ◌&&◌, ◌==◌, nat_lt, nat_le, List, filter, sum_by, length, get_or, set, sym, ap, ◌∙◌, arith, ⊎_elim}
 use Rattle.std.specs.List.{range_with_len}
 use Rattle.std.specs.Int.{bit_at}
 use Rattle.std.proofs.lemmas.Bool.{cases_Bool}
 use Rattle.std.proofs.lemmas.Bool.Decides.{nat_tests}
 use Rattle.std.proofs.lemmas.List.Elements.{filter-append}
-use Rattle.std.proofs.lemmas.List.{get_or_past}
+use Rattle.std.proofs.lemmas.List.{ext_get_or, get_or_past}
 use Rattle.std.proofs.lemmas.List.Sums.{sum_by-append}
 use Rattle.std.proofs.lemmas.List.FromFn.{length-map-range_with_len, get_or-map-range_with_len}
-use Rattle.std.proofs.lemmas.Nat.Bits.{bit_at_cat_low, bit_at_cat_high, bit_at-zero, bit_at-lt, bit_at_above, bit_at_lowest}
+use Rattle.std.proofs.lemmas.Nat.Bits.{same_from_bits_below, bit_at_cat_low, bit_at_cat_high, bit_at-zero, bit_at-lt, bit_at_above, bit_at_lowest}
 use Rattle.bitlanes.specs.Bits.{bit}
+use Rattle.bitwords.specs.Ascending.{ascending}
+use Rattle.bitwords.specs.AscendingFacts.{ascending-cut}
 use Rattle.bitwords.specs.CountFacts.{indicator, range-push}
 use Rattle.bitwords.specs.Rows.{has_bit}
 use Rattle.bitwords.specs.RowFacts.{AreWords, has_bit-at, has_bit-past}
 use Rattle.fixedbitset.specs.Numbers.{numbers_below, contains-numbers_below}
 use Rattle.fixedbitset.specs.NumbersFacts.{contains-kept}
 use Rattle.fixedbitset.specs.Bits.{Bits, contains, asc, number_at, word, words, words_needed, having, of_words, set_block}
-use Rattle.fixedbitset.specs.BitsFacts.{length-pair, contains-pair, contains_below, same_bits}
+use Rattle.fixedbitset.specs.BitsFacts.{length-pair, contains-pair, contains_below, contains-past, same_bits}
 
 -- ---- the values of words
 
@@ -111,6 +113,22 @@ has_bit-words v p =
 
 pub are_words : (v : Bits) → AreWords (words v)
 are_words v k = grind (arith, get_or-words v k, number_at-lt v (64 * k) 64, get_or_past (words v) k 0, length-words v)
+
+-- words with the positions of a value, as many as its length needs, are its words
+pub words_is : (v : Bits) (ws : List ℕ) → AreWords ws → length ws ≡ words_needed v.length → ((p : ℕ) → p < 64 * length ws → has_bit ws p ≡ contains v p) → ws ≡ words v
+words_is v ws are long same =
+    ext_get_or 0 _ _ (long ∙ sym (length-words v)) (λ j h.
+    same_from_bits_below 64 _ _ (are j) (number_at-lt v (64 * j) 64) (λ i l.
+    sym (indicator-has_bit ws j i l) ∙ ap indicator (same (64 * j + i) (omega arith)) ∙ sym (bit_at-number_at v (64 * j) 64 i l))
+    ∙ sym (get_or-words v j (omega (arith, h, long))))
+
+-- the positions of the words, in ascending order, are those of the value
+pub words-asc : (v : Bits) → ascending (has_bit (words v)) 0 (64 * length (words v)) ≡ asc v
+unfolding asc
+words-asc v =
+    let room : v.length + (64 * length (words v) - v.length) ≡ 64 * length (words v) = omega (arith, length-words v) in
+    ap (ascending (has_bit (words v)) 0) (sym room)
+    ∙ ascending-cut (has_bit (words v)) (contains v) 0 v.length (64 * length (words v) - v.length) (λ p _ _. has_bit-words v p) (λ p past _. has_bit-words v p ∙ contains-past v p (omega (arith, past)))
 
 -- the value of the words of a value is that value
 pub of_words-words : (v : Bits) → of_words v.length (words v) ≡ v

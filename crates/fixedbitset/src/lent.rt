@@ -41,9 +41,7 @@ pub use ranges::{
 pub use shifts::{
     copy_range, shift_down, shift_up, slice, union_with_own_shift, union_with_shifted,
 };
-pub use walks::{
-    difference, intersection, ones, ones_beside, ones_in, runs, zero_runs, zeroes, zeroes_in,
-};
+pub use walks::{difference, intersection, ones, ones_in, runs, zero_runs, zeroes, zeroes_in};
 pub use whole::{
     compare, difference_count, difference_with, first_lacking, intersect_with, intersection_count,
     is_disjoint, is_equal, is_subset, symmetric_difference_count, symmetric_difference_with,
@@ -86,6 +84,23 @@ pub fn is_clean(words: &[Block], length: usize) -> bool
     ensures { IsTrue result ↔ IsClean length words.now }
 {
     words.len() == storage_words(length) && positions::none_from(words, length)
+}
+
+/// The words that the length needs, without those behind them that make up a whole lane: those that
+/// [`as_slice`](crate::FixedBitSet::as_slice) lends. The walks go over these.
+///
+/// ```
+/// let mut words = [9, 2, 0, 0];
+/// lent::settle(&mut words, 70, 70);
+/// assert_eq!(rt; lent::used_words(&words, 70), [9, 2].as_slice());
+/// ```
+#[inline(always)]
+pub fn used_words<'a>(words: &'a [Block], length: usize) -> &'a [Block]
+    requires { IsClean length words.now }
+    ensures value { result.now ≡ model.words (of_words length words.now) }
+    ensures count { prelude.length result.now ≡ model.words_needed length }
+{
+    &words[..length.div_ceil(BITS)]
 }
 
 /// Whether the position is set: `false` at or past the length.
@@ -336,16 +351,6 @@ pub(crate) fn holds(words: &[Block], length: usize, bit: usize) -> bool
     ensures { result ≡ model.contains (of_words length words.now) bit }
 {
     words[bit / BITS] & (1 << (bit % BITS)) != 0
-}
-
-// The words that the length needs, without those behind them that make up a whole lane.
-#[inline(always)]
-pub(crate) fn used_words<'a>(words: &'a [Block], length: usize) -> &'a [Block]
-    requires { IsClean length words.now }
-    ensures value { result.now ≡ model.words (of_words length words.now) }
-    ensures count { prelude.length result.now ≡ model.words_needed length }
-{
-    &words[..length.div_ceil(BITS)]
 }
 
 // How many positions of word `index` are below the length.

@@ -109,6 +109,7 @@ fn pass(
     requires from { from < length ins.old }
     requires to { to < length ins.old }
     requires fits { Fits (facts_of kills.now) kills.now ins.old outs.old }
+    ensures due { result ≡ true → IsTrue (model.contains due.now from) }
     ensures more { result ≡ true → ¬ (IsPassed ins.old outs.old (from, to)) }
     ensures none { result ≡ false → IsTrue (model.contains due.now from)
         → IsPassed ins.old outs.old (from, to) }

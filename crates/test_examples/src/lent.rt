@@ -18,6 +18,13 @@ fn is_clean(rt: HostRuntime) {
 }
 
 #[test]
+fn used_words(rt: HostRuntime) {
+    let mut words = [9, 2, 0, 0];
+    lent::settle(&mut words, 70, 70);
+    equal(&rt, lent::used_words(&words, 70), [9, 2].as_slice());
+}
+
+#[test]
 fn contains(rt: HostRuntime) {
     let mut words = [8, 1, 0, 0];
     lent::settle(&mut words, 70, 70);

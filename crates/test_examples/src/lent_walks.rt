@@ -11,14 +11,6 @@ fn ones(rt: HostRuntime) {
 }
 
 #[test]
-fn ones_beside(rt: HostRuntime) {
-    let (mut words, mut other) = ([9, 2, 0, 0], [1, 2, 0, 0]);
-    lent::settle(&mut words, 70, 70);
-    lent::settle(&mut other, 66, 66);
-    gives(&rt, lent::ones_beside(&words, 70, &other, 66), &[0, 3, 65]);
-}
-
-#[test]
 fn intersection(rt: HostRuntime) {
     let (mut words, mut other) = ([9, 2, 0, 0], [1, 2, 0, 0]);
     lent::settle(&mut words, 70, 70);

@@ -27,7 +27,7 @@ pub enum Whole {
     IntersectWith { a: usize, b: usize },
     /// `a` keeps the positions that `b` lacks; its length stays.
     DifferenceWith { a: usize, b: usize },
-    /// The same as `IntersectWith`, by `&=`.
+    /// The same as `IntersectWith`.
     BitandAssign { a: usize, b: usize },
 }
 

@@ -1,14 +1,18 @@
 //! Walks over the positions of a set, and over those that it lacks.
+//!
+//! A walk goes over the words that the length needs, and not over those behind them that make up a whole lane. It has read
+//! the first and the last of them, and those between are not yet taken.
 
-ghost use Rattle.std.specs.Prelude.{◌≡◌, IsTrue, not, filter};
-ghost use Rattle.bitwords.specs.Rows.{has_bit};
+ghost use Rattle.std.specs.Prelude.{◌≡◌, IsTrue, map};
+ghost use Rattle.std.specs.Int.{bit_not, w64};
+ghost use Rattle.bitwords.specs.Walk.{between_ends};
 ghost use Rattle.fixedbitset.specs.Bits as model;
 ghost use Rattle.fixedbitset.specs.Bits.{of_words};
 ghost use Rattle.fixedbitset.specs.Ranges.{is_valid};
 ghost use Rattle.fixedbitset.specs.Runs as stretches;
 ghost use Rattle.fixedbitset.specs.Stored.{IsClean};
 ghost use Rattle.fixedbitset.specs.TwoSets as sets;
-ghost use Rattle.fixedbitset.specs.Walks.{ones_of, zeroes_of};
+ghost use Rattle.fixedbitset.specs.Walks.{ones_of, zeroes_of, words_of, zero_words_of};
 
 use crate::lent::used_words;
 use bitlanes::Block;
@@ -26,37 +30,11 @@ use bitwords::cursors::{Beside, Cursor, Inverted, Plain, ones_within, zeroes_wit
 #[inline(always)]
 pub fn ones<'a>(words: &'a [Block], length: usize) -> Cursor<Plain<'a>>
     requires { IsClean length words.now }
-    ensures { result.items ≡ model.asc (of_words length words.now) }
+    ensures items { result.items ≡ model.asc (of_words length words.now) }
+    ensures words { result.words ≡ between_ends (model.words (of_words length words.now)) }
 {
     let words = used_words(words, length);
     Cursor::over(Plain { words })
-}
-
-/// The positions that are set, in ascending order, for a walk that looks each of them up in `other`: those that `other`
-/// has are the intersection, and those that it lacks the difference.
-///
-/// ```
-/// let (mut words, mut other) = ([9, 2, 0, 0], [1, 2, 0, 0]);
-/// lent::settle(&mut words, 70, 70);
-/// lent::settle(&mut other, 66, 66);
-/// assert!(rt; lent::ones_beside(&words, 70, &other, 66).eq([0, 3, 65]));
-/// ```
-#[inline(always)]
-pub fn ones_beside<'a>(
-    words: &'a [Block],
-    length: usize,
-    other: &[Block],
-    other_length: usize,
-) -> Cursor<Plain<'a>>
-    requires lent { IsClean length words.now }
-    requires lent_other { IsClean other_length other.now }
-    ensures items { result.items ≡ model.asc (of_words length words.now) }
-    ensures shared { filter (λ p. has_bit other.now p) result.items ≡ model.asc
-        (sets.intersection (of_words length words.now) (of_words other_length other.now)) }
-    ensures lacked { filter (λ p. not (has_bit other.now p)) result.items ≡ model.asc
-        (sets.difference (of_words length words.now) (of_words other_length other.now)) }
-{
-    ones(words, length)
 }
 
 /// The positions that both sets have, in ascending order. It looks at no word that only one of them has.
@@ -76,10 +54,13 @@ pub fn intersection<'a>(
 ) -> Cursor<Beside<'a, And>>
     requires lent { IsClean length words.now }
     requires lent_other { IsClean other_length other.now }
-    ensures { result.items ≡ model.asc
+    ensures items { result.items ≡ model.asc
         (sets.intersection (of_words length words.now) (of_words other_length other.now)) }
+    ensures words { result.words ≡ between_ends (model.words
+        (sets.bitand (of_words length words.now) (of_words other_length other.now))) }
 {
     let words = used_words(words, length);
+    let other = used_words(other, other_length);
     let shared = words.len().min(other.len());
     Cursor::over(Beside::of(&words[..shared], other))
 }
@@ -101,8 +82,10 @@ pub fn difference<'a>(
 ) -> Cursor<Beside<'a, AndNot>>
     requires lent { IsClean length words.now }
     requires lent_other { IsClean other_length other.now }
-    ensures { result.items ≡ model.asc
+    ensures items { result.items ≡ model.asc
         (sets.difference (of_words length words.now) (of_words other_length other.now)) }
+    ensures words { result.words ≡ between_ends (model.words
+        (sets.difference (of_words length words.now) (of_words other_length other.now))) }
 {
     Cursor::over(Beside::of(used_words(words, length), other))
 }
@@ -117,7 +100,9 @@ pub fn difference<'a>(
 #[inline(always)]
 pub fn zeroes<'a>(words: &'a [Block], length: usize) -> Cursor<Inverted<'a>>
     requires { IsClean length words.now }
-    ensures { result.items ≡ model.asc (model.complement (of_words length words.now)) }
+    ensures items { result.items ≡ model.asc (model.complement (of_words length words.now)) }
+    ensures words { result.words
+        ≡ between_ends (map (bit_not w64) (model.words (of_words length words.now))) }
 {
     zeroes_within(used_words(words, length), 0, length)
 }
@@ -133,7 +118,10 @@ pub fn zeroes<'a>(words: &'a [Block], length: usize) -> Cursor<Inverted<'a>>
 #[tactic(auto, using(crate::proofs::Stretches::runs_of, crate::proofs::Words::of_length))]
 pub fn runs<'a>(words: &'a [Block], length: usize) -> Runs<'a>
     requires { IsClean length words.now }
-    ensures { result.items ≡ stretches.runs (of_words length words.now) }
+    ensures items { result.items ≡ stretches.runs (of_words length words.now) }
+    ensures low { result.low ≡ 0 }
+    ensures high { result.high ≡ length }
+    ensures steps { result.steps ≡ 0 }
 {
     Runs::below(used_words(words, length), true, length)
 }
@@ -149,7 +137,10 @@ pub fn runs<'a>(words: &'a [Block], length: usize) -> Runs<'a>
 #[tactic(auto, using(crate::proofs::Stretches::zero_runs_of, crate::proofs::Words::of_length))]
 pub fn zero_runs<'a>(words: &'a [Block], length: usize) -> Runs<'a>
     requires { IsClean length words.now }
-    ensures { result.items ≡ stretches.zero_runs (of_words length words.now) }
+    ensures items { result.items ≡ stretches.zero_runs (of_words length words.now) }
+    ensures low { result.low ≡ 0 }
+    ensures high { result.high ≡ length }
+    ensures steps { result.steps ≡ 0 }
 {
     Runs::below(used_words(words, length), false, length)
 }
@@ -165,7 +156,8 @@ pub fn zero_runs<'a>(words: &'a [Block], length: usize) -> Runs<'a>
 pub fn ones_in<'a>(words: &'a [Block], length: usize, start: usize, end: usize) -> Cursor<Plain<'a>>
     requires lent { IsClean length words.now }
     requires valid { IsTrue (is_valid (of_words length words.now) start end) }
-    ensures { result.items ≡ ones_of (of_words length words.now) start end }
+    ensures items { result.items ≡ ones_of (of_words length words.now) start end }
+    ensures words { result.words ≡ words_of (of_words length words.now) start end }
 {
     ones_within(used_words(words, length), start, end)
 }
@@ -186,7 +178,8 @@ pub fn zeroes_in<'a>(
 ) -> Cursor<Inverted<'a>>
     requires lent { IsClean length words.now }
     requires valid { IsTrue (is_valid (of_words length words.now) start end) }
-    ensures { result.items ≡ zeroes_of (of_words length words.now) start end }
+    ensures items { result.items ≡ zeroes_of (of_words length words.now) start end }
+    ensures words { result.words ≡ zero_words_of (of_words length words.now) start end }
 {
     zeroes_within(used_words(words, length), start, end)
 }

@@ -1,21 +1,28 @@
-use Rattle.std.proofs.Common.{sym, arith}
-use Rattle.bitlanes.proofs.Kept.{kept_none, kept_lane, kept_part, kept_take}
+use Rattle.std.proofs.Common.{take, arith}
+use Rattle.std.proofs.lemmas.List.{length-take-le}
+use Rattle.bitlanes.proofs.Kept.{kept_next, kept_rest, kept_whole}
 use Rattle.bitlanes.proofs.lanes.apply.Goals as goal
 
-pub loop-lane-init : goal.loop-lane-init
-loop-lane-init g c = record { words = sym (kept_none g.O.WordOp.joined c.args.dst.now); cost = omega arith }
-
-pub loop-lane-preserved : goal.loop-lane-preserved
-loop-lane-preserved g c = record { words = grind (arith, kept_lane); cost = omega arith }
+pub loop-at-preserved : goal.loop-at-preserved
+loop-at-preserved g c =
+    let m = c.min-words.result in
+    let before = c.loop-at.invariant in
+    let long = length-take-le m c.args.dst.now (omega (arith, c.min-words.ensures)) in
+    let long_other = length-take-le m c.args.src.now (omega (arith, c.min-words.ensures)) in
+    record {
+      words =
+          rw (c.join_lane.ensures, before.words)
+          (kept_next g.O.WordOp.joined 4 c.loop-at.at (take m c.args.dst.now) (take m c.args.src.now) (omega (arith, long, c.loop-at-test.true)) (omega (arith, long_other, c.loop-at-test.true)));
+      within = omega (arith, c.loop-at-test.true);
+      cost = omega (arith, c.tick.ensures, before.cost);
+    }
 
 pub returns-then-rest-gt0-clause-words : goal.returns-then-rest-gt0-clause-words
-returns-then-rest-gt0-clause-words g c = grind (arith, kept_part)
+returns-then-rest-gt0-clause-words g c =
+    let before = c.loop-at.invariant in
+    rw (c.join_part.ensures, before.words) (kept_rest g.O.WordOp.joined c.min-words.result c.loop-at.at c.args.dst.now c.args.src.now c.min-words.ensures before.within)
 
 pub returns-else-rest-gt0-clause-words : goal.returns-else-rest-gt0-clause-words
-returns-else-rest-gt0-clause-words g c = grind (arith, kept_take)
-
-pub returns-then-rest-gt0-clause-cost : goal.returns-then-rest-gt0-clause-cost
-returns-then-rest-gt0-clause-cost g c = omega arith
-
-pub returns-else-rest-gt0-clause-cost : goal.returns-else-rest-gt0-clause-cost
-returns-else-rest-gt0-clause-cost g c = omega arith
+returns-else-rest-gt0-clause-words g c =
+    let before = c.loop-at.invariant in
+    rw before.words (kept_whole g.O.WordOp.joined c.min-words.result c.loop-at.at c.args.dst.now c.args.src.now c.min-words.ensures (omega (arith, before.within, c.if-rest-gt0.false)))

@@ -1,9 +1,13 @@
-use Rattle.std.proofs.Common.{◌≡◌, ◌+◌, ◌*◌, take, true, false}
+use Rattle.std.proofs.Common.{◌≡◌, ◌+◌, ◌-◌, ◌*◌, ◌≤◌, take, true, false}
 use Rattle.bitlanes.specs.Words.{zip_longest}
 use Rattle.bitlanes.proofs.lanes.apply.Given as goal
 
-abbrev pub invariant-loop-lane : goal.invariant-loop-lane
-invariant-loop-lane g l = record {
-  words : l.dst ≡ zip_longest g.O.WordOp.joined true false l.fn.dst (take (4 * l.lane) l.src);
-  cost : l.steps ≡ l.fn.steps + l.lane;
+abbrev pub invariant-loop-at : goal.invariant-loop-at
+invariant-loop-at g l = record {
+  words : l.dst ≡ zip_longest g.O.WordOp.joined true false l.initial.dst (take l.at l.src);
+  within : l.at ≤ l.words;
+  cost : 4 * l.steps ≡ 4 * l.fn.steps + l.at;
 }
+
+abbrev pub decreases-loop-at : goal.decreases-loop-at
+decreases-loop-at g l = l.words - l.at

@@ -1,24 +1,21 @@
-use Rattle.std.proofs.Common.{arith, ◌*◌, ◌==◌, ℕ, refl}
+use Rattle.std.proofs.Common.{arith, ◌≡◌, ◌+◌, ◌-◌, ◌==◌, ℕ, List, length}
 use Rattle.std.specs.Simd.Lanes.{zip2}
-use Rattle.bitlanes.proofs.Filling.{all_joined_part}
+use Rattle.bitlanes.proofs.Filling.{all_part}
 use Rattle.bitlanes.proofs.Folding.{fails_within}
-use Rattle.bitlanes.proofs.Zipping.{all_joined}
+use Rattle.bitlanes.proofs.Zipping.{cut_joined, length_joined}
 use Rattle.bitlanes.proofs.lanes.none.Goals as goal
 
 pub returns-then-not-is_zero-clause-zero : goal.returns-then-not-is_zero-clause-zero
-returns-then-not-is_zero-clause-zero g c = grind (arith, fails_within (λ (word : ℕ). word == 0) (4 * c.loop-lane.lane) 4 (zip2 g.O.WordOp.joined c.args.a.now c.args.b.now))
-
-pub loop-lane-init : goal.loop-lane-init
-loop-lane-init g c = record { zero = refl; cost = omega arith }
+returns-then-not-is_zero-clause-zero g c =
+    let f = g.O.WordOp.joined in
+    let cut = cut_joined f c.min-common.result c.args.a.now c.args.b.now c.min-common.ensures in
+    grind (arith, rw cut at c.lane_at.ensures, fails_within (λ (word : ℕ). word == 0) c.loop-at.at 4 (zip2 f c.args.a.now c.args.b.now))
 
 pub returns-then-rest-gt0-clause-zero : goal.returns-then-rest-gt0-clause-zero
-returns-then-rest-gt0-clause-zero g c = grind (arith, all_joined_part)
-
-pub returns-clause-zero : goal.returns-clause-zero
-returns-clause-zero g c = grind (arith, all_joined)
-
-pub returns-then-rest-gt0-clause-whole : goal.returns-then-rest-gt0-clause-whole
-returns-then-rest-gt0-clause-whole g c t = omega arith
-
-pub returns-clause-whole : goal.returns-clause-whole
-returns-clause-whole g c t = omega arith
+returns-then-rest-gt0-clause-zero g c =
+    let f = g.O.WordOp.joined in
+    let w = c.min-common.result in
+    let all : List ℕ = zip2 f c.args.a.now c.args.b.now in
+    let cut = cut_joined f w c.args.a.now c.args.b.now c.min-common.ensures in
+    let long : c.loop-at.at + (w - c.loop-at.at) ≡ length all = omega (arith, length_joined f c.args.a.now c.args.b.now, c.min-common.ensures, c.loop-at.invariant.within) in
+    rw (c.is_zero-then-rest-gt0.ensures, c.joined_part_at.ensures, cut) (all_part c.loop-at.at (w - c.loop-at.at) all long (rw cut at c.loop-at.invariant.zero))

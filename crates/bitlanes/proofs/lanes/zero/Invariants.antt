@@ -1,9 +1,9 @@
-use Rattle.std.proofs.Common.{◌≡◌, ◌+◌, ◌-◌, ◌*◌, ◌%◌, min, length, take, drop, replicate}
+use Rattle.std.proofs.Common.{◌≡◌, ◌+◌, take, replicate}
+use Rattle.bitlanes.specs.Words.{lane_steps}
 use Rattle.bitlanes.proofs.lanes.zero.Given as goal
 
-abbrev pub invariant-loop-lane : goal.invariant-loop-lane
-invariant-loop-lane l = record {
-  words : take (4 * l.lane) l.dst ≡ replicate (4 * l.lane) 0;
-  rest : drop (4 * l.lanes) l.dst ≡ replicate (length l.fn.dst - 4 * l.lanes) 0;
-  cost : l.steps ≡ l.fn.steps + min 1 (length l.fn.dst % 4) + l.lane;
+abbrev pub invariant-loop-place : goal.invariant-loop-place
+invariant-loop-place l = record {
+  words : take l.place l.dst ≡ replicate l.place 0;
+  cost : l.steps ≡ l.fn.steps + lane_steps l.place;
 }

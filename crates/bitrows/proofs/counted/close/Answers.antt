@@ -3,8 +3,8 @@ use Rattle.std.specs.Vec.{with_items}
 use Rattle.bitrows.specs.Tables.{Table}
 use Rattle.bitrows.specs.Paths.{HasEdge, IsConnected, IsPairCount}
 use Rattle.bitrows.specs.Stored.{table_in}
-use Rattle.bitrows.specs.StoredFacts.{length-table}
-use Rattle.bitrows.proofs.Rows.{given_back, viewed_columns, viewed_rows, columns-table}
+use Rattle.bitrows.specs.StoredFacts.{length-table, columns-table}
+use Rattle.bitrows.proofs.Rows.{given_back, viewed_columns, viewed_rows}
 use Rattle.bitrows.proofs.counted.close.Goals as goal
 
 pub close-requires : goal.close-requires

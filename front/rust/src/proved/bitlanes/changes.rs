@@ -22,16 +22,18 @@ use crate::shim::simd::prelude::*;
 #[inline(always)]
 pub fn apply<O: WordOp>(dst: &mut [Block], src: &[Block], steps: &mut Steps) -> bool {
     let words = dst.len().min(src.len());
-    let lanes = words / LANE;
+    let (dst, src) = (&mut dst[..words], &src[..words]);
+    let mut at = 0;
     let mut changed = u64x4::splat(0);
-    for lane in 0..lanes {
+    while at + LANE <= words {
         steps.tick();
-        changed = gathered(changed, change_lane::<O>(dst, src, LANE * lane));
+        changed = gathered(changed, change_lane::<O>(dst, src, at));
+        at += LANE;
     }
-    let rest = words % LANE;
+    let rest = words - at;
     if rest > 0 {
         steps.tick();
-        changed = gathered(changed, change_part::<O>(dst, src, LANE * lanes, rest));
+        changed = gathered(changed, change_part::<O>(dst, src, at, rest));
     }
     !is_zero(changed)
 }
@@ -56,21 +58,20 @@ pub fn apply_joined<O: WordOp, T: WordOp>(
     steps: &mut Steps,
 ) -> bool {
     let words = dst.len().min(a.len().min(b.len()));
-    let lanes = words / LANE;
+    let (dst, a, b) = (&mut dst[..words], &a[..words], &b[..words]);
+    let mut at = 0;
     let mut changed = u64x4::splat(0);
-    for lane in 0..lanes {
+    while at + LANE <= words {
         steps.tick();
-        let joined = lane_at::<T>(a, b, LANE * lane);
-        changed = gathered(changed, change_by_lane::<O>(dst, LANE * lane, joined));
+        let joined = lane_at::<T>(a, b, at);
+        changed = gathered(changed, change_by_lane::<O>(dst, at, joined));
+        at += LANE;
     }
-    let rest = words % LANE;
+    let rest = words - at;
     if rest > 0 {
         steps.tick();
-        let joined = joined_part_at::<T>(a, b, LANE * lanes, rest);
-        changed = gathered(
-            changed,
-            change_by_part::<O>(dst, LANE * lanes, rest, joined),
-        );
+        let joined = joined_part_at::<T>(a, b, at, rest);
+        changed = gathered(changed, change_by_part::<O>(dst, at, rest, joined));
     }
     !is_zero(changed)
 }
@@ -88,18 +89,18 @@ pub fn apply_joined<O: WordOp, T: WordOp>(
 #[inline(always)]
 pub fn zero(dst: &mut [Block], steps: &mut Steps) -> bool {
     let words = dst.len();
-    let lanes = words / LANE;
+    let mut at = 0;
     let mut changed = u64x4::splat(0);
-    for lane in 0..lanes {
+    while at + LANE <= words {
         steps.tick();
-        changed = gathered(changed, u64x4::from_slice(&dst[LANE * lane..]));
-        u64x4::splat(0).copy_to_slice(&mut dst[LANE * lane..]);
+        changed = gathered(changed, clear_lane(dst, at));
+        at += LANE;
     }
-    let rest = words % LANE;
+    let rest = words - at;
     if rest > 0 {
         steps.tick();
-        changed = gathered(changed, part_at(dst, LANE * lanes, rest));
-        put_part(dst, LANE * lanes, rest, u64x4::splat(0));
+        changed = gathered(changed, part_at(dst, at, rest));
+        put_part(dst, at, rest, u64x4::splat(0));
     }
     !is_zero(changed)
 }
@@ -113,16 +114,24 @@ fn gathered(before: u64x4, lane: u64x4) -> u64x4 {
 // Joins the four words of `dst` from `at` on with those of `src`, and answers the bits that changed.
 #[inline(always)]
 fn change_lane<O: WordOp>(dst: &mut [Block], src: &[Block], at: usize) -> u64x4 {
-    change_by_lane::<O>(dst, at, u64x4::from_slice(&src[at..]))
+    change_by_lane::<O>(dst, at, u64x4::from_slice(&src[at..at + LANE]))
 }
 
 // Joins the four words of `dst` from `at` on with a lane, and answers the bits that changed.
 #[inline(always)]
 fn change_by_lane<O: WordOp>(dst: &mut [Block], at: usize, lane: u64x4) -> u64x4 {
-    let old = u64x4::from_slice(&dst[at..]);
+    let old = u64x4::from_slice(&dst[at..at + LANE]);
     let new = O::lane(old, lane);
-    new.copy_to_slice(&mut dst[at..]);
+    new.copy_to_slice(&mut dst[at..at + LANE]);
     old ^ new
+}
+
+// Makes the four words of `dst` from `at` on 0, and answers what they were.
+#[inline(always)]
+fn clear_lane(dst: &mut [Block], at: usize) -> u64x4 {
+    let old = u64x4::from_slice(&dst[at..at + LANE]);
+    u64x4::splat(0).copy_to_slice(&mut dst[at..at + LANE]);
+    old
 }
 
 // Joins the last one to three words of `dst`, from `at` on, with those of `src`, and answers the bits that changed.

@@ -13,7 +13,7 @@ enum Tally {
 
 /// How many steps were taken: a whole number with no greatest. It takes no bytes.
 ///
-/// A step is one lane of four words in one turn of a kernel of `lanes`, or one word in one turn of another loop.
+/// A step is one lane of four words that a kernel of `lanes` goes over, or one word that another loop does.
 #[derive(Clone)]
 pub struct Steps {
     tally: Snapshot<Tally>,

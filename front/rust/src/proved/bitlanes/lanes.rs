@@ -31,15 +31,17 @@ const LONG: usize = 512;
 #[inline(always)]
 pub fn apply<O: WordOp>(dst: &mut [Block], src: &[Block], steps: &mut Steps) {
     let words = dst.len().min(src.len());
-    let lanes = words / LANE;
-    for lane in 0..lanes {
+    let (dst, src) = (&mut dst[..words], &src[..words]);
+    let mut at = 0;
+    while at + LANE <= words {
         steps.tick();
-        join_lane::<O>(dst, src, LANE * lane);
+        join_lane::<O>(dst, src, at);
+        at += LANE;
     }
-    let rest = words % LANE;
+    let rest = words - at;
     if rest > 0 {
         steps.tick();
-        join_part::<O>(dst, src, LANE * lanes, rest);
+        join_part::<O>(dst, src, at, rest);
     }
 }
 
@@ -74,17 +76,19 @@ pub fn count<O: WordOp>(a: &[Block], b: &[Block], steps: &mut Steps) -> usize {
 #[inline(always)]
 pub fn none<O: WordOp>(a: &[Block], b: &[Block], steps: &mut Steps) -> bool {
     let common = a.len().min(b.len());
-    let lanes = common / LANE;
-    for lane in 0..lanes {
+    let (a, b) = (&a[..common], &b[..common]);
+    let mut at = 0;
+    while at + LANE <= common {
         steps.tick();
-        if !is_zero(lane_at::<O>(a, b, LANE * lane)) {
+        if !is_zero(lane_at::<O>(a, b, at)) {
             return false;
         }
+        at += LANE;
     }
-    let rest = common % LANE;
+    let rest = common - at;
     if rest > 0 {
         steps.tick();
-        return is_zero(joined_part_at::<O>(a, b, LANE * lanes, rest));
+        return is_zero(joined_part_at::<O>(a, b, at, rest));
     }
     true
 }
@@ -100,16 +104,12 @@ pub fn none<O: WordOp>(a: &[Block], b: &[Block], steps: &mut Steps) -> bool {
 /// ```
 #[inline(always)]
 pub fn zero(dst: &mut [Block], steps: &mut Steps) {
-    let lanes = dst.len() / LANE;
-    // The rest comes first, for the loop is a call of `memset`, with no return to here.
-    let rest = dst.len() % LANE;
-    if rest > 0 {
-        steps.tick();
-        put_part(dst, LANE * lanes, rest, u64x4::splat(0));
-    }
-    for lane in 0..lanes {
-        steps.tick();
-        u64x4::splat(0).copy_to_slice(&mut dst[LANE * lane..]);
+    // The loop is one call of `memset`: a step is no code.
+    for place in 0..dst.len() {
+        if place % LANE == 0 {
+            steps.tick();
+        }
+        dst[place] = 0;
     }
 }
 
@@ -138,17 +138,18 @@ pub fn count_one(a: &[Block], steps: &mut Steps) -> usize {
 #[inline(always)]
 pub fn none_one(a: &[Block], steps: &mut Steps) -> bool {
     let words = a.len();
-    let lanes = words / LANE;
-    for lane in 0..lanes {
+    let mut at = 0;
+    while at + LANE <= words {
         steps.tick();
-        if !is_zero(u64x4::from_slice(&a[LANE * lane..])) {
+        if !is_zero(u64x4::from_slice(&a[at..at + LANE])) {
             return false;
         }
+        at += LANE;
     }
-    let rest = words % LANE;
+    let rest = words - at;
     if rest > 0 {
         steps.tick();
-        return is_zero(part_at(a, LANE * lanes, rest));
+        return is_zero(part_at(a, at, rest));
     }
     true
 }
@@ -165,17 +166,18 @@ pub fn none_one(a: &[Block], steps: &mut Steps) -> bool {
 #[inline(always)]
 pub fn none_masked<O: WordOp>(mask: Block, words: &[Block], steps: &mut Steps) -> bool {
     let count = words.len();
-    let lanes = count / LANE;
-    for lane in 0..lanes {
+    let mut at = 0;
+    while at + LANE <= count {
         steps.tick();
-        if !is_zero(masked_lane_at::<O>(mask, words, LANE * lane)) {
+        if !is_zero(masked_lane_at::<O>(mask, words, at)) {
             return false;
         }
+        at += LANE;
     }
-    let rest = count % LANE;
+    let rest = count - at;
     if rest > 0 {
         steps.tick();
-        return is_zero(masked_part_at::<O>(mask, words, LANE * lanes, rest));
+        return is_zero(masked_part_at::<O>(mask, words, at, rest));
     }
     true
 }
@@ -183,14 +185,20 @@ pub fn none_masked<O: WordOp>(mask: Block, words: &[Block], steps: &mut Steps) -
 // Joins the four words of `dst` from `at` on with those of `src`.
 #[inline(always)]
 fn join_lane<O: WordOp>(dst: &mut [Block], src: &[Block], at: usize) {
-    let lane = O::lane(u64x4::from_slice(&dst[at..]), u64x4::from_slice(&src[at..]));
-    lane.copy_to_slice(&mut dst[at..]);
+    let lane = O::lane(
+        u64x4::from_slice(&dst[at..at + LANE]),
+        u64x4::from_slice(&src[at..at + LANE]),
+    );
+    lane.copy_to_slice(&mut dst[at..at + LANE]);
 }
 
 // The four joined words from `at` on.
 #[inline(always)]
 pub(crate) fn lane_at<O: WordOp>(a: &[Block], b: &[Block], at: usize) -> u64x4 {
-    O::lane(u64x4::from_slice(&a[at..]), u64x4::from_slice(&b[at..]))
+    O::lane(
+        u64x4::from_slice(&a[at..at + LANE]),
+        u64x4::from_slice(&b[at..at + LANE]),
+    )
 }
 
 // The mask joined with each of the four words from `at` on.
@@ -216,6 +224,7 @@ fn count_from<O: WordOp>(
     words: usize,
     steps: &mut Steps,
 ) -> usize {
+    let (a, b) = (&a[..words], &b[..words]);
     let mut total = total;
     for at in LANE * lanes..words {
         if at % LANE == 0 {
@@ -254,20 +263,22 @@ pub(crate) fn is_zero(lane: u64x4) -> bool {
 // would be a call of `memcpy`.
 #[inline(always)]
 pub(crate) fn part_at(words: &[Block], at: usize, rest: usize) -> u64x4 {
-    let second = if rest > 1 { words[at + 1] } else { 0 };
-    let third = if rest > 2 { words[at + 2] } else { 0 };
-    u64x4::from_array([words[at], second, third, 0])
+    let words = &words[at..at + rest];
+    let second = if rest > 1 { words[1] } else { 0 };
+    let third = if rest > 2 { words[2] } else { 0 };
+    u64x4::from_array([words[0], second, third, 0])
 }
 
 // Writes the first one to three words of the lane, from `at` on, by tests as `part_at` reads them.
 #[inline(always)]
 pub(crate) fn put_part(words: &mut [Block], at: usize, rest: usize, lane: u64x4) {
+    let words = &mut words[at..at + rest];
     let [first, second, third, _] = lane.to_array();
-    words[at] = first;
+    words[0] = first;
     if rest > 1 {
-        words[at + 1] = second;
+        words[1] = second;
         if rest > 2 {
-            words[at + 2] = third;
+            words[2] = third;
         }
     }
 }

@@ -22,23 +22,22 @@ use crate::shim::simd::prelude::*;
 /// ```
 #[inline(always)]
 pub fn join_down<O: WordOp>(dst: &mut [Block], src: &[Block], from: usize, steps: &mut Steps) {
-    let first = from / BITS;
+    let first = (from / BITS).min(src.len());
     let shift = from % BITS;
-    let words = dst.len().min(src.len().saturating_sub(first));
-    let lanes = words.saturating_sub(1) / LANE;
-    for lane in 0..lanes {
+    let words = dst.len().min(src.len() - first);
+    let (dst, src) = (&mut dst[..words], &src[first..]);
+    let whole = &src[..words];
+    let mut done = 0;
+    while done + LANE < words {
         steps.tick();
-        join_lane::<O>(
-            dst,
-            LANE * lane,
-            window_lane(src, first + LANE * lane, shift),
-        );
+        join_lane::<O>(dst, done, window_lane(whole, done, shift));
+        done += LANE;
     }
-    for at in LANE * lanes..words {
+    for at in done..words {
         if at % LANE == 0 {
             steps.tick();
         }
-        dst[at] = O::word(dst[at], window_word(src, first + at, shift));
+        dst[at] = O::word(dst[at], window_word(src, at, shift));
     }
 }
 
@@ -130,8 +129,8 @@ pub fn word_from(words: &[Block], from: usize) -> Block {
 fn window_lane(words: &[Block], at: usize, shift: usize) -> u64x4 {
     straddle_lane(
         shift,
-        u64x4::from_slice(&words[at..]),
-        u64x4::from_slice(&words[at + 1..]),
+        u64x4::from_slice(&words[at..at + LANE]),
+        u64x4::from_slice(&words[at + 1..at + 1 + LANE]),
     )
 }
 
@@ -163,5 +162,5 @@ fn straddle_word(shift: usize, low: Block, high: Block) -> Block {
 // Joins the four words of `dst` from `at` on with a lane.
 #[inline(always)]
 fn join_lane<O: WordOp>(dst: &mut [Block], at: usize, lane: u64x4) {
-    O::lane(u64x4::from_slice(&dst[at..]), lane).copy_to_slice(&mut dst[at..]);
+    O::lane(u64x4::from_slice(&dst[at..at + LANE]), lane).copy_to_slice(&mut dst[at..at + LANE]);
 }

@@ -52,7 +52,8 @@ impl<A: Part, B: Part> InTurn<A, B> {
         }
     }
 
-    /// The first item that the first walk has left, and once it has none, the first of the second.
+    /// The first item that the first walk has left, and once it has none, the first of the second. A first walk that
+    /// gave none is not asked again.
     #[inline]
     pub fn take_first(&mut self) -> Option<usize> {
         // A loop of one turn at most, so that the compiler keeps the caller's numbers in registers.
@@ -65,7 +66,8 @@ impl<A: Part, B: Part> InTurn<A, B> {
         self.second.take_first()
     }
 
-    /// The last item that the second walk has left, and where it has none, the last of the first.
+    /// The last item that the second walk has left, and where it has none, the last of the first. A first walk that gave
+    /// none from the front is not asked again.
     #[inline]
     pub fn take_last(&mut self) -> Option<usize> {
         if let Some(position) = self.second.take_last() {

@@ -13,6 +13,8 @@ invariant-loop-self g l = record {
   front : g.A.Part.front l.fn.self.first l.self-inside.first;
   fresh : l.self-inside.first_left ≡ true → l.self-inside.first ≡ l.fn.self.first;
   none : l.self-inside.first_left ≡ false → g.A.Part.items l.self-inside.first ≡ [];
+  over : l.fn.self.first_left ≡ false → l.self-inside.first_left ≡ false;
+  stays : l.fn.self.first_left ≡ false → l.self-inside.first ≡ l.fn.self.first;
 }
 
 abbrev pub decreases-loop-self : goal.decreases-loop-self

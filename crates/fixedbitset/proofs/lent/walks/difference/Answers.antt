@@ -1,13 +1,14 @@
-use Rattle.std.proofs.Common.{refl, ap, length, rules, arith}
+use Rattle.std.proofs.Common.{refl, sym, ap, ◌∙◌, length, rules, arith}
 use Rattle.bitlanes.specs.BitLaws.{laws_of_without}
 use Rattle.bitlanes.specs.Bits.{bit_without}
 use Rattle.bitwords.specs.BesideFacts.{length-beside}
-use Rattle.fixedbitset.specs.Bits.{Bits, of_words}
+use Rattle.bitwords.specs.Walk.{between_ends}
+use Rattle.fixedbitset.specs.Bits.{Bits, of_words, words_needed}
 use Rattle.fixedbitset.specs.BitsFacts.{contains-past}
 use Rattle.fixedbitset.specs.TwoSets.{difference}
 use Rattle.fixedbitset.specs.TwoSetsFacts.{length-difference, contains-difference}
 use Rattle.fixedbitset.specs.WordsFacts.{length-words, has_bit-words, are_words}
-use Rattle.fixedbitset.proofs.Positions.{asc-beside}
+use Rattle.fixedbitset.proofs.Positions.{asc-beside, beside-words}
 use Rattle.fixedbitset.proofs.Words.{has_bit-of}
 use Rattle.fixedbitset.proofs.lent.walks.difference.Goals as goal
 
@@ -15,11 +16,20 @@ pub over-requires : goal.over-requires
 over-requires c =
     omega (arith, c.requires.lent.fits, c.used_words.ensures.count, ap length c.of.ensures.words, length-beside bit_without c.of.result.plain.words.now c.of.result.other.now)
 
-pub returns : goal.returns
-returns c =
+pub returns-clause-items : goal.returns-clause-items
+returns-clause-items c =
     let v : Bits = of_words c.args.length c.args.words.now in
     let w : Bits = of_words c.args.other_length c.args.other.now in
     let has = has_bit-of c.args.other_length c.args.other.now _ refl c.requires.lent_other in
     rw (c.over.ensures, c.of.ensures.words, c.of.ensures.other, c.used_words.ensures.value)
     (asc-beside laws_of_without refl v w (difference v w) (contains-difference v w) _ c.args.other.now (are_words v) (λ k. search rules) (λ p _. has_bit-words v p) has
     (λ p past. contains-past (difference v w) p (omega (arith, past, length-words v, length-difference v w))))
+
+pub returns-clause-words : goal.returns-clause-words
+returns-clause-words c =
+    let v : Bits = of_words c.args.length c.args.words.now in
+    let w : Bits = of_words c.args.other_length c.args.other.now in
+    let has = has_bit-of c.args.other_length c.args.other.now _ refl c.requires.lent_other in
+    rw (c.over.ensures, c.of.ensures.words, c.of.ensures.other, c.used_words.ensures.value)
+    (ap between_ends (beside-words laws_of_without refl v w (difference v w) (contains-difference v w) _ c.args.other.now (are_words v) (λ k. search rules)
+    (length-words v ∙ ap words_needed (sym (length-difference v w))) (λ p _. has_bit-words v p) has))

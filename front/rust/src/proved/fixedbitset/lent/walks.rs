@@ -1,5 +1,8 @@
 // Made by front/erase from crates/fixedbitset/src/lent/walks.rt: change that, and not this.
 //! Walks over the positions of a set, and over those that it lacks.
+//!
+//! A walk goes over the words that the length needs, and not over those behind them that make up a whole lane. It has read
+//! the first and the last of them, and those between are not yet taken.
 
 use crate::proved::fixedbitset::lent::used_words;
 use crate::proved::bitlanes::Block;
@@ -20,25 +23,6 @@ pub fn ones<'a>(words: &'a [Block], length: usize) -> Cursor<Plain<'a>> {
     Cursor::over(Plain { words })
 }
 
-/// The positions that are set, in ascending order, for a walk that looks each of them up in `other`: those that `other`
-/// has are the intersection, and those that it lacks the difference.
-///
-/// ```text
-/// let (mut words, mut other) = ([9, 2, 0, 0], [1, 2, 0, 0]);
-/// lent::settle(&mut words, 70, 70);
-/// lent::settle(&mut other, 66, 66);
-/// assert!(lent::ones_beside(&words, 70, &other, 66).eq([0, 3, 65]));
-/// ```
-#[inline(always)]
-pub fn ones_beside<'a>(
-    words: &'a [Block],
-    length: usize,
-    other: &[Block],
-    other_length: usize,
-) -> Cursor<Plain<'a>> {
-    ones(words, length)
-}
-
 /// The positions that both sets have, in ascending order. It looks at no word that only one of them has.
 ///
 /// ```text
@@ -55,6 +39,7 @@ pub fn intersection<'a>(
     other_length: usize,
 ) -> Cursor<Beside<'a, And>> {
     let words = used_words(words, length);
+    let other = used_words(other, other_length);
     let shared = words.len().min(other.len());
     Cursor::over(Beside::of(&words[..shared], other))
 }

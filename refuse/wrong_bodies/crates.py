@@ -1,0 +1,162 @@
+"""The crates of crates.txt with their texts, and the edits of each: what an edit changes, and what rests on that."""
+import functools
+import os
+import pathlib
+import re
+import subprocess
+
+from . import reach, rattle
+
+PARTS = ("src", "specs", "proofs")
+
+
+class Project:
+    """A checkout: its crates by their names, the lowest first. The edits stand in it, or below another folder."""
+    def __init__(self, top, edits_top=None):
+        self.top, self.edits_top = top, edits_top or top
+        lines = (top / "crates.txt").read_text().splitlines()
+        crates = [Crate(it, self) for it in lines if it.strip() and not it.startswith("#")]
+        self.crates = {it.name: it for it in crates}
+
+    @functools.cached_property
+    def kit(self):
+        said = subprocess.run(["rt", "doc"], capture_output=True, text=True, check=True).stdout
+        return pathlib.Path(said.strip()).parent
+
+    @functools.cache
+    def below(self, crate):
+        """The crates that this one stands on."""
+        found = set()
+        for name in crate.deps:
+            if name in self.crates:
+                found |= {self.crates[name]} | self.below(self.crates[name])
+        return frozenset(found)
+
+
+class Crate:
+    """A line of crates.txt."""
+    def __init__(self, line, project):
+        head, _, deps = line.partition(":")
+        self.line, self.project, self.deps = line, project, deps.split()
+        self.name, *kind = head.split()
+        self.is_static = "staticlib" in kind
+        self.folder = project.top / "crates" / self.name
+        self.must_fail = project.edits_top / "crates" / self.name / "must-fail"
+        self.root = "src/main.rt" if (self.folder / "src/main.rt").is_file() else "src/lib.rt"
+        self.is_library = self.root == "src/lib.rt" and not self.is_static
+        self.rlib = self.folder / "out/rlib"
+
+    @functools.cached_property
+    def sources(self):
+        """The texts of src/, specs/ and proofs/ by their paths, as they are read once."""
+        files = [it for part in PARTS for it in sorted(self.folder.glob(f"{part}/**/*.*"))]
+        return {str(it.relative_to(self.folder)): it.read_text() for it in files if it.is_file()}
+
+    @functools.cached_property
+    def functions(self):
+        return [it for path, text in self.sources.items() for it in rattle.functions_of(path, text)]
+
+    @functools.cached_property
+    def proofs(self):
+        """The files of each folder of proofs/, by the folder with a slash at its end."""
+        found = {}
+        for path in self.sources:
+            if path.startswith("proofs/"):
+                found.setdefault(os.path.dirname(path) + "/", []).append(path)
+        return found
+
+    def proof_of(self, function):
+        """The files of the folder of proofs/ that is the function's."""
+        place = f"/{function.symbol.replace('::', '/')}/"
+        return [path for folder, files in self.proofs.items() if place in folder for path in files]
+
+    def files_below(self, folder):
+        return [path for own, files in self.proofs.items() if own.startswith(folder) for path in files]
+
+    @functools.cache
+    def home_of(self, owner, module):
+        """The module that has a type, or else this one."""
+        head = re.compile(rf"(?m)^(?:pub(?:\(\w+\))? )?(?:struct|enum) {owner}\b")
+        for path, text in self.sources.items():
+            if path.endswith(".rt") and head.search(text):
+                return rattle.module_of(path)
+        return module
+
+    def place_of(self, function):
+        """The path of a function as a check prints it: by the module of its type, and else by that of its file."""
+        module = function.module
+        home = self.home_of(function.owner, module) if function.owner else module
+        return f"{home}::{function.symbol.removeprefix(home + '::')}".removeprefix("::")
+
+    def edits(self):
+        return [Edit(self, it) for it in sorted(self.must_fail.glob("*.edit"))]
+
+
+class Edit:
+    """An edit of a crate: its pairs of texts and what they change.
+
+    functions   those that its texts stand in
+    is_lone     whether it changes more than one function: then it is judged by the function that its name names, if that
+                rests on what it changes, and else by each that does
+    symbols     the functions that judge it
+    reach       the functions and the files of lemmas that rest on what it changes, or None where that is not known
+    """
+    def __init__(self, crate, file):
+        self.crate, self.name = crate, file.name.removesuffix(".edit")
+        self.pairs = pairs_of(file.read_text())
+        changes = []
+        self.is_bad = self.applied({}, changes) is None
+        self.functions = [function for it in changes for function in it.functions]
+        self.is_lone = not all(it.is_of_one_function for it in changes)
+        symbols = {it.symbol for it in self.functions}
+        named = self.name.rpartition("-")[0].replace("-", "::")
+        self.symbols = {named} if self.is_lone and named in symbols else symbols
+        self.reach = None
+        if all(it.reach is not None for it in changes):
+            self.reach = symbols.union(*(it.reach for it in changes))
+
+    @property
+    def stands_beside(self):
+        return self.wrong_body is not None
+
+    @functools.cached_property
+    def wrong_body(self):
+        """The function's text with this edit in it, where it can stand beside the function under another name, or None."""
+        if self.is_lone or not self.functions or len(self.symbols) > 1:
+            return None
+        function = self.functions[0]
+        folders = {os.path.dirname(it) for it in self.crate.proof_of(function)}
+        if not function.is_plain or len(folders) > 1:
+            return None
+        text = function.text
+        for path, old, new in self.pairs:
+            if path != function.path or text.count(old) != 1:
+                return None
+            text = text.replace(old, new)
+        return text
+
+    def applied(self, texts, changes=None):
+        """The texts by their paths with this edit in them, or None where it cannot be applied. `changes` gets what it
+        changes."""
+        texts = dict(texts)
+        for path, old, new in self.pairs:
+            text = texts.get(path) or self.crate.sources.get(path, "")
+            if not old or text.count(old) != 1:
+                return None
+            if changes is not None:
+                changes.append(reach.change_at(self.crate, path, text, old))
+            texts[path] = text.replace(old, new)
+        return texts if self.pairs else None
+
+
+def pairs_of(text):
+    """The pairs of an edit: each a path, the text behind `old: ` and the one behind `new: `."""
+    pairs, path, old = [], "", ""
+    for line in text.split("\n"):
+        if line.startswith("file: "):
+            path = line.removeprefix("file: ").strip()
+        elif line.startswith("old: "):
+            old = line.removeprefix("old: ")
+        elif line.startswith("new:"):
+            pairs.append((path, old, line.removeprefix("new:").removeprefix(" ")))
+    return pairs

@@ -1,0 +1,182 @@
+"""Tries the edits in rounds, in lanes."""
+import re
+import threading
+import time
+from concurrent.futures import FIRST_COMPLETED, ThreadPoolExecutor, wait
+
+from . import copies, together, verdicts
+
+BAD = "BAD EDIT: a text behind 'old:' is not in its file exactly once"
+# The most edits of a round, and of the first one where no check of the crate left its work for it.
+MOST, MOST_AT_FIRST = 120, 30
+# A crate that `rt ci` has proved is checked once more where it has more edits that each have a round of their own.
+ROUNDS_THAT_GAIN = 2
+
+
+class Told:
+    """What was told of the edits."""
+    def __init__(self):
+        self.refused, self.others, self.kept, self.tried = 0, 0, 0, 0
+        self.lock = threading.Lock()
+
+    def tell(self, edit, is_refused, why, is_kept=False, is_tried=False):
+        with self.lock:
+            self.refused += is_refused
+            self.others += not is_refused
+            self.kept += is_kept
+            self.tried += is_tried
+            print(f"{edit.crate.name}/{edit.name}: {why}", flush=True)
+
+    def finish(self):
+        """Prints the counts, and answers the exit status."""
+        count = self.refused + self.others
+        print(f"kept: {self.kept} of {count} verdicts, tried in this run: {self.tried}")
+        print(f"{self.refused} passed, {self.others} failed")
+        return 1 if self.others else 0
+
+
+class Beside:
+    """The log of an `rt ci` that runs beside this."""
+    def __init__(self, log):
+        self.log = log
+
+    def proves(self, crate):
+        """Waits until it has proved the crate or kept it proved, or has ended, and answers whether the crate is proved."""
+        ended = re.compile(rf"(?m)^rt: {crate.name} (proved$|is kept: |NOT PROVED)|^\d+ passed, \d+ failed$")
+        while True:
+            said = self.log.read_text() if self.log.exists() else ""
+            if found := ended.search(said):
+                return found[1] in ("proved", "is kept: ")
+            time.sleep(1)
+
+
+class Runner:
+    """Tries edits, by checks of which at most so many run at once."""
+    def __init__(self, checks, kept, lanes, are_proved=False, beside=None):
+        self.checks, self.kept, self.are_proved, self.beside = checks, kept, are_proved, beside
+        self.pool, self.told = ThreadPoolExecutor(lanes), Told()
+
+    def try_all(self, groups, most=MOST):
+        """Tries the edits of each of these groups, one group beside another."""
+        with ThreadPoolExecutor(max(len(groups), 1)) as by_group:
+            for _ in by_group.map(lambda it: self.try_group(it, most), groups):
+                pass
+
+    def try_group(self, edits, most):
+        """Tries these edits of a crate, or of several, and tells of each."""
+        edits = self.those_to_judge(edits)
+        known = self.known(edits)
+        left = [it for it in edits if it not in known]
+        with self.checks.room() as work:
+            keeps = False
+            if self.wants_first_check(left):
+                keeps, said = self.first_check(left, work)
+                if not verdicts.is_proved(said):
+                    return self.tell_unproved(edits, said.strip()[-200:])
+            self.tell_known(known)
+            return self.try_in_rounds(left, work, most, keeps)
+
+    def those_to_judge(self, edits):
+        """Those that can be applied and whose crate `rt ci` has proved. It tells of the others."""
+        for crate in dict.fromkeys(it.crate for it in edits):
+            if self.beside and not self.beside.proves(crate):
+                self.tell_unproved([it for it in edits if it.crate is crate and not it.is_bad], "rt ci says so")
+                edits = [it for it in edits if it.crate is not crate or it.is_bad]
+        for edit in edits:
+            if edit.is_bad:
+                self.told.tell(edit, False, BAD)
+        return [it for it in edits if not it.is_bad]
+
+    def known(self, edits):
+        """What earlier runs said of those of these edits that they refused."""
+        return {it: why for it in edits if (why := self.kept.kept(it)) is not None}
+
+    def tell_known(self, known):
+        for edit, why in known.items():
+            self.told.tell(edit, True, why, is_kept=True)
+
+    def tell_unproved(self, edits, why):
+        names = " or ".join(dict.fromkeys(it.crate.name for it in edits))
+        for edit in edits:
+            self.told.tell(edit, False, f"UNCLEAR: {names} itself is not proved: {why}")
+
+    def wants_first_check(self, left):
+        """Whether the crate of these edits, or their crates, have to be checked as they stand."""
+        is_one_crate = len({it.crate for it in left}) == 1
+        rounds = sum(not it.symbols for it in left)
+        return bool(left) and (not self.are_proved or (is_one_crate and rounds > ROUNDS_THAT_GAIN))
+
+    def first_check(self, left, work):
+        """Whether a check of the crates as they stand left its work for the rounds, and what it says. A program and a static
+        library are checked as they are, which is of no use to a round."""
+        crates = list(dict.fromkeys(it.crate for it in left))
+        as_source = len(crates) > 1 or crates[0].is_library
+        copy = copies.Copy({it: {} for it in crates}, is_source=as_source)
+        given = (work, True) if as_source else ()
+        return as_source, self.pool.submit(self.checks.check, copy, *given).result()
+
+    def try_in_rounds(self, left, work, most, has_work, is_source=True):
+        """Tries edits in rounds side by side. Where no check has left its work for them, the first round does."""
+        running, alone = set(), []
+        while left or running:
+            while left and (has_work or not running):
+                fits = has_work or len(left) <= most
+                now = together.taken_together(left, most if fits else min(most, MOST_AT_FIRST))
+                left = [it for it in left if it not in now]
+                running.add(self.pool.submit(self.round, now, work, not has_work, is_source))
+            ended, running = wait(running, return_when=FIRST_COMPLETED)
+            has_work = True
+            for found, halves in (it.result() for it in ended):
+                running |= {self.pool.submit(self.round, it, work, False, is_source) for it in halves}
+                left += self.settle(found, alone)
+        for it in alone:
+            it.result()
+
+    def settle(self, found, alone):
+        """Tells of the edits that a round refuses, has those tried alone of which it says nothing, and answers those that wait
+        for another round."""
+        waiting = []
+        for edit, verdict, why in found:
+            if verdict == verdicts.REFUSED:
+                self.told.tell(edit, True, why, is_tried=True)
+                self.kept.keep(edit, why)
+            elif verdict == verdicts.WAITS and len(found) > 1:
+                waiting.append(edit)
+            else:
+                alone.append(self.pool.submit(self.alone, edit))
+        return waiting
+
+    def round(self, edits, work, fills=False, is_source=True):
+        """What a round says of each edit, and the rounds to try instead where the front end does not take all together."""
+        copy = copies.copy_of(edits, is_source)
+        said = self.checks.check(copy, work, fills)
+        if len(edits) > 1 and not verdicts.is_taken(said):
+            return [], [edits[::2], edits[1::2]]
+        is_by_itself = len(edits) == 1
+        found = []
+        for it in edits:
+            own = verdicts.said_of(it.crate, said)
+            found.append((it, *verdicts.judged(it, copy.judges[it], own, is_by_itself)))
+        return found, []
+
+    def alone(self, edit):
+        """Tries an edit by a check of the whole crate, from nothing, and tells of it."""
+        said = self.checks.check(copies.Copy({edit.crate: edit.applied({})}))
+        is_refused, why = verdicts.judged_alone(said)
+        self.told.tell(edit, is_refused, why, is_tried=True)
+        if is_refused:
+            self.kept.keep(edit, why, is_alone=True)
+
+    def try_over_checks(self, edits, most=MOST):
+        """Tries these edits of some crates in rounds, each over what `rt check` kept of its crate."""
+        edits = self.those_to_judge(edits)
+        known = self.known(edits)
+        self.tell_known(known)
+        left = [it for it in edits if it not in known]
+        for crate in dict.fromkeys(it.crate for it in left):
+            own, kept = [it for it in left if it.crate is crate], crate.folder / "out/incremental"
+            if kept.is_dir():
+                self.try_in_rounds(own, kept, most, has_work=True, is_source=crate.is_library)
+            else:
+                with self.checks.room() as work:
+                    self.try_in_rounds(own, work, most, has_work=False)

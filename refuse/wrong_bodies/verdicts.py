@@ -1,0 +1,136 @@
+"""Judges by what a check says."""
+import dataclasses
+import re
+
+# An error that says only that a proof file names what the edit took away.
+NAMES = re.compile(r"has no field|is not in scope|has no `|was not admitted")
+# Where such an error goes on in a second line.
+WRAPPED = re.compile(r"\n +(?=has no )")
+OPEN_GOAL = re.compile(r"(?m)^(?:note: |\./)?(\S+:\d+:\d+: it is not proved .*|proofs/\S+: error: .*)")
+ERROR_IN_PROOF = re.compile(r"(?m)^(?:\./)?(proofs/\S+?\.antt):(\d+):\d+: error: (.*)")
+NOTE = re.compile(r"note: (\S+?):(\d+):\d+: (it is not proved .*)")
+NOT_PROVED = re.compile(r"fn (\S+?): (?!proved)(.*)")
+# The line that a check ends with once the front end has taken the text.
+TAKEN = re.compile(r"(?m)^(?:logic|only)=")
+# A text that cannot be read. (Where an edit makes a statement false, the error begins with the statement's name.)
+UNREAD = re.compile(r"(?m)^(?:\./)?(?:src|specs)/\S+: error: (?:(?!`[^`]*`: ).*|.*(?:is not in scope|has no field).*)")
+
+REFUSED, WAITS, UNCLEAR = "refused", "waits", "unclear"
+
+
+@dataclasses.dataclass
+class Place:
+    """A line of a file, from 1, and what a check says of it."""
+    path: str
+    line: int
+    text: str
+
+    def __str__(self):
+        return f"{self.path}:{self.line}: {self.text:.160}"
+
+
+@dataclasses.dataclass
+class Unproved:
+    """A function that a check did not prove: its whole path, why, and the places of its open goals."""
+    name: str
+    why: str
+    goals: list
+
+    @property
+    def folder(self):
+        """The folder of its proof."""
+        return f"proofs/{self.name.partition('::')[2].replace('::', '/')}"
+
+    def is_of(self, function):
+        """Whether it is this function or a closure in it."""
+        return f"::{function.symbol}::" in f"{self.name}::"
+
+
+def unproved_in(said):
+    """The functions that a check did not prove. The notes of a function stand above its line."""
+    found, goals = [], []
+    for line in said.split("\n"):
+        if note := NOTE.match(line):
+            goals.append(Place(note[1], int(note[2]), note[3]))
+        if head := NOT_PROVED.match(line):
+            found.append(Unproved(head[1], head[2], goals))
+        if line.startswith("fn "):
+            goals = []
+    return found
+
+
+def errors_in_proofs(said):
+    """The places of the errors in proofs, but for those that say only that a name is gone."""
+    places = [Place(path, int(line), text) for path, line, text in ERROR_IN_PROOF.findall(said)]
+    return [it for it in places if not NAMES.search(it.text)]
+
+
+def open_goal(said):
+    """The first goal that is open anywhere, as a check says it, or None."""
+    for found in OPEN_GOAL.findall(WRAPPED.sub(" ", said)):
+        if not NAMES.search(found):
+            return f"{found:.200}"
+    return None
+
+
+def judged(edit, judges, said, is_by_itself):
+    """What a round says of an edit, by what it says of its judges and their closures: refused, waits or unclear, and why.
+    Where an edit that changes more than a function is by itself, any open goal refuses it."""
+    said = WRAPPED.sub(" ", said)
+    if edit.is_lone and is_by_itself:
+        goal = open_goal(said)
+        return (REFUSED, f"refused: {goal}") if goal else (UNCLEAR, "")
+    errors = errors_in_proofs(said)
+    if edit.is_lone:
+        for error in errors:
+            if error.path in edit.reach:
+                return REFUSED, f"refused: {error}"
+    causes = []
+    for unproved in unproved_in(said):
+        for judge in judges:
+            if unproved.is_of(judge.function):
+                if place := place_of_refusal(unproved, judge, errors):
+                    return REFUSED, f"refused: {place}"
+                causes.append(unproved.why)
+    waits = causes and all("it calls" in it for it in causes)
+    return (WAITS if waits else UNCLEAR), ""
+
+
+def place_of_refusal(unproved, judge, errors):
+    """The first goal that is open in the function, by its line in the crate, or else the first error in its proof."""
+    function = judge.function
+    for goal in unproved.goals:
+        if goal.path == function.path and goal.line in function.lines:
+            return Place(goal.path, goal.line - judge.moved, goal.text)
+    for error in errors:
+        if error.path.rpartition("/")[0] == unproved.folder:
+            return re.sub(r"(_edit\d+)(?=/)", "", str(error))
+    return None
+
+
+def judged_alone(said):
+    """Whether a check of the whole crate refuses an edit, and what to say."""
+    last = re.search(r"(?m)^logic=(proved|not-proved)", said)
+    unread = UNREAD.search(said)
+    if unread or not last:
+        why = unread or re.search("(?m)^.*error.*|$", said)
+        return False, f"BAD EDIT: {why[0]:.300}"
+    if last[1] == "proved":
+        return False, "NOT REFUSED: the crate is still proved with this edit"
+    goal = open_goal(said)
+    return (True, f"refused alone: {goal}") if goal else (False, f"UNCLEAR: {said.strip()[-300:]}")
+
+
+def is_proved(said):
+    return bool(re.search(r"(?m)^logic=proved", said))
+
+
+def is_taken(said):
+    """Whether the front end took the text that was checked."""
+    return bool(TAKEN.search(said))
+
+
+def said_of(crate, said):
+    """What a check of several crates says of one, with its paths as they stand in the crate."""
+    own = re.sub(rf"(?m)^((?:note: )?(?:\./)?){crate.name}/", r"\1", said)
+    return re.sub(rf"(?m)^fn (?!{crate.name}::).*", "fn of another crate", own)

@@ -1,0 +1,123 @@
+"""What the gate runs: each stage with all that it reads."""
+import pathlib
+import re
+
+from stages import Stage
+
+SCRIPTS = "tools/gate"
+# Crates of examples, which are run and not proved: the proof of each costs as much as that of a library.
+EXAMPLES = ("test_examples", "test_other_examples")
+MAKERS = ("cc", "gcc", "g++", "clang", "make", "cargo", "rustc", "pkg-config", "valgrind", "python3")
+
+
+def read_crates(top):
+    """The crates of crates.txt, the lowest first, with those that each names."""
+    found = {}
+    for line in (pathlib.Path(top) / "crates.txt").read_text().splitlines():
+        if line.strip() and not line.startswith("#"):
+            head, _, names = line.partition(":")
+            found[head.split()[0]] = names.split()
+    return found
+
+
+def below(crates, name):
+    """The crates of the repository that one stands on."""
+    found = set()
+    for it in crates[name]:
+        if it in crates:
+            found |= {it} | below(crates, it)
+    return found
+
+
+def with_those_above(crates, names):
+    """These crates and all that stand on one of them, in the order of crates.txt."""
+    return [it for it in crates if it in names or below(crates, it) & set(names)]
+
+
+class Plan:
+    """The stages for all crates, or for some of them and what stands on those."""
+    def __init__(self, top, names=()):
+        self.top, self.crates = pathlib.Path(top), read_crates(top)
+        self.names = with_those_above(self.crates, names) if names else list(self.crates)
+        self.is_whole = not names
+
+    def has(self, *names):
+        return self.is_whole or bool(set(names) & set(self.names))
+
+    def sources(self, *names, parts=("src", "specs")):
+        """The folders of these crates and of those below them that a build of them reads."""
+        all_names = [it for it in self.crates if it in names or any(it in below(self.crates, name) for name in names)]
+        paths = [f"crates/{name}/{part}" for name in all_names for part in parts]
+        return ["crates.txt", *(it for it in paths if (self.top / it).is_dir())]
+
+    def first(self):
+        """What needs no proof, the quickest first."""
+        script = ("./bits", "bits", "use", "build.sh", "README.md")
+        return [
+            Stage("texts", (f"{SCRIPTS}/texts",)),
+            Stage("./bits where it cannot start", ("refuse/check_bits",), ("refuse/check_bits", *script[1:])),
+            Stage("calls that are not known", ("refuse/check_calls",), ("refuse", "tests/run", "test", SCRIPTS)),
+        ]
+
+    def scripts(self):
+        """The tests of the scripts that judge."""
+        gate = ("refuse", "tests/libraries.txt", "crates.txt", "test", SCRIPTS)
+        return [
+            Stage("the script that tries edits", ("refuse/check_edits",), ("refuse",)),
+            Stage("the gate by itself", (f"{SCRIPTS}/check_gate",), gate),
+        ] if self.is_whole else []
+
+    def tests(self):
+        """The folders of tests of values that use one of the crates, each with the crates that it uses."""
+        libraries = (self.top / "tests/libraries.txt").read_text() + self.lines_of(EXAMPLES)
+        uses = {name: names.split() for name, names in re.findall(r"(?m)^(\w+): (.*)$", libraries)}
+        return {it: [name for name in uses[it] if name in self.crates] for it in uses if self.has(it, *uses[it])}
+
+    def needed(self):
+        """The crates that have to be proved: with those that the tests use, and all below."""
+        names = {*self.names, *(it for names in self.tests().values() for it in names)}
+        return names.union(*(below(self.crates, it) for it in names))
+
+    def tests_of_values(self):
+        tests = self.tests()
+        used = sorted({it for names in tests.values() for it in names})
+        return Stage("tests of values", ("tests/run", *tests), ("tests", *self.sources(*used))) if tests else None
+
+    def lines_of(self, names):
+        return "".join(f"{it}: {' '.join(self.crates[it])}\n" for it in names if it in self.crates)
+
+    def proofs(self):
+        return Stage("proofs and programs", (f"{SCRIPTS}/proofs",), keeps=True)
+
+    def edits(self, log, folder, lanes):
+        words = ("--proved", "--lanes", str(lanes), "--beside", log, "--from", folder)
+        names = () if self.is_whole else tuple(it for it in self.names if it not in EXAMPLES)
+        return Stage("wrong bodies", ("refuse/edits", *words, *names), keeps=True)
+
+    def fronts(self):
+        """What stands above the static library and is no Rattle."""
+        library = self.sources("bits_c", parts=("src", "specs", "proofs"))
+        front = Stage("the crate for Rust and the header for C", ("front/test",), ("front", *library), MAKERS, ("README.md",))
+        server = ("pg_config", "postgres", "psql", *MAKERS)
+        inputs = ("front/postgres", "front/lib", "front/c")
+        postgres = Stage("the type for PostgreSQL", ("front/postgres/test",), inputs, server, ("README.md",))
+        return [front, postgres] if self.has("bits_c") else []
+
+    def last(self):
+        """What runs the programs."""
+        bits = (*self.sources("bits"), "bits", "build.sh", "examples", f"{SCRIPTS}/programs", f"{SCRIPTS}/report.sh")
+        shared = ("refuse/running.py", "refuse/slow.py", "refuse/slow_answers.py", "refuse/refuse.c", "refuse/memory.txt",
+                  "refuse/calls.py")
+        uses = [it for it in self.names if it.startswith("use_") and it != "use_text"]
+        stored = [f"crates/{it}/{part}" for it in uses for part in ("cases", "wrong", "stdin", "stdout")]
+        stored = [it for it in stored if (self.top / it).exists()]
+        commands = ("docs/COMMANDS.md", "docs/check_commands")
+        refusals = self.sources("test_refusals", "bits")
+        stages = [
+            (["bits"], Stage("programs", (f"{SCRIPTS}/programs",), bits, ("cc",))),
+            (["bits"], Stage("examples of docs/COMMANDS.md", ("docs/check_commands",), (*bits, *commands))),
+            (["bits"], Stage("lines with one byte changed", ("refuse/mutants",), (*bits, *commands, "refuse/mutants", *shared))),
+            (uses, Stage("input of the uses", ("refuse/uses", *uses), (*self.sources(*uses), *stored, "refuse/uses", *shared))),
+            (["test_refusals"], Stage("memory refused", ("refuse/sweep",), (*refusals, "refuse/sweep", "examples", "docs/COMMANDS.md", *shared))),
+        ]
+        return [stage for names, stage in stages if self.has(*names)]

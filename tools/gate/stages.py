@@ -1,0 +1,122 @@
+"""Stages of the gate: commands whose last line is 'N passed, M failed', some of them beside others."""
+import os
+import re
+import subprocess
+import sys
+import threading
+import time
+from dataclasses import dataclass
+
+COUNTS = re.compile(r"(\d+) passed, (\d+) failed")
+# What a line has that tells of a failure.
+FAILURE = re.compile(r"FAILED|NOT PROVED|NOT REFUSED|BAD EDIT|UNCLEAR")
+
+
+@dataclass(frozen=True)
+class Stage:
+    """A command, and all that it reads, where that is files.
+
+    inputs   the files and folders that it reads, from the top: where a run that read the same has passed, it is kept.
+             With none it runs each time
+    tools    the commands of this machine that it calls
+    blocks   the pages of which it reads the blocks of code alone
+    keeps    whether the command keeps what it found by itself, and so takes --anew
+    """
+    name: str
+    command: tuple
+    inputs: tuple = ()
+    tools: tuple = ()
+    blocks: tuple = ()
+    keeps: bool = False
+
+    def words(self, anew):
+        """The command to run, which takes a kept run of the same inputs in its place where it has some."""
+        flag = ["--anew"] if anew else []
+        if self.keeps:
+            return [*self.command, *flag]
+        if not self.inputs:
+            return [*self.command]
+        more = [word for it in self.blocks for word in ("--blocks", it)]
+        more += [word for it in self.tools for word in ("--tool", it)]
+        return ["refuse/kept_stage", *flag, self.name, "--inputs", *self.inputs, *more, "--", *self.command]
+
+
+class Run:
+    """A stage that was begun in a folder. Its lines are shown as they come, or else when it is joined."""
+    def __init__(self, stage, folder, gate, is_beside, nice=False, log=None):
+        self.stage, self.gate, self.is_beside, self.log = stage, gate, is_beside, log
+        self.lines, self.status, self.began = [], None, time.monotonic()
+        words = (["nice"] if nice else []) + stage.words(gate.anew)
+        self.process = subprocess.Popen(words, cwd=folder, stdout=subprocess.PIPE, stderr=subprocess.STDOUT,
+                                        stdin=subprocess.DEVNULL, text=True, errors="replace")
+        self.reading = threading.Thread(target=self.read)
+        self.reading.start()
+
+    def read(self):
+        for line in self.process.stdout:
+            self.lines.append(line)
+            if self.log:
+                with open(self.log, "a") as log:
+                    log.write(line)
+            if not self.is_beside:
+                self.gate.print(line)
+            if FAILURE.search(line):
+                self.gate.tell_failure(self.stage.name, line)
+        self.status = self.process.wait()
+        self.seconds = round(time.monotonic() - self.began)
+
+    def join(self):
+        """Waits for the end, and adds the counts of the last line. A status that is not 0 is a failure."""
+        if self.is_beside:
+            self.gate.print(f"== {self.stage.name}\n")
+        self.reading.join()
+        if self.is_beside:
+            self.gate.print("".join(self.lines))
+        found = COUNTS.fullmatch(self.lines[-1].strip()) if self.lines else None
+        passed, failed = map(int, found.groups()) if found else (0, 1)
+        if self.status != 0 and failed == 0:
+            failed = 1
+        if failed:
+            self.gate.tell_failure(self.stage.name, self.lines[-1] if self.lines else "it said nothing")
+        kept = "kept" if any(it.startswith("kept: an earlier run") for it in self.lines[-2:]) else f"{self.seconds} seconds"
+        beside = ", beside others" if self.is_beside else ""
+        self.gate.print(f"== {self.stage.name}: {kept}{beside}, {passed} passed, {failed} failed\n")
+        self.gate.passed += passed
+        self.gate.failed += failed
+
+
+class Gate:
+    """The counts of all stages, and the first failure."""
+    def __init__(self, anew=False):
+        self.anew, self.passed, self.failed, self.first = anew, 0, 0, None
+        self.printing, self.began = threading.Lock(), time.monotonic()
+
+    def print(self, text):
+        with self.printing:
+            sys.stdout.write(text)
+            sys.stdout.flush()
+
+    def tell_failure(self, name, line):
+        """The first failure of all stages is told at once, and again at the end."""
+        if self.first is None:
+            self.first = f"{name}: {line.strip():.300}"
+            self.print(f"FIRST FAILURE: {self.first}\n")
+
+    def run(self, stage, folder):
+        self.print(f"== {stage.name}\n")
+        Run(stage, folder, self, is_beside=False).join()
+
+    def begin(self, stage, folder, nice=False, log=None):
+        """Begins a stage beside others. What it says goes into the log too, where there is one."""
+        return Run(stage, folder, self, is_beside=True, nice=nice, log=log)
+
+    def finish(self, note=""):
+        """Prints the minutes and the counts, and answers the exit status."""
+        if self.first:
+            self.print(f"FIRST FAILURE: {self.first}\n")
+        used = os.times()
+        minutes = (used.children_user + used.children_system) / 60
+        clock = (time.monotonic() - self.began) / 60
+        self.print(f"{minutes:.1f} processor minutes, {clock:.1f} minutes by the clock{note}\n")
+        self.print(f"{self.passed} passed, {self.failed} failed\n")
+        return 1 if self.failed or not self.passed else 0
