@@ -595,7 +595,7 @@ fn bitranks_directory_35() {
 }
 
 #[test]
-fn bitranks_directory_56() {
+fn bitranks_directory_57() {
     use crate::proved::bitlanes::ops::*;
     use crate::proved::bitlanes::{word, Block, Steps};
     use crate::proved::bitwords::cursors::*;
@@ -611,7 +611,7 @@ fn bitranks_directory_56() {
 }
 
 #[test]
-fn bitranks_directory_87() {
+fn bitranks_directory_89() {
     use crate::proved::bitlanes::ops::*;
     use crate::proved::bitlanes::{word, Block, Steps};
     use crate::proved::bitwords::cursors::*;
@@ -1080,7 +1080,7 @@ fn bitwords_positions_45() {
 }
 
 #[test]
-fn bitwords_positions_62() {
+fn bitwords_positions_63() {
     use crate::proved::bitlanes::ops::*;
     use crate::proved::bitlanes::{word, Block, Steps};
     use crate::proved::bitwords::cursors::*;
@@ -1097,7 +1097,7 @@ fn bitwords_positions_62() {
 }
 
 #[test]
-fn bitwords_positions_84() {
+fn bitwords_positions_86() {
     use crate::proved::bitlanes::ops::*;
     use crate::proved::bitlanes::{word, Block, Steps};
     use crate::proved::bitwords::cursors::*;
@@ -1114,7 +1114,7 @@ fn bitwords_positions_84() {
 }
 
 #[test]
-fn bitwords_positions_109() {
+fn bitwords_positions_111() {
     use crate::proved::bitlanes::ops::*;
     use crate::proved::bitlanes::{word, Block, Steps};
     use crate::proved::bitwords::cursors::*;
@@ -1129,7 +1129,7 @@ fn bitwords_positions_109() {
 }
 
 #[test]
-fn bitwords_positions_121() {
+fn bitwords_positions_123() {
     use crate::proved::bitlanes::ops::*;
     use crate::proved::bitlanes::{word, Block, Steps};
     use crate::proved::bitwords::cursors::*;
