@@ -186,6 +186,7 @@ fn next_like(
         (λ p. steps.new ≡ steps.old + 1 + lane_steps (p / 64 - from / 64)) }
     ensures missed { IfNone result (from < end
         → steps.new ≡ steps.old + 1 + lane_steps ((end - 1) / 64 - from / 64)) }
+    ensures empty { end ≤ from → steps.new ≡ steps.old }
 {
     let words = &words[..end.div_ceil(BITS)];
     if are_set {
