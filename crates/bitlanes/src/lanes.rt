@@ -42,7 +42,7 @@ pub fn apply<O: WordOp>(dst: &mut [Block], src: &[Block], steps: &mut Steps)
     let words = dst.len().min(src.len());
     let (dst, src) = (&mut dst[..words], &src[..words]);
     let mut at = 0;
-    while at + LANE <= words {
+    while words - at >= LANE {
         steps.tick();
         join_lane::<O>(dst, src, at);
         at += LANE;
@@ -98,7 +98,7 @@ pub fn none<O: WordOp>(a: &[Block], b: &[Block], steps: &mut Steps) -> bool
     let common = a.len().min(b.len());
     let (a, b) = (&a[..common], &b[..common]);
     let mut at = 0;
-    while at + LANE <= common {
+    while common - at >= LANE {
         steps.tick();
         if !is_zero(lane_at::<O>(a, b, at)) {
             return false;
@@ -174,9 +174,9 @@ pub fn none_one(a: &[Block], steps: &mut Steps) -> bool
 {
     let words = a.len();
     let mut at = 0;
-    while at + LANE <= words {
+    while words - at >= LANE {
         steps.tick();
-        if !is_zero(u64x4::from_slice(&a[at..at + LANE])) {
+        if !is_zero(u64x4::from_slice(&a[at..])) {
             return false;
         }
         at += LANE;
@@ -208,7 +208,7 @@ pub fn none_masked<O: WordOp>(mask: Block, words: &[Block], steps: &mut Steps) -
 {
     let count = words.len();
     let mut at = 0;
-    while at + LANE <= count {
+    while count - at >= LANE {
         steps.tick();
         if !is_zero(masked_lane_at::<O>(mask, words, at)) {
             return false;
@@ -231,11 +231,8 @@ fn join_lane<O: WordOp>(dst: &mut [Block], src: &[Block], at: usize)
     ensures { dst.new ≡ put_chunk at dst.old
         (zip2 O.joined (chunk at 4 dst.old) (chunk at 4 src.now)) }
 {
-    let lane = O::lane(
-        u64x4::from_slice(&dst[at..at + LANE]),
-        u64x4::from_slice(&src[at..at + LANE]),
-    );
-    lane.copy_to_slice(&mut dst[at..at + LANE]);
+    let lane = O::lane(u64x4::from_slice(&dst[at..]), u64x4::from_slice(&src[at..]));
+    lane.copy_to_slice(&mut dst[at..]);
 }
 
 // The four joined words from `at` on.
@@ -245,10 +242,7 @@ pub(crate) fn lane_at<O: WordOp>(a: &[Block], b: &[Block], at: usize) -> u64x4
     requires in_b { at + 4 ≤ length b.now }
     ensures { result ≡ chunk at 4 (zip2 O.joined a.now b.now) }
 {
-    O::lane(
-        u64x4::from_slice(&a[at..at + LANE]),
-        u64x4::from_slice(&b[at..at + LANE]),
-    )
+    O::lane(u64x4::from_slice(&a[at..]), u64x4::from_slice(&b[at..]))
 }
 
 // The mask joined with each of the four words from `at` on.
@@ -342,10 +336,9 @@ pub(crate) fn part_at(words: &[Block], at: usize, rest: usize) -> u64x4
     requires within { at + rest ≤ length words.now }
     ensures { result ≡ filled at rest words.now }
 {
-    let words = &words[at..at + rest];
-    let second = if rest > 1 { words[1] } else { 0 };
-    let third = if rest > 2 { words[2] } else { 0 };
-    u64x4::from_array([words[0], second, third, 0])
+    let second = if rest > 1 { words[at + 1] } else { 0 };
+    let third = if rest > 2 { words[at + 2] } else { 0 };
+    u64x4::from_array([words[at], second, third, 0])
 }
 
 // Writes the first one to three words of the lane, from `at` on, by tests as `part_at` reads them.
@@ -356,13 +349,12 @@ pub(crate) fn put_part(words: &mut [Block], at: usize, rest: usize, lane: u64x4)
     requires within { at + rest ≤ length words.old }
     ensures { words.new ≡ put_chunk at words.old (take rest lane) }
 {
-    let words = &mut words[at..at + rest];
     let [first, second, third, _] = lane.to_array();
-    words[0] = first;
+    words[at] = first;
     if rest > 1 {
-        words[1] = second;
+        words[at + 1] = second;
         if rest > 2 {
-            words[2] = third;
+            words[at + 2] = third;
         }
     }
 }
