@@ -406,7 +406,7 @@ fn bitlanes_shifts_18() {
 }
 
 #[test]
-fn bitlanes_shifts_49() {
+fn bitlanes_shifts_51() {
     use crate::proved::bitlanes::ops::*;
     use crate::proved::bitlanes::{word, Block, Steps};
     use crate::proved::bitwords::cursors::*;
@@ -421,7 +421,7 @@ fn bitlanes_shifts_49() {
 }
 
 #[test]
-fn bitlanes_shifts_79() {
+fn bitlanes_shifts_81() {
     use crate::proved::bitlanes::ops::*;
     use crate::proved::bitlanes::{word, Block, Steps};
     use crate::proved::bitwords::cursors::*;
@@ -436,7 +436,7 @@ fn bitlanes_shifts_79() {
 }
 
 #[test]
-fn bitlanes_shifts_113() {
+fn bitlanes_shifts_115() {
     use crate::proved::bitlanes::ops::*;
     use crate::proved::bitlanes::{word, Block, Steps};
     use crate::proved::bitwords::cursors::*;
