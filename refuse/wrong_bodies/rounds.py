@@ -40,14 +40,22 @@ class Beside:
     def __init__(self, log):
         self.log = log
 
-    def proves(self, crate):
-        """Waits until it has proved the crate or kept it proved, or has ended, and answers whether the crate is proved."""
+    def says(self, crate):
+        """Whether it has proved the crate or kept it proved; None where neither that nor its end is told yet."""
         ended = re.compile(rf"(?m)^rt: {crate.name} (proved$|is kept: |NOT PROVED)|^\d+ passed, \d+ failed$")
-        while True:
-            said = self.log.read_text() if self.log.exists() else ""
-            if found := ended.search(said):
-                return found[1] in ("proved", "is kept: ")
+        said = self.log.read_text() if self.log.exists() else ""
+        found = ended.search(said)
+        return found[1] in ("proved", "is kept: ") if found else None
+
+    def has_told_of(self, crates):
+        """Whether it has told of all these, so that nothing is left to give way to."""
+        return all(self.says(crate) is not None for crate in crates)
+
+    def proves(self, crate):
+        """Waits until it has told of the crate, or has ended, and answers whether the crate is proved."""
+        while (said := self.says(crate)) is None:
             time.sleep(1)
+        return said
 
 
 class Runner:
