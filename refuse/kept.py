@@ -63,7 +63,7 @@ def place():
 def files_below(folder):
     """The files of a folder in a fixed order, without those that git ignores, since no source is among them."""
     for at, folders, names in os.walk(folder):
-        folders[:] = sorted(it for it in folders if not is_ignored(pathlib.Path(at, it)))
+        folders[:] = sorted(name for name in folders if not is_ignored(pathlib.Path(at, name)))
         yield from (path for name in sorted(names) if not is_ignored(path := pathlib.Path(at, name)))
 
 
@@ -72,12 +72,12 @@ def ignored():
     """What .gitignore has: names of files and folders, and paths from the top."""
     file = TOP / ".gitignore"
     lines = file.read_text().splitlines() if file.is_file() else []
-    return [".git", *(it.rstrip("/") for it in lines if it and not it.startswith("#"))]
+    return [".git", *(line.rstrip("/") for line in lines if line and not line.startswith("#"))]
 
 
 def is_ignored(path):
     from_top = os.path.relpath(path, TOP)
-    return any(fnmatch.fnmatch(from_top if "/" in it else path.name, it) for it in ignored())
+    return any(fnmatch.fnmatch(from_top if "/" in pattern else path.name, pattern) for pattern in ignored())
 
 
 def sum_of(parts):
@@ -163,14 +163,14 @@ class Kept:
     def shrink(self):
         """Removes what runs that were ended left, and the entries longest unused until the others are not too many."""
         entries = []
-        for path in [self.folder / it for it in os.listdir(self.folder)]:
+        for path in [self.folder / name for name in os.listdir(self.folder)]:
             with contextlib.suppress(OSError):
                 found = re.match(r"new-(\d+)-", path.name)
                 if not found:
                     entries.append((path.stat().st_mtime, path, path.stat().st_size))
                 elif not os.path.exists(f"/proc/{found[1]}"):
                     path.unlink()
-        size, count = sum(it[2] for it in entries), len(entries)
+        size, count = sum(entry[2] for entry in entries), len(entries)
         for _, path, own in sorted(entries):
             if size <= MOST_BYTES and count <= MOST_ENTRIES:
                 break

@@ -74,7 +74,7 @@ class Turns(Processes):
 
     def free(self):
         """How many processors others leave."""
-        return self.processors - threads_that_run({os.getpid(), *(it.pid for it in self.ours)})
+        return self.processors - threads_that_run({os.getpid(), *(process.pid for process in self.ours)})
 
     def give_way(self):
         while os.getppid() == self.parent:

@@ -320,7 +320,7 @@ void bits_reverse_each_byte(uint8_t *bytes, size_t count);
 /* How many entries the directory of a set of this length has: one for each eight words, rounded up. */
 size_t bits_ranks_entries(size_t length);
 /* Writes the directory of the set's words to `directory`, and the whole of `ranks`. It answers whether `entries` is
- * bits_ranks_entries of the set's length; else the ranks are those of no set. */
+ * bits_ranks_entries of the set's length; else the ranks are those of no set, and the directory stays. */
 bool bits_ranks_fill(bits_ranks *ranks, const bits *set, size_t *directory, size_t entries);
 /* How many positions below this one are set. Past the length all are below it. */
 size_t bits_rank(const bits_ranks *ranks, size_t position);

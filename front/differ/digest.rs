@@ -1,6 +1,6 @@
 //! The same calls on the crate alone, and one number of all that they answered and left: the same on each target.
 //!
-//! usage: digest STEPS SEED    For wasm32 it is a library with the one call `digest`.
+//! usage: digest STEPS START    For wasm32 it is a library with the one call `digest`.
 #![allow(dead_code)]
 
 mod erased_side {
@@ -13,10 +13,10 @@ const STEPS_OF_ONE: u32 = 20_000;
 
 /// The digest of the last step.
 #[no_mangle]
-pub extern "C" fn digest(steps: u32, seed: u32) -> u64 {
+pub extern "C" fn digest(steps: u32, start: u32) -> u64 {
     let (mut made, mut left, mut world) = (0_u64, steps, 0);
     while left > 0 {
-        let mut sets = erased_side::World::new(seed as u64 + world);
+        let mut sets = erased_side::World::new(start as u64 + world);
         for _ in 0..left.min(STEPS_OF_ONE) {
             // (A world's digest begins at zero, so those of the worlds before it go in here.)
             made = sets.step() ^ made.rotate_left(1);
@@ -29,8 +29,8 @@ pub extern "C" fn digest(steps: u32, seed: u32) -> u64 {
 
 fn main() {
     let mut numbers = std::env::args().skip(1).map(|word| word.parse::<u32>());
-    let (Some(Ok(steps)), Some(Ok(seed))) = (numbers.next(), numbers.next()) else {
-        panic!("usage: digest STEPS SEED");
+    let (Some(Ok(steps)), Some(Ok(start))) = (numbers.next(), numbers.next()) else {
+        panic!("usage: digest STEPS START");
     };
-    println!("{:016x}", digest(steps, seed));
+    println!("{:016x}", digest(steps, start));
 }

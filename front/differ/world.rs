@@ -12,11 +12,11 @@ pub struct World {
 }
 
 impl World {
-    pub fn new(seed: u64) -> Self {
+    pub fn new(start: u64) -> Self {
         World {
             sets: (0..6).map(|_| FixedBitSet::new()).collect(),
             table: BitRows::new(3, 70),
-            random: seed.wrapping_mul(0x9e37_79b9_7f4a_7c15) | 1,
+            random: start.wrapping_mul(0x9e37_79b9_7f4a_7c15) | 1,
             digest: 0,
             said: (0, Vec::new()),
         }

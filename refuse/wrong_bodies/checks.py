@@ -23,7 +23,7 @@ class Checks:
             if work and not fills:
                 work = shutil.copytree(work, f"{room}/kept")
             words += [f"--incremental={work}"] if work else []
-            words += [f"--only={it}" for it in sorted(copy.only)]
+            words += [f"--only={symbol}" for symbol in sorted(copy.only)]
             words += ["--allow-holes"] if copy.has_holes else []
             return self.processes.run(words, room)
 
@@ -35,11 +35,11 @@ class Checks:
         name, root = ("top_of_edits", "top/src/lib.rt") if copy.is_source else (crates[0].name, crates[0].root)
         words = [f"{kit}/bin/rattle", "check", "--jobs=1", f"--crate-name={name}", root, f"--links={name}="]
         of_kit = ["core", "std"] if copy.is_source else ["std"]
-        for library in dict.fromkeys([*of_kit, *(dep for it in crates for dep in it.deps)]):
+        for library in dict.fromkeys([*of_kit, *(dep for crate in crates for dep in crate.deps)]):
             words.append(f"--extern={library}={self.folder_of(library)}/{library}.rlib")
-        words += [f"-Ldependency={it}" for it in self.folders_of_libraries(crates)]
+        words += [f"-Ldependency={folder}" for folder in self.folders_of_libraries(crates)]
         if copy.is_source:
-            words += [f"--lib={it.name}:{','.join([*of_kit, *it.deps])}={it.name}/{it.root}" for it in crates]
+            words += [f"--lib={crate.name}:{','.join([*of_kit, *crate.deps])}={crate.name}/{crate.root}" for crate in crates]
         elif crates[0].is_static:
             words.append("--crate-type=staticlib")
         logic = f"--antt-project={kit}/rattle/logic/antt-project.json"
@@ -51,5 +51,5 @@ class Checks:
         return crate.rlib if crate else self.project.kit / "rlibs"
 
     def folders_of_libraries(self, but):
-        others = [it.rlib for it in self.project.crates.values() if it not in but and it.rlib.is_dir()]
+        others = [crate.rlib for crate in self.project.crates.values() if crate not in but and crate.rlib.is_dir()]
         return [self.project.kit / "rlibs", *others]

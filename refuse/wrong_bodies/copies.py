@@ -54,27 +54,27 @@ class Copy:
 
 def copy_of(edits, is_source=True):
     """The copy in which these edits are judged together."""
-    crates = dict.fromkeys(it.crate for it in edits)
+    crates = dict.fromkeys(edit.crate for edit in edits)
     copy = Copy({}, is_source)
     for crate in crates:
-        own = [it for it in edits if it.crate is crate]
+        own = [edit for edit in edits if edit.crate is crate]
         texts, judges = with_edits(own)
-        symbols = set().union(*(symbols_of(it, judges) for it in own))
-        if all(it.reach is not None for it in own):
-            reached = symbols.union(*(it.reach for it in own if not it.stands_beside))
+        symbols = set().union(*(symbols_of(edit, judges) for edit in own))
+        if all(edit.reach is not None for edit in own):
+            reached = symbols.union(*(edit.reach for edit in own if not edit.stands_beside))
             texts = without_bodies(crate, texts, reached)
         copy.texts[crate] = texts
         copy.judges |= judges
         if len(crates) > 1:
-            judging = [judge.function for it in own for judge in judges[it]]
-            symbols = {f"{crate.name}::{crate.place_of(it)}" for it in judging}
+            judging = [judge.function for edit in own for judge in judges[edit]]
+            symbols = {f"{crate.name}::{crate.place_of(function)}" for function in judging}
         copy.only |= symbols
     return copy
 
 
 def symbols_of(edit, judges):
     """The symbols of the functions of a copy that judge an edit."""
-    return {it.function.symbol for it in judges[edit]} if edit.stands_beside else edit.symbols
+    return {judge.function.symbol for judge in judges[edit]} if edit.stands_beside else edit.symbols
 
 
 def with_edits(edits):
@@ -87,7 +87,7 @@ def with_edits(edits):
         if edit.stands_beside:
             suffixes[edit] = f"_edit{number}"
             put_beside(edit, suffixes[edit], texts)
-    return texts, {it: judges_of(it, suffixes.get(it, ""), texts) for it in edits}
+    return texts, {edit: judges_of(edit, suffixes.get(edit, ""), texts) for edit in edits}
 
 
 def put_beside(edit, suffix, texts):
@@ -96,7 +96,7 @@ def put_beside(edit, suffix, texts):
     crate, function = edit.crate, edit.functions[0]
     text = texts.get(function.path, crate.sources[function.path])
     lines = text.split("\n")
-    now = next(it for it in rattle.functions_of(function.path, text) if it.symbol == function.symbol)
+    now = next(found for found in rattle.functions_of(function.path, text) if found.symbol == function.symbol)
     end = now.lines.stop - 1
     body = re.sub(rf"\bfn {function.name}\b", f"fn {function.name}{suffix}", edit.wrong_body, count=1)
     texts[function.path] = "\n".join([*lines[:end], "", body, *lines[end:]])
@@ -112,9 +112,9 @@ def judges_of(edit, suffix, texts):
     judges = []
     for function in edit.functions:
         text = texts.get(function.path, edit.crate.sources[function.path])
-        for it in rattle.functions_of(function.path, text):
-            if it.symbol == function.symbol + suffix:
-                judges.append(Judge(it, it.lines.start - function.lines.start))
+        for found in rattle.functions_of(function.path, text):
+            if found.symbol == function.symbol + suffix:
+                judges.append(Judge(found, found.lines.start - function.lines.start))
     return judges
 
 
@@ -124,19 +124,19 @@ def without_bodies(crate, texts, judging):
     made = dict(texts)
     for path, text in {**crate.sources, **texts}.items():
         if path.endswith(".rt"):
-            functions = rattle.functions_of(path, text)
-            others = outermost(it for it in functions if it.body and not judging & {crate.place_of(it), it.symbol})
+            others = others_in(crate, path, text, judging)
             made[path] = with_loops(text, tuple(others))
-            for it in others:
-                put_hole(crate, it, made)
+            for function in others:
+                put_hole(crate, function, made)
     return made
 
 
-def outermost(functions):
-    """These functions, but for those within the body of one of them."""
+def others_in(crate, path, text, judging):
+    """The functions of a file that judge no edit and whose body may be another, but for those within the body of one."""
     found, end = [], 0
-    for function in functions:
-        if function.body.start >= end:
+    for function in rattle.functions_of(path, text):
+        is_judging = judging & {crate.place_of(function), function.symbol}
+        if function.body and not is_judging and function.body.start >= end:
             found.append(function)
             end = function.body.stop
     return found

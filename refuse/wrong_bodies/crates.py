@@ -15,8 +15,8 @@ class Project:
     def __init__(self, top, edits_top=None):
         self.top, self.edits_top = top, edits_top or top
         lines = (top / "crates.txt").read_text().splitlines()
-        crates = [Crate(it, self) for it in lines if it.strip() and not it.startswith("#")]
-        self.crates = {it.name: it for it in crates}
+        crates = [Crate(line, self) for line in lines if line.strip() and not line.startswith("#")]
+        self.crates = {crate.name: crate for crate in crates}
 
     @functools.cached_property
     def kit(self):
@@ -49,12 +49,12 @@ class Crate:
     @functools.cached_property
     def sources(self):
         """The texts of src/, specs/ and proofs/ by their paths, as they are read once."""
-        files = [it for part in PARTS for it in sorted(self.folder.glob(f"{part}/**/*.*"))]
-        return {str(it.relative_to(self.folder)): it.read_text() for it in files if it.is_file()}
+        files = [path for part in PARTS for path in sorted(self.folder.glob(f"{part}/**/*.*"))]
+        return {str(path.relative_to(self.folder)): path.read_text() for path in files if path.is_file()}
 
     @functools.cached_property
     def functions(self):
-        return [it for path, text in self.sources.items() for it in rattle.functions_of(path, text)]
+        return [function for path, text in self.sources.items() for function in rattle.functions_of(path, text)]
 
     @functools.cached_property
     def proofs(self):
@@ -89,7 +89,7 @@ class Crate:
         return f"{home}::{function.symbol.removeprefix(home + '::')}".removeprefix("::")
 
     def edits(self):
-        return [Edit(self, it) for it in sorted(self.must_fail.glob("*.edit"))]
+        return [Edit(self, file) for file in sorted(self.must_fail.glob("*.edit"))]
 
 
 class Edit:
@@ -106,14 +106,14 @@ class Edit:
         self.pairs = pairs_of(file.read_text())
         changes = []
         self.is_bad = self.applied({}, changes) is None
-        self.functions = [function for it in changes for function in it.functions]
-        self.is_lone = not all(it.is_of_one_function for it in changes)
-        symbols = {it.symbol for it in self.functions}
+        self.functions = [function for change in changes for function in change.functions]
+        self.is_lone = not all(change.is_of_one_function for change in changes)
+        symbols = {function.symbol for function in self.functions}
         named = self.name.rpartition("-")[0].replace("-", "::")
         self.symbols = {named} if self.is_lone and named in symbols else symbols
         self.reach = None
-        if all(it.reach is not None for it in changes):
-            self.reach = symbols.union(*(it.reach for it in changes))
+        if all(change.reach is not None for change in changes):
+            self.reach = symbols.union(*(change.reach for change in changes))
 
     @property
     def stands_beside(self):
@@ -125,7 +125,7 @@ class Edit:
         if self.is_lone or not self.functions or len(self.symbols) > 1:
             return None
         function = self.functions[0]
-        folders = {os.path.dirname(it) for it in self.crate.proof_of(function)}
+        folders = {os.path.dirname(path) for path in self.crate.proof_of(function)}
         if not function.is_plain or len(folders) > 1:
             return None
         text = function.text

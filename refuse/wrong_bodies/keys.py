@@ -56,17 +56,17 @@ class Verdicts:
 
     def key(self, kind, edit, texts, read):
         """The key of an edit, or None where a library below its crate is not built."""
-        below = sorted(self.project.below(edit.crate), key=lambda it: it.name)
-        libraries = [read(it) for it in below]
+        below = sorted(self.project.below(edit.crate), key=lambda crate: crate.name)
+        libraries = [read(crate) for crate in below]
         if None in libraries:
             return None
-        lines = [it.line for it in (edit.crate, *below)]
+        lines = [crate.line for crate in (edit.crate, *below)]
         judging = [edit.name, str(edit.is_lone), *sorted(edit.symbols), *sorted(edit.reach or ())]
         return kept.sum_of([kind, kept.kit_sum(), sum_of_script(), *lines, *judging, *texts, *libraries])
 
     def libraries_are_as_read(self, crate):
         """Whether no library below was built anew since a key was made of it."""
-        return all(format_of(it) == read_format(it) for it in self.project.below(crate))
+        return all(format_of(library) == read_format(library) for library in self.project.below(crate))
 
 
 def first_line(edit):
@@ -76,7 +76,7 @@ def first_line(edit):
 def moved(edit, why, by):
     """What was said of an edit, with the line of a goal in its function where that stands now."""
     path = re.escape(edit.functions[0].path) if edit.functions else "none"
-    return re.sub(rf"^(refused: {path}:)(\d+)", lambda it: it[1] + str(int(it[2]) + by), why)
+    return re.sub(rf"^(refused: {path}:)(\d+)", lambda found: found[1] + str(int(found[2]) + by), why)
 
 
 @functools.lru_cache(maxsize=None)
@@ -88,7 +88,7 @@ def sum_of_text(path, text):
 def sum_of_script():
     """A sum of this script's own sources."""
     package = sorted((REFUSE / "wrong_bodies").glob("*.py"))
-    texts = [it.read_bytes() for it in [REFUSE / "edits", REFUSE / "kept.py", REFUSE / "turns.py", *package]]
+    texts = [path.read_bytes() for path in [REFUSE / "edits", REFUSE / "kept.py", REFUSE / "turns.py", *package]]
     return kept.sum_of(texts)
 
 

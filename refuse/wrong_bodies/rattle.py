@@ -58,7 +58,7 @@ def symbol_of_impl(heading):
     own = re.findall(r"[<,]\s*(?:const )?(\w+)(?=[:,>])", parameters)
     plain = re.split(r" where |[ {]*$", heading[len(parameters) :])[0]
     *traits, type_name = plain.split(" for ")
-    spelled = " ".join([type_name, *(re.sub(r"\w+::", "", it) for it in traits)])
+    spelled = " ".join([type_name, *(re.sub(r"\w+::", "", name) for name in traits)])
     symbol = ""
     for word in re.findall(r"'\w+|&|\w+", spelled):
         if word == "&":
@@ -70,7 +70,7 @@ def symbol_of_impl(heading):
 
 def module_of(path):
     names = path.removesuffix(".rt").split("/")[1:]
-    return "::".join(it for it in names if it not in ("lib", "main", "mod"))
+    return "::".join(name for name in names if name not in ("lib", "main", "mod"))
 
 
 def first_line(lines, start, is_wanted, otherwise):
@@ -111,7 +111,7 @@ def extent_of(lines, at):
     ends = {indent + "}", indent + "{}"}
     if lines[opens][-1] not in "{}":
         ends.add(lines[opens])
-    last = first_line(lines, opens, lambda it: it in ends, at)
+    last = first_line(lines, opens, lambda line: line in ends, at)
     first = at
     while first > 0 and lines[first - 1].startswith(indent + "#["):
         first -= 1
@@ -130,7 +130,7 @@ def body_of(lines, at, opens, last):
     has_braces = lines[opens].endswith("{") and lines[last] == indent + "}"
     if not has_braces or name in ("main", "drop"):
         return range(0)
-    begins = next((it for it in range(at, last) if lines[it] == indent + "{"), opens)
+    begins = next((number for number in range(at, last) if lines[number] == indent + "{"), opens)
     return range(begins + 1, last)
 
 
@@ -148,7 +148,7 @@ def function_with(path, text, number):
     lines = text.split("\n")
     if not path.endswith(".rt"):
         return None
-    heads = [it for it in range(number + 1) if HEAD.match(lines[it])]
+    heads = [head for head in range(number + 1) if HEAD.match(lines[head])]
     found = function_at(path, lines, heads[-1]) if heads else None
     return found if found and number + 1 in found.lines else None
 
@@ -180,6 +180,6 @@ def without_comments(path, text):
     comment = COMMENT.get(path[path.rindex(".") :])
     if comment is None or "/*" in text or "{-" in text:
         return text
-    code = [it for it in text.split("\n") if it.strip() and not comment.match(it)]
-    has_open_quote = any(it.count('"') % 2 for it in code)
+    code = [line for line in text.split("\n") if line.strip() and not comment.match(line)]
+    has_open_quote = any(line.count('"') % 2 for line in code)
     return text if has_open_quote else "\n".join(code)

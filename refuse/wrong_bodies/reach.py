@@ -33,10 +33,10 @@ def change_of_definition(crate, text, number):
     users = users_of_definitions(crate, name)
     if users is None:
         return Change([], False, None)
-    functions = {it.symbol: it for it in users if isinstance(it, rattle.Function)}
-    others = {it for it in users if not isinstance(it, rattle.Function)}
+    functions = {user.symbol: user for user in users if isinstance(user, rattle.Function)}
+    others = {user for user in users if not isinstance(user, rattle.Function)}
     is_own = len(functions) == 1 and others <= set(functions)
-    reach = with_callers(crate, with_users_of_lemmas(crate, {symbol_of(it) for it in users}))
+    reach = with_callers(crate, with_users_of_lemmas(crate, {symbol_of(user) for user in users}))
     return Change(list(functions.values()), is_own, reach)
 
 
@@ -69,7 +69,7 @@ def user_at(crate, path, number):
     """The function whose line this is, or the symbol of the one whose proof this is, or else the file."""
     if not path.startswith("proofs/"):
         functions = rattle.functions_of(path, crate.sources[path])
-        return next((it for it in functions if number + 1 in it.lines), path)
+        return next((function for function in functions if number + 1 in function.lines), path)
     is_of_a_function = path.count("/") > 1
     return os.path.dirname(path).removeprefix("proofs/").replace("/", "::") if is_of_a_function else path
 
@@ -81,9 +81,9 @@ def symbol_of(user):
 def with_users_of_lemmas(crate, reach):
     """These, and what cites a file of lemmas among them, or among what that adds."""
     reach, looked = set(reach), set()
-    while left := {it for it in reach if it.endswith(".antt")} - looked:
+    while left := {user for user in reach if user.endswith(".antt")} - looked:
         looked |= left
-        names = "|".join(os.path.basename(it).removesuffix(".antt") for it in left)
+        names = "|".join(os.path.basename(path).removesuffix(".antt") for path in left)
         cites = re.compile(rf"\bproofs\b.*\b(?:{names})\b")
         for path, number, line in lines_of(crate):
             if cites.search(line) and not path.startswith("specs/"):
@@ -94,8 +94,8 @@ def with_users_of_lemmas(crate, reach):
 def with_callers(crate, reach):
     """These, and each function that calls one of them, or of what that adds."""
     reach, looked = set(reach), set()
-    while left := {it.rpartition("::")[2] for it in reach if not it.endswith(".antt")} - looked:
+    while left := {user.rpartition("::")[2] for user in reach if not user.endswith(".antt")} - looked:
         looked |= left
         calls = re.compile(rf"\b(?:{'|'.join(left)})\b")
-        reach |= {it.symbol for it in crate.functions if calls.search(it.text)}
+        reach |= {function.symbol for function in crate.functions if calls.search(function.text)}
     return reach

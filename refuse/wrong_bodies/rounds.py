@@ -40,14 +40,22 @@ class Beside:
     def __init__(self, log):
         self.log = log
 
-    def proves(self, crate):
-        """Waits until it has proved the crate or kept it proved, or has ended, and answers whether the crate is proved."""
+    def says(self, crate):
+        """Whether it has proved the crate or kept it proved; None where neither that nor its end is told yet."""
         ended = re.compile(rf"(?m)^rt: {crate.name} (proved$|is kept: |NOT PROVED)|^\d+ passed, \d+ failed$")
-        while True:
-            said = self.log.read_text() if self.log.exists() else ""
-            if found := ended.search(said):
-                return found[1] in ("proved", "is kept: ")
+        said = self.log.read_text() if self.log.exists() else ""
+        found = ended.search(said)
+        return found[1] in ("proved", "is kept: ") if found else None
+
+    def has_told_of(self, crates):
+        """Whether it has told of all these, so that nothing is left to give way to."""
+        return all(self.says(crate) is not None for crate in crates)
+
+    def proves(self, crate):
+        """Waits until it has told of the crate, or has ended, and answers whether the crate is proved."""
+        while (said := self.says(crate)) is None:
             time.sleep(1)
+        return said
 
 
 class Runner:
@@ -59,14 +67,14 @@ class Runner:
     def try_all(self, groups, most=MOST):
         """Tries the edits of each of these groups, one group beside another."""
         with ThreadPoolExecutor(max(len(groups), 1)) as by_group:
-            for _ in by_group.map(lambda it: self.try_group(it, most), groups):
+            for _ in by_group.map(lambda group: self.try_group(group, most), groups):
                 pass
 
     def try_group(self, edits, most):
         """Tries these edits of a crate, or of several, and tells of each."""
         edits = self.those_to_judge(edits)
         known = self.known(edits)
-        left = [it for it in edits if it not in known]
+        left = [edit for edit in edits if edit not in known]
         with self.checks.room() as work:
             keeps = False
             if self.wants_first_check(left):
@@ -78,40 +86,40 @@ class Runner:
 
     def those_to_judge(self, edits):
         """Those that can be applied and whose crate `rt ci` has proved. It tells of the others."""
-        for crate in dict.fromkeys(it.crate for it in edits):
+        for crate in dict.fromkeys(edit.crate for edit in edits):
             if self.beside and not self.beside.proves(crate):
-                self.tell_unproved([it for it in edits if it.crate is crate and not it.is_bad], "rt ci says so")
-                edits = [it for it in edits if it.crate is not crate or it.is_bad]
+                self.tell_unproved([edit for edit in edits if edit.crate is crate and not edit.is_bad], "rt ci says so")
+                edits = [edit for edit in edits if edit.crate is not crate or edit.is_bad]
         for edit in edits:
             if edit.is_bad:
                 self.told.tell(edit, False, BAD)
-        return [it for it in edits if not it.is_bad]
+        return [edit for edit in edits if not edit.is_bad]
 
     def known(self, edits):
         """What earlier runs said of those of these edits that they refused."""
-        return {it: why for it in edits if (why := self.kept.kept(it)) is not None}
+        return {edit: why for edit in edits if (why := self.kept.kept(edit)) is not None}
 
     def tell_known(self, known):
         for edit, why in known.items():
             self.told.tell(edit, True, why, is_kept=True)
 
     def tell_unproved(self, edits, why):
-        names = " or ".join(dict.fromkeys(it.crate.name for it in edits))
+        names = " or ".join(dict.fromkeys(edit.crate.name for edit in edits))
         for edit in edits:
             self.told.tell(edit, False, f"UNCLEAR: {names} itself is not proved: {why}")
 
     def wants_first_check(self, left):
         """Whether the crate of these edits, or their crates, have to be checked as they stand."""
-        is_one_crate = len({it.crate for it in left}) == 1
-        rounds = sum(not it.symbols for it in left)
+        is_one_crate = len({edit.crate for edit in left}) == 1
+        rounds = sum(not edit.symbols for edit in left)
         return bool(left) and (not self.are_proved or (is_one_crate and rounds > ROUNDS_THAT_GAIN))
 
     def first_check(self, left, work):
         """Whether a check of the crates as they stand left its work for the rounds, and what it says. A program and a static
         library are checked as they are, which is of no use to a round."""
-        crates = list(dict.fromkeys(it.crate for it in left))
+        crates = list(dict.fromkeys(edit.crate for edit in left))
         as_source = len(crates) > 1 or crates[0].is_library
-        copy = copies.Copy({it: {} for it in crates}, is_source=as_source)
+        copy = copies.Copy({crate: {} for crate in crates}, is_source=as_source)
         given = (work, True) if as_source else ()
         return as_source, self.pool.submit(self.checks.check, copy, *given).result()
 
@@ -122,15 +130,15 @@ class Runner:
             while left and (has_work or not running):
                 fits = has_work or len(left) <= most
                 now = together.taken_together(left, most if fits else min(most, MOST_AT_FIRST))
-                left = [it for it in left if it not in now]
+                left = [edit for edit in left if edit not in now]
                 running.add(self.pool.submit(self.round, now, work, not has_work, is_source))
             ended, running = wait(running, return_when=FIRST_COMPLETED)
             has_work = True
-            for found, halves in (it.result() for it in ended):
-                running |= {self.pool.submit(self.round, it, work, False, is_source) for it in halves}
+            for found, halves in (ran.result() for ran in ended):
+                running |= {self.pool.submit(self.round, half, work, False, is_source) for half in halves}
                 left += self.settle(found, alone)
-        for it in alone:
-            it.result()
+        for ran in alone:
+            ran.result()
 
     def settle(self, found, alone):
         """Tells of the edits that a round refuses, has those tried alone of which it says nothing, and answers those that wait
@@ -154,9 +162,9 @@ class Runner:
             return [], [edits[::2], edits[1::2]]
         is_by_itself = len(edits) == 1
         found = []
-        for it in edits:
-            own = verdicts.said_of(it.crate, said)
-            found.append((it, *verdicts.judged(it, copy.judges[it], own, is_by_itself)))
+        for edit in edits:
+            own = verdicts.said_of(edit.crate, said)
+            found.append((edit, *verdicts.judged(edit, copy.judges[edit], own, is_by_itself)))
         return found, []
 
     def alone(self, edit):
@@ -172,9 +180,9 @@ class Runner:
         edits = self.those_to_judge(edits)
         known = self.known(edits)
         self.tell_known(known)
-        left = [it for it in edits if it not in known]
-        for crate in dict.fromkeys(it.crate for it in left):
-            own, kept = [it for it in left if it.crate is crate], crate.folder / "out/incremental"
+        left = [edit for edit in edits if edit not in known]
+        for crate in dict.fromkeys(edit.crate for edit in left):
+            own, kept = [edit for edit in left if edit.crate is crate], crate.folder / "out/incremental"
             if kept.is_dir():
                 self.try_in_rounds(own, kept, most, has_work=True, is_source=crate.is_library)
             else:

@@ -8,10 +8,10 @@ def taken_together(edits, most):
     """Edits for one round, at most so many. Nothing rests on what two of them change, and no wrong body that stands beside its
     function rests on a definition that one changes. An edit on which nobody knows what rests is by itself."""
     now, texts, taken, shaken = [], {}, set(), set()
-    for edit in sorted(edits, key=lambda it: (it.reach is None, it.stands_beside)):
+    for edit in sorted(edits, key=lambda edit: (edit.reach is None, edit.stands_beside)):
         if now and (len(now) == most or None in (edit.reach, now[0].reach)):
             continue
-        reach = {(edit.crate.name, it) for it in edit.reach or ()}
+        reach = {(edit.crate.name, symbol) for symbol in edit.reach or ()}
         if edit.stands_beside:
             if not reach & shaken:
                 now.append(edit)
@@ -52,8 +52,8 @@ def crates_to_share(by_crate, project, few):
     for own in by_crate:
         crate = own[0].crate
         under = project.below(crate)
-        is_plain = len(own) <= few and not any(it.is_lone or it.is_bad for it in own)
-        stands_apart = crate not in below and not any(it[0].crate in under for it in chosen)
+        is_plain = len(own) <= few and not any(edit.is_lone or edit.is_bad for edit in own)
+        stands_apart = crate not in below and not any(other[0].crate in under for other in chosen)
         if is_plain and stands_apart:
             chosen.append(own)
             below |= under

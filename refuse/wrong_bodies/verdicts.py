@@ -62,7 +62,7 @@ def unproved_in(said):
 def errors_in_proofs(said):
     """The places of the errors in proofs, but for those that say only that a name is gone."""
     places = [Place(path, int(line), text) for path, line, text in ERROR_IN_PROOF.findall(said)]
-    return [it for it in places if not NAMES.search(it.text)]
+    return [place for place in places if not NAMES.search(place.text)]
 
 
 def open_goal(said):
@@ -92,7 +92,7 @@ def judged(edit, judges, said, is_by_itself):
                 if place := place_of_refusal(unproved, judge, errors):
                     return REFUSED, f"refused: {place}"
                 causes.append(unproved.why)
-    waits = causes and all("it calls" in it for it in causes)
+    waits = causes and all("it calls" in cause for cause in causes)
     return (WAITS if waits else UNCLEAR), ""
 
 

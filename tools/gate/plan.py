@@ -101,7 +101,12 @@ class Plan:
         server = ("pg_config", "postgres", "psql", *MAKERS)
         inputs = ("front/postgres", "front/lib", "front/c")
         postgres = Stage("the type for PostgreSQL", ("front/postgres/test",), inputs, server, ("README.md",))
-        return [front, postgres] if self.has("bits_c") else []
+        crate = ("front/rust", "front/differ", "front/registry", "front/compilers")
+        gcc = [f"{it}-linux-gnu-gcc" for it in ("aarch64", "i686", "s390x")]
+        emulators = ("qemu-aarch64-static", "qemu-s390x-static", "wasm-ld", "node", "rustc", "cc", *gcc)
+        targets = Stage("the crate on other targets", ("front/targets",), (*crate, "front/targets", "front/wrong/targets"), emulators)
+        client = Stage("petgraph over the crate", ("front/client",), (*crate, "front/client"), ("cargo", "rustc", "cc"))
+        return [front, postgres, targets, client] if self.has("bits_c") else []
 
     def last(self):
         """What runs the programs."""

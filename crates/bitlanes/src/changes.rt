@@ -34,7 +34,7 @@ pub fn apply<O: WordOp>(dst: &mut [Block], src: &[Block], steps: &mut Steps) -> 
     let (dst, src) = (&mut dst[..words], &src[..words]);
     let mut at = 0;
     let mut changed = u64x4::splat(0);
-    while at + LANE <= words {
+    while words - at >= LANE {
         steps.tick();
         changed = gathered(changed, change_lane::<O>(dst, src, at));
         at += LANE;
@@ -76,7 +76,7 @@ pub fn apply_joined<O: WordOp, T: WordOp>(
     let (dst, a, b) = (&mut dst[..words], &a[..words], &b[..words]);
     let mut at = 0;
     let mut changed = u64x4::splat(0);
-    while at + LANE <= words {
+    while words - at >= LANE {
         steps.tick();
         let joined = lane_at::<T>(a, b, at);
         changed = gathered(changed, change_by_lane::<O>(dst, at, joined));
@@ -110,9 +110,10 @@ pub fn zero(dst: &mut [Block], steps: &mut Steps) -> bool
     let words = dst.len();
     let mut at = 0;
     let mut changed = u64x4::splat(0);
-    while at + LANE <= words {
+    while words - at >= LANE {
         steps.tick();
-        changed = gathered(changed, clear_lane(dst, at));
+        changed = gathered(changed, u64x4::from_slice(&dst[at..]));
+        u64x4::splat(0).copy_to_slice(&mut dst[at..]);
         at += LANE;
     }
     let rest = words - at;
@@ -144,7 +145,7 @@ fn change_lane<O: WordOp>(dst: &mut [Block], src: &[Block], at: usize) -> u64x4
     ensures changed { result
         ≡ zip2 (changed_bits O.joined) (chunk at 4 dst.old) (chunk at 4 src.now) }
 {
-    change_by_lane::<O>(dst, at, u64x4::from_slice(&src[at..at + LANE]))
+    change_by_lane::<O>(dst, at, u64x4::from_slice(&src[at..]))
 }
 
 // Joins the four words of `dst` from `at` on with a lane, and answers the bits that changed.
@@ -155,22 +156,10 @@ fn change_by_lane<O: WordOp>(dst: &mut [Block], at: usize, lane: u64x4) -> u64x4
     ensures words { dst.new ≡ put_chunk at dst.old (zip2 O.joined (chunk at 4 dst.old) lane) }
     ensures changed { result ≡ zip2 (changed_bits O.joined) (chunk at 4 dst.old) lane }
 {
-    let old = u64x4::from_slice(&dst[at..at + LANE]);
+    let old = u64x4::from_slice(&dst[at..]);
     let new = O::lane(old, lane);
-    new.copy_to_slice(&mut dst[at..at + LANE]);
+    new.copy_to_slice(&mut dst[at..]);
     old ^ new
-}
-
-// Makes the four words of `dst` from `at` on 0, and answers what they were.
-#[inline(always)]
-fn clear_lane(dst: &mut [Block], at: usize) -> u64x4
-    requires { at + 4 ≤ length dst.old }
-    ensures words { dst.new ≡ put_chunk at dst.old (replicate 4 0) }
-    ensures before { result ≡ chunk at 4 dst.old }
-{
-    let old = u64x4::from_slice(&dst[at..at + LANE]);
-    u64x4::splat(0).copy_to_slice(&mut dst[at..at + LANE]);
-    old
 }
 
 // Joins the last one to three words of `dst`, from `at` on, with those of `src`, and answers the bits that changed.

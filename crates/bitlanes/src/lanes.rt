@@ -42,7 +42,7 @@ pub fn apply<O: WordOp>(dst: &mut [Block], src: &[Block], steps: &mut Steps)
     let words = dst.len().min(src.len());
     let (dst, src) = (&mut dst[..words], &src[..words]);
     let mut at = 0;
-    while at + LANE <= words {
+    while words - at >= LANE {
         steps.tick();
         join_lane::<O>(dst, src, at);
         at += LANE;
@@ -80,7 +80,7 @@ pub fn count<O: WordOp>(a: &[Block], b: &[Block], steps: &mut Steps) -> usize
 /// Whether no bit is set in the words of `a` joined with those of `b` by `O`, as far as both go.
 ///
 /// It stops at the first lane with a bit, so it takes at most `m / 4` steps, rounded up, `m` being the number of words
-/// of the shorter slice; where it answers `true` it takes exactly as many.
+/// of the shorter slice; where it answers `true` it takes exactly as many, and where it answers `false` at least one.
 ///
 /// ```
 /// assert!(rt; lanes::none::<And>(&[1, 2], &[2, 1, 255], &mut Steps::new()));
@@ -93,11 +93,12 @@ pub fn none<O: WordOp>(a: &[Block], b: &[Block], steps: &mut Steps) -> bool
     ensures cost { steps.new ≤ steps.old + lane_steps (min (length a.now) (length b.now)) }
     ensures whole { IsTrue result
         → steps.new ≡ steps.old + lane_steps (min (length a.now) (length b.now)) }
+    ensures stops { result ≡ false → steps.old < steps.new }
 {
     let common = a.len().min(b.len());
     let (a, b) = (&a[..common], &b[..common]);
     let mut at = 0;
-    while at + LANE <= common {
+    while common - at >= LANE {
         steps.tick();
         if !is_zero(lane_at::<O>(a, b, at)) {
             return false;
@@ -157,7 +158,7 @@ pub fn count_one(a: &[Block], steps: &mut Steps) -> usize
 /// Whether no bit is set in the words.
 ///
 /// It stops at the first lane with a bit, so it takes at most `m / 4` steps, rounded up, `m` being the number of words;
-/// where it answers `true` it takes exactly as many.
+/// where it answers `true` it takes exactly as many, and where it answers `false` at least one.
 ///
 /// ```
 /// assert!(rt; lanes::none_one(&[0; 9], &mut Steps::new()));
@@ -169,12 +170,13 @@ pub fn none_one(a: &[Block], steps: &mut Steps) -> bool
     ensures zero { result ≡ list_all (λ word. word == 0) a.now }
     ensures cost { steps.new ≤ steps.old + lane_steps (length a.now) }
     ensures whole { IsTrue result → steps.new ≡ steps.old + lane_steps (length a.now) }
+    ensures stops { result ≡ false → steps.old < steps.new }
 {
     let words = a.len();
     let mut at = 0;
-    while at + LANE <= words {
+    while words - at >= LANE {
         steps.tick();
-        if !is_zero(u64x4::from_slice(&a[at..at + LANE])) {
+        if !is_zero(u64x4::from_slice(&a[at..])) {
             return false;
         }
         at += LANE;
@@ -190,7 +192,7 @@ pub fn none_one(a: &[Block], steps: &mut Steps) -> bool
 /// Whether no bit is set in the word `mask` joined with each word of `words` by `O`.
 ///
 /// It stops at the first lane with a bit, so it takes at most `m / 4` steps, rounded up, `m` being the number of words;
-/// where it answers `true` it takes exactly as many.
+/// where it answers `true` it takes exactly as many, and where it answers `false` at least one.
 ///
 /// ```
 /// assert!(rt; lanes::none_masked::<And>(4, &[3, 8, 1], &mut Steps::new()));
@@ -202,10 +204,11 @@ pub fn none_masked<O: WordOp>(mask: Block, words: &[Block], steps: &mut Steps) -
     ensures zero { result ≡ list_all (λ word. word == 0) (map (O.joined mask) words.now) }
     ensures cost { steps.new ≤ steps.old + lane_steps (length words.now) }
     ensures whole { IsTrue result → steps.new ≡ steps.old + lane_steps (length words.now) }
+    ensures stops { result ≡ false → steps.old < steps.new }
 {
     let count = words.len();
     let mut at = 0;
-    while at + LANE <= count {
+    while count - at >= LANE {
         steps.tick();
         if !is_zero(masked_lane_at::<O>(mask, words, at)) {
             return false;
@@ -228,11 +231,8 @@ fn join_lane<O: WordOp>(dst: &mut [Block], src: &[Block], at: usize)
     ensures { dst.new ≡ put_chunk at dst.old
         (zip2 O.joined (chunk at 4 dst.old) (chunk at 4 src.now)) }
 {
-    let lane = O::lane(
-        u64x4::from_slice(&dst[at..at + LANE]),
-        u64x4::from_slice(&src[at..at + LANE]),
-    );
-    lane.copy_to_slice(&mut dst[at..at + LANE]);
+    let lane = O::lane(u64x4::from_slice(&dst[at..]), u64x4::from_slice(&src[at..]));
+    lane.copy_to_slice(&mut dst[at..]);
 }
 
 // The four joined words from `at` on.
@@ -242,10 +242,7 @@ pub(crate) fn lane_at<O: WordOp>(a: &[Block], b: &[Block], at: usize) -> u64x4
     requires in_b { at + 4 ≤ length b.now }
     ensures { result ≡ chunk at 4 (zip2 O.joined a.now b.now) }
 {
-    O::lane(
-        u64x4::from_slice(&a[at..at + LANE]),
-        u64x4::from_slice(&b[at..at + LANE]),
-    )
+    O::lane(u64x4::from_slice(&a[at..]), u64x4::from_slice(&b[at..]))
 }
 
 // The mask joined with each of the four words from `at` on.
@@ -339,10 +336,9 @@ pub(crate) fn part_at(words: &[Block], at: usize, rest: usize) -> u64x4
     requires within { at + rest ≤ length words.now }
     ensures { result ≡ filled at rest words.now }
 {
-    let words = &words[at..at + rest];
-    let second = if rest > 1 { words[1] } else { 0 };
-    let third = if rest > 2 { words[2] } else { 0 };
-    u64x4::from_array([words[0], second, third, 0])
+    let second = if rest > 1 { words[at + 1] } else { 0 };
+    let third = if rest > 2 { words[at + 2] } else { 0 };
+    u64x4::from_array([words[at], second, third, 0])
 }
 
 // Writes the first one to three words of the lane, from `at` on, by tests as `part_at` reads them.
@@ -353,13 +349,12 @@ pub(crate) fn put_part(words: &mut [Block], at: usize, rest: usize, lane: u64x4)
     requires within { at + rest ≤ length words.old }
     ensures { words.new ≡ put_chunk at words.old (take rest lane) }
 {
-    let words = &mut words[at..at + rest];
     let [first, second, third, _] = lane.to_array();
-    words[0] = first;
+    words[at] = first;
     if rest > 1 {
-        words[1] = second;
+        words[at + 1] = second;
         if rest > 2 {
-            words[2] = third;
+            words[at + 2] = third;
         }
     }
 }

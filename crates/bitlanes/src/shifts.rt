@@ -33,15 +33,17 @@ pub fn join_down<O: WordOp>(dst: &mut [Block], src: &[Block], from: usize, steps
     ensures cost { steps.new ≡ steps.old
         + lane_steps (min (length dst.old) (length src.now - from / 64)) }
 {
-    let first = (from / BITS).min(src.len());
+    let first = from / BITS;
     let shift = from % BITS;
-    let words = dst.len().min(src.len() - first);
+    let words = dst.len().min(src.len().saturating_sub(first));
+    if words == 0 {
+        return;
+    }
     let (dst, src) = (&mut dst[..words], &src[first..]);
-    let whole = &src[..words];
     let mut done = 0;
-    while done + LANE < words {
+    while words - done > LANE {
         steps.tick();
-        join_lane::<O>(dst, done, window_lane(whole, done, shift));
+        join_lane::<O>(dst, done, window_lane(src, done, shift));
         done += LANE;
     }
     for at in done..words {
@@ -165,8 +167,8 @@ fn window_lane(words: &[Block], at: usize, shift: usize) -> u64x4
 {
     straddle_lane(
         shift,
-        u64x4::from_slice(&words[at..at + LANE]),
-        u64x4::from_slice(&words[at + 1..at + 1 + LANE]),
+        u64x4::from_slice(&words[at..at + 4]),
+        u64x4::from_slice(&words[at + 1..at + 5]),
     )
 }
 
@@ -217,5 +219,5 @@ fn join_lane<O: WordOp>(dst: &mut [Block], at: usize, lane: u64x4)
     requires within { at + 4 ≤ length dst.old }
     ensures { dst.new ≡ put_chunk at dst.old (zip2 O.joined (chunk at 4 dst.old) lane) }
 {
-    O::lane(u64x4::from_slice(&dst[at..at + LANE]), lane).copy_to_slice(&mut dst[at..at + LANE]);
+    O::lane(u64x4::from_slice(&dst[at..]), lane).copy_to_slice(&mut dst[at..]);
 }

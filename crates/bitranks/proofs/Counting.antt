@@ -117,6 +117,19 @@ module _ (ws : List ℕ) (words : AreWords ws) (k : ℕ) where
 -- ---- the position that a directory leads to
 
 module _ (ws directory : List ℕ) (is : IsDirectory ws directory) where
+  -- where none is found, the entry is the last
+  pub last_entry : (index entry end left : ℕ) → entry < length directory → slice_index directory entry ≤ index → (entry + 1 < length directory → index < slice_index directory (entry + 1))
+      → end ≡ min (length ws) (8 * entry + 8) → left ≡ index - slice_index directory entry
+      → count_below (has_bit ws) (64 * end) ≤ count_below (has_bit ws) (64 * (8 * entry)) + left → entry + 1 ≡ length directory
+  last_entry index entry end left within low high ends rest none =
+      let few : count_below (has_bit ws) (64 * end) ≤ index = omega (arith, none, is.counts entry within) in
+      ⊎_elim
+      (λ (more : entry + 1 < length directory).
+      let e : 64 * (8 * (entry + 1)) ≡ 64 * end = omega (arith, is.long) in
+      absurd (omega (arith, high more, is.counts (entry + 1) more, ap (count_below (has_bit ws)) e)))
+      (λ (last : length directory ≤ entry + 1). omega (arith, within, last))
+      (cases_lt (entry + 1) (length directory))
+
   -- what is found among the words of one entry, and what is not
   pub selected : (index entry end left : ℕ) → entry < length directory → slice_index directory entry ≤ index → (entry + 1 < length directory → index < slice_index directory (entry + 1))
       → end ≡ min (length ws) (8 * entry + 8) → left ≡ index - slice_index directory entry
@@ -131,12 +144,9 @@ module _ (ws directory : List ℕ) (is : IsDirectory ws directory) where
   selected index entry end left within low high ends rest None nth below none =
       let c : ℕ → Bool = has_bit ws in
       let few : count_below c (64 * end) ≤ index = omega (arith, none, is.counts entry within) in
-      sym (none-ascending c (64 * length ws) index (⊎_elim
-      (λ (more : entry + 1 < length directory).
-      let e : 64 * (8 * (entry + 1)) ≡ 64 * end = omega (arith, is.long) in
-      absurd (omega (arith, high more, is.counts (entry + 1) more, ap (count_below c) e)))
-      (λ (last : length directory ≤ entry + 1). let e : 64 * length ws ≡ 64 * end = omega (arith, is.long) in omega (arith, ap (count_below c) e))
-      (cases_lt (entry + 1) (length directory))))
+      let last = last_entry index entry end left within low high ends rest none in
+      let e : 64 * length ws ≡ 64 * end = omega (arith, is.long) in
+      sym (none-ascending c (64 * length ws) index (omega (arith, few, ap (count_below c) e)))
 
 -- ---- a value, its words and a directory
 
@@ -157,6 +167,9 @@ module _ (v : Bits) (ws directory : List ℕ) (is : IsKept v ws directory) where
       (ap (ascending (has_bit ws) 0) whole
       ∙ ascending-cut (has_bit ws) (contains v) 0 v.length (64 * length ws - v.length) (λ i _ _. same_bit i) (λ i past _. same_bit i ∙ contains-past v i (omega (arith, past))))
 
-  -- as many entries as the words of the value ask for
+  -- as many words as the value needs, and as many entries as these ask for
+  pub kept_words : length ws ≡ words_needed v.length
+  kept_words = ap length is.of_value ∙ length-words v
+
   pub kept_entries : length directory ≡ entries (words_needed v.length)
-  kept_entries = is.directory.long ∙ ap entries (ap length is.of_value ∙ length-words v)
+  kept_entries = is.directory.long ∙ ap entries kept_words

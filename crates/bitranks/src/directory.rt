@@ -2,13 +2,13 @@
 //!
 //! Position `p` stands at bit `p % 64` of word `p / 64`. Entry `k` of the directory is how many bits are set in the words
 //! before word `8 * k`, so it takes one word of memory for eight words of the row.
-ghost use Rattle.std.specs.Prelude.{◌≡◌, ℕ, ◌+◌, ◌-◌, ◌*◌, ◌^◌, ◌<◌, ◌≤◌, length, slice_get, slice_index, IfSome, IfNone};
+ghost use Rattle.std.specs.Prelude.{◌≡◌, ℕ, ◌+◌, ◌-◌, ◌*◌, ◌/◌, ◌^◌, ◌<◌, ◌≤◌, length, slice_get, slice_index, IfSome, IfNone};
 ghost use Rattle.std.specs.Int.RustNames.{count_ones};
 ghost use Rattle.bitlanes.specs.Bits.{bit};
 ghost use Rattle.bitwords.specs.Ascending.{ascending};
 ghost use Rattle.bitwords.specs.Rows.{has_bit, count_below};
 ghost use Rattle.bitranks.specs.Ranks as ranks;
-ghost use Rattle.bitranks.specs.Ranks.{IsDirectory, IsNth};
+ghost use Rattle.bitranks.specs.Ranks.{IsDirectory, IsNth, Halves, last_words, nth_of_entry};
 
 use bitlanes::Steps;
 use bitlanes::ops::And;
@@ -37,7 +37,7 @@ pub fn entries(words_count: usize) -> usize
 
 /// Writes the directory of the words over what was in it. It has to have as many entries as `entries` says.
 ///
-/// It takes one step for a word, and none for those of the last entry. The number of positions of the row, 64 for each
+/// It takes exactly one step for a word, and none for those of the last entry. The number of positions of the row, 64 for each
 /// word, may be at most 2 ^ 64.
 ///
 /// ```
@@ -49,7 +49,8 @@ pub fn fill(words: &[Block], directory: &mut [usize], steps: &mut Steps)
     requires fits { 64 * length words.now ≤ 2 ^ 64 }
     requires long { length directory.old ≡ ranks.entries (length words.now) }
     ensures directory { IsDirectory words.now directory.new }
-    ensures cost { steps.new ≤ steps.old + length words.now }
+    ensures cost { steps.new ≡ steps.old + (length words.now - last_words (length words.now)) }
+    ensures bound { steps.new ≤ steps.old + length words.now }
 {
     if directory.is_empty() {
         return;
@@ -64,7 +65,8 @@ pub fn fill(words: &[Block], directory: &mut [usize], steps: &mut Steps)
 
 /// How many positions below this one are set. The position may be any number: past the end of the words all are below it.
 ///
-/// It looks at one entry of the directory, and takes one step for each word that it looks at, eight at most.
+/// It looks at one entry of the directory, and takes one step for each word that it looks at: those of the entry up to the
+/// word of the position, or up to the last word.
 ///
 /// ```
 /// let (words, mut counts) = ([9, 2], [0]);
@@ -76,7 +78,8 @@ pub fn fill(words: &[Block], directory: &mut [usize], steps: &mut Steps)
 pub fn rank(words: &[Block], directory: &[usize], position: usize, steps: &mut Steps) -> usize
     requires { IsDirectory words.now directory.now }
     ensures count { result ≡ count_below (has_bit words.now) position }
-    ensures cost { steps.new ≤ steps.old + 8 }
+    ensures cost { steps.new ≡ steps.old + ranks.rank_steps (length words.now) position }
+    ensures bound { steps.new ≤ steps.old + 8 }
 {
     if words.is_empty() {
         return 0;
@@ -97,9 +100,10 @@ pub fn rank(words: &[Block], directory: &[usize], position: usize, steps: &mut S
 /// The position that is set and has exactly `index` positions that are set below it: the first has index 0. `None` where
 /// no more than `index` positions are set.
 ///
-/// It halves the directory until one entry is left, and looks then at eight words at most. With a directory of at most
-/// `2 ^ n` entries these are `n + 8` steps at most. The last word is searched by halves, six times. The number of
-/// positions of the row, 64 for each word, may be at most 2 ^ 64.
+/// It halves the directory until one entry is left, and looks then at the words of that entry up to the one that has the
+/// position, or where there is none at all words of the last entry. With a directory of at most `2 ^ n` entries these are
+/// `n + 8` steps at most. The last word is searched by halves, six times, which is not counted. The number of positions
+/// of the row, 64 for each word, may be at most 2 ^ 64.
 ///
 /// ```
 /// let (words, mut counts) = ([9, 2], [0]);
@@ -117,7 +121,11 @@ pub fn select(
     requires directory { IsDirectory words.now directory.now }
     ensures value { result
         ≡ slice_get (ascending (has_bit words.now) 0 (64 * length words.now)) index }
-    ensures cost { (n : ℕ) → length directory.now ≤ 2 ^ n → steps.new ≤ steps.old + n + 8 }
+    ensures cost { IfSome result
+        (λ p. Halves (length directory.now) (steps.old + nth_of_entry (p / 64)) steps.new) }
+    ensures whole { IfNone result (Halves (length directory.now)
+        (steps.old + last_words (length words.now)) steps.new) }
+    ensures bound { (n : ℕ) → length directory.now ≤ 2 ^ n → steps.new ≤ steps.old + n + 8 }
 {
     if directory.is_empty() {
         return None;
@@ -137,7 +145,7 @@ fn last_within(directory: &[usize], index: usize, steps: &mut Steps) -> usize
     ensures low { slice_index directory.now result ≤ index }
     ensures high { result + 1 < length directory.now
         → index < slice_index directory.now (result + 1) }
-    ensures cost { (n : ℕ) → length directory.now ≤ 2 ^ n → steps.new ≤ steps.old + n }
+    ensures cost { Halves (length directory.now) steps.old steps.new }
 {
     let mut low = 0;
     let mut high = directory.len();
@@ -167,10 +175,13 @@ fn select_in(
     requires fits { 64 * length words.now ≤ 2 ^ 64 }
     ensures found { IfSome result
         (IsNth (has_bit words.now) (count_below (has_bit words.now) (64 * first) + index)) }
+    ensures from { IfSome result (λ p. 64 * first ≤ p) }
     ensures below { IfSome result (λ p. p < 64 * end) }
     ensures none { IfNone result (count_below (has_bit words.now) (64 * end)
         ≤ count_below (has_bit words.now) (64 * first) + index) }
-    ensures cost { steps.new ≤ steps.old + (end - first) }
+    ensures cost { IfSome result (λ p. steps.new + first ≡ steps.old + (p / 64 + 1)) }
+    ensures whole { IfNone result (steps.new ≡ steps.old + (end - first)) }
+    ensures bound { steps.new ≤ steps.old + (end - first) }
 {
     let mut left = index;
     for k in first..end {

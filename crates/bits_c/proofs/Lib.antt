@@ -1,5 +1,6 @@
 pub mod Sets
 pub mod Given
+pub mod Between
 pub mod Ranked
 pub mod Tables
 pub mod Turned

@@ -1,9 +1,10 @@
 -- What a contract sees of a walk that a caller keeps: the positions left.
-use Rattle.std.specs.Prelude.{ℕ, ◌≡◌, ◌-◌, min, Bool, if◌then◌else◌, Option, Some, None, List, ◌++◌, length, take, drop, reverse, map, bit_and}
-use Rattle.std.specs.Int.{bit_not, w64}
+use Rattle.std.specs.Prelude.{ℕ, ◌≡◌, ◌-◌, ◌/◌, min, Bool, if◌then◌else◌, Option, Some, None, List, ◌++◌, length, take, drop, reverse, map, bit_and}
+use Rattle.std.specs.Int.{bit_not, w64, div_ceil}
 use Rattle.bitlanes.specs.Bits.{bit_without}
 use Rattle.bitwords.specs.Runs.{stretches, is_like}
 use Rattle.bitwords.specs.WalkedWords.{beside, held_items}
+use Rattle.fixedbitset.specs.Bits.{words_needed}
 use Rattle.bits_c.specs.declared.structs.Ones.{Ones}
 use Rattle.bits_c.specs.declared.structs.Zeroes.{Zeroes}
 use Rattle.bits_c.specs.declared.structs.Runs.{Runs}
@@ -25,6 +26,14 @@ zeroes_left walk = held_items walk.front_at walk.front (map (bit_not w64) walk.w
 -- the stretches left
 abbrev pub stretches_left : Runs → List (ℕ × ℕ)
 stretches_left walk = stretches (is_like walk.are_set walk.words.now) walk.end walk.low walk.high
+
+-- how many words stand between the first and the last of those that n positions need
+abbrev pub words_between : ℕ → ℕ
+words_between n = words_needed n - 2
+
+-- how many stand between the first and the last of those that hold the positions from `start` up to and without `end`
+abbrev pub range_words_between : (start end : ℕ) → ℕ
+range_words_between start end = div_ceil end 64 - start / 64 - 2
 
 -- the stretch that a call gave, if it says that it gave one
 abbrev pub given_run : Bool → ℕ → ℕ → Option (ℕ × ℕ)

@@ -1,10 +1,10 @@
 //! Walks over the positions of two sets in turn: from the front those of the first before those of the second, and from
 //! the back those of the second before those of the first. Their calls are those of `walks`.
 
-ghost use Rattle.std.specs.Prelude.{◌≡◌, ◌++◌, [], false};
+ghost use Rattle.std.specs.Prelude.{◌≡◌, ◌++◌, [], false, length};
 ghost use Rattle.std.specs.Iterator.{YieldsFirst, YieldsLast};
 ghost use Rattle.bits_c.specs.Sets.{value};
-ghost use Rattle.bits_c.specs.Walks.{given, joined_left, lacked_left, split_left};
+ghost use Rattle.bits_c.specs.Walks.{given, joined_left, lacked_left, split_left, words_between};
 ghost use Rattle.fixedbitset.specs.Bits as model;
 ghost use Rattle.fixedbitset.specs.TwoSets as sets;
 
@@ -65,8 +65,10 @@ impl<'a> Pair<'a> {
 /// in ascending order.
 #[unsafe(no_mangle)]
 pub extern "C" fn bits_union<'a>(walk: &mut Pair<'a>, set: &'a Set<'_>, other: &'a Set<'_>)
-    ensures { joined_left walk.new ≡ model.asc (value set.now)
+    ensures left { joined_left walk.new ≡ model.asc (value set.now)
         ++ model.asc (sets.difference (value other.now) (value set.now)) }
+    ensures words { length walk.new.first.walk.words.now ≡ words_between set.now.length }
+    ensures others { length walk.new.second.walk.words.now ≡ words_between other.now.length }
 {
     *walk = Pair {
         first: Sieve {
@@ -117,8 +119,11 @@ pub extern "C" fn bits_symmetric_difference<'a>(
     set: &'a Set<'_>,
     other: &'a Set<'_>,
 )
-    ensures { split_left walk.new ≡ model.asc (sets.difference (value set.now) (value other.now))
+    ensures left { split_left walk.new
+        ≡ model.asc (sets.difference (value set.now) (value other.now))
         ++ model.asc (sets.difference (value other.now) (value set.now)) }
+    ensures words { length walk.new.first.walk.words.now ≡ words_between set.now.length }
+    ensures others { length walk.new.second.walk.words.now ≡ words_between other.now.length }
 {
     *walk = Pair {
         first: Sieve::lacking(set, other),

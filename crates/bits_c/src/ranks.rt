@@ -4,8 +4,9 @@
 //! One call writes the directory, and the struct that the others take. While that is used, neither the words nor the
 //! directory may change.
 
-ghost use Rattle.std.specs.Prelude.{◌≡◌, ◌==◌, unwrap_or, if◌then◌else◌, length};
+ghost use Rattle.std.specs.Prelude.{◌≡◌, ◌==◌, true, false, unwrap_or, if◌then◌else◌, length};
 ghost use Rattle.bitranks.specs.Ranks as model;
+ghost use Rattle.bitranks.specs.Ranks.{IsDirectory};
 ghost use Rattle.bits_c.specs.Sets.{value, ranked};
 ghost use Rattle.fixedbitset.specs.Bits.{empty, storage_words};
 
@@ -22,8 +23,26 @@ pub extern "C" fn bits_ranks_entries(length: usize) -> usize
     directory::entries(bits_words(length))
 }
 
+// Writes the directory of the set's words where it has as many entries as they need, and answers whether it has. It stands
+// apart since its `&mut` ends with it: of one that goes into the ranks no clause says how a call leaves it.
+#[tactic(auto, using(crate::proofs::Ranked::all_fit))]
+#[inline(always)]
+fn write_directory(set: &Set<'_>, directory: &mut [usize]) -> bool
+    ensures told { result
+        ≡ (length directory.old == model.entries (storage_words set.now.length)) }
+    ensures kept { result ≡ true → IsDirectory set.now.words.now directory.new }
+    ensures stays { result ≡ false → directory.new ≡ directory.old }
+{
+    if directory.len() == bits_ranks_entries(set.length) {
+        directory::fill(set.words, directory, &mut Steps::new());
+        true
+    } else {
+        false
+    }
+}
+
 /// Writes the directory of the set's words, and the whole struct `ranks` from any before. It answers whether the directory
-/// has as many entries as `bits_ranks_entries` says; else the ranks are those of the set of length 0.
+/// has as many entries as `bits_ranks_entries` says; else the ranks are those of the set of length 0, and the directory stays.
 #[tactic(auto, using(crate::proofs::Ranked::all_fit, crate::proofs::Ranked::nothing_clean, crate::proofs::Ranked::nothing_kept, crate::proofs::Ranked::nothing_ranked))]
 #[unsafe(no_mangle)]
 pub extern "C" fn bits_ranks_fill<'a>(
@@ -35,8 +54,7 @@ pub extern "C" fn bits_ranks_fill<'a>(
         ≡ (length directory.old == model.entries (storage_words set.now.length)) }
     ensures value { ranked ranks.new ≡ (if result then value set.now else empty 0) }
 {
-    if directory.len() == bits_ranks_entries(set.length) {
-        directory::fill(set.words, directory, &mut Steps::new());
+    if write_directory(set, directory) {
         *ranks = Ranks {
             words: set.words,
             length: set.length,

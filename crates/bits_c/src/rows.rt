@@ -6,9 +6,9 @@
 ghost use Rattle.std.specs.Prelude.{◌≡◌, ◌<◌, ◌≤◌, ◌*◌, ◌^◌, ◌↔◌, ◌&&◌, ℕ, [], ◌==◌, nat_lt, true, false, not, if◌then◌else◌, length};
 ghost use Rattle.bitrows.specs.Paths.{HasEdge, IsConnected};
 ghost use Rattle.bitrows.specs.Stored.{IsTable, table_in};
-ghost use Rattle.bitrows.specs.Tables.{row_of, has, blank, with_row, set_at};
+ghost use Rattle.bitrows.specs.Tables.{row_of, has, blank, with_row, set_at, HaveSameSize};
 ghost use Rattle.bits_c.specs.Sets.{table};
-ghost use Rattle.bits_c.specs.Walks.{ones_left};
+ghost use Rattle.bits_c.specs.Walks.{ones_left, words_between};
 ghost use Rattle.fixedbitset.specs.Bits.{asc, storage_words};
 ghost use Rattle.fixedbitset.specs.TwoSets.{union, is_subset};
 
@@ -113,6 +113,8 @@ pub extern "C" fn bits_rows_ones<'a>(walk: &mut Ones<'a>, rows: &'a Rows<'_>, ro
     ensures told { result ≡ nat_lt row rows.now.rows }
     ensures left { ones_left walk.new
         ≡ (if result then asc (row_of (table rows.now) row) else []) }
+    ensures words { length walk.new.words.now
+        ≡ (if result then words_between rows.now.columns else 0) }
 {
     if row < rows.rows {
         let words = lent::words_of(rows.words, rows.rows, rows.columns, row);
@@ -125,10 +127,11 @@ pub extern "C" fn bits_rows_ones<'a>(walk: &mut Ones<'a>, rows: &'a Rows<'_>, ro
 }
 
 /// The transitive closure of the graph that has an edge from each row to each column at which the row has a bit: afterwards
-/// row `a` has a bit at column `b` exactly if some path of one or more edges led from `a` to `b`.
+/// row `a` has a bit at column `b` exactly if some path of one or more edges led from `a` to `b`. The table keeps its size.
 #[unsafe(no_mangle)]
 pub extern "C" fn bits_rows_close(rows: &mut Rows<'_>)
-    ensures { (a b : ℕ) → HasEdge (table rows.new) a b
+    ensures size { HaveSameSize (table rows.old) (table rows.new) }
+    ensures closed { (a b : ℕ) → HasEdge (table rows.new) a b
         ↔ IsConnected (HasEdge (table rows.old)) a b }
 {
     lent::close(rows.words, rows.rows, rows.columns, &mut Steps::new());

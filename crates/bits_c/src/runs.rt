@@ -1,7 +1,8 @@
 //! Walks over the stretches of positions that follow each other without a gap, kept in a struct of the caller's.
 //!
 //! A stretch has the positions from its start up to and without its end. Each call gives one stretch, from either end, and
-//! answers whether it did; a call that gives none leaves what `start` and `end` point to.
+//! answers whether it did; a call that gives none leaves what `start` and `end` point to. A walk looks for stretches from
+//! `low` up to and without `high`, which is at first the length, and so at no word behind those that the length needs.
 
 ghost use Rattle.std.specs.Prelude.{◌≡◌, false};
 ghost use Rattle.std.specs.Iterator.{YieldsFirst, YieldsLast};
@@ -16,7 +17,9 @@ use fixedbitset::lent;
 impl<'a> Runs<'a> {
     #[inline(always)]
     fn of(walk: Walk<'a>) -> Runs<'a>
-        ensures { stretches_left result ≡ walk.entry.items }
+        ensures left { stretches_left result ≡ walk.entry.items }
+        ensures low { result.low ≡ walk.entry.low }
+        ensures high { result.high ≡ walk.entry.high }
     {
         let held = walk.into_held();
         Runs {
@@ -62,7 +65,9 @@ fn hand_out_run(run: Option<(usize, usize)>, start: &mut usize, end: &mut usize)
 /// Begins the walk over the stretches of positions that are set, in ascending order.
 #[unsafe(no_mangle)]
 pub extern "C" fn bits_runs<'a>(walk: &mut Runs<'a>, set: &'a Set<'_>)
-    ensures { stretches_left walk.new ≡ stretches.runs (value set.now) }
+    ensures left { stretches_left walk.new ≡ stretches.runs (value set.now) }
+    ensures low { walk.new.low ≡ 0 }
+    ensures high { walk.new.high ≡ set.now.length }
 {
     *walk = Runs::of(lent::runs(set.words, set.length));
 }
@@ -70,7 +75,9 @@ pub extern "C" fn bits_runs<'a>(walk: &mut Runs<'a>, set: &'a Set<'_>)
 /// Begins the walk over the stretches of positions below the length that are not set, in ascending order.
 #[unsafe(no_mangle)]
 pub extern "C" fn bits_zero_runs<'a>(walk: &mut Runs<'a>, set: &'a Set<'_>)
-    ensures { stretches_left walk.new ≡ stretches.zero_runs (value set.now) }
+    ensures left { stretches_left walk.new ≡ stretches.zero_runs (value set.now) }
+    ensures low { walk.new.low ≡ 0 }
+    ensures high { walk.new.high ≡ set.now.length }
 {
     *walk = Runs::of(lent::zero_runs(set.words, set.length));
 }

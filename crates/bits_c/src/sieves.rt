@@ -1,12 +1,13 @@
 //! Walks over the positions of a set that another one has, or lacks. Their calls are those of `walks`.
 //!
 //! The positions of a word are looked up in the other set at once, when the walk takes the word. So a call costs by the
-//! words that it takes and the positions that it gives.
+//! words that it takes and the positions that it gives. The intersection goes over the words that both lengths need, and
+//! the difference over those that the first one needs.
 
-ghost use Rattle.std.specs.Prelude.{◌≡◌, false};
+ghost use Rattle.std.specs.Prelude.{◌≡◌, false, length, min};
 ghost use Rattle.std.specs.Iterator.{YieldsFirst, YieldsLast};
 ghost use Rattle.bits_c.specs.Sets.{value};
-ghost use Rattle.bits_c.specs.Walks.{given, sieved, shared_left, lacked_left};
+ghost use Rattle.bits_c.specs.Walks.{given, sieved, shared_left, lacked_left, words_between};
 ghost use Rattle.fixedbitset.specs.Bits as model;
 ghost use Rattle.fixedbitset.specs.TwoSets as sets;
 
@@ -20,8 +21,9 @@ impl<'a> Sieve<'a> {
     // The walk over the positions of the first set that the second lacks, before its first call.
     #[inline(always)]
     pub(crate) fn lacking(set: &'a Set<'_>, other: &'a Set<'_>) -> Sieve<'a>
-        ensures { lacked_left result
+        ensures left { lacked_left result
             ≡ model.asc (sets.difference (value set.now) (value other.now)) }
+        ensures words { length result.walk.words.now ≡ words_between set.now.length }
     {
         let cursor = lent::difference(set.words, set.length, other.words, other.length);
         Sieve::of(cursor)
@@ -29,7 +31,8 @@ impl<'a> Sieve<'a> {
 
     #[inline(always)]
     pub(crate) fn of<O: WordOp>(cursor: Cursor<Beside<'a, O>>) -> Sieve<'a>
-        ensures { sieved O.joined result ≡ cursor.entry.items }
+        ensures left { sieved O.joined result ≡ cursor.entry.items }
+        ensures words { length result.walk.words.now ≡ length cursor.entry.words }
     {
         let held = cursor.into_held();
         Sieve {
@@ -83,8 +86,10 @@ impl<'a> Sieve<'a> {
 /// Begins the walk over the positions that both sets have, in ascending order.
 #[unsafe(no_mangle)]
 pub extern "C" fn bits_intersection<'a>(walk: &mut Sieve<'a>, set: &'a Set<'_>, other: &'a Set<'_>)
-    ensures { shared_left walk.new
+    ensures left { shared_left walk.new
         ≡ model.asc (sets.intersection (value set.now) (value other.now)) }
+    ensures words { length walk.new.walk.words.now
+        ≡ words_between (min set.now.length other.now.length) }
 {
     *walk = Sieve::of(lent::intersection(set.words, set.length, other.words, other.length));
 }
@@ -112,8 +117,9 @@ pub extern "C" fn bits_intersection_next_back(walk: &mut Sieve<'_>, position: &m
 /// Begins the walk over the positions of the first set that the second lacks, in ascending order.
 #[unsafe(no_mangle)]
 pub extern "C" fn bits_difference<'a>(walk: &mut Sieve<'a>, set: &'a Set<'_>, other: &'a Set<'_>)
-    ensures { lacked_left walk.new
+    ensures left { lacked_left walk.new
         ≡ model.asc (sets.difference (value set.now) (value other.now)) }
+    ensures words { length walk.new.walk.words.now ≡ words_between set.now.length }
 {
     *walk = Sieve::lacking(set, other);
 }

@@ -3,11 +3,14 @@
 //! A walk is begun by one call, which writes the whole struct from any walk before. Each further call gives one position,
 //! from either end, and answers whether it did: once none is left, no call gives one. A call that gives none leaves what
 //! `position` points to. While a walk is used, the words that it walks over may not change.
+//!
+//! A walk goes over the words that the length needs, and over no words behind them. It holds the first and the last of
+//! them, and `words` are those between that no call has taken yet.
 
-ghost use Rattle.std.specs.Prelude.{◌≡◌, [], false, if◌then◌else◌};
+ghost use Rattle.std.specs.Prelude.{◌≡◌, [], false, if◌then◌else◌, length};
 ghost use Rattle.std.specs.Iterator.{YieldsFirst, YieldsLast};
 ghost use Rattle.bits_c.specs.Sets.{value};
-ghost use Rattle.bits_c.specs.Walks.{given, ones_left, zeroes_left};
+ghost use Rattle.bits_c.specs.Walks.{given, ones_left, zeroes_left, words_between, range_words_between};
 ghost use Rattle.fixedbitset.specs.Bits as model;
 ghost use Rattle.fixedbitset.specs.Ranges.{is_valid};
 ghost use Rattle.fixedbitset.specs.Walks.{ones_of, zeroes_of};
@@ -20,7 +23,8 @@ use fixedbitset::lent;
 impl<'a> Ones<'a> {
     #[inline(always)]
     pub(crate) fn of(cursor: Cursor<Plain<'a>>) -> Ones<'a>
-        ensures { ones_left result ≡ cursor.entry.items }
+        ensures left { ones_left result ≡ cursor.entry.items }
+        ensures words { result.words.now ≡ cursor.entry.words }
     {
         let held = cursor.into_held();
         Ones {
@@ -71,7 +75,8 @@ impl<'a> Ones<'a> {
 impl<'a> Zeroes<'a> {
     #[inline(always)]
     pub(crate) fn of(cursor: Cursor<Inverted<'a>>) -> Zeroes<'a>
-        ensures { zeroes_left result ≡ cursor.entry.items }
+        ensures left { zeroes_left result ≡ cursor.entry.items }
+        ensures words { length result.words.now ≡ length cursor.entry.words }
     {
         let held = cursor.into_held();
         Zeroes {
@@ -116,7 +121,8 @@ pub(crate) fn hand_out(item: Option<usize>, position: &mut usize) -> bool
 /// Begins the walk over the positions that are set, in ascending order.
 #[unsafe(no_mangle)]
 pub extern "C" fn bits_ones<'a>(walk: &mut Ones<'a>, set: &'a Set<'_>)
-    ensures { ones_left walk.new ≡ model.asc (value set.now) }
+    ensures left { ones_left walk.new ≡ model.asc (value set.now) }
+    ensures words { length walk.new.words.now ≡ words_between set.now.length }
 {
     *walk = Ones::of(lent::ones(set.words, set.length));
 }
@@ -153,6 +159,8 @@ pub extern "C" fn bits_ones_in<'a>(
     ensures told { result ≡ is_valid (value set.now) start end }
     ensures left { ones_left walk.new
         ≡ (if result then ones_of (value set.now) start end else []) }
+    ensures words { length walk.new.words.now
+        ≡ (if result then range_words_between start end else 0) }
 {
     if bits_range_is_valid(set, start, end) {
         *walk = Ones::of(lent::ones_in(set.words, set.length, start, end));
@@ -175,6 +183,8 @@ pub extern "C" fn bits_zeroes_in<'a>(
     ensures told { result ≡ is_valid (value set.now) start end }
     ensures left { zeroes_left walk.new
         ≡ (if result then zeroes_of (value set.now) start end else []) }
+    ensures words { length walk.new.words.now
+        ≡ (if result then range_words_between start end else 0) }
 {
     if bits_range_is_valid(set, start, end) {
         *walk = Zeroes::of(lent::zeroes_in(set.words, set.length, start, end));
@@ -189,7 +199,8 @@ pub extern "C" fn bits_zeroes_in<'a>(
 /// Begins the walk over the positions below the length that are not set, in ascending order.
 #[unsafe(no_mangle)]
 pub extern "C" fn bits_zeroes<'a>(walk: &mut Zeroes<'a>, set: &'a Set<'_>)
-    ensures { zeroes_left walk.new ≡ model.asc (model.complement (value set.now)) }
+    ensures left { zeroes_left walk.new ≡ model.asc (model.complement (value set.now)) }
+    ensures words { length walk.new.words.now ≡ words_between set.now.length }
 {
     *walk = Zeroes::of(lent::zeroes(set.words, set.length));
 }

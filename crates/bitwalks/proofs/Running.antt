@@ -8,7 +8,7 @@ use Rattle.bitlanes.specs.Words.{lane_steps}
 use Rattle.bitwords.specs.Ascending.{ascending}
 use Rattle.bitwords.specs.Neighbours.{IsNext, IsPrevious, NonePasses}
 use Rattle.bitwords.specs.Rows.{has_bit}
-use Rattle.bitwords.specs.Runs.{begins, end_from, stretches, is_like, IsBetween}
+use Rattle.bitwords.specs.Runs.{begins, end_from, stretches, is_like, IsBetween, Passes}
 use Rattle.bitwords.specs.RunsFacts.{around, none_begin, ends_at, ends_last}
 
 -- the first words have the same positions
@@ -110,17 +110,43 @@ nothing_there t n at = let e : at - at ≡ 0 = omega arith in rw e refl
 
 -- ---- steps
 
-pub steps_front : (t u : ℕ → Bool) (before between after low start high : ℕ) (o : Option ℕ) → IsNext t low high start → IfSome o (IsNext u start high)
+pub steps_front : (t u : ℕ → Bool) (before between after low start high : ℕ) (given : ℕ × ℕ) (o : Option ℕ) → IsNext t low high start → IfSome o (IsNext u start high)
     → between ≡ before + 1 + lane_steps (start / 64 - low / 64) → IfSome o (λ p. after ≡ between + 1 + lane_steps (p / 64 - start / 64))
-    → after ≤ between + 1 + lane_steps ((high - 1) / 64 - start / 64)
-    → after ≤ before + 4 + (unwrap_or o high / 64 - low / 64) / 4
-steps_front t u before between after low start high (Some p) next found one two whole = omega arith
-steps_front t u before between after low start high None next found one two whole = omega arith
+    → IfNone o (start < high → after ≡ between + 1 + lane_steps ((high - 1) / 64 - start / 64))
+    → Passes (unwrap_or o high / 64 - low / 64) (Some given) before after
+steps_front t u before between after low start high given (Some p) next found one two none =
+    record { least = omega (arith, next.after, found.after, one, two); more = omega (arith, next.after, found.after, one, two); most = omega (arith, next.after, found.after, one, two) }
+steps_front t u before between after low start high given None next found one two none =
+    let three = none next.below in
+    record { least = omega (arith, next.after, next.below, one, three); more = omega (arith, next.after, next.below, one, three); most = omega (arith, next.after, next.below, one, three) }
 
-pub steps_none : (before after low high : ℕ) → low ≤ high → after ≤ before + 1 + lane_steps ((high - 1) / 64 - low / 64)
-    → after ≤ before + 4 + (high / 64 - low / 64) / 4
-steps_none before after low high order whole = omega arith
+pub steps_none : (before after low high : ℕ) → low ≤ high → low ≢ high → (low < high → after ≡ before + 1 + lane_steps ((high - 1) / 64 - low / 64))
+    → Passes (high / 64 - low / 64) None before after
+steps_none before after low high order left cost =
+    let some : low < high = omega (arith, order, left) in
+    let all = cost some in
+    record { least = omega (arith, all, some); more = tt; most = omega (arith, all, some) }
 
-pub steps_back : (before between after high last start : ℕ) → last < high → start ≤ last → between ≡ before + 1 + lane_steps ((high - 1) / 64 - last / 64)
-    → after ≤ between + 1 + lane_steps ((last - 1) / 64 - (start - 1) / 64) → after ≤ before + 4 + (high / 64 - start / 64) / 4
-steps_back before between after high last start below some one two = omega arith
+-- the steps down to the start of the last stretch, which has the place before it looked at where there is one
+pub steps_back : (before between after high last start : ℕ) (given : ℕ × ℕ) → last < high → start ≤ last → between ≡ before + 1 + lane_steps ((high - 1) / 64 - last / 64)
+    → after ≤ between + 1 + lane_steps ((last - 1) / 64 - (start - 1) / 64)
+    → (0 < last → between + 1 + lane_steps ((last - 1) / 64 - (start - 1) / 64) ≤ after) → between ≤ after
+    → Passes (high / 64 - start / 64) (Some given) before after
+steps_back before between after high last start given below some one two three grows =
+    record {
+      least = elim (cases_eq last 0) [
+        | inl zero ↦ omega (arith, zero, below, some, one, grows)
+        | inr more ↦ omega (arith, below, some, one, three (omega (arith, more)))
+      ];
+      more = elim (cases_eq last 0) [
+        | inl zero ↦ omega (arith, zero, below, some, one, grows)
+        | inr more ↦ omega (arith, below, some, one, three (omega (arith, more)))
+      ];
+      most = omega (arith, below, some, one, two);
+    }
+
+-- where the last one found stands before those that are left, none of these is
+pub steps_behind : (before after low high last : ℕ) → last < low → low ≤ last + 1 → low ≤ high → after ≡ before + 1 + lane_steps ((high - 1) / 64 - last / 64)
+    → Passes (high / 64 - low / 64) None before after
+steps_behind before after low high last behind upto order cost =
+    record { least = omega (arith, behind, upto, order, cost); more = tt; most = omega (arith, behind, upto, order, cost) }

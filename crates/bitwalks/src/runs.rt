@@ -5,7 +5,7 @@
 //! by its words and not by its positions. Proofs see the stretches left, the ends of where they are, and a count of steps
 //! that takes no bytes when the program runs.
 
-ghost use Rattle.std.specs.Prelude.{◌≡◌, ◌*◌, ◌^◌, ◌≤◌, ◌-◌, ◌/◌, ◌+◌, not, length, IfSome, IfNone};
+ghost use Rattle.std.specs.Prelude.{◌≡◌, ◌*◌, ◌^◌, ◌<◌, ◌≤◌, ◌-◌, ◌/◌, ◌+◌, not, length, IfSome, IfNone};
 ghost use Rattle.std.specs.Iterator.{item_count};
 ghost use Rattle.bitlanes.specs.Words.{lane_steps};
 ghost use Rattle.bitwords.specs.Neighbours.{IsNext, IsPrevious, NonePasses};
@@ -184,7 +184,9 @@ fn next_like(
     ensures none { IfNone result (NonePasses (is_like are_set words.now) from end) }
     ensures cost { IfSome result
         (λ p. steps.new ≡ steps.old + 1 + lane_steps (p / 64 - from / 64)) }
-    ensures whole { steps.new ≤ steps.old + 1 + lane_steps ((end - 1) / 64 - from / 64) }
+    ensures missed { IfNone result (from < end
+        → steps.new ≡ steps.old + 1 + lane_steps ((end - 1) / 64 - from / 64)) }
+    ensures empty { end ≤ from → steps.new ≡ steps.old }
 {
     let words = &words[..end.div_ceil(BITS)];
     if are_set {
@@ -204,7 +206,9 @@ fn previous_like(words: &[Block], are_set: bool, below: usize, steps: &mut Steps
     ensures none { IfNone result (NonePasses (is_like are_set words.now) 0 below) }
     ensures cost { IfSome result
         (λ p. steps.new ≡ steps.old + 1 + lane_steps ((below - 1) / 64 - p / 64)) }
-    ensures whole { steps.new ≤ steps.old + 1 + lane_steps ((below - 1) / 64) }
+    ensures missed { IfNone result (0 < below
+        → steps.new ≡ steps.old + 1 + lane_steps ((below - 1) / 64)) }
+    ensures empty { below ≡ 0 → steps.new ≡ steps.old }
 {
     if are_set {
         previous::<And>(words, below, steps)
@@ -220,8 +224,8 @@ impl<'a> Iterator for Runs<'a> {
 
     ghost remaining = { item_count (λ walk. walk.items) };
 
-    /// The first stretch left, or `None` where none is, and then for good. It takes at most four steps, and one for each
-    /// four words that it goes over.
+    /// The first stretch left, or `None` where none is, and then for good. It takes one step for each four words that it goes
+    /// over, one to four more where it gives a stretch, and none to four more where it gives none.
     #[inline]
     fn next(&mut self) -> Option<(usize, usize)> {
         if self.low == self.high {
@@ -241,8 +245,8 @@ impl<'a> Iterator for Runs<'a> {
 impl<'a> DoubleEndedIterator for Runs<'a> {
     ghost next_back_gives = { GivesLastRun };
 
-    /// The last stretch left, or `None` where none is, and then for good. It takes at most four steps, and one for each
-    /// four words that it goes over.
+    /// The last stretch left, or `None` where none is, and then for good. It takes one step for each four words that it goes
+    /// over, one to four more where it gives a stretch, and none to four more where it gives none.
     #[inline]
     fn next_back(&mut self) -> Option<(usize, usize)> {
         if self.low == self.high {

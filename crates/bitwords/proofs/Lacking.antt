@@ -12,12 +12,13 @@ use Rattle.bitlanes.specs.BitLaws.{laws_of_or, laws_of_without}
 use Rattle.bitlanes.specs.Changes.{changed_bits, changes}
 use Rattle.bitlanes.specs.Search.{IsFirstOne, IsNextOne, AreZeros, AreZerosFrom}
 use Rattle.bitlanes.specs.Word.{IsLowestBit}
-use Rattle.bitlanes.specs.Words.{zip_longest}
+use Rattle.bitlanes.specs.Words.{zip_longest, lane_steps}
 use Rattle.bitwords.specs.Ascending.{ascending}
 use Rattle.bitwords.specs.AscendingFacts.{ascending-same}
 use Rattle.bitwords.specs.CountFacts.{count-same}
 use Rattle.bitwords.specs.Rows.{has_bit, count_below, bits_test, IsJoined}
 use Rattle.bitwords.specs.RowFacts.{AreWords}
+use Rattle.bitwords.specs.Steps.{both_steps}
 use Rattle.bitwords.proofs.TwoRows.{changed-kept, AreWords-longest, has_bit-longest}
 use Rattle.bitwords.proofs.Cleared.{IsJoined-kept}
 use Rattle.bitwords.proofs.Joined.{IsJoined-same}
@@ -99,6 +100,13 @@ module _ (f : ℕ → ℕ → ℕ) (xs ys : List ℕ) where
     pub unfound_behind : (found : Option ℕ) → IfNone found (AreZerosFrom (map (bit_or 0) xs) n) → IfNone found (AreZeros (zip_longest f true false xs ys))
     unfound_behind None zeros = λ i _. zero_before i (i + 1) (λ j from _. zeros j from) (omega arith)
     unfound_behind (Some k) _ = tt
+
+-- the steps up to it
+pub steps_behind : (xs ys : List ℕ) (found : Option ℕ) (n before mid after : ℕ) → n ≡ min (length xs) (length ys) → mid ≡ before + lane_steps (min (length xs) (length ys))
+    → IfSome found (IsNextOne (map (bit_or 0) xs) n) → IfSome found (λ at. after ≡ mid + lane_steps (at + 1 - n))
+    → IfSome found (λ at. after ≡ before + both_steps true false (at + 1) (length ys))
+steps_behind xs ys None n before mid after both common word rest = tt
+steps_behind xs ys (Some at) n before mid after both common word rest = omega (arith, both, common, word.after, word.within, length-map xs (bit_or 0), rest)
 
 -- how many words it has, and each of them
 pub ruleset row_words = (length-kept, get_or-kept_both, get_or-kept_past)

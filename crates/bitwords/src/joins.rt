@@ -2,7 +2,7 @@
 //!
 //! The words that both rows have are joined by a kernel of `bitlanes`, by lanes of four; the rest of the longer row is
 //! cleared, counted or left, as the operation says.
-ghost use Rattle.std.specs.Prelude.{◌≡◌, ◌<◌, ◌≤◌, ◌+◌, ◌-◌, ◌*◌, ◌^◌, ◌==◌, ◌&&◌, ◌||◌, not, IsTrue, IfSome, IfNone, true, false, length, min, max, drop, slice_get, slice_index, sum_by, if◌then◌else◌};
+ghost use Rattle.std.specs.Prelude.{◌≡◌, ◌<◌, ◌≤◌, ◌+◌, ◌-◌, ◌*◌, ◌/◌, ◌^◌, ◌==◌, ◌&&◌, ◌||◌, not, IsTrue, IfSome, IfNone, true, false, length, min, max, drop, slice_get, slice_index, sum_by, if◌then◌else◌};
 ghost use Rattle.std.specs.Int.RustNames.{count_ones};
 ghost use Rattle.std.specs.List.{list_all};
 ghost use Rattle.bitlanes.specs.Bits.{bit_without};
@@ -153,7 +153,7 @@ pub fn count<O: WordOp>(a: &[Block], b: &[Block], steps: &mut Steps) -> usize
 /// Whether `count` is 0, whether or not it fits `usize`.
 ///
 /// It stops at the first lane that decides, so it takes at most the steps of `count`; where it answers `true` it takes
-/// exactly as many.
+/// exactly as many, and where it answers `false` at least one.
 ///
 /// ```
 /// assert!(rt; joins::none::<AndNot>(&[2], &[3, 1], &mut Steps::new()));
@@ -166,15 +166,16 @@ pub fn none<O: WordOp>(a: &[Block], b: &[Block], steps: &mut Steps) -> bool
     ensures cost { steps.new ≤ steps.old + both_steps O.KEEP O.TAKE (length a.now) (length b.now) }
     ensures whole { IsTrue result
         → steps.new ≡ steps.old + both_steps O.KEEP O.TAKE (length a.now) (length b.now) }
+    ensures stops { result ≡ false → steps.old < steps.new }
 {
     none_words::<O>(a, b, steps)
 }
 
 /// The first position of `a` that `b` lacks, or `None` where it has each of them.
 ///
-/// It looks at four words of each row at a time up to those that have the position. It takes at most the steps of
-/// [`count`] by `AndNot`; where it answers `None` it takes exactly as many. The number of positions of `a`, 64 for each
-/// word, may be at most 2 ^ 64.
+/// It looks at four words of each row at a time up to those that have the position. It takes exactly the steps of
+/// [`count`] by `AndNot` over the words of `a` up to the one that has it, or over all of `a` where it answers `None`. The
+/// number of positions of `a`, 64 for each word, may be at most 2 ^ 64.
 ///
 /// ```
 /// assert_eq!(rt; joins::first_of_difference(&[7, 6], &[7, 2, 1], &mut Steps::new()), Some(66));
@@ -187,7 +188,9 @@ pub fn first_of_difference(a: &[Block], b: &[Block], steps: &mut Steps) -> Optio
     requires { 64 * length a.now ≤ 2 ^ 64 }
     ensures first { result ≡ slice_get
         (ascending (bits_test (λ x y. x && not y) a.now b.now) 0 (64 * length a.now)) 0 }
-    ensures cost { steps.new ≤ steps.old + both_steps true false (length a.now) (length b.now) }
+    ensures bound { steps.new ≤ steps.old + both_steps true false (length a.now) (length b.now) }
+    ensures cost { IfSome result
+        (λ p. steps.new ≡ steps.old + both_steps true false (p / 64 + 1) (length b.now)) }
     ensures whole { IfNone result
         (steps.new ≡ steps.old + both_steps true false (length a.now) (length b.now)) }
 {
@@ -249,6 +252,7 @@ fn none_rest(words: &[Block], from: usize, counts: bool, steps: &mut Steps) -> b
         + (if counts then lane_steps (length words.now - from) else 0) }
     ensures whole { IsTrue result
         → steps.new ≡ steps.old + (if counts then lane_steps (length words.now - from) else 0) }
+    ensures stops { result ≡ false → steps.old < steps.new }
 {
     if counts && from < words.len() {
         lanes::none_one(&words[from..], steps)
@@ -266,6 +270,7 @@ fn none_words<O: WordOp>(a: &[Block], b: &[Block], steps: &mut Steps) -> bool
     ensures cost { steps.new ≤ steps.old + both_steps O.KEEP O.TAKE (length a.now) (length b.now) }
     ensures whole { IsTrue result
         → steps.new ≡ steps.old + both_steps O.KEEP O.TAKE (length a.now) (length b.now) }
+    ensures stops { result ≡ false → steps.old < steps.new }
 {
     if a.len() == b.len() {
         lanes::none::<O>(a, b, steps)
@@ -284,6 +289,7 @@ fn none_unlike<O: WordOp>(a: &[Block], b: &[Block], steps: &mut Steps) -> bool
     ensures cost { steps.new ≤ steps.old + both_steps O.KEEP O.TAKE (length a.now) (length b.now) }
     ensures whole { IsTrue result
         → steps.new ≡ steps.old + both_steps O.KEEP O.TAKE (length a.now) (length b.now) }
+    ensures stops { result ≡ false → steps.old < steps.new }
 {
     lanes::none::<O>(a, b, steps)
         && none_rest(a, b.len(), O::KEEP, steps)
@@ -295,7 +301,9 @@ fn none_unlike<O: WordOp>(a: &[Block], b: &[Block], steps: &mut Steps) -> bool
 fn first_word(a: &[Block], b: &[Block], steps: &mut Steps) -> Option<usize>
     ensures found { IfSome result (IsFirstOne (zip_longest bit_without true false a.now b.now)) }
     ensures none { IfNone result (AreZeros (zip_longest bit_without true false a.now b.now)) }
-    ensures cost { steps.new ≤ steps.old + both_steps true false (length a.now) (length b.now) }
+    ensures bound { steps.new ≤ steps.old + both_steps true false (length a.now) (length b.now) }
+    ensures cost { IfSome result
+        (λ at. steps.new ≡ steps.old + both_steps true false (at + 1) (length b.now)) }
     ensures whole { IfNone result
         (steps.new ≡ steps.old + both_steps true false (length a.now) (length b.now)) }
 {

@@ -16,8 +16,8 @@ const LONG: usize = 2048;
 
 /// A new row, as long as `words`: each position of `words`, joined with that of `other` by `O`.
 ///
-/// `Err` comes only where memory for the row was refused. It takes the steps of [`join`](crate::joins::join), and where memory was refused at
-/// most as many; what is copied before or behind the join is not counted.
+/// `Err` comes only where memory for the row was refused. It takes the steps of [`join`](crate::joins::join), and where
+/// memory was refused at most as many; what is copied before or behind the join is not counted.
 ///
 /// ```
 /// let new = new_rows::joined::<And>(alloc, &[11, 3, 1], &[9, 6], &mut Steps::new())?;
@@ -34,6 +34,7 @@ pub fn joined<O: WordOp>(
     ensures cost { steps.new ≤ steps.old + join_steps O.KEEP (length words.now) (length other.now) }
     ensures whole { OnOk result
         (steps.new ≡ steps.old + join_steps O.KEEP (length words.now) (length other.now)) }
+    ensures grows { steps.old ≤ steps.new }
 {
     if other.len() >= LONG && words.len() >= LONG && (O::KEEP || words.len() <= other.len()) {
         return joined_long::<O>(alloc, words, other, steps);
@@ -61,6 +62,7 @@ fn joined_long<O: WordOp>(
     ensures cost { steps.new ≤ steps.old + lane_steps (min (length words.now) (length other.now)) }
     ensures whole { OnOk result
         (steps.new ≡ steps.old + lane_steps (min (length words.now) (length other.now))) }
+    ensures grows { steps.old ≤ steps.new }
 {
     let mut new = Vec::with_capacity(alloc, words.len())?;
     write_joined::<O>(&mut new, words, other, steps)?;
@@ -84,6 +86,7 @@ fn write_joined<O: WordOp>(
     ensures cost { steps.new ≤ steps.old + lane_steps (min (length words.now) (length other.now)) }
     ensures whole { OnOk result
         (steps.new ≡ steps.old + lane_steps (min (length words.now) (length other.now))) }
+    ensures grows { steps.old ≤ steps.new }
 {
     to.extend_from_slice(&words[..8])?;
     lanes::apply::<O>(to, &other[..8], steps);

@@ -79,7 +79,8 @@ pub fn last(words: &[Block], steps: &mut Steps) -> Option<usize>
 /// `O`: with `And` a position of the row, with `AndNot` one that the row lacks. `None` where there is none.
 ///
 /// It takes one step for the word of `from`, and one for each lane of four words behind it up to the one that has the
-/// position. The end may not be past the words.
+/// position. Where there is none it takes these up to the word of `end` at least, and up to the end of the words at most.
+/// No step is taken where `from` is not below `end`. The end may not be past the words.
 ///
 /// ```
 /// let mut steps = Steps::new();
@@ -98,6 +99,12 @@ pub fn next<O: WordOp>(words: &[Block], from: usize, end: usize, steps: &mut Ste
     ensures cost { IfSome result
         (λ p. steps.new ≡ steps.old + 1 + lane_steps (p / 64 - from / 64)) }
     ensures whole { steps.new ≤ steps.old + 1 + lane_steps (length words.now - 1 - from / 64) }
+    ensures missed { IfNone result (from < end
+        → steps.old + 1 + lane_steps ((end - 1) / 64 - from / 64) ≤ steps.new) }
+    ensures row { from < end
+        → NonePasses (bit_test (O.truth true) words.now) from (64 * length words.now)
+        → steps.new ≡ steps.old + 1 + lane_steps (length words.now - 1 - from / 64) }
+    ensures empty { end ≤ from → steps.new ≡ steps.old }
 {
     if from >= end {
         return None;
@@ -110,7 +117,8 @@ pub fn next<O: WordOp>(words: &[Block], from: usize, end: usize, steps: &mut Ste
 /// position of the row, with `AndNot` one that the row lacks. `None` where there is none.
 ///
 /// It takes one step for the word of the position before `below`, and one for each lane of four words before it down to
-/// the one that has the position. `below` may not be past the end of the words.
+/// the one that has the position, or down to the first word where there is none. No step is taken where `below` is 0. It
+/// may not be past the end of the words.
 ///
 /// ```
 /// let mut steps = Steps::new();
@@ -129,6 +137,9 @@ pub fn previous<O: WordOp>(words: &[Block], below: usize, steps: &mut Steps) -> 
     ensures cost { IfSome result
         (λ p. steps.new ≡ steps.old + 1 + lane_steps ((below - 1) / 64 - p / 64)) }
     ensures whole { steps.new ≤ steps.old + 1 + lane_steps ((below - 1) / 64) }
+    ensures missed { IfNone result (0 < below
+        → steps.new ≡ steps.old + 1 + lane_steps ((below - 1) / 64)) }
+    ensures empty { below ≡ 0 → steps.new ≡ steps.old }
 {
     let last = below.checked_sub(1)?;
     steps.tick();
@@ -190,6 +201,8 @@ fn next_in_row<O: WordOp>(words: &[Block], from: usize, steps: &mut Steps) -> Op
     ensures cost { IfSome result
         (λ p. steps.new ≡ steps.old + 1 + lane_steps (p / 64 - from / 64)) }
     ensures whole { steps.new ≤ steps.old + 1 + lane_steps (length words.now - 1 - from / 64) }
+    ensures missed { IfNone result
+        (steps.new ≡ steps.old + 1 + lane_steps (length words.now - 1 - from / 64)) }
 {
     steps.tick();
     let at = from / BITS;

@@ -67,7 +67,7 @@ pub fn count<O: WordOp>(words: &[Block], start: usize, end: usize, steps: &mut S
 ///
 /// It stops at the first lane or word that decides, so it takes at most `search_steps`: one step for each lane of four of
 /// the words that are wholly in the range, the last of which may have fewer, and one for each other word that holds a
-/// position of it. Where it answers `true` it takes exactly as many.
+/// position of it. Where it answers `true` it takes exactly as many, and where it answers `false` at least one.
 ///
 /// ```
 /// assert!(rt; ranges::none::<And>(&[0, 8], 0, 67, &mut Steps::new()));
@@ -82,6 +82,7 @@ pub fn none<O: WordOp>(words: &[Block], start: usize, end: usize, steps: &mut St
         == count_below (bit_test (O.truth true) words.now) start) }
     ensures cost { steps.new ≤ steps.old + search_steps start end }
     ensures whole { IsTrue result → steps.new ≡ steps.old + search_steps start end }
+    ensures stops { result ≡ false → steps.old < steps.new }
 {
     let (low, high) = cut(start, end);
     none_part::<O>(words, start, low, steps)
@@ -256,6 +257,7 @@ fn none_whole<O: WordOp>(words: &[Block], first: usize, last: usize, steps: &mut
         == count_below (bit_test (O.truth true) words.now) (64 * first)) }
     ensures cost { steps.new ≤ steps.old + lane_steps (last - first) }
     ensures whole { IsTrue result → steps.new ≡ steps.old + lane_steps (last - first) }
+    ensures stops { result ≡ false → steps.old < steps.new }
 {
     // A single word is tested by itself: as a lane with zeros it would go through a vector register.
     if last - first == 1 {

@@ -1,6 +1,6 @@
 -- The first gap, found by the next position that is clear and the next one that is set, and the steps that this takes.
-use Rattle.std.proofs.Common.{◌≡◌, ℕ, zero, suc, ◌+◌, ◌-◌, ◌*◌, ◌/◌, ◌<◌, ◌≤◌, ◌⊎◌, inl, inr, Bool, true, false, List, Option, Some, None, IfSome, unwrap_or, slice_get, length, sym, ap, ◌∙◌, arith}
-use Rattle.std.proofs.lemmas.Bool.{cases_eq, cases_Bool, true≢false, false_from_ne_true}
+use Rattle.std.proofs.Common.{◌≡◌, ℕ, zero, suc, ◌+◌, ◌-◌, ◌*◌, ◌/◌, ◌<◌, ◌≤◌, ◌⊎◌, inl, inr, Bool, true, false, List, Option, Some, None, IfSome, IfNone, unwrap_or, slice_get, length, sym, ap, ◌∙◌, arith}
+use Rattle.std.proofs.lemmas.Bool.{cases_eq, cases_lt, cases_Bool, true≢false, false_from_ne_true, lt-ltb, le-ltb}
 use Rattle.std.proofs.lemmas.Bool.Decides.{nat_tests}
 use Rattle.std.proofs.lemmas.List.{length-map}
 use Rattle.bitlanes.specs.Words.{lane_steps}
@@ -9,6 +9,7 @@ use Rattle.bitwords.specs.AscendingFacts.{ascending-none, first-from, length-cou
 use Rattle.bitwords.specs.CountFacts.{count-suc, count-mono}
 use Rattle.bitwords.specs.Rows.{count_below}
 use Rattle.bitwords.specs.Runs.{begins}
+use Rattle.bitwords.specs.Steps.{range_words}
 use Rattle.fixedbitset.specs.Bits.{Bits, contains, complement, of_words, storage_words}
 use Rattle.fixedbitset.specs.BitsFacts.{contains_below, length-complement, contains-complement}
 use Rattle.fixedbitset.specs.NeighbourFacts.{next_one_least, next_one_none, next_zero_least, next_zero_none}
@@ -140,6 +141,10 @@ module _ {n : ℕ} {ws : List ℕ} {count from start : ℕ} (searched : Searched
         pub goes_on : start < next
         goes_on = let least = next_zero_least (of_words n ws) end next is in grind (arith, cases_eq start end, e.stop, e.order, least.1, searched.clear, searched.below)
 
+        -- it stands in the word of `end` or behind it
+        pub next_word : end / 64 ≤ next / 64
+        next_word = let least = next_zero_least (of_words n ws) end next is in omega (arith, least.1)
+
         -- and the position before the next clear one is set
         pub set_before : end < n → contains (of_words n ws) (next - 1) ≡ true
         set_before below =
@@ -224,3 +229,58 @@ module _ (lanes : ℕ → ℕ) (join : (low mid high : ℕ) → low ≤ mid → 
           let least = next_zero_least (of_words n ws) end next is in
           let rest = join (from / 64) (end / 64) (next / 64) (omega (arith, searched.after, e.order)) (omega (arith, least.1)) in
           record { bound = omega (arith, spent.bound, more, search, cost, lanes_to_end, rest) }
+
+-- ---- the fewest steps
+
+lanes_meet : (low mid high : ℕ) → low ≤ mid → mid ≤ high → lane_steps (high - low) ≤ lane_steps (mid - low) + lane_steps (high - mid)
+lanes_meet low mid high above below = omega (arith, above, below)
+
+-- the lanes from the word of `from` up to word k were looked at
+abbrev pub Looked : (from k first steps : ℕ) → Type 0
+Looked from k first steps = first + 1 + lane_steps (k - from / 64) ≤ steps
+
+pub equal_le : {a b : ℕ} → a ≡ b → b ≤ a
+equal_le e = omega (arith, e)
+
+pub looked_on : (from at k first steps after : ℕ) → from ≤ at → at / 64 ≤ k → Looked from (at / 64) first steps → steps + 1 + lane_steps (k - at / 64) ≤ after → Looked from k first after
+looked_on from at k first steps after above below before more = sum _ _ _ (lanes_meet (from / 64) (at / 64) k (omega arith) below) before more
+  where
+    sum : (near far all : ℕ) → all ≤ near + far → first + 1 + near ≤ steps → steps + 1 + far ≤ after → first + 1 + all ≤ after
+    sum near far all meet before more = omega arith
+
+lanes_upto : (from end k : ℕ) → end ≤ 64 * (k + 1) → lane_steps (range_words from end) ≤ 1 + lane_steps (k - from / 64)
+lanes_upto from end k within =
+    elim (cases_lt from end) [
+      | inl some ↦ rw (lt-ltb from end some) (omega (arith, some, within))
+      | inr none ↦ rw (le-ltb from end none) (omega arith)
+    ]
+
+-- no word holds a position of an empty range
+pub no_lanes : (from end : ℕ) → end ≤ from → lane_steps (range_words from end) ≡ 0
+no_lanes from end empty = rw (le-ltb from end empty) (omega arith)
+
+-- those of a range that ends within word k
+pub looked_at : (from end k first steps : ℕ) → end ≤ 64 * (k + 1) → Looked from k first steps → first + lane_steps (range_words from end) ≤ steps
+looked_at from end k first steps within all = sum _ _ (lanes_upto from end k within) all
+  where
+    sum : (few many : ℕ) → few ≤ 1 + many → first + 1 + many ≤ steps → first + few ≤ steps
+    sum few many less all = omega arith
+
+-- where no position at or past `from` is clear
+pub looked_for_none : (from length count first steps : ℕ) → 0 < count → (from < length → first + 1 + lane_steps ((length - 1) / 64 - from / 64) ≤ steps) → (length ≤ from → steps ≡ first)
+    → first + lane_steps (range_words from (length + 1 - count)) ≤ steps
+looked_for_none from length count first steps some missed empty =
+    elim (cases_lt from length) [
+      | inl left ↦ looked_at from (length + 1 - count) ((length - 1) / 64) first steps (omega (arith, some, left)) (missed left)
+      | inr none ↦ let nothing = no_lanes from (length + 1 - count) (omega (arith, some, none)) in omega (arith, nothing, empty none)
+    ]
+
+-- where the stretch that begins at `start` is long enough
+pub looked_through : (from start last end length first steps after : ℕ) (found : Option ℕ) → end ≡ unwrap_or found length → from ≤ start → start ≤ end → start < length → last ≤ end
+    → Looked from (start / 64) first steps → IfSome found (λ p. after ≡ steps + 1 + lane_steps (p / 64 - start / 64))
+    → IfNone found (start < length → after ≡ steps + 1 + lane_steps (storage_words length - 1 - start / 64))
+    → first + lane_steps (range_words from last) ≤ after
+looked_through from start last end length first steps after (Some p) is above order below upto before cost missed =
+    looked_at from last (p / 64) first after (omega (arith, upto, is)) (looked_on from start (p / 64) first steps after above (omega (arith, order, is)) before (equal_le cost))
+looked_through from start last end length first steps after None is above order below upto before cost missed =
+    looked_at from last (storage_words length - 1) first after (omega (arith, upto, is, below)) (looked_on from start (storage_words length - 1) first steps after above (omega (arith, below)) before (equal_le (missed below)))

@@ -1,7 +1,7 @@
 -- The position next to a given one, found in the words that a set keeps.
 use Rattle.std.specs.Prelude.{slice_get}
 use Rattle.std.specs.List.{last_or}
-use Rattle.std.proofs.Common.{◌≡◌, ℕ, Bool, true, not, ◌&&◌, nat_lt, nat_le, min, filter, List, Option, Some, None, IfSome, IfNone, sym, ap, ◌∙◌, arith}
+use Rattle.std.proofs.Common.{◌≡◌, ℕ, ◌*◌, ◌<◌, Bool, true, not, ◌&&◌, nat_lt, nat_le, min, filter, List, length, Option, Some, None, IfSome, IfNone, sym, ap, ◌∙◌, arith}
 use Rattle.std.proofs.lemmas.Bool.Decides.{nat_tests}
 use Rattle.bitwords.specs.Ascending.{ascending}
 use Rattle.bitwords.specs.AscendingFacts.{ascending-none, filter-ascending, first-ascending, last-ascending}
@@ -73,3 +73,9 @@ module _ (n : ℕ) (ws : List ℕ) (clean : IsClean n ws) where
       → IfNone found (NonePasses lacks 0 (min below n)) → found ≡ previous_zero (of_words n ws) below
   unfolding previous_one previous_zero
   previous_zero_of below found is none = previous _ n below found is none ∙ ap (λ xs. last_or None (filter (λ p. nat_lt p below) xs)) zeroes
+
+  -- words of a set have no position past its length, so where none is found before it none is left in all of them
+  pub missed_one : {Steps : Type 0} (from : ℕ) (found : Option ℕ) → IfNone found (NonePasses sets from n) → (from < n → NonePasses sets from (64 * length ws) → Steps) → IfNone found (from < n → Steps)
+  unfolding bit_test
+  missed_one from (Some p) none cost = tt
+  missed_one from None none cost = λ some. cost some (λ i above below. grind (arith, nat_tests, none i above, clean.tail i))

@@ -4,7 +4,8 @@
 //! (`IsClean`): whole lanes of four words, as many as the length needs, and no bit past the length. Each change leaves
 //! them so, and `settle` makes any words so. Positions and ranges are those that the calls of `FixedBitSet` with the
 //! same names take, and what a call looks at is the same too. No call takes memory. The calls of `FixedBitSet`
-//! that take none hand its words over to these, and the static library `bits_c` lends those of a caller in C or in Rust.
+//! that take none hand its words over to these, the static library `bits_c` lends those of a caller in C, and the crate for
+//! Rust has these calls without their contracts.
 
 ghost use Rattle.std.specs.Prelude.{◌≡◌, ◌↔◌, IsTrue, ◌<◌, ◌≤◌, ◌+◌, ◌-◌, ◌*◌, ◌/◌, min, IfSome, IfNone};
 ghost use Rattle.std.specs.Prelude as prelude;

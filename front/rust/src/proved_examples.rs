@@ -48,7 +48,7 @@ fn bitlanes_changes_16() {
 }
 
 #[test]
-fn bitlanes_changes_44() {
+fn bitlanes_changes_46() {
     use crate::proved::bitlanes::ops::*;
     use crate::proved::bitlanes::{word, Block, Steps};
     use crate::proved::bitwords::cursors::*;
@@ -65,7 +65,7 @@ fn bitlanes_changes_44() {
 }
 
 #[test]
-fn bitlanes_changes_82() {
+fn bitlanes_changes_83() {
     use crate::proved::bitlanes::ops::*;
     use crate::proved::bitlanes::{word, Block, Steps};
     use crate::proved::bitwords::cursors::*;
@@ -142,7 +142,7 @@ fn bitlanes_lanes_26() {
 }
 
 #[test]
-fn bitlanes_lanes_51() {
+fn bitlanes_lanes_53() {
     use crate::proved::bitlanes::ops::*;
     use crate::proved::bitlanes::{word, Block, Steps};
     use crate::proved::bitwords::cursors::*;
@@ -156,7 +156,7 @@ fn bitlanes_lanes_51() {
 }
 
 #[test]
-fn bitlanes_lanes_70() {
+fn bitlanes_lanes_72() {
     use crate::proved::bitlanes::ops::*;
     use crate::proved::bitlanes::{word, Block, Steps};
     use crate::proved::bitwords::cursors::*;
@@ -170,7 +170,7 @@ fn bitlanes_lanes_70() {
 }
 
 #[test]
-fn bitlanes_lanes_96() {
+fn bitlanes_lanes_100() {
     use crate::proved::bitlanes::ops::*;
     use crate::proved::bitlanes::{word, Block, Steps};
     use crate::proved::bitwords::cursors::*;
@@ -213,7 +213,7 @@ fn bitlanes_lanes_134() {
 }
 
 #[test]
-fn bitlanes_lanes_161() {
+fn bitlanes_lanes_162() {
     use crate::proved::bitlanes::ops::*;
     use crate::proved::bitlanes::{word, Block, Steps};
     use crate::proved::bitwords::cursors::*;
@@ -406,7 +406,7 @@ fn bitlanes_shifts_18() {
 }
 
 #[test]
-fn bitlanes_shifts_50() {
+fn bitlanes_shifts_51() {
     use crate::proved::bitlanes::ops::*;
     use crate::proved::bitlanes::{word, Block, Steps};
     use crate::proved::bitwords::cursors::*;
@@ -421,7 +421,7 @@ fn bitlanes_shifts_50() {
 }
 
 #[test]
-fn bitlanes_shifts_80() {
+fn bitlanes_shifts_81() {
     use crate::proved::bitlanes::ops::*;
     use crate::proved::bitlanes::{word, Block, Steps};
     use crate::proved::bitwords::cursors::*;
@@ -436,7 +436,7 @@ fn bitlanes_shifts_80() {
 }
 
 #[test]
-fn bitlanes_shifts_114() {
+fn bitlanes_shifts_115() {
     use crate::proved::bitlanes::ops::*;
     use crate::proved::bitlanes::{word, Block, Steps};
     use crate::proved::bitwords::cursors::*;
@@ -595,7 +595,7 @@ fn bitranks_directory_35() {
 }
 
 #[test]
-fn bitranks_directory_56() {
+fn bitranks_directory_57() {
     use crate::proved::bitlanes::ops::*;
     use crate::proved::bitlanes::{word, Block, Steps};
     use crate::proved::bitwords::cursors::*;
@@ -611,7 +611,7 @@ fn bitranks_directory_56() {
 }
 
 #[test]
-fn bitranks_directory_87() {
+fn bitranks_directory_89() {
     use crate::proved::bitlanes::ops::*;
     use crate::proved::bitlanes::{word, Block, Steps};
     use crate::proved::bitwords::cursors::*;
@@ -1080,7 +1080,7 @@ fn bitwords_positions_45() {
 }
 
 #[test]
-fn bitwords_positions_62() {
+fn bitwords_positions_63() {
     use crate::proved::bitlanes::ops::*;
     use crate::proved::bitlanes::{word, Block, Steps};
     use crate::proved::bitwords::cursors::*;
@@ -1097,7 +1097,7 @@ fn bitwords_positions_62() {
 }
 
 #[test]
-fn bitwords_positions_84() {
+fn bitwords_positions_86() {
     use crate::proved::bitlanes::ops::*;
     use crate::proved::bitlanes::{word, Block, Steps};
     use crate::proved::bitwords::cursors::*;
@@ -1114,7 +1114,7 @@ fn bitwords_positions_84() {
 }
 
 #[test]
-fn bitwords_positions_109() {
+fn bitwords_positions_111() {
     use crate::proved::bitlanes::ops::*;
     use crate::proved::bitlanes::{word, Block, Steps};
     use crate::proved::bitwords::cursors::*;
@@ -1129,7 +1129,7 @@ fn bitwords_positions_109() {
 }
 
 #[test]
-fn bitwords_positions_121() {
+fn bitwords_positions_123() {
     use crate::proved::bitlanes::ops::*;
     use crate::proved::bitlanes::{word, Block, Steps};
     use crate::proved::bitwords::cursors::*;
@@ -1753,7 +1753,7 @@ fn fixedbitset_lent_shifts_147() {
 }
 
 #[test]
-fn fixedbitset_lent_walks_12() {
+fn fixedbitset_lent_walks_15() {
     use crate::proved::bitlanes::ops::*;
     use crate::proved::bitlanes::{word, Block, Steps};
     use crate::proved::bitwords::cursors::*;
@@ -1768,23 +1768,7 @@ fn fixedbitset_lent_walks_12() {
 }
 
 #[test]
-fn fixedbitset_lent_walks_26() {
-    use crate::proved::bitlanes::ops::*;
-    use crate::proved::bitlanes::{word, Block, Steps};
-    use crate::proved::bitwords::cursors::*;
-    use crate::proved::fixedbitset::*;
-    use crate::shim::u64x4;
-    use core::cmp::Ordering;
-    use core::mem::{size_of, size_of_val};
-
-    let (mut words, mut other) = ([9, 2, 0, 0], [1, 2, 0, 0]);
-    lent::settle(&mut words, 70, 70);
-    lent::settle(&mut other, 66, 66);
-    assert!(lent::ones_beside(&words, 70, &other, 66).eq([0, 3, 65]));
-}
-
-#[test]
-fn fixedbitset_lent_walks_44() {
+fn fixedbitset_lent_walks_28() {
     use crate::proved::bitlanes::ops::*;
     use crate::proved::bitlanes::{word, Block, Steps};
     use crate::proved::bitwords::cursors::*;
@@ -1800,7 +1784,7 @@ fn fixedbitset_lent_walks_44() {
 }
 
 #[test]
-fn fixedbitset_lent_walks_64() {
+fn fixedbitset_lent_walks_49() {
     use crate::proved::bitlanes::ops::*;
     use crate::proved::bitlanes::{word, Block, Steps};
     use crate::proved::bitwords::cursors::*;
@@ -1816,7 +1800,7 @@ fn fixedbitset_lent_walks_64() {
 }
 
 #[test]
-fn fixedbitset_lent_walks_82() {
+fn fixedbitset_lent_walks_67() {
     use crate::proved::bitlanes::ops::*;
     use crate::proved::bitlanes::{word, Block, Steps};
     use crate::proved::bitwords::cursors::*;
@@ -1831,7 +1815,7 @@ fn fixedbitset_lent_walks_82() {
 }
 
 #[test]
-fn fixedbitset_lent_walks_94() {
+fn fixedbitset_lent_walks_79() {
     use crate::proved::bitlanes::ops::*;
     use crate::proved::bitlanes::{word, Block, Steps};
     use crate::proved::bitwords::cursors::*;
@@ -1846,7 +1830,7 @@ fn fixedbitset_lent_walks_94() {
 }
 
 #[test]
-fn fixedbitset_lent_walks_106() {
+fn fixedbitset_lent_walks_91() {
     use crate::proved::bitlanes::ops::*;
     use crate::proved::bitlanes::{word, Block, Steps};
     use crate::proved::bitwords::cursors::*;
@@ -1861,7 +1845,7 @@ fn fixedbitset_lent_walks_106() {
 }
 
 #[test]
-fn fixedbitset_lent_walks_118() {
+fn fixedbitset_lent_walks_103() {
     use crate::proved::bitlanes::ops::*;
     use crate::proved::bitlanes::{word, Block, Steps};
     use crate::proved::bitwords::cursors::*;
@@ -1876,7 +1860,7 @@ fn fixedbitset_lent_walks_118() {
 }
 
 #[test]
-fn fixedbitset_lent_walks_130() {
+fn fixedbitset_lent_walks_115() {
     use crate::proved::bitlanes::ops::*;
     use crate::proved::bitlanes::{word, Block, Steps};
     use crate::proved::bitwords::cursors::*;
@@ -2104,7 +2088,7 @@ fn fixedbitset_lent_whole_200() {
 }
 
 #[test]
-fn fixedbitset_lent_52() {
+fn fixedbitset_lent_51() {
     use crate::proved::bitlanes::ops::*;
     use crate::proved::bitlanes::{word, Block, Steps};
     use crate::proved::bitwords::cursors::*;
@@ -2119,7 +2103,7 @@ fn fixedbitset_lent_52() {
 }
 
 #[test]
-fn fixedbitset_lent_67() {
+fn fixedbitset_lent_66() {
     use crate::proved::bitlanes::ops::*;
     use crate::proved::bitlanes::{word, Block, Steps};
     use crate::proved::bitwords::cursors::*;
@@ -2134,7 +2118,7 @@ fn fixedbitset_lent_67() {
 }
 
 #[test]
-fn fixedbitset_lent_79() {
+fn fixedbitset_lent_91() {
     use crate::proved::bitlanes::ops::*;
     use crate::proved::bitlanes::{word, Block, Steps};
     use crate::proved::bitwords::cursors::*;
@@ -2150,7 +2134,7 @@ fn fixedbitset_lent_79() {
 }
 
 #[test]
-fn fixedbitset_lent_92() {
+fn fixedbitset_lent_104() {
     use crate::proved::bitlanes::ops::*;
     use crate::proved::bitlanes::{word, Block, Steps};
     use crate::proved::bitwords::cursors::*;
@@ -2166,7 +2150,7 @@ fn fixedbitset_lent_92() {
 }
 
 #[test]
-fn fixedbitset_lent_105() {
+fn fixedbitset_lent_117() {
     use crate::proved::bitlanes::ops::*;
     use crate::proved::bitlanes::{word, Block, Steps};
     use crate::proved::bitwords::cursors::*;
@@ -2182,7 +2166,7 @@ fn fixedbitset_lent_105() {
 }
 
 #[test]
-fn fixedbitset_lent_118() {
+fn fixedbitset_lent_130() {
     use crate::proved::bitlanes::ops::*;
     use crate::proved::bitlanes::{word, Block, Steps};
     use crate::proved::bitwords::cursors::*;
@@ -2198,7 +2182,7 @@ fn fixedbitset_lent_118() {
 }
 
 #[test]
-fn fixedbitset_lent_131() {
+fn fixedbitset_lent_143() {
     use crate::proved::bitlanes::ops::*;
     use crate::proved::bitlanes::{word, Block, Steps};
     use crate::proved::bitwords::cursors::*;
@@ -2214,7 +2198,7 @@ fn fixedbitset_lent_131() {
 }
 
 #[test]
-fn fixedbitset_lent_146() {
+fn fixedbitset_lent_158() {
     use crate::proved::bitlanes::ops::*;
     use crate::proved::bitlanes::{word, Block, Steps};
     use crate::proved::bitwords::cursors::*;
@@ -2230,7 +2214,7 @@ fn fixedbitset_lent_146() {
 }
 
 #[test]
-fn fixedbitset_lent_163() {
+fn fixedbitset_lent_175() {
     use crate::proved::bitlanes::ops::*;
     use crate::proved::bitlanes::{word, Block, Steps};
     use crate::proved::bitwords::cursors::*;
@@ -2246,7 +2230,7 @@ fn fixedbitset_lent_163() {
 }
 
 #[test]
-fn fixedbitset_lent_177() {
+fn fixedbitset_lent_189() {
     use crate::proved::bitlanes::ops::*;
     use crate::proved::bitlanes::{word, Block, Steps};
     use crate::proved::bitwords::cursors::*;
@@ -2262,7 +2246,7 @@ fn fixedbitset_lent_177() {
 }
 
 #[test]
-fn fixedbitset_lent_190() {
+fn fixedbitset_lent_202() {
     use crate::proved::bitlanes::ops::*;
     use crate::proved::bitlanes::{word, Block, Steps};
     use crate::proved::bitwords::cursors::*;
@@ -2277,7 +2261,7 @@ fn fixedbitset_lent_190() {
 }
 
 #[test]
-fn fixedbitset_lent_202() {
+fn fixedbitset_lent_214() {
     use crate::proved::bitlanes::ops::*;
     use crate::proved::bitlanes::{word, Block, Steps};
     use crate::proved::bitwords::cursors::*;
@@ -2292,7 +2276,7 @@ fn fixedbitset_lent_202() {
 }
 
 #[test]
-fn fixedbitset_lent_214() {
+fn fixedbitset_lent_226() {
     use crate::proved::bitlanes::ops::*;
     use crate::proved::bitlanes::{word, Block, Steps};
     use crate::proved::bitwords::cursors::*;

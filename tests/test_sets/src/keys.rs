@@ -293,6 +293,8 @@ fn a_text_has_a_character_for_each_position(rt: HostRuntime) -> Result<(), Fail>
     }
     let new = FixedBitSet::new(rt.alloc());
     assert_text(&rt, rt.alloc(), &new, "", "0b")?;
+    let of_word = FixedBitSet::with_capacity_and_blocks(rt.alloc(), 4, [4])?;
+    assert_text(&rt, rt.alloc(), &of_word, "0010", "0b0010")?;
     let items = FixedBitSet::from_iter(rt.alloc(), [1, 5, 7, 10, 14, 15]).expect(&rt, "one word");
     assert_text(
         &rt,

@@ -1,24 +1,92 @@
 //! Large sets, each call once: where memory is there, no call refuses a number of its own choice.
 
-use fixedbitset::FixedBitSet;
+use fixedbitset::{Block, FixedBitSet};
 use std::test::Fail;
 
 // More than 2 to the 32 positions, which take 512 MiB.
+const MANY: usize = (1 << 32) + 1;
+
 #[test]
 fn a_set_of_more_than_four_billion_positions(rt: HostRuntime) -> Result<(), Fail> {
-    let bits = (1 << 32) + 1;
-    let mut set = FixedBitSet::with_capacity(rt.alloc(), bits)?;
-    assert_eq!(rt; set.len(), bits);
-    assert!(rt; bits > 4_000_000_000);
-    set.insert(bits - 1);
-    assert!(rt; set.contains(bits - 1));
+    let mut set = FixedBitSet::with_capacity(rt.alloc(), MANY)?;
+    assert_eq!(rt; set.len(), MANY);
+    assert!(rt; MANY > 4_000_000_000);
+    set.insert(MANY - 1);
+    assert!(rt; set.contains(MANY - 1));
+    Ok(())
+}
+
+// A hundred million positions, which take 12 MiB.
+const LARGE: usize = 100_000_000;
+
+#[test]
+fn a_set_grows_past_four_billion_positions(rt: HostRuntime) -> Result<(), Fail> {
+    let mut set = FixedBitSet::from_iter(rt.alloc(), [69]).expect(&rt, "memory for two words");
+    set.grow(MANY)?;
+    assert!(rt; set.len() == MANY && set.contains(69) && !set.contains(MANY - 1));
+    Ok(())
+}
+
+// The calls that make a set longer, for a far position or up to one.
+#[test]
+fn a_set_is_long_enough_for_a_far_position(rt: HostRuntime) -> Result<(), Fail> {
+    let made = FixedBitSet::from_iter(rt.alloc(), [LARGE - 1]).expect(&rt, "memory for 12 MiB");
+    assert!(rt; made.len() == LARGE && made.maximum() == Some(LARGE - 1));
+    let mut set = FixedBitSet::new(rt.alloc());
+    assert!(rt; set.extend([LARGE - 1]).is_ok());
+    assert!(rt; set == made);
+    set.grow_and_insert(2 * LARGE)?;
+    assert!(rt; set.len() == 2 * LARGE + 1 && set.maximum() == Some(2 * LARGE));
+    set.resize(3 * LARGE, true)?;
+    assert_eq!(rt; set.len(), 3 * LARGE);
+    assert_eq!(rt; set.count_ones(..), LARGE + 1);
+    Ok(())
+}
+
+#[test]
+fn a_large_set_is_made_of_words(rt: HostRuntime) -> Result<(), Fail> {
+    let words = LARGE.div_ceil(64);
+    let blocks = (0..words).map(|index| Block::from(index + 1 == words));
+    let set = FixedBitSet::with_capacity_and_blocks(rt.alloc(), LARGE, blocks)?;
+    assert_eq!(rt; set.len(), LARGE);
+    assert!(rt; set.ones().eq([64 * (words - 1)]));
+    Ok(())
+}
+
+// A large part, and the same put behind another set.
+#[test]
+fn a_large_part_is_cut_out_and_put_behind(rt: HostRuntime) -> Result<(), Fail> {
+    let mut set = FixedBitSet::with_capacity(rt.alloc(), LARGE + 70)?;
+    assert!(rt; set.len() == LARGE + 70);
+    set.insert(70);
+    set.insert(LARGE + 69);
+    let part = set.slice(rt.alloc(), 70..)?;
+    assert_eq!(rt; part.len(), LARGE);
+    assert!(rt; part.ones().eq([0, LARGE - 1]));
+    let mut all = FixedBitSet::with_capacity(rt.alloc(), 3)?;
+    assert!(rt; all.len() == 3);
+    all.append(&part)?;
+    assert_eq!(rt; all.len(), LARGE + 3);
+    assert!(rt; all.ones().eq([3, LARGE + 2]));
+    Ok(())
+}
+
+#[test]
+fn a_large_set_goes_into_bytes_and_back(rt: HostRuntime) -> Result<(), Fail> {
+    let mut set = FixedBitSet::with_capacity(rt.alloc(), LARGE)?;
+    assert!(rt; set.len() == LARGE);
+    set.insert(LARGE - 1);
+    let bytes = set.to_bytes(rt.alloc())?;
+    assert_eq!(rt; bytes.len(), 8 * set.as_slice().len());
+    let again = FixedBitSet::from_bytes(rt.alloc(), LARGE, &bytes)?;
+    assert!(rt; again == set);
     Ok(())
 }
 
 // A set of a hundred million positions: its copy, and what it is copied over.
 #[test]
 fn a_large_set_is_copied(rt: HostRuntime) -> Result<(), Fail> {
-    let mut set = FixedBitSet::with_capacity(rt.alloc(), 100_000_000)?;
+    let mut set = FixedBitSet::with_capacity(rt.alloc(), LARGE)?;
     set.insert_range(..);
     let mut copy = set.clone()?;
     assert!(rt; copy == set);

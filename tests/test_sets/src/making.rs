@@ -14,7 +14,9 @@ use test_values::slow::{filled, is_same, multiples};
 fn bits_past_the_length_are_cleared(rt: HostRuntime) -> Result<(), Fail> {
     let mut set = FixedBitSet::with_capacity_and_blocks(rt.alloc(), 1, [8])?;
     assert!(rt; is_same(&set, &[false]));
+    assert!(rt; set.is_clear() && set.ones().next() == None);
     set.grow(4)?;
+    assert!(rt; !set.contains(3));
     assert!(rt; is_same(&set, &[false; 4]));
     Ok(())
 }
@@ -54,6 +56,31 @@ fn no_more_items_are_asked_for_than_words(rt: HostRuntime) -> Result<(), Fail> {
             "at {bits}"
         );
     }
+    Ok(())
+}
+
+#[test]
+fn three_items_of_an_endless_iterator(rt: HostRuntime) -> Result<(), Fail> {
+    let mut asked = 0;
+    let blocks = Endless { asked: &mut asked };
+    let set = FixedBitSet::with_capacity_and_blocks(rt.alloc(), 130, blocks)?;
+    assert_eq!(rt; asked, 3);
+    assert_eq!(rt; set.as_slice(), [Block::MAX, Block::MAX, 3].as_slice());
+    assert_eq!(rt; set.count_ones(..), 130);
+    Ok(())
+}
+
+// Bit 2 is 4, bit 3 is 8, bit 6 is 64 and bit 8 is 256.
+#[test]
+fn a_word_has_the_bits_of_its_positions(rt: HostRuntime) -> Result<(), Fail> {
+    let mut set = FixedBitSet::with_capacity(rt.alloc(), 10)?;
+    for position in [2, 3, 6, 8] {
+        assert!(rt; position < set.len());
+        set.insert(position);
+    }
+    assert_eq!(rt; set.as_slice(), [332].as_slice());
+    let again = FixedBitSet::with_capacity_and_blocks(rt.alloc(), 10, [332])?;
+    assert!(rt; again == set && again.ones().eq([2, 3, 6, 8]));
     Ok(())
 }
 

@@ -209,7 +209,7 @@ fn assert_copied_everywhere(
     Ok(())
 }
 
-// Longer ones are copied in front/rust, where nothing is checked as it runs.
+// Longer ones are copied in front/rust, which takes less time.
 #[test]
 fn every_range_is_copied_to_every_place(rt: HostRuntime) -> Result<(), Fail> {
     for (length, other_length) in [(0, 0), (1, 1), (65, 63)] {

@@ -5,7 +5,7 @@ use crate::spans::{
     Change, Fact, Span, assert_facts, change_all, change_range, change_span, changed, holds,
     holds_of_span,
 };
-use bitlanes::word::Block;
+use bitlanes::word::{BITS, Block};
 use fixedbitset::{FixedBitSet, Steps, counted};
 use std::alloc::{AllocError, Global};
 use std::process::Abort;
@@ -318,7 +318,7 @@ fn assert_range(
     Ok(())
 }
 
-// All lengths to 130 are swept over the same calls in front/rust, where nothing is checked as it runs.
+// Also those that are not valid, and those with their last position.
 #[test]
 fn every_range_of_six_lengths(rt: HostRuntime) -> Result<(), Fail> {
     for bits in [0, 1, 63, 64, 65, 130] {
@@ -329,6 +329,104 @@ fn every_range_of_six_lengths(rt: HostRuntime) -> Result<(), Fail> {
                 assert_range(&rt, rt.alloc(), &flags, &set, Span::Between(start, end))?;
                 assert_range(&rt, rt.alloc(), &flags, &set, Span::Through(start, end))?;
             }
+        }
+    }
+    Ok(())
+}
+
+// The words that a change makes of a set: first of no position, and then of one more of the range each time.
+#[derive(Drop)]
+struct Swept {
+    change: Change,
+    words: Vec<Block>,
+}
+
+impl Swept {
+    fn change_one(&mut self, position: usize, was_set: bool) {
+        let bit = 1 << (position % BITS);
+        if changed(was_set, self.change) {
+            self.words[position / BITS] |= bit;
+        } else {
+            self.words[position / BITS] &= !bit;
+        }
+    }
+}
+
+fn all_changes(alloc: Global, words: &[Block]) -> Result<Vec<Swept>, AllocError> {
+    let mut all = Vec::new(alloc);
+    for change in [
+        Change::Insert,
+        Change::Remove,
+        Change::Toggle,
+        Change::Set(true),
+        Change::Set(false),
+    ] {
+        let words = words.to_vec(alloc)?;
+        all.push(Swept { change, words })?;
+    }
+    Ok(all)
+}
+
+// The range has so many positions that are set.
+fn assert_counts(rt: &impl Abort, set: &FixedBitSet, start: usize, end: usize, ones: usize) {
+    let zeroes = end - start - ones;
+    for fact in [
+        Fact::Ones(ones),
+        Fact::Zeroes(zeroes),
+        Fact::All(zeroes == 0),
+        Fact::Any(ones != 0),
+    ] {
+        assert!(rt;
+            holds(set, start..end, fact),
+            "{start}..{end} of {}",
+            set.len()
+        );
+    }
+}
+
+// Each call on each range of the set from this start. The changes are made in the last set, a copy each time.
+fn assert_ranges_from(
+    rt: &impl Abort,
+    alloc: Global,
+    flags: &[bool],
+    set: &FixedBitSet,
+    start: usize,
+    new: &mut FixedBitSet,
+) -> Result<(), AllocError> {
+    let mut all = all_changes(alloc, set.as_slice())?;
+    let mut ones = 0usize;
+    for end in start..flags.len() + 1 {
+        if start < end {
+            let was_set = flags[end - 1];
+            ones = ones.wrapping_add(usize::from(was_set));
+            for one in &mut all {
+                one.change_one(end - 1, was_set);
+            }
+        }
+        assert_counts(rt, set, start, end, ones);
+        for one in &all {
+            new.clone_from(set)?;
+            change_range(rt, new, start..end, one.change);
+            assert!(rt;
+                new.len() == flags.len() && new.as_slice() == one.words.as_slice(),
+                "{:?} of {start}..{end} of {}",
+                one.change,
+                flags.len()
+            );
+        }
+    }
+    Ok(())
+}
+
+#[test]
+fn every_range_of_every_length_to_130(rt: HostRuntime) -> Result<(), Fail> {
+    for bits in 0..131 {
+        let flags = chosen(rt.alloc(), bits)?;
+        let set = filled(rt.alloc(), &flags)?;
+        assert!(rt; are_words(set.as_slice(), &flags));
+        let mut new = set.clone()?;
+        for start in 0..bits + 1 {
+            assert_ranges_from(&rt, rt.alloc(), &flags, &set, start, &mut new)?;
         }
     }
     Ok(())

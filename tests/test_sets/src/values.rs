@@ -105,15 +105,18 @@ fn growing_keeps_the_positions(rt: HostRuntime) -> Result<(), Fail> {
     Ok(())
 }
 
-// A length that no memory holds: the refused call leaves the set as it was.
+// Lengths that no memory holds: the refused call leaves the set as it was. A set of the least of them has 2 to the 47 bytes.
 #[test]
 fn refused_growth_changes_nothing(rt: HostRuntime) -> Result<(), Fail> {
-    let mut set = FixedBitSet::with_capacity(rt.alloc(), 70)?;
-    assert!(rt; set.len() == 70);
-    set.insert(69);
-    assert!(rt; set.grow(usize::MAX).is_err());
-    assert_eq!(rt; set.len(), 70);
-    assert_eq!(rt; set.as_slice(), [0, 32].as_slice());
-    assert!(rt; FixedBitSet::with_capacity(rt.alloc(), usize::MAX).is_err());
+    for bits in [1 << 50, 1 << 60, usize::MAX] {
+        let mut set = FixedBitSet::with_capacity(rt.alloc(), 70)?;
+        assert!(rt; set.len() == 70);
+        set.insert(69);
+        assert!(rt; set.grow(bits).is_err(), "{bits}");
+        assert!(rt; set.resize(bits, true).is_err(), "{bits}");
+        assert_eq!(rt; set.len(), 70);
+        assert_eq!(rt; set.as_slice(), [0, 32].as_slice());
+        assert!(rt; FixedBitSet::with_capacity(rt.alloc(), bits).is_err());
+    }
     Ok(())
 }

@@ -1,6 +1,6 @@
 //! One whole set, with a counter of steps.
 
-ghost use Rattle.std.specs.Prelude.{◌≡◌, ◌≤◌, ◌+◌, ◌-◌, ◌/◌, IsTrue, IfSome, IfNone};
+ghost use Rattle.std.specs.Prelude.{◌≡◌, ◌<◌, ◌≤◌, ◌+◌, ◌-◌, ◌/◌, IsTrue, IfSome, IfNone, false};
 ghost use Rattle.bitlanes.specs.Words.{lane_steps};
 ghost use Rattle.bitwords.specs.Steps.{search_steps};
 ghost use Rattle.fixedbitset.specs.Bits as model;
@@ -97,6 +97,7 @@ pub fn is_full(set: &FixedBitSet, steps: &mut Steps) -> bool
     ensures told { result ≡ model.is_full set.now }
     ensures cost { steps.new ≤ steps.old + search_steps 0 set.now.length }
     ensures whole { IsTrue result → steps.new ≡ steps.old + search_steps 0 set.now.length }
+    ensures stops { result ≡ false → steps.old < steps.new }
 {
     contains_all_in_range(set, .., steps)
 }

@@ -65,6 +65,7 @@ pub fn bitand(
     ensures whole { OnOk result (steps.new ≡ steps.old
         + both_steps false false (model.storage_words set.now.length)
         (model.storage_words other.now.length)) }
+    ensures grows { steps.old ≤ steps.new }
 {
     if set.length < other.length {
         joined_copy::<And>(set, other, steps)
@@ -95,6 +96,7 @@ pub fn bitor(
     ensures whole { OnOk result (steps.new ≡ steps.old
         + both_steps false false (model.storage_words set.now.length)
         (model.storage_words other.now.length)) }
+    ensures grows { steps.old ≤ steps.new }
 {
     if set.length < other.length {
         joined_copy::<Or>(other, set, steps)
@@ -125,6 +127,7 @@ pub fn bitxor(
     ensures whole { OnOk result (steps.new ≡ steps.old
         + both_steps false false (model.storage_words set.now.length)
         (model.storage_words other.now.length)) }
+    ensures grows { steps.old ≤ steps.new }
 {
     if set.length < other.length {
         joined_copy::<Xor>(other, set, steps)
@@ -148,6 +151,7 @@ fn joined_copy<O: WordOp>(
     ensures whole { OnOk result (steps.new ≡ steps.old
         + join_steps O.KEEP (model.storage_words set.now.length)
         (model.storage_words other.now.length)) }
+    ensures grows { steps.old ≤ steps.new }
 {
     let alloc = *set.words.allocator();
     let words = new_rows::joined::<O>(alloc, set.words.as_slice(), other.words.as_slice(), steps)?;

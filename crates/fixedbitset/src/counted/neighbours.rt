@@ -1,11 +1,13 @@
 //! The positions next to a given one, with a counter of steps.
 //!
 //! A call takes one step for the word of the number that it is given, and one for each lane of four words from there on
-//! up to the one that has the position. So what it takes goes by how far away the position is. `first_gap` goes from one
-//! position to the next, and takes at most four steps more for each stretch of clear positions.
+//! up to the one that has the position. So what it takes goes by how far away the position is. Where there is none it goes
+//! up to the end, and it takes no step where it has no position to look at. `first_gap` goes from one position to the next,
+//! and takes at most four steps more for each stretch of clear positions.
 
-ghost use Rattle.std.specs.Prelude.{◌≡◌, ◌≤◌, ◌+◌, ◌-◌, ◌*◌, ◌/◌, min, length, IfSome};
+ghost use Rattle.std.specs.Prelude.{◌≡◌, ◌<◌, ◌≤◌, ◌+◌, ◌-◌, ◌*◌, ◌/◌, min, length, IfSome, IfNone};
 ghost use Rattle.bitlanes.specs.Words.{lane_steps};
+ghost use Rattle.bitwords.specs.Steps.{range_words};
 ghost use Rattle.fixedbitset.specs.Bits.{storage_words};
 ghost use Rattle.fixedbitset.specs.Neighbours as neighbours;
 ghost use Rattle.fixedbitset.specs.Runs as stretches;
@@ -32,6 +34,9 @@ pub fn next_one(set: &FixedBitSet, from: usize, steps: &mut Steps) -> Option<usi
         (λ p. steps.new ≡ steps.old + 1 + lane_steps (p / 64 - from / 64)) }
     ensures whole { steps.new ≤ steps.old + 1
         + lane_steps (storage_words set.now.length - 1 - from / 64) }
+    ensures missed { IfNone result (from < set.now.length → steps.new ≡ steps.old + 1
+        + lane_steps (storage_words set.now.length - 1 - from / 64)) }
+    ensures empty { set.now.length ≤ from → steps.new ≡ steps.old }
 {
     next_one_counted(&set.words, set.length, from, steps)
 }
@@ -51,12 +56,16 @@ pub fn next_zero(set: &FixedBitSet, from: usize, steps: &mut Steps) -> Option<us
         (λ p. steps.new ≡ steps.old + 1 + lane_steps (p / 64 - from / 64)) }
     ensures whole { steps.new ≤ steps.old + 1
         + lane_steps (storage_words set.now.length - 1 - from / 64) }
+    ensures missed { IfNone result (from < set.now.length → steps.old + 1
+        + lane_steps ((set.now.length - 1) / 64 - from / 64) ≤ steps.new) }
+    ensures empty { set.now.length ≤ from → steps.new ≡ steps.old }
 {
     next_zero_counted(&set.words, set.length, from, steps)
 }
 
 /// [`FixedBitSet::first_gap`], with the steps that it takes: at most those of a search up to the end of the words, and four
-/// for each stretch of clear positions.
+/// for each stretch of clear positions; at least one for each lane of four words from that of `from` up to the end of the
+/// gap, or where there is none up to the last place with room for one.
 ///
 /// ```
 /// let set = FixedBitSet::from_iter(alloc, [3, 6, 90])?;
@@ -68,6 +77,10 @@ pub fn first_gap(set: &FixedBitSet, count: usize, from: usize, steps: &mut Steps
     ensures gap { result ≡ stretches.first_gap set.now count from }
     ensures cost { steps.new ≤ steps.old + 1 + 4 * length (stretches.zero_runs set.now)
         + lane_steps (storage_words set.now.length - 1 - from / 64) }
+    ensures least { IfSome result
+        (λ p. steps.old + lane_steps (range_words from (p + count)) ≤ steps.new) }
+    ensures missed { IfNone result (steps.old
+        + lane_steps (range_words from (set.now.length + 1 - count)) ≤ steps.new) }
 {
     first_gap_counted(&set.words, set.length, count, from, steps)
 }
@@ -87,6 +100,9 @@ pub fn previous_one(set: &FixedBitSet, below: usize, steps: &mut Steps) -> Optio
         + lane_steps ((min below set.now.length - 1) / 64 - p / 64)) }
     ensures whole { steps.new ≤ steps.old + 1
         + lane_steps ((min below set.now.length - 1) / 64) }
+    ensures missed { IfNone result (0 < min below set.now.length → steps.new ≡ steps.old + 1
+        + lane_steps ((min below set.now.length - 1) / 64)) }
+    ensures empty { min below set.now.length ≡ 0 → steps.new ≡ steps.old }
 {
     previous_one_counted(&set.words, set.length, below, steps)
 }
@@ -106,6 +122,9 @@ pub fn previous_zero(set: &FixedBitSet, below: usize, steps: &mut Steps) -> Opti
         + lane_steps ((min below set.now.length - 1) / 64 - p / 64)) }
     ensures whole { steps.new ≤ steps.old + 1
         + lane_steps ((min below set.now.length - 1) / 64) }
+    ensures missed { IfNone result (0 < min below set.now.length → steps.new ≡ steps.old + 1
+        + lane_steps ((min below set.now.length - 1) / 64)) }
+    ensures empty { min below set.now.length ≡ 0 → steps.new ≡ steps.old }
 {
     previous_zero_counted(&set.words, set.length, below, steps)
 }

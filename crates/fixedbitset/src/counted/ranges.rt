@@ -3,9 +3,9 @@
 //! A change or a count takes exactly one step for each word that holds a position of the range: so none for an empty
 //! range, and never more than `(end - start) / 64 + 2`. A test takes no more: one step for each lane of four of the words
 //! that are wholly in the range, and one for each other word that holds a position of it. It stops at the first that
-//! decides, and takes exactly as many where none does.
+//! decides, which takes one step at least, and takes exactly as many where none does.
 
-ghost use Rattle.std.specs.Prelude.{◌≡◌, ◌≤◌, ◌+◌, IsTrue, not};
+ghost use Rattle.std.specs.Prelude.{◌≡◌, ◌<◌, ◌≤◌, ◌+◌, IsTrue, false, not};
 ghost use Rattle.bitwords.specs.Steps.{range_words, search_steps};
 ghost use Rattle.fixedbitset.specs.Ranges as ranges;
 ghost use Rattle.fixedbitset.specs.Ranges.{over};
@@ -150,6 +150,7 @@ pub fn contains_all_in_range<R: IndexRange<usize> + Drop>(
     ensures whole { IsTrue result
         → steps.new ≡ steps.old
         + over (λ _. search_steps) set.now (R.start_of range) (R.end_of range) }
+    ensures stops { result ≡ false → steps.old < steps.new }
 {
     let start = range.start().unwrap_or(0);
     let end = range.end().unwrap_or(set.len());
@@ -178,6 +179,7 @@ pub fn contains_any_in_range<R: IndexRange<usize> + Drop>(
     ensures whole { IsTrue (not result)
         → steps.new ≡ steps.old
         + over (λ _. search_steps) set.now (R.start_of range) (R.end_of range) }
+    ensures stops { IsTrue result → steps.old < steps.new }
 {
     let start = range.start().unwrap_or(0);
     let end = range.end().unwrap_or(set.len());

@@ -3,9 +3,10 @@
 //! A step is one lane of four words in one turn of a kernel. A set of `n` positions has `n / 256` lanes, rounded up. A
 //! change or a count takes exactly one step for each lane that both sets have, and one for each that only one of them has,
 //! where these are cleared or counted. A comparison takes at most as many, since it stops at the first lane that decides;
-//! where it answers `true`, or `first_lacking` answers `None`, exactly. What `grow` writes is not counted.
+//! where it answers `true` exactly as many, and where it answers `false` one at least. `first_lacking` takes exactly those
+//! up to the lane of the position, or all where there is none. What `grow` writes is not counted.
 
-ghost use Rattle.std.specs.Prelude.{◌≡◌, ◌≢◌, ◌<◌, ◌≤◌, ◌↔◌, ◌+◌, IsTrue, IsOk, OnOk, OnErr, IfNone, true, false};
+ghost use Rattle.std.specs.Prelude.{◌≡◌, ◌≢◌, ◌<◌, ◌≤◌, ◌↔◌, ◌+◌, ◌/◌, IsTrue, IsOk, OnOk, OnErr, IfSome, IfNone, true, false};
 ghost use Rattle.std.specs.declared.cmp.Ordering.TheVariants.{Equal};
 ghost use Rattle.bitlanes.specs.Words.{lane_steps};
 ghost use Rattle.bitwords.specs.Steps.{join_steps, both_steps};
@@ -244,6 +245,7 @@ pub fn is_disjoint(set: &FixedBitSet, other: &FixedBitSet, steps: &mut Steps) ->
     ensures whole { IsTrue result → steps.new ≡ steps.old
         + both_steps false false (model.storage_words set.now.length)
         (model.storage_words other.now.length) }
+    ensures stops { result ≡ false → steps.old < steps.new }
 {
     none::<And>(&set.words, set.length, &other.words, other.length, steps)
 }
@@ -266,6 +268,7 @@ pub fn is_subset(set: &FixedBitSet, other: &FixedBitSet, steps: &mut Steps) -> b
     ensures whole { IsTrue result → steps.new ≡ steps.old
         + both_steps true false (model.storage_words set.now.length)
         (model.storage_words other.now.length) }
+    ensures stops { result ≡ false → steps.old < steps.new }
 {
     none::<AndNot>(&set.words, set.length, &other.words, other.length, steps)
 }
@@ -282,9 +285,11 @@ pub fn is_subset(set: &FixedBitSet, other: &FixedBitSet, steps: &mut Steps) -> b
 #[tactic(auto, using(crate::proofs::Words::viewed_length))]
 pub fn first_lacking(set: &FixedBitSet, other: &FixedBitSet, steps: &mut Steps) -> Option<usize>
     ensures first { result ≡ model.minimum (sets.difference other.now set.now) }
-    ensures cost { steps.new ≤ steps.old
+    ensures bound { steps.new ≤ steps.old
         + both_steps true false (model.storage_words other.now.length)
         (model.storage_words set.now.length) }
+    ensures cost { IfSome result (λ p. steps.new ≡ steps.old
+        + both_steps true false (p / 64 + 1) (model.storage_words set.now.length)) }
     ensures whole { IfNone result (steps.new ≡ steps.old
         + both_steps true false (model.storage_words other.now.length)
         (model.storage_words set.now.length)) }
@@ -308,11 +313,13 @@ pub fn is_equal(set: &FixedBitSet, other: &FixedBitSet, steps: &mut Steps) -> bo
     ensures whole { IsTrue result
         → steps.new ≡ steps.old + lane_steps (model.storage_words set.now.length) }
     ensures unlike { set.now.length ≢ other.now.length → steps.new ≡ steps.old }
+    ensures stops { result ≡ false → set.now.length ≡ other.now.length
+        → steps.old < steps.new }
 {
     equal(&set.words, set.length, &other.words, other.length, steps)
 }
 
-/// `cmp` of two sets, with the steps that it takes at most: none where the lengths differ.
+/// `cmp` of two sets, with a step for each lane where the lengths are alike, and none where they differ.
 ///
 /// std compares the words, and may stop before all that are counted.
 ///
@@ -327,6 +334,8 @@ pub fn cmp(set: &FixedBitSet, other: &FixedBitSet, steps: &mut Steps) -> Orderin
     ensures value { result ≡ compare set.now other.now }
     ensures cost { steps.new ≤ steps.old + lane_steps (model.storage_words set.now.length) }
     ensures whole { result ≡ Equal
+        → steps.new ≡ steps.old + lane_steps (model.storage_words set.now.length) }
+    ensures like { set.now.length ≡ other.now.length
         → steps.new ≡ steps.old + lane_steps (model.storage_words set.now.length) }
     ensures unlike { set.now.length ≢ other.now.length → steps.new ≡ steps.old }
 {

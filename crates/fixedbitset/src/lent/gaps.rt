@@ -1,8 +1,9 @@
 //! Stretches of clear positions, long enough for a caller.
 
-ghost use Rattle.std.specs.Prelude.{◌≡◌, ◌≤◌, ◌+◌, ◌-◌, ◌*◌, ◌/◌};
+ghost use Rattle.std.specs.Prelude.{◌≡◌, ◌≤◌, ◌+◌, ◌-◌, ◌*◌, ◌/◌, IfSome, IfNone};
 ghost use Rattle.std.specs.Prelude as prelude;
 ghost use Rattle.bitlanes.specs.Words.{lane_steps};
+ghost use Rattle.bitwords.specs.Steps.{range_words};
 ghost use Rattle.fixedbitset.specs.Bits.{of_words, storage_words};
 ghost use Rattle.fixedbitset.specs.Runs as stretches;
 ghost use Rattle.fixedbitset.specs.Stored.{IsClean};
@@ -40,6 +41,10 @@ pub(crate) fn first_gap_counted(
     ensures cost { steps.new ≤ steps.old + 1
         + 4 * prelude.length (stretches.zero_runs (of_words length words.now))
         + lane_steps (storage_words length - 1 - from / 64) }
+    ensures least { IfSome result
+        (λ p. steps.old + lane_steps (range_words from (p + count)) ≤ steps.new) }
+    ensures missed { IfNone result
+        (steps.old + lane_steps (range_words from (length + 1 - count)) ≤ steps.new) }
 {
     if count == 0 {
         return if from <= length { Some(from) } else { None };

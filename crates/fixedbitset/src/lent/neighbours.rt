@@ -2,7 +2,7 @@
 //!
 //! A step is one lane of four words, but for the first word that is looked at, which is a step by itself.
 
-ghost use Rattle.std.specs.Prelude.{◌≡◌, ◌+◌, ◌-◌, ◌/◌, ◌≤◌, min, IfSome};
+ghost use Rattle.std.specs.Prelude.{◌≡◌, ◌+◌, ◌-◌, ◌/◌, ◌<◌, ◌≤◌, min, IfSome, IfNone};
 ghost use Rattle.bitlanes.specs.Words.{lane_steps};
 ghost use Rattle.fixedbitset.specs.Bits.{of_words, storage_words};
 ghost use Rattle.fixedbitset.specs.Neighbours as neighbours;
@@ -93,6 +93,9 @@ pub(crate) fn next_one_counted(
         (λ p. steps.new ≡ steps.old + 1 + lane_steps (p / 64 - from / 64)) }
     ensures whole { steps.new ≤ steps.old + 1
         + lane_steps (storage_words length - 1 - from / 64) }
+    ensures missed { IfNone result (from < length
+        → steps.new ≡ steps.old + 1 + lane_steps (storage_words length - 1 - from / 64)) }
+    ensures empty { length ≤ from → steps.new ≡ steps.old }
 {
     positions::next::<And>(words, from, length, steps)
 }
@@ -111,6 +114,9 @@ pub(crate) fn next_zero_counted(
         (λ p. steps.new ≡ steps.old + 1 + lane_steps (p / 64 - from / 64)) }
     ensures whole { steps.new ≤ steps.old + 1
         + lane_steps (storage_words length - 1 - from / 64) }
+    ensures missed { IfNone result (from < length
+        → steps.old + 1 + lane_steps ((length - 1) / 64 - from / 64) ≤ steps.new) }
+    ensures empty { length ≤ from → steps.new ≡ steps.old }
 {
     positions::next::<AndNot>(words, from, length, steps)
 }
@@ -129,6 +135,9 @@ pub(crate) fn previous_one_counted(
     ensures cost { IfSome result
         (λ p. steps.new ≡ steps.old + 1 + lane_steps ((min below length - 1) / 64 - p / 64)) }
     ensures whole { steps.new ≤ steps.old + 1 + lane_steps ((min below length - 1) / 64) }
+    ensures missed { IfNone result (0 < min below length
+        → steps.new ≡ steps.old + 1 + lane_steps ((min below length - 1) / 64)) }
+    ensures empty { min below length ≡ 0 → steps.new ≡ steps.old }
 {
     positions::previous::<And>(words, below.min(length), steps)
 }
@@ -146,6 +155,9 @@ pub(crate) fn previous_zero_counted(
     ensures cost { IfSome result
         (λ p. steps.new ≡ steps.old + 1 + lane_steps ((min below length - 1) / 64 - p / 64)) }
     ensures whole { steps.new ≤ steps.old + 1 + lane_steps ((min below length - 1) / 64) }
+    ensures missed { IfNone result (0 < min below length
+        → steps.new ≡ steps.old + 1 + lane_steps ((min below length - 1) / 64)) }
+    ensures empty { min below length ≡ 0 → steps.new ≡ steps.old }
 {
     positions::previous::<AndNot>(words, below.min(length), steps)
 }

@@ -1,6 +1,6 @@
 //! Ranges of positions, from `start` up to and without `end`. But for `range_is_valid` the range has to be valid.
 
-ghost use Rattle.std.specs.Prelude.{◌≡◌, ◌≤◌, ◌+◌, ◌==◌, IsTrue, true, false};
+ghost use Rattle.std.specs.Prelude.{◌≡◌, ◌<◌, ◌≤◌, ◌+◌, ◌==◌, IsTrue, true, false};
 ghost use Rattle.bitwords.specs.Steps.{range_words, search_steps};
 ghost use Rattle.fixedbitset.specs.Bits.{of_words};
 ghost use Rattle.fixedbitset.specs.Ranges as ranges;
@@ -207,6 +207,7 @@ pub(crate) fn none<O: WordOp>(
     ensures none { result
         ≡ (count_joined O.truth (range_set start end) (of_words length words.now) == 0) }
     ensures cost { steps.new ≤ steps.old + search_steps start end }
+    ensures stops { result ≡ false → steps.old < steps.new }
     ensures whole { IsTrue result → steps.new ≡ steps.old + search_steps start end }
 {
     bitwords::ranges::none::<O>(words, start, end, steps)

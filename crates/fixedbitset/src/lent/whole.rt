@@ -1,6 +1,6 @@
 //! Two whole sets, of any two lengths.
 
-ghost use Rattle.std.specs.Prelude.{◌≡◌, ◌≢◌, ◌≤◌, ◌+◌, ◌==◌, IsTrue, IfNone, true, false};
+ghost use Rattle.std.specs.Prelude.{◌≡◌, ◌≢◌, ◌<◌, ◌≤◌, ◌+◌, ◌/◌, ◌==◌, IsTrue, IfSome, IfNone, true, false};
 ghost use Rattle.std.specs.declared.cmp.Ordering.TheVariants.{Equal};
 ghost use Rattle.bitlanes.specs.Words.{lane_steps};
 ghost use Rattle.bitwords.specs.Steps.{join_steps, both_steps};
@@ -312,8 +312,10 @@ pub(crate) fn lacking(
     requires lent_other { IsClean other_length other.now }
     ensures first { result ≡ model.minimum
         (sets.difference (of_words other_length other.now) (of_words length words.now)) }
-    ensures cost { steps.new ≤ steps.old + both_steps true false
+    ensures bound { steps.new ≤ steps.old + both_steps true false
         (model.storage_words other_length) (model.storage_words length) }
+    ensures cost { IfSome result (λ p. steps.new ≡ steps.old
+        + both_steps true false (p / 64 + 1) (model.storage_words length)) }
     ensures whole { IfNone result (steps.new ≡ steps.old + both_steps true false
         (model.storage_words other_length) (model.storage_words length)) }
 {
@@ -337,11 +339,12 @@ pub(crate) fn equal(
     ensures whole { IsTrue result
         → steps.new ≡ steps.old + lane_steps (model.storage_words length) }
     ensures unlike { length ≢ other_length → steps.new ≡ steps.old }
+    ensures stops { result ≡ false → length ≡ other_length → steps.old < steps.new }
 {
     length == other_length && none::<Xor>(words, length, other, other_length, steps)
 }
 
-// `compare`, with the steps that it takes at most: std compares the words, and stops at the first that differ.
+// `compare`, with a step for each lane: std compares the words, and stops at the first that differ.
 #[inline(always)]
 #[tactic(auto, using(crate::proofs::Words::of_length), unfolding(crate::specs::Order::compare, crate::specs::Order::key))]
 pub(crate) fn ordering(
@@ -357,6 +360,8 @@ pub(crate) fn ordering(
         ≡ order.compare (of_words length words.now) (of_words other_length other.now) }
     ensures cost { steps.new ≤ steps.old + lane_steps (model.storage_words length) }
     ensures whole { result ≡ Equal
+        → steps.new ≡ steps.old + lane_steps (model.storage_words length) }
+    ensures like { length ≡ other_length
         → steps.new ≡ steps.old + lane_steps (model.storage_words length) }
     ensures unlike { length ≢ other_length → steps.new ≡ steps.old }
 {
@@ -454,6 +459,7 @@ pub(crate) fn none<O: WordOp>(
     ensures whole { IsTrue result → steps.new ≡ steps.old
         + both_steps O.KEEP O.TAKE (model.storage_words length)
         (model.storage_words other_length) }
+    ensures stops { result ≡ false → steps.old < steps.new }
 {
     joins::none::<O>(words, other, steps)
 }

@@ -218,6 +218,28 @@ fn exactly_one(rt: HostRuntime) -> Result<(), Fail> {
     Ok(())
 }
 
+const FEW: [usize; 7] = [2, 7, 8, 11, 23, 31, 32];
+
+const OTHERS: [usize; 13] = [2, 3, 7, 19, 31, 32, 37, 41, 43, 47, 71, 73, 101];
+
+const IN_ONE: [usize; 12] = [3, 8, 11, 19, 23, 37, 41, 43, 47, 71, 73, 101];
+
+const IN_TURN: [usize; 12] = [8, 11, 23, 3, 19, 37, 41, 43, 47, 71, 73, 101];
+
+// Two sets made of their positions: the walk, which has those of the first set first, the new set and the join in place.
+#[test]
+fn exactly_one_of_listed_positions(rt: HostRuntime) -> Result<(), Fail> {
+    let mut set = FixedBitSet::from_iter(rt.alloc(), FEW).expect(&rt, "memory for a word");
+    let other = FixedBitSet::from_iter(rt.alloc(), OTHERS).expect(&rt, "memory for two words");
+    assert!(rt; set.len() == 33 && other.len() == 102);
+    assert!(rt; set.symmetric_difference(&other).eq(IN_TURN));
+    assert!(rt; set.bitxor(&other)?.ones().eq(IN_ONE));
+    set.symmetric_difference_with(&other)?;
+    assert_eq!(rt; set.len(), 102);
+    assert!(rt; set.ones().eq(IN_ONE));
+    Ok(())
+}
+
 // Sets of so many words that a new one is written as it is joined, and that a count goes by carries.
 const MANY: Spanned = Spanned {
     length: 200_000,
@@ -255,6 +277,54 @@ fn long_new_sets(rt: HostRuntime) -> Result<(), Fail> {
         };
         assert_made(&rt, rt.alloc(), &[row])?;
     }
+    Ok(())
+}
+
+// A length of large sets: where memory is there, no join refuses a number of its own choice.
+const FAR: usize = 20_000_000;
+
+#[test]
+fn large_joins(rt: HostRuntime) -> Result<(), Fail> {
+    let near = Spanned::new(70, &[(3, 4), (69, 70)]);
+    let far = Spanned::new(FAR, &[(3, 4), (FAR - 1, FAR)]);
+    let either = Spanned::new(FAR, &[(3, 4), (69, 70), (FAR - 1, FAR)]);
+    let one = Spanned::new(FAR, &[(69, 70), (FAR - 1, FAR)]);
+    for (call, made) in [
+        (Joining::UnionWith, either),
+        (Joining::BitorAssign, either),
+        (Joining::Bitor, either),
+        (Joining::SymmetricDifferenceWith, one),
+        (Joining::BitxorAssign, one),
+        (Joining::Bitxor, one),
+    ] {
+        let row = Made {
+            first: near,
+            call,
+            second: far,
+            made,
+        };
+        assert_made(&rt, rt.alloc(), &[row])?;
+    }
+    let alike = Made {
+        first: far,
+        call: Joining::Bitand,
+        second: far,
+        made: far,
+    };
+    assert_made(&rt, rt.alloc(), &[alike])?;
+    Ok(())
+}
+
+#[test]
+fn large_joins_tell_a_change(rt: HostRuntime) -> Result<(), Fail> {
+    let none = FixedBitSet::new(rt.alloc());
+    let mut far = FixedBitSet::with_capacity(rt.alloc(), FAR)?;
+    assert!(rt; far.len() == FAR);
+    far.insert(FAR - 1);
+    let mut set = none.clone()?;
+    assert!(rt; set.union_with_change(&far)? && set == far);
+    let mut left = none.clone()?;
+    assert!(rt; left.union_with_difference(&far, &none)? && left == far);
     Ok(())
 }
 

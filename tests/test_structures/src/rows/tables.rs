@@ -96,3 +96,15 @@ fn no_rows_and_too_many(rt: HostRuntime) -> Result<(), Fail> {
     assert!(rt; BitRows::new(rt.alloc(), usize::MAX, 65).is_err());
     Ok(())
 }
+
+// Where memory is there, a new table refuses no number of its own choice.
+#[test]
+fn of_more_than_a_million_rows(rt: HostRuntime) -> Result<(), Fail> {
+    let (rows, columns) = (1_000_001, 300);
+    let mut table = BitRows::new(rt.alloc(), rows, columns)?;
+    assert!(rt; table.rows() == rows && table.columns() == columns);
+    table.set(rows - 1, columns - 1, true);
+    assert!(rt; table.get(rows - 1, columns - 1) && !table.get(rows - 2, columns - 1));
+    assert!(rt; table.row(rows - 1).eq([columns - 1]));
+    Ok(())
+}

@@ -1,4 +1,4 @@
-//! A problem of many nodes: where memory is there, the solver refuses no number of its own choice.
+//! Problems of many nodes: where memory is there, the solver refuses no number of its own choice.
 
 use fixedbitset::{FixedBitSet, Steps};
 use flow::{is_problem, solve};
@@ -28,5 +28,17 @@ fn a_chain_of_many_nodes(rt: HostRuntime) -> Result<(), Fail> {
     for set in &answer.outs {
         assert_eq!(rt; set.minimum(), Some(FACTS - 1));
     }
+    Ok(())
+}
+
+// Sets of no facts take no memory, so that the test takes few seconds.
+#[test]
+fn more_than_a_million_nodes(rt: HostRuntime) -> Result<(), Fail> {
+    let alloc = rt.alloc();
+    let none = vec![in alloc; FixedBitSet::new(alloc); 1_000_001]?;
+    let edges = [(0, 1_000_000)];
+    assert!(rt; is_problem(0, &edges, &none, &none));
+    let answer = solve(alloc, 0, &edges, &none, &none, &mut Steps::new())?;
+    assert!(rt; answer.ins.len() == 1_000_001 && answer.outs.len() == 1_000_001);
     Ok(())
 }

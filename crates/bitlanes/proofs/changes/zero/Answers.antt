@@ -11,8 +11,8 @@ loop-at-preserved c =
     let at = c.loop-at.at in
     let before = c.loop-at.invariant in
     record {
-      words = rw c.clear_lane.ensures.words (zeros_lane at c.loop-at.dst (omega arith) before.words);
-      rest = rw c.clear_lane.ensures.words (rest_written at c.args.dst.now c.loop-at.dst (replicate 4 0) refl before.rest);
+      words = zeros_lane at c.loop-at.dst (omega arith) before.words;
+      rest = rest_written at c.args.dst.now c.loop-at.dst (replicate 4 0) refl before.rest;
       changed = cc (all_lane (λ (word : ℕ). word == 0) at c.args.dst.now);
       within = omega (arith, c.loop-at-test.true);
       cost = omega (arith, c.tick.ensures, before.cost);

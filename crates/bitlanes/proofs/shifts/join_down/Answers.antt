@@ -1,4 +1,4 @@
-use Rattle.std.proofs.Common.{rules, ◌≡◌, ℕ, ◌+◌, ◌*◌, ◌/◌, ◌<◌, ◌∙◌, List, drop, arith, get_or, refl}
+use Rattle.std.proofs.Common.{rules, ◌≡◌, ℕ, ◌+◌, ◌*◌, ◌/◌, ◌<◌, ◌∙◌, drop, arith, get_or, refl}
 use Rattle.std.proofs.lemmas.List.{get_or-take, get_or_append_left, length-take-le}
 use Rattle.bitlanes.specs.Shifts.{window}
 use Rattle.bitlanes.proofs.Moved.{joined_behind, lane_joined, word_joined, window_dropped, up_to_end}
@@ -7,15 +7,10 @@ use Rattle.bitlanes.proofs.shifts.join_down.Goals as goal
 pub loop-done-preserved : goal.loop-done-preserved
 loop-done-preserved g c =
     let done = c.loop-done.done in
-    let m = c.min-words.result in
-    let src = c.args.src.now in
-    let start : c.min-first.result ≡ c.args.from / 64 = omega arith in
-    let row : List ℕ = drop (c.args.from / 64) src in
-    let long = length-take-le m c.args.dst.now (omega arith) in
-    let moved : ℕ → ℕ = λ k. window src (c.args.from + 64 * k) in
-    let lane : (k : ℕ) → k < 4 → get_or c.window_lane.result k 0 ≡ moved (done + k) = λ k h.
-    rw (start, up_to_end (c.args.from / 64) src) at (c.window_lane.ensures.words k h)
-    ∙ rw (get_or-take m row (done + k) 0 (omega arith), get_or-take m row (done + k + 1) 0 (omega arith)) (window_dropped src c.args.from (done + k)) in
+    let moved : ℕ → ℕ = λ k. window c.args.src.now (c.args.from + 64 * k) in
+    let long = length-take-le c.min-words.result c.args.dst.now (omega arith) in
+    let cut = up_to_end (c.args.from / 64) c.args.src.now in
+    let lane : (k : ℕ) → k < 4 → get_or c.window_lane.result k 0 ≡ moved (done + k) = λ k h. rw cut at (c.window_lane.ensures.words k h) ∙ window_dropped c.args.src.now c.args.from (done + k) in
     record {
       are = joined_behind (omega arith) (omega arith) c.loop-done.invariant.are (lane_joined done _ c.window_lane.result _ c.window_lane.ensures.long (omega arith) (omega (arith, long)) lane c.join_lane.ensures);
       within = omega arith;
@@ -27,10 +22,9 @@ loop-at-init g c = record { are = c.loop-done.invariant.are; cost = omega (arith
 
 pub loop-at-preserved : goal.loop-at-preserved
 loop-at-preserved g c =
-    let src = c.args.src.now in
-    let start : c.min-first.result ≡ c.args.from / 64 = omega arith in
     let long = length-take-le c.min-words.result c.args.dst.now (omega arith) in
-    let word = rw (start, up_to_end (c.args.from / 64) src) at c.window_word.ensures ∙ window_dropped src c.args.from c.loop-at.at in
+    let cut = up_to_end (c.args.from / 64) c.args.src.now in
+    let word = rw cut at c.window_word.ensures ∙ window_dropped c.args.src.now c.args.from c.loop-at.at in
     record {
       are = joined_behind (omega arith) (omega arith) c.loop-at.invariant.are (word_joined c.loop-at.at _ c.word.result c.window_word.result (omega arith) (omega (arith, long)) word c.word.ensures);
       cost = search rules;

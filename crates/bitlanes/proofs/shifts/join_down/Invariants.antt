@@ -1,4 +1,4 @@
-use Rattle.std.proofs.Common.{◌≡◌, ◌+◌, ◌-◌, ◌*◌, ◌≤◌, take}
+use Rattle.std.proofs.Common.{◌≡◌, ◌+◌, ◌-◌, ◌*◌, ◌<◌, take}
 use Rattle.bitlanes.specs.Shifts.{window}
 use Rattle.bitlanes.specs.Words.{lane_steps}
 use Rattle.bitlanes.proofs.Moved.{AreJoined}
@@ -7,7 +7,7 @@ use Rattle.bitlanes.proofs.shifts.join_down.Given as goal
 abbrev pub invariant-loop-done : goal.invariant-loop-done
 invariant-loop-done g l = record {
   are : AreJoined g.O.WordOp.joined (λ k. window l.fn.src (l.fn.from + 64 * k)) (take l.words l.fn.dst) 0 l.done l.dst;
-  within : l.done ≤ l.words;
+  within : l.done < l.words;
   cost : 4 * l.steps ≡ 4 * l.fn.steps + l.done;
 }
 

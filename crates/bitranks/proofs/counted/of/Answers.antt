@@ -23,3 +23,6 @@ invariant_of-result c =
 
 pub returns-clause-cost : goal.returns-clause-cost
 returns-clause-cost c = omega (arith, c.fill.ensures.cost, ap length c.as_slice-words.ensures, length-words c.args.set.now)
+
+pub returns-clause-bound : goal.returns-clause-bound
+returns-clause-bound c = omega (arith, c.fill.ensures.bound, ap length c.as_slice-words.ensures, length-words c.args.set.now)

@@ -1,8 +1,10 @@
-use Rattle.std.proofs.Common.{◌-◌, ℕ, slice_index, arith, rules}
+use Rattle.std.proofs.Common.{◌≡◌, ◌+◌, ◌-◌, ℕ, length, slice_index, arith, rules}
+use Rattle.std.proofs.lemmas.Bool.{eqb-true}
+use Rattle.bitranks.specs.Ranks.{last_words}
 use Rattle.bitwords.specs.Rows.{has_bit}
 use Rattle.bitwords.specs.CountFacts.{count-zero}
-use Rattle.bitranks.proofs.Counting.{not_zero}
-use Rattle.bitranks.proofs.Counting.{selected}
+use Rattle.bitranks.proofs.Counting.{not_zero, selected, last_entry}
+use Rattle.bitranks.proofs.Halving.{found_steps, unfound_steps, none_halved}
 use Rattle.bitranks.proofs.directory.select.Goals as goal
 
 pub last_within-entry-requires-clause-first : goal.last_within-entry-requires-clause-first
@@ -13,3 +15,25 @@ returns-clause-value c =
     let entry : ℕ = c.last_within-entry.result in
     selected c.args.words.now c.args.directory.now c.requires.directory c.args.index entry _ (c.args.index - slice_index c.args.directory.now entry)
     c.last_within-entry.ensures.within c.last_within-entry.ensures.low c.last_within-entry.ensures.high (search rules) (omega arith) c.select_in.result c.select_in.ensures.found c.select_in.ensures.below c.select_in.ensures.none
+
+pub returns-then-is_empty-clause-whole : goal.returns-then-is_empty-clause-whole
+returns-then-is_empty-clause-whole c =
+    let none : length c.args.directory.now ≡ 0 = eqb-true _ _ (search rules) in
+    let same : c.args.steps.now + last_words (length c.args.words.now) ≡ c.args.steps.now = omega (arith, none, c.requires.directory.long) in
+    rw same (none_halved _ _ none)
+
+pub returns-clause-cost : goal.returns-clause-cost
+returns-clause-cost c =
+    found_steps _ _ _ _ c.last_within-entry.result c.min-end.result c.select_in.result c.last_within-entry.ensures.cost (omega (arith, c.min-end.ensures)) c.select_in.ensures.from
+    c.select_in.ensures.below c.select_in.ensures.cost
+
+pub returns-clause-whole : goal.returns-clause-whole
+returns-clause-whole c =
+    let entry : ℕ = c.last_within-entry.result in
+    unfound_steps _ _ _ _ _ entry c.min-end.result c.select_in.result c.last_within-entry.ensures.cost c.requires.directory.long
+    (last_entry c.args.words.now c.args.directory.now c.requires.directory c.args.index entry _ (c.args.index - slice_index c.args.directory.now entry)
+    c.last_within-entry.ensures.within c.last_within-entry.ensures.low c.last_within-entry.ensures.high (search rules) (omega arith))
+    (search rules) c.select_in.ensures.none c.select_in.ensures.whole
+
+pub returns-clause-bound : goal.returns-clause-bound
+returns-clause-bound c n long = omega (arith, c.last_within-entry.ensures.cost.most n long, c.select_in.ensures.bound)

@@ -1,5 +1,9 @@
-use Rattle.std.proofs.Common.{arith}
+use Rattle.std.proofs.Common.{◌∙◌, arith}
+use Rattle.bits_c.proofs.Between.{words_left}
 use Rattle.bits_c.proofs.walks.bits_ones.Goals as goal
 
-pub returns : goal.returns
-returns c = grind arith
+pub returns-clause-left : goal.returns-clause-left
+returns-clause-left c = grind arith
+
+pub returns-clause-words : goal.returns-clause-words
+returns-clause-words c = words_left _ _ _ (c.of.ensures.words ∙ c.ones.ensures.words)

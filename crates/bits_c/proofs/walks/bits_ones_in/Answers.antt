@@ -1,4 +1,7 @@
-use Rattle.std.proofs.Common.{arith}
+use Rattle.std.proofs.Common.{◌≤◌, ◌∙◌, arith}
+use Rattle.std.proofs.lemmas.Bool.Decides.{nat_tests}
+use Rattle.fixedbitset.specs.WordsFacts.{length-of_words}
+use Rattle.bits_c.proofs.Between.{range_left}
 use Rattle.bits_c.proofs.walks.bits_ones_in.Goals as goal
 
 pub ones_in-requires-clause-valid : goal.ones_in-requires-clause-valid
@@ -6,3 +9,8 @@ ones_in-requires-clause-valid c = grind arith
 
 pub returns-then-bits_range_is_valid-clause-left : goal.returns-then-bits_range_is_valid-clause-left
 returns-then-bits_range_is_valid-clause-left c = grind arith
+
+pub returns-then-bits_range_is_valid-clause-words : goal.returns-then-bits_range_is_valid-clause-words
+returns-then-bits_range_is_valid-clause-words c =
+    let within : c.args.end ≤ c.args.set.now.length = grind (arith, nat_tests, length-of_words c.args.set.now.length c.args.set.now.words.now) in
+    range_left _ _ _ _ _ within (c.of.ensures.words ∙ c.ones_in.ensures.words)

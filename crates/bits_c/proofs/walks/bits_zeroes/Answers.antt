@@ -1,5 +1,9 @@
-use Rattle.std.proofs.Common.{arith}
+use Rattle.std.proofs.Common.{◌∙◌, arith}
+use Rattle.bits_c.proofs.Between.{inverted_left}
 use Rattle.bits_c.proofs.walks.bits_zeroes.Goals as goal
 
-pub returns : goal.returns
-returns c = grind arith
+pub returns-clause-left : goal.returns-clause-left
+returns-clause-left c = grind arith
+
+pub returns-clause-words : goal.returns-clause-words
+returns-clause-words c = c.of.ensures.words ∙ inverted_left _ _ _ c.zeroes.ensures.words

@@ -1,4 +1,4 @@
-use Rattle.std.proofs.Common.{arith}
+use Rattle.std.proofs.Common.{sym, ◌∙◌, true≢false, arith}
 use Rattle.bitwords.proofs.positions.next.Goals as goal
 
 pub returns-in_err-position-clause-none : goal.returns-in_err-position-clause-none
@@ -15,3 +15,23 @@ returns-then-position-end-clause-cost g c = c.in_ok-position.ensures.cost
 
 pub returns-else-position-end-clause-none : goal.returns-else-position-end-clause-none
 returns-else-position-end-clause-none g c = λ i after below. c.in_ok-position.ensures.found.none i after (omega arith)
+
+pub returns-in_err-position-clause-missed : goal.returns-in_err-position-clause-missed
+returns-in_err-position-clause-missed g c =
+    rw c.from_residual.ensures (λ some. omega (arith, c.in_err-position.ensures.missed))
+
+pub returns-in_err-position-clause-row : goal.returns-in_err-position-clause-row
+returns-in_err-position-clause-row g c = λ some none. c.in_err-position.ensures.missed
+
+pub returns-then-position-end-clause-row : goal.returns-then-position-end-clause-row
+returns-then-position-end-clause-row g c =
+    let found = c.in_ok-position.ensures.found in
+    λ some none. absurd (true≢false (sym found.passes ∙ none _ found.after found.below))
+
+pub returns-else-position-end-clause-row : goal.returns-else-position-end-clause-row
+returns-else-position-end-clause-row g c =
+    let found = c.in_ok-position.ensures.found in
+    λ some none. absurd (true≢false (sym found.passes ∙ none _ found.after found.below))
+
+pub returns-else-position-end-clause-missed : goal.returns-else-position-end-clause-missed
+returns-else-position-end-clause-missed g c = λ some. omega (arith, c.in_ok-position.ensures.cost)

@@ -33,7 +33,7 @@ pub fn apply<O: WordOp>(dst: &mut [Block], src: &[Block], steps: &mut Steps) {
     let words = dst.len().min(src.len());
     let (dst, src) = (&mut dst[..words], &src[..words]);
     let mut at = 0;
-    while at + LANE <= words {
+    while words - at >= LANE {
         steps.tick();
         join_lane::<O>(dst, src, at);
         at += LANE;
@@ -67,7 +67,7 @@ pub fn count<O: WordOp>(a: &[Block], b: &[Block], steps: &mut Steps) -> usize {
 /// Whether no bit is set in the words of `a` joined with those of `b` by `O`, as far as both go.
 ///
 /// It stops at the first lane with a bit, so it takes at most `m / 4` steps, rounded up, `m` being the number of words
-/// of the shorter slice; where it answers `true` it takes exactly as many.
+/// of the shorter slice; where it answers `true` it takes exactly as many, and where it answers `false` at least one.
 ///
 /// ```text
 /// assert!(lanes::none::<And>(&[1, 2], &[2, 1, 255], &mut Steps::new()));
@@ -78,7 +78,7 @@ pub fn none<O: WordOp>(a: &[Block], b: &[Block], steps: &mut Steps) -> bool {
     let common = a.len().min(b.len());
     let (a, b) = (&a[..common], &b[..common]);
     let mut at = 0;
-    while at + LANE <= common {
+    while common - at >= LANE {
         steps.tick();
         if !is_zero(lane_at::<O>(a, b, at)) {
             return false;
@@ -129,7 +129,7 @@ pub fn count_one(a: &[Block], steps: &mut Steps) -> usize {
 /// Whether no bit is set in the words.
 ///
 /// It stops at the first lane with a bit, so it takes at most `m / 4` steps, rounded up, `m` being the number of words;
-/// where it answers `true` it takes exactly as many.
+/// where it answers `true` it takes exactly as many, and where it answers `false` at least one.
 ///
 /// ```text
 /// assert!(lanes::none_one(&[0; 9], &mut Steps::new()));
@@ -139,9 +139,9 @@ pub fn count_one(a: &[Block], steps: &mut Steps) -> usize {
 pub fn none_one(a: &[Block], steps: &mut Steps) -> bool {
     let words = a.len();
     let mut at = 0;
-    while at + LANE <= words {
+    while words - at >= LANE {
         steps.tick();
-        if !is_zero(u64x4::from_slice(&a[at..at + LANE])) {
+        if !is_zero(u64x4::from_slice(&a[at..])) {
             return false;
         }
         at += LANE;
@@ -157,7 +157,7 @@ pub fn none_one(a: &[Block], steps: &mut Steps) -> bool {
 /// Whether no bit is set in the word `mask` joined with each word of `words` by `O`.
 ///
 /// It stops at the first lane with a bit, so it takes at most `m / 4` steps, rounded up, `m` being the number of words;
-/// where it answers `true` it takes exactly as many.
+/// where it answers `true` it takes exactly as many, and where it answers `false` at least one.
 ///
 /// ```text
 /// assert!(lanes::none_masked::<And>(4, &[3, 8, 1], &mut Steps::new()));
@@ -167,7 +167,7 @@ pub fn none_one(a: &[Block], steps: &mut Steps) -> bool {
 pub fn none_masked<O: WordOp>(mask: Block, words: &[Block], steps: &mut Steps) -> bool {
     let count = words.len();
     let mut at = 0;
-    while at + LANE <= count {
+    while count - at >= LANE {
         steps.tick();
         if !is_zero(masked_lane_at::<O>(mask, words, at)) {
             return false;
@@ -185,20 +185,14 @@ pub fn none_masked<O: WordOp>(mask: Block, words: &[Block], steps: &mut Steps) -
 // Joins the four words of `dst` from `at` on with those of `src`.
 #[inline(always)]
 fn join_lane<O: WordOp>(dst: &mut [Block], src: &[Block], at: usize) {
-    let lane = O::lane(
-        u64x4::from_slice(&dst[at..at + LANE]),
-        u64x4::from_slice(&src[at..at + LANE]),
-    );
-    lane.copy_to_slice(&mut dst[at..at + LANE]);
+    let lane = O::lane(u64x4::from_slice(&dst[at..]), u64x4::from_slice(&src[at..]));
+    lane.copy_to_slice(&mut dst[at..]);
 }
 
 // The four joined words from `at` on.
 #[inline(always)]
 pub(crate) fn lane_at<O: WordOp>(a: &[Block], b: &[Block], at: usize) -> u64x4 {
-    O::lane(
-        u64x4::from_slice(&a[at..at + LANE]),
-        u64x4::from_slice(&b[at..at + LANE]),
-    )
+    O::lane(u64x4::from_slice(&a[at..]), u64x4::from_slice(&b[at..]))
 }
 
 // The mask joined with each of the four words from `at` on.
@@ -263,22 +257,20 @@ pub(crate) fn is_zero(lane: u64x4) -> bool {
 // would be a call of `memcpy`.
 #[inline(always)]
 pub(crate) fn part_at(words: &[Block], at: usize, rest: usize) -> u64x4 {
-    let words = &words[at..at + rest];
-    let second = if rest > 1 { words[1] } else { 0 };
-    let third = if rest > 2 { words[2] } else { 0 };
-    u64x4::from_array([words[0], second, third, 0])
+    let second = if rest > 1 { words[at + 1] } else { 0 };
+    let third = if rest > 2 { words[at + 2] } else { 0 };
+    u64x4::from_array([words[at], second, third, 0])
 }
 
 // Writes the first one to three words of the lane, from `at` on, by tests as `part_at` reads them.
 #[inline(always)]
 pub(crate) fn put_part(words: &mut [Block], at: usize, rest: usize, lane: u64x4) {
-    let words = &mut words[at..at + rest];
     let [first, second, third, _] = lane.to_array();
-    words[0] = first;
+    words[at] = first;
     if rest > 1 {
-        words[1] = second;
+        words[at + 1] = second;
         if rest > 2 {
-            words[2] = third;
+            words[at + 2] = third;
         }
     }
 }

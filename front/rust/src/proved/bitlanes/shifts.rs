@@ -22,15 +22,17 @@ use crate::shim::simd::prelude::*;
 /// ```
 #[inline(always)]
 pub fn join_down<O: WordOp>(dst: &mut [Block], src: &[Block], from: usize, steps: &mut Steps) {
-    let first = (from / BITS).min(src.len());
+    let first = from / BITS;
     let shift = from % BITS;
-    let words = dst.len().min(src.len() - first);
+    let words = dst.len().min(src.len().saturating_sub(first));
+    if words == 0 {
+        return;
+    }
     let (dst, src) = (&mut dst[..words], &src[first..]);
-    let whole = &src[..words];
     let mut done = 0;
-    while done + LANE < words {
+    while words - done > LANE {
         steps.tick();
-        join_lane::<O>(dst, done, window_lane(whole, done, shift));
+        join_lane::<O>(dst, done, window_lane(src, done, shift));
         done += LANE;
     }
     for at in done..words {
@@ -129,8 +131,8 @@ pub fn word_from(words: &[Block], from: usize) -> Block {
 fn window_lane(words: &[Block], at: usize, shift: usize) -> u64x4 {
     straddle_lane(
         shift,
-        u64x4::from_slice(&words[at..at + LANE]),
-        u64x4::from_slice(&words[at + 1..at + 1 + LANE]),
+        u64x4::from_slice(&words[at..at + 4]),
+        u64x4::from_slice(&words[at + 1..at + 5]),
     )
 }
 
@@ -162,5 +164,5 @@ fn straddle_word(shift: usize, low: Block, high: Block) -> Block {
 // Joins the four words of `dst` from `at` on with a lane.
 #[inline(always)]
 fn join_lane<O: WordOp>(dst: &mut [Block], at: usize, lane: u64x4) {
-    O::lane(u64x4::from_slice(&dst[at..at + LANE]), lane).copy_to_slice(&mut dst[at..at + LANE]);
+    O::lane(u64x4::from_slice(&dst[at..]), lane).copy_to_slice(&mut dst[at..]);
 }

@@ -29,7 +29,7 @@ pub fn entries(words_count: usize) -> usize {
 
 /// Writes the directory of the words over what was in it. It has to have as many entries as `entries` says.
 ///
-/// It takes one step for a word, and none for those of the last entry. The number of positions of the row, 64 for each
+/// It takes exactly one step for a word, and none for those of the last entry. The number of positions of the row, 64 for each
 /// word, may be at most 2 ^ 64.
 ///
 /// ```text
@@ -51,7 +51,8 @@ pub fn fill(words: &[Block], directory: &mut [usize], steps: &mut Steps) {
 
 /// How many positions below this one are set. The position may be any number: past the end of the words all are below it.
 ///
-/// It looks at one entry of the directory, and takes one step for each word that it looks at, eight at most.
+/// It looks at one entry of the directory, and takes one step for each word that it looks at: those of the entry up to the
+/// word of the position, or up to the last word.
 ///
 /// ```text
 /// let (words, mut counts) = ([9, 2], [0]);
@@ -80,9 +81,10 @@ pub fn rank(words: &[Block], directory: &[usize], position: usize, steps: &mut S
 /// The position that is set and has exactly `index` positions that are set below it: the first has index 0. `None` where
 /// no more than `index` positions are set.
 ///
-/// It halves the directory until one entry is left, and looks then at eight words at most. With a directory of at most
-/// `2 ^ n` entries these are `n + 8` steps at most. The last word is searched by halves, six times. The number of
-/// positions of the row, 64 for each word, may be at most 2 ^ 64.
+/// It halves the directory until one entry is left, and looks then at the words of that entry up to the one that has the
+/// position, or where there is none at all words of the last entry. With a directory of at most `2 ^ n` entries these are
+/// `n + 8` steps at most. The last word is searched by halves, six times, which is not counted. The number of positions
+/// of the row, 64 for each word, may be at most 2 ^ 64.
 ///
 /// ```text
 /// let (words, mut counts) = ([9, 2], [0]);

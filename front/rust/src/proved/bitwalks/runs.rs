@@ -138,8 +138,8 @@ fn previous_like(words: &[Block], are_set: bool, below: usize, steps: &mut Steps
 impl<'a> Iterator for Runs<'a> {
     type Item = (usize, usize);
 
-    /// The first stretch left, or `None` where none is, and then for good. It takes at most four steps, and one for each
-    /// four words that it goes over.
+    /// The first stretch left, or `None` where none is, and then for good. It takes one step for each four words that it goes
+    /// over, one to four more where it gives a stretch, and none to four more where it gives none.
     #[inline]
     fn next(&mut self) -> Option<(usize, usize)> {
         if self.low == self.high {
@@ -157,8 +157,8 @@ impl<'a> Iterator for Runs<'a> {
 }
 
 impl<'a> DoubleEndedIterator for Runs<'a> {
-    /// The last stretch left, or `None` where none is, and then for good. It takes at most four steps, and one for each
-    /// four words that it goes over.
+    /// The last stretch left, or `None` where none is, and then for good. It takes one step for each four words that it goes
+    /// over, one to four more where it gives a stretch, and none to four more where it gives none.
     #[inline]
     fn next_back(&mut self) -> Option<(usize, usize)> {
         if self.low == self.high {

@@ -115,7 +115,7 @@ pub fn count<O: WordOp>(a: &[Block], b: &[Block], steps: &mut Steps) -> usize {
 /// Whether `count` is 0, whether or not it fits `usize`.
 ///
 /// It stops at the first lane that decides, so it takes at most the steps of `count`; where it answers `true` it takes
-/// exactly as many.
+/// exactly as many, and where it answers `false` at least one.
 ///
 /// ```text
 /// assert!(joins::none::<AndNot>(&[2], &[3, 1], &mut Steps::new()));
@@ -128,9 +128,9 @@ pub fn none<O: WordOp>(a: &[Block], b: &[Block], steps: &mut Steps) -> bool {
 
 /// The first position of `a` that `b` lacks, or `None` where it has each of them.
 ///
-/// It looks at four words of each row at a time up to those that have the position. It takes at most the steps of
-/// [`count`] by `AndNot`; where it answers `None` it takes exactly as many. The number of positions of `a`, 64 for each
-/// word, may be at most 2 ^ 64.
+/// It looks at four words of each row at a time up to those that have the position. It takes exactly the steps of
+/// [`count`] by `AndNot` over the words of `a` up to the one that has it, or over all of `a` where it answers `None`. The
+/// number of positions of `a`, 64 for each word, may be at most 2 ^ 64.
 ///
 /// ```text
 /// assert_eq!(joins::first_of_difference(&[7, 6], &[7, 2, 1], &mut Steps::new()), Some(66));

@@ -57,7 +57,8 @@ pub fn last(words: &[Block], steps: &mut Steps) -> Option<usize> {
 /// `O`: with `And` a position of the row, with `AndNot` one that the row lacks. `None` where there is none.
 ///
 /// It takes one step for the word of `from`, and one for each lane of four words behind it up to the one that has the
-/// position. The end may not be past the words.
+/// position. Where there is none it takes these up to the word of `end` at least, and up to the end of the words at most.
+/// No step is taken where `from` is not below `end`. The end may not be past the words.
 ///
 /// ```text
 /// let mut steps = Steps::new();
@@ -79,7 +80,8 @@ pub fn next<O: WordOp>(words: &[Block], from: usize, end: usize, steps: &mut Ste
 /// position of the row, with `AndNot` one that the row lacks. `None` where there is none.
 ///
 /// It takes one step for the word of the position before `below`, and one for each lane of four words before it down to
-/// the one that has the position. `below` may not be past the end of the words.
+/// the one that has the position, or down to the first word where there is none. No step is taken where `below` is 0. It
+/// may not be past the end of the words.
 ///
 /// ```text
 /// let mut steps = Steps::new();

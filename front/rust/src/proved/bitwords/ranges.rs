@@ -49,7 +49,7 @@ pub fn count<O: WordOp>(words: &[Block], start: usize, end: usize, steps: &mut S
 ///
 /// It stops at the first lane or word that decides, so it takes at most `search_steps`: one step for each lane of four of
 /// the words that are wholly in the range, the last of which may have fewer, and one for each other word that holds a
-/// position of it. Where it answers `true` it takes exactly as many.
+/// position of it. Where it answers `true` it takes exactly as many, and where it answers `false` at least one.
 ///
 /// ```text
 /// assert!(ranges::none::<And>(&[0, 8], 0, 67, &mut Steps::new()));

@@ -232,7 +232,7 @@ pub(crate) fn equal(
     length == other_length && none::<Xor>(words, length, other, other_length, steps)
 }
 
-// `compare`, with the steps that it takes at most: std compares the words, and stops at the first that differ.
+// `compare`, with a step for each lane: std compares the words, and stops at the first that differ.
 #[inline(always)]
 pub(crate) fn ordering(
     words: &[Block],

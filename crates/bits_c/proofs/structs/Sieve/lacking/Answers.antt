@@ -1,0 +1,6 @@
+use Rattle.std.proofs.Common.{◌∙◌}
+use Rattle.bits_c.proofs.Between.{difference_left}
+use Rattle.bits_c.proofs.structs.Sieve.lacking.Goals as goal
+
+pub returns-clause-words : goal.returns-clause-words
+returns-clause-words c = c.of.ensures.words ∙ difference_left _ _ _ _ c.difference-cursor.ensures.words
