@@ -50,11 +50,13 @@ class Plan:
         paths = [f"crates/{name}/{part}" for name in all_names for part in parts]
         return ["crates.txt", *(it for it in paths if (self.top / it).is_dir())]
 
+    def texts(self):
+        return Stage("texts", (f"{SCRIPTS}/texts",))
+
     def first(self):
         """What needs no proof, the quickest first."""
         script = ("./bits", "bits", "use", "build.sh", "README.md")
         return [
-            Stage("texts", (f"{SCRIPTS}/texts",)),
             Stage("./bits where it cannot start", ("refuse/check_bits",), ("refuse/check_bits", *script[1:])),
             Stage("calls that are not known", ("refuse/check_calls",), ("refuse", "tests/run", "test", SCRIPTS)),
         ]
@@ -104,7 +106,7 @@ class Plan:
         crate = ("front/rust", "front/differ", "front/registry", "front/compilers")
         gcc = [f"{it}-linux-gnu-gcc" for it in ("aarch64", "i686", "s390x")]
         emulators = ("qemu-aarch64-static", "qemu-s390x-static", "wasm-ld", "node", "rustc", "cc", *gcc)
-        targets = Stage("the crate on other targets", ("front/targets",), (*crate, "front/targets", "front/wrong/targets"), emulators)
+        targets = Stage("the crate on other targets", ("front/targets",), (*crate, "front/targets", "front/wrong", "front/wrong_lines", "refuse/kept.py"), emulators)
         client = Stage("petgraph over the crate", ("front/client",), (*crate, "front/client"), ("cargo", "rustc", "cc"))
         return [front, postgres, targets, client] if self.has("bits_c") else []
 
