@@ -8,8 +8,8 @@ import time
 from dataclasses import dataclass
 
 COUNTS = re.compile(r"(\d+) passed, (\d+) failed")
-# What a line has that tells of a failure.
-FAILURE = re.compile(r"FAILED|NOT PROVED|NOT REFUSED|BAD EDIT|UNCLEAR")
+# What a line has that tells of a failure, unless it ends with 'ok'.
+FAILURE = re.compile(r"(?!.*: ok$).*(?:FAILED|NOT PROVED|NOT REFUSED|BAD EDIT|UNCLEAR)")
 
 
 @dataclass(frozen=True)
@@ -60,7 +60,7 @@ class Run:
                     log.write(line)
             if not self.is_beside:
                 self.gate.print(line)
-            if FAILURE.search(line):
+            if FAILURE.match(line):
                 self.gate.tell_failure(self.stage.name, line)
         self.status = self.process.wait()
         self.seconds = round(time.monotonic() - self.began)
