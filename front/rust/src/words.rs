@@ -175,6 +175,19 @@ impl Words {
         )
     }
 
+    /// Sets the positions in turn, up to the first that is not below the length, and answers that one.
+    #[inline]
+    pub fn insert_each(&mut self, positions: &mut impl Iterator<Item = usize>) -> Option<usize> {
+        let (row, length) = (&mut self.row[..], self.length);
+        for bit in positions {
+            if bit >= length {
+                return Some(bit);
+            }
+            lent::insert(row, length, bit);
+        }
+        None
+    }
+
     /// The positions of a range, which has to be valid.
     #[inline]
     pub fn slice(&self, start: usize, end: usize) -> Words {
