@@ -279,11 +279,9 @@ pub struct SymmetricDifference<'a> {
 
 /// The traits of a walk over one row of words, which ascends.
 macro_rules! walks {
-    ($($name:ty { $($more:tt)* })*) => { $(
+    ($($name:ty),*) => { $(
         impl Iterator for $name {
             type Item = usize;
-
-            $($more)*
 
             #[inline]
             fn next(&mut self) -> Option<usize> {
@@ -293,6 +291,11 @@ macro_rules! walks {
             #[inline]
             fn size_hint(&self) -> (usize, Option<usize>) {
                 self.walk.size_hint()
+            }
+
+            #[inline]
+            fn count(self) -> usize {
+                words::left_of(self.walk)
             }
 
             #[inline]
@@ -328,18 +331,13 @@ macro_rules! walks {
         }
     )* };
 }
-walks! {
-    Ones<'_> {
-        #[inline]
-        fn count(self) -> usize {
-            words::left_of(self.walk)
-        }
-    }
-    Zeroes<'_> {}
-    Intersection<'_> {}
-    Difference<'_> {}
-    IntoOnes {}
-}
+walks!(
+    Ones<'_>,
+    Zeroes<'_>,
+    Intersection<'_>,
+    Difference<'_>,
+    IntoOnes
+);
 
 /// The traits of two walks in turn.
 macro_rules! walks_in_turn {
