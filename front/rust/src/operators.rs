@@ -4,7 +4,8 @@
 use crate::FixedBitSet;
 use core::ops::{BitAnd, BitAndAssign, BitOr, BitOrAssign, BitXor, BitXorAssign, Index};
 
-/// Proved: what the join leaves in a copy of the shorter set ([contract](crate::contracts#fixedbitsetlentintersect_with)). That the copy is one is not.
+/// Proved: what the join leaves in a copy of the shorter set ([contract](crate::contracts#fixedbitsetlentintersect_with)).
+/// The copy itself is not.
 impl BitAnd for &FixedBitSet {
     type Output = FixedBitSet;
 
@@ -17,7 +18,8 @@ impl BitAnd for &FixedBitSet {
     }
 }
 
-/// Proved: what the join leaves in a copy of the longer set ([contract](crate::contracts#fixedbitsetlentunion_with)). That the copy is one is not.
+/// Proved: what the join leaves in a copy of the longer set ([contract](crate::contracts#fixedbitsetlentunion_with)). The
+/// copy itself is not.
 impl BitOr for &FixedBitSet {
     type Output = FixedBitSet;
 
@@ -30,8 +32,8 @@ impl BitOr for &FixedBitSet {
     }
 }
 
-/// Proved: what the join leaves in a copy of the longer set ([contract](crate::contracts#fixedbitsetlentsymmetric_difference_with)). That the
-/// copy is one is not.
+/// Proved: what the join leaves in a copy of the longer set
+/// ([contract](crate::contracts#fixedbitsetlentsymmetric_difference_with)). The copy itself is not.
 impl BitXor for &FixedBitSet {
     type Output = FixedBitSet;
 

@@ -313,7 +313,8 @@ macro_rules! walks {
             }
         }
 
-        /// Proved: each item, for any mix of calls from both ends ([contract](crate::contracts#bitwordscursorscursor-as-doubleendediterator)).
+        /// Proved: each item, for any mix of calls from both ends
+        /// ([contract](crate::contracts#bitwordscursorscursor-as-doubleendediterator)).
         impl DoubleEndedIterator for $name {
             #[inline]
             fn next_back(&mut self) -> Option<usize> {
