@@ -90,11 +90,13 @@ FUNCTION(bitset_agg_step) {
     PG_RETURN_POINTER(state);
 }
 
-/* It is strict, so there is a state. This stays as it is, for a window may go on with it. Between processes it travels as a
- * stored set too, under the name of bytea. */
+/* The state stays as it is, for a window may go on with it. Between processes it travels as a stored set too, under the name
+ * of bytea. (This is strict. In a catalogue of version 0.5.7 it may not be, so that there may be no state.) */
 FUNCTION(bitset_final) {
     const bits *state = get_state(fcinfo, 0);
     bits copy;
+    if (state == NULL)
+        PG_RETURN_NULL();
     MemoryContextSwitchTo(enter_aggregate(fcinfo));
     copy = copy_set(state, state->length);
     return stored_set(&copy);

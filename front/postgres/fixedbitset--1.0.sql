@@ -1,4 +1,4 @@
-/* fixedbitset--0.5.7.sql */
+/* fixedbitset--1.0.sql */
 
 -- complain if script is sourced in psql, rather than via CREATE EXTENSION
 \echo Use "CREATE EXTENSION fixedbitset" to load this file. \quit
