@@ -42,13 +42,19 @@ ASK(bitset_previous_one, FOUND, bits_previous_one(set, FROM_ZERO(1)))
 ASK(bitset_previous_zero, FOUND, bits_previous_zero(set, FROM_ZERO(1)))
 ASK(bitset_first_gap, FOUND, bits_first_gap(set, not_negative(PG_GETARG_INT64(1), "count of positions"), FROM_ZERO(2)))
 
-/* The position that has so many below it. The directory is made for this one question: a pass over the words, as a count
- * is. */
-FUNCTION(bitset_select_one) {
-    READ(set, 0);
+/* The directory by which a position is found from how many are below it. It is made for one question: a pass over the words,
+ * as a count is. */
+bits_ranks ranks_of(const bits *set) {
     size_t entries = bits_ranks_entries(set->length);
     bits_ranks ranks = BITS_RANKS;
     sure(bits_ranks_fill(&ranks, set, palloc(entries * sizeof(size_t)), entries));
+    return ranks;
+}
+
+/* The position that has so many below it. */
+FUNCTION(bitset_select_one) {
+    READ(set, 0);
+    bits_ranks ranks = ranks_of(set);
     return FOUND(bits_select(&ranks, PG_GETARG_INT64(1)));
 }
 
@@ -64,6 +70,7 @@ static void change_in(bits *set, bool (*call)(bits *, size_t, size_t), Span span
 CHANGE(bitset_insert_range, change_in(&changed, bits_insert_range, read_span(fcinfo, 1, set)))
 CHANGE(bitset_remove_range, change_in(&changed, bits_remove_range, read_span(fcinfo, 1, set)))
 CHANGE(bitset_toggle_range, change_in(&changed, bits_toggle_range, read_span(fcinfo, 1, set)))
+CHANGE(bitset_not, change_in(&changed, bits_toggle_range, (Span){0, set->length}))
 
 /* A function that asks about a range. */
 #define ASK_RANGE(name, datum_of, call)                                                                                \
