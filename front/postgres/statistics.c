@@ -109,6 +109,7 @@ static Node *as_array(PlannerInfo *root, Node *operand) {
     if (!constant->constbyval) {
         bits_ones(&walk, read_set(&reading, constant->constvalue));
         count = bits_ones_take(&walk, positions, MOST_OF_CONSTANT);
+        done_reading(&reading);
     }
     array = PointerGetDatum(construct_array(positions, count, INT8OID, sizeof(int64), FLOAT8PASSBYVAL, TYPALIGN_DOUBLE));
     return (Node *)makeConst(INT8ARRAYOID, -1, InvalidOid, -1, array, false, false);
