@@ -66,6 +66,21 @@ ALTER OPERATOR && (bitset, bitset) SET (RESTRICT = bitset_overlap_share);
 ALTER OPERATOR @> (bitset, bigint) SET (RESTRICT = bitset_contains_share);
 ALTER OPERATOR <@ (bigint, bitset) SET (RESTRICT = bitset_contained_share);
 
+-- What a policy's rows may be asked by an index
+
+ALTER FUNCTION contains(bitset, bigint) LEAKPROOF;
+ALTER FUNCTION bitset_superset(bitset, bitset) LEAKPROOF;
+ALTER FUNCTION bitset_subset(bitset, bitset) LEAKPROOF;
+ALTER FUNCTION bitset_overlap(bitset, bitset) LEAKPROOF;
+ALTER FUNCTION bitset_contained_position(bigint, bitset) LEAKPROOF;
+ALTER FUNCTION bitset_eq(bitset, bitset) LEAKPROOF;
+ALTER FUNCTION bitset_ne(bitset, bitset) LEAKPROOF;
+ALTER FUNCTION bitset_lt(bitset, bitset) LEAKPROOF;
+ALTER FUNCTION bitset_le(bitset, bitset) LEAKPROOF;
+ALTER FUNCTION bitset_gt(bitset, bitset) LEAKPROOF;
+ALTER FUNCTION bitset_ge(bitset, bitset) LEAKPROOF;
+ALTER FUNCTION bitset_cmp(bitset, bitset) LEAKPROOF;
+
 -- What none of the forms has
 
 CREATE FUNCTION bitset(bit) RETURNS bitset

@@ -33,6 +33,10 @@ class Set:
     def hex(self):
         return f"x:{self.bytes().hex()}/{self.length}"
 
+    def auto(self):
+        runs, end = self.text(), f"/{self.length}"
+        return runs if len(runs) <= max(100 + len(end), len(self.hex())) else self.hex()
+
     def words(self):
         return [self.ones >> at & (1 << 64) - 1 for at in range(0, self.length, 64)]
 
@@ -104,7 +108,7 @@ def gap(s, count, start):
 
 
 def long(length, ones):
-    return Set(length, ones & mask(0, length)) if length < 2**32 else wrong("54000")
+    return Set(length, ones & mask(0, length)) if length <= 2**32 - 64 else wrong("54000")
 
 
 def moved(s, by, ones):
