@@ -58,17 +58,24 @@ ASK(bitset_previous_one, FOUND, bits_previous_one(set, FROM_ZERO(1)))
 ASK(bitset_previous_zero, FOUND, bits_previous_zero(set, FROM_ZERO(1)))
 ASK(bitset_first_gap, FOUND, first_gap(set, not_negative(PG_GETARG_INT64(1), "count of positions"), FROM_ZERO(2)))
 
-/* The position that has so many below it. The directory is made for this one question: a pass over the words, as a count
- * is. */
+/* The directory by which a position is found from how many are below it. It is made for one question, by a pass over the words
+ * as a count is, and done_ranking frees it. */
+bits_ranks ranks_of(const bits *set) {
+    size_t count = bits_ranks_entries(set->length);
+    bits_ranks ranks = BITS_RANKS;
+    sure(bits_ranks_fill(&ranks, set, palloc(count * sizeof(size_t)), count));
+    return ranks;
+}
+
+void done_ranking(bits_ranks *ranks) {
+    pfree((void *)ranks->directory);
+}
+
+/* The position that has so many below it. */
 FUNCTION(bitset_select_one) {
     READ(set, 0);
-    size_t count = bits_ranks_entries(set->length), found;
-    size_t *entries = palloc(count * sizeof(size_t));
-    bits_ranks ranks = BITS_RANKS;
-    sure(bits_ranks_fill(&ranks, set, entries, count));
-    found = bits_select(&ranks, PG_GETARG_INT64(1));
-    pfree(entries);
-    return FOUND(found);
+    __attribute__((cleanup(done_ranking))) bits_ranks ranks = ranks_of(set);
+    return FOUND(bits_select(&ranks, PG_GETARG_INT64(1)));
 }
 
 CHANGE(bitset_insert, change_at(&changed, bits_insert, PG_GETARG_INT64(1)))
@@ -83,6 +90,7 @@ static void change_in(bits *set, bool (*call)(bits *, size_t, size_t), Span span
 CHANGE(bitset_insert_range, change_in(&changed, bits_insert_range, read_span(fcinfo, 1, set)))
 CHANGE(bitset_remove_range, change_in(&changed, bits_remove_range, read_span(fcinfo, 1, set)))
 CHANGE(bitset_toggle_range, change_in(&changed, bits_toggle_range, read_span(fcinfo, 1, set)))
+CHANGE(bitset_not, change_in(&changed, bits_toggle_range, (Span){0, set->length}))
 
 /* A function that asks about a range. */
 #define ASK_RANGE(name, datum_of, call)                                                                                \

@@ -80,3 +80,41 @@ ALTER FUNCTION bitset_le(bitset, bitset) LEAKPROOF;
 ALTER FUNCTION bitset_gt(bitset, bitset) LEAKPROOF;
 ALTER FUNCTION bitset_ge(bitset, bitset) LEAKPROOF;
 ALTER FUNCTION bitset_cmp(bitset, bitset) LEAKPROOF;
+
+-- What none of the forms has
+
+CREATE FUNCTION bitset(bit) RETURNS bitset
+AS 'MODULE_PATHNAME', 'bitset_from_varbit' LANGUAGE C IMMUTABLE STRICT PARALLEL SAFE;
+CREATE FUNCTION bitset_to_bit(bitset, length integer, is_explicit boolean) RETURNS bit
+AS 'MODULE_PATHNAME', 'bitset_to_varbit' LANGUAGE C IMMUTABLE STRICT PARALLEL SAFE;
+CREATE FUNCTION positions(bitset, "offset" bigint, "limit" bigint) RETURNS bigint[]
+AS 'MODULE_PATHNAME', 'bitset_to_positions_part' LANGUAGE C IMMUTABLE STRICT PARALLEL SAFE;
+CREATE CAST (bit AS bitset) WITH FUNCTION bitset(bit);
+CREATE CAST (bitset AS bit) WITH FUNCTION bitset_to_bit(bitset, integer, boolean);
+CREATE FUNCTION bitset_not(bitset) RETURNS bitset AS 'MODULE_PATHNAME' LANGUAGE C IMMUTABLE STRICT PARALLEL SAFE;
+CREATE OPERATOR ~ (RIGHTARG = bitset, FUNCTION = bitset_not);
+CREATE FUNCTION bitset_symmetric_difference_step(internal, bitset) RETURNS internal AS 'MODULE_PATHNAME' LANGUAGE C IMMUTABLE PARALLEL SAFE;
+CREATE FUNCTION bitset_symmetric_difference_combine(internal, internal) RETURNS internal AS 'MODULE_PATHNAME' LANGUAGE C IMMUTABLE PARALLEL SAFE;
+CREATE FUNCTION bitset_agg_position_step(internal, bigint) RETURNS internal AS 'MODULE_PATHNAME' LANGUAGE C IMMUTABLE PARALLEL SAFE;
+CREATE FUNCTION bitset_agg_final(internal) RETURNS bitset AS 'MODULE_PATHNAME' LANGUAGE C IMMUTABLE STRICT PARALLEL SAFE;
+CREATE FUNCTION bitset_count_final(internal) RETURNS bigint AS 'MODULE_PATHNAME' LANGUAGE C IMMUTABLE STRICT PARALLEL SAFE;
+CREATE AGGREGATE bitset_symmetric_difference(bitset) (
+    SFUNC = bitset_symmetric_difference_step, STYPE = internal, FINALFUNC = bitset_final, COMBINEFUNC = bitset_symmetric_difference_combine,
+    SERIALFUNC = bitset_serial, DESERIALFUNC = bitset_deserial, PARALLEL = SAFE
+);
+CREATE AGGREGATE bitset_union_count(bitset) (
+    SFUNC = bitset_union_step, STYPE = internal, FINALFUNC = bitset_count_final, COMBINEFUNC = bitset_union_combine,
+    SERIALFUNC = bitset_serial, DESERIALFUNC = bitset_deserial, PARALLEL = SAFE
+);
+CREATE AGGREGATE bitset_intersection_count(bitset) (
+    SFUNC = bitset_intersection_step, STYPE = internal, FINALFUNC = bitset_count_final, COMBINEFUNC = bitset_intersection_combine,
+    SERIALFUNC = bitset_serial, DESERIALFUNC = bitset_deserial, PARALLEL = SAFE
+);
+CREATE AGGREGATE bitset_symmetric_difference_count(bitset) (
+    SFUNC = bitset_symmetric_difference_step, STYPE = internal, FINALFUNC = bitset_count_final, COMBINEFUNC = bitset_symmetric_difference_combine,
+    SERIALFUNC = bitset_serial, DESERIALFUNC = bitset_deserial, PARALLEL = SAFE
+);
+CREATE AGGREGATE bitset_agg("position" bigint) (
+    SFUNC = bitset_agg_position_step, STYPE = internal, FINALFUNC = bitset_agg_final, COMBINEFUNC = bitset_union_combine,
+    SERIALFUNC = bitset_serial, DESERIALFUNC = bitset_deserial, PARALLEL = SAFE
+);

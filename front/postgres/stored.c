@@ -128,17 +128,22 @@ Span read_span(FunctionCallInfo fcinfo, int argument, const bits *set) {
     return span;
 }
 
-/* The positions of a set, as many as an array can have. */
-Datum *positions_of(const bits *set, int32 *count, const char *where) {
-    size_t ones = bits_count_ones(set, 0, set->length);
-    bits_walk walk = BITS_WALK;
+/* So many positions of a walk that has them, which are no more than an array can have. */
+Datum *take_positions(bits_walk *walk, size_t ones, const char *where) {
     Datum *positions;
     if (ones > MaxArraySize)
         REFUSE(PROGRAM_LIMIT_EXCEEDED, "%zu positions are too many for %s", ones, where);
     positions = palloc(ones * sizeof(Datum));
-    bits_ones(&walk, set);
-    for (size_t taken = 0; taken < ones; taken += bits_ones_take(&walk, positions + taken, Min(ones - taken, PART)))
+    for (size_t taken = 0; taken < ones; taken += bits_ones_take(walk, positions + taken, Min(ones - taken, PART)))
         CHECK_FOR_INTERRUPTS();
-    *count = ones;
     return positions;
+}
+
+/* The positions of a set. */
+Datum *positions_of(const bits *set, int32 *count, const char *where) {
+    size_t ones = bits_count_ones(set, 0, set->length);
+    bits_walk walk = BITS_WALK;
+    bits_ones(&walk, set);
+    *count = ones;
+    return take_positions(&walk, ones, where);
 }

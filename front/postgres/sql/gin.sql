@@ -31,7 +31,7 @@ $$;
 SELECT (compared(question)).* FROM (VALUES ('tags @> 7'), ('tags @> 7::bigint'), ('7 <@ tags'), ('tags @> -1'), ('tags @> 99999'),
     ('tags @> ''{7,28}/300'''), ('tags @> ''{7,28,299}/1000'''), ('tags @> ''{}/0'''), ('tags @> ''{}/5000'''), ('tags @> ''{999}/1000'''),
     ('tags && ''{7,28}/300'''), ('tags && ''{}/300'''), ('tags && ''{0-299}/300'''), ('tags && ''{999}/1000'''), ('''{7}/8'' <@ tags'),
-    ('tags @> 7 AND tags && ''{28,63}/64'''), ('tags @> 7 OR tags @> 11'), ('tags @> NULL::bitset')) v(question);
+    ('''{7,28}/300'' && tags'), ('tags @> 7 AND tags && ''{28,63}/64'''), ('tags @> 7 OR tags @> 11'), ('tags @> NULL::bitset')) v(question);
 
 -- rows that come and go
 DELETE FROM tagged WHERE id % 3 = 0;

@@ -22,4 +22,5 @@ SELECT copy_range('{}/10', '{1}/10', '[0,10)', 9223372036854775807), copy_range(
 SELECT select_one(insert_range(bitset(4294967232), '[4294967000,)'), 231);
 SELECT bitset(4294967232)::bit varying;
 SELECT insert(bitset(4294967232), 4294967231) @> 4294967231;
+SELECT bitset_agg(p) FROM unnest('{4294967231}'::bigint[]) p;
 DROP EXTENSION fixedbitset;

@@ -88,8 +88,20 @@ SELECT bitset(4294967233);
 
 -- casts
 SELECT B'0101'::bit varying::bitset, B''::bit varying::bitset, '{1,3}/4'::bitset::bit varying;
+SELECT B'0101'::bitset, B'0101'::bit(6)::bitset, B''::bitset, '{1,3}/4'::bitset::bit(4), CAST('{1,3}/4'::bitset AS "bit"), '{0}/1'::bitset::bit;
+SELECT '{1,3}/4'::bitset::bit(3);
+SELECT '{1,3}/4'::bitset::bit(5);
+SELECT '{1,3}/4'::bitset::bit;
+CREATE TABLE strings (b bit(4), v bit varying(4));
+INSERT INTO strings SELECT s::bit(4), s::bit varying FROM unnest('{"{1,3}/4","{}/4","{0}/4"}'::bitset[]) s;
+SELECT b, b::bitset, b::bitset::bit(4) = b AS same, v::bitset FROM strings;
+DROP TABLE strings;
 SELECT '{0,9,16}/17'::bitset::bytea, '\x010201'::bytea::bitset, ''::bytea::bitset;
 SELECT '{0,9,16}/17'::bitset::bigint[], '{}/17'::bitset::bigint[];
+SELECT k, n, positions('{0,9,16,999}/1000', k, n) FROM unnest('{0,1,3,4,9223372036854775807}'::bigint[]) k, unnest('{0,2,9223372036854775807}'::bigint[]) n;
+SELECT positions('{}/0', 0, 5), positions('{}/1000', 0, 5), positions(NULL, 0, 5), positions('{1}/2', NULL, 5), positions('{1}/2', 0, NULL);
+SELECT positions('{1}/2', -1, 5);
+SELECT positions('{1}/2', 0, -1);
 SELECT p FROM ones('{0,9,16}/17') p;
 SELECT p FROM zeroes('{0,3-9}/10') p;
 SELECT ones('{5,900}/1000'), zeroes('{0-998}/1000');
