@@ -134,9 +134,10 @@ static bits take_runs(Parser *parser) {
 /* How many hexadecimal digits a text begins with. */
 static size_t count_digits(const char *text) {
     size_t count = 0;
-    for (; isxdigit((unsigned char)text[count]); count++)
-        if (count % PART == 0)
-            CHECK_FOR_INTERRUPTS();
+    while (isxdigit((unsigned char)text[count])) {
+        CHECK_FOR_INTERRUPTS();
+        count++;
+    }
     return count;
 }
 
