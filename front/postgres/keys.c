@@ -77,7 +77,7 @@ static Datum rarest(const Const *constant, HeapTuple statistics) {
     Reading reading;
     const bits *wanted = read_set(&reading, constant->constvalue);
     Datum few = 0;
-    if (get_attstatsslot(&slot, statistics, STATISTIC_KIND_MCELEM, InvalidOid, ATTSTATSSLOT_VALUES | ATTSTATSSLOT_NUMBERS)) {
+    if (get_attstatsslot(&slot, statistics, STATISTIC_KIND_MCELEM, InvalidOid, ATTSTATSSLOT_VALUES + ATTSTATSSLOT_NUMBERS)) {
         if (sorted_keys(keys, wanted, &slot) > MOST_KEYS && keys[0].share * MOST_KEYS <= 1) {
             bits set = new_set(wanted->length);
             for (int k = 0; k < MOST_KEYS; k++)
