@@ -8,7 +8,7 @@
 SELECT n, grow(:s, n), truncate(:s, n), resize(:s, n) FROM unnest('{0,8,63,64,65,1000}'::bigint[]) n;
 SELECT resize('{0,960}/961', 960), resize('{0,959}/960', 961), truncate('{0-4999}/5000', 1025), resize('{}/0', 0);
 SELECT truncate(:s, -1);
-SELECT resize(:s, 4294967296);
+SELECT resize(:s, 4294967233);
 
 -- a part, and a part written over another one
 SELECT slice(:s, '[5,20)'), slice(:s, '[60,)'), slice(:s, '(,8]'), slice(:s, '(,)') = :s AS whole, slice(:s, 'empty'), slice('{}/0', '(,)');
@@ -49,7 +49,7 @@ SELECT first_lacking(:s, :t), first_lacking(:t, :s), first_lacking(:s, :s), firs
 SELECT n, bitset_from_bytes('\x88fc1f', n) FROM unnest('{0,4,8,20,24,1000}'::bigint[]) n;
 SELECT bitset_from_bytes('', 0), bitset_from_bytes('', 10), bitset_from_bytes('\xff', 3);
 SELECT bitset_from_bytes('\x01', -1);
-SELECT bitset_from_bytes('\x01', 4294967296);
+SELECT bitset_from_bytes('\x01', 4294967233);
 
 -- rows of a range, and gaps
 SELECT p FROM ones(:s, '[7,12)') p;
@@ -63,10 +63,10 @@ SELECT zero_runs('{}/10'), zero_runs('{}/0'), zero_runs('{0-9}/10');
 SELECT zero_runs('{0,3}/4'), runs('{0,3}/4'), ones('{0,3}/4', '[1,)'), zeroes('{0,3}/4', '[1,)');
 
 \set VERBOSITY sqlstate
-SELECT resize(:s, 4294967296);
+SELECT resize(:s, 4294967233);
 SELECT slice(:s, '[60,65)');
 SELECT copy_range(:s, :t, '[14,18)', 61);
 SELECT shift_up(:s, -1);
 SELECT first_gap(:s, -1);
-SELECT bitset_from_bytes('\x01', 4294967296);
+SELECT bitset_from_bytes('\x01', 4294967233);
 \set VERBOSITY default

@@ -1,4 +1,4 @@
-/* fixedbitset--0.5.7.sql */
+/* fixedbitset--1.0.sql */
 
 -- complain if script is sourced in psql, rather than via CREATE EXTENSION
 \echo Use "CREATE EXTENSION fixedbitset" to load this file. \quit
@@ -29,20 +29,28 @@ CREATE FUNCTION bitset(positions bigint[], length bigint) RETURNS bitset
 AS 'MODULE_PATHNAME', 'bitset_from_positions' LANGUAGE C IMMUTABLE STRICT PARALLEL SAFE;
 CREATE FUNCTION bitset(bit varying) RETURNS bitset
 AS 'MODULE_PATHNAME', 'bitset_from_varbit' LANGUAGE C IMMUTABLE STRICT PARALLEL SAFE;
+CREATE FUNCTION bitset(bit) RETURNS bitset
+AS 'MODULE_PATHNAME', 'bitset_from_varbit' LANGUAGE C IMMUTABLE STRICT PARALLEL SAFE;
 CREATE FUNCTION bitset(bytea) RETURNS bitset
 AS 'MODULE_PATHNAME', 'bitset_from_bytes' LANGUAGE C IMMUTABLE STRICT PARALLEL SAFE;
 CREATE FUNCTION bitset_from_bytes(bytes bytea, length bigint) RETURNS bitset
 AS 'MODULE_PATHNAME', 'bitset_from_bytes' LANGUAGE C IMMUTABLE STRICT PARALLEL SAFE;
 CREATE FUNCTION bitset_to_varbit(bitset) RETURNS bit varying
 AS 'MODULE_PATHNAME' LANGUAGE C IMMUTABLE STRICT PARALLEL SAFE;
+CREATE FUNCTION bitset_to_bit(bitset, length integer, is_explicit boolean) RETURNS bit
+AS 'MODULE_PATHNAME', 'bitset_to_varbit' LANGUAGE C IMMUTABLE STRICT PARALLEL SAFE;
 CREATE FUNCTION bytes(bitset) RETURNS bytea
 AS 'MODULE_PATHNAME', 'bitset_to_bytea' LANGUAGE C IMMUTABLE STRICT PARALLEL SAFE;
 CREATE FUNCTION positions(bitset) RETURNS bigint[]
 AS 'MODULE_PATHNAME', 'bitset_to_positions' LANGUAGE C IMMUTABLE STRICT PARALLEL SAFE;
+CREATE FUNCTION positions(bitset, "offset" bigint, "limit" bigint) RETURNS bigint[]
+AS 'MODULE_PATHNAME', 'bitset_to_positions_part' LANGUAGE C IMMUTABLE STRICT PARALLEL SAFE;
 
 CREATE CAST (bit varying AS bitset) WITH FUNCTION bitset(bit varying);
+CREATE CAST (bit AS bitset) WITH FUNCTION bitset(bit);
 CREATE CAST (bytea AS bitset) WITH FUNCTION bitset(bytea);
 CREATE CAST (bitset AS bit varying) WITH FUNCTION bitset_to_varbit(bitset);
+CREATE CAST (bitset AS bit) WITH FUNCTION bitset_to_bit(bitset, integer, boolean);
 CREATE CAST (bitset AS bytea) WITH FUNCTION bytes(bitset);
 CREATE CAST (bitset AS bigint[]) WITH FUNCTION positions(bitset);
 
@@ -94,7 +102,7 @@ AS 'MODULE_PATHNAME', 'bitset_select_one' LANGUAGE C IMMUTABLE STRICT PARALLEL S
 CREATE FUNCTION count_ones(bitset) RETURNS bigint
 AS 'MODULE_PATHNAME', 'bitset_count_ones' LANGUAGE C IMMUTABLE STRICT PARALLEL SAFE;
 CREATE FUNCTION contains(bitset, "position" bigint) RETURNS boolean
-AS 'MODULE_PATHNAME', 'bitset_contains' LANGUAGE C IMMUTABLE STRICT PARALLEL SAFE;
+AS 'MODULE_PATHNAME', 'bitset_contains' LANGUAGE C IMMUTABLE STRICT LEAKPROOF PARALLEL SAFE;
 CREATE FUNCTION insert(bitset, "position" bigint) RETURNS bitset
 AS 'MODULE_PATHNAME', 'bitset_insert' LANGUAGE C IMMUTABLE STRICT PARALLEL SAFE;
 CREATE FUNCTION remove(bitset, "position" bigint) RETURNS bitset
@@ -105,6 +113,7 @@ CREATE FUNCTION shift_up(bitset, by bigint) RETURNS bitset
 AS 'MODULE_PATHNAME', 'bitset_shift_up' LANGUAGE C IMMUTABLE STRICT PARALLEL SAFE;
 CREATE FUNCTION shift_down(bitset, by bigint) RETURNS bitset
 AS 'MODULE_PATHNAME', 'bitset_shift_down' LANGUAGE C IMMUTABLE STRICT PARALLEL SAFE;
+CREATE FUNCTION bitset_not(bitset) RETURNS bitset AS 'MODULE_PATHNAME' LANGUAGE C IMMUTABLE STRICT PARALLEL SAFE;
 
 -- One set and a range of positions
 
@@ -148,10 +157,13 @@ CREATE FUNCTION bitset_or(bitset, bitset) RETURNS bitset AS 'MODULE_PATHNAME' LA
 CREATE FUNCTION bitset_and(bitset, bitset) RETURNS bitset AS 'MODULE_PATHNAME' LANGUAGE C IMMUTABLE STRICT PARALLEL SAFE;
 CREATE FUNCTION bitset_xor(bitset, bitset) RETURNS bitset AS 'MODULE_PATHNAME' LANGUAGE C IMMUTABLE STRICT PARALLEL SAFE;
 CREATE FUNCTION bitset_minus(bitset, bitset) RETURNS bitset AS 'MODULE_PATHNAME' LANGUAGE C IMMUTABLE STRICT PARALLEL SAFE;
-CREATE FUNCTION bitset_superset(bitset, bitset) RETURNS boolean AS 'MODULE_PATHNAME' LANGUAGE C IMMUTABLE STRICT PARALLEL SAFE;
-CREATE FUNCTION bitset_subset(bitset, bitset) RETURNS boolean AS 'MODULE_PATHNAME' LANGUAGE C IMMUTABLE STRICT PARALLEL SAFE;
-CREATE FUNCTION bitset_overlap(bitset, bitset) RETURNS boolean AS 'MODULE_PATHNAME' LANGUAGE C IMMUTABLE STRICT PARALLEL SAFE;
-CREATE FUNCTION bitset_contained_position(bigint, bitset) RETURNS boolean AS 'MODULE_PATHNAME' LANGUAGE C IMMUTABLE STRICT PARALLEL SAFE;
+-- (in place of `@>` with many positions the planner takes one with few, for an index)
+CREATE FUNCTION bitset_superset_support(internal) RETURNS internal AS 'MODULE_PATHNAME' LANGUAGE C STRICT;
+CREATE FUNCTION bitset_superset(bitset, bitset) RETURNS boolean AS 'MODULE_PATHNAME' LANGUAGE C IMMUTABLE STRICT LEAKPROOF PARALLEL SAFE
+SUPPORT bitset_superset_support;
+CREATE FUNCTION bitset_subset(bitset, bitset) RETURNS boolean AS 'MODULE_PATHNAME' LANGUAGE C IMMUTABLE STRICT LEAKPROOF PARALLEL SAFE;
+CREATE FUNCTION bitset_overlap(bitset, bitset) RETURNS boolean AS 'MODULE_PATHNAME' LANGUAGE C IMMUTABLE STRICT LEAKPROOF PARALLEL SAFE;
+CREATE FUNCTION bitset_contained_position(bigint, bitset) RETURNS boolean AS 'MODULE_PATHNAME' LANGUAGE C IMMUTABLE STRICT LEAKPROOF PARALLEL SAFE;
 
 -- (the planner's estimates)
 CREATE FUNCTION bitset_contains_share(internal, oid, internal, integer) RETURNS double precision
@@ -165,6 +177,7 @@ CREATE OPERATOR | (LEFTARG = bitset, RIGHTARG = bitset, FUNCTION = bitset_or, CO
 CREATE OPERATOR & (LEFTARG = bitset, RIGHTARG = bitset, FUNCTION = bitset_and, COMMUTATOR = &);
 CREATE OPERATOR # (LEFTARG = bitset, RIGHTARG = bitset, FUNCTION = bitset_xor, COMMUTATOR = #);
 CREATE OPERATOR - (LEFTARG = bitset, RIGHTARG = bitset, FUNCTION = bitset_minus);
+CREATE OPERATOR ~ (RIGHTARG = bitset, FUNCTION = bitset_not);
 CREATE OPERATOR @> (
     LEFTARG = bitset, RIGHTARG = bitset, FUNCTION = bitset_superset, COMMUTATOR = <@,
     RESTRICT = bitset_contains_share, JOIN = contjoinsel
@@ -188,13 +201,13 @@ CREATE OPERATOR <@ (
 
 -- Order and hashing
 
-CREATE FUNCTION bitset_eq(bitset, bitset) RETURNS boolean AS 'MODULE_PATHNAME' LANGUAGE C IMMUTABLE STRICT PARALLEL SAFE;
-CREATE FUNCTION bitset_ne(bitset, bitset) RETURNS boolean AS 'MODULE_PATHNAME' LANGUAGE C IMMUTABLE STRICT PARALLEL SAFE;
-CREATE FUNCTION bitset_lt(bitset, bitset) RETURNS boolean AS 'MODULE_PATHNAME' LANGUAGE C IMMUTABLE STRICT PARALLEL SAFE;
-CREATE FUNCTION bitset_le(bitset, bitset) RETURNS boolean AS 'MODULE_PATHNAME' LANGUAGE C IMMUTABLE STRICT PARALLEL SAFE;
-CREATE FUNCTION bitset_gt(bitset, bitset) RETURNS boolean AS 'MODULE_PATHNAME' LANGUAGE C IMMUTABLE STRICT PARALLEL SAFE;
-CREATE FUNCTION bitset_ge(bitset, bitset) RETURNS boolean AS 'MODULE_PATHNAME' LANGUAGE C IMMUTABLE STRICT PARALLEL SAFE;
-CREATE FUNCTION bitset_cmp(bitset, bitset) RETURNS integer AS 'MODULE_PATHNAME' LANGUAGE C IMMUTABLE STRICT PARALLEL SAFE;
+CREATE FUNCTION bitset_eq(bitset, bitset) RETURNS boolean AS 'MODULE_PATHNAME' LANGUAGE C IMMUTABLE STRICT LEAKPROOF PARALLEL SAFE;
+CREATE FUNCTION bitset_ne(bitset, bitset) RETURNS boolean AS 'MODULE_PATHNAME' LANGUAGE C IMMUTABLE STRICT LEAKPROOF PARALLEL SAFE;
+CREATE FUNCTION bitset_lt(bitset, bitset) RETURNS boolean AS 'MODULE_PATHNAME' LANGUAGE C IMMUTABLE STRICT LEAKPROOF PARALLEL SAFE;
+CREATE FUNCTION bitset_le(bitset, bitset) RETURNS boolean AS 'MODULE_PATHNAME' LANGUAGE C IMMUTABLE STRICT LEAKPROOF PARALLEL SAFE;
+CREATE FUNCTION bitset_gt(bitset, bitset) RETURNS boolean AS 'MODULE_PATHNAME' LANGUAGE C IMMUTABLE STRICT LEAKPROOF PARALLEL SAFE;
+CREATE FUNCTION bitset_ge(bitset, bitset) RETURNS boolean AS 'MODULE_PATHNAME' LANGUAGE C IMMUTABLE STRICT LEAKPROOF PARALLEL SAFE;
+CREATE FUNCTION bitset_cmp(bitset, bitset) RETURNS integer AS 'MODULE_PATHNAME' LANGUAGE C IMMUTABLE STRICT LEAKPROOF PARALLEL SAFE;
 CREATE FUNCTION bitset_hash(bitset) RETURNS integer AS 'MODULE_PATHNAME' LANGUAGE C IMMUTABLE STRICT PARALLEL SAFE;
 CREATE FUNCTION bitset_hash_extended(bitset, bigint) RETURNS bigint
 AS 'MODULE_PATHNAME', 'bitset_hash' LANGUAGE C IMMUTABLE STRICT PARALLEL SAFE;
@@ -251,7 +264,12 @@ CREATE FUNCTION bitset_union_step(internal, bitset) RETURNS internal AS 'MODULE_
 CREATE FUNCTION bitset_union_combine(internal, internal) RETURNS internal AS 'MODULE_PATHNAME' LANGUAGE C IMMUTABLE PARALLEL SAFE;
 CREATE FUNCTION bitset_intersection_step(internal, bitset) RETURNS internal AS 'MODULE_PATHNAME' LANGUAGE C IMMUTABLE PARALLEL SAFE;
 CREATE FUNCTION bitset_intersection_combine(internal, internal) RETURNS internal AS 'MODULE_PATHNAME' LANGUAGE C IMMUTABLE PARALLEL SAFE;
+CREATE FUNCTION bitset_symmetric_difference_step(internal, bitset) RETURNS internal AS 'MODULE_PATHNAME' LANGUAGE C IMMUTABLE PARALLEL SAFE;
+CREATE FUNCTION bitset_symmetric_difference_combine(internal, internal) RETURNS internal AS 'MODULE_PATHNAME' LANGUAGE C IMMUTABLE PARALLEL SAFE;
 CREATE FUNCTION bitset_agg_step(internal, bigint, bigint) RETURNS internal AS 'MODULE_PATHNAME' LANGUAGE C IMMUTABLE PARALLEL SAFE;
+CREATE FUNCTION bitset_agg_position_step(internal, bigint) RETURNS internal AS 'MODULE_PATHNAME' LANGUAGE C IMMUTABLE PARALLEL SAFE;
+CREATE FUNCTION bitset_agg_final(internal) RETURNS bitset AS 'MODULE_PATHNAME' LANGUAGE C IMMUTABLE STRICT PARALLEL SAFE;
+CREATE FUNCTION bitset_count_final(internal) RETURNS bigint AS 'MODULE_PATHNAME' LANGUAGE C IMMUTABLE STRICT PARALLEL SAFE;
 CREATE FUNCTION bitset_final(internal) RETURNS bitset AS 'MODULE_PATHNAME' LANGUAGE C IMMUTABLE STRICT PARALLEL SAFE;
 CREATE FUNCTION bitset_serial(internal) RETURNS bytea AS 'MODULE_PATHNAME', 'bitset_final' LANGUAGE C IMMUTABLE STRICT PARALLEL SAFE;
 CREATE FUNCTION bitset_deserial(bytea, internal) RETURNS internal AS 'MODULE_PATHNAME' LANGUAGE C IMMUTABLE STRICT PARALLEL SAFE;
@@ -264,7 +282,27 @@ CREATE AGGREGATE bitset_intersection(bitset) (
     SFUNC = bitset_intersection_step, STYPE = internal, FINALFUNC = bitset_final, COMBINEFUNC = bitset_intersection_combine,
     SERIALFUNC = bitset_serial, DESERIALFUNC = bitset_deserial, PARALLEL = SAFE
 );
+CREATE AGGREGATE bitset_symmetric_difference(bitset) (
+    SFUNC = bitset_symmetric_difference_step, STYPE = internal, FINALFUNC = bitset_final, COMBINEFUNC = bitset_symmetric_difference_combine,
+    SERIALFUNC = bitset_serial, DESERIALFUNC = bitset_deserial, PARALLEL = SAFE
+);
+CREATE AGGREGATE bitset_union_count(bitset) (
+    SFUNC = bitset_union_step, STYPE = internal, FINALFUNC = bitset_count_final, COMBINEFUNC = bitset_union_combine,
+    SERIALFUNC = bitset_serial, DESERIALFUNC = bitset_deserial, PARALLEL = SAFE
+);
+CREATE AGGREGATE bitset_intersection_count(bitset) (
+    SFUNC = bitset_intersection_step, STYPE = internal, FINALFUNC = bitset_count_final, COMBINEFUNC = bitset_intersection_combine,
+    SERIALFUNC = bitset_serial, DESERIALFUNC = bitset_deserial, PARALLEL = SAFE
+);
+CREATE AGGREGATE bitset_symmetric_difference_count(bitset) (
+    SFUNC = bitset_symmetric_difference_step, STYPE = internal, FINALFUNC = bitset_count_final, COMBINEFUNC = bitset_symmetric_difference_combine,
+    SERIALFUNC = bitset_serial, DESERIALFUNC = bitset_deserial, PARALLEL = SAFE
+);
 CREATE AGGREGATE bitset_agg("position" bigint, length bigint) (
     SFUNC = bitset_agg_step, STYPE = internal, FINALFUNC = bitset_final, COMBINEFUNC = bitset_union_combine,
+    SERIALFUNC = bitset_serial, DESERIALFUNC = bitset_deserial, PARALLEL = SAFE
+);
+CREATE AGGREGATE bitset_agg("position" bigint) (
+    SFUNC = bitset_agg_position_step, STYPE = internal, FINALFUNC = bitset_agg_final, COMBINEFUNC = bitset_union_combine,
     SERIALFUNC = bitset_serial, DESERIALFUNC = bitset_deserial, PARALLEL = SAFE
 );
