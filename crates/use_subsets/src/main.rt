@@ -51,11 +51,7 @@ fn answers(alloc: Global, text: &str) -> Result<String, Fault> {
     let (states, letters, limit) = sizes_of(size)?;
     let start = states_of(alloc, states, start)?;
     let accepting = states_of(alloc, states, accepting)?;
-    let mut parts = others.splitn(2, |row| row.numbers.is_empty());
-    let (Some(edges), Some(words)) = (parts.next(), parts.next()) else {
-        let wrong = Wrong::Form("an empty line has to follow the edges");
-        return Err(Fault::Line(rows.len() + 1, wrong));
-    };
+    let (edges, words) = edges_and_words(others, rows.len() + 1)?;
     let nfa = Nfa {
         states,
         letters,
@@ -70,8 +66,22 @@ fn answers(alloc: Global, text: &str) -> Result<String, Fault> {
             Wrong::More("the automaton would have more states than", limit),
         ));
     };
+    Ok(answers_of(alloc, &dfa, words)?)
+}
+
+// The rows before the first empty one, and those behind it.
+fn edges_and_words(rows: &[Row], line: usize) -> Result<(&[Row], &[Row]), Fault> {
+    let mut parts = rows.splitn(2, |row| row.numbers.is_empty());
+    match (parts.next(), parts.next()) {
+        (Some(edges), Some(words)) => Ok((edges, words)),
+        _ => Err(Fault::Line(line, Wrong::Form("an empty line has to follow the edges"))),
+    }
+}
+
+// The automaton and which of these words it accepts, as they are printed.
+fn answers_of(alloc: Global, dfa: &Dfa, words: &[Row]) -> Result<String, AllocError> {
     let mut answers = String::new(alloc);
-    write_states(&mut answers, &dfa)?;
+    write_states(&mut answers, dfa)?;
     for word in words {
         let answer = dfa.accepts(&word.numbers);
         answers.push_str(if answer { "yes\n" } else { "no\n" })?;
