@@ -131,9 +131,10 @@ impl Index<usize> for FixedBitSet {
 impl Extend<usize> for FixedBitSet {
     /// Sets each position, and makes the length greater where one needs it. **Panics** at the position `usize::MAX`.
     fn extend<I: IntoIterator<Item = usize>>(&mut self, positions: I) {
-        positions
-            .into_iter()
-            .for_each(|bit| self.grow_and_insert(bit));
+        let mut positions = positions.into_iter();
+        while let Some(past) = self.words.insert_each(&mut positions) {
+            self.grow_and_insert(past);
+        }
     }
 }
 

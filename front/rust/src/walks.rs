@@ -279,13 +279,11 @@ pub struct SymmetricDifference<'a> {
 
 /// The traits of a walk over one row of words, which ascends.
 macro_rules! walks {
-    ($($name:ty { $($more:tt)* })*) => { $(
+    ($($name:ty),*) => { $(
         /// Proved: each item and the hint of size, for any mix of calls from both ends
         /// ([contract](crate::contracts#bitwordscursorscursor-as-iterator)). The other calls are put together from these.
         impl Iterator for $name {
             type Item = usize;
-
-            $($more)*
 
             #[inline]
             fn next(&mut self) -> Option<usize> {
@@ -295,6 +293,11 @@ macro_rules! walks {
             #[inline]
             fn size_hint(&self) -> (usize, Option<usize>) {
                 self.walk.size_hint()
+            }
+
+            #[inline]
+            fn count(self) -> usize {
+                words::left_of(self.walk)
             }
 
             #[inline]
@@ -334,18 +337,13 @@ macro_rules! walks {
         }
     )* };
 }
-walks! {
-    Ones<'_> {
-        #[inline]
-        fn count(self) -> usize {
-            words::left_of(self.walk)
-        }
-    }
-    Zeroes<'_> {}
-    Intersection<'_> {}
-    Difference<'_> {}
-    IntoOnes {}
-}
+walks!(
+    Ones<'_>,
+    Zeroes<'_>,
+    Intersection<'_>,
+    Difference<'_>,
+    IntoOnes
+);
 
 /// The traits of two walks in turn.
 macro_rules! walks_in_turn {
