@@ -123,8 +123,7 @@ def wrong_structs(sources, archive, header):
 
 def wrong_tests(exported, tests):
     """The calls that take a pointer, and that bits_check.h does not test, or tests under another name."""
-    named = re.findall(r"^#define (bits_\w+)\(\.\.\.\) bits_tested_(\w+)\(BITS_HERE\((\w+)\), __VA_ARGS__\)$", tests, re.M)
-    tested = {name for name, own, here in named if name == here == f"bits_{own}"}
+    tested = {f"bits_{name}" for name in re.findall(r"^#define bits_(\w+)\(\.\.\.\) BITS_CALL\(\1, __VA_ARGS__\)$", tests, re.M)}
     asking = {name for name, parameters in exported.items() if any(kind.endswith("*") for _, kind in parameters)}
     return (f"bits_check.h: {it} is not tested as it should be" for it in sorted(tested ^ asking))
 

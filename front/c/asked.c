@@ -261,8 +261,8 @@ static const struct {
     {null_directory, "bits_ranks_fill: `directory` is NULL, and there are to be 1", 1},
     {table_words, "bits_rows_get: `rows` has 6 words, and bits_rows_words(3, 70) is 12", 1},
     {table_of_too_many, "bits_rows_set: `rows` has 12 words, and bits_rows_words(18446744073709551615, 70) is 1844674407370955161", 1},
-    {row, "bits_rows_union: row 1 of `rows` has a bit past its 70 columns", 1},
-    {row_of_all, "bits_rows_close: row 2 of `rows` has a bit past its 70 columns", 1},
+    {row, "bits_rows_union: `rows[1]` has a bit past its 70 columns", 1},
+    {row_of_all, "bits_rows_close: `rows[2]` has a bit past its 70 columns", 1},
     {position, "bits_insert: `bit` is 70, which is not below 70", 2},
     {position_of_a_list, "bits_insert_all: `positions` is 71, which is not below 70", 2},
     {range, "bits_insert_range: from 3 to 71 is not a range of a set of length 70", 2},
@@ -297,7 +297,8 @@ int main(void) {
     for (size_t k = 0; k < sizeof CALLS / sizeof *CALLS; k++) {
         const int status = ended(CALLS[k].call, said, sizeof said);
         const bool stops = CALLS[k].at <= BITS_CHECK;
-        const bool stopped = WIFSIGNALED(status) && WTERMSIG(status) == SIGABRT && strstr(said, CALLS[k].wanted) && strstr(said, "asked.c:");
+        const bool told = strstr(said, CALLS[k].wanted) && strstr(said, "asked.c:");
+        const bool stopped = told && WIFSIGNALED(status) && WTERMSIG(status) == SIGABRT;
         const bool passed = WIFEXITED(status) && WEXITSTATUS(status) == 0 && !said[0];
         if (!(stops ? stopped : passed)) {
             printf("%s: wanted %s, and it ended as %d: %s\n", CALLS[k].wanted, stops ? "this" : "nothing", status, said);
