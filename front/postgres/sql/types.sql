@@ -102,6 +102,7 @@ SELECT k, n, positions('{0,9,16,999}/1000', k, n) FROM unnest('{0,1,3,4,92233720
 SELECT positions('{}/0', 0, 5), positions('{}/1000', 0, 5), positions(NULL, 0, 5), positions('{1}/2', NULL, 5), positions('{1}/2', 0, NULL);
 SELECT positions('{1}/2', -1, 5);
 SELECT positions('{1}/2', 0, -1);
+SELECT positions(insert_range(bitset(134217728), '(,)'));
 SELECT p FROM ones('{0,9,16}/17') p;
 SELECT p FROM zeroes('{0,3-9}/10') p;
 SELECT ones('{5,900}/1000'), zeroes('{0-998}/1000');
