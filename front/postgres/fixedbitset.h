@@ -93,6 +93,9 @@ typedef struct Span {
     size_t end;
 } Span;
 
+/* The operators of the index class for GIN, by their numbers in the SQL. */
+enum { OVERLAPS = 1, CONTAINS = 2, CONTAINS_POSITION = 3 };
+
 /* What the module's files call of each other is not for other modules, so it is called directly. */
 #pragma GCC visibility push(hidden)
 
