@@ -42,7 +42,7 @@ fn answers(alloc: Global, text: &str) -> Result<String, Fault> {
         return Err(Fault::Line(1, wrong));
     };
     let [roles @ 0..=LIMIT, rights @ 0..=LIMIT] = *size.numbers.as_slice() else {
-        return Err(Fault::Line(size.line, wrong_size(&size.numbers)));
+        return Err(Fault::Line(size.line, wrong_size(size)));
     };
     let mut parts = others.splitn(5, |row| row.numbers.is_empty());
     if let Some([row, ..]) = parts.next() {
@@ -65,8 +65,8 @@ fn answers(alloc: Global, text: &str) -> Result<String, Fault> {
 }
 
 // Why these are not how many roles and rights there are.
-fn wrong_size(numbers: &[usize]) -> Wrong {
-    match *numbers {
+fn wrong_size(row: &Row) -> Wrong {
+    match *row.numbers.as_slice() {
         [roles, _] if roles > LIMIT => Wrong::Above("the number of roles", roles, LIMIT),
         [_, rights] => Wrong::Above("the number of rights", rights, LIMIT),
         _ => Wrong::Form("there have to be two numbers, of roles and of rights"),
@@ -84,7 +84,7 @@ fn policy_of(alloc: Global, roles: usize, rights: usize, rows: &[Row]) -> Result
     let mut policy = Policy::new(alloc, roles, rights)?;
     for row in rows {
         let Some((role, right)) = grant_of(&row.numbers, roles, rights) else {
-            return Err(Fault::Line(row.line, wrong_grant(&row.numbers, roles, rights)));
+            return Err(Fault::Line(row.line, wrong_grant(row, roles, rights)));
         };
         policy.grant(role, right);
     }
@@ -103,8 +103,8 @@ fn grant_of(numbers: &[usize], roles: usize, rights: usize) -> Option<(usize, us
 }
 
 // Why these numbers are no grant.
-fn wrong_grant(numbers: &[usize], roles: usize, rights: usize) -> Wrong {
-    match *numbers {
+fn wrong_grant(row: &Row, roles: usize, rights: usize) -> Wrong {
+    match *row.numbers.as_slice() {
         [role, _] if role >= roles => Wrong::NotBelow("the role", role, roles),
         [_, right] => Wrong::NotBelow("the right", right, rights),
         _ => Wrong::Form("there have to be two numbers, a role and a right"),
@@ -122,7 +122,7 @@ fn deny(policy: &mut Policy, rows: &[Row]) -> Result<(), Fault>
 {
     for row in rows {
         let Some((role, right)) = grant_of(&row.numbers, policy.roles(), policy.rights()) else {
-            let wrong = wrong_grant(&row.numbers, policy.roles(), policy.rights());
+            let wrong = wrong_grant(row, policy.roles(), policy.rights());
             return Err(Fault::Line(row.line, wrong));
         };
         policy.revoke(role, right);

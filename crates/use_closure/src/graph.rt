@@ -42,7 +42,7 @@ fn table_of(alloc: Global, nodes: usize, rows: &[Row]) -> Result<BitRows, Fault>
     let mut table = BitRows::new(alloc, nodes, nodes)?;
     for row in rows {
         let Some((from, to)) = edge_of(&row.numbers, nodes) else {
-            return Err(Fault::Line(row.line, wrong_edge(&row.numbers, nodes)));
+            return Err(Fault::Line(row.line, wrong_edge(row, nodes)));
         };
         table.set(from, to, true);
     }
@@ -61,8 +61,8 @@ fn edge_of(numbers: &[usize], nodes: usize) -> Option<(usize, usize)>
 }
 
 // Why these numbers are no edge.
-fn wrong_edge(numbers: &[usize], nodes: usize) -> Wrong {
-    match *numbers {
+fn wrong_edge(row: &Row, nodes: usize) -> Wrong {
+    match *row.numbers.as_slice() {
         [from, _] if from >= nodes => Wrong::NotBelow("the node", from, nodes),
         [_, to] => Wrong::NotBelow("the node", to, nodes),
         _ => Wrong::Form("an edge has to be two nodes"),

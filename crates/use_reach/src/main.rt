@@ -59,7 +59,7 @@ fn graph_of(alloc: Global, rows: &[Row]) -> Result<Vec<Vec<usize>>, Fault>
     let mut graph = Vec::new(alloc);
     for row in rows {
         if !are_nodes(&row.numbers, rows.len()) {
-            return Err(Fault::Line(row.line, wrong_row(&row.numbers, rows.len())));
+            return Err(Fault::Line(row.line, wrong_row(row, rows.len())));
         }
         graph.push(row.numbers.to_vec(alloc)?)?;
     }
@@ -67,8 +67,8 @@ fn graph_of(alloc: Global, rows: &[Row]) -> Result<Vec<Vec<usize>>, Fault>
 }
 
 // Which number of a row is the first that is no node.
-fn wrong_row(numbers: &[usize], nodes: usize) -> Wrong {
-    match first_not_below(numbers, nodes) {
+fn wrong_row(row: &Row, nodes: usize) -> Wrong {
+    match first_not_below(&row.numbers, nodes) {
         Some(node) => Wrong::NotBelow("the node", node, nodes),
         None => Wrong::Form("each edge has to lead to a node"),
     }

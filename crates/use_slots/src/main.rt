@@ -86,15 +86,15 @@ fn carry_out(alloc: Global, slots: &mut Slots, rows: &[Row]) -> Result<String, F
                 Some(start) => writeln!(answers, "{start}")?,
                 None => answers.push_str("full\n")?,
             },
-            _ => return Err(Fault::Line(row.line, too_long(&row.numbers))),
+            _ => return Err(Fault::Line(row.line, too_long(row))),
         }
     }
     Ok(answers)
 }
 
 // What is wrong with more numbers than a command has.
-fn too_long(numbers: &[usize]) -> Wrong {
-    Wrong::Above("the count of numbers", numbers.len(), 3)
+fn too_long(row: &Row) -> Wrong {
+    Wrong::Above("the count of numbers", row.numbers.len(), 3)
 }
 
 // Takes the stretch that `take_stretch` takes, if it does not go past `end`.

@@ -88,13 +88,13 @@ fn sizes_of(row: &Row) -> Result<(usize, usize, usize), Fault> {
             letters @ 0..=LETTERS,
             limit @ 0..=STATES,
         ] => Ok((states, letters, limit)),
-        _ => Err(Fault::Line(row.line, wrong_sizes(&row.numbers))),
+        _ => Err(Fault::Line(row.line, wrong_sizes(row))),
     }
 }
 
 // Why these are not how many states and letters there are, and perhaps how many states there may be.
-fn wrong_sizes(numbers: &[usize]) -> Wrong {
-    match *numbers {
+fn wrong_sizes(row: &Row) -> Wrong {
+    match *row.numbers.as_slice() {
         [states, _] | [states, _, _] if states > STATES => {
             Wrong::Above("the number of states", states, STATES)
         }
@@ -131,14 +131,14 @@ fn states_of(alloc: Global, states: usize, row: &Row) -> Result<FixedBitSet, Fau
     ensures fault { IfErr result (IsFaultOfRow (AreBelow states) (row.now ∷ [])) }
 {
     let Some(set) = set_of(alloc, states, &row.numbers)? else {
-        return Err(Fault::Line(row.line, wrong_state(&row.numbers, states)));
+        return Err(Fault::Line(row.line, wrong_state(row, states)));
     };
     Ok(set)
 }
 
 // Which of these numbers is the first that is no state.
-fn wrong_state(numbers: &[usize], states: usize) -> Wrong {
-    match first_not_below(numbers, states) {
+fn wrong_state(row: &Row, states: usize) -> Wrong {
+    match first_not_below(&row.numbers, states) {
         Some(state) => Wrong::NotBelow("the state", state, states),
         None => Wrong::Form("each number has to be a state"),
     }
@@ -154,7 +154,7 @@ fn edges_of(alloc: Global, states: usize, letters: usize, rows: &[Row]) -> Resul
     let mut edges = Vec::new(alloc);
     for row in rows {
         let Some(edge) = edge_of(&row.numbers, states, letters) else {
-            return Err(Fault::Line(row.line, wrong_edge(&row.numbers, states, letters)));
+            return Err(Fault::Line(row.line, wrong_edge(row, states, letters)));
         };
         edges.push(edge)?;
     }
@@ -173,8 +173,8 @@ fn edge_of(numbers: &[usize], states: usize, letters: usize) -> Option<Edge>
 }
 
 // Why these numbers are no edge.
-fn wrong_edge(numbers: &[usize], states: usize, letters: usize) -> Wrong {
-    match *numbers {
+fn wrong_edge(row: &Row, states: usize, letters: usize) -> Wrong {
+    match *row.numbers.as_slice() {
         [from, _, _] if from >= states => Wrong::NotBelow("the state", from, states),
         [_, by, _] if by >= letters => Wrong::NotBelow("the letter", by, letters),
         [_, _, to] => Wrong::NotBelow("the state", to, states),
