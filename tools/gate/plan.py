@@ -99,13 +99,13 @@ class Plan:
     def fronts(self):
         """What stands above the static library and is no Rattle."""
         library = self.sources("bits_c", parts=("src", "specs", "proofs"))
-        front = Stage("the crate for Rust and the header for C", ("front/test",), ("front", *library), MAKERS, ("README.md",))
+        front = Stage("the crate for Rust and the header for C", ("front/test",), ("front", "docs/make_api", *library), MAKERS, ("README.md",))
         server = ("pg_config", "postgres", "psql", *MAKERS)
         inputs = ("front/postgres", "front/lib", "front/c")
         postgres = Stage("the type for PostgreSQL", ("front/postgres/test",), inputs, server, ("README.md",))
         crate = ("front/rust", "front/differ", "front/registry", "front/compilers")
         gcc = [f"{it}-linux-gnu-gcc" for it in ("aarch64", "i686", "s390x")]
-        emulators = ("qemu-aarch64-static", "qemu-s390x-static", "wasm-ld", "node", "rustc", "cc", *gcc)
+        emulators = ("qemu-aarch64-static", "qemu-s390x-static", "wasm-ld", "node", "cargo", "rustc", "cc", *gcc)
         targets = Stage("the crate on other targets", ("front/targets",), (*crate, "front/targets", "front/wrong", "front/wrong_lines", "refuse/kept.py"), emulators)
         client = Stage("petgraph over the crate", ("front/client",), (*crate, "front/client"), ("cargo", "rustc", "cc"))
         return [front, postgres, targets, client] if self.has("bits_c") else []
