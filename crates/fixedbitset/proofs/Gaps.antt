@@ -1,18 +1,18 @@
 -- The first place with room among the bits of words, and among the positions of their value.
-use Rattle.std.proofs.Common.{◌≡◌, ℕ, zero, suc, inl, inr, ◌⊎◌, ◌+◌, ◌-◌, ◌<◌, ◌≤◌, ◌&&◌, not, nat_le, nat_lt, Bool, true, false, List, slice_get, refl, sym, ap, ◌∙◌, arith}
+use Rattle.std.proofs.Common.{◌≡◌, ℕ, suc, inl, inr, ◌⊎◌, ◌+◌, ◌-◌, ◌<◌, ◌≤◌, ◌&&◌, not, nat_le, nat_lt, Bool, true, false, List, slice_get, refl, sym, ap, ◌∙◌, arith}
 use Rattle.std.proofs.lemmas.Bool.{cases_Bool, true≢false, false_from_ne_true, le-leb}
 use Rattle.std.proofs.lemmas.Bool.Decides.{leb_tells}
 use lib.Dec.{leb}
 use Rattle.bitwords.specs.Ascending.{ascending}
 use Rattle.bitwords.specs.AscendingFacts.{ascending-same}
+use Rattle.bitwords.specs.Gaps.{all_pass, has_room_in, first_room}
+use Rattle.bitwords.specs.GapsFacts.{pass-fails, pass-finds}
 use Rattle.bitwords.specs.Rows.{has_bit}
 use Rattle.fixedbitset.specs.Bits.{contains, of_words}
 use Rattle.fixedbitset.specs.Ranges.{contains_any}
 use Rattle.fixedbitset.specs.RangesFacts.{contains_any-tells}
 use Rattle.fixedbitset.specs.Runs.{has_room, first_gap}
 use Rattle.fixedbitset.specs.WordsFacts.{length-of_words, contains-of_words}
-use Rattle.bitwords.specs.Gaps.{all_pass, has_room_in, first_room}
-use Rattle.bitwords.specs.GapsFacts.{pass-fails, pass-finds}
 
 module _ (n : ℕ) (ws : List ℕ) (count p : ℕ) where
   -- some position of the stretch is set exactly if not all are clear
@@ -58,3 +58,6 @@ unfolding first_room first_gap
 same_gap n ws count from =
     ap (λ m. slice_get (ascending (has_room_in (has_bit ws) n count) from (m + 1 - from)) 0) (sym (length-of_words n ws))
     ∙ ap (λ xs. slice_get xs 0) (ascending-same (has_room_in (has_bit ws) n count) (has_room (of_words n ws) count) from ((of_words n ws).length + 1 - from) (λ q _ _. sym (same_room n ws count q)))
+
+pub equal_le : {a b : ℕ} → a ≡ b → b ≤ a
+equal_le e = omega (arith, e)

@@ -28,7 +28,6 @@ pub fn first_gap(words: &[Block], length: usize, count: usize, from: usize) -> O
 
 // `first_gap`, with its steps.
 #[inline]
-#[tactic(auto, using(crate::proofs::Gaps::same_gap))]
 pub(crate) fn first_gap_counted(
     words: &[Block],
     length: usize,

@@ -1,4 +1,4 @@
-use Rattle.std.proofs.Common.{◌≡◌, ℕ, ◌+◌, ◌-◌, ◌*◌, ◌/◌, ◌<◌, ◌≤◌, ◌==◌, false, length, get_or, take, bit_or, sym, ap, ◌∙◌, arith}
+use Rattle.std.proofs.Common.{◌≡◌, ℕ, ◌+◌, ◌-◌, ◌*◌, ◌/◌, ◌<◌, ◌≤◌, ◌==◌, false, length, get_or, bit_or, sym, ap, ◌∙◌, arith}
 use Rattle.std.specs.Int.{bit_not, w64}
 use Rattle.std.proofs.lemmas.List.{length-take-le}
 use Rattle.std.proofs.lemmas.Nat.{or_lt}
@@ -6,7 +6,7 @@ use Rattle.std.proofs.lemmas.Nat.Bits.{bit_at-zero}
 use Rattle.bitlanes.specs.Bits.{bit}
 use Rattle.bitwords.specs.Gaps.{has_run}
 use Rattle.bitwords.specs.Rows.{has_bit}
-use Rattle.bitwords.proofs.Rooms.{free, IsOpen, room_found, room_none, room_before, open_on, open_over, open_past, open_behind, ends_later, room_inside, none_inside, run_within, room_after, word_is, begins_before, begins_past, mask_spent, mask_behind, clear_over, full_over, steps_least, steps_most, steps_exact, spent_at, spent_over}
+use Rattle.bitwords.proofs.Rooms.{free, room_found, room_none, room_before, open_on, open_over, open_past, open_behind, ends_later, room_inside, none_inside, run_within, room_after, word_is, begins_before, begins_past, mask_spent, mask_behind, clear_over, full_over, steps_least, steps_most, steps_exact, spent_at, spent_over}
 use Rattle.bitwords.proofs.gaps.first_of_some.Goals as goal
 
 pub returns-then-begin-count-clause-gap : goal.returns-then-begin-count-clause-gap
