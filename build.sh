@@ -42,21 +42,23 @@ need_kit() {
   [[ $found == *"$wanted" ]] || refuse "to build it takes the kit of '$wanted', and rt is of '$found'"
 }
 
-# Tells how far the build is, by what the checker says. The crate at work is the one whose folder was touched last.
+tell() {
+  echo "$crate: $1" >&2
+}
+
+# progress TEXT: tells how far the proof of a crate is, by what the kit says: how many of its functions are checked, that it
+# waits for another run, and that a program is proved, which is then compiled. TEXT says which of the crates it is.
 progress() {
-  local names line newest number
-  mapfile -t names < <(crates)
+  local line
   while read -r line; do
     if [[ $line =~ ^so\ far:\ ([0-9]+)\ of\ ([0-9]+)\ functions ]]; then
-      newest=$(cd "$top/crates" && ls -td "${names[@]/%//out}" 2>/dev/null | head -n 1) || true
-      for ((number = 1; number < ${#names[@]}; number++)); do
-        [ "${names[number - 1]}/out" != "$newest" ] || break
-      done
-      echo "$crate: crate $number of ${#names[@]}: ${newest%/out}, ${BASH_REMATCH[1]} of ${BASH_REMATCH[2]} functions"
+      tell "$1: ${BASH_REMATCH[1]} of ${BASH_REMATCH[2]} functions"
+    elif [[ $line =~ ^rt:\ (.*waiting.*) ]]; then
+      tell "${BASH_REMATCH[1]}"
     elif [[ $line == "crate $crate:"* ]]; then
-      echo "$crate: all is proved, and the program is compiled and linked"
+      tell "$1, is proved; now compiling"
     fi
-  done >&2
+  done
 }
 
 # Whether no library that the program stands on was built before.
@@ -70,6 +72,7 @@ is_first() {
 # Runs the program without any proof. The lines that the kit says at the end of a run are left out.
 try() {
   local status=0 said
+  tell "nothing is proved in this run: the program is compiled with checks, which takes half a minute each time"
   cd "$top/crates/$crate"
   exec {said}> >(awk '!/^(interpreter: ended|checked: ended|run=ended) status=/ { print; fflush() }' >&2)
   rt try 2>&"$said" || status=$?
@@ -78,28 +81,52 @@ try() {
   return "$status"
 }
 
+# prove CRATE TEXT: proves a crate over those below it, and builds the program where the crate is its own. TEXT says which
+# of the crates it is.
+prove() {
+  local began=$SECONDS call=lib given=/dev/null
+  if [ "$1" = "$crate" ]; then call=run given=stdin; fi
+  tell "$2, begins"
+  (cd "$top/crates/$1" && rt "$call" <"$given" 2>&1) | tee -a "$log" | progress "$2" || return
+  if [ "$1" != "$crate" ]; then tell "$2, is proved, after $((SECONDS - began)) seconds"; fi
+}
+
 # Proves and builds the program. Its time is that of the start, so a source that is edited meanwhile is newer.
 build() {
-  local out=$top/crates/$crate/out
+  local out=$top/crates/$crate/out names name number=0 long=
+  local log=$out/log
   need_kit
-  { mkdir -p "$out" && touch "$out/started"; } 2>/dev/null || refuse "to build it takes a folder to write to, and $out is none"
-  if is_first; then
-    echo "$crate: proving and building, which takes 10 to 15 minutes the first time" >&2
-  else
-    echo "$crate: proving and building" >&2
-  fi
-  if ! (cd "$top/crates/$crate" && rt run <stdin 2>&1 | tee "$out/log" | progress); then
-    tail -n 20 "$out/log" >&2
-    refuse "it was not built; $out/log has all that was said"
-  fi
+  { mkdir -p "$out" && touch "$out/started" && : >"$log"; } 2>/dev/null ||
+    refuse "to build it takes a folder to write to, and $out is none"
+  if is_first; then long=", which takes 10 to 15 minutes the first time"; fi
+  tell "proving and building$long; with --unproved it runs in half a minute, and nothing is proved"
+  mapfile -t names < <(crates)
+  for name in "${names[@]}"; do
+    number=$((number + 1))
+    if ! prove "$name" "crate $number of ${#names[@]}, $name"; then
+      tail -n 20 "$log" >&2
+      refuse "it was not built; $log has all that was said"
+    fi
+  done
   touch -r "$out/started" "$program"
+}
+
+# A standard input from which no line can come: what a program says where a read fails, before anything is built for it.
+unread() {
+  tell "$1, so a read failed, and nothing was written"
+  exit 1
 }
 
 # read_from [FILE]: standard input is the file from here on, where there is one.
 read_from() {
-  if [ $# -eq 0 ]; then
-    if [ -t 0 ]; then echo "$crate: answers come after the end of input (ctrl-d)" >&2; fi
-  elif ! { [ -r "$1" ] && exec <"$1"; }; then
-    refuse "the file $1 cannot be read"
+  if [ $# -gt 0 ]; then
+    if [ -d "$1" ]; then refuse "$1 is a folder and no file"; fi
+    { [ -r "$1" ] && exec <"$1"; } || refuse "the file $1 cannot be read"
+  elif [ ! -e /dev/stdin ]; then
+    unread "standard input is closed"
+  elif [ -d /dev/stdin ]; then
+    unread "standard input is a folder"
+  elif [ -t 0 ]; then
+    tell "answers come after the end of input (ctrl-d)"
   fi
 }

@@ -103,7 +103,7 @@ fn fill(a: &mut [u64], _: &[u64]) {
 struct Limit {
     work: &'static str,
     loops: &'static [Loop],
-    calls: &'static [&'static str],
+    calls: &'static [(&'static str, Rounds)],
 }
 
 const AHEAD: usize = 512;
@@ -112,42 +112,47 @@ const LIMITS: [Limit; 7] = [
     Limit {
         work: "reads a set",
         loops: &[read::<0>, read::<AHEAD>],
-        calls: &["maximum, of the first 64", "is_clear, of no position"],
+        calls: &[
+            ("maximum, of the first 64", sets::MAXIMUM),
+            ("is_clear, of no position", sets::IS_CLEAR),
+        ],
     },
     Limit {
         work: "reads two sets",
         loops: &[read_both::<0>, read_both::<AHEAD>],
         calls: &[
-            "is_disjoint",
-            "is_subset",
-            "is_superset",
-            "==, of equal sets",
+            ("is_disjoint", sets::IS_DISJOINT),
+            ("is_subset", sets::IS_SUBSET),
+            ("==, of equal sets", sets::EQUAL),
         ],
     },
     Limit {
         work: "writes a set",
         loops: &[write::<0>, fill],
-        calls: &["insert_range(..)"],
+        calls: &[("insert_range(..)", sets::INSERT_RANGE)],
     },
     Limit {
         work: "reads a set and writes it",
         loops: &[change::<0>, change::<AHEAD>],
-        calls: &["toggle_range(..)"],
+        calls: &[("toggle_range(..)", sets::TOGGLE_RANGE)],
     },
     Limit {
         work: "reads two sets and writes one",
         loops: &[join::<0>, join::<AHEAD>],
         calls: &[
-            "union_with",
-            "intersect_with",
-            "difference_with",
-            "symmetric_difference_with",
+            ("union_with", sets::UNION_WITH),
+            ("intersect_with", sets::INTERSECT_WITH),
+            ("difference_with", sets::DIFFERENCE_WITH),
+            ("symmetric_difference_with", sets::SYMMETRIC_DIFFERENCE_WITH),
         ],
     },
     Limit {
         work: "counts the bits of a set",
         loops: &[count::<0>, count::<AHEAD>, add::<0>, add::<AHEAD>],
-        calls: &["count_ones(..)", "count_zeroes(..)"],
+        calls: &[
+            ("count_ones(..)", sets::COUNT_ONES),
+            ("count_zeroes(..)", sets::COUNT_ZEROES),
+        ],
     },
     Limit {
         work: "joins two sets and counts",
@@ -158,10 +163,13 @@ const LIMITS: [Limit; 7] = [
             add_both::<AHEAD>,
         ],
         calls: &[
-            "union_count",
-            "intersection_count",
-            "difference_count",
-            "symmetric_difference_count",
+            ("union_count", sets::UNION_COUNT),
+            ("intersection_count", sets::INTERSECTION_COUNT),
+            ("difference_count", sets::DIFFERENCE_COUNT),
+            (
+                "symmetric_difference_count",
+                sets::SYMMETRIC_DIFFERENCE_COUNT,
+            ),
         ],
     },
 ];
@@ -197,8 +205,8 @@ pub fn print() {
     println!("\n| call | what it does at least | limit, ours: nanoseconds | ours / limit |");
     println!("|---|---|---|---|");
     for Limit { work, loops, calls } in LIMITS {
-        for (name, call, _) in sets::whole().filter(|(name, ..)| calls.contains(name)) {
-            let [limit, ours] = least_times(loops, call);
+        for (name, call) in calls {
+            let [limit, ours] = least_times(loops, *call);
             println!(
                 "| `{name}` | {work} | {limit:.1}, {ours:.1} | {:.2} |",
                 ours / limit

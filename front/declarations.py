@@ -3,9 +3,10 @@
 
 usage: front/declarations.py
 
-Compared are names, parameters, results and the fields of structs. A slice crosses as a pointer and a number. A wrong
-declaration is undefined behaviour, and no compiler sees it. It prints each that is wrong, and what was compared in the
-last line. The status is 0 only where none is wrong.
+Compared are names, parameters, results and the fields of structs, each with its name and its kind. A slice crosses as a
+pointer and a number, whose name is free. A declaration of bits.h gives the symbol of its name, and bits_check.h has a test
+for each that takes a pointer. A wrong declaration is undefined behaviour, and no compiler sees it. It prints each that is
+wrong, and what was compared in the last line. The status is 0 only where none is wrong.
 """
 import pathlib
 import re
@@ -51,57 +52,88 @@ def plain(kind):
     return re.sub(r"<'\w+>|'\w+ ", "", kind).strip()
 
 
+def crossing(pairs):
+    """What crosses for these names and kinds: a slice is a pointer and a number, whose name is free."""
+    found = []
+    for name, kind in pairs:
+        pointer, is_slice, _ = kind.partition("* word")
+        found += [(name, pointer + "*"), (None, "word")] if is_slice else [(name, kind)]
+    return found
+
+
+def agree(exported, declared):
+    """Whether both have the same kinds in the same order, and the same names where a name is not free."""
+    both = list(zip(exported, declared))
+    return len(exported) == len(declared) and all(one[1] == two[1] and one[0] in (None, two[0]) for one, two in both)
+
+
 def of_rust(text):
-    """The functions that a text of Rust or Rattle exports or declares: their kinds of parameters and of results."""
+    """The functions that a text of Rust or Rattle exports or declares: their parameters and their kinds of results."""
     head = r"^ *(?:pub )?(?:safe )?(?:extern \"C\" )?fn (bits_\w+)(?:<[^>]*>)?\(([^)]*)\)(?: -> (\w+))?(?=;|\s)"
     found = {}
     for name, parameters, result in re.findall(head, text, re.M):
-        kinds = [KINDS[plain(it.split(":", 1)[1])] for it in parameters.split(",") if it.strip()]
-        found[name] = (" ".join(kinds), KINDS[result])
+        pairs = [it.split(":", 1) for it in parameters.split(",") if it.strip()]
+        found[name] = [*crossing((word.strip(), KINDS[plain(kind)]) for word, kind in pairs), ("", KINDS[result])]
     return found
 
 
 def of_c(text):
-    """The functions that the header declares."""
+    """The functions that the header declares with the symbols of their names."""
     found = {}
-    for result, name, parameters in re.findall(r"^(\w+) (bits_\w+)\(([^)]*)\);", text, re.M):
-        kinds = [KINDS[re.match(r"\s*((?:const )?\w+ \*|\w+)", it)[1]] for it in parameters.split(",")]
-        found[name] = (" ".join(kinds), KINDS[result])
+    for result, name, parameters in re.findall(r"^(\w+) (bits_\w+)\(([^)]*)\)\s+BITS_SYMBOL\(\2\);", text, re.M):
+        pairs = [re.match(r"\s*((?:const )?\w+ \*|\w+) ?(\w+)$", it).groups() for it in parameters.split(",")]
+        found[name] = [*((word, KINDS[kind]) for kind, word in pairs), ("", KINDS[result])]
     return found
 
 
 def fields_of(text, name):
-    """The fields of a struct as words (`w`), answers (`b`) and pointers (`p`), with those of the structs in it."""
+    """The fields of a struct as what crosses, with those of the structs in it."""
     body = re.search(rf"struct {name}\b[^{{;]*\{{(.*?)\n\}}", text, re.S)[1]
-    rust = [kind for field, kind in re.findall(r"^ +(?:pub )?(\w+): ([^{,]+),", body, re.M) if "PhantomData" not in kind]
-    kinds = rust or [kind for kind in re.findall(r"^ +((?:const )?\w+ \*|\w+ )\w+;", body, re.M)]
-    return "".join(letters_of(text, plain(it)) for it in kinds)
+    rust = [it for it in re.findall(r"^ +(?:pub )?(\w+): ([^{,]+),", body, re.M) if "PhantomData" not in it[1]]
+    fields = rust or [(it[1], it[0]) for it in re.findall(r"^ +((?:const )?\w+ \*|\w+ )(\w+);", body, re.M)]
+    found = []
+    for field, kind in fields:
+        known = KINDS.get(plain(kind), "").removeprefix("const ")
+        inner = [] if known.startswith(("word", "bool")) else fields_of(text, re.match(r"\w+", kind)[0])
+        found += [(it and f"{field}.{it}", what) for it, what in inner] or crossing([(field, known)])
+    return found
 
 
-def letters_of(text, kind):
-    kind = KINDS.get(kind, kind)
-    known = {"word": "w", "bool": "b", "word*": "p", "const word*": "p", "word* word": "pw", "const word* word": "pw"}
-    return known.get(kind) or fields_of(text, kind)
-
-
-def main():
-    sources = "\n".join(it.read_text() for it in sorted((TOP / "crates/bits_c/src").rglob("*.rt")))
-    archive, header = (TOP / it for it in ("front/differ/declared.rs", "front/c/bits.h"))
-    archive, header = archive.read_text(), header.read_text()
-    exported, wrong = of_rust(sources), []
+def wrong_calls(exported, archive, header):
+    """What is wrong with the declarations of calls."""
     for side, declared in (("declared.rs", of_rust(archive)), ("bits.h", of_c(header))):
         # (The program that compares need not declare all.)
         names = declared.keys() if side == "declared.rs" else exported.keys() | declared.keys()
         for it in sorted(names):
-            if exported.get(it) != declared.get(it):
-                wrong.append(f"{side}: {it} is {exported.get(it)}, and declared {declared.get(it)}")
+            if not agree(exported.get(it, []), declared.get(it, [])):
+                yield f"{side}: {it} is {exported.get(it)}, and declared {declared.get(it)}"
+
+
+def wrong_structs(sources, archive, header):
+    """What is wrong with the declarations of structs."""
     for name, (of_sources, of_archive) in STRUCTS.items():
-        fields = [fields_of(sources, of_sources), fields_of(archive, of_archive), fields_of(header, name)]
-        if len(set(fields)) != 1:
-            wrong.append(f"struct {name} is {fields[0]}, in declared.rs {fields[1]}, in bits.h {fields[2]}")
+        exported = fields_of(sources, of_sources)
+        for side, fields in (("declared.rs", fields_of(archive, of_archive)), ("bits.h", fields_of(header, name))):
+            if not agree(exported, fields):
+                yield f"{side}: the struct {name} is {exported}, and declared {fields}"
     for one, other, name in (("Ones", "Zeroes", "bits_walk"), ("Set", "Room", "bits")):
         if fields_of(sources, one) != fields_of(sources, other):
-            wrong.append(f"the structs {one} and {other} differ, and {name} stands for both")
+            yield f"the structs {one} and {other} differ, and {name} stands for both"
+
+
+def wrong_tests(exported, tests):
+    """The calls that take a pointer, and that bits_check.h does not test, or tests under another name."""
+    named = re.findall(r"^#define (bits_\w+)\(\.\.\.\) bits_tested_(\w+)\(BITS_HERE\((\w+)\), __VA_ARGS__\)$", tests, re.M)
+    tested = {name for name, own, here in named if name == here == f"bits_{own}"}
+    asking = {name for name, parameters in exported.items() if any(kind.endswith("*") for _, kind in parameters)}
+    return (f"bits_check.h: {it} is not tested as it should be" for it in sorted(tested ^ asking))
+
+
+def main():
+    sources = "\n".join(it.read_text() for it in sorted((TOP / "crates/bits_c/src").rglob("*.rt")))
+    archive, header, tests = ((TOP / "front" / it).read_text() for it in ("differ/declared.rs", "c/bits.h", "c/bits_check.h"))
+    exported = of_rust(sources)
+    wrong = [*wrong_calls(exported, archive, header), *wrong_structs(sources, archive, header), *wrong_tests(exported, tests)]
     print("\n".join([*wrong, f"{len(exported)} exports and {len(STRUCTS)} structs, {len(wrong)} wrong declarations"]))
     return bool(wrong)
 

@@ -1,20 +1,32 @@
 /* Sets of bits with a length, answered by proved code: libbits_c.a of the crate bits_c, for x86-64 Linux.
  *
- * A set is a struct of the caller's: its words, how many there are, and its length in bits. Position p is bit p % 64 of
- * word p / 64. What the caller keeps, for every call:
- *   - A set points to `count` words, which is bits_words(length). No bit past the length is set.
- *   - Nothing else reads or writes these words during a call that changes them.
- *   - The words of a set that a call changes overlap those of no other set. A set that is only read may stand twice.
- * Zeros are the set without a position. bits_settle makes any words those of a set. Each call leaves them so.
- *
- * No call asks anything of its numbers: a position or a range past the length is refused by the answer. No call takes or
- * frees memory, prints, waits or ends the process. None but the begin of a walk or of ranks keeps a pointer. Calls on unlike sets may run at
- * once in unlike threads, and so may calls that only read one set.
- *
- *     bits set = BITS_OF((uint64_t *)calloc(bits_words(100), 8), 100);
+ *     bits set = bits_new(100);
+ *     if (!set.words)
+ *         return ENOMEM;
  *     bits_insert(&set, 7);
  *     BITS_FOR_EACH(p, &set) printf("%zu\n", p);
- *     free(set.words);
+ *     bits_free(&set);
+ *
+ * A set is a struct of the caller's: its words, how many there are, and its length in bits. Position p is bit p % 64 of
+ * word p / 64. What the caller keeps, for every call:
+ *   - Count: a set points to `count` words, which is BITS_WORDS(length). These are whole lanes of four, and so up to three
+ *     more than (length + 63) / 64. No bit past the length is set. Zeros are the set without a position; bits_settle makes
+ *     any words those of a set. Each call leaves them so.
+ *   - Pointers: to words, to positions and to structs they are aligned to 8 bytes, as malloc and the compiler have it; bytes
+ *     and answers may stand anywhere. A pointer may be NULL where the number beside it is 0, and nowhere else.
+ *   - Overlap: what a call changes or writes overlaps nothing else that it is given. A set that is only read may stand twice.
+ *   - Threads: nothing else reads or writes, during a call, what it changes. Calls on unlike sets may run at once in unlike
+ *     threads, and so may calls that only read one set.
+ *
+ * A program that defines BITS_CHECK before it includes this header has the first three tested before each call, and ends
+ * with a line that says what was wrong, and where (bits_check.h).
+ *
+ * No call asks anything of its numbers: a position or a range past the length is refused by the answer. No call takes or
+ * frees memory, prints, waits or ends the process; bits_new and bits_free below are no calls of the archive. None but the
+ * begin of a walk or of ranks keeps a pointer.
+ *
+ * bits_own.h has a set that owns its words and grows, and sets as text. The archive's symbols are the names below behind
+ * fixedbitset_, and hidden: a shared object with the archive in it does not export them.
  */
 #ifndef BITS_H
 #define BITS_H
@@ -27,11 +39,23 @@
 #error "libbits_c.a is built for x86-64"
 #endif
 
+/* Who gives the memory of bits_new and of bits_own.h. A program may define all three before it includes this header. */
+#ifndef BITS_CALLOC
+#include <stdlib.h>
+#define BITS_CALLOC(count, size) calloc((count), (size))
+#define BITS_REALLOC(pointer, size) realloc((pointer), (size))
+#define BITS_FREE(pointer) free(pointer)
+#endif
+
+/* The symbol of a call in the archive. */
+#define BITS_SYMBOL(name) __asm__("fixedbitset_" #name)
+
+/* (The attribute lets a bits_view be read as one.) */
 typedef struct bits {
     uint64_t *words;
     size_t count;
     size_t length;
-} bits;
+} __attribute__((__may_alias__)) bits;
 
 /* A set of words that are only read. bits_of_view lends it to each call that takes a `const bits *`, so no caller has to cast
  * away a `const`. */
@@ -104,14 +128,22 @@ typedef struct bits_ranks {
 #define BITS_VALUE(type, ...) ((type){__VA_ARGS__})
 #endif
 
-/* The set of length n with these words, which are bits_words(n). */
-#define BITS_OF(w, n) BITS_VALUE(bits, (w), bits_words(n), (n))
+/* How many words a set of length n has: bits_words(n), as a constant where n is one. So it is the size of an array. */
+#define BITS_WORDS(n) (((size_t)(n) / 256 + ((size_t)(n) % 256 != 0)) * 4)
+
+/* What a set of length n with these words begins with, where n is a constant. The words are BITS_WORDS(n):
+ *     static uint64_t words[BITS_WORDS(1000)];
+ *     static bits set = BITS_INIT(words, 1000); */
+#define BITS_INIT(w, n) {(w), BITS_WORDS(n), (n)}
+
+/* The set of length n with these words, which are BITS_WORDS(n). n is taken once. */
+#define BITS_OF(w, n) bits_of((w), (n))
 
 /* The same of words that are only read. */
-#define BITS_VIEW_OF(w, n) BITS_VALUE(bits_view, (w), bits_words(n), (n))
+#define BITS_VIEW_OF(w, n) bits_view_of((w), (n))
 
 /* The table of so many rows and columns with these words, which are bits_rows_words(r, n). */
-#define BITS_ROWS_OF(w, r, n) BITS_VALUE(bits_rows, (w), bits_rows_words((r), (n)), (r), (n))
+#define BITS_ROWS_OF(w, r, n) bits_rows_of((w), (r), (n))
 
 /* Walks over no words. */
 #define BITS_WALK BITS_VALUE(bits_walk, 0, 0, 0, 0, (const uint64_t *)8, 0)
@@ -125,229 +157,276 @@ typedef struct bits_ranks {
 /* No position: what bits_minimum, bits_maximum and their kin answer where there is none. */
 #define BITS_NONE SIZE_MAX
 
-/* A loop over the positions of the set, in ascending order. `break` and `continue` are as in any loop. */
+/* A loop over the positions of the set, in ascending order. `break` and `continue` are as in any loop, and loops may stand
+ * in each other. */
 #define BITS_FOR_EACH(p, set)                                                                     \
-    for (bits_walk bits_walk_ = BITS_WALK,                                                        \
-                   *bits_once_ = (bits_ones(&bits_walk_, (set)), &bits_walk_);                    \
-         bits_once_; bits_once_ = NULL)                                                           \
-        for (size_t p = 0; bits_ones_next(&bits_walk_, &p);)
+    for (bits_walk bits_walk_##p = BITS_WALK,                                                     \
+                   *bits_once_##p = (bits_ones(&bits_walk_##p, (set)), &bits_walk_##p);           \
+         bits_once_##p; bits_once_##p = NULL)                                                     \
+        for (size_t p = 0; bits_ones_next(&bits_walk_##p, &p);)
 
 /* A loop over the stretches of positions of the set, each from `start` up to and without `end`, in ascending order. */
-#define BITS_FOR_EACH_RUN(start, end, set)                                                        \
-    for (bits_run_walk bits_runs_ = BITS_RUNS,                                                    \
-                       *bits_once_ = (bits_runs(&bits_runs_, (set)), &bits_runs_);                \
-         bits_once_; bits_once_ = NULL)                                                           \
-        for (size_t start = 0, end = 0; bits_runs_next(&bits_runs_, &start, &end);)
+#define BITS_FOR_EACH_RUN(start, end, set)                                                                  \
+    for (bits_run_walk bits_walk_##start = BITS_RUNS,                                                       \
+                       *bits_once_##start = (bits_runs(&bits_walk_##start, (set)), &bits_walk_##start);     \
+         bits_once_##start; bits_once_##start = NULL)                                                       \
+        for (size_t start = 0, end = 0; bits_runs_next(&bits_walk_##start, &start, &end);)
 
 #ifdef __cplusplus
 extern "C" {
 #endif
+
+/* ---- sets made. These six functions stand in this header; all other calls are those of the archive. */
+
+/* The set of this length with these words, which are BITS_WORDS(length). */
+static inline bits bits_of(uint64_t *words, size_t length) {
+    bits set;
+    set.words = words;
+    set.count = BITS_WORDS(length);
+    set.length = length;
+    return set;
+}
+
+/* The same of words that are only read. */
+static inline bits_view bits_view_of(const uint64_t *words, size_t length) {
+    bits_view view;
+    view.words = words;
+    view.count = BITS_WORDS(length);
+    view.length = length;
+    return view;
+}
 
 /* The view as the calls take it that change nothing: they write no word of it. */
 static inline const bits *bits_of_view(const bits_view *view) {
     return (const bits *)view;
 }
 
+/* A new set of this length without a position; bits_free gives its words back. Where memory is refused it has no words, which
+ * are NULL, and the length 0, and so has a set of a length that no memory holds. A set of length 0 has words, which no call
+ * looks at. */
+static inline bits bits_new(size_t length) {
+    const size_t count = BITS_WORDS(length);
+    uint64_t *words = (uint64_t *)BITS_CALLOC(count ? count : 4, sizeof(uint64_t));
+    return bits_of(words, words ? length : 0);
+}
+
+/* Gives back the words that bits_new made. What is left is the set of length 0, which may be given back once more. */
+static inline void bits_free(bits *set) {
+    BITS_FREE(set->words);
+    *set = bits_of(NULL, 0);
+}
+
 /* ---- words */
 
 /* How many words a set of this length has: whole lanes of four. */
-size_t bits_words(size_t length);
+size_t bits_words(size_t length) BITS_SYMBOL(bits_words);
 /* How many of them hold positions below the length. */
-size_t bits_blocks(size_t length);
+size_t bits_blocks(size_t length) BITS_SYMBOL(bits_blocks);
 /* Makes any words those of a set of `length` positions: of the words' positions those below `kept` stay. It answers whether
  * it did, which is where `count` is bits_words(length) and `kept` is at most the length. Else nothing is changed. So 0
  * empties, the length takes words from elsewhere, and the old length makes a set longer in memory that has room. */
-bool bits_settle(uint64_t *words, size_t count, size_t length, size_t kept);
+bool bits_settle(uint64_t *words, size_t count, size_t length, size_t kept) BITS_SYMBOL(bits_settle);
 /* Whether the words are those of a set of `length` positions as they stand: `count` is bits_words(length), and no bit past the
  * length is set. So words from elsewhere can be refused, where bits_settle would drop what does not fit. */
-bool bits_is_clean(const uint64_t *words, size_t count, size_t length);
+bool bits_is_clean(const uint64_t *words, size_t count, size_t length) BITS_SYMBOL(bits_is_clean);
 /* Clears the lowest bit of the word that is set, and answers its index. Of 0 the answer is BITS_NONE. */
-size_t bits_take_lowest_bit(uint64_t *word);
+size_t bits_take_lowest_bit(uint64_t *word) BITS_SYMBOL(bits_take_lowest_bit);
 
 /* ---- positions */
 
 /* Whether the position is set: false at or past the length. */
-bool bits_contains(const bits *set, size_t bit);
+bool bits_contains(const bits *set, size_t bit) BITS_SYMBOL(bits_contains);
 /* Sets the position, and answers whether it is below the length; else nothing is changed. */
-bool bits_insert(bits *set, size_t bit);
+bool bits_insert(bits *set, size_t bit) BITS_SYMBOL(bits_insert);
 /* Clears the position, and answers whether it is below the length; else nothing is changed. */
-bool bits_remove(bits *set, size_t bit);
+bool bits_remove(bits *set, size_t bit) BITS_SYMBOL(bits_remove);
 /* Turns the position, and answers whether it is below the length; else nothing is changed. */
-bool bits_toggle(bits *set, size_t bit);
+bool bits_toggle(bits *set, size_t bit) BITS_SYMBOL(bits_toggle);
 /* Sets the position, and answers whether it was set before. At or past the length nothing is changed, and the answer is
  * false. */
-bool bits_put(bits *set, size_t bit);
+bool bits_put(bits *set, size_t bit) BITS_SYMBOL(bits_put);
 /* Sets the position, or clears it where `enabled` is false, and answers whether it is below the length; else nothing is
  * changed. */
-bool bits_set(bits *set, size_t bit, bool enabled);
-/* Makes word `index` the given one, without its bits past the length. It answers whether the length needs such a word; else
+bool bits_set(bits *set, size_t bit, bool enabled) BITS_SYMBOL(bits_set);
+/* Makes word `index` the given block, without its bits past the length. It answers whether the length needs such a word; else
  * nothing is changed. */
-bool bits_set_block(bits *set, size_t index, uint64_t value);
+bool bits_set_block(bits *set, size_t index, uint64_t block) BITS_SYMBOL(bits_set_block);
 /* Sets each of `count` positions, and answers whether all of them are below the length; else nothing is changed. */
-bool bits_insert_all(bits *set, const size_t *positions, size_t count);
+bool bits_insert_all(bits *set, const size_t *positions, size_t count) BITS_SYMBOL(bits_insert_all);
 /* Writes for each of `count` positions whether it is set: false at or past the length. It answers whether there are as many
  * places; else nothing is written. */
-bool bits_contains_each(const bits *set, const size_t *positions, size_t count, bool *answers, size_t places);
+bool bits_contains_each(const bits *set, const size_t *positions, size_t count, bool *answers, size_t places)
+    BITS_SYMBOL(bits_contains_each);
 /* Clears all positions. */
-void bits_clear(bits *set);
+void bits_clear(bits *set) BITS_SYMBOL(bits_clear);
 /* The least position that is set, or BITS_NONE. */
-size_t bits_minimum(const bits *set);
+size_t bits_minimum(const bits *set) BITS_SYMBOL(bits_minimum);
 /* The greatest position that is set, or BITS_NONE. */
-size_t bits_maximum(const bits *set);
+size_t bits_maximum(const bits *set) BITS_SYMBOL(bits_maximum);
 /* The least position at or past `from` that is set, or BITS_NONE. Any number may be given, here and in the next four. */
-size_t bits_next_one(const bits *set, size_t from);
+size_t bits_next_one(const bits *set, size_t from) BITS_SYMBOL(bits_next_one);
 /* The least position at or past `from` and below the length that is not set, or BITS_NONE. */
-size_t bits_next_zero(const bits *set, size_t from);
+size_t bits_next_zero(const bits *set, size_t from) BITS_SYMBOL(bits_next_zero);
 /* The least number at or past `from` with `count` clear positions from there on, or BITS_NONE. */
-size_t bits_first_gap(const bits *set, size_t count, size_t from);
+size_t bits_first_gap(const bits *set, size_t count, size_t from) BITS_SYMBOL(bits_first_gap);
 /* The greatest position below `below` that is set, or BITS_NONE. */
-size_t bits_previous_one(const bits *set, size_t below);
+size_t bits_previous_one(const bits *set, size_t below) BITS_SYMBOL(bits_previous_one);
 /* The greatest position below `below` and below the length that is not set, or BITS_NONE. */
-size_t bits_previous_zero(const bits *set, size_t below);
+size_t bits_previous_zero(const bits *set, size_t below) BITS_SYMBOL(bits_previous_zero);
 /* Whether no position is set. */
-bool bits_is_clear(const bits *set);
+bool bits_is_clear(const bits *set) BITS_SYMBOL(bits_is_clear);
 /* Whether each position is set. */
-bool bits_is_full(const bits *set);
+bool bits_is_full(const bits *set) BITS_SYMBOL(bits_is_full);
 
 /* ---- ranges, from `start` up to and without `end` */
 
 /* Whether the range is valid: start <= end, and end <= length. */
-bool bits_range_is_valid(const bits *set, size_t start, size_t end);
+bool bits_range_is_valid(const bits *set, size_t start, size_t end) BITS_SYMBOL(bits_range_is_valid);
 /* Sets the range, and answers whether it is valid; else nothing is changed. */
-bool bits_insert_range(bits *set, size_t start, size_t end);
+bool bits_insert_range(bits *set, size_t start, size_t end) BITS_SYMBOL(bits_insert_range);
 /* Clears the range, and answers whether it is valid; else nothing is changed. */
-bool bits_remove_range(bits *set, size_t start, size_t end);
+bool bits_remove_range(bits *set, size_t start, size_t end) BITS_SYMBOL(bits_remove_range);
 /* Turns each position of the range, and answers whether it is valid; else nothing is changed. */
-bool bits_toggle_range(bits *set, size_t start, size_t end);
+bool bits_toggle_range(bits *set, size_t start, size_t end) BITS_SYMBOL(bits_toggle_range);
 /* How many positions of the range are set; 0 where it is not valid. */
-size_t bits_count_ones(const bits *set, size_t start, size_t end);
+size_t bits_count_ones(const bits *set, size_t start, size_t end) BITS_SYMBOL(bits_count_ones);
 /* How many positions of the range are not set; 0 where it is not valid. */
-size_t bits_count_zeroes(const bits *set, size_t start, size_t end);
+size_t bits_count_zeroes(const bits *set, size_t start, size_t end) BITS_SYMBOL(bits_count_zeroes);
 /* Whether each position of the range is set; false where it is not valid. */
-bool bits_contains_all_in_range(const bits *set, size_t start, size_t end);
+bool bits_contains_all_in_range(const bits *set, size_t start, size_t end) BITS_SYMBOL(bits_contains_all_in_range);
 /* Whether some position of the range is set; false where it is not valid. */
-bool bits_contains_any_in_range(const bits *set, size_t start, size_t end);
+bool bits_contains_any_in_range(const bits *set, size_t start, size_t end) BITS_SYMBOL(bits_contains_any_in_range);
 
 /* ---- two sets, of any two lengths */
 
 /* Adds the positions of the second, and answers whether it is no longer than the first; else nothing is changed. */
-bool bits_union_with(bits *set, const bits *other);
+bool bits_union_with(bits *set, const bits *other) BITS_SYMBOL(bits_union_with);
 /* Leaves the positions that exactly one has, and answers whether the second is no longer than the first; else nothing is
  * changed. */
-bool bits_symmetric_difference_with(bits *set, const bits *other);
+bool bits_symmetric_difference_with(bits *set, const bits *other) BITS_SYMBOL(bits_symmetric_difference_with);
 /* Leaves the positions of both, and the length. */
-void bits_intersect_with(bits *set, const bits *other);
+void bits_intersect_with(bits *set, const bits *other) BITS_SYMBOL(bits_intersect_with);
 /* Leaves the positions that the second lacks, and the length. */
-void bits_difference_with(bits *set, const bits *other);
+void bits_difference_with(bits *set, const bits *other) BITS_SYMBOL(bits_difference_with);
 /* As bits_union_with, and answers at `changed` whether a position came in; nothing is written there if none is changed. */
-bool bits_union_with_change(bits *set, const bits *other, bool *changed);
+bool bits_union_with_change(bits *set, const bits *other, bool *changed) BITS_SYMBOL(bits_union_with_change);
 /* As bits_intersect_with, and answers whether a position went. */
-bool bits_intersect_with_change(bits *set, const bits *other);
+bool bits_intersect_with_change(bits *set, const bits *other) BITS_SYMBOL(bits_intersect_with_change);
 /* As bits_difference_with, and answers whether a position went. */
-bool bits_difference_with_change(bits *set, const bits *other);
+bool bits_difference_with_change(bits *set, const bits *other) BITS_SYMBOL(bits_difference_with_change);
 /* Adds the positions of `gens` that `kills` lacks, and answers whether `gens` is no longer than the first; else nothing is
  * changed. It answers at `changed` whether a position came in; nothing is written there if none is changed. */
-bool bits_union_with_difference(bits *set, const bits *gens, const bits *kills, bool *changed);
+bool bits_union_with_difference(bits *set, const bits *gens, const bits *kills, bool *changed)
+    BITS_SYMBOL(bits_union_with_difference);
 /* How many positions are in either. */
-size_t bits_union_count(const bits *set, const bits *other);
+size_t bits_union_count(const bits *set, const bits *other) BITS_SYMBOL(bits_union_count);
 /* How many positions are in both. */
-size_t bits_intersection_count(const bits *set, const bits *other);
+size_t bits_intersection_count(const bits *set, const bits *other) BITS_SYMBOL(bits_intersection_count);
 /* How many positions of the first the second lacks. */
-size_t bits_difference_count(const bits *set, const bits *other);
+size_t bits_difference_count(const bits *set, const bits *other) BITS_SYMBOL(bits_difference_count);
 /* How many positions are in exactly one. */
-size_t bits_symmetric_difference_count(const bits *set, const bits *other);
+size_t bits_symmetric_difference_count(const bits *set, const bits *other) BITS_SYMBOL(bits_symmetric_difference_count);
 /* Whether no position is in both. */
-bool bits_is_disjoint(const bits *set, const bits *other);
+bool bits_is_disjoint(const bits *set, const bits *other) BITS_SYMBOL(bits_is_disjoint);
 /* Whether the second has each position of the first. The lengths do not matter. */
-bool bits_is_subset(const bits *set, const bits *other);
+bool bits_is_subset(const bits *set, const bits *other) BITS_SYMBOL(bits_is_subset);
 /* The least position of the second that the first lacks, or BITS_NONE. */
-size_t bits_first_lacking(const bits *set, const bits *other);
+size_t bits_first_lacking(const bits *set, const bits *other) BITS_SYMBOL(bits_first_lacking);
 /* Whether the lengths and the positions are equal. */
-bool bits_equal(const bits *set, const bits *other);
+bool bits_equal(const bits *set, const bits *other) BITS_SYMBOL(bits_equal);
 /* -1 where the first comes before the second, 0 where they are equal, 1 where it comes after: by their lengths, and then by
  * their words from the first on. */
-ptrdiff_t bits_compare(const bits *set, const bits *other);
+ptrdiff_t bits_compare(const bits *set, const bits *other) BITS_SYMBOL(bits_compare);
 
 /* ---- sets written over words that may hold anything. `to` has the length of the set to be, and bits_words of it for its words.
  *      Each call answers whether it did its work; else nothing is changed. It writes each word once. */
 
 /* Makes `to` the positions of the set that are below the length of `to`, which may be any. */
-bool bits_copy(bits *to, const bits *set);
+bool bits_copy(bits *to, const bits *set) BITS_SYMBOL(bits_copy);
 /* Makes `to` the positions of either set. Its length has to be the greater of theirs. */
-bool bits_union_of(bits *to, const bits *set, const bits *other);
+bool bits_union_of(bits *to, const bits *set, const bits *other) BITS_SYMBOL(bits_union_of);
 /* Makes `to` the positions of exactly one set. Its length has to be the greater of theirs. */
-bool bits_symmetric_difference_of(bits *to, const bits *set, const bits *other);
+bool bits_symmetric_difference_of(bits *to, const bits *set, const bits *other) BITS_SYMBOL(bits_symmetric_difference_of);
 /* Makes `to` the positions of both sets. Its length has to be the smaller of theirs. */
-bool bits_intersection_of(bits *to, const bits *set, const bits *other);
+bool bits_intersection_of(bits *to, const bits *set, const bits *other) BITS_SYMBOL(bits_intersection_of);
 /* Makes `to` the positions of the first set that the second lacks. Its length has to be that of the first. */
-bool bits_difference_of(bits *to, const bits *set, const bits *other);
+bool bits_difference_of(bits *to, const bits *set, const bits *other) BITS_SYMBOL(bits_difference_of);
 
 /* ---- positions moved by any number, and parts. What is not below the length then falls away, and the length stays.
  *      To put one set behind another, make the first longer by bits_settle, and take the second in, moved by the old
  *      length. To cut a set, have bits_settle make fewer of its words those of a lesser length. */
 
 /* Moves each position up by `by`. */
-void bits_shift_up(bits *set, size_t by);
+void bits_shift_up(bits *set, size_t by) BITS_SYMBOL(bits_shift_up);
 /* Moves each position down by `by`; those below `by` fall away. */
-void bits_shift_down(bits *set, size_t by);
+void bits_shift_down(bits *set, size_t by) BITS_SYMBOL(bits_shift_down);
 /* Adds the positions of the second moved up by `by`. */
-void bits_union_with_shifted(bits *set, const bits *other, size_t by);
+void bits_union_with_shifted(bits *set, const bits *other, size_t by) BITS_SYMBOL(bits_union_with_shifted);
 /* Adds the positions of the set itself moved up by `by`. */
-void bits_union_with_own_shift(bits *set, size_t by);
+void bits_union_with_own_shift(bits *set, size_t by) BITS_SYMBOL(bits_union_with_own_shift);
 /* Makes `part` the positions of the second from `start` up to and without `end`, less `start`. It answers whether it did,
  * which is where the range is valid and `part` has its length, end - start; else nothing is changed. */
-bool bits_slice(bits *part, const bits *set, size_t start, size_t end);
+bool bits_slice(bits *part, const bits *set, size_t start, size_t end) BITS_SYMBOL(bits_slice);
 /* Writes the positions of the second from `start` up to and without `end` over those of the first from `at` on; all others
  * stay. It answers whether it did, which is where the range is valid in the second, and from `at` on ends within the first;
  * else nothing is changed. */
-bool bits_copy_range(bits *set, const bits *other, size_t start, size_t end, size_t at);
+bool bits_copy_range(bits *set, const bits *other, size_t start, size_t end, size_t at) BITS_SYMBOL(bits_copy_range);
 
 /* ---- a set as bytes: position p is bit p % 8 of byte p / 8 */
 
 /* How many bytes a set of this length has: eight for each word that the length needs. */
-size_t bits_bytes(size_t length);
+size_t bits_bytes(size_t length) BITS_SYMBOL(bits_bytes);
 /* Leaves the positions that the bytes say, of any number of bytes. Those that are missing count as 0, and bits past the length
  * are dropped. */
-void bits_from_bytes(bits *set, const uint8_t *bytes, size_t count);
+void bits_from_bytes(bits *set, const uint8_t *bytes, size_t count) BITS_SYMBOL(bits_from_bytes);
 /* Writes the bytes of the set, and answers whether `count` is bits_bytes of its length; else nothing is changed. */
-bool bits_to_bytes(const bits *set, uint8_t *bytes, size_t count);
+bool bits_to_bytes(const bits *set, uint8_t *bytes, size_t count) BITS_SYMBOL(bits_to_bytes);
 /* Reverses the bits of each byte. So bytes that have the first of eight positions in the uppermost bit become those that have it
  * in the lowest, as the two calls above take and write them, and the other way round. */
-void bits_reverse_each_byte(uint8_t *bytes, size_t count);
+void bits_reverse_each_byte(uint8_t *bytes, size_t count) BITS_SYMBOL(bits_reverse_each_byte);
 
 /* ---- how many positions stand below a given one, and which is the k-th */
 
 /* How many entries the directory of a set of this length has: one for each eight words, rounded up. */
-size_t bits_ranks_entries(size_t length);
+size_t bits_ranks_entries(size_t length) BITS_SYMBOL(bits_ranks_entries);
 /* Writes the directory of the set's words to `directory`, and the whole of `ranks`. It answers whether `entries` is
  * bits_ranks_entries of the set's length; else the ranks are those of no set, and the directory stays. */
-bool bits_ranks_fill(bits_ranks *ranks, const bits *set, size_t *directory, size_t entries);
+bool bits_ranks_fill(bits_ranks *ranks, const bits *set, size_t *directory, size_t entries) BITS_SYMBOL(bits_ranks_fill);
 /* How many positions below this one are set. Past the length all are below it. */
-size_t bits_rank(const bits_ranks *ranks, size_t position);
+size_t bits_rank(const bits_ranks *ranks, size_t position) BITS_SYMBOL(bits_rank);
 /* The position that is set and has so many positions that are set below it, or BITS_NONE. The first has index 0. */
-size_t bits_select(const bits_ranks *ranks, size_t index);
+size_t bits_select(const bits_ranks *ranks, size_t index) BITS_SYMBOL(bits_select);
 
 /* ---- tables */
 
 /* How many words a table of so many rows and columns has, or BITS_NONE where there are not so many numbers. */
-size_t bits_rows_words(size_t rows, size_t columns);
+size_t bits_rows_words(size_t rows, size_t columns) BITS_SYMBOL(bits_rows_words);
+/* The table of so many rows and columns with these words, which are bits_rows_words(rows, columns). */
+static inline bits_rows bits_rows_of(uint64_t *words, size_t rows, size_t columns) {
+    bits_rows table;
+    table.words = words;
+    table.count = bits_rows_words(rows, columns);
+    table.rows = rows;
+    table.columns = columns;
+    return table;
+}
 /* Makes any words those of a table of so many rows and columns, with no bit. It answers whether `count` is
  * bits_rows_words(rows, columns); else nothing is changed. Zeros are such words too. */
-bool bits_rows_clear(uint64_t *words, size_t count, size_t rows, size_t columns);
+bool bits_rows_clear(uint64_t *words, size_t count, size_t rows, size_t columns) BITS_SYMBOL(bits_rows_clear);
 /* Whether the row has a bit at the column: false past the rows and past the columns. */
-bool bits_rows_get(const bits_rows *rows, size_t row, size_t column);
+bool bits_rows_get(const bits_rows *rows, size_t row, size_t column) BITS_SYMBOL(bits_rows_get);
 /* Sets the bit of the row at the column, or clears it where `enabled` is false, and answers whether the table has both; else
  * nothing is changed. */
-bool bits_rows_set(bits_rows *rows, size_t row, size_t column, bool enabled);
+bool bits_rows_set(bits_rows *rows, size_t row, size_t column, bool enabled) BITS_SYMBOL(bits_rows_set);
 /* Row `into` takes in the bits of row `from`. It answers whether the table has both; else nothing is changed. It answers at
  * `changed` whether a bit came in; nothing is written there if none is changed. */
-bool bits_rows_union(bits_rows *rows, size_t from, size_t into, bool *changed);
+bool bits_rows_union(bits_rows *rows, size_t from, size_t into, bool *changed) BITS_SYMBOL(bits_rows_union);
 /* Begins the walk over the columns at which the row has a bit, in ascending order; bits_ones_next and bits_ones_next_back give
  * them. It answers whether the table has the row; else the walk gives none. */
-bool bits_rows_ones(bits_walk *walk, const bits_rows *rows, size_t row);
+bool bits_rows_ones(bits_walk *walk, const bits_rows *rows, size_t row) BITS_SYMBOL(bits_rows_ones);
 /* The transitive closure of the graph with an edge from each row to each column at which it has a bit: afterwards row a has
  * a bit at column b exactly if some path of one or more edges led from a to b. */
-void bits_rows_close(bits_rows *rows);
+void bits_rows_close(bits_rows *rows) BITS_SYMBOL(bits_rows_close);
 
 /* ---- walks: each call of one gives a position and true, or false where none is left, and then for good.
  *      `next` gives the first that is left, `next_back` the last one, in any mix.
@@ -356,54 +435,60 @@ void bits_rows_close(bits_rows *rows);
  *      the calls for one position. */
 
 /* Begins the walk over the positions that are set, in ascending order. */
-void bits_ones(bits_walk *walk, const bits *set);
-bool bits_ones_next(bits_walk *walk, size_t *position);
-bool bits_ones_next_back(bits_walk *walk, size_t *position);
-size_t bits_ones_take(bits_walk *walk, size_t *positions, size_t room);
-size_t bits_ones_take_back(bits_walk *walk, size_t *positions, size_t room);
+void bits_ones(bits_walk *walk, const bits *set) BITS_SYMBOL(bits_ones);
+bool bits_ones_next(bits_walk *walk, size_t *position) BITS_SYMBOL(bits_ones_next);
+bool bits_ones_next_back(bits_walk *walk, size_t *position) BITS_SYMBOL(bits_ones_next_back);
+size_t bits_ones_take(bits_walk *walk, size_t *positions, size_t room) BITS_SYMBOL(bits_ones_take);
+size_t bits_ones_take_back(bits_walk *walk, size_t *positions, size_t room) BITS_SYMBOL(bits_ones_take_back);
 /* Begins the walk over the positions below the length that are not set, in ascending order. */
-void bits_zeroes(bits_walk *walk, const bits *set);
-bool bits_zeroes_next(bits_walk *walk, size_t *position);
-bool bits_zeroes_next_back(bits_walk *walk, size_t *position);
-size_t bits_zeroes_take(bits_walk *walk, size_t *positions, size_t room);
-size_t bits_zeroes_take_back(bits_walk *walk, size_t *positions, size_t room);
+void bits_zeroes(bits_walk *walk, const bits *set) BITS_SYMBOL(bits_zeroes);
+bool bits_zeroes_next(bits_walk *walk, size_t *position) BITS_SYMBOL(bits_zeroes_next);
+bool bits_zeroes_next_back(bits_walk *walk, size_t *position) BITS_SYMBOL(bits_zeroes_next_back);
+size_t bits_zeroes_take(bits_walk *walk, size_t *positions, size_t room) BITS_SYMBOL(bits_zeroes_take);
+size_t bits_zeroes_take_back(bits_walk *walk, size_t *positions, size_t room) BITS_SYMBOL(bits_zeroes_take_back);
 /* Begins the walk over the positions from `start` up to and without `end` that are set, or that are not. It answers whether
  * the range is valid; else the walk gives none. */
-bool bits_ones_in(bits_walk *walk, const bits *set, size_t start, size_t end);
-bool bits_zeroes_in(bits_walk *walk, const bits *set, size_t start, size_t end);
+bool bits_ones_in(bits_walk *walk, const bits *set, size_t start, size_t end) BITS_SYMBOL(bits_ones_in);
+bool bits_zeroes_in(bits_walk *walk, const bits *set, size_t start, size_t end) BITS_SYMBOL(bits_zeroes_in);
 /* Begins the walk over the stretches of positions that are set, or that are not, in ascending order. A stretch has the
  * positions from `start` up to and without `end`, and costs by its words. */
-void bits_runs(bits_run_walk *walk, const bits *set);
-void bits_zero_runs(bits_run_walk *walk, const bits *set);
-bool bits_runs_next(bits_run_walk *walk, size_t *start, size_t *end);
-bool bits_runs_next_back(bits_run_walk *walk, size_t *start, size_t *end);
+void bits_runs(bits_run_walk *walk, const bits *set) BITS_SYMBOL(bits_runs);
+void bits_zero_runs(bits_run_walk *walk, const bits *set) BITS_SYMBOL(bits_zero_runs);
+bool bits_runs_next(bits_run_walk *walk, size_t *start, size_t *end) BITS_SYMBOL(bits_runs_next);
+bool bits_runs_next_back(bits_run_walk *walk, size_t *start, size_t *end) BITS_SYMBOL(bits_runs_next_back);
 /* Begins the walk over the positions of both sets, in ascending order. */
-void bits_intersection(bits_sieve *walk, const bits *set, const bits *other);
-bool bits_intersection_next(bits_sieve *walk, size_t *position);
-bool bits_intersection_next_back(bits_sieve *walk, size_t *position);
-size_t bits_intersection_take(bits_sieve *walk, size_t *positions, size_t room);
-size_t bits_intersection_take_back(bits_sieve *walk, size_t *positions, size_t room);
+void bits_intersection(bits_sieve *walk, const bits *set, const bits *other) BITS_SYMBOL(bits_intersection);
+bool bits_intersection_next(bits_sieve *walk, size_t *position) BITS_SYMBOL(bits_intersection_next);
+bool bits_intersection_next_back(bits_sieve *walk, size_t *position) BITS_SYMBOL(bits_intersection_next_back);
+size_t bits_intersection_take(bits_sieve *walk, size_t *positions, size_t room) BITS_SYMBOL(bits_intersection_take);
+size_t bits_intersection_take_back(bits_sieve *walk, size_t *positions, size_t room) BITS_SYMBOL(bits_intersection_take_back);
 /* Begins the walk over the positions of the first set that the second lacks, in ascending order. */
-void bits_difference(bits_sieve *walk, const bits *set, const bits *other);
-bool bits_difference_next(bits_sieve *walk, size_t *position);
-bool bits_difference_next_back(bits_sieve *walk, size_t *position);
-size_t bits_difference_take(bits_sieve *walk, size_t *positions, size_t room);
-size_t bits_difference_take_back(bits_sieve *walk, size_t *positions, size_t room);
+void bits_difference(bits_sieve *walk, const bits *set, const bits *other) BITS_SYMBOL(bits_difference);
+bool bits_difference_next(bits_sieve *walk, size_t *position) BITS_SYMBOL(bits_difference_next);
+bool bits_difference_next_back(bits_sieve *walk, size_t *position) BITS_SYMBOL(bits_difference_next_back);
+size_t bits_difference_take(bits_sieve *walk, size_t *positions, size_t room) BITS_SYMBOL(bits_difference_take);
+size_t bits_difference_take_back(bits_sieve *walk, size_t *positions, size_t room) BITS_SYMBOL(bits_difference_take_back);
 /* Begins the walk over the positions of the first set, ascending, and then those that the second alone has, ascending. */
-void bits_union(bits_pair *walk, const bits *set, const bits *other);
-bool bits_union_next(bits_pair *walk, size_t *position);
-bool bits_union_next_back(bits_pair *walk, size_t *position);
-size_t bits_union_take(bits_pair *walk, size_t *positions, size_t room);
-size_t bits_union_take_back(bits_pair *walk, size_t *positions, size_t room);
+void bits_union(bits_pair *walk, const bits *set, const bits *other) BITS_SYMBOL(bits_union);
+bool bits_union_next(bits_pair *walk, size_t *position) BITS_SYMBOL(bits_union_next);
+bool bits_union_next_back(bits_pair *walk, size_t *position) BITS_SYMBOL(bits_union_next_back);
+size_t bits_union_take(bits_pair *walk, size_t *positions, size_t room) BITS_SYMBOL(bits_union_take);
+size_t bits_union_take_back(bits_pair *walk, size_t *positions, size_t room) BITS_SYMBOL(bits_union_take_back);
 /* Begins the walk over the positions that the first set alone has, ascending, and then those that the second alone has. */
-void bits_symmetric_difference(bits_pair *walk, const bits *set, const bits *other);
-bool bits_symmetric_difference_next(bits_pair *walk, size_t *position);
-bool bits_symmetric_difference_next_back(bits_pair *walk, size_t *position);
-size_t bits_symmetric_difference_take(bits_pair *walk, size_t *positions, size_t room);
-size_t bits_symmetric_difference_take_back(bits_pair *walk, size_t *positions, size_t room);
+void bits_symmetric_difference(bits_pair *walk, const bits *set, const bits *other) BITS_SYMBOL(bits_symmetric_difference);
+bool bits_symmetric_difference_next(bits_pair *walk, size_t *position) BITS_SYMBOL(bits_symmetric_difference_next);
+bool bits_symmetric_difference_next_back(bits_pair *walk, size_t *position) BITS_SYMBOL(bits_symmetric_difference_next_back);
+size_t bits_symmetric_difference_take(bits_pair *walk, size_t *positions, size_t room)
+    BITS_SYMBOL(bits_symmetric_difference_take);
+size_t bits_symmetric_difference_take_back(bits_pair *walk, size_t *positions, size_t room)
+    BITS_SYMBOL(bits_symmetric_difference_take_back);
 
 #ifdef __cplusplus
 }
+#endif
+
+#ifdef BITS_CHECK
+#include "bits_check.h"
 #endif
 
 #endif

@@ -65,7 +65,19 @@ pub struct LentRanks {
     pub entries: usize,
 }
 
-unsafe extern "C" {
+/// Declares calls whose symbols in the archive are their names behind a prefix, as BITS_SYMBOL of bits.h has it.
+macro_rules! of_archive {
+    ($(pub fn $name:ident($($parameter:ident: $kind:ty),* $(,)?) $(-> $answer:ty)?;)*) => {
+        unsafe extern "C" {
+            $(
+                #[link_name = concat!("fixedbitset_", stringify!($name))]
+                pub fn $name($($parameter: $kind),*) $(-> $answer)?;
+            )*
+        }
+    };
+}
+
+of_archive! {
     pub fn bits_words(length: usize) -> usize;
     pub fn bits_blocks(length: usize) -> usize;
     pub fn bits_settle(words: NonNull<usize>, count: usize, length: usize, kept: usize) -> bool;
@@ -75,7 +87,7 @@ unsafe extern "C" {
     pub fn bits_toggle(set: &mut Lent, bit: usize) -> bool;
     pub fn bits_put(set: &mut Lent, bit: usize) -> bool;
     pub fn bits_set(set: &mut Lent, bit: usize, enabled: bool) -> bool;
-    pub fn bits_set_block(set: &mut Lent, index: usize, value: usize) -> bool;
+    pub fn bits_set_block(set: &mut Lent, index: usize, block: usize) -> bool;
     pub fn bits_insert_all(set: &mut Lent, positions: *const usize, count: usize) -> bool;
     pub fn bits_contains_each(
         set: &Lent,

@@ -1,7 +1,7 @@
 /* Aggregates: the state is a set in the aggregate's own memory, which each row changes in place.
  *
- * The state of bitset_union and bitset_agg is grown where a row's set is longer, that of bitset_intersection cut where one is
- * shorter. So any order of the rows, in any number of processes, gives the same set.
+ * The state of bitset_union, bitset_symmetric_difference and bitset_agg is grown where a row's set is longer, that of
+ * bitset_intersection cut where one is shorter. So any order of the rows, in any number of processes, gives the same set.
  */
 #include "fixedbitset.h"
 
@@ -39,6 +39,11 @@ static void join_union(bits *state, const bits *set) {
     sure(bits_union_with(state, set));
 }
 
+static void join_symmetric_difference(bits *state, const bits *set) {
+    set_length(state, Max(state->length, set->length));
+    sure(bits_symmetric_difference_with(state, set));
+}
+
 static void join_intersection(bits *state, const bits *set) {
     set_length(state, Min(state->length, set->length));
     bits_intersect_with(state, set);
@@ -71,10 +76,12 @@ static Datum step(FunctionCallInfo fcinfo, Join join) {
 
 BY(bitset_union_step, step, join_union)
 BY(bitset_intersection_step, step, join_intersection)
+BY(bitset_symmetric_difference_step, step, join_symmetric_difference)
 
 /* The state of the rows of two processes. */
 BY(bitset_union_combine, state_after, join_union, get_state(fcinfo, 1))
 BY(bitset_intersection_combine, state_after, join_intersection, get_state(fcinfo, 1))
+BY(bitset_symmetric_difference_combine, state_after, join_symmetric_difference, get_state(fcinfo, 1))
 
 /* A row is a position and a length. A null position adds none; the greatest length is the set's. */
 FUNCTION(bitset_agg_step) {
@@ -90,14 +97,51 @@ FUNCTION(bitset_agg_step) {
     PG_RETURN_POINTER(state);
 }
 
-/* It is strict, so there is a state. This stays as it is, for a window may go on with it. Between processes it travels as a
- * stored set too, under the name of bytea. */
-FUNCTION(bitset_final) {
-    const bits *state = get_state(fcinfo, 0);
+/* A row is a position, and a null adds none. The state is at least doubled where it is grown, so that ascending positions do
+ * not copy it for each row; bitset_agg_final leaves out what is past the greatest. */
+FUNCTION(bitset_agg_position_step) {
+    MemoryContext old = enter_aggregate(fcinfo);
+    bits *state = get_state(fcinfo, 0);
+    if (!PG_ARGISNULL(1)) {
+        size_t position = not_negative(PG_GETARG_INT64(1), "position of a bitset without a length");
+        size_t needed = checked_length(Min(position, MAX_LENGTH) + 1);
+        state = state ? state : hold(new_set(0));
+        if (needed > state->length)
+            set_length(state, Max(needed, Min(2 * state->length, MAX_LENGTH)));
+        change_at(state, bits_insert, position);
+    }
+    MemoryContextSwitchTo(old);
+    fcinfo->isnull = state == NULL;
+    return PointerGetDatum(state);
+}
+
+/* The state as a set of a length. */
+static Datum finished(FunctionCallInfo fcinfo, const bits *state, size_t length) {
     bits copy;
     MemoryContextSwitchTo(enter_aggregate(fcinfo));
-    copy = copy_set(state, state->length);
+    copy = copy_set(state, length);
     return stored_set(&copy);
+}
+
+/* The state stays as it is, for a window may go on with it. Between processes it travels as a stored set too, under the name
+ * of bytea. (This is strict. In a catalogue of version 0.5.7 it may not be, so that there may be no state.) */
+FUNCTION(bitset_final) {
+    const bits *state = get_state(fcinfo, 0);
+    if (state == NULL)
+        PG_RETURN_NULL();
+    return finished(fcinfo, state, state->length);
+}
+
+/* (A state without a length has a position, for the first one makes it.) */
+FUNCTION(bitset_agg_final) {
+    const bits *state = get_state(fcinfo, 0);
+    return finished(fcinfo, state, bits_maximum(state) + 1);
+}
+
+FUNCTION(bitset_count_final) {
+    const bits *state = get_state(fcinfo, 0);
+    MemoryContextSwitchTo(enter_aggregate(fcinfo));
+    PG_RETURN_INT64(bits_count_ones(state, 0, state->length));
 }
 
 /* A bytea in a tuple is aligned for its length alone, and its copy for words. */

@@ -9,6 +9,7 @@ FUNCTION(bitset_length) {
     struct varlena *head = PG_DETOAST_DATUM_SLICE(PG_GETARG_DATUM(0), 0, sizeof(uint32));
     uint32 length = 0;
     memcpy(&length, VARDATA_ANY(head), Min(VARSIZE_ANY_EXHDR(head), sizeof(length)));
+    pfree(head);
     PG_RETURN_INT64(length);
 }
 
@@ -27,6 +28,21 @@ static Datum position_or_null(FunctionCallInfo fcinfo, size_t position) {
 #define ASK(name, ...) ASK_OF(name, 0, __VA_ARGS__)
 #define ASK_OF(name, n, datum_of, answer) FUNCTION(name) { READ(set, n); return datum_of(answer); }
 
+/* The first gap, which is looked for in one part of the set after the other. A part is that of the positions below its end. The
+ * next one begins where a gap could be that this one cuts. A part is longer than two gaps, so no position is in many. */
+static size_t first_gap(const bits *set, size_t count, size_t from) {
+    size_t reach = 2 * Max(count, PART);
+    while (count <= set->length && from <= set->length && set->length - from > reach) {
+        bits part = BITS_OF(set->words, TYPEALIGN_DOWN(LANE_LENGTH, from + reach));
+        size_t found = bits_first_gap(&part, count, from);
+        if (found != BITS_NONE)
+            return found;
+        from = part.length - count + 1;
+        CHECK_FOR_INTERRUPTS();
+    }
+    return bits_first_gap(set, count, from);
+}
+
 ASK(bitset_contains, BoolGetDatum, bits_contains(set, PG_GETARG_INT64(1)))
 ASK_OF(bitset_contained_position, 1, BoolGetDatum, bits_contains(set, PG_GETARG_INT64(0)))
 ASK(bitset_is_clear, BoolGetDatum, bits_is_clear(set))
@@ -40,15 +56,25 @@ ASK(bitset_next_one, FOUND, bits_next_one(set, FROM_ZERO(1)))
 ASK(bitset_next_zero, FOUND, bits_next_zero(set, FROM_ZERO(1)))
 ASK(bitset_previous_one, FOUND, bits_previous_one(set, FROM_ZERO(1)))
 ASK(bitset_previous_zero, FOUND, bits_previous_zero(set, FROM_ZERO(1)))
-ASK(bitset_first_gap, FOUND, bits_first_gap(set, not_negative(PG_GETARG_INT64(1), "count of positions"), FROM_ZERO(2)))
+ASK(bitset_first_gap, FOUND, first_gap(set, not_negative(PG_GETARG_INT64(1), "count of positions"), FROM_ZERO(2)))
 
-/* The position that has so many below it. The directory is made for this one question: a pass over the words, as a count
- * is. */
+/* The directory by which a position is found from how many are below it. It is made for one question, by a pass over the words
+ * as a count is, and done_ranking frees it. */
+bits_ranks ranks_of(const bits *set) {
+    size_t count = bits_ranks_entries(set->length);
+    bits_ranks ranks = BITS_RANKS;
+    sure(bits_ranks_fill(&ranks, set, palloc(count * sizeof(size_t)), count));
+    return ranks;
+}
+
+void done_ranking(bits_ranks *ranks) {
+    pfree((void *)ranks->directory);
+}
+
+/* The position that has so many below it. */
 FUNCTION(bitset_select_one) {
     READ(set, 0);
-    size_t entries = bits_ranks_entries(set->length);
-    bits_ranks ranks = BITS_RANKS;
-    sure(bits_ranks_fill(&ranks, set, palloc(entries * sizeof(size_t)), entries));
+    __attribute__((cleanup(done_ranking))) bits_ranks ranks = ranks_of(set);
     return FOUND(bits_select(&ranks, PG_GETARG_INT64(1)));
 }
 
@@ -64,6 +90,7 @@ static void change_in(bits *set, bool (*call)(bits *, size_t, size_t), Span span
 CHANGE(bitset_insert_range, change_in(&changed, bits_insert_range, read_span(fcinfo, 1, set)))
 CHANGE(bitset_remove_range, change_in(&changed, bits_remove_range, read_span(fcinfo, 1, set)))
 CHANGE(bitset_toggle_range, change_in(&changed, bits_toggle_range, read_span(fcinfo, 1, set)))
+CHANGE(bitset_not, change_in(&changed, bits_toggle_range, (Span){0, set->length}))
 
 /* A function that asks about a range. */
 #define ASK_RANGE(name, datum_of, call)                                                                                \
@@ -98,10 +125,7 @@ JOIN(bitset_minus, bits_difference_of, a->length)
     FUNCTION(name) {                                                                                                   \
         READ(a, 0);                                                                                                    \
         READ(b, 1);                                                                                                    \
-        Datum result = datum_of(answer);                                                                               \
-        DONE(a);                                                                                                       \
-        DONE(b);                                                                                                       \
-        return result;                                                                                                 \
+        return datum_of(answer);                                                                                       \
     }
 
 ASK_PAIR(bitset_union_count, Int64GetDatum, bits_union_count(a, b))

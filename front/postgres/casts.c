@@ -18,24 +18,47 @@ FUNCTION(bitset_from_positions) {
     int count = ArrayGetNItems(ARR_NDIM(array), ARR_DIMS(array));
     if (array_contains_nulls(array))
         REFUSE(NULL_VALUE_NOT_ALLOWED, "positions of a bitset must not be null");
-    for (int i = 0; i < count; i++)
+    for (int i = 0; i < count; i++) {
+        CHECK_FOR_INTERRUPTS();
         change_at(&set, bits_insert, positions[i]);
+    }
+    PG_FREE_IF_COPY(array, 0);
     return stored_set(&set);
+}
+
+/* Positions as an array. They are freed. */
+static Datum array_of(Datum *positions, int32 count) {
+    ArrayType *array = construct_array(positions, count, INT8OID, sizeof(int64), FLOAT8PASSBYVAL, TYPALIGN_DOUBLE);
+    pfree(positions);
+    PG_RETURN_ARRAYTYPE_P(array);
 }
 
 FUNCTION(bitset_to_positions) {
     READ(set, 0);
     int32 count;
     Datum *positions = positions_of(set, &count, "an array; ones(bitset) gives them as rows");
-    PG_RETURN_ARRAYTYPE_P(construct_array(positions, count, INT8OID, sizeof(int64), FLOAT8PASSBYVAL, TYPALIGN_DOUBLE));
+    return array_of(positions, count);
+}
+
+/* The positions from that with `offset` below it on, at most `limit`. */
+FUNCTION(bitset_to_positions_part) {
+    READ(set, 0);
+    __attribute__((cleanup(done_ranking))) bits_ranks ranks = ranks_of(set);
+    size_t ones = bits_rank(&ranks, set->length);
+    size_t offset = Min(not_negative(PG_GETARG_INT64(1), "offset of positions"), ones);
+    size_t count = Min(not_negative(PG_GETARG_INT64(2), "limit of positions"), ones - offset);
+    bits_walk walk = BITS_WALK;
+    sure(bits_ones_in(&walk, set, count == 0 ? 0 : bits_select(&ranks, offset), set->length));
+    return array_of(take_positions(&walk, count, "an array"), count);
 }
 
 /* The positions that bytes say, eight a byte, least first, below a length where one is given. */
 FUNCTION(bitset_from_bytes) {
-    const bytea *bytes = PG_GETARG_BYTEA_PP(0);
+    bytea *bytes = PG_GETARG_BYTEA_PP(0);
     int64 count = VARSIZE_ANY_EXHDR(bytes);
     bits set = new_set(checked_length(PG_NARGS() == 2 ? PG_GETARG_INT64(1) : count * BITS_PER_BYTE));
     bits_from_bytes(&set, (const uint8_t *)VARDATA_ANY(bytes), count);
+    PG_FREE_IF_COPY(bytes, 0);
     return stored_set(&set);
 }
 
@@ -50,14 +73,19 @@ FUNCTION(bitset_from_varbit) {
     bits set = new_set(VARBITLEN(string));
     bits_reverse_each_byte(VARBITS(string), VARBITBYTES(string));
     bits_from_bytes(&set, VARBITS(string), VARBITBYTES(string));
+    pfree(string);
     return stored_set(&set);
 }
 
+/* A cast to bit(n) has n as its second argument, or -1 where the type has none: the string is neither cut nor filled up. */
 FUNCTION(bitset_to_varbit) {
     READ(set, 0);
+    int32 wanted = PG_NARGS() == 3 ? PG_GETARG_INT32(1) : -1;
     VarBit *string;
     if (set->length > VARBITMAXLEN)
         REFUSE(PROGRAM_LIMIT_EXCEEDED, "length %zu is too great for a cast to bit varying", set->length);
+    if (wanted >= 0 && set->length != (size_t)wanted)
+        REFUSE(STRING_DATA_LENGTH_MISMATCH, "length %zu of a bitset does not match type bit(%d)", set->length, wanted);
     string = palloc(VARBITTOTALLEN(set->length));
     SET_VARSIZE(string, VARBITTOTALLEN(set->length));
     VARBITLEN(string) = set->length;

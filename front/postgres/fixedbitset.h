@@ -14,6 +14,7 @@
 
 #include "bits.h"
 #include "fmgr.h"
+#include "miscadmin.h"
 #include "utils/memutils.h"
 #if PG_VERSION_NUM >= 160000
 #include "varatt.h"
@@ -29,21 +30,30 @@ typedef struct Stored {
     uint64_t words[FLEXIBLE_ARRAY_MEMBER];
 } Stored;
 
-#define MAX_LENGTH PG_UINT32_MAX
+/* The greatest length of a set that is made. A row that is its text in digits is the longest that COPY writes and reads, and so
+ * the longest that pg_dump does. (Before version 1.0 a length could be up to 63 greater. Such a set is read as before.) */
+#define MAX_LENGTH 4294967232
 #define WORD_SIZE sizeof(uint64_t)
+
+/* After about so many positions, or bytes of a text, a long call looks whether the query is cancelled. */
+#define PART 16777216
 
 /* As many blocks as fit behind a header of one byte, their positions, and how many words a lane can have behind its first. */
 #define SHORT_WORDS 15
 #define SHORT_LENGTH (SHORT_WORDS * 64)
 #define LANE_REST 3
 
+/* How many positions a lane has. */
+#define LANE_LENGTH 256
+
 StaticAssertDecl(VARHDRSZ_SHORT + sizeof(uint32) + SHORT_WORDS * WORD_SIZE <= VARATT_SHORT_MAX,
                  "a short set fits behind the short header");
-StaticAssertDecl(offsetof(Stored, words) + ((Size)MAX_LENGTH + 256) / BITS_PER_BYTE <= MaxAllocSize,
-                 "the longest set may be allocated");
 
 /* How many bytes of eight positions each a length takes. */
 #define OCTETS(length) (((size_t)(length) + BITS_PER_BYTE - 1) / BITS_PER_BYTE)
+
+StaticAssertDecl(2 * OCTETS(MAX_LENGTH) + sizeof("x:/" CppAsString2(MAX_LENGTH) "\n") <= MaxAllocSize,
+                 "a row that is the text of the longest set fits into a StringInfo");
 
 /* Whether the words are those of a set, as the library asks of each that is given to it. */
 #define IS_SET(set) bits_is_clean((set)->words, (set)->count, (set)->length)
@@ -62,9 +72,11 @@ typedef struct Reading {
 #define FUNCTION(name) PG_FUNCTION_INFO_V1(name); Datum name(PG_FUNCTION_ARGS)
 #define BY(name, function, ...) FUNCTION(name) { return function(fcinfo, __VA_ARGS__); }
 
-/* In such a function READ(set, n) declares `set` and reads it from argument n, and DONE(set) frees it. */
-#define READ(set, n) Reading set##_reading; const bits *set = read_set(&set##_reading, PG_GETARG_DATUM(n))
-#define DONE(set) done_reading(&set##_reading)
+/* In such a function READ(set, n) declares `set` and reads it from argument n. What was detoasted for it is freed where the
+ * scope of `set` ends, after a returned value is made. */
+#define READ(set, n)                                                                                                   \
+    __attribute__((cleanup(done_reading))) Reading set##_reading;                                                      \
+    const bits *set = read_set(&set##_reading, PG_GETARG_DATUM(n))
 
 /* A function that gives its first argument, the set `set`, after a call that changes the copy `changed`. */
 #define CHANGE(name, call)                                                                                             \
@@ -80,6 +92,9 @@ typedef struct Span {
     size_t start;
     size_t end;
 } Span;
+
+/* The operators of the index class for GIN, by their numbers in the SQL. */
+enum { OVERLAPS = 1, CONTAINS = 2, CONTAINS_POSITION = 3 };
 
 /* What the module's files call of each other is not for other modules, so it is called directly. */
 #pragma GCC visibility push(hidden)
@@ -100,6 +115,9 @@ extern size_t not_negative(int64 number, const char *name);
 extern size_t checked_length(int64 length);
 extern void change_at(bits *set, bool (*call)(bits *, size_t), int64 position);
 extern Span read_span(FunctionCallInfo fcinfo, int argument, const bits *set);
+extern bits_ranks ranks_of(const bits *set);
+extern void done_ranking(bits_ranks *ranks);
+extern Datum *take_positions(bits_walk *walk, size_t ones, const char *where);
 extern Datum *positions_of(const bits *set, int32 *count, const char *where);
 
 #pragma GCC visibility pop

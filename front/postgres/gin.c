@@ -4,9 +4,6 @@
 #include "access/gin.h"
 #include "access/stratnum.h"
 
-/* The operators of the class, by their numbers in the SQL. */
-enum { OVERLAPS = 1, CONTAINS = 2, CONTAINS_POSITION = 3 };
-
 FUNCTION(bitset_gin_value) {
     READ(set, 0);
     PG_RETURN_POINTER(positions_of(set, (int32 *)PG_GETARG_POINTER(1), "an index"));

@@ -1,18 +1,21 @@
-/* What the planner knows of a column: in which share of the rows each position is set. PostgreSQL keeps such shares of arrays
- * as the most common elements of a column, and has the estimates for `@>` and `&&` by them. Here positions are elements. */
+/* What the planner knows of a column: in which share of the rows each position is set, and how many are in a row. PostgreSQL
+ * keeps such shares of arrays as the most common elements of a column, and such counts as a histogram, and has the estimates for
+ * `@>`, `&&` and `<@` by them. Here positions are elements. */
 #include "fixedbitset.h"
 
 #include "catalog/pg_operator.h"
 #include "commands/vacuum.h"
 #include "nodes/makefuncs.h"
 #include "nodes/nodeFuncs.h"
+#include "nodes/pathnodes.h"
+#include "nodes/plannodes.h"
 #include "optimizer/optimizer.h"
 #include "utils/array.h"
 #include "utils/fmgrprotos.h"
 #include "utils/typcache.h"
 
 /* As many positions are looked at of a sample of rows, and as many of a constant. */
-enum { MOST_OF_ROWS = 1000000, MOST_OF_CONSTANT = 1000 };
+enum { MOST_OF_ROWS = 1000000, MOST_OF_CONSTANT = 100000 };
 
 /* A position, and in how many rows it is set. */
 typedef struct Tally {
@@ -29,10 +32,38 @@ static int by_rows(const void *a, const void *b) {
     return ((const Tally *)b)->rows - ((const Tally *)a)->rows;
 }
 
+static int by_count(const void *a, const void *b) {
+    return *(const int *)a - *(const int *)b;
+}
+
+/* Takes the next free slot of a column's statistics, for numbers about elements. */
+static int take_slot(VacAttrStats *stats, int kind, float4 *numbers, int count) {
+    int slot = 0;
+    while (stats->stakind[slot] != 0)
+        slot++;
+    stats->stakind[slot] = kind;
+    stats->staop[slot] = lookup_type_cache(INT8OID, TYPECACHE_EQ_OPR)->eq_opr;
+    stats->stanumbers[slot] = numbers;
+    stats->numnumbers[slot] = count;
+    return slot;
+}
+
+/* Stores how many positions are in a row: bounds between which equally many rows are, as many as the column's statistics target,
+ * and behind them the average. */
+static void store_counts(VacAttrStats *stats, int *counts, int rows, double filled) {
+    int last = Max(stats->minrows / 300, 2) - 1;
+    float4 *bounds = MemoryContextAlloc(stats->anl_context, (last + 2) * sizeof(float4));
+    qsort(counts, rows, sizeof(int), by_count);
+    for (int k = 0; k <= last; k++)
+        bounds[k] = counts[k * (int64)(rows - 1) / last];
+    bounds[last + 1] = filled / rows;
+    take_slot(stats, STATISTIC_KIND_DECHIST, bounds, last + 2);
+}
+
 /* Stores the most frequent positions, as many as of the elements of an array: one for 30 rows that were asked for. Behind
  * their shares stand the greatest share of the others, the greatest of all, and that of nulls among the elements. */
 static void store(VacAttrStats *stats, Tally *tallies, int kinds, float4 rows) {
-    int kept = Min(kinds, stats->minrows / 30), slot = 0;
+    int kept = Min(kinds, stats->minrows / 30), slot;
     float4 *shares = MemoryContextAllocZero(stats->anl_context, (kept + 3) * sizeof(float4));
     Datum *values = MemoryContextAlloc(stats->anl_context, kept * sizeof(Datum));
     qsort(tallies, kinds, sizeof(Tally), by_rows);
@@ -43,12 +74,7 @@ static void store(VacAttrStats *stats, Tally *tallies, int kinds, float4 rows) {
         shares[k] = tallies[k].rows / rows;
         values[k] = Int64GetDatum(tallies[k].position);
     }
-    while (stats->stakind[slot] != 0)
-        slot++;
-    stats->stakind[slot] = STATISTIC_KIND_MCELEM;
-    stats->staop[slot] = lookup_type_cache(INT8OID, TYPECACHE_EQ_OPR)->eq_opr;
-    stats->stanumbers[slot] = shares;
-    stats->numnumbers[slot] = kept + 3;
+    slot = take_slot(stats, STATISTIC_KIND_MCELEM, shares, kept + 3);
     stats->stavalues[slot] = values;
     stats->numvalues[slot] = kept;
     stats->statypid[slot] = INT8OID;
@@ -60,7 +86,7 @@ static void store(VacAttrStats *stats, Tally *tallies, int kinds, float4 rows) {
  * looked at in a mixed one, as a prime is no divisor of their number. */
 static void compute(VacAttrStats *stats, AnalyzeAttrFetchFunc fetch, int sampled, double total) {
     Tally *tallies = palloc(MOST_OF_ROWS * sizeof(Tally));
-    int filled = 0, kinds = 0, rows = 0;
+    int *counts = palloc(Max(sampled, 1) * sizeof(int)), filled = 0, kinds = 0, rows = 0;
     std_typanalyze(stats);
     stats->compute_stats(stats, fetch, sampled, total);
     for (int k = 0; k < sampled; k++) {
@@ -71,12 +97,15 @@ static void compute(VacAttrStats *stats, AnalyzeAttrFetchFunc fetch, int sampled
         vacuum_delay_point();
         if (set == NULL)
             continue;
-        if (filled + bits_count_ones(set, 0, set->length) > MOST_OF_ROWS)
+        counts[rows] = Min(bits_count_ones(set, 0, set->length), MOST_OF_ROWS + 1);
+        if (filled + counts[rows] > MOST_OF_ROWS)
             break;
         BITS_FOR_EACH(position, set) tallies[filled++] = (Tally){position, 1};
         done_reading(&reading);
         rows++;
     }
+    if (rows > 0)
+        store_counts(stats, counts, rows, filled);
     qsort(tallies, filled, sizeof(Tally), by_position);
     for (int k = 0; k < filled; k++)
         if (kinds > 0 && tallies[kinds - 1].position == tallies[k].position)
@@ -94,11 +123,23 @@ FUNCTION(bitset_typanalyze) {
     PG_RETURN_BOOL(true);
 }
 
+/* An operand's value, where it can be known. A subquery of an expression alone, as policies have them, is that expression. */
+static Node *value_of(PlannerInfo *root, Node *operand) {
+    ListCell *cell;
+    foreach (cell, IsA(operand, Param) ? root->init_plans : NIL) {
+        SubPlan *subplan = lfirst_node(SubPlan, cell);
+        Plan *plan = planner_subplan_get_plan(root, subplan);
+        if (list_member_int(subplan->setParam, ((Param *)operand)->paramid) && IsA(plan, Result) && plan->lefttree == NULL)
+            operand = (Node *)linitial_node(TargetEntry, plan->targetlist)->expr;
+    }
+    return estimate_expression_value(root, operand);
+}
+
 /* An operand as PostgreSQL's estimate takes it: a constant as an array of its positions, and all else as if it were one. A
  * position is passed by value, and a set is not. */
 static Node *as_array(PlannerInfo *root, Node *operand) {
-    Const *constant = (Const *)estimate_expression_value(root, operand);
-    Datum positions[MOST_OF_CONSTANT], array;
+    Const *constant = (Const *)value_of(root, operand);
+    Datum *positions = palloc(MOST_OF_CONSTANT * sizeof(Datum)), array;
     int count = 1;
     bits_walk walk = BITS_WALK;
     Reading reading;
@@ -109,6 +150,7 @@ static Node *as_array(PlannerInfo *root, Node *operand) {
     if (!constant->constbyval) {
         bits_ones(&walk, read_set(&reading, constant->constvalue));
         count = bits_ones_take(&walk, positions, MOST_OF_CONSTANT);
+        done_reading(&reading);
     }
     array = PointerGetDatum(construct_array(positions, count, INT8OID, sizeof(int64), FLOAT8PASSBYVAL, TYPALIGN_DOUBLE));
     return (Node *)makeConst(INT8ARRAYOID, -1, InvalidOid, -1, array, false, false);

@@ -7,6 +7,8 @@
 
 PG_MODULE_MAGIC;
 
+#define NOT_A_SET "stored bytes are not those of a bitset"
+
 /* How many words a set is stored with: the blocks that it needs where these are few, and else all. */
 static size_t stored_words(const bits *set) {
     return set->length <= SHORT_LENGTH ? bits_blocks(set->length) : set->count;
@@ -14,7 +16,8 @@ static size_t stored_words(const bits *set) {
 
 /* The set of a datum. Its words are those of the datum itself, or a copy, which done_reading frees. What the library asks of
  * a set is looked at here: that its words are as many as its length needs, and have no position past it. So no damaged value
- * gets past. Each row of a query is read so: a long set costs one call of the library, and a short one two more. */
+ * gets past. Each row of a query is read so: a long set costs one call of the library, and a short one two more. The refusal
+ * says nothing of the value, for operators are LEAKPROOF: it may be one that the user is not to see. */
 const bits *read_set(Reading *reading, Datum datum) {
     struct varlena *flat = PG_DETOAST_DATUM_PACKED(datum);
     size_t size = VARSIZE_ANY_EXHDR(flat), stored = size / WORD_SIZE;
@@ -22,8 +25,9 @@ const bits *read_set(Reading *reading, Datum datum) {
     bits *set = &reading->set;
     uint32 length;
     bool fits;
+    CHECK_FOR_INTERRUPTS();
     if (size != sizeof(length) + stored * WORD_SIZE)
-        REFUSE(DATA_CORRUPTED, "bitset of %zu bytes", size);
+        REFUSE(DATA_CORRUPTED, NOT_A_SET);
     memcpy(&length, data, sizeof(length));
     fits = length > SHORT_LENGTH ? stored > SHORT_WORDS : stored == bits_blocks(length);
 
@@ -35,11 +39,11 @@ const bits *read_set(Reading *reading, Datum datum) {
     }
     Assert(!fits || PointerIsAligned(set->words, uint64_t));
     if (!fits || !IS_SET(set))
-        REFUSE(DATA_CORRUPTED, "bitset of length %u has %zu bytes, or a position past its length", length, size);
+        REFUSE(DATA_CORRUPTED, NOT_A_SET);
     return set;
 }
 
-/* Frees what was detoasted. Functions that index code calls have to; others need not. */
+/* Frees what was detoasted. */
 void done_reading(Reading *reading) {
     if (reading->copy)
         pfree(reading->copy);
@@ -98,8 +102,8 @@ size_t not_negative(int64 number, const char *name) {
 
 /* The length, which a set may have. */
 size_t checked_length(int64 length) {
-    if (length > (int64)MAX_LENGTH)
-        REFUSE(PROGRAM_LIMIT_EXCEEDED, "length %lld of a bitset is past the greatest, %u", (long long)length, MAX_LENGTH);
+    if (length > MAX_LENGTH)
+        REFUSE(PROGRAM_LIMIT_EXCEEDED, "length %lld of a bitset is past the greatest, " CppAsString2(MAX_LENGTH), (long long)length);
     return not_negative(length, "length of a bitset");
 }
 
@@ -124,15 +128,22 @@ Span read_span(FunctionCallInfo fcinfo, int argument, const bits *set) {
     return span;
 }
 
-/* The positions of a set, as many as an array can have. */
-Datum *positions_of(const bits *set, int32 *count, const char *where) {
-    size_t ones = bits_count_ones(set, 0, set->length);
-    bits_walk walk = BITS_WALK;
+/* So many positions of a walk that has them, which are no more than an array can have. */
+Datum *take_positions(bits_walk *walk, size_t ones, const char *where) {
     Datum *positions;
     if (ones > MaxArraySize)
         REFUSE(PROGRAM_LIMIT_EXCEEDED, "%zu positions are too many for %s", ones, where);
     positions = palloc(ones * sizeof(Datum));
-    bits_ones(&walk, set);
-    *count = bits_ones_take(&walk, positions, ones);
+    for (size_t taken = 0; taken < ones; taken += bits_ones_take(walk, positions + taken, Min(ones - taken, PART)))
+        CHECK_FOR_INTERRUPTS();
     return positions;
+}
+
+/* The positions of a set. */
+Datum *positions_of(const bits *set, int32 *count, const char *where) {
+    size_t ones = bits_count_ones(set, 0, set->length);
+    bits_walk walk = BITS_WALK;
+    bits_ones(&walk, set);
+    *count = ones;
+    return take_positions(&walk, ones, where);
 }

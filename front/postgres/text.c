@@ -1,6 +1,7 @@
 /* The text forms and the binary form of a set.
  *
- * Two text forms are read, and the setting fixedbitset.output says which one is written:
+ * Two text forms are read, and the setting fixedbitset.output says which one is written. `auto` has runs up to SHORT_TEXT
+ * characters, and beyond it the shorter form:
  *
  *     set    = runs | hex
  *     runs   = "{" [ item { "," item } ] "}" "/" length
@@ -14,25 +15,29 @@
  */
 #include "fixedbitset.h"
 
+#include <ctype.h>
+
 #include "lib/stringinfo.h"
 #include "libpq/pqformat.h"
 #include "mb/pg_wchar.h"
-#include "miscadmin.h"
 #include "parser/scansup.h"
 #include "utils/builtins.h"
 #include "utils/guc.h"
 
-enum { OUTPUT_RUNS, OUTPUT_HEX };
+enum { OUTPUT_AUTO, OUTPUT_RUNS, OUTPUT_HEX };
 
 static const struct config_enum_entry output_forms[] = {
-    {"runs", OUTPUT_RUNS, false}, {"hex", OUTPUT_HEX, false}, {NULL, 0, false}};
-static int output_form = OUTPUT_RUNS;
+    {"auto", OUTPUT_AUTO, false}, {"runs", OUTPUT_RUNS, false}, {"hex", OUTPUT_HEX, false}, {NULL, 0, false}};
+static int output_form = OUTPUT_AUTO;
+
+/* A text in runs up to this is not compared with the one in digits. */
+#define SHORT_TEXT 100
 
 void _PG_init(void);
 
 /* Called by the server once it has loaded the module. */
 void _PG_init(void) {
-    DefineCustomEnumVariable("fixedbitset.output", "How a bitset is written as text.", NULL, &output_form, OUTPUT_RUNS,
+    DefineCustomEnumVariable("fixedbitset.output", "How a bitset is written as text.", NULL, &output_form, OUTPUT_AUTO,
                              output_forms, PGC_USERSET, 0, NULL, NULL, NULL);
     EmitWarningsOnPlaceholders("fixedbitset");
 }
@@ -98,7 +103,7 @@ static void take_item(Parser *parser, bits *set) {
 static size_t take_length(Parser *parser) {
     size_t length;
     skip_spaces(parser);
-    length = take_number(parser, 0, MAX_LENGTH, "The length is past the greatest, 4294967295,");
+    length = take_number(parser, 0, MAX_LENGTH, "The length is past the greatest, " CppAsString2(MAX_LENGTH) ",");
     skip_spaces(parser);
     expect(parser, *parser->at == '\0', "The end is expected");
     return length;
@@ -126,10 +131,20 @@ static bits take_runs(Parser *parser) {
     return set;
 }
 
+/* How many hexadecimal digits a text begins with. */
+static size_t count_digits(const char *text) {
+    size_t count = 0;
+    while (isxdigit((unsigned char)text[count])) {
+        CHECK_FOR_INTERRUPTS();
+        count++;
+    }
+    return count;
+}
+
 /* The form in hexadecimal digits. */
 static bits take_hex(Parser *parser) {
     const char *digits = parser->text + strlen("x:");
-    size_t count = strspn(digits, "0123456789abcdefABCDEF"), length, wanted;
+    size_t count = count_digits(digits), length, wanted;
     bits set;
     parser->at = digits + count;
     expect(parser, *parser->at == '/', "A hexadecimal digit or \"/\" is expected");
@@ -140,7 +155,10 @@ static bits take_hex(Parser *parser) {
     expect(parser, count >= wanted, "More digits are expected");
     expect(parser, count <= wanted, "The length has no room for the digit");
     set = new_set(length);
-    hex_decode(digits, count, (char *)set.words);
+    for (size_t at = 0; at < count; at += PART) {
+        CHECK_FOR_INTERRUPTS();
+        hex_decode(digits + at, Min(count - at, PART), (char *)set.words + at / 2);
+    }
     if (!IS_SET(&set)) {
         /* There are no more digits than the length needs, so the last byte has the position. */
         parser->at -= 2;
@@ -161,10 +179,13 @@ static void append_number(StringInfo text, size_t number) {
     appendBinaryStringInfo(text, digits, pg_ulltoa_n(number, digits));
 }
 
-static void append_runs(StringInfo text, const bits *set) {
+/* Writes the form in runs, unless it is longer than the greatest size. */
+static bool append_runs(StringInfo text, const bits *set, int greatest) {
     appendStringInfoChar(text, '{');
     BITS_FOR_EACH_RUN(start, end, set) {
         CHECK_FOR_INTERRUPTS();
+        if (text->len >= greatest)
+            return false;
         if (text->len > 1)
             appendStringInfoChar(text, ',');
         append_number(text, start);
@@ -174,20 +195,35 @@ static void append_runs(StringInfo text, const bits *set) {
         }
     }
     appendStringInfoChar(text, '}');
+    return text->len <= greatest;
 }
 
+/* Writes the form in hexadecimal digits, with room for all that stands behind. */
 static void append_hex(StringInfo text, const bits *set) {
     size_t count = OCTETS(set->length);
+    enlargeStringInfo(text, 2 * count + sizeof("x:/" CppAsString2(MAX_LENGTH)));
     appendStringInfoString(text, "x:");
-    enlargeStringInfo(text, 2 * count + 1);
-    text->len += hex_encode((char *)set->words, count, text->data + text->len);
+    for (size_t at = 0; at < count; at += PART) {
+        CHECK_FOR_INTERRUPTS();
+        text->len += hex_encode((char *)set->words + at, Min(count - at, PART), text->data + text->len);
+    }
+}
+
+/* Writes the form that is set, or the shorter one. */
+static void append_form(StringInfo text, const bits *set) {
+    int digits = strlen("x:") + 2 * OCTETS(set->length);
+    int greatest = output_form == OUTPUT_AUTO ? Max(digits, SHORT_TEXT) : PG_INT32_MAX;
+    if (output_form != OUTPUT_HEX && append_runs(text, set, greatest))
+        return;
+    resetStringInfo(text);
+    append_hex(text, set);
 }
 
 FUNCTION(bitset_out) {
     READ(set, 0);
     StringInfoData text;
     initStringInfo(&text);
-    (output_form == OUTPUT_HEX ? append_hex : append_runs)(&text, set);
+    append_form(&text, set);
     appendStringInfoChar(&text, '/');
     append_number(&text, set->length);
     PG_RETURN_CSTRING(text.data);
@@ -208,7 +244,7 @@ FUNCTION(bitset_recv) {
     int64 length = pq_getmsgint64(message);
     int count = message->len - message->cursor;
     bits set;
-    if (length < 0 || length > (int64)MAX_LENGTH || OCTETS(length) != (size_t)count)
+    if (length < 0 || length > MAX_LENGTH || OCTETS(length) != (size_t)count)
         REFUSE(INVALID_BINARY_REPRESENTATION, "external bitset of length %lld has %d bytes", (long long)length, count);
     set = new_set(length);
     pq_copymsgbytes(message, (char *)set.words, count);

@@ -55,10 +55,10 @@ class Plan:
 
     def first(self):
         """What needs no proof, the quickest first."""
-        script = ("./bits", "bits", "use", "build.sh", "README.md")
+        script = ("./bits", "bits", "use", "build.sh", "README.md", "crates.txt", "docs/COMMANDS.md", "tools/refusals", "refuse/calls.py")
         return [
             Stage("./bits where it cannot start", ("refuse/check_bits",), ("refuse/check_bits", *script[1:])),
-            Stage("calls that are not known", ("refuse/check_calls",), ("refuse", "tests/run", "test", SCRIPTS)),
+            Stage("calls that are not known", ("refuse/check_calls",), ("refuse", "tests/run", "test", "docs/check_names", "tools", "crates.txt")),
         ]
 
     def scripts(self):
@@ -99,26 +99,27 @@ class Plan:
     def fronts(self):
         """What stands above the static library and is no Rattle."""
         library = self.sources("bits_c", parts=("src", "specs", "proofs"))
-        front = Stage("the crate for Rust and the header for C", ("front/test",), ("front", *library), MAKERS, ("README.md",))
+        front = Stage("the crate for Rust and the header for C", ("front/test",), ("front", "docs/make_api", *library), MAKERS, ("README.md",))
         server = ("pg_config", "postgres", "psql", *MAKERS)
         inputs = ("front/postgres", "front/lib", "front/c")
         postgres = Stage("the type for PostgreSQL", ("front/postgres/test",), inputs, server, ("README.md",))
         crate = ("front/rust", "front/differ", "front/registry", "front/compilers")
         gcc = [f"{it}-linux-gnu-gcc" for it in ("aarch64", "i686", "s390x")]
-        emulators = ("qemu-aarch64-static", "qemu-s390x-static", "wasm-ld", "node", "rustc", "cc", *gcc)
+        emulators = ("qemu-aarch64-static", "qemu-s390x-static", "wasm-ld", "node", "cargo", "rustc", "cc", *gcc)
         targets = Stage("the crate on other targets", ("front/targets",), (*crate, "front/targets", "front/wrong", "front/wrong_lines", "refuse/kept.py"), emulators)
         client = Stage("petgraph over the crate", ("front/client",), (*crate, "front/client"), ("cargo", "rustc", "cc"))
         return [front, postgres, targets, client] if self.has("bits_c") else []
 
     def last(self):
         """What runs the programs."""
-        bits = (*self.sources("bits"), "bits", "build.sh", "examples", f"{SCRIPTS}/programs", f"{SCRIPTS}/report.sh")
+        bits = (*self.sources("bits"), "bits", "build.sh", "tools/refusals", "refuse/calls.py", "docs/COMMANDS.md", "examples",
+                f"{SCRIPTS}/programs", f"{SCRIPTS}/report.sh")
         shared = ("refuse/running.py", "refuse/slow.py", "refuse/slow_answers.py", "refuse/refuse.c", "refuse/memory.txt",
                   "refuse/calls.py")
         uses = [it for it in self.names if it.startswith("use_") and it != "use_text"]
         stored = [f"crates/{it}/{part}" for it in uses for part in ("cases", "wrong", "stdin", "stdout")]
         stored = [it for it in stored if (self.top / it).exists()]
-        commands = ("docs/COMMANDS.md", "docs/check_commands")
+        commands = ("docs/check_commands",)
         refusals = self.sources("test_refusals", "bits")
         stages = [
             (["bits"], Stage("programs", (f"{SCRIPTS}/programs",), bits, ("cc",))),

@@ -62,8 +62,10 @@ class Run:
                 self.gate.print(line)
             if FAILURE.match(line):
                 self.gate.tell_failure(self.stage.name, line)
-        self.status = self.process.wait()
+        _, status, used = os.wait4(self.process.pid, 0)
+        self.status = self.process.returncode = os.waitstatus_to_exitcode(status)
         self.seconds = round(time.monotonic() - self.began)
+        self.minutes = (used.ru_utime + used.ru_stime) / 60
 
     def join(self):
         """Waits for the end, and adds the counts of the last line. A status that is not 0 is a failure."""
@@ -78,7 +80,8 @@ class Run:
             failed = 1
         if failed:
             self.gate.tell_failure(self.stage.name, self.lines[-1] if self.lines else "it said nothing")
-        kept = "kept" if any(it.startswith("kept: an earlier run") for it in self.lines[-2:]) else f"{self.seconds} seconds"
+        is_kept = any(it.startswith("kept: an earlier run") for it in self.lines[-2:])
+        kept = "kept" if is_kept else f"{self.seconds} seconds, {self.minutes:.1f} processor minutes"
         beside = ", beside others" if self.is_beside else ""
         self.gate.print(f"== {self.stage.name}: {kept}{beside}, {passed} passed, {failed} failed\n")
         self.gate.passed += passed

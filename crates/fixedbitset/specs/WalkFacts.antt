@@ -1,9 +1,10 @@
 -- What the walks over the positions give, for those who call them.
-use Rattle.std.proofs.Common.{IsTrue, ◌↔◌, ◌≡◌, ℕ, zero, suc, ◌+◌, ◌-◌, ◌<◌, ◌≤◌, Bool, true, false, cond, List, ◌∷◌, [], length, Contains, true≢false, refl, ◌⊎◌, ⊎_elim, inl, inr, arith, get_or, sym, ap, subst}
+use Rattle.std.proofs.Common.{IsTrue, ◌↔◌, ◌≡◌, ℕ, zero, suc, ◌+◌, ◌-◌, ◌*◌, ◌^◌, ◌<◌, ◌≤◌, Bool, true, false, cond, List, ◌∷◌, [], length, sum, Contains, true≢false, refl, ◌⊎◌, ⊎_elim, inl, inr, arith, get_or, sym, ap, subst}
 use Rattle.std.specs.List.{range_with_len}
 use Rattle.std.proofs.lemmas.Bool.{cases_Bool}
 use Rattle.std.proofs.lemmas.Bool.Decides.{nat_tests}
 use Rattle.std.proofs.lemmas.List.Elements.{All-get_or, filter_passes}
+use Rattle.std.proofs.lemmas.List.Sums.{sum_by-le}
 use Rattle.bitwords.specs.Ascending.{ascending}
 use Rattle.bitwords.specs.AscendingFacts.{length-ascending}
 use Rattle.bitwords.specs.Neighbours.{IsNext}
@@ -24,6 +25,16 @@ contains_item v k d within = All-get_or (λ p. contains v p ≡ true) (asc v) k 
 -- and below the length
 pub item_below : (v : Bits) (k d : ℕ) → k < length (asc v) → get_or (asc v) k d < v.length
 item_below v k d within = contains_below v _ (contains_item v k d within)
+
+-- a number below 2 ^ 32 times another one
+small : (n m : ℕ) → n ≤ m → m < 2 ^ 32 → n * m < 2 ^ 64
+small n m le lt = grind arith
+
+-- the sum of the positions of a set whose length is below 2 ^ 32 fits a word
+pub sum_fits : (v : Bits) → v.length < 2 ^ 32 → sum (asc v) < 2 ^ 64
+sum_fits v short =
+    let total = sum_by-le (λ p. p) v.length (asc v) (λ k d within. let below = item_below v k d within in omega arith) in
+    omega (arith, total, small (length (asc v)) v.length (length-asc v) short)
 
 -- ---- each position is an item
 

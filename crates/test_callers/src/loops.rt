@@ -33,6 +33,19 @@ pub fn total(set: &FixedBitSet) -> usize
     total
 }
 
+/// Their sum, where the length is below 2 ^ 32: then it fits.
+#[tactic(auto, using(fixedbitset::specs::WalkFacts::sum_fits))]
+pub fn total_where_short(set: &FixedBitSet) -> Option<usize>
+    ensures sum { IfSome result (λ total. total ≡ sum (model.asc set.now)) }
+    ensures none { IfNone result (2 ^ 32 ≤ set.now.length) }
+{
+    if set.len() < 4_294_967_296 {
+        Some(total(set))
+    } else {
+        None
+    }
+}
+
 /// How many there are.
 pub fn counted(set: &FixedBitSet) -> usize
     ensures { result ≡ length (model.asc set.now) }

@@ -18,6 +18,19 @@ pub fn first_clear(set: &FixedBitSet) -> Option<usize>
     set.zeroes().next()
 }
 
+/// The first free slot, or the length where each is taken.
+pub fn first_clear_or_end(set: &FixedBitSet) -> usize
+    ensures clear { result < set.now.length → model.contains set.now result ≡ false }
+    ensures full { result ≡ set.now.length →
+        (p : ℕ) → p < set.now.length → model.contains set.now p ≡ true }
+    ensures within { result ≤ set.now.length }
+{
+    match set.zeroes().next() {
+        Some(slot) => slot,
+        None => set.len(),
+    }
+}
+
 /// Some free slot from `low` on.
 #[tactic(auto, using(fixedbitset::specs::WalkFacts::zero_items))]
 pub fn some_clear_from(set: &FixedBitSet, low: usize) -> Option<usize>

@@ -22,7 +22,7 @@ use std::fmt::Write;
 use std::process::ExitCode;
 use use_text::program::{finish, read};
 use use_text::sets::set_of;
-use use_text::{Fault, Row};
+use use_text::{Fault, Row, Wrong};
 
 mod policies;
 
@@ -38,15 +38,16 @@ fn main(rt: HostRuntime) -> ExitCode {
 fn answers(alloc: Global, text: &str) -> Result<String, Fault> {
     let rows = use_text::rows(alloc, text)?;
     let Some((size, others)) = rows.split_first() else {
-        return Err(Fault::Line(1, "the numbers of roles and rights are missing"));
+        let wrong = Wrong::Form("the numbers of roles and rights are missing");
+        return Err(Fault::Line(1, wrong));
     };
     let [roles @ 0..=LIMIT, rights @ 0..=LIMIT] = *size.numbers.as_slice() else {
-        let wanted = "there have to be two numbers, of roles and of rights, up to 10,000";
-        return Err(Fault::Line(size.line, wanted));
+        return Err(Fault::Line(size.line, wrong_size(&size.numbers)));
     };
     let mut parts = others.splitn(5, |row| row.numbers.is_empty());
     if let Some([row, ..]) = parts.next() {
-        return Err(Fault::Line(row.line, "an empty line has to stand here"));
+        let wrong = Wrong::Form("an empty line has to stand here");
+        return Err(Fault::Line(row.line, wrong));
     }
     let (Some(first), Some(second), Some(denied), Some(questions)) = (
         parts.next(),
@@ -54,13 +55,22 @@ fn answers(alloc: Global, text: &str) -> Result<String, Fault> {
         parts.next(),
         parts.next(),
     ) else {
-        return Err(Fault::Line(rows.len() + 1, "a part is missing"));
+        return Err(Fault::Line(rows.len() + 1, Wrong::Form("a part is missing")));
     };
     let first = policy_of(alloc, roles, rights, first)?;
     let second = policy_of(alloc, roles, rights, second)?;
     let mut both = first.both(alloc, &second)?;
     deny(&mut both, denied)?;
     answers_of(alloc, &both, questions)
+}
+
+// Why these are not how many roles and rights there are.
+fn wrong_size(numbers: &[usize]) -> Wrong {
+    match *numbers {
+        [roles, _] if roles > LIMIT => Wrong::Above("the number of roles", roles, LIMIT),
+        [_, rights] => Wrong::Above("the number of rights", rights, LIMIT),
+        _ => Wrong::Form("there have to be two numbers, of roles and of rights"),
+    }
 }
 
 // The policy that gives exactly what these rows grant. The fault has the first row that is no grant.
@@ -74,7 +84,7 @@ fn policy_of(alloc: Global, roles: usize, rights: usize, rows: &[Row]) -> Result
     let mut policy = Policy::new(alloc, roles, rights)?;
     for row in rows {
         let Some((role, right)) = grant_of(&row.numbers, roles, rights) else {
-            return Err(Fault::Line(row.line, "a grant has to be a role and a right"));
+            return Err(Fault::Line(row.line, wrong_grant(&row.numbers, roles, rights)));
         };
         policy.grant(role, right);
     }
@@ -92,6 +102,15 @@ fn grant_of(numbers: &[usize], roles: usize, rights: usize) -> Option<(usize, us
     }
 }
 
+// Why these numbers are no grant.
+fn wrong_grant(numbers: &[usize], roles: usize, rights: usize) -> Wrong {
+    match *numbers {
+        [role, _] if role >= roles => Wrong::NotBelow("the role", role, roles),
+        [_, right] => Wrong::NotBelow("the right", right, rights),
+        _ => Wrong::Form("there have to be two numbers, a role and a right"),
+    }
+}
+
 // Takes from the policy what these rows deny. The fault has the first row that denies nothing.
 fn deny(policy: &mut Policy, rows: &[Row]) -> Result<(), Fault>
     ensures size { HaveSameSize policy.old policy.new }
@@ -103,7 +122,8 @@ fn deny(policy: &mut Policy, rows: &[Row]) -> Result<(), Fault>
 {
     for row in rows {
         let Some((role, right)) = grant_of(&row.numbers, policy.roles(), policy.rights()) else {
-            return Err(Fault::Line(row.line, "what is denied has to be a role and a right"));
+            let wrong = wrong_grant(&row.numbers, policy.roles(), policy.rights());
+            return Err(Fault::Line(row.line, wrong));
         };
         policy.revoke(role, right);
     }
@@ -129,7 +149,7 @@ fn answers_of(alloc: Global, policy: &Policy, rows: &[Row]) -> Result<String, Fa
     let mut answers = String::new(alloc);
     for row in rows {
         let Some((role, rights)) = row.numbers.split_first() else {
-            return Err(Fault::Line(row.line, "a question has to begin with a role"));
+            return Err(Fault::Line(row.line, Wrong::Form("a question has to begin with a role")));
         };
         match answer_to(alloc, policy, *role, rights)? {
             Answer::Allowed => answers.push_str("yes\n")?,

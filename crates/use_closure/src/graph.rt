@@ -15,7 +15,7 @@ ghost use Rattle.use_closure.specs.Edges.{IsEdge, HasEdge, IsBefore, pairs_in};
 
 use bitrows::BitRows;
 use std::alloc::{AllocError, Global};
-use use_text::{Fault, Row};
+use use_text::{Fault, Row, Wrong};
 
 /// The pairs of nodes that a path of one or more of these edges joins.
 ///
@@ -42,7 +42,7 @@ fn table_of(alloc: Global, nodes: usize, rows: &[Row]) -> Result<BitRows, Fault>
     let mut table = BitRows::new(alloc, nodes, nodes)?;
     for row in rows {
         let Some((from, to)) = edge_of(&row.numbers, nodes) else {
-            return Err(Fault::Line(row.line, "an edge has to be two nodes"));
+            return Err(Fault::Line(row.line, wrong_edge(&row.numbers, nodes)));
         };
         table.set(from, to, true);
     }
@@ -57,6 +57,15 @@ fn edge_of(numbers: &[usize], nodes: usize) -> Option<(usize, usize)>
     match *numbers {
         [from, to] if from < nodes && to < nodes => Some((from, to)),
         _ => None,
+    }
+}
+
+// Why these numbers are no edge.
+fn wrong_edge(numbers: &[usize], nodes: usize) -> Wrong {
+    match *numbers {
+        [from, _] if from >= nodes => Wrong::NotBelow("the node", from, nodes),
+        [_, to] => Wrong::NotBelow("the node", to, nodes),
+        _ => Wrong::Form("an edge has to be two nodes"),
     }
 }
 

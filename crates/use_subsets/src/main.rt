@@ -26,8 +26,8 @@ use std::fmt::Write;
 use std::process::ExitCode;
 use subsets::determinize;
 use use_text::program::{finish, read};
-use use_text::sets::set_of;
-use use_text::{Fault, Row};
+use use_text::sets::{first_not_below, set_of};
+use use_text::{Fault, Row, Wrong};
 
 mod automata;
 mod subsets;
@@ -46,14 +46,15 @@ fn main(rt: HostRuntime) -> ExitCode {
 fn answers(alloc: Global, text: &str) -> Result<String, Fault> {
     let rows = use_text::rows(alloc, text)?;
     let [size, start, accepting, others @ ..] = rows.as_slice() else {
-        return Err(Fault::Line(rows.len() + 1, "a line is missing"));
+        return Err(Fault::Line(rows.len() + 1, Wrong::Form("a line is missing")));
     };
     let (states, letters, limit) = sizes_of(size)?;
     let start = states_of(alloc, states, start)?;
     let accepting = states_of(alloc, states, accepting)?;
     let mut parts = others.splitn(2, |row| row.numbers.is_empty());
     let (Some(edges), Some(words)) = (parts.next(), parts.next()) else {
-        return Err(Fault::Line(rows.len() + 1, "an empty line has to follow the edges"));
+        let wrong = Wrong::Form("an empty line has to follow the edges");
+        return Err(Fault::Line(rows.len() + 1, wrong));
     };
     let nfa = Nfa {
         states,
@@ -64,7 +65,10 @@ fn answers(alloc: Global, text: &str) -> Result<String, Fault> {
     };
     prove!(nfa.is_valid());
     let Some(dfa) = determinize(alloc, &nfa, limit)? else {
-        return Err(Fault::Line(size.line, "the automaton would have too many states"));
+        return Err(Fault::Line(
+            size.line,
+            Wrong::More("the automaton would have more states than", limit),
+        ));
     };
     let mut answers = String::new(alloc);
     write_states(&mut answers, &dfa)?;
@@ -84,12 +88,23 @@ fn sizes_of(row: &Row) -> Result<(usize, usize, usize), Fault> {
             letters @ 0..=LETTERS,
             limit @ 0..=STATES,
         ] => Ok((states, letters, limit)),
-        _ => {
-            let wanted =
-                "there have to be the numbers of states up to 1,000 and of letters up to 100, \
-                and perhaps a limit up to 1,000";
-            Err(Fault::Line(row.line, wanted))
+        _ => Err(Fault::Line(row.line, wrong_sizes(&row.numbers))),
+    }
+}
+
+// Why these are not how many states and letters there are, and perhaps how many states there may be.
+fn wrong_sizes(numbers: &[usize]) -> Wrong {
+    match *numbers {
+        [states, _] | [states, _, _] if states > STATES => {
+            Wrong::Above("the number of states", states, STATES)
         }
+        [_, letters] | [_, letters, _] if letters > LETTERS => {
+            Wrong::Above("the number of letters", letters, LETTERS)
+        }
+        [_, _, limit] => Wrong::Above("the limit", limit, STATES),
+        _ => Wrong::Form(
+            "there have to be the numbers of states and of letters, and perhaps a limit",
+        ),
     }
 }
 
@@ -116,9 +131,17 @@ fn states_of(alloc: Global, states: usize, row: &Row) -> Result<FixedBitSet, Fau
     ensures fault { IfErr result (IsFaultOfRow (AreBelow states) (row.now ∷ [])) }
 {
     let Some(set) = set_of(alloc, states, &row.numbers)? else {
-        return Err(Fault::Line(row.line, "each number has to be a state"));
+        return Err(Fault::Line(row.line, wrong_state(&row.numbers, states)));
     };
     Ok(set)
+}
+
+// Which of these numbers is the first that is no state.
+fn wrong_state(numbers: &[usize], states: usize) -> Wrong {
+    match first_not_below(numbers, states) {
+        Some(state) => Wrong::NotBelow("the state", state, states),
+        None => Wrong::Form("each number has to be a state"),
+    }
 }
 
 // The edges of these rows, one each. The fault has the first row that is no edge.
@@ -131,7 +154,7 @@ fn edges_of(alloc: Global, states: usize, letters: usize, rows: &[Row]) -> Resul
     let mut edges = Vec::new(alloc);
     for row in rows {
         let Some(edge) = edge_of(&row.numbers, states, letters) else {
-            return Err(Fault::Line(row.line, "an edge has to be a state, a letter and a state"));
+            return Err(Fault::Line(row.line, wrong_edge(&row.numbers, states, letters)));
         };
         edges.push(edge)?;
     }
@@ -146,5 +169,15 @@ fn edge_of(numbers: &[usize], states: usize, letters: usize) -> Option<Edge>
     match *numbers {
         [from, by, to] if from < states && by < letters && to < states => Some((from, by, to)),
         _ => None,
+    }
+}
+
+// Why these numbers are no edge.
+fn wrong_edge(numbers: &[usize], states: usize, letters: usize) -> Wrong {
+    match *numbers {
+        [from, _, _] if from >= states => Wrong::NotBelow("the state", from, states),
+        [_, by, _] if by >= letters => Wrong::NotBelow("the letter", by, letters),
+        [_, _, to] => Wrong::NotBelow("the state", to, states),
+        _ => Wrong::Form("an edge has to be a state, a letter and a state"),
     }
 }

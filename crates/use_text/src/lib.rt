@@ -36,9 +36,26 @@ pub enum Fault {
     /// The input cannot be read.
     #[error("the input cannot be read")]
     Input,
-    /// The line of this number, from 1 on, is not as the sentence says.
+    /// The line of this number, from 1 on, is wrong.
     #[error("line {0}: {1}")]
-    Line(usize, &'static str),
+    Line(usize, Wrong),
+}
+
+/// What is wrong with a line.
+#[derive(Debug, Drop, Error)]
+pub enum Wrong {
+    /// It is not as this sentence says.
+    #[error("{0}")]
+    Form(&'static str),
+    /// What has this name is this number, which is not below this bound.
+    #[error("{0} {1} is not below {2}")]
+    NotBelow(&'static str, usize, usize),
+    /// What has this name is this number, which is above this limit.
+    #[error("{0} {1} is above {2}")]
+    Above(&'static str, usize, usize),
+    /// There would be more of what this names than this limit.
+    #[error("{0} {1}")]
+    More(&'static str, usize),
 }
 
 impl From<AllocError> for Fault {
@@ -73,7 +90,8 @@ pub fn rows(alloc: Global, text: &str) -> Result<Vec<Row>, Fault>
     for line in &lines {
         let number = rows.len() + 1;
         let Some(numbers) = numbers_of(alloc, line)? else {
-            return Err(Fault::Line(number, "each word has to be a number below 2^64"));
+            let wrong = Wrong::Form("each word has to be a number below 2^64");
+            return Err(Fault::Line(number, wrong));
         };
         rows.push(Row {
             line: number,

@@ -1,6 +1,6 @@
 //! Sets of the numbers of a row.
 
-ghost use Rattle.std.specs.Prelude.{MatchOption, IfOk};
+ghost use Rattle.std.specs.Prelude.{◌≡◌, MatchOption, IfOk, find, nat_le};
 ghost use Rattle.use_text.specs.Sets.{AreBelow, IsSetOf};
 
 use fixedbitset::FixedBitSet;
@@ -24,4 +24,11 @@ pub fn set_of(
         set.insert(*position);
     }
     Ok(Some(set))
+}
+
+/// The first of these numbers that is not below the bound.
+pub fn first_not_below(numbers: &[usize], bound: usize) -> Option<usize>
+    ensures { result ≡ find (nat_le bound) numbers.now }
+{
+    numbers.iter().copied().find(|number| *number >= bound)
 }

@@ -33,6 +33,10 @@ class Set:
     def hex(self):
         return f"x:{self.bytes().hex()}/{self.length}"
 
+    def auto(self):
+        runs, end = self.text(), f"/{self.length}"
+        return runs if len(runs) <= max(100 + len(end), len(self.hex())) else self.hex()
+
     def words(self):
         return [self.ones >> at & (1 << 64) - 1 for at in range(0, self.length, 64)]
 
@@ -104,7 +108,7 @@ def gap(s, count, start):
 
 
 def long(length, ones):
-    return Set(length, ones & mask(0, length)) if length < 2**32 else wrong("54000")
+    return Set(length, ones & mask(0, length)) if length <= 2**32 - 64 else wrong("54000")
 
 
 def moved(s, by, ones):
@@ -140,12 +144,21 @@ def join(sets, operation):
     return ones
 
 
+def least_of(sets):
+    return [Set(0, s.ones & -s.ones) for s in sets]
+
+
+def without_length(ones):
+    return Set(ones.bit_length(), ones) if ones else None
+
+
 # The expression, and its answer of sets s and t, a position p and a range from a to b.
 CALLS = {
     "s | t": lambda s, t, p, a, b: Set(max(s.length, t.length), s.ones | t.ones),
     "s & t": lambda s, t, p, a, b: Set(min(s.length, t.length), s.ones & t.ones),
     "s # t": lambda s, t, p, a, b: Set(max(s.length, t.length), s.ones ^ t.ones),
     "s - t": lambda s, t, p, a, b: Set(s.length, s.ones & ~t.ones),
+    "~s": lambda s, t, p, a, b: Set(s.length, mask(0, s.length) ^ s.ones),
     "s @> t": lambda s, t, p, a, b: t.ones & ~s.ones == 0,
     "s <@ t": lambda s, t, p, a, b: s.ones & ~t.ones == 0,
     "s && t": lambda s, t, p, a, b: s.ones & t.ones != 0,
@@ -163,6 +176,7 @@ CALLS = {
     "bitset_cmp(s, t)": lambda s, t, p, a, b: sign(s.key(), t.key()),
     "bitset_hash(s) = bitset_hash(t) OR s <> t": lambda s, t, p, a, b: True,
     "bitset_hash_extended(s, p) = bitset_hash_extended(s | bitset(0), p)": lambda s, t, p, a, b: True,
+    "bitset_hash_extended(s, p) <> bitset_hash_extended(s, p - 1)": lambda s, t, p, a, b: True,
     "length(s)": lambda s, t, p, a, b: s.length,
     "count_ones(s)": lambda s, t, p, a, b: s.ones.bit_count(),
     "is_clear(s)": lambda s, t, p, a, b: s.ones == 0,
@@ -209,11 +223,15 @@ CALLS = {
     "first_lacking(s, t)": lambda s, t, p, a, b: next_of(t.ones & ~s.ones, t.length, 0),
     "bitset_from_bytes(bytes(s), length(t))": lambda s, t, p, a, b: long(t.length, s.ones),
     "positions(s)": lambda s, t, p, a, b: s.positions(),
+    "positions(s, p, b)": lambda s, t, p, a, b: s.positions()[p:p + b] if p >= 0 else wrong("22003"),
+    "positions(s, abs(p) % 40, abs(p) % 7)": lambda s, t, p, a, b: s.positions()[abs(p) % 40:abs(p) % 40 + abs(p) % 7],
     "bitset(positions(s), length(s) + 3)": lambda s, t, p, a, b: Set(s.length + 3, s.ones),
     "bitset(length(s))": lambda s, t, p, a, b: Set(s.length, 0),
     "bytes(s)": lambda s, t, p, a, b: s.bytes(),
     "bitset(s::bytea)": lambda s, t, p, a, b: Set((s.length + 7) // 8 * 8, s.ones),
     "(s::bit varying)::text": lambda s, t, p, a, b: s.digits(),
+    "(s::bit(64))::text": lambda s, t, p, a, b: s.digits() if s.length == 64 else wrong("22026"),
+    "bitset(CAST(s AS \"bit\"))": lambda s, t, p, a, b: s,
     "bitset(s::bit varying)": lambda s, t, p, a, b: s,
     "s::text::bitset": lambda s, t, p, a, b: s,
     "ARRAY(SELECT ones(s))": lambda s, t, p, a, b: s.positions(),
@@ -227,10 +245,14 @@ CALLS = {
     "(SELECT array_agg(lower(r) || '+' || upper(r)) FROM runs(s) r)":
         lambda s, t, p, a, b: [f"{x}+{y}" for x, y in s.runs()] or None,
 }
-# The aggregate over five sets of a batch, and its answer.
+# The aggregate over sets of a batch, and its answer.
 AGGREGATES = {
     "bitset_union(s)": lambda sets: Set(max(s.length for s in sets), join(sets, int.__or__)),
     "bitset_intersection(s)": lambda sets: Set(min(s.length for s in sets), join(sets, int.__and__)),
-    "bitset_agg(minimum(s), length(s))":
-        lambda sets: Set(max(s.length for s in sets), join([Set(0, s.ones & -s.ones) for s in sets], int.__or__)),
+    "bitset_symmetric_difference(s)": lambda sets: Set(max(s.length for s in sets), join(sets, int.__xor__)),
+    "bitset_union_count(s)": lambda sets: join(sets, int.__or__).bit_count(),
+    "bitset_intersection_count(s)": lambda sets: join(sets, int.__and__).bit_count(),
+    "bitset_symmetric_difference_count(s)": lambda sets: join(sets, int.__xor__).bit_count(),
+    "bitset_agg(minimum(s), length(s))": lambda sets: Set(max(s.length for s in sets), join(least_of(sets), int.__or__)),
+    "bitset_agg(minimum(s))": lambda sets: without_length(join(least_of(sets), int.__or__)),
 }

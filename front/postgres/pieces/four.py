@@ -1,4 +1,5 @@
-"""Four servers with sets in pieces, as `check` and `measure` want them: 0 is the one that is asked, and 1 to 3 keep pieces."""
+"""Four servers with sets in pieces, as `check` and `measure` want them: 0 is the one that is asked, and 1 to 3 keep pieces. Of
+a fifth one `check` makes another keeper."""
 import pathlib
 import random
 import socket
@@ -11,11 +12,11 @@ RANGES = ((0, 333334), (333334, 666667), (666667, 1000000))
 
 
 def free_port():
-    """The first of four ports that nobody listens on."""
+    """The first of five ports that nobody listens on."""
     while True:
         port = random.randrange(20000, 32000)
         try:
-            for at in range(4):
+            for at in range(5):
                 socket.create_server(("127.0.0.1", port + at)).close()
             return port
         except OSError:
@@ -26,8 +27,8 @@ def servers(action, folder, port, *more):
     subprocess.run([HERE / "servers", action, folder, str(port), *more], check=action == "start", stdin=subprocess.DEVNULL)
 
 
-def connect(port):
-    connection = psycopg2.connect(host="127.0.0.1", port=port, user="postgres", dbname="postgres")
+def connect(port, user="postgres"):
+    connection = psycopg2.connect(host="127.0.0.1", port=port, user=user, dbname="postgres")
     connection.autocommit = True
     return connection
 

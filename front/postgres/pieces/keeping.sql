@@ -5,10 +5,23 @@ CREATE EXTENSION fixedbitset;
 -- Piece k of a set has its positions from 1000000 k on. A piece that is not there has none.
 CREATE TABLE pieces (
     name text,
-    piece int CHECK (piece >= :least AND piece < :past),
+    piece int,
     part bitset NOT NULL CHECK (length(part) = 1000000),
     PRIMARY KEY (name, piece)
 );
+
+-- Which pieces are kept here. A CHECK of the table says it, which a change of this row makes anew: it is refused where a piece
+-- would be left outside.
+CREATE TABLE kept (least int NOT NULL, past int NOT NULL);
+CREATE FUNCTION make_check() RETURNS trigger LANGUAGE plpgsql SET client_min_messages = warning AS $$
+BEGIN
+    ALTER TABLE public.pieces DROP CONSTRAINT IF EXISTS kept_here;
+    EXECUTE format('ALTER TABLE public.pieces ADD CONSTRAINT kept_here CHECK (piece >= %s AND piece < %s)', NEW.least, NEW.past);
+    RETURN NULL;
+END
+$$;
+CREATE TRIGGER make_check AFTER INSERT OR UPDATE ON kept FOR EACH ROW EXECUTE FUNCTION make_check();
+INSERT INTO kept VALUES (:least, :past);
 
 -- The ends of each piece, and sums over all pieces here: of a set, and of two sets.
 CREATE VIEW facts AS SELECT name, piece, minimum(part) AS least, maximum(part) AS greatest FROM pieces;
@@ -29,3 +42,7 @@ BEGIN
 END
 $$;
 CREATE TRIGGER make_union INSTEAD OF INSERT ON unions FOR EACH ROW EXECUTE FUNCTION make_union();
+
+-- As whom the server that is asked comes here for a role of its own that is not its owner. It may read, and not write.
+CREATE ROLE pieces_reader LOGIN;
+GRANT SELECT ON pieces, facts, totals, pairs TO pieces_reader;

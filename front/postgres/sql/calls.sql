@@ -11,7 +11,7 @@ SELECT insert(:s, 4), remove(:s, 15), toggle(:s, 3), toggle(:s, 4);
 SELECT insert(:s, 64);
 SELECT remove(:s, -1);
 SELECT grow(:s, 100), grow(:s, 10), grow('{}/0', 1);
-SELECT grow(:s, 4294967296);
+SELECT grow(:s, 4294967233);
 
 -- the positions next to a number
 SELECT p, next_one(:s, p), next_zero(:s, p), previous_one(:s, p), previous_zero(:s, p)

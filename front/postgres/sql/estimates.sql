@@ -53,6 +53,11 @@ SELECT condition, (expected('tagged', condition)).* FROM (VALUES ('tags - ''{0}/
 CREATE TABLE long AS SELECT insert_range(bitset(2000000), '[0,1000001)') AS tags FROM generate_series(1, 3);
 ANALYZE long;
 SELECT most_common_elems FROM pg_stats WHERE tablename = 'long';
-DROP TABLE tagged, few, none, narrowed, long;
+
+-- a sample has rows from the whole table, where the first ones have as many positions as are read: a third has position 0
+CREATE TABLE unlike AS SELECT CASE WHEN id <= 2000 THEN insert_range(bitset(2000), '[0,1000)') ELSE '{1}/2000' END AS tags FROM generate_series(1, 6000) id;
+ANALYZE unlike;
+SELECT condition, rows, abs(expected - rows) < 100 AS near FROM unnest('{tags @> 0,tags @> 1}'::text[]) condition, expected('unlike', condition);
+DROP TABLE tagged, few, none, narrowed, long, unlike;
 DROP DOMAIN narrow;
 DROP FUNCTION expected;

@@ -31,7 +31,7 @@ $$;
 SELECT (compared(question)).* FROM (VALUES ('tags @> 7'), ('tags @> 7::bigint'), ('7 <@ tags'), ('tags @> -1'), ('tags @> 99999'),
     ('tags @> ''{7,28}/300'''), ('tags @> ''{7,28,299}/1000'''), ('tags @> ''{}/0'''), ('tags @> ''{}/5000'''), ('tags @> ''{999}/1000'''),
     ('tags && ''{7,28}/300'''), ('tags && ''{}/300'''), ('tags && ''{0-299}/300'''), ('tags && ''{999}/1000'''), ('''{7}/8'' <@ tags'),
-    ('tags @> 7 AND tags && ''{28,63}/64'''), ('tags @> 7 OR tags @> 11'), ('tags @> NULL::bitset')) v(question);
+    ('''{7,28}/300'' && tags'), ('tags @> 7 AND tags && ''{28,63}/64'''), ('tags @> 7 OR tags @> 11'), ('tags @> NULL::bitset')) v(question);
 
 -- rows that come and go
 DELETE FROM tagged WHERE id % 3 = 0;
@@ -40,4 +40,23 @@ VACUUM tagged;
 INSERT INTO tagged SELECT id, bitset(ARRAY[id % 300, 5]::bigint[], 300) FROM generate_series(3000, 3500) id;
 SELECT (compared(question)).* FROM (VALUES ('tags @> 299'), ('tags @> ''{5,299}/300'''), ('tags && ''{5,299}/300'''), ('tags @> ''{}/0''')) v(question);
 DROP FUNCTION compared;
+
+-- of many positions the index is asked for the 16 rarest, where these are rare: 100 rows lack one of 0 to 99 each, and one row lacks none
+CREATE TABLE wide AS SELECT id, CASE WHEN id <= 100 THEN remove('{0-99}/300', id - 1) WHEN id = 101 THEN '{0-99}/300'
+    ELSE bitset(ARRAY[id % 300, id * id % 300], 300) END AS tags FROM generate_series(1::bigint, 3000) id;
+CREATE INDEX ON wide USING gin (tags);
+EXPLAIN (COSTS OFF) SELECT id FROM wide WHERE tags @> '{0-99}/300';
+ANALYZE wide;
+EXPLAIN (COSTS OFF) SELECT id FROM wide WHERE tags @> '{0-99}/300';
+SELECT id FROM wide WHERE tags @> '{0-99}/300';
+SELECT count(*) FROM wide WHERE tags @> '{10-29}/5000';
+EXPLAIN (COSTS OFF) SELECT id FROM wide WHERE tags @> '{280-299,1000}/5000';
+EXPLAIN (COSTS OFF) SELECT id FROM wide WHERE tags @> '{10-25}/300';
+EXPLAIN (COSTS OFF) SELECT id FROM (SELECT id, tags | '{1}/2' AS tags FROM wide) joined WHERE tags @> '{0-99}/300';
+EXPLAIN (COSTS OFF) SELECT a.id FROM wide a, wide b WHERE b.id = 101 AND a.tags @> b.tags;
+UPDATE wide SET tags = insert_range(tags, '[0,20)') WHERE id % 10 = 0;
+ANALYZE wide;
+EXPLAIN (COSTS OFF) SELECT id FROM wide WHERE tags @> '{0-19}/300';
+SELECT count(*) FROM wide WHERE tags @> '{0-19}/300';
+DROP TABLE wide;
 DROP TABLE tagged;

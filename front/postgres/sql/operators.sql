@@ -24,3 +24,10 @@ SELECT bool_and((a < b) = (x < y) AND (a <= b) = (x <= y) AND (a > b) = (x > y) 
     AND (a <> b) = (x <> y) AND (a = b) = (x = y) AND (a <> b OR bitset_hash(a) = bitset_hash(b))) AS agrees
 FROM (SELECT x, bitset(substr(int4send(x), 4)) FROM generate_series(0, 127) x) v(x, a),
     (SELECT y, bitset(substr(int4send(y), 4)) FROM generate_series(0, 127) y) w(y, b);
+
+-- the complement, up to the length
+SELECT ~:s AS "not", ~'{}/0'::bitset AS none, ~'{}/3'::bitset AS all_three, ~'{0-63}/64'::bitset AS full, ~(~:s) = :s AS same, length(~bitset(961));
+
+-- an extended hash begins at its second argument; from 0 on it ends as the other one does
+SELECT (bitset_hash_extended(:s, 0) & 4294967295) = (bitset_hash(:s) & 4294967295) AS same,
+	bitset_hash_extended(:s, 1) = bitset_hash_extended(:s, 2) AS equal;

@@ -15,4 +15,6 @@ SELECT name, first_lacking(tags, '{7,16}/64') AS missing FROM people ORDER BY na
 SELECT r FROM people, runs(tags) r WHERE name = 'Ann';
 SELECT bitset_agg(p, 100) FROM generate_series(0, 99, 7) p;
 SELECT bytes(tags), tags::bit varying FROM people WHERE name = 'Cy';
+SELECT ~slice(tags, '[48,64)') AS clear, positions(tags, 2, 3), tags::bit(64) = tags::bit varying AS same FROM people WHERE name = 'Cy';
+SELECT bitset_symmetric_difference(tags), bitset_union_count(tags), bitset_agg(minimum(tags)) FROM people;
 DROP TABLE people;

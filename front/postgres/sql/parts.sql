@@ -8,7 +8,7 @@
 SELECT n, grow(:s, n), truncate(:s, n), resize(:s, n) FROM unnest('{0,8,63,64,65,1000}'::bigint[]) n;
 SELECT resize('{0,960}/961', 960), resize('{0,959}/960', 961), truncate('{0-4999}/5000', 1025), resize('{}/0', 0);
 SELECT truncate(:s, -1);
-SELECT resize(:s, 4294967296);
+SELECT resize(:s, 4294967233);
 
 -- a part, and a part written over another one
 SELECT slice(:s, '[5,20)'), slice(:s, '[60,)'), slice(:s, '(,8]'), slice(:s, '(,)') = :s AS whole, slice(:s, 'empty'), slice('{}/0', '(,)');
@@ -43,13 +43,21 @@ FROM (SELECT bitset_agg(p * p % 9973, 9973) FROM generate_series(1, 2000) p) v(s
 SELECT n, first_gap(:s, n), first_gap(:s, n, 5), first_gap(:s, n, 21) FROM unnest('{0,1,3,4,42,43,9223372036854775807}'::bigint[]) n;
 SELECT first_gap(:s, 1, -1), first_gap(:s, 0, 64), first_gap(:s, 0, 65), first_gap('{0-63}/64', 1), first_gap('{}/0', 1), first_gap('{}/64', 64);
 SELECT first_gap(:s, -1);
+-- a long set is looked at in parts: gaps within one, over the end of one, and longer than one
+CREATE TABLE long AS SELECT start, stop, remove_range(insert_range(bitset(40000001), '(,)'), int8range(start, stop)) AS s
+FROM (VALUES (5, 9), (33554430, 33554434), (33554431, 33554435), (33554432, 33554436), (39999997, 40000001)) v(start, stop);
+SELECT start, first_gap(s, 4) = start AS four, first_gap(s, 5) AS five, first_gap(s, 1, start + 1) = start + 1 AS one,
+    first_gap(s, 4, start + 1) AS past, first_gap(s, 0, 99) AS none FROM long;
+SELECT first_gap(remove_range(s, '[10000000,36000001)'), n), first_gap(remove_range(s, '[10000000,36000001)'), n, 10000001)
+FROM (SELECT s FROM long LIMIT 1) v, unnest('{4,5,17000000,25999999,26000001,26000002,40000001,40000002}'::bigint[]) n;
+DROP TABLE long;
 SELECT first_lacking(:s, :t), first_lacking(:t, :s), first_lacking(:s, :s), first_lacking('{1}/5', '{1,99}/100'), first_lacking('{}/0', '{}/9');
 
 -- bytes of another length
 SELECT n, bitset_from_bytes('\x88fc1f', n) FROM unnest('{0,4,8,20,24,1000}'::bigint[]) n;
 SELECT bitset_from_bytes('', 0), bitset_from_bytes('', 10), bitset_from_bytes('\xff', 3);
 SELECT bitset_from_bytes('\x01', -1);
-SELECT bitset_from_bytes('\x01', 4294967296);
+SELECT bitset_from_bytes('\x01', 4294967233);
 
 -- rows of a range, and gaps
 SELECT p FROM ones(:s, '[7,12)') p;
@@ -63,10 +71,10 @@ SELECT zero_runs('{}/10'), zero_runs('{}/0'), zero_runs('{0-9}/10');
 SELECT zero_runs('{0,3}/4'), runs('{0,3}/4'), ones('{0,3}/4', '[1,)'), zeroes('{0,3}/4', '[1,)');
 
 \set VERBOSITY sqlstate
-SELECT resize(:s, 4294967296);
+SELECT resize(:s, 4294967233);
 SELECT slice(:s, '[60,65)');
 SELECT copy_range(:s, :t, '[14,18)', 61);
 SELECT shift_up(:s, -1);
 SELECT first_gap(:s, -1);
-SELECT bitset_from_bytes('\x01', 4294967296);
+SELECT bitset_from_bytes('\x01', 4294967233);
 \set VERBOSITY default

@@ -1,6 +1,6 @@
 CREATE TABLE holders (role name PRIMARY KEY, rights bitset NOT NULL);
 CREATE TABLE documents (title text, needed bitset NOT NULL);
-CREATE FUNCTION current_rights() RETURNS bitset STABLE LANGUAGE sql AS
+CREATE FUNCTION current_rights() RETURNS bitset STABLE PARALLEL SAFE LANGUAGE sql AS
     'SELECT rights FROM holders WHERE role = current_user';
 ALTER TABLE documents ENABLE ROW LEVEL SECURITY;
 CREATE POLICY readers ON documents USING (needed <@ (SELECT current_rights()));

@@ -8,7 +8,7 @@ SELECT '{}/0'::bitset, '{}/64'::bitset, '{3,7,10-20}/64'::bitset;
 SELECT '{20-10}/64'::bitset;
 SELECT ' { 20 , 3,4,  5 , 3 - 4 } / 064 '::bitset;
 SELECT '{0-63}/64'::bitset, '{0,2,4-5,63}/64'::bitset;
-SELECT '{7,4294967294}/4294967295'::bitset;
+SELECT '{7,4294967231}/4294967232'::bitset;
 
 -- every fault says where it is
 SELECT ''::bitset;
@@ -23,7 +23,7 @@ SELECT '{64}/64'::bitset;
 SELECT '{60-64}/64'::bitset;
 SELECT '{99999999999999999999999999}/64'::bitset;
 SELECT '{0}/0'::bitset;
-SELECT '{}/4294967296'::bitset;
+SELECT '{}/4294967233'::bitset;
 SELECT '{}/'::bitset;
 SELECT '{}/64 x'::bitset;
 SELECT '{}/3/64'::bitset;
@@ -32,8 +32,8 @@ SELECT '{}/-1'::bitset;
 \set VERBOSITY sqlstate
 SELECT '{3,7'::bitset;
 SELECT '{64}/64'::bitset;
-SELECT '{}/4294967296'::bitset;
-SELECT bitset(4294967296);
+SELECT '{}/4294967233'::bitset;
+SELECT bitset(4294967233);
 SELECT bitset(-1);
 SELECT bitset('{7}'::bigint[], 7);
 \set VERBOSITY default
@@ -43,7 +43,15 @@ SELECT 'x:/0'::bitset, 'x:88/8'::bitset, 'x:88fc1F/24'::bitset, 'x:01/1'::bitset
 SET fixedbitset.output = hex;
 SELECT '{}/0'::bitset, '{3,7,10-20}/24'::bitset, '{0,9,16}/17'::bitset;
 SELECT '{0,9,16}/17'::bitset::text::bitset = '{0,9,16}/17';
+SET fixedbitset.output = runs;
+SELECT left(s, 20) AS text, length(s) FROM (SELECT bitset_agg(p, 399)::text FROM generate_series(99, 398, 2) p) v(s);
 RESET fixedbitset.output;
+-- runs are what is written up to 100 characters, and beyond that where digits are not fewer
+SHOW fixedbitset.output;
+SELECT length, ones, left(s, 20) AS text, length(s) - length('/400') AS characters
+FROM (VALUES (200, 25), (200, 26), (400, 26), (407, 26), (399, 99)) v(length, ones),
+    LATERAL (SELECT bitset_agg(98 + 2 * k, length)::text AS s FROM generate_series(0, ones - 1) k) w;
+SELECT insert_range(bitset(4000000), '[1,)'), length(toggle_range(bitset(ARRAY(SELECT generate_series(0::bigint, 9999, 2)), 10000), '(,)')::text);
 SET fixedbitset.output = octal;
 SET fixedbitset.input = hex;
 SELECT 'x:8/8'::bitset;
@@ -62,12 +70,12 @@ SELECT 'x:88/'::bitset;
 SELECT 'x:88/-8'::bitset;
 SELECT 'x:88/7'::bitset;
 SELECT 'x:0002/9'::bitset;
-SELECT 'x:88/4294967296'::bitset;
-SELECT 'x:88/4294967295'::bitset;
+SELECT 'x:88/4294967233'::bitset;
+SELECT 'x:88/4294967232'::bitset;
 \set VERBOSITY sqlstate
 SELECT 'x:88/9'::bitset;
 SELECT 'x:88/7'::bitset;
-SELECT 'x:88/4294967296'::bitset;
+SELECT 'x:88/4294967233'::bitset;
 \set VERBOSITY default
 
 -- constructors
@@ -76,12 +84,25 @@ SELECT bitset('{{1,2},{3,4}}'::bigint[], 10);
 SELECT bitset('{1,NULL}'::bigint[], 10);
 SELECT bitset('{1,10}'::bigint[], 10);
 SELECT bitset('{-1}'::bigint[], 10);
-SELECT bitset(4294967296);
+SELECT bitset(4294967233);
 
 -- casts
 SELECT B'0101'::bit varying::bitset, B''::bit varying::bitset, '{1,3}/4'::bitset::bit varying;
+SELECT B'0101'::bitset, B'0101'::bit(6)::bitset, B''::bitset, '{1,3}/4'::bitset::bit(4), CAST('{1,3}/4'::bitset AS "bit"), '{0}/1'::bitset::bit;
+SELECT '{1,3}/4'::bitset::bit(3);
+SELECT '{1,3}/4'::bitset::bit(5);
+SELECT '{1,3}/4'::bitset::bit;
+CREATE TABLE strings (b bit(4), v bit varying(4));
+INSERT INTO strings SELECT s::bit(4), s::bit varying FROM unnest('{"{1,3}/4","{}/4","{0}/4"}'::bitset[]) s;
+SELECT b, b::bitset, b::bitset::bit(4) = b AS same, v::bitset FROM strings;
+DROP TABLE strings;
 SELECT '{0,9,16}/17'::bitset::bytea, '\x010201'::bytea::bitset, ''::bytea::bitset;
 SELECT '{0,9,16}/17'::bitset::bigint[], '{}/17'::bitset::bigint[];
+SELECT k, n, positions('{0,9,16,999}/1000', k, n) FROM unnest('{0,1,3,4,9223372036854775807}'::bigint[]) k, unnest('{0,2,9223372036854775807}'::bigint[]) n;
+SELECT positions('{}/0', 0, 5), positions('{}/1000', 0, 5), positions(NULL, 0, 5), positions('{1}/2', NULL, 5), positions('{1}/2', 0, NULL);
+SELECT positions('{1}/2', -1, 5);
+SELECT positions('{1}/2', 0, -1);
+SELECT positions(insert_range(bitset(134217728), '(,)'));
 SELECT p FROM ones('{0,9,16}/17') p;
 SELECT p FROM zeroes('{0,3-9}/10') p;
 SELECT ones('{5,900}/1000'), zeroes('{0-998}/1000');

@@ -4,7 +4,7 @@ use crate::{panics, FixedBitSet};
 impl FixedBitSet {
     /// Whether position `bit` is set. At or past the length none is. `set[bit]` is the same.
     ///
-    /// Proved: the answer, for all sets and all numbers ([contract](../../../docs/API.md#fixedbitsetlentcontains)).
+    /// Proved: the answer, for all sets and all numbers ([contract](crate::contracts#fixedbitsetlentcontains)).
     ///
     /// ```
     /// # use fixedbitset::FixedBitSet;
@@ -21,7 +21,7 @@ impl FixedBitSet {
     /// **Panics** where it is at or past the length.
     ///
     /// Proved: what it leaves, for all sets and each position below the length
-    /// ([contract](../../../docs/API.md#fixedbitsetlentinsert)).
+    /// ([contract](crate::contracts#fixedbitsetlentinsert)).
     ///
     /// ```
     /// # use fixedbitset::FixedBitSet;
@@ -41,7 +41,7 @@ impl FixedBitSet {
     /// **Panics** where it is at or past the length.
     ///
     /// Proved: what it leaves, for all sets and each position below the length
-    /// ([contract](../../../docs/API.md#fixedbitsetlentremove)).
+    /// ([contract](crate::contracts#fixedbitsetlentremove)).
     ///
     /// ```
     /// # use fixedbitset::FixedBitSet;
@@ -61,7 +61,7 @@ impl FixedBitSet {
     /// **Panics** where it is at or past the length.
     ///
     /// Proved: the answer and what it leaves, for all sets and each position below the length
-    /// ([contract](../../../docs/API.md#fixedbitsetlentput)).
+    /// ([contract](crate::contracts#fixedbitsetlentput)).
     ///
     /// ```
     /// # use fixedbitset::FixedBitSet;
@@ -80,7 +80,7 @@ impl FixedBitSet {
     /// **Panics** where it is at or past the length.
     ///
     /// Proved: what it leaves, for all sets and each position below the length
-    /// ([contract](../../../docs/API.md#fixedbitsetlenttoggle)).
+    /// ([contract](crate::contracts#fixedbitsetlenttoggle)).
     ///
     /// ```
     /// # use fixedbitset::FixedBitSet;
@@ -100,7 +100,7 @@ impl FixedBitSet {
     /// **Panics** where it is at or past the length.
     ///
     /// Proved: what it leaves, for all sets and each position below the length
-    /// ([contract](../../../docs/API.md#fixedbitsetlentset)).
+    /// ([contract](crate::contracts#fixedbitsetlentset)).
     ///
     /// ```
     /// # use fixedbitset::FixedBitSet;
@@ -120,7 +120,7 @@ impl FixedBitSet {
     /// **Panics** where `to` is at or past the length.
     ///
     /// Proved: the answer about `from`, and what is then set or cleared
-    /// ([contract](../../../docs/API.md#fixedbitsetlentset)).
+    /// ([contract](crate::contracts#fixedbitsetlentset)).
     ///
     /// ```
     /// # use fixedbitset::FixedBitSet;
@@ -140,7 +140,7 @@ impl FixedBitSet {
     ///
     /// **Panics** where one is at or past the length, with the first that is. Then nothing is set.
     ///
-    /// Proved: what each position leaves ([contract](../../../docs/API.md#fixedbitsetlentinsert)).
+    /// Proved: what each position leaves ([contract](crate::contracts#fixedbitsetlentinsert)).
     ///
     /// ```
     /// # use fixedbitset::FixedBitSet;
@@ -161,7 +161,7 @@ impl FixedBitSet {
     ///
     /// **Panics** where there are not as many answers as positions.
     ///
-    /// Proved: each of the answers ([contract](../../../docs/API.md#fixedbitsetlentcontains)).
+    /// Proved: each of the answers ([contract](crate::contracts#fixedbitsetlentcontains)).
     ///
     /// ```
     /// # use fixedbitset::FixedBitSet;

@@ -5,7 +5,7 @@ use crate::FixedBitSet;
 impl FixedBitSet {
     /// The least position at or past `from` that is set, if there is one. Any number may be given.
     ///
-    /// Proved: the answer, for all sets and all numbers ([contract](../../../docs/API.md#fixedbitsetlentnext_one)).
+    /// Proved: the answer, for all sets and all numbers ([contract](crate::contracts#fixedbitsetlentnext_one)).
     ///
     /// ```
     /// # use fixedbitset::FixedBitSet;
@@ -19,7 +19,7 @@ impl FixedBitSet {
 
     /// The least position at or past `from` and below the length that is not set, if there is one.
     ///
-    /// Proved: the answer, for all sets and all numbers ([contract](../../../docs/API.md#fixedbitsetlentnext_zero)).
+    /// Proved: the answer, for all sets and all numbers ([contract](crate::contracts#fixedbitsetlentnext_zero)).
     ///
     /// ```
     /// # use fixedbitset::FixedBitSet;
@@ -33,7 +33,7 @@ impl FixedBitSet {
 
     /// The greatest position below `below` that is set, if there is one. Any number may be given.
     ///
-    /// Proved: the answer, for all sets and all numbers ([contract](../../../docs/API.md#fixedbitsetlentprevious_one)).
+    /// Proved: the answer, for all sets and all numbers ([contract](crate::contracts#fixedbitsetlentprevious_one)).
     ///
     /// ```
     /// # use fixedbitset::FixedBitSet;
@@ -48,7 +48,7 @@ impl FixedBitSet {
     /// The greatest position below `below` and below the length that is not set, if there is one.
     ///
     /// Proved: the answer, for all sets and all numbers
-    /// ([contract](../../../docs/API.md#fixedbitsetlentprevious_zero)).
+    /// ([contract](crate::contracts#fixedbitsetlentprevious_zero)).
     ///
     /// ```
     /// # use fixedbitset::FixedBitSet;

@@ -4,6 +4,8 @@
 use crate::FixedBitSet;
 use core::ops::{BitAnd, BitAndAssign, BitOr, BitOrAssign, BitXor, BitXorAssign, Index};
 
+/// Proved: what the join leaves in a copy of the shorter set ([contract](crate::contracts#fixedbitsetlentintersect_with)).
+/// The copy itself is not.
 impl BitAnd for &FixedBitSet {
     type Output = FixedBitSet;
 
@@ -16,6 +18,8 @@ impl BitAnd for &FixedBitSet {
     }
 }
 
+/// Proved: what the join leaves in a copy of the longer set ([contract](crate::contracts#fixedbitsetlentunion_with)). The
+/// copy itself is not.
 impl BitOr for &FixedBitSet {
     type Output = FixedBitSet;
 
@@ -28,6 +32,8 @@ impl BitOr for &FixedBitSet {
     }
 }
 
+/// Proved: what the join leaves in a copy of the longer set
+/// ([contract](crate::contracts#fixedbitsetlentsymmetric_difference_with)). The copy itself is not.
 impl BitXor for &FixedBitSet {
     type Output = FixedBitSet;
 
@@ -52,42 +58,61 @@ fn by_length<'a>(
     }
 }
 
+/// [`intersect_with`](Self::intersect_with).
+///
+/// Proved: what it leaves, for any two sets ([contract](crate::contracts#fixedbitsetlentintersect_with)).
 impl BitAndAssign for FixedBitSet {
     fn bitand_assign(&mut self, other: Self) {
         self.intersect_with(&other);
     }
 }
 
+/// [`intersect_with`](Self::intersect_with).
+///
+/// Proved: what it leaves, for any two sets ([contract](crate::contracts#fixedbitsetlentintersect_with)).
 impl BitAndAssign<&Self> for FixedBitSet {
     fn bitand_assign(&mut self, other: &Self) {
         self.intersect_with(other);
     }
 }
 
+/// [`union_with`](Self::union_with).
+///
+/// Proved: what it leaves, once the length is great enough ([contract](crate::contracts#fixedbitsetlentunion_with)).
 impl BitOrAssign for FixedBitSet {
     fn bitor_assign(&mut self, other: Self) {
         self.union_with(&other);
     }
 }
 
+/// [`union_with`](Self::union_with).
+///
+/// Proved: what it leaves, once the length is great enough ([contract](crate::contracts#fixedbitsetlentunion_with)).
 impl BitOrAssign<&Self> for FixedBitSet {
     fn bitor_assign(&mut self, other: &Self) {
         self.union_with(other);
     }
 }
 
+/// [`symmetric_difference_with`](Self::symmetric_difference_with).
+///
+/// Proved: what it leaves, once the length is great enough ([contract](crate::contracts#fixedbitsetlentsymmetric_difference_with)).
 impl BitXorAssign for FixedBitSet {
     fn bitxor_assign(&mut self, other: Self) {
         self.symmetric_difference_with(&other);
     }
 }
 
+/// [`symmetric_difference_with`](Self::symmetric_difference_with).
+///
+/// Proved: what it leaves, once the length is great enough ([contract](crate::contracts#fixedbitsetlentsymmetric_difference_with)).
 impl BitXorAssign<&Self> for FixedBitSet {
     fn bitxor_assign(&mut self, other: &Self) {
         self.symmetric_difference_with(other);
     }
 }
 
+/// Proved: the answer, for all sets and all numbers ([contract](crate::contracts#fixedbitsetlentcontains)).
 impl Index<usize> for FixedBitSet {
     type Output = bool;
 
@@ -102,15 +127,18 @@ impl Index<usize> for FixedBitSet {
     }
 }
 
+/// Proved: what each position leaves, once the length is great enough ([contract](crate::contracts#fixedbitsetlentinsert)).
 impl Extend<usize> for FixedBitSet {
     /// Sets each position, and makes the length greater where one needs it. **Panics** at the position `usize::MAX`.
     fn extend<I: IntoIterator<Item = usize>>(&mut self, positions: I) {
-        positions
-            .into_iter()
-            .for_each(|bit| self.grow_and_insert(bit));
+        let mut positions = positions.into_iter();
+        while let Some(past) = self.words.insert_each(&mut positions) {
+            self.grow_and_insert(past);
+        }
     }
 }
 
+/// Proved: what each position leaves, once the length is great enough ([contract](crate::contracts#fixedbitsetlentinsert)).
 impl FromIterator<usize> for FixedBitSet {
     /// The set of these positions, with the least length that has them. **Panics** at the position `usize::MAX`.
     fn from_iter<I: IntoIterator<Item = usize>>(positions: I) -> Self {

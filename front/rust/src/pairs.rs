@@ -5,7 +5,7 @@ impl FixedBitSet {
     /// Adds the positions of `other`. The length is then that of the longer.
     ///
     /// Proved: what it leaves, once the length is great enough
-    /// ([contract](../../../docs/API.md#fixedbitsetlentunion_with)).
+    /// ([contract](crate::contracts#fixedbitsetlentunion_with)).
     ///
     /// ```
     /// # use fixedbitset::FixedBitSet;
@@ -21,7 +21,7 @@ impl FixedBitSet {
 
     /// Leaves the positions that `other` has too, and the length.
     ///
-    /// Proved: what it leaves, for any two sets ([contract](../../../docs/API.md#fixedbitsetlentintersect_with)).
+    /// Proved: what it leaves, for any two sets ([contract](crate::contracts#fixedbitsetlentintersect_with)).
     ///
     /// ```
     /// # use fixedbitset::FixedBitSet;
@@ -36,7 +36,7 @@ impl FixedBitSet {
 
     /// Leaves the positions that `other` lacks, and the length.
     ///
-    /// Proved: what it leaves, for any two sets ([contract](../../../docs/API.md#fixedbitsetlentdifference_with)).
+    /// Proved: what it leaves, for any two sets ([contract](crate::contracts#fixedbitsetlentdifference_with)).
     ///
     /// ```
     /// # use fixedbitset::FixedBitSet;
@@ -52,7 +52,7 @@ impl FixedBitSet {
     /// Leaves the positions that exactly one of both has. The length is then that of the longer.
     ///
     /// Proved: what it leaves, once the length is great enough
-    /// ([contract](../../../docs/API.md#fixedbitsetlentsymmetric_difference_with)).
+    /// ([contract](crate::contracts#fixedbitsetlentsymmetric_difference_with)).
     ///
     /// ```
     /// # use fixedbitset::FixedBitSet;
@@ -70,7 +70,7 @@ impl FixedBitSet {
     /// none came in. Upstream has no such call.
     ///
     /// Proved: the answer and what it leaves, once the length is great enough
-    /// ([contract](../../../docs/API.md#fixedbitsetlentunion_with_change)).
+    /// ([contract](crate::contracts#fixedbitsetlentunion_with_change)).
     ///
     /// ```
     /// # use fixedbitset::FixedBitSet;
@@ -88,7 +88,7 @@ impl FixedBitSet {
     /// [`intersect_with`](Self::intersect_with), with the answer whether a position went. Upstream has no such call.
     ///
     /// Proved: the answer and what it leaves, for any two sets
-    /// ([contract](../../../docs/API.md#fixedbitsetlentintersect_with_change)).
+    /// ([contract](crate::contracts#fixedbitsetlentintersect_with_change)).
     ///
     /// ```
     /// # use fixedbitset::FixedBitSet;
@@ -105,7 +105,7 @@ impl FixedBitSet {
     /// [`difference_with`](Self::difference_with), with the answer whether a position went. Upstream has no such call.
     ///
     /// Proved: the answer and what it leaves, for any two sets
-    /// ([contract](../../../docs/API.md#fixedbitsetlentdifference_with_change)).
+    /// ([contract](crate::contracts#fixedbitsetlentdifference_with_change)).
     ///
     /// ```
     /// # use fixedbitset::FixedBitSet;
@@ -123,7 +123,7 @@ impl FixedBitSet {
     /// longer of this set and `gens`. Upstream has no such call.
     ///
     /// Proved: the answer and what it leaves, once the length is great enough
-    /// ([contract](../../../docs/API.md#fixedbitsetlentunion_with_difference)).
+    /// ([contract](crate::contracts#fixedbitsetlentunion_with_difference)).
     ///
     /// ```
     /// # use fixedbitset::FixedBitSet;
@@ -143,7 +143,7 @@ impl FixedBitSet {
     /// only where it needs more words than it has. Upstream has no such call.
     ///
     /// Proved: what it leaves, once the length is that of the result
-    /// ([contract](../../../docs/API.md#fixedbitsetlentunion_of)).
+    /// ([contract](crate::contracts#fixedbitsetlentunion_of)).
     ///
     /// ```
     /// # use fixedbitset::FixedBitSet;
@@ -161,7 +161,7 @@ impl FixedBitSet {
     /// once, and takes memory only where it needs more words than it has. Upstream has no such call.
     ///
     /// Proved: what it leaves, once the length is that of the result
-    /// ([contract](../../../docs/API.md#fixedbitsetlentsymmetric_difference_of)).
+    /// ([contract](crate::contracts#fixedbitsetlentsymmetric_difference_of)).
     ///
     /// ```
     /// # use fixedbitset::FixedBitSet;
@@ -179,7 +179,7 @@ impl FixedBitSet {
     /// memory only where it needs more words than it has. Upstream has no such call.
     ///
     /// Proved: what it leaves, once the length is that of the result
-    /// ([contract](../../../docs/API.md#fixedbitsetlentintersection_of)).
+    /// ([contract](crate::contracts#fixedbitsetlentintersection_of)).
     ///
     /// ```
     /// # use fixedbitset::FixedBitSet;
@@ -197,7 +197,7 @@ impl FixedBitSet {
     /// takes memory only where it needs more words than it has. Upstream has no such call.
     ///
     /// Proved: what it leaves, once the length is that of the result
-    /// ([contract](../../../docs/API.md#fixedbitsetlentdifference_of)).
+    /// ([contract](crate::contracts#fixedbitsetlentdifference_of)).
     ///
     /// ```
     /// # use fixedbitset::FixedBitSet;
@@ -222,7 +222,7 @@ impl FixedBitSet {
 
     /// How many positions are in either set.
     ///
-    /// Proved: the answer, for any two sets ([contract](../../../docs/API.md#fixedbitsetlentunion_count)).
+    /// Proved: the answer, for any two sets ([contract](crate::contracts#fixedbitsetlentunion_count)).
     ///
     /// ```
     /// # use fixedbitset::FixedBitSet;
@@ -236,7 +236,7 @@ impl FixedBitSet {
 
     /// How many positions are in both sets.
     ///
-    /// Proved: the answer, for any two sets ([contract](../../../docs/API.md#fixedbitsetlentintersection_count)).
+    /// Proved: the answer, for any two sets ([contract](crate::contracts#fixedbitsetlentintersection_count)).
     ///
     /// ```
     /// # use fixedbitset::FixedBitSet;
@@ -250,7 +250,7 @@ impl FixedBitSet {
 
     /// How many positions of this set `other` lacks.
     ///
-    /// Proved: the answer, for any two sets ([contract](../../../docs/API.md#fixedbitsetlentdifference_count)).
+    /// Proved: the answer, for any two sets ([contract](crate::contracts#fixedbitsetlentdifference_count)).
     ///
     /// ```
     /// # use fixedbitset::FixedBitSet;
@@ -265,7 +265,7 @@ impl FixedBitSet {
     /// How many positions are in exactly one of both sets.
     ///
     /// Proved: the answer, for any two sets
-    /// ([contract](../../../docs/API.md#fixedbitsetlentsymmetric_difference_count)).
+    /// ([contract](crate::contracts#fixedbitsetlentsymmetric_difference_count)).
     ///
     /// ```
     /// # use fixedbitset::FixedBitSet;
@@ -279,7 +279,7 @@ impl FixedBitSet {
 
     /// Whether no position is in both sets.
     ///
-    /// Proved: the answer, for any two sets ([contract](../../../docs/API.md#fixedbitsetlentis_disjoint)).
+    /// Proved: the answer, for any two sets ([contract](crate::contracts#fixedbitsetlentis_disjoint)).
     ///
     /// ```
     /// # use fixedbitset::FixedBitSet;
@@ -293,7 +293,7 @@ impl FixedBitSet {
 
     /// Whether `other` has each position of this set. The lengths do not matter.
     ///
-    /// Proved: the answer, for any two sets ([contract](../../../docs/API.md#fixedbitsetlentis_subset)).
+    /// Proved: the answer, for any two sets ([contract](crate::contracts#fixedbitsetlentis_subset)).
     ///
     /// ```
     /// # use fixedbitset::FixedBitSet;
@@ -307,7 +307,7 @@ impl FixedBitSet {
 
     /// Whether this set has each position of `other`. The lengths do not matter.
     ///
-    /// Proved: the answer, for any two sets ([contract](../../../docs/API.md#fixedbitsetlentis_subset)).
+    /// Proved: the answer, for any two sets ([contract](crate::contracts#fixedbitsetlentis_subset)).
     ///
     /// ```
     /// # use fixedbitset::FixedBitSet;
@@ -322,7 +322,7 @@ impl FixedBitSet {
     /// The least position of `other` that this set lacks, if there is one. The lengths do not matter. Upstream has no such
     /// call.
     ///
-    /// Proved: the answer, for any two sets ([contract](../../../docs/API.md#fixedbitsetlentfirst_lacking)).
+    /// Proved: the answer, for any two sets ([contract](crate::contracts#fixedbitsetlentfirst_lacking)).
     ///
     /// ```
     /// # use fixedbitset::FixedBitSet;

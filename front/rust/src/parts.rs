@@ -4,7 +4,7 @@ use crate::{panics, FixedBitSet, IndexRange};
 impl FixedBitSet {
     /// Moves each position up by `by`, any number. Those that are not below the length then fall away.
     ///
-    /// Proved: what it leaves, for all sets and all numbers ([contract](../../../docs/API.md#fixedbitsetlentshift_up)).
+    /// Proved: what it leaves, for all sets and all numbers ([contract](crate::contracts#fixedbitsetlentshift_up)).
     ///
     /// ```
     /// # use fixedbitset::FixedBitSet;
@@ -20,7 +20,7 @@ impl FixedBitSet {
     /// Moves each position down by `by`, any number. Those below `by` fall away.
     ///
     /// Proved: what it leaves, for all sets and all numbers
-    /// ([contract](../../../docs/API.md#fixedbitsetlentshift_down)).
+    /// ([contract](crate::contracts#fixedbitsetlentshift_down)).
     ///
     /// ```
     /// # use fixedbitset::FixedBitSet;
@@ -37,7 +37,7 @@ impl FixedBitSet {
     /// stays, and no memory is taken.
     ///
     /// Proved: what it leaves, for any two sets and all numbers
-    /// ([contract](../../../docs/API.md#fixedbitsetlentunion_with_shifted)).
+    /// ([contract](crate::contracts#fixedbitsetlentunion_with_shifted)).
     ///
     /// ```
     /// # use fixedbitset::FixedBitSet;
@@ -54,7 +54,7 @@ impl FixedBitSet {
     /// where the set has the sums that some numbers make, it then has those that these numbers and `by` make.
     ///
     /// Proved: what it leaves, for all sets and all numbers
-    /// ([contract](../../../docs/API.md#fixedbitsetlentunion_with_own_shift)).
+    /// ([contract](crate::contracts#fixedbitsetlentunion_with_own_shift)).
     ///
     /// ```
     /// # use fixedbitset::FixedBitSet;
@@ -73,7 +73,7 @@ impl FixedBitSet {
     /// **Panics** where the range is not valid.
     ///
     /// Proved: the positions of the new set, for all sets and each valid range
-    /// ([contract](../../../docs/API.md#fixedbitsetlentslice)).
+    /// ([contract](crate::contracts#fixedbitsetlentslice)).
     ///
     /// ```
     /// # use fixedbitset::FixedBitSet;
@@ -94,7 +94,7 @@ impl FixedBitSet {
     /// **Panics** where the range is not valid in `other`, and where from `at` on it does not end within this set.
     ///
     /// Proved: what it leaves, for any two sets where the range and its place are valid
-    /// ([contract](../../../docs/API.md#fixedbitsetlentcopy_range)).
+    /// ([contract](crate::contracts#fixedbitsetlentcopy_range)).
     ///
     /// ```
     /// # use fixedbitset::FixedBitSet;
@@ -119,7 +119,7 @@ impl FixedBitSet {
     /// **Panics** where the sum of the lengths is past `usize::MAX`.
     ///
     /// Proved: what comes in behind, once the length is great enough
-    /// ([contract](../../../docs/API.md#fixedbitsetlentunion_with_shifted)).
+    /// ([contract](crate::contracts#fixedbitsetlentunion_with_shifted)).
     ///
     /// ```
     /// # use fixedbitset::FixedBitSet;
@@ -141,7 +141,7 @@ impl FixedBitSet {
     /// Makes the length `bits`, where it is greater than that. The positions that are not below it fall away. The memory
     /// stays.
     ///
-    /// Proved: which positions stay, for all sets ([contract](../../../docs/API.md#fixedbitsetlentsettle)).
+    /// Proved: which positions stay, for all sets ([contract](crate::contracts#fixedbitsetlentsettle)).
     ///
     /// ```
     /// # use fixedbitset::FixedBitSet;
@@ -160,7 +160,7 @@ impl FixedBitSet {
     /// Makes the length `bits`. Where it was greater, the positions that are not below `bits` fall away. Where it was less,
     /// each new position is set or not, as `enabled` says.
     ///
-    /// Proved: which positions stay, and which are set ([contract](../../../docs/API.md#fixedbitsetlentinsert_range)).
+    /// Proved: which positions stay, and which are set ([contract](crate::contracts#fixedbitsetlentinsert_range)).
     ///
     /// ```
     /// # use fixedbitset::FixedBitSet;

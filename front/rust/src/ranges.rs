@@ -7,7 +7,7 @@ impl FixedBitSet {
     /// **Panics** where the range is not valid.
     ///
     /// Proved: the answer, for all sets and each valid range
-    /// ([contract](../../../docs/API.md#fixedbitsetlentcount_ones)).
+    /// ([contract](crate::contracts#fixedbitsetlentcount_ones)).
     ///
     /// ```
     /// # use fixedbitset::FixedBitSet;
@@ -26,7 +26,7 @@ impl FixedBitSet {
     /// **Panics** where the range is not valid.
     ///
     /// Proved: the answer, for all sets and each valid range
-    /// ([contract](../../../docs/API.md#fixedbitsetlentcount_zeroes)).
+    /// ([contract](crate::contracts#fixedbitsetlentcount_zeroes)).
     ///
     /// ```
     /// # use fixedbitset::FixedBitSet;
@@ -45,7 +45,7 @@ impl FixedBitSet {
     /// **Panics** where the range is not valid.
     ///
     /// Proved: the answer, for all sets and each valid range
-    /// ([contract](../../../docs/API.md#fixedbitsetlentcontains_all_in_range)).
+    /// ([contract](crate::contracts#fixedbitsetlentcontains_all_in_range)).
     ///
     /// ```
     /// # use fixedbitset::FixedBitSet;
@@ -64,7 +64,7 @@ impl FixedBitSet {
     /// **Panics** where the range is not valid.
     ///
     /// Proved: the answer, for all sets and each valid range
-    /// ([contract](../../../docs/API.md#fixedbitsetlentcontains_any_in_range)).
+    /// ([contract](crate::contracts#fixedbitsetlentcontains_any_in_range)).
     ///
     /// ```
     /// # use fixedbitset::FixedBitSet;
@@ -83,7 +83,7 @@ impl FixedBitSet {
     /// **Panics** where the range is not valid.
     ///
     /// Proved: what it leaves, for all sets and each valid range
-    /// ([contract](../../../docs/API.md#fixedbitsetlentinsert_range)).
+    /// ([contract](crate::contracts#fixedbitsetlentinsert_range)).
     ///
     /// ```
     /// # use fixedbitset::FixedBitSet;
@@ -106,7 +106,7 @@ impl FixedBitSet {
     /// **Panics** where the range is not valid.
     ///
     /// Proved: what it leaves, for all sets and each valid range
-    /// ([contract](../../../docs/API.md#fixedbitsetlentinsert_range)).
+    /// ([contract](crate::contracts#fixedbitsetlentinsert_range)).
     ///
     /// ```
     /// # use fixedbitset::FixedBitSet;
@@ -126,7 +126,7 @@ impl FixedBitSet {
     /// **Panics** where the range is not valid.
     ///
     /// Proved: what it leaves, for all sets and each valid range
-    /// ([contract](../../../docs/API.md#fixedbitsetlentremove_range)).
+    /// ([contract](crate::contracts#fixedbitsetlentremove_range)).
     ///
     /// ```
     /// # use fixedbitset::FixedBitSet;
@@ -146,7 +146,7 @@ impl FixedBitSet {
     /// **Panics** where the range is not valid.
     ///
     /// Proved: what it leaves, for all sets and each valid range
-    /// ([contract](../../../docs/API.md#fixedbitsetlenttoggle_range)).
+    /// ([contract](crate::contracts#fixedbitsetlenttoggle_range)).
     ///
     /// ```
     /// # use fixedbitset::FixedBitSet;

@@ -7,7 +7,7 @@ use core::fmt::{Debug, Formatter, Result};
 ///
 /// The directory takes one word of memory for eight words of the set. While it lives the set cannot change.
 ///
-/// Proved: what `rank` and `select` answer ([contract](../../../docs/API.md#bitranksdirectoryrank)).
+/// Proved: what `rank` and `select` answer ([contract](crate::contracts#bitranksdirectoryrank)).
 ///
 /// ```
 /// use fixedbitset::{FixedBitSet, Ranks};
@@ -25,7 +25,7 @@ pub struct Ranks<'a> {
 impl<'a> Ranks<'a> {
     /// The ranks of a set. It looks at each word of the set once.
     ///
-    /// Proved: the directory, for all sets ([contract](../../../docs/API.md#bitranksdirectoryfill)).
+    /// Proved: the directory, for all sets ([contract](crate::contracts#bitranksdirectoryfill)).
     ///
     /// ```
     /// # use fixedbitset::{FixedBitSet, Ranks};
@@ -56,7 +56,7 @@ impl<'a> Ranks<'a> {
     /// How many positions below this one are set. The position may be any number; past the length all are below it. It looks
     /// at one entry of the directory and at eight words of the set at most.
     ///
-    /// Proved: the answer, for all sets and all numbers ([contract](../../../docs/API.md#bitranksdirectoryrank)).
+    /// Proved: the answer, for all sets and all numbers ([contract](crate::contracts#bitranksdirectoryrank)).
     ///
     /// ```
     /// # use fixedbitset::{FixedBitSet, Ranks};
@@ -72,7 +72,7 @@ impl<'a> Ranks<'a> {
     /// The position with so many positions of the set below it: the first has index 0. `None` where the set has no more
     /// positions than that.
     ///
-    /// Proved: the answer, for all sets and all numbers ([contract](../../../docs/API.md#bitranksdirectoryselect)).
+    /// Proved: the answer, for all sets and all numbers ([contract](crate::contracts#bitranksdirectoryselect)).
     ///
     /// ```
     /// # use fixedbitset::{FixedBitSet, Ranks};
@@ -86,6 +86,7 @@ impl<'a> Ranks<'a> {
     }
 }
 
+/// Not proved: it prints the set.
 impl Debug for Ranks<'_> {
     /// The set.
     fn fmt(&self, f: &mut Formatter<'_>) -> Result {

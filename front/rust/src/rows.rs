@@ -7,7 +7,7 @@ use core::fmt::{Debug, Formatter, Result};
 ///
 /// The rows stand in one row of words. Each keeps the words that a set of so many columns has: whole lanes of four.
 ///
-/// Proved: what its calls answer and leave ([contract](../../../docs/API.md#bitrowslentclose)).
+/// Proved: what its calls answer and leave ([contract](crate::contracts#bitrowslentclose)).
 ///
 /// ```
 /// use fixedbitset::BitRows;
@@ -29,7 +29,7 @@ impl BitRows {
     /// **Panics** where its words would be more than a vector can have.
     ///
     /// Not proved: it makes words that are 0. How many a row has is proved
-    /// ([contract](../../../docs/API.md#bitrowslentwidth)).
+    /// ([contract](crate::contracts#bitrowslentwidth)).
     ///
     /// ```
     /// # use fixedbitset::BitRows;
@@ -70,7 +70,7 @@ impl BitRows {
 
     /// Whether the row has a bit at the column: `false` past the rows and past the columns.
     ///
-    /// Proved: the answer, for all tables ([contract](../../../docs/API.md#bitrowslentget)).
+    /// Proved: the answer, for all tables ([contract](crate::contracts#bitrowslentget)).
     ///
     /// ```
     /// # use fixedbitset::BitRows;
@@ -87,7 +87,7 @@ impl BitRows {
     ///
     /// **Panics** where the table has no such row or no such column.
     ///
-    /// Proved: what it leaves, for each row and column of the table ([contract](../../../docs/API.md#bitrowslentset)).
+    /// Proved: what it leaves, for each row and column of the table ([contract](crate::contracts#bitrowslentset)).
     ///
     /// ```
     /// # use fixedbitset::BitRows;
@@ -113,7 +113,7 @@ impl BitRows {
     /// **Panics** where the table has not both rows.
     ///
     /// Proved: the answer and what it leaves, for any two rows of the table
-    /// ([contract](../../../docs/API.md#bitrowslentunion_rows)).
+    /// ([contract](crate::contracts#bitrowslentunion_rows)).
     ///
     /// ```
     /// # use fixedbitset::BitRows;
@@ -136,7 +136,7 @@ impl BitRows {
     ///
     /// **Panics** where the table has no such row.
     ///
-    /// Proved: each item, for each row of the table ([contract](../../../docs/API.md#bitrowslentwords_of)).
+    /// Proved: each item, for each row of the table ([contract](crate::contracts#bitrowslentwords_of)).
     ///
     /// ```
     /// # use fixedbitset::BitRows;
@@ -161,7 +161,7 @@ impl BitRows {
     /// afterwards row `a` has a bit at column `b` exactly if some path of one or more edges led from `a` to `b`. Nothing
     /// leads on from a column that is no row.
     ///
-    /// Proved: what it leaves, for all tables ([contract](../../../docs/API.md#bitrowslentclose)).
+    /// Proved: what it leaves, for all tables ([contract](crate::contracts#bitrowslentclose)).
     ///
     /// ```
     /// # use fixedbitset::BitRows;
@@ -176,6 +176,7 @@ impl BitRows {
     }
 }
 
+/// Proved: the columns of each row ([contract](crate::contracts#bitrowslentwords_of)). The text around them is not.
 impl Debug for BitRows {
     /// The columns of each row.
     fn fmt(&self, f: &mut Formatter<'_>) -> Result {

@@ -9,7 +9,7 @@ impl FixedBitSet {
     /// A stretch costs by its words, and not by its positions.
     ///
     /// Proved: each stretch, for all sets and any mix of calls from both ends
-    /// ([contract](../../../docs/API.md#fixedbitsetlentruns)).
+    /// ([contract](crate::contracts#fixedbitsetlentruns)).
     ///
     /// ```
     /// # use fixedbitset::FixedBitSet;
@@ -26,7 +26,7 @@ impl FixedBitSet {
     /// The stretches of positions below the length that are not set, as start and end, in ascending order.
     ///
     /// Proved: each stretch, for all sets and any mix of calls from both ends
-    /// ([contract](../../../docs/API.md#fixedbitsetlentzero_runs)).
+    /// ([contract](crate::contracts#fixedbitsetlentzero_runs)).
     ///
     /// ```
     /// # use fixedbitset::FixedBitSet;
@@ -43,7 +43,7 @@ impl FixedBitSet {
     /// The least number at or past `from` with `count` clear positions from there on, all below the length, if there is
     /// one. With a `count` of 0 that is `from`, up to the length.
     ///
-    /// Proved: the answer, for all sets and all numbers ([contract](../../../docs/API.md#fixedbitsetlentfirst_gap)).
+    /// Proved: the answer, for all sets and all numbers ([contract](crate::contracts#fixedbitsetlentfirst_gap)).
     ///
     /// ```
     /// # use fixedbitset::FixedBitSet;
@@ -59,7 +59,7 @@ impl FixedBitSet {
 /// The walk of [`FixedBitSet::runs`] and of [`FixedBitSet::zero_runs`].
 ///
 /// Proved: each stretch that it gives, in any mix of calls from both ends
-/// ([contract](../../../docs/API.md#fixedbitsetlentruns)).
+/// ([contract](crate::contracts#fixedbitsetlentruns)).
 ///
 /// ```
 /// # use fixedbitset::FixedBitSet;
@@ -72,6 +72,7 @@ pub struct Runs<'a> {
     walk: proved::bitwalks::Runs<'a>,
 }
 
+/// Proved: each stretch, for any mix of calls from both ends ([contract](crate::contracts#bitwalksruns-as-iterator)).
 impl Iterator for Runs<'_> {
     type Item = (usize, usize);
 
@@ -81,6 +82,7 @@ impl Iterator for Runs<'_> {
     }
 }
 
+/// Proved: each stretch, for any mix of calls from both ends ([contract](crate::contracts#bitwalksruns-as-doubleendediterator)).
 impl DoubleEndedIterator for Runs<'_> {
     #[inline]
     fn next_back(&mut self) -> Option<(usize, usize)> {
@@ -88,8 +90,10 @@ impl DoubleEndedIterator for Runs<'_> {
     }
 }
 
+/// Proved: that no stretch follows the first `None` ([contract](crate::contracts#bitwalksruns-as-iterator)).
 impl FusedIterator for Runs<'_> {}
 
+/// Proved: the stretches ([contract](crate::contracts#bitwalksruns-as-iterator)). The text around them is not.
 impl Debug for Runs<'_> {
     /// The stretches that are left.
     fn fmt(&self, f: &mut Formatter<'_>) -> Result {

@@ -11,7 +11,7 @@ impl FixedBitSet {
     /// The positions that are set, in ascending order.
     ///
     /// Proved: each item, for all sets and any mix of calls from both ends
-    /// ([contract](../../../docs/API.md#fixedbitsetlentones)).
+    /// ([contract](crate::contracts#fixedbitsetlentones)).
     ///
     /// ```
     /// # use fixedbitset::FixedBitSet;
@@ -28,7 +28,7 @@ impl FixedBitSet {
     /// The positions that are set, in ascending order. The walk owns the set.
     ///
     /// Proved: each item, for all words and any mix of calls from both ends
-    /// ([contract](../../../docs/API.md#bitwordscursorscursorover)).
+    /// ([contract](crate::contracts#bitwordscursorscursorover)).
     ///
     /// ```
     /// # use fixedbitset::FixedBitSet;
@@ -45,7 +45,7 @@ impl FixedBitSet {
     /// The positions below the length that are not set, in ascending order.
     ///
     /// Proved: each item, for all sets and any mix of calls from both ends
-    /// ([contract](../../../docs/API.md#fixedbitsetlentzeroes)).
+    /// ([contract](crate::contracts#fixedbitsetlentzeroes)).
     ///
     /// ```
     /// # use fixedbitset::FixedBitSet;
@@ -65,7 +65,7 @@ impl FixedBitSet {
     /// **Panics** where the range is not valid.
     ///
     /// Proved: each item, for all sets, each valid range, and any mix of calls from both ends
-    /// ([contract](../../../docs/API.md#fixedbitsetlentones_in)).
+    /// ([contract](crate::contracts#fixedbitsetlentones_in)).
     ///
     /// ```
     /// # use fixedbitset::FixedBitSet;
@@ -87,7 +87,7 @@ impl FixedBitSet {
     /// **Panics** where the range is not valid.
     ///
     /// Proved: each item, for all sets, each valid range, and any mix of calls from both ends
-    /// ([contract](../../../docs/API.md#fixedbitsetlentzeroes_in)).
+    /// ([contract](crate::contracts#fixedbitsetlentzeroes_in)).
     ///
     /// ```
     /// # use fixedbitset::FixedBitSet;
@@ -106,7 +106,7 @@ impl FixedBitSet {
     /// The positions of both sets, in ascending order.
     ///
     /// Proved: each item, for any two sets and any mix of calls from both ends
-    /// ([contract](../../../docs/API.md#fixedbitsetlentintersection)).
+    /// ([contract](crate::contracts#fixedbitsetlentintersection)).
     ///
     /// ```
     /// # use fixedbitset::FixedBitSet;
@@ -123,7 +123,7 @@ impl FixedBitSet {
     /// The positions of this set in ascending order, and then those that `other` alone has.
     ///
     /// Proved: each item of both parts and their order, for any mix of calls from both ends
-    /// ([contract](../../../docs/API.md#bitwalksunionover)).
+    /// ([first](crate::contracts#bitwalksin_turninturntake_first), [last](crate::contracts#bitwalksin_turninturntake_last)).
     ///
     /// ```
     /// # use fixedbitset::FixedBitSet;
@@ -140,7 +140,7 @@ impl FixedBitSet {
     /// The positions of this set that `other` lacks, in ascending order.
     ///
     /// Proved: each item, for any two sets and any mix of calls from both ends
-    /// ([contract](../../../docs/API.md#fixedbitsetlentdifference)).
+    /// ([contract](crate::contracts#fixedbitsetlentdifference)).
     ///
     /// ```
     /// # use fixedbitset::FixedBitSet;
@@ -157,7 +157,7 @@ impl FixedBitSet {
     /// The positions that this set alone has in ascending order, and then those that `other` alone has.
     ///
     /// Proved: each item of both parts and their order, for any mix of calls from both ends
-    /// ([contract](../../../docs/API.md#bitwalkssymmetricdifferenceover)).
+    /// ([first](crate::contracts#bitwalksin_turninturntake_first), [last](crate::contracts#bitwalksin_turninturntake_last)).
     ///
     /// ```
     /// # use fixedbitset::FixedBitSet;
@@ -175,7 +175,7 @@ impl FixedBitSet {
 /// The walk of [`FixedBitSet::ones`] and of [`FixedBitSet::ones_in`].
 ///
 /// Proved: each item that it gives, in any mix of calls from both ends
-/// ([contract](../../../docs/API.md#fixedbitsetlentones)).
+/// ([contract](crate::contracts#fixedbitsetlentones)).
 ///
 /// ```
 /// # use fixedbitset::FixedBitSet;
@@ -191,7 +191,7 @@ pub struct Ones<'a> {
 /// The walk of [`FixedBitSet::into_ones`].
 ///
 /// Proved: each item that it gives, in any mix of calls from both ends
-/// ([contract](../../../docs/API.md#bitwordscursorscursorover)).
+/// ([contract](crate::contracts#bitwordscursorscursorover)).
 ///
 /// ```
 /// # use fixedbitset::{FixedBitSet, IntoOnes};
@@ -205,7 +205,7 @@ pub struct IntoOnes {
 /// The walk of [`FixedBitSet::zeroes`] and of [`FixedBitSet::zeroes_in`].
 ///
 /// Proved: each item that it gives, in any mix of calls from both ends
-/// ([contract](../../../docs/API.md#fixedbitsetlentzeroes)).
+/// ([contract](crate::contracts#fixedbitsetlentzeroes)).
 ///
 /// ```
 /// # use fixedbitset::FixedBitSet;
@@ -220,7 +220,7 @@ pub struct Zeroes<'a> {
 /// The walk of [`FixedBitSet::intersection`].
 ///
 /// Proved: each item that it gives, in any mix of calls from both ends
-/// ([contract](../../../docs/API.md#fixedbitsetlentintersection)).
+/// ([contract](crate::contracts#fixedbitsetlentintersection)).
 ///
 /// ```
 /// # use fixedbitset::FixedBitSet;
@@ -235,7 +235,7 @@ pub struct Intersection<'a> {
 /// The walk of [`FixedBitSet::difference`].
 ///
 /// Proved: each item that it gives, in any mix of calls from both ends
-/// ([contract](../../../docs/API.md#fixedbitsetlentdifference)).
+/// ([contract](crate::contracts#fixedbitsetlentdifference)).
 ///
 /// ```
 /// # use fixedbitset::FixedBitSet;
@@ -250,7 +250,7 @@ pub struct Difference<'a> {
 /// The walk of [`FixedBitSet::union`]. From the back it begins with what the second set alone has.
 ///
 /// Proved: each item that it gives, in any mix of calls from both ends
-/// ([contract](../../../docs/API.md#bitwalksunionover)).
+/// ([first](crate::contracts#bitwalksin_turninturntake_first), [last](crate::contracts#bitwalksin_turninturntake_last)).
 ///
 /// ```
 /// # use fixedbitset::FixedBitSet;
@@ -265,7 +265,7 @@ pub struct Union<'a> {
 /// The walk of [`FixedBitSet::symmetric_difference`]. From the back it begins with what the second set alone has.
 ///
 /// Proved: each item that it gives, in any mix of calls from both ends
-/// ([contract](../../../docs/API.md#bitwalkssymmetricdifferenceover)).
+/// ([first](crate::contracts#bitwalksin_turninturntake_first), [last](crate::contracts#bitwalksin_turninturntake_last)).
 ///
 /// ```
 /// # use fixedbitset::FixedBitSet;
@@ -279,11 +279,11 @@ pub struct SymmetricDifference<'a> {
 
 /// The traits of a walk over one row of words, which ascends.
 macro_rules! walks {
-    ($($name:ty { $($more:tt)* })*) => { $(
+    ($($name:ty),*) => { $(
+        /// Proved: each item and the hint of size, for any mix of calls from both ends
+        /// ([contract](crate::contracts#bitwordscursorscursor-as-iterator)). The other calls are put together from these.
         impl Iterator for $name {
             type Item = usize;
-
-            $($more)*
 
             #[inline]
             fn next(&mut self) -> Option<usize> {
@@ -293,6 +293,11 @@ macro_rules! walks {
             #[inline]
             fn size_hint(&self) -> (usize, Option<usize>) {
                 self.walk.size_hint()
+            }
+
+            #[inline]
+            fn count(self) -> usize {
+                words::left_of(self.walk)
             }
 
             #[inline]
@@ -311,6 +316,8 @@ macro_rules! walks {
             }
         }
 
+        /// Proved: each item, for any mix of calls from both ends
+        /// ([contract](crate::contracts#bitwordscursorscursor-as-doubleendediterator)).
         impl DoubleEndedIterator for $name {
             #[inline]
             fn next_back(&mut self) -> Option<usize> {
@@ -318,8 +325,10 @@ macro_rules! walks {
             }
         }
 
+        /// Proved: that no item follows the first `None` ([contract](crate::contracts#bitwordscursorscursor-as-iterator)).
         impl FusedIterator for $name {}
 
+        /// Proved: the items ([contract](crate::contracts#bitwordscursorscursor-as-iterator)). The text around them is not.
         impl Debug for $name {
             /// The positions that are left.
             fn fmt(&self, f: &mut Formatter<'_>) -> Result {
@@ -328,22 +337,19 @@ macro_rules! walks {
         }
     )* };
 }
-walks! {
-    Ones<'_> {
-        #[inline]
-        fn count(self) -> usize {
-            words::left_of(self.walk)
-        }
-    }
-    Zeroes<'_> {}
-    Intersection<'_> {}
-    Difference<'_> {}
-    IntoOnes {}
-}
+walks!(
+    Ones<'_>,
+    Zeroes<'_>,
+    Intersection<'_>,
+    Difference<'_>,
+    IntoOnes
+);
 
 /// The traits of two walks in turn.
 macro_rules! walks_in_turn {
     ($($name:ty),*) => { $(
+        /// Proved: each item and the hint of size, for any mix of calls from both ends
+        /// ([contract](crate::contracts#bitwalksin_turninturntake_first)). The other calls are put together from these.
         impl Iterator for $name {
             type Item = usize;
 
@@ -363,6 +369,7 @@ macro_rules! walks_in_turn {
             }
         }
 
+        /// Proved: each item, for any mix of calls from both ends ([contract](crate::contracts#bitwalksin_turninturntake_last)).
         impl DoubleEndedIterator for $name {
             #[inline]
             fn next_back(&mut self) -> Option<usize> {
@@ -370,8 +377,10 @@ macro_rules! walks_in_turn {
             }
         }
 
+        /// Proved: that no item follows the first `None` ([contract](crate::contracts#bitwalksin_turninturntake_first)).
         impl FusedIterator for $name {}
 
+        /// Proved: the items ([contract](crate::contracts#bitwalksin_turninturntake_first)). The text around them is not.
         impl Debug for $name {
             /// The positions that are left.
             fn fmt(&self, f: &mut Formatter<'_>) -> Result {
@@ -388,7 +397,7 @@ impl Ones<'_> {
     /// **Panics** where the word is 0.
     ///
     /// Proved: the answer and the word that it leaves, for each word but 0
-    /// ([contract](../../../docs/API.md#bitlaneswordtake_lowest_bit)).
+    /// ([contract](crate::contracts#bitlaneswordtake_lowest_bit)).
     ///
     /// ```
     /// # use fixedbitset::Ones;
@@ -409,7 +418,7 @@ impl IntoOnes {
     /// The same as [`Ones::last_positive_bit_and_unset`].
     ///
     /// Proved: the answer and the word that it leaves, for each word but 0
-    /// ([contract](../../../docs/API.md#bitlaneswordtake_lowest_bit)).
+    /// ([contract](crate::contracts#bitlaneswordtake_lowest_bit)).
     ///
     /// ```
     /// # use fixedbitset::IntoOnes;

@@ -3,14 +3,15 @@
 //! A proved call asks that words are those of a set: whole lanes of four words, as many as the length needs, with no bit
 //! past the length. Each leaves them so. The fields are private, and what makes or changes them stands here. What a call
 //! asks of its numbers stands at it, and its caller sees to that.
-use crate::proved::bitlanes::ops::{And, AndNot};
+use crate::proved::bitlanes::ops::{And, AndNot, WordOp};
 use crate::proved::bitlanes::word::BITS;
 use crate::proved::bitlanes::{lanes, Steps};
 use crate::proved::bitranks::directory;
 use crate::proved::bitrows::lent as tables;
 use crate::proved::bitwalks::in_turn::InTurn;
 use crate::proved::bitwalks::runs::Runs;
-use crate::proved::bitwords::cursors::{Beside, Cursor, Inverted, Plain};
+use crate::proved::bitwords::cursors::{Beside, Cursor, Inverted, Middle, Plain};
+use crate::proved::bitwords::joins;
 use crate::proved::fixedbitset::lent::{self, storage_words};
 use crate::Block;
 use alloc::{vec, vec::Vec};
@@ -173,6 +174,19 @@ impl Words {
             &kills.row,
             kills.length,
         )
+    }
+
+    /// Sets the positions in turn, up to the first that is not below the length, and answers that one.
+    #[inline]
+    pub fn insert_each(&mut self, positions: &mut impl Iterator<Item = usize>) -> Option<usize> {
+        let (row, length) = (&mut self.row[..], self.length);
+        for bit in positions {
+            if bit >= length {
+                return Some(bit);
+            }
+            lent::insert(row, length, bit);
+        }
+        None
     }
 
     /// The positions of a range, which has to be valid.
@@ -362,12 +376,47 @@ impl Words {
     }
 }
 
+/// Words between the ends of a walk.
+pub trait Between: Middle {
+    /// How many positions they have.
+    fn positions(&self) -> usize;
+}
+
+impl Between for Plain<'_> {
+    #[inline]
+    fn positions(&self) -> usize {
+        lanes::count_one(self.words, &mut Steps::new())
+    }
+}
+
+impl Between for Inverted<'_> {
+    #[inline]
+    fn positions(&self) -> usize {
+        BITS * self.left() - self.plain.positions()
+    }
+}
+
+impl<O: WordOp> Between for Beside<'_, O> {
+    #[inline]
+    fn positions(&self) -> usize {
+        let others = self.other.len().min(self.left());
+        joins::count::<O>(self.plain.words, &self.other[..others], &mut Steps::new())
+    }
+}
+
+impl Between for vec::IntoIter<Block> {
+    #[inline]
+    fn positions(&self) -> usize {
+        lanes::count_one(self.as_slice(), &mut Steps::new())
+    }
+}
+
 /// How many positions a walk has left: those of the words between its ends, and of its ends.
 #[inline]
-pub fn left_of(walk: OnesLeft<'_>) -> usize {
-    let (held, mut steps) = (walk.into_held(), Steps::new());
+pub fn left_of<M: Between>(walk: Cursor<M>) -> usize {
+    let held = walk.into_held();
     let ends = [held.front, held.back];
-    lanes::count_one(held.middle.words, &mut steps) + lanes::count_one(&ends, &mut steps)
+    held.middle.positions() + lanes::count_one(&ends, &mut Steps::new())
 }
 
 /// The words of a table: for each row as many as a set of so many columns has, with no bit past them.

@@ -5,7 +5,7 @@ use std::test::Fail;
 use test_callers::loops::{
     all_are_in, copied_into, counted, each_has_a_cost, each_is_in, first_and_total, first_from,
     first_of_calls_from, marked, pushed, some_from, some_lacked, total, total_of_calls,
-    without_least,
+    total_where_short, without_least,
 };
 
 #[test]
@@ -13,6 +13,7 @@ fn totals(rt: HostRuntime) -> Result<(), Fail> {
     let set = example(rt.alloc())?;
     assert_number(&rt, total(&set), 264);
     assert_number(&rt, total_of_calls(&set), 264);
+    assert_answer(&rt, total_where_short(&set), Some(264));
     assert_number(&rt, counted(&set), 5);
     assert!(rt; first_and_total(&set) == Some((0, 264)));
     Ok(())

@@ -1,0 +1,164 @@
+//! The kernels of the proved modules on rows of every length to 21 words, beside plain loops. A set keeps whole lanes of four
+//! words, so no call of the crate goes by the rest of a lane.
+extern crate alloc;
+
+#[rustfmt::skip]
+#[allow(clippy::all, dead_code, unused_imports, unused_variables)]
+#[path = "../src/proved/mod.rs"]
+mod proved;
+#[allow(dead_code)]
+#[path = "../src/shim.rs"]
+mod shim;
+
+use proved::bitlanes::ops::{And, AndNot, Or, Second, WordOp, Xor};
+use proved::bitlanes::{changes, lanes, search, Steps};
+use shim::Block;
+
+type Join = fn(Block, Block) -> Block;
+
+const LONGEST: usize = 21;
+
+/// Words with no bit, with all, with one and with many, by turns.
+fn mixed(count: usize, first: usize) -> Vec<Block> {
+    let word = |at: usize| match at % 4 {
+        0 => 0,
+        1 => Block::MAX,
+        2 => 1 << (at % 64),
+        _ => (at as Block).wrapping_mul(0x9e37_79b9_7f4a_7c15),
+    };
+    (first..first + count).map(word).collect()
+}
+
+/// Rows of so many words: those of one bit at each place, that of none, and mixed ones.
+fn rows(count: usize) -> Vec<Vec<Block>> {
+    let one_bit = |place| (0..count).map(|at| Block::from(at == place)).collect();
+    let mixed = (0..4).map(|first| mixed(count, first));
+    (0..=count).map(one_bit).chain(mixed).collect()
+}
+
+/// Pairs of rows, of one length and of two.
+fn pairs() -> Vec<(Vec<Block>, Vec<Block>)> {
+    let lengths =
+        (0..=LONGEST).flat_map(|count| [(count, count), (count, count + 3), (count + 3, count)]);
+    let of_lengths = |(one, other)| {
+        let all = rows(one).into_iter();
+        all.flat_map(move |row| (0..4).map(move |first| (row.clone(), mixed(other, first))))
+    };
+    lengths.flat_map(of_lengths).collect()
+}
+
+fn joined(one: &[Block], other: &[Block], join: Join) -> Vec<Block> {
+    let both = one.iter().zip(other);
+    both.map(|(&one, &other)| join(one, other)).collect()
+}
+
+fn ones(row: &[Block]) -> usize {
+    row.iter().map(|word| word.count_ones() as usize).sum()
+}
+
+/// What a kernel leaves of `row`, where it writes these words over the first ones.
+fn written(row: &[Block], first: &[Block]) -> Vec<Block> {
+    [first, &row[first.len()..]].concat()
+}
+
+fn try_pairs<O: WordOp>(join: Join) {
+    let steps = &mut Steps::new();
+    for (one, other) in pairs() {
+        let wanted = joined(&one, &other, join);
+        let left = written(&one, &wanted);
+        let mut row = one.clone();
+        lanes::apply::<O>(&mut row, &other, steps);
+        assert_eq!(row, left);
+        let mut row = one.clone();
+        assert_eq!(changes::apply::<O>(&mut row, &other, steps), left != one);
+        assert_eq!(row, left);
+        assert_eq!(lanes::count::<O>(&one, &other, steps), ones(&wanted));
+        assert_eq!(lanes::none::<O>(&one, &other, steps), ones(&wanted) == 0);
+        let first = wanted.iter().position(|&word| word != 0);
+        assert_eq!(search::first_joined::<O>(&one, &other, steps), first);
+    }
+}
+
+fn try_masks<O: WordOp>(join: Join) {
+    let steps = &mut Steps::new();
+    for row in (0..=LONGEST).flat_map(rows) {
+        for mask in [0, 1, Block::MAX] {
+            let wanted: Vec<_> = row.iter().map(|&word| join(mask, word)).collect();
+            assert_eq!(
+                lanes::none_masked::<O>(mask, &row, steps),
+                ones(&wanted) == 0
+            );
+            for place in 0..=row.len() {
+                let next = (place..row.len()).find(|&at| wanted[at] != 0);
+                assert_eq!(search::next_one::<O>(mask, &row, place, steps), next);
+                let previous = (0..place).rfind(|&at| wanted[at] != 0);
+                assert_eq!(
+                    search::previous_one::<O>(mask, &row, place, steps),
+                    previous
+                );
+            }
+        }
+    }
+}
+
+#[test]
+fn two_rows_are_joined_as_by_a_plain_loop() {
+    try_pairs::<And>(|one, other| one & other);
+    try_pairs::<AndNot>(|one, other| one & !other);
+    try_pairs::<Or>(|one, other| one | other);
+    try_pairs::<Xor>(|one, other| one ^ other);
+    try_pairs::<Second>(|_, other| other);
+}
+
+#[test]
+fn rows_are_searched_as_by_a_plain_loop() {
+    try_masks::<And>(|mask, word| mask & word);
+    try_masks::<AndNot>(|mask, word| mask & !word);
+    try_masks::<Or>(|mask, word| mask | word);
+    try_masks::<Xor>(|mask, word| mask ^ word);
+}
+
+#[test]
+fn two_rows_are_joined_into_a_third_as_by_a_plain_loop() {
+    let steps = &mut Steps::new();
+    for (one, other) in pairs() {
+        for count in [one.len().saturating_sub(1), one.len(), one.len() + 5] {
+            let into = mixed(count, 2);
+            let first = joined(
+                &into,
+                &joined(&one, &other, |one, other| one & !other),
+                |into, word| into | word,
+            );
+            let left = written(&into, &first);
+            let mut row = into.clone();
+            assert_eq!(
+                changes::apply_joined::<Or, AndNot>(&mut row, &one, &other, steps),
+                left != into
+            );
+            assert_eq!(row, left);
+        }
+    }
+}
+
+#[test]
+fn one_row_is_counted_and_cleared_as_by_a_plain_loop() {
+    let steps = &mut Steps::new();
+    for row in (0..=LONGEST).flat_map(rows) {
+        assert_eq!(lanes::count_one(&row, steps), ones(&row));
+        assert_eq!(lanes::none_one(&row, steps), ones(&row) == 0);
+        assert_eq!(
+            search::first_one(&row, steps),
+            row.iter().position(|&word| word != 0)
+        );
+        assert_eq!(
+            search::last_one(&row, steps),
+            row.iter().rposition(|&word| word != 0)
+        );
+        let mut cleared = row.clone();
+        lanes::zero(&mut cleared, steps);
+        assert_eq!(ones(&cleared), 0);
+        let mut cleared = row.clone();
+        assert_eq!(changes::zero(&mut cleared, steps), ones(&row) != 0);
+        assert_eq!(ones(&cleared), 0);
+    }
+}
