@@ -3,7 +3,7 @@
 //! Each word is joined with one mask first, so the same loops find a word that has a bit and a word that lacks one. A
 //! step is one lane of four words from the place on where the search begins: each lane counts once, up to the one that
 //! has the word, though the last sixteen words may be looked at again. The search of two rows goes by lanes alone.
-ghost use Rattle.std.specs.Prelude.{◌≡◌, ◌+◌, ◌-◌, ◌≤◌, ◌==◌, length, map, min, IfSome, IfNone};
+ghost use Rattle.std.specs.Prelude.{◌≡◌, ℕ, ◌+◌, ◌-◌, ◌*◌, ◌<◌, ◌≤◌, ◌==◌, false, length, map, min, slice_index, IfSome, IfNone};
 ghost use Rattle.std.specs.List.{list_all};
 ghost use Rattle.std.specs.Simd.Lanes.{zip2, chunk};
 ghost use Rattle.bitlanes.specs.Ones.{has_no_ones};
@@ -70,7 +70,6 @@ pub fn last_one(words: &[Block], steps: &mut Steps) -> Option<usize>
 /// assert_eq!(rt; search::next_one::<And>(8, &words, 0, &mut steps), None);
 /// ```
 #[inline(always)]
-#[tactic(auto, using(crate::proofs::Folding::zero_in_lane))]
 pub fn next_one<O: WordOp>(
     mask: Block,
     words: &[Block],
@@ -84,15 +83,7 @@ pub fn next_one<O: WordOp>(
     ensures whole { IfNone result
         (steps.new ≡ steps.old + lane_steps (length words.now - from)) }
 {
-    let mut start = from;
-    while words.len() - start >= 2 * FOUR && are_zero_at::<O>(mask, words, start) {
-        tick_four(steps);
-        start += FOUR;
-    }
-    while words.len() - start >= LANE && is_zero(masked_lane_at::<O>(mask, words, start)) {
-        steps.tick();
-        start += LANE;
-    }
+    let start = skip_zeros::<O>(mask, words, from, steps);
     for at in start..words.len() {
         if (at - start) % LANE == 0 {
             steps.tick();
@@ -102,6 +93,43 @@ pub fn next_one<O: WordOp>(
         }
     }
     None
+}
+
+/// The place, a multiple of four words behind `from`, up to which each word is 0 when `mask` is joined with it by `O`, and
+/// from which on one of the next four is not, or fewer than four are left. The place `from` may be the end of the words,
+/// and not past it.
+///
+/// It looks at sixteen words at a time while as many are left behind them, and then at four at a time. The four at the
+/// place that it answers are looked at and take no step yet.
+///
+/// ```
+/// let mut steps = Steps::new();
+/// assert_eq!(rt; search::skip_zeros::<And>(Block::MAX, &[7, 0, 0, 0, 0, 0, 1], 1, &mut steps), 5);
+/// assert_eq!(rt; search::skip_zeros::<AndNot>(7, &[7, 7, 7, 7, 6, 7, 7, 7], 0, &mut steps), 4);
+/// assert_eq!(rt; search::skip_zeros::<And>(8, &[7, 7, 7], 0, &mut steps), 0);
+/// ```
+#[inline(always)]
+#[tactic(auto, using(crate::proofs::Folding::zero_in_lane))]
+pub fn skip_zeros<O: WordOp>(mask: Block, words: &[Block], from: usize, steps: &mut Steps) -> usize
+    requires { from ≤ length words.now }
+    ensures after { from ≤ result }
+    ensures within { result ≤ length words.now }
+    ensures zeros { (i : ℕ) → from ≤ i → i < result
+        → slice_index (map (O.joined mask) words.now) i ≡ 0 }
+    ensures stop { result + 4 ≤ length words.now
+        → has_no_ones (chunk result 4 (map (O.joined mask) words.now)) ≡ false }
+    ensures cost { 4 * steps.new ≡ 4 * steps.old + (result - from) }
+{
+    let mut start = from;
+    while words.len() - start >= 2 * FOUR && are_zero_at::<O>(mask, words, start) {
+        tick_four(steps);
+        start += FOUR;
+    }
+    while words.len() - start >= LANE && is_zero(masked_lane_at::<O>(mask, words, start)) {
+        steps.tick();
+        start += LANE;
+    }
+    start
 }
 
 /// The place of the last word, below place `below`, that is not 0 when `mask` is joined with it by `O`; `None` where

@@ -65,7 +65,7 @@ module _ {f : ℕ → ℕ → ℕ} {t : Bool → Bool → Bool} {keep take_right
         }
 
   -- the words from place a up to and without b, where each is 0 once it is joined with all ones
-  none_in_words : (a b : ℕ) → b ≤ length ws → ((m : ℕ) → a ≤ m → m < b → get_or (map (f (2 ^ 64 - 1)) ws) m 0 ≡ 0) → NonePasses passes (64 * a) (64 * b)
+  pub none_in_words : (a b : ℕ) → b ≤ length ws → ((m : ℕ) → a ≤ m → m < b → get_or (map (f (2 ^ 64 - 1)) ws) m 0 ≡ 0) → NonePasses passes (64 * a) (64 * b)
   none_in_words a b within zeros i after below =
       let m : ℕ = i / 64 in
       none_in_word m (2 ^ 64 - 1) (64 * m) (64 * (m + 1)) (omega arith) (omega arith) (omega arith) (masked_whole m)

@@ -5,9 +5,11 @@ pub mod Ascending
 pub mod Walk
 pub mod Neighbours
 pub mod Runs
+pub mod Gaps
 -- facts for callers
 pub mod AscendingFacts
 pub mod RunsFacts
+pub mod GapsFacts
 pub mod CountFacts
 pub mod RowFacts
 pub mod CallFacts

@@ -5,6 +5,7 @@
 #![tactic(auto)]
 
 pub mod cursors;
+pub mod gaps;
 pub mod joins;
 pub mod new_rows;
 pub mod positions;

@@ -31,6 +31,8 @@ mod fills;
 #[cfg(test)]
 mod form;
 #[cfg(test)]
+mod gaps;
+#[cfg(test)]
 mod joins;
 #[cfg(test)]
 mod lanes;

@@ -41,6 +41,26 @@ fn next_one(rt: HostRuntime) {
 }
 
 #[test]
+fn skip_zeros(rt: HostRuntime) {
+    let mut steps = Steps::new();
+    equal(
+        &rt,
+        search::skip_zeros::<And>(Block::MAX, &[7, 0, 0, 0, 0, 0, 1], 1, &mut steps),
+        5,
+    );
+    equal(
+        &rt,
+        search::skip_zeros::<AndNot>(7, &[7, 7, 7, 7, 6, 7, 7, 7], 0, &mut steps),
+        4,
+    );
+    equal(
+        &rt,
+        search::skip_zeros::<And>(8, &[7, 7, 7], 0, &mut steps),
+        0,
+    );
+}
+
+#[test]
 fn previous_one(rt: HostRuntime) {
     let words = [1, 0, 0, 7];
     let mut steps = Steps::new();

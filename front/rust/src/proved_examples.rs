@@ -359,7 +359,23 @@ fn bitlanes_search_49() {
 }
 
 #[test]
-fn bitlanes_search_86() {
+fn bitlanes_search_82() {
+    use crate::proved::bitlanes::ops::*;
+    use crate::proved::bitlanes::{word, Block, Steps};
+    use crate::proved::bitwords::cursors::*;
+    use crate::proved::bitlanes::*;
+    use crate::shim::u64x4;
+    use core::cmp::Ordering;
+    use core::mem::{size_of, size_of_val};
+
+    let mut steps = Steps::new();
+    assert_eq!(search::skip_zeros::<And>(Block::MAX, &[7, 0, 0, 0, 0, 0, 1], 1, &mut steps), 5);
+    assert_eq!(search::skip_zeros::<AndNot>(7, &[7, 7, 7, 7, 6, 7, 7, 7], 0, &mut steps), 4);
+    assert_eq!(search::skip_zeros::<And>(8, &[7, 7, 7], 0, &mut steps), 0);
+}
+
+#[test]
+fn bitlanes_search_105() {
     use crate::proved::bitlanes::ops::*;
     use crate::proved::bitlanes::{word, Block, Steps};
     use crate::proved::bitwords::cursors::*;
@@ -376,7 +392,7 @@ fn bitlanes_search_86() {
 }
 
 #[test]
-fn bitlanes_search_123() {
+fn bitlanes_search_142() {
     use crate::proved::bitlanes::ops::*;
     use crate::proved::bitlanes::{word, Block, Steps};
     use crate::proved::bitwords::cursors::*;
@@ -927,6 +943,22 @@ fn bitwords_cursors_408() {
 
     let cursor = cursors::zeroes_within(&[Block::MAX, 5], 60, 68);
     assert!(cursor.eq([65, 67]));
+}
+
+#[test]
+fn bitwords_gaps_21() {
+    use crate::proved::bitlanes::ops::*;
+    use crate::proved::bitlanes::{word, Block, Steps};
+    use crate::proved::bitwords::cursors::*;
+    use crate::proved::bitwords::*;
+    use crate::shim::u64x4;
+    use core::cmp::Ordering;
+    use core::mem::{size_of, size_of_val};
+
+    let mut steps = Steps::new();
+    assert_eq!(gaps::first(&[0xf0f, 1], 1, 128, 4, &mut steps), Some(4));
+    assert_eq!(gaps::first(&[0xf0f, 1], 0, 128, 60, &mut steps), Some(65));
+    assert_eq!(gaps::first(&[0xf0f, 1], 0, 124, 60, &mut steps), None);
 }
 
 #[test]

@@ -6,6 +6,8 @@ mod callers;
 #[cfg(test)]
 mod extends;
 #[cfg(test)]
+mod gaps;
+#[cfg(test)]
 mod json;
 #[cfg(test)]
 mod keys;

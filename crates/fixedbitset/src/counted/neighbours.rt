@@ -2,10 +2,10 @@
 //!
 //! A call takes one step for the word of the number that it is given, and one for each lane of four words from there on
 //! up to the one that has the position. So what it takes goes by how far away the position is. Where there is none it goes
-//! up to the end, and it takes no step where it has no position to look at. `first_gap` goes from one position to the next,
-//! and takes at most four steps more for each stretch of clear positions.
+//! up to the end, and it takes no step where it has no position to look at. `first_gap` takes one for each lane of four words
+//! from that of the number on, up to the end of the gap.
 
-ghost use Rattle.std.specs.Prelude.{◌≡◌, ◌<◌, ◌≤◌, ◌+◌, ◌-◌, ◌*◌, ◌/◌, min, length, IfSome, IfNone};
+ghost use Rattle.std.specs.Prelude.{◌≡◌, ◌<◌, ◌≤◌, ◌+◌, ◌-◌, ◌/◌, min, IfSome, IfNone};
 ghost use Rattle.bitlanes.specs.Words.{lane_steps};
 ghost use Rattle.bitwords.specs.Steps.{range_words};
 ghost use Rattle.fixedbitset.specs.Bits.{storage_words};
@@ -63,9 +63,9 @@ pub fn next_zero(set: &FixedBitSet, from: usize, steps: &mut Steps) -> Option<us
     next_zero_counted(&set.words, set.length, from, steps)
 }
 
-/// [`FixedBitSet::first_gap`], with the steps that it takes: at most those of a search up to the end of the words, and four
-/// for each stretch of clear positions; at least one for each lane of four words from that of `from` up to the end of the
-/// gap, or where there is none up to the last place with room for one.
+/// [`FixedBitSet::first_gap`], with the steps that it takes: one for each lane of four words from that of `from` up to the end
+/// of the gap. Where there is none they are at least those up to the last place with room for one, and at most those up to
+/// the length.
 ///
 /// ```
 /// let set = FixedBitSet::from_iter(alloc, [3, 6, 90])?;
@@ -75,8 +75,9 @@ pub fn next_zero(set: &FixedBitSet, from: usize, steps: &mut Steps) -> Option<us
 #[tactic(auto, using(crate::proofs::Words::of_length))]
 pub fn first_gap(set: &FixedBitSet, count: usize, from: usize, steps: &mut Steps) -> Option<usize>
     ensures gap { result ≡ stretches.first_gap set.now count from }
-    ensures cost { steps.new ≤ steps.old + 1 + 4 * length (stretches.zero_runs set.now)
-        + lane_steps (storage_words set.now.length - 1 - from / 64) }
+    ensures cost { steps.new ≤ steps.old + lane_steps (range_words from set.now.length) }
+    ensures found { IfSome result
+        (λ p. steps.new ≡ steps.old + lane_steps (range_words from (p + count))) }
     ensures least { IfSome result
         (λ p. steps.old + lane_steps (range_words from (p + count)) ≤ steps.new) }
     ensures missed { IfNone result (steps.old

@@ -1,15 +1,14 @@
 //! Stretches of clear positions, long enough for a caller.
 
-ghost use Rattle.std.specs.Prelude.{◌≡◌, ◌≤◌, ◌+◌, ◌-◌, ◌*◌, ◌/◌, IfSome, IfNone};
-ghost use Rattle.std.specs.Prelude as prelude;
+ghost use Rattle.std.specs.Prelude.{◌≡◌, ◌≤◌, ◌+◌, ◌-◌, IfSome, IfNone};
 ghost use Rattle.bitlanes.specs.Words.{lane_steps};
 ghost use Rattle.bitwords.specs.Steps.{range_words};
-ghost use Rattle.fixedbitset.specs.Bits.{of_words, storage_words};
+ghost use Rattle.fixedbitset.specs.Bits.{of_words};
 ghost use Rattle.fixedbitset.specs.Runs as stretches;
 ghost use Rattle.fixedbitset.specs.Stored.{IsClean};
 
-use crate::lent::neighbours::{next_one_counted, next_zero_counted};
 use bitlanes::{Block, Steps};
+use bitwords::gaps;
 
 /// The least number at or past `from` with `count` clear positions from there on, or `None` where there is none.
 ///
@@ -38,26 +37,13 @@ pub(crate) fn first_gap_counted(
 ) -> Option<usize>
     requires { IsClean length words.now }
     ensures gap { result ≡ stretches.first_gap (of_words length words.now) count from }
-    ensures cost { steps.new ≤ steps.old + 1
-        + 4 * prelude.length (stretches.zero_runs (of_words length words.now))
-        + lane_steps (storage_words length - 1 - from / 64) }
+    ensures cost { steps.new ≤ steps.old + lane_steps (range_words from length) }
+    ensures found { IfSome result
+        (λ p. steps.new ≡ steps.old + lane_steps (range_words from (p + count))) }
     ensures least { IfSome result
         (λ p. steps.old + lane_steps (range_words from (p + count)) ≤ steps.new) }
     ensures missed { IfNone result
         (steps.old + lane_steps (range_words from (length + 1 - count)) ≤ steps.new) }
 {
-    if count == 0 {
-        return if from <= length { Some(from) } else { None };
-    }
-    let mut start = next_zero_counted(words, length, from, steps)?;
-    loop {
-        if length - start < count {
-            return None;
-        }
-        let end = next_one_counted(words, length, start, steps).unwrap_or(length);
-        if end - start >= count {
-            return Some(start);
-        }
-        start = next_zero_counted(words, length, end, steps)?;
-    }
+    gaps::first(words, from, length, count, steps)
 }

@@ -60,15 +60,7 @@ pub fn next_one<O: WordOp>(
     from: usize,
     steps: &mut Steps,
 ) -> Option<usize> {
-    let mut start = from;
-    while words.len() - start >= 2 * FOUR && are_zero_at::<O>(mask, words, start) {
-        tick_four(steps);
-        start += FOUR;
-    }
-    while words.len() - start >= LANE && is_zero(masked_lane_at::<O>(mask, words, start)) {
-        steps.tick();
-        start += LANE;
-    }
+    let start = skip_zeros::<O>(mask, words, from, steps);
     for at in start..words.len() {
         if (at - start) % LANE == 0 {
             steps.tick();
@@ -78,6 +70,33 @@ pub fn next_one<O: WordOp>(
         }
     }
     None
+}
+
+/// The place, a multiple of four words behind `from`, up to which each word is 0 when `mask` is joined with it by `O`, and
+/// from which on one of the next four is not, or fewer than four are left. The place `from` may be the end of the words,
+/// and not past it.
+///
+/// It looks at sixteen words at a time while as many are left behind them, and then at four at a time. The four at the
+/// place that it answers are looked at and take no step yet.
+///
+/// ```text
+/// let mut steps = Steps::new();
+/// assert_eq!(search::skip_zeros::<And>(Block::MAX, &[7, 0, 0, 0, 0, 0, 1], 1, &mut steps), 5);
+/// assert_eq!(search::skip_zeros::<AndNot>(7, &[7, 7, 7, 7, 6, 7, 7, 7], 0, &mut steps), 4);
+/// assert_eq!(search::skip_zeros::<And>(8, &[7, 7, 7], 0, &mut steps), 0);
+/// ```
+#[inline(always)]
+pub fn skip_zeros<O: WordOp>(mask: Block, words: &[Block], from: usize, steps: &mut Steps) -> usize {
+    let mut start = from;
+    while words.len() - start >= 2 * FOUR && are_zero_at::<O>(mask, words, start) {
+        tick_four(steps);
+        start += FOUR;
+    }
+    while words.len() - start >= LANE && is_zero(masked_lane_at::<O>(mask, words, start)) {
+        steps.tick();
+        start += LANE;
+    }
+    start
 }
 
 /// The place of the last word, below place `below`, that is not 0 when `mask` is joined with it by `O`; `None` where

@@ -4,6 +4,7 @@
 //! The loops over words that a set of bits needs: changes, counts and tests of a range of positions, and of two rows of
 //! any two lengths. No call here knows a set or its length.
 pub mod cursors;
+pub mod gaps;
 pub mod joins;
 pub mod positions;
 pub mod ranges;

@@ -1,8 +1,8 @@
 // Made by front/erase from crates/fixedbitset/src/lent/gaps.rt: change that, and not this.
 //! Stretches of clear positions, long enough for a caller.
 
-use crate::proved::fixedbitset::lent::neighbours::{next_one_counted, next_zero_counted};
 use crate::proved::bitlanes::{Block, Steps};
+use crate::proved::bitwords::gaps;
 
 /// The least number at or past `from` with `count` clear positions from there on, or `None` where there is none.
 ///
@@ -26,18 +26,5 @@ pub(crate) fn first_gap_counted(
     from: usize,
     steps: &mut Steps,
 ) -> Option<usize> {
-    if count == 0 {
-        return if from <= length { Some(from) } else { None };
-    }
-    let mut start = next_zero_counted(words, length, from, steps)?;
-    loop {
-        if length - start < count {
-            return None;
-        }
-        let end = next_one_counted(words, length, start, steps).unwrap_or(length);
-        if end - start >= count {
-            return Some(start);
-        }
-        start = next_zero_counted(words, length, end, steps)?;
-    }
+    gaps::first(words, from, length, count, steps)
 }

@@ -1,0 +1,176 @@
+//! Stretches of positions that a row of words lacks, long enough for a caller.
+//!
+//! A step is one lane of four words, from the word of the position on where a search begins: each lane counts once, as its
+//! first word is looked at.
+
+ghost use Rattle.std.specs.Prelude.{◌≡◌, ◌≢◌, ℕ, ◌+◌, ◌-◌, ◌*◌, ◌^◌, ◌<◌, ◌≤◌, length, map, slice_index, IfSome, IfNone};
+ghost use Rattle.std.specs.Int.{bit_at};
+ghost use Rattle.bitlanes.specs.Bits.{bit};
+ghost use Rattle.bitlanes.specs.Word.{IsLowestBit};
+ghost use Rattle.bitlanes.specs.Words.{lane_steps};
+ghost use Rattle.bitwords.specs.Gaps.{has_run, first_room};
+ghost use Rattle.bitwords.specs.Rows.{has_bit};
+ghost use Rattle.bitwords.specs.Steps.{range_words};
+
+use bitlanes::Steps;
+use bitlanes::lanes::LANE;
+use bitlanes::ops::{And, AndNot, WordOp};
+use bitlanes::search::skip_zeros;
+use bitlanes::word::{BITS, Block, highest_bit, lowest_bit, ones_below};
+
+/// The least position at or past `from` with `count` positions from there on that are clear and below `end`, or `None`
+/// where there is none. The end may not be past the words.
+///
+/// It goes over the words, and looks in each for the whole stretch by joining the word with itself moved down, as often as
+/// `count` has binary digits. It passes over words that are full, or clear, by sixteen and by four. So it takes one step
+/// for each lane of four words from that of `from` up to the end of the stretch, and none where `count` is 0. Where there
+/// is no such stretch it takes these up to the last place with room for one at least, and up to `end` at most.
+///
+/// ```
+/// let mut steps = Steps::new();
+/// assert_eq!(rt; gaps::first(&[0xf0f, 1], 1, 128, 4, &mut steps), Some(4));
+/// assert_eq!(rt; gaps::first(&[0xf0f, 1], 0, 128, 60, &mut steps), Some(65));
+/// assert_eq!(rt; gaps::first(&[0xf0f, 1], 0, 124, 60, &mut steps), None);
+/// ```
+#[inline]
+pub fn first(
+    words: &[Block],
+    from: usize,
+    end: usize,
+    count: usize,
+    steps: &mut Steps,
+) -> Option<usize>
+    requires { end ≤ 64 * length words.now }
+    ensures gap { result ≡ first_room (has_bit words.now) end count from }
+    ensures cost { IfSome result
+        (λ p. steps.new ≡ steps.old + lane_steps (range_words from (p + count))) }
+    ensures whole { steps.new ≤ steps.old + lane_steps (range_words from end) }
+    ensures missed { IfNone result
+        (steps.old + lane_steps (range_words from (end + 1 - count)) ≤ steps.new) }
+{
+    if end < count || end - count < from {
+        return None;
+    }
+    if count == 0 {
+        return Some(from);
+    }
+    first_of_some(words, from, end, count, steps)
+}
+
+// `first`, where some positions are wanted, and as many are left.
+#[inline(always)]
+fn first_of_some(
+    words: &[Block],
+    from: usize,
+    end: usize,
+    count: usize,
+    steps: &mut Steps,
+) -> Option<usize>
+    requires within { end ≤ 64 * length words.now }
+    requires some { 1 ≤ count }
+    requires enough { from + count ≤ end }
+    ensures gap { result ≡ first_room (has_bit words.now) end count from }
+    ensures cost { IfSome result
+        (λ p. steps.new ≡ steps.old + lane_steps (range_words from (p + count))) }
+    ensures whole { steps.new ≤ steps.old + lane_steps (range_words from end) }
+    ensures missed { IfNone result
+        (steps.old + lane_steps (range_words from (end + 1 - count)) ≤ steps.new) }
+{
+    let last = end - count;
+    let mut mask = ones_below(from % BITS);
+    let mut begin = from;
+    let mut index = from / BITS;
+    loop {
+        tick_at(index - from / BITS, steps);
+        let at = BITS * index;
+        let word = words[index] | mask;
+        mask = 0;
+        if begin + count - at <= clear_below(word) {
+            return Some(begin);
+        }
+        if word == 0 {
+            let stop = (begin + count - 1) / BITS;
+            index = next_lane::<And>(&words[..stop], index + 1, from / BITS, steps);
+            continue;
+        }
+        if word == Block::MAX {
+            let stop = end.div_ceil(BITS);
+            index = next_lane::<AndNot>(&words[..stop], index + 1, from / BITS, steps);
+            if last / BITS < index {
+                return None;
+            }
+            begin = BITS * index;
+            continue;
+        }
+        let starts = run_starts(!word, count);
+        if starts != 0 {
+            let start = at + lowest_bit(starts);
+            return if start <= last { Some(start) } else { None };
+        }
+        let taken = at + highest_bit(word);
+        if last <= taken {
+            return None;
+        }
+        begin = taken + 1;
+        index += 1;
+    }
+}
+
+// How many bits of the word are clear before the first that is set, or 64 where none is.
+#[inline(always)]
+fn clear_below(word: Block) -> usize
+    ensures within { result ≤ 64 }
+    ensures clear { (i : ℕ) → i < result → bit_at word i ≡ 0 }
+    ensures lowest { word ≢ 0 → IsLowestBit word result }
+    ensures none { word ≡ 0 → result ≡ 64 }
+{
+    if word == 0 { BITS } else { lowest_bit(word) }
+}
+
+// The place of the word to look at, `at` or one behind it: it passes over lanes whose words are all 0 when a word of ones is
+// joined with each of them by `O`, where `at` begins a lane. The first lane begins at `first`.
+#[inline(always)]
+fn next_lane<O: WordOp>(words: &[Block], at: usize, first: usize, steps: &mut Steps) -> usize
+    requires order { first ≤ at }
+    requires within { at ≤ length words.now }
+    ensures after { at ≤ result }
+    ensures inside { result ≤ length words.now }
+    ensures zeros { (i : ℕ) → at ≤ i → i < result
+        → slice_index (map (O.joined (2 ^ 64 - 1)) words.now) i ≡ 0 }
+    ensures cost { 4 * steps.new ≡ 4 * steps.old + (result - at) }
+{
+    if (at - first) % LANE == 0 {
+        skip_zeros::<O>(Block::MAX, words, at, steps)
+    } else {
+        at
+    }
+}
+
+// The bits of the word from which on so many bits are set, itself the first.
+#[inline(always)]
+fn run_starts(word: Block, count: usize) -> Block
+    requires { 1 ≤ count }
+    ensures { (i : ℕ) → bit result i ≡ has_run word count i }
+{
+    if BITS < count {
+        return 0;
+    }
+    let mut starts = word;
+    let mut have = 1;
+    while have < count {
+        let more = have.min(count - have);
+        starts &= starts >> more;
+        have += more;
+    }
+    starts
+}
+
+// Counts the lane whose first word is looked at, where so many words before it were.
+#[inline(always)]
+fn tick_at(before: usize, steps: &mut Steps)
+    ensures { steps.new + lane_steps before ≡ steps.old + lane_steps (before + 1) }
+{
+    if before % LANE == 0 {
+        steps.tick();
+    }
+}
