@@ -918,7 +918,7 @@ fn bitwords_cursors_285() {
 }
 
 #[test]
-fn bitwords_cursors_393() {
+fn bitwords_cursors_394() {
     use crate::proved::bitlanes::ops::*;
     use crate::proved::bitlanes::{word, Block, Steps};
     use crate::proved::bitwords::cursors::*;
@@ -932,7 +932,7 @@ fn bitwords_cursors_393() {
 }
 
 #[test]
-fn bitwords_cursors_408() {
+fn bitwords_cursors_409() {
     use crate::proved::bitlanes::ops::*;
     use crate::proved::bitlanes::{word, Block, Steps};
     use crate::proved::bitwords::cursors::*;

@@ -343,11 +343,12 @@ impl<M: Middle> Iterator for Cursor<M> {
                     if self.back == 0 {
                         return None;
                     }
+                    let position = self.back_at + take_lowest_bit(&mut self.back);
                     // The last word comes to the front: its other bits are then given as those of every word.
                     self.front = self.back;
                     self.front_at = self.back_at;
                     self.back = 0;
-                    return Some(self.back_at + take_lowest_bit(&mut self.front));
+                    return Some(position);
                 }
             }
         }
