@@ -40,22 +40,8 @@ fn answers(alloc: Global, text: &str) -> Result<String, Fault> {
     let Some((size, others)) = rows.split_first() else {
         return Err(Fault::Line(1, "the numbers of roles and rights are missing"));
     };
-    let [roles @ 0..=LIMIT, rights @ 0..=LIMIT] = *size.numbers.as_slice() else {
-        let wanted = "there have to be two numbers, of roles and of rights, up to 10,000";
-        return Err(Fault::Line(size.line, wanted));
-    };
-    let mut parts = others.splitn(5, |row| row.numbers.is_empty());
-    if let Some([row, ..]) = parts.next() {
-        return Err(Fault::Line(row.line, "an empty line has to stand here"));
-    }
-    let (Some(first), Some(second), Some(denied), Some(questions)) = (
-        parts.next(),
-        parts.next(),
-        parts.next(),
-        parts.next(),
-    ) else {
-        return Err(Fault::Line(rows.len() + 1, "a part is missing"));
-    };
+    let (roles, rights) = sizes_of(size)?;
+    let (first, second, denied, questions) = parts_of(others, rows.len() + 1)?;
     let first = policy_of(alloc, roles, rights, first)?;
     let second = policy_of(alloc, roles, rights, second)?;
     let mut both = first.both(alloc, &second)?;
@@ -119,6 +105,31 @@ enum Answer {
     Lacking(usize),
     // There is no such role, or no such right.
     Unknown,
+}
+
+// How many roles and rights there are.
+fn sizes_of(row: &Row) -> Result<(usize, usize), Fault> {
+    match *row.numbers.as_slice() {
+        [roles @ 0..=LIMIT, rights @ 0..=LIMIT] => Ok((roles, rights)),
+        _ => {
+            let wanted = "there have to be two numbers, of roles and of rights, up to 10,000";
+            Err(Fault::Line(row.line, wanted))
+        }
+    }
+}
+
+// The rows of both policies, of the denials and of the questions. An empty row stands before each of these parts.
+fn parts_of(rows: &[Row], line: usize) -> Result<(&[Row], &[Row], &[Row], &[Row]), Fault> {
+    let mut parts = rows.splitn(5, |row| row.numbers.is_empty());
+    if let Some([row, ..]) = parts.next() {
+        return Err(Fault::Line(row.line, "an empty line has to stand here"));
+    }
+    match (parts.next(), parts.next(), parts.next(), parts.next()) {
+        (Some(first), Some(second), Some(denied), Some(questions)) => {
+            Ok((first, second, denied, questions))
+        }
+        _ => Err(Fault::Line(line, "a part is missing")),
+    }
 }
 
 // A line for each question. The fault has the first row that has no role.
