@@ -44,7 +44,11 @@ fn assert_gaps(rt: &impl Abort, set: &FixedBitSet, clear: &[usize]) {
         let mut from = 0;
         while from < set.len() + 70 {
             let least = (from..set.len() + 1).find(|start| clear[*start] >= count);
-            assert!(rt; set.first_gap(count, from) == least, "{count} from {from} of {}", set.len());
+            assert!(rt;
+                set.first_gap(count, from) == least,
+                "{count} from {from} of {}",
+                set.len()
+            );
             from += 1 + set.len() / 13;
         }
     }
@@ -87,7 +91,10 @@ fn past_full_and_clear_words(rt: HostRuntime) -> Result<(), Fail> {
         let mut set = full.clone()?;
         assert!(rt; set.range_is_valid(&(start..end)));
         set.remove_range(start..end);
-        assert!(rt; set.first_gap(count, 0) == answer, "{count} in {start}..{end}");
+        assert!(rt;
+            set.first_gap(count, 0) == answer,
+            "{count} in {start}..{end}"
+        );
         assert!(rt; set.first_gap(count, start + 1) == None);
     }
     Ok(())
