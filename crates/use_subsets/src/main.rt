@@ -17,6 +17,7 @@
 ghost use Rattle.std.specs.Prelude.{◌≡◌, [], ◌∷◌, MatchOption, IfOk, IfErr, All, map};
 ghost use Rattle.use_text.specs.Faults.{IsFaultOfRow};
 ghost use Rattle.use_text.specs.Sets.{AreBelow, IsSetOf};
+ghost use Rattle.use_subsets.specs.Automata.{IsDfa};
 ghost use Rattle.use_subsets.specs.Lines.{IsEdge, IsBetween};
 
 use automata::{Dfa, Edge, Nfa};
@@ -76,7 +77,9 @@ fn edges_and_words(rows: &[Row], line: usize) -> Result<(&[Row], &[Row]), Fault>
 }
 
 // The automaton and which of these words it accepts, as they are printed.
-fn answers_of(alloc: Global, dfa: &Dfa, words: &[Row]) -> Result<String, AllocError> {
+fn answers_of(alloc: Global, dfa: &Dfa, words: &[Row]) -> Result<String, AllocError>
+    requires { IsDfa dfa.now }
+{
     let mut answers = String::new(alloc);
     write_states(&mut answers, dfa)?;
     for word in words {
