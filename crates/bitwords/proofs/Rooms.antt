@@ -1,7 +1,8 @@
 -- The first place with room, searched word by word.
 use Rattle.std.proofs.Common.{◌%◌, ◌≡◌, ℕ, suc, inl, inr, ◌⊎◌, ◌+◌, ◌-◌, ◌*◌, ◌/◌, ◌^◌, ◌<◌, ◌≤◌, ◌==◌, ◌&&◌, not, nat_le, nat_lt, Bool, true, false, ◌||◌, bit_or, bit_and, get_or, map, take, length, Some, None, List, slice_get, refl, sym, ap, ◌∙◌, arith}
 use Rattle.std.specs.Int.{bit_at, bit_not, w64}
-use Rattle.std.proofs.lemmas.Bool.{cases_lt, lt-ltb, le-ltb, le-leb, true≢false}
+use Rattle.std.proofs.lemmas.Bool.{cases_lt, lt-ltb, le-ltb, le-leb, not-true, not-false, true≢false}
+use Rattle.std.proofs.Math.Bool.{and-false, or-true, not-not}
 use Rattle.std.proofs.lemmas.Bool.Decides.{nat_tests, leb_tells}
 use Rattle.std.proofs.lemmas.Nat.Bits.{bit_at-zero, bit_at_above, bit_at_ones}
 use Rattle.std.proofs.lemmas.List.{get_or_past, get_or-take, length-take-le}
@@ -31,12 +32,8 @@ module _ (taken : ℕ → Bool) (length count from : ℕ) where
   unfolding has_room_in
   no_room q after none = by_end (leb_tells (q + count) length)
     where
-      and_false : (x : Bool) → (x && false) ≡ false
-      and_false true = refl
-      and_false false = refl
-
       by_end : ((leb (q + count) length ≡ true) × (q + count ≤ length)) ⊎ ((leb (q + count) length ≡ false) × (length < q + count)) → has_room_in taken length count q ≡ false
-      by_end (inl (_, within)) = ap (λ x. nat_le (q + count) length && x) (same_room q after ∙ none within) ∙ and_false (nat_le (q + count) length)
+      by_end (inl (_, within)) = ap (λ x. nat_le (q + count) length && x) (same_room q after ∙ none within) ∙ and-false (nat_le (q + count) length)
       by_end (inr (past, _)) = ap (λ x. x && all_pass (λ p. not (taken p)) count q) past
 
   pub room_found : (p : ℕ) → from ≤ p → p + count ≤ length → all_pass (free taken from) count p ≡ true → ((q : ℕ) → from ≤ q → q < p → all_pass (free taken from) count q ≡ false) → Some p ≡ first_room taken length count from
@@ -62,20 +59,12 @@ module _ (f : ℕ → Bool) (count at word begin : ℕ) (some : 1 ≤ count) (is
   unset p from to zero_bit =
       let here : at + (p - at) ≡ p = omega arith in
       let e : not (f p) ≡ false = sym (is (p - at) (omega arith) ∙ ap (λ i. not (f i)) here) ∙ ap (λ b. b == 1) zero_bit in
-      flip (f p) e
-    where
-      flip : (x : Bool) → not x ≡ false → x ≡ true
-      flip true e = refl
-      flip false e = absurd (cc (e))
+      not-false (f p) e
 
   set : (i : ℕ) → i < 64 → bit_at word i ≡ 1 → f (at + i) ≡ false
   set i below one =
       let e : not (f (at + i)) ≡ true = sym (is i below) ∙ ap (λ b. b == 1) one in
-      flip (f (at + i)) e
-    where
-      flip : (x : Bool) → not x ≡ true → x ≡ false
-      flip true e = absurd (cc (e))
-      flip false e = refl
+      not-true (f (at + i)) e
 
   -- where enough bits are clear before the first that is set, the stretch has room
   pub room_before : (low : ℕ) → low ≤ 64 → ((i : ℕ) → i < low → bit_at word i ≡ 0) → begin + count ≤ at + low → all_pass f count begin ≡ true
@@ -109,11 +98,7 @@ module _ (f : ℕ → Bool) (count at word begin : ℕ) (some : 1 ≤ count) (is
     inner : (i : ℕ) → i + count ≤ 64 → has_run (bit_not w64 word) count i ≡ all_pass f count (at + i)
     inner i within = pass-same (bit (bit_not w64 word)) f count i (at + i) (λ x below.
         let e : at + (i + x) ≡ at + i + x = omega arith in
-        bit-not word (i + x) fits (omega arith) ∙ ap not (is (i + x) (omega arith)) ∙ twice (f (at + (i + x))) ∙ ap f e)
-      where
-        twice : (x : Bool) → not (not x) ≡ x
-        twice true = refl
-        twice false = refl
+        bit-not word (i + x) fits (omega arith) ∙ ap not (is (i + x) (omega arith)) ∙ not-not (f (at + (i + x))) ∙ ap f e)
 
     -- the first run within the word
     module _ (starts k : ℕ) (runs : (i : ℕ) → bit starts i ≡ has_run (bit_not w64 word) count i) (first : IsLowestBit starts k) (within : k + count ≤ 64) where
@@ -197,35 +182,22 @@ module _ (ws : List ℕ) (from x mask : ℕ) (masked : (i : ℕ) → bit mask i 
           let is : begin ≡ from = near past in
           let set_bit : nat_lt (64 * x + 0) from ≡ true = le-leb (suc (64 * x + 0)) from (omega arith) in
           let unset_bit : bit (bit_or (get_or ws x 0) mask) 0 ≡ false = ap (λ w. bit w 0) zeros in
-          absurd (true≢false (sym (or_true (bit (get_or ws x 0) 0)) ∙ (let b = masked 0 ∙ set_bit in λ j. bit (get_or ws x 0) 0 || sym b j) ∙ sym (bit-or (get_or ws x 0) mask 0) ∙ unset_bit))
-        where
-          or_true : (y : Bool) → (y || true) ≡ true
-          or_true true = refl
-          or_true false = refl
+          absurd (true≢false (sym (or-true (bit (get_or ws x 0) 0)) ∙ (let b = masked 0 ∙ set_bit in λ j. bit (get_or ws x 0) 0 || sym b j) ∙ sym (bit-or (get_or ws x 0) mask 0) ∙ unset_bit))
 
   -- the positions before `from` are all before the next stretch
   pub begins_past : (high : ℕ) → IsHighestBit (bit_or (get_or ws x 0) mask) high → from ≤ 64 * x + high + 1
   begins_past high highest = by_order (leb_tells from (64 * x + high + 1))
     where
-      or_true : (y : Bool) → (y || true) ≡ true
-      or_true true = refl
-      or_true false = refl
-
       by_order : ((leb from (64 * x + high + 1) ≡ true) × (from ≤ 64 * x + high + 1)) ⊎ ((leb from (64 * x + high + 1) ≡ false) × (64 * x + high + 1 < from)) → from ≤ 64 * x + high + 1
       by_order (inl (_, within)) = within
       by_order (inr (_, before)) =
           let set_bit : bit mask (high + 1) ≡ true = masked (high + 1) ∙ le-leb (suc (64 * x + (high + 1))) from (omega arith) in
           let unset_bit : bit (bit_or (get_or ws x 0) mask) (high + 1) ≡ false = ap (λ d. d == 1) (highest.highest (high + 1) (omega arith)) in
-          absurd (true≢false (sym (or_true (bit (get_or ws x 0) (high + 1))) ∙ (λ j. bit (get_or ws x 0) (high + 1) || sym set_bit j) ∙ sym (bit-or (get_or ws x 0) mask (high + 1)) ∙ unset_bit))
-
--- the mask is spent after the first word
-pub mask_spent : (from x : ℕ) → from / 64 ≤ x → (i : ℕ) → bit 0 i ≡ nat_lt (64 * (x + 1) + i) from
-mask_spent from x first i =
-    let none : bit 0 i ≡ false = ap (λ d. d == 1) (bit_at-zero i) in
-    none ∙ grind (arith, nat_tests)
+          absurd (true≢false (sym (or-true (bit (get_or ws x 0) (high + 1))) ∙ (λ j. bit (get_or ws x 0) (high + 1) || sym set_bit j) ∙ sym (bit-or (get_or ws x 0) mask (high + 1)) ∙ unset_bit))
 
 -- ---- full words passed over
 
+-- the mask is spent where all words begin past `from`
 pub mask_behind : (from next : ℕ) → from ≤ 64 * next → (i : ℕ) → bit 0 i ≡ nat_lt (64 * next + i) from
 mask_behind from next past i =
     let none : bit 0 i ≡ false = ap (λ d. d == 1) (bit_at-zero i) in
@@ -236,21 +208,13 @@ module _ (ws : List ℕ) (from x mask next : ℕ) (masked : (i : ℕ) → bit ma
   pub none_free : (p : ℕ) → 64 * x ≤ p → p < 64 * next → free (has_bit ws) from p ≡ false
   none_free p above below = by_word (leb_tells (64 * x + 64) p)
     where
-      and_false : (y : Bool) → (y && false) ≡ false
-      and_false true = refl
-      and_false false = refl
-
-      flip : (y : Bool) → not y ≡ true → y ≡ false
-      flip true e = absurd (true≢false (sym e))
-      flip false e = refl
-
       by_word : ((leb (64 * x + 64) p ≡ true) × (64 * x + 64 ≤ p)) ⊎ ((leb (64 * x + 64) p ≡ false) × (p < 64 * x + 64)) → free (has_bit ws) from p ≡ false
       by_word (inr (_, here)) =
           let at : 64 * x + (p - 64 * x) ≡ p = omega arith in
           let one : bit (bit_or (get_or ws x 0) mask) (p - 64 * x) ≡ true = ap (λ w. bit w (p - 64 * x)) all_set ∙ ap (λ d. d == 1) (bit_at_ones 64 (p - 64 * x) (omega arith)) in
           let is = word_is ws from x mask masked (p - 64 * x) (omega arith) in
-          sym (ap (free (has_bit ws) from) at) ∙ flip (free (has_bit ws) from (64 * x + (p - 64 * x))) (sym is ∙ one)
-      by_word (inl (_, later)) = (let set_there = full p (omega arith) below in λ j. nat_le from p && not (set_there j)) ∙ and_false (nat_le from p)
+          sym (ap (free (has_bit ws) from) at) ∙ not-true (free (has_bit ws) from (64 * x + (p - 64 * x))) (sym is ∙ one)
+      by_word (inl (_, later)) = (let set_there = full p (omega arith) below in λ j. nat_le from p && not (set_there j)) ∙ and-false (nat_le from p)
 
   pub open_past : (count begin low : ℕ) → 1 ≤ count → IsOpen (free (has_bit ws) from) count (64 * x) begin → IsLowestBit (bit_or (get_or ws x 0) mask) low → 64 * x + low < begin + count
       → IsOpen (free (has_bit ws) from) count (64 * next) (64 * next)
@@ -297,11 +261,7 @@ module _ (ws : List ℕ) (words : AreWords ws) (at next stop : ℕ) (order : nex
   pub full_over : ((i : ℕ) → at ≤ i → i < next → get_or (map (bit_without (2 ^ 64 - 1)) (take stop ws)) i 0 ≡ 0) → (p : ℕ) → 64 * at ≤ p → p < 64 * next → has_bit ws p ≡ true
   unfolding bit_test
   full_over zeros p above below =
-      sym (same_bits p (omega arith)) ∙ flip (has_bit (take stop ws) p) (none_in_words laws_of_without refl (take stop ws) words_first at next (omega (arith, length-take-le stop ws within)) zeros p above below)
-    where
-      flip : (x : Bool) → not x ≡ false → x ≡ true
-      flip true e = refl
-      flip false e = absurd (true≢false e)
+      sym (same_bits p (omega arith)) ∙ not-false (has_bit (take stop ws) p) (none_in_words laws_of_without refl (take stop ws) words_first at next (omega (arith, length-take-le stop ws within)) zeros p above below)
 
 -- ---- the steps
 

@@ -1,4 +1,4 @@
-use Rattle.std.proofs.Common.{arith, ap, ◌+◌, ◌-◌}
+use Rattle.std.proofs.Common.{arith, ap}
 use Rattle.bitwords.specs.Rows.{has_bit}
 use Rattle.bitwords.specs.Gaps.{all_pass}
 use Rattle.bitwords.proofs.Rooms.{free, room_found, room_none}

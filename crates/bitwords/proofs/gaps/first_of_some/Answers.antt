@@ -6,7 +6,7 @@ use Rattle.std.proofs.lemmas.Nat.Bits.{bit_at-zero}
 use Rattle.bitlanes.specs.Bits.{bit}
 use Rattle.bitwords.specs.Gaps.{has_run}
 use Rattle.bitwords.specs.Rows.{has_bit}
-use Rattle.bitwords.proofs.Rooms.{free, room_found, room_none, room_before, open_on, open_over, open_past, open_behind, ends_later, room_inside, none_inside, run_within, room_after, word_is, begins_before, begins_past, mask_spent, mask_behind, clear_over, full_over, steps_least, steps_most, steps_exact, spent_at, spent_over}
+use Rattle.bitwords.proofs.Rooms.{free, room_found, room_none, room_before, open_on, open_over, open_past, open_behind, ends_later, room_inside, none_inside, run_within, room_after, word_is, begins_before, begins_past, mask_behind, clear_over, full_over, steps_least, steps_most, steps_exact, spent_at, spent_over}
 use Rattle.bitwords.proofs.gaps.first_of_some.Goals as goal
 
 pub returns-then-begin-count-clause-gap : goal.returns-then-begin-count-clause-gap
@@ -253,7 +253,7 @@ loop-begin-preserved c =
     let later = ends_later f c.args.count (64 * x) _ c.loop-begin.begin c.requires.some is inv.opened c.clear_below.result lowest short fits c.highest_bit.result c.highest_bit.ensures no_runs in
     let next : 64 * x + 64 ≡ 64 * (x + 1) = omega arith in
     record {
-      masked = mask_spent c.args.from x inv.first;
+      masked = mask_behind c.args.from (x + 1) (omega (arith, inv.first));
       after = begins_past ws c.args.from x c.loop-begin.mask inv.masked c.highest_bit.result c.highest_bit.ensures;
       within = omega (arith, c.if-last-taken.false, c.requires.enough);
       near = λ past. absurd (omega (arith, past, c.highest_bit.ensures.within));
