@@ -141,6 +141,10 @@ EDITS = [
 ]
 
 
+# Goals that edits name: one that is open, one that there is not, and one that is not open.
+GOALS = {"next-stands": "returns", "second-first": "nothing", "again-harmless": "returns"}
+
+
 def write_project(top):
     """Writes a project of a few crates, with the script in it and the edits in a folder of their own, which it answers."""
     write(top / "crates.txt", "numbers:\nhalves:\nthirds:\n")
@@ -149,7 +153,7 @@ def write_project(top):
     write(top / "crates/numbers/specs/Sizes.antt", SIZES)
     for name, old, new, _ in EDITS:
         file = "specs/Sizes.antt" if old in SIZES else "src/lib.rt"
-        write_edit(top / "edits", "numbers", name, file, old, new)
+        write_edit(top / "edits", "numbers", name, file, old, new, GOALS.get(name))
     for name, (divisor, new, _) in PARTS.items():
         write(top / "crates" / name / "src/lib.rt", PART.replace("2", divisor))
         write_edit(top / "edits", name, "part-other", "src/lib.rt", f"    number / {divisor}", new)
@@ -165,5 +169,6 @@ def write(path, text):
     path.write_text(text)
 
 
-def write_edit(edits, crate, name, file, old, new):
-    write(edits / "crates" / crate / "must-fail" / f"{name}.edit", f"file: {file}\nold: {old}\nnew: {new}\n")
+def write_edit(edits, crate, name, file, old, new, goal=None):
+    text = f"file: {file}\nold: {old}\nnew: {new}\n" + (f"# goal: {goal}\n" if goal else "")
+    write(edits / "crates" / crate / "must-fail" / f"{name}.edit", text)

@@ -5,7 +5,7 @@ import functools
 import os
 import re
 
-from . import rattle
+from . import goals, rattle
 
 HOLE = """use Rattle.{crate}.proofs.{place}.Statement.{{statement}}
 
@@ -38,7 +38,8 @@ class Copy:
 
     @property
     def has_holes(self):
-        return any(path.endswith("/Proof.antt") for changed in self.texts.values() for path in changed)
+        texts = [text for changed in self.texts.values() for path, text in changed.items() if path.endswith(".antt")]
+        return any(text and " = ?\n" in f"{text}\n" for text in texts)
 
     def files(self):
         """All files of the copy by their paths."""
@@ -52,13 +53,13 @@ class Copy:
         return made
 
 
-def copy_of(edits, is_source=True):
-    """The copy in which these edits are judged together."""
+def copy_of(edits, is_source=True, by_goal=False):
+    """The copy in which these edits are judged together: by all goals, or each by the one that its file names."""
     crates = dict.fromkeys(edit.crate for edit in edits)
     copy = Copy({}, is_source)
     for crate in crates:
         own = [edit for edit in edits if edit.crate is crate]
-        texts, judges = with_edits(own)
+        texts, judges = with_edits(own, by_goal)
         symbols = set().union(*(symbols_of(edit, judges) for edit in own))
         if all(edit.reach is not None for edit in own):
             reached = symbols.union(*(edit.reach for edit in own if not edit.stands_beside))
@@ -77,7 +78,7 @@ def symbols_of(edit, judges):
     return {judge.function.symbol for judge in judges[edit]} if edit.stands_beside else edit.symbols
 
 
-def with_edits(edits):
+def with_edits(edits, by_goal):
     """The texts of a crate with all these edits in them, and the judges of each."""
     texts, suffixes = {}, {}
     for edit in edits:
@@ -87,6 +88,10 @@ def with_edits(edits):
         if edit.stands_beside:
             suffixes[edit] = f"_edit{number}"
             put_beside(edit, suffixes[edit], texts)
+    if by_goal:
+        for edit in edits:
+            for judge in judges_of(edit, suffixes.get(edit, ""), texts):
+                goals.ask_alone(edit, judge.function, texts)
     return texts, {edit: judges_of(edit, suffixes.get(edit, ""), texts) for edit in edits}
 
 

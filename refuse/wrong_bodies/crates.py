@@ -5,7 +5,7 @@ import pathlib
 import re
 import subprocess
 
-from . import reach, rattle
+from . import goals, rattle, reach
 
 PARTS = ("src", "specs", "proofs")
 
@@ -95,6 +95,7 @@ class Crate:
 class Edit:
     """An edit of a crate: its pairs of texts and what they change.
 
+    goal, others  the goal that its file names, and others that it says are open
     functions   those that its texts stand in
     is_lone     whether it changes more than one function: then it is judged by the function that its name names, if that
                 rests on what it changes, and else by each that does
@@ -103,7 +104,8 @@ class Edit:
     """
     def __init__(self, crate, file):
         self.crate, self.name = crate, file.name.removesuffix(".edit")
-        self.pairs = pairs_of(file.read_text())
+        self.file, text = file, file.read_text()
+        self.pairs, (self.goal, self.others) = pairs_of(text), goals.named_in(text)
         changes = []
         self.is_bad = self.applied({}, changes) is None
         self.functions = [function for change in changes for function in change.functions]
@@ -118,6 +120,11 @@ class Edit:
     @property
     def stands_beside(self):
         return self.wrong_body is not None
+
+    @property
+    def names_a_goal(self):
+        """Whether its file names a goal of the one function that judges it."""
+        return bool(self.goal) and not self.is_bad and not self.is_lone and len(self.functions) == len(self.symbols) == 1
 
     @functools.cached_property
     def wrong_body(self):
@@ -134,6 +141,14 @@ class Edit:
                 return None
             text = text.replace(old, new)
         return text
+
+    @functools.cached_property
+    def lines_of_answer(self):
+        """The lines, from 1, of the answer that its crate stores for the goal that its file names; none where it has none."""
+        function = self.functions[0]
+        text = self.crate.sources.get(goals.path_of_answers(self.crate, function), "")
+        own = goals.answers_in(text).get(self.goal, range(0))
+        return range(own.start + 1, own.stop + 1) if own else own
 
     def applied(self, texts, changes=None):
         """The texts by their paths with this edit in them, or None where it cannot be applied. `changes` gets what it

@@ -4,7 +4,7 @@ import threading
 import time
 from concurrent.futures import FIRST_COMPLETED, ThreadPoolExecutor, wait
 
-from . import copies, together, verdicts
+from . import copies, naming, together, verdicts
 
 BAD = "BAD EDIT: a text behind 'old:' is not in its file exactly once"
 # The most edits of a round, and of the first one where no check of the crate left its work for it.
@@ -58,10 +58,75 @@ class Beside:
         return said
 
 
+class Rounds:
+    """Rounds of edits of a crate, or of several, over a folder of work: by all goals, or each edit by the one that it names."""
+    def __init__(self, runner, work, most, is_source, by_goal):
+        self.runner, self.work, self.most, self.is_source, self.by_goal = runner, work, most, is_source, by_goal
+        self.alone = []
+
+    def run(self, left, has_work):
+        """Tries these edits in rounds side by side, and answers those that the goals that they name did not refuse."""
+        running, over = set(), []
+        while left or running:
+            while left and (has_work or not running):
+                fits = has_work or len(left) <= self.most
+                now = together.taken_together(left, self.most if fits else min(self.most, MOST_AT_FIRST))
+                left = [edit for edit in left if edit not in now]
+                running.add(self.submit(now, fills=not has_work))
+            ended, running = wait(running, return_when=FIRST_COMPLETED)
+            has_work = True
+            for found, halves in (ran.result() for ran in ended):
+                running |= {self.submit(half) for half in halves}
+                (over if self.by_goal else left).extend(self.settle(found))
+        for ran in self.alone:
+            ran.result()
+        return over
+
+    def submit(self, edits, fills=False):
+        return self.runner.pool.submit(self.round, edits, fills)
+
+    def settle(self, found):
+        """Tells of the edits that a round refuses, has those tried alone of which one by all goals says nothing, and answers the
+        others, which wait for another round."""
+        waiting = []
+        for edit, verdict, why in found:
+            if verdict == verdicts.REFUSED:
+                self.runner.told.tell(edit, True, why, is_tried=True)
+                self.runner.kept.keep(edit, why)
+            elif self.by_goal or verdict == verdicts.WAITS and len(found) > 1:
+                waiting.append(edit)
+            else:
+                self.alone.append(self.runner.pool.submit(self.runner.alone, edit))
+        return waiting
+
+    def round(self, edits, fills):
+        """What a round says of each edit, and the rounds to try instead where the front end does not take all together."""
+        copy = copies.copy_of(edits, self.is_source, self.by_goal)
+        said = self.runner.checks.check(copy, self.work, fills)
+        if len(edits) > 1 and not verdicts.is_taken(said):
+            return [], [edits[::2], edits[1::2]]
+        is_by_itself = len(edits) == 1
+        found = [(edit, *self.judged(edit, copy.judges[edit], said, is_by_itself)) for edit in edits]
+        return found, []
+
+    def judged(self, edit, judges, said, is_by_itself):
+        own = verdicts.said_of(edit.crate, said)
+        if self.by_goal:
+            return verdicts.judged_by_goal(edit, judges[0], own)
+        if self.runner.names:
+            naming.write_goal(edit, judges, own)
+        return verdicts.judged(edit, judges, own, is_by_itself)
+
+
 class Runner:
-    """Tries edits, by checks of which at most so many run at once."""
-    def __init__(self, checks, kept, lanes, are_proved=False, beside=None):
+    """Tries edits, by checks of which at most so many run at once.
+
+    by_goal  whether an edit is first tried by the goal alone that its file names
+    names    whether each file gets the name of the goal that refuses its edit
+    """
+    def __init__(self, checks, kept, lanes, are_proved=False, beside=None, by_goal=True, names=False):
         self.checks, self.kept, self.are_proved, self.beside = checks, kept, are_proved, beside
+        self.by_goal, self.names = by_goal, names
         self.pool, self.told = ThreadPoolExecutor(lanes), Told()
 
     def try_all(self, groups, most=MOST):
@@ -124,48 +189,12 @@ class Runner:
         return as_source, self.pool.submit(self.checks.check, copy, *given).result()
 
     def try_in_rounds(self, left, work, most, has_work, is_source=True):
-        """Tries edits in rounds side by side. Where no check has left its work for them, the first round does."""
-        running, alone = set(), []
-        while left or running:
-            while left and (has_work or not running):
-                fits = has_work or len(left) <= most
-                now = together.taken_together(left, most if fits else min(most, MOST_AT_FIRST))
-                left = [edit for edit in left if edit not in now]
-                running.add(self.pool.submit(self.round, now, work, not has_work, is_source))
-            ended, running = wait(running, return_when=FIRST_COMPLETED)
-            has_work = True
-            for found, halves in (ran.result() for ran in ended):
-                running |= {self.pool.submit(self.round, half, work, False, is_source) for half in halves}
-                left += self.settle(found, alone)
-        for ran in alone:
-            ran.result()
-
-    def settle(self, found, alone):
-        """Tells of the edits that a round refuses, has those tried alone of which it says nothing, and answers those that wait
-        for another round."""
-        waiting = []
-        for edit, verdict, why in found:
-            if verdict == verdicts.REFUSED:
-                self.told.tell(edit, True, why, is_tried=True)
-                self.kept.keep(edit, why)
-            elif verdict == verdicts.WAITS and len(found) > 1:
-                waiting.append(edit)
-            else:
-                alone.append(self.pool.submit(self.alone, edit))
-        return waiting
-
-    def round(self, edits, work, fills=False, is_source=True):
-        """What a round says of each edit, and the rounds to try instead where the front end does not take all together."""
-        copy = copies.copy_of(edits, is_source)
-        said = self.checks.check(copy, work, fills)
-        if len(edits) > 1 and not verdicts.is_taken(said):
-            return [], [edits[::2], edits[1::2]]
-        is_by_itself = len(edits) == 1
-        found = []
-        for edit in edits:
-            own = verdicts.said_of(edit.crate, said)
-            found.append((edit, *verdicts.judged(edit, copy.judges[edit], own, is_by_itself)))
-        return found, []
+        """Tries edits in rounds: first those whose files name a goal, each by that goal alone, and then all that are left, by all
+        goals. Where no check has left its work for them, the first round does."""
+        named = [edit for edit in left if self.by_goal and edit.names_a_goal]
+        over = Rounds(self, work, most, is_source, by_goal=True).run(named, has_work)
+        left = [*(edit for edit in left if edit not in named), *over]
+        Rounds(self, work, most, is_source, by_goal=False).run(left, has_work or bool(named))
 
     def alone(self, edit):
         """Tries an edit by a check of the whole crate, from nothing, and tells of it."""

@@ -2,6 +2,8 @@
 import dataclasses
 import re
 
+from . import goals
+
 # An error that says only that a proof file names what the edit took away.
 NAMES = re.compile(r"has no field|is not in scope|has no `|was not admitted")
 # Where such an error goes on in a second line.
@@ -96,16 +98,42 @@ def judged(edit, judges, said, is_by_itself):
     return (WAITS if waits else UNCLEAR), ""
 
 
+def judged_by_goal(edit, judge, said):
+    """What a round says of an edit that it judges by the goal that its file names: refused, or unclear."""
+    said, function = WRAPPED.sub(" ", said), judge.function
+    path = goals.path_of_answers(edit.crate, function)
+    for error in errors_in_proofs(said):
+        if error.path == path and error.line in edit.lines_of_answer:
+            return REFUSED, f"refused: {without_number(error)}"
+    if not edit.lines_of_answer:
+        for unproved in unproved_in(said):
+            if unproved.is_of(function) and (place := open_in(unproved, judge)):
+                return REFUSED, f"refused: {place}"
+    return UNCLEAR, ""
+
+
 def place_of_refusal(unproved, judge, errors):
     """The first goal that is open in the function, by its line in the crate, or else the first error in its proof."""
+    if place := open_in(unproved, judge):
+        return place
+    for error in errors:
+        if error.path.rpartition("/")[0] == unproved.folder:
+            return without_number(error)
+    return None
+
+
+def open_in(unproved, judge):
+    """The first goal that is open in the function, by its line in the crate, or None."""
     function = judge.function
     for goal in unproved.goals:
         if goal.path == function.path and goal.line in function.lines:
             return Place(goal.path, goal.line - judge.moved, goal.text)
-    for error in errors:
-        if error.path.rpartition("/")[0] == unproved.folder:
-            return re.sub(r"(_edit\d+)(?=/)", "", str(error))
     return None
+
+
+def without_number(error):
+    """An error with the path that its file has in the crate."""
+    return re.sub(r"(_edit\d+)(?=/)", "", str(error))
 
 
 def judged_alone(said):
