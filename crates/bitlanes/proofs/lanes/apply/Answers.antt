@@ -1,7 +1,11 @@
 use Rattle.std.proofs.Common.{take, arith}
+use Rattle.std.proofs.lemmas.Grind.{common_steps}
 use Rattle.std.proofs.lemmas.List.{length-take-le}
 use Rattle.bitlanes.proofs.Kept.{kept_next, kept_rest, kept_whole}
 use Rattle.bitlanes.proofs.lanes.apply.Goals as goal
+
+pub loop-at-init : goal.loop-at-init
+loop-at-init g c = record { words = grind (arith, common_steps); within = omega arith; cost = omega arith }
 
 pub loop-at-preserved : goal.loop-at-preserved
 loop-at-preserved g c =

@@ -1,9 +1,15 @@
-use Rattle.std.proofs.Common.{arith, ◌≡◌, ◌+◌, ◌-◌, ◌==◌, ℕ, List, length}
+use Rattle.std.proofs.Common.{arith, ◌≡◌, ◌+◌, ◌-◌, ◌==◌, ℕ, List, length, refl}
 use Rattle.std.specs.Simd.Lanes.{zip2}
 use Rattle.bitlanes.proofs.Filling.{all_part}
 use Rattle.bitlanes.proofs.Folding.{fails_within}
 use Rattle.bitlanes.proofs.Zipping.{cut_joined, length_joined}
 use Rattle.bitlanes.proofs.lanes.none.Goals as goal
+
+pub loop-at-init : goal.loop-at-init
+loop-at-init g c = record { zero = refl; within = omega arith; cost = omega arith }
+
+pub returns-then-not-is_zero-clause-stops : goal.returns-then-not-is_zero-clause-stops
+returns-then-not-is_zero-clause-stops g c = λ _. omega (arith, c.tick.ensures, c.loop-at.invariant.cost)
 
 pub returns-then-not-is_zero-clause-zero : goal.returns-then-not-is_zero-clause-zero
 returns-then-not-is_zero-clause-zero g c =
