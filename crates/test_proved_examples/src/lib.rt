@@ -5,6 +5,8 @@
 #[cfg(test)]
 mod bitranks_laws;
 #[cfg(test)]
+mod calling_1;
+#[cfg(test)]
 mod calls;
 #[cfg(test)]
 mod counted;
@@ -16,5 +18,3 @@ mod laws;
 mod pieces;
 #[cfg(test)]
 mod ranks;
-#[cfg(test)]
-mod readme_1;
