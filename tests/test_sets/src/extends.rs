@@ -92,9 +92,11 @@ fn items_with_repeats_are_added(rt: HostRuntime) -> Result<(), Fail> {
 #[test]
 fn one_position_is_added(rt: HostRuntime) -> Result<(), Fail> {
     for length in 0..131 {
+        let fifths = multiples(rt.alloc(), length, 5)?;
+        let whole = filled(rt.alloc(), &fifths)?;
         for position in 0..131 {
-            let mut flags = multiples(rt.alloc(), length, 5)?;
-            let mut set = filled(rt.alloc(), &flags)?;
+            let mut flags = fifths.to_vec(rt.alloc())?;
+            let mut set = whole.clone()?;
             set.grow_and_insert(position)?;
             add(&mut flags, position)?;
             assert!(rt; is_same(&set, &flags), "{position} added to {length}");

@@ -1,6 +1,7 @@
 //! Large sets, each call once: where memory is there, no call refuses a number of its own choice.
 
 use fixedbitset::{Block, FixedBitSet};
+use std::mem::ManuallyDrop;
 use std::test::Fail;
 
 // More than 2 to the 32 positions, which take 512 MiB.
@@ -13,6 +14,8 @@ fn a_set_of_more_than_four_billion_positions(rt: HostRuntime) -> Result<(), Fail
     assert!(rt; MANY > 4_000_000_000);
     set.insert(MANY - 1);
     assert!(rt; set.contains(MANY - 1));
+    // (its words are dropped one by one, which takes as long, and so does the next test)
+    let _ = ManuallyDrop::new(set);
     Ok(())
 }
 
@@ -62,12 +65,14 @@ fn a_large_part_is_cut_out_and_put_behind(rt: HostRuntime) -> Result<(), Fail> {
     set.insert(LARGE + 69);
     let part = set.slice(rt.alloc(), 70..)?;
     assert_eq!(rt; part.len(), LARGE);
-    assert!(rt; part.ones().eq([0, LARGE - 1]));
+    assert!(rt; part.contains(0) && part.contains(LARGE - 1));
+    assert_eq!(rt; part.count_ones(..), 2);
     let mut all = FixedBitSet::with_capacity(rt.alloc(), 3)?;
     assert!(rt; all.len() == 3);
     all.append(&part)?;
     assert_eq!(rt; all.len(), LARGE + 3);
-    assert!(rt; all.ones().eq([3, LARGE + 2]));
+    assert!(rt; all.contains(3) && all.contains(LARGE + 2));
+    assert_eq!(rt; all.count_ones(..), 2);
     Ok(())
 }
 

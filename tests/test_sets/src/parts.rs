@@ -1,6 +1,7 @@
 //! Shifts and parts at every length up to 200, beside slow values.
 
 use crate::questions::fillings;
+use bitlanes::word::{BITS, Block};
 use fixedbitset::FixedBitSet;
 use std::alloc::{AllocError, Global};
 use std::process::Abort;
@@ -50,9 +51,10 @@ fn slow_moved(
 }
 
 fn assert_moved(rt: &impl Abort, alloc: Global, flags: &[bool]) -> Result<(), AllocError> {
+    let whole = filled(alloc, flags)?;
     for call in [Move::Up, Move::Down, Move::WithOwn] {
         for by in [0, 1, 63, 64, 65, 127, 130, 256, usize::MAX] {
-            let mut set = filled(alloc, flags)?;
+            let mut set = whole.clone()?;
             moved(&mut set, call, by);
             let wanted = slow_moved(alloc, flags, call, by)?;
             assert!(rt;
@@ -192,19 +194,31 @@ fn assert_copied(
     Ok(())
 }
 
-// The range at each place.
-fn assert_copied_everywhere(
+// The ranges from this start, each one position longer, copied to the place. What is wanted gets that position each time.
+fn assert_copied_to(
     rt: &impl Abort,
-    alloc: Global,
     one: &Pair<'_>,
     other: &Pair<'_>,
     start: usize,
-    end: usize,
+    at: usize,
+    mut wanted: Vec<Block>,
 ) -> Result<(), AllocError> {
-    if end - start <= one.flags.len() {
-        for at in 0..one.flags.len() - (end - start) + 1 {
-            assert_copied(rt, alloc, one, other, start, end, at)?;
+    let most = (other.flags.len() - start).min(one.flags.len() - at);
+    for size in 0..most + 1 {
+        if size > 0 {
+            let (from, to) = (start + size - 1, at + size - 1);
+            wanted[to / BITS] &= !(1 << (to % BITS));
+            wanted[to / BITS] |= Block::from(other.flags[from]) << (to % BITS);
         }
+        let mut set = one.set.clone()?;
+        set.copy_range(&other.set, start..start + size, at);
+        assert!(rt;
+            set.len() == one.flags.len() && set.as_slice() == wanted.as_slice(),
+            "{start}..{} of {} to {at} of {}",
+            start + size,
+            other.flags.len(),
+            one.flags.len()
+        );
     }
     Ok(())
 }
@@ -216,9 +230,11 @@ fn every_range_is_copied_to_every_place(rt: HostRuntime) -> Result<(), Fail> {
         let flags = multiples(rt.alloc(), length, 3)?;
         let other = multiples(rt.alloc(), other_length, 7)?;
         let (one, other) = (paired(rt.alloc(), &flags)?, paired(rt.alloc(), &other)?);
-        for end in 0..other_length + 1 {
-            for start in 0..end + 1 {
-                assert_copied_everywhere(&rt, rt.alloc(), &one, &other, start, end)?;
+        assert!(rt; are_words(one.set.as_slice(), &flags));
+        for start in 0..other_length + 1 {
+            for at in 0..length + 1 {
+                let wanted = one.set.as_slice().to_vec(rt.alloc())?;
+                assert_copied_to(&rt, &one, &other, start, at, wanted)?;
             }
         }
     }
@@ -277,6 +293,7 @@ fn slices_are_copied_back_at_every_length(rt: HostRuntime) -> Result<(), Fail> {
 }
 
 fn assert_resized(rt: &impl Abort, alloc: Global, flags: &[bool]) -> Result<(), AllocError> {
+    let whole = filled(alloc, flags)?;
     for bits in [0, 1, 63, 64, 65, 128, 200] {
         for enabled in [false, true] {
             let mut wanted = Vec::new(alloc);
@@ -287,7 +304,7 @@ fn assert_resized(rt: &impl Abort, alloc: Global, flags: &[bool]) -> Result<(), 
                     enabled
                 })?;
             }
-            let mut set = filled(alloc, flags)?;
+            let mut set = whole.clone()?;
             set.resize(bits, enabled)?;
             assert_same(rt, &set, &wanted, "resized from", flags.len());
             set.truncate(64);

@@ -2,8 +2,8 @@
 //! 130, and steps that a caller knows of.
 
 use crate::spans::{
-    Change, Fact, Span, assert_facts, change_all, change_range, change_span, changed, holds,
-    holds_of_span,
+    Change, Fact, Span, assert_facts, change_all, change_range, change_span, change_valid, changed,
+    holds, holds_of_span,
 };
 use bitlanes::word::{BITS, Block};
 use fixedbitset::{FixedBitSet, Steps, counted};
@@ -237,103 +237,6 @@ fn chosen(alloc: Global, bits: usize) -> Result<Vec<bool>, AllocError> {
     Ok(flags)
 }
 
-// The slow value with the positions of the range changed.
-fn changed_between(
-    alloc: Global,
-    flags: &[bool],
-    start: usize,
-    end: usize,
-    change: Change,
-) -> Result<Vec<bool>, AllocError> {
-    let mut left = flags.to_vec(alloc)?;
-    for position in start..end.min(left.len()) {
-        left[position] = changed(left[position], change);
-    }
-    Ok(left)
-}
-
-fn assert_answers(rt: &impl Abort, flags: &[bool], set: &FixedBitSet, span: Span) {
-    let (start, end) = span.ends(flags.len());
-    let ones = count_in(flags, start, end, true);
-    let zeroes = count_in(flags, start, end, false);
-    for fact in [
-        Fact::Ones(ones),
-        Fact::Zeroes(zeroes),
-        Fact::All(zeroes == 0),
-        Fact::Any(ones != 0),
-    ] {
-        assert!(rt;
-            holds_of_span(set, span, fact),
-            "{span:?} of {}",
-            flags.len()
-        );
-    }
-}
-
-fn assert_changes(
-    rt: &impl Abort,
-    alloc: Global,
-    flags: &[bool],
-    set: &FixedBitSet,
-    span: Span,
-) -> Result<(), AllocError> {
-    let (start, end) = span.ends(flags.len());
-    for change in [
-        Change::Insert,
-        Change::Remove,
-        Change::Toggle,
-        Change::Set(true),
-        Change::Set(false),
-    ] {
-        let mut new = set.clone()?;
-        change_span(rt, &mut new, span, change);
-        let expected = changed_between(alloc, flags, start, end, change)?;
-        assert!(rt;
-            new.len() == flags.len() && are_words(new.as_slice(), &expected),
-            "{change:?} of {span:?} of {}",
-            flags.len()
-        );
-    }
-    Ok(())
-}
-
-// Each call on the range, or that it is not valid.
-fn assert_range(
-    rt: &impl Abort,
-    alloc: Global,
-    flags: &[bool],
-    set: &FixedBitSet,
-    span: Span,
-) -> Result<(), AllocError> {
-    let (start, end) = span.ends(flags.len());
-    if start <= end && end <= flags.len() {
-        assert_answers(rt, flags, set, span);
-        return assert_changes(rt, alloc, flags, set, span);
-    }
-    assert!(rt;
-        holds_of_span(set, span, Fact::IsNotValid),
-        "{span:?} of {}",
-        flags.len()
-    );
-    Ok(())
-}
-
-// Also those that are not valid, and those with their last position.
-#[test]
-fn every_range_of_six_lengths(rt: HostRuntime) -> Result<(), Fail> {
-    for bits in [0, 1, 63, 64, 65, 130] {
-        let flags = chosen(rt.alloc(), bits)?;
-        let set = filled(rt.alloc(), &flags)?;
-        for start in 0..bits + 2 {
-            for end in 0..bits + 2 {
-                assert_range(&rt, rt.alloc(), &flags, &set, Span::Between(start, end))?;
-                assert_range(&rt, rt.alloc(), &flags, &set, Span::Through(start, end))?;
-            }
-        }
-    }
-    Ok(())
-}
-
 // The words that a change makes of a set: first of no position, and then of one more of the range each time.
 #[derive(Drop)]
 struct Swept {
@@ -352,68 +255,164 @@ impl Swept {
     }
 }
 
-fn all_changes(alloc: Global, words: &[Block]) -> Result<Vec<Swept>, AllocError> {
-    let mut all = Vec::new(alloc);
-    for change in [
-        Change::Insert,
-        Change::Remove,
-        Change::Toggle,
-        Change::Set(true),
-        Change::Set(false),
-    ] {
-        let words = words.to_vec(alloc)?;
-        all.push(Swept { change, words })?;
-    }
-    Ok(all)
+// A range that gets one position more at a time: how many of them are set, and what each change of it leaves.
+#[derive(Drop)]
+struct Slow<'a> {
+    flags: &'a [bool],
+    start: usize,
+    end: usize,
+    ones: usize,
+    all: Vec<Swept>,
 }
 
-// The range has so many positions that are set.
-fn assert_counts(rt: &impl Abort, set: &FixedBitSet, start: usize, end: usize, ones: usize) {
-    let zeroes = end - start - ones;
+// The empty range of a set with these flags, which are these words.
+fn empty_range<'a>(
+    alloc: Global,
+    flags: &'a [bool],
+    words: &[Block],
+    start: usize,
+    changes: &[Change],
+) -> Result<Slow<'a>, AllocError> {
+    let mut all = Vec::new(alloc);
+    for change in changes {
+        let (change, words) = (*change, words.to_vec(alloc)?);
+        all.push(Swept { change, words })?;
+    }
+    Ok(Slow {
+        flags,
+        start,
+        end: start,
+        ones: 0,
+        all,
+    })
+}
+
+impl Slow<'_> {
+    // Makes the range longer, up to this end.
+    fn reach(&mut self, end: usize) {
+        while self.end < end {
+            let was_set = self.flags[self.end];
+            self.ones = self.ones.wrapping_add(usize::from(was_set));
+            for one in &mut self.all {
+                one.change_one(self.end, was_set);
+            }
+            self.end += 1;
+        }
+    }
+
+    fn zeroes(&self) -> usize {
+        self.end - self.start - self.ones
+    }
+}
+
+const CHANGES: [Change; 5] = [
+    Change::Insert,
+    Change::Remove,
+    Change::Toggle,
+    Change::Set(true),
+    Change::Set(false),
+];
+
+// Each call on the span, which is valid. The changes are made in the last set, a copy each time.
+fn assert_span(
+    rt: &impl Abort,
+    slow: &Slow<'_>,
+    set: &FixedBitSet,
+    span: Span,
+    new: &mut FixedBitSet,
+) -> Result<(), AllocError> {
+    let zeroes = slow.zeroes();
     for fact in [
-        Fact::Ones(ones),
+        Fact::Ones(slow.ones),
         Fact::Zeroes(zeroes),
         Fact::All(zeroes == 0),
-        Fact::Any(ones != 0),
+        Fact::Any(slow.ones != 0),
     ] {
+        assert!(rt; holds_of_span(set, span, fact), "{span:?} of {}", set.len());
+    }
+    for one in &slow.all {
+        new.clone_from(set)?;
+        change_span(rt, new, span, one.change);
         assert!(rt;
-            holds(set, start..end, fact),
-            "{start}..{end} of {}",
+            new.len() == slow.flags.len() && new.as_slice() == one.words.as_slice(),
+            "{:?} of {span:?} of {}",
+            one.change,
             set.len()
         );
     }
+    Ok(())
 }
 
-// Each call on each range of the set from this start. The changes are made in the last set, a copy each time.
-fn assert_ranges_from(
+// Each call on the spans from this start, or that they are not valid.
+fn assert_spans_from(
     rt: &impl Abort,
     alloc: Global,
     flags: &[bool],
-    set: &FixedBitSet,
     start: usize,
-    new: &mut FixedBitSet,
+    is_inclusive: bool,
 ) -> Result<(), AllocError> {
-    let mut all = all_changes(alloc, set.as_slice())?;
-    let mut ones = 0usize;
-    for end in start..flags.len() + 1 {
-        if start < end {
-            let was_set = flags[end - 1];
-            ones = ones.wrapping_add(usize::from(was_set));
-            for one in &mut all {
-                one.change_one(end - 1, was_set);
-            }
-        }
-        assert_counts(rt, set, start, end, ones);
-        for one in &all {
-            new.clone_from(set)?;
-            change_range(rt, new, start..end, one.change);
+    let set = filled(alloc, flags)?;
+    let mut new = set.clone()?;
+    let mut slow = empty_range(alloc, flags, set.as_slice(), start, &CHANGES)?;
+    for end in 0..flags.len() + 2 {
+        let span = if is_inclusive {
+            Span::Through(start, end)
+        } else {
+            Span::Between(start, end)
+        };
+        let (_, end) = span.ends(flags.len());
+        if start <= end && end <= flags.len() {
+            slow.reach(end);
+            assert!(rt; count_in(flags, start, end, true) == slow.ones);
+            assert_span(rt, &slow, &set, span, &mut new)?;
+        } else {
             assert!(rt;
-                new.len() == flags.len() && new.as_slice() == one.words.as_slice(),
-                "{:?} of {start}..{end} of {}",
-                one.change,
+                holds_of_span(&set, span, Fact::IsNotValid),
+                "{span:?} of {}",
                 flags.len()
             );
         }
+    }
+    Ok(())
+}
+
+// Also those that are not valid, and those with their last position.
+#[test]
+fn every_range_of_six_lengths(rt: HostRuntime) -> Result<(), Fail> {
+    for bits in [0, 1, 63, 64, 65, 130] {
+        let flags = chosen(rt.alloc(), bits)?;
+        assert!(rt; are_words(filled(rt.alloc(), &flags)?.as_slice(), &flags));
+        for start in 0..bits + 2 {
+            assert_spans_from(&rt, rt.alloc(), &flags, start, false)?;
+            assert_spans_from(&rt, rt.alloc(), &flags, start, true)?;
+        }
+    }
+    Ok(())
+}
+
+// Each call on the range, as far as the slow one goes. The changes are made in the last set, a copy each time.
+fn assert_range(
+    rt: &impl Abort,
+    slow: &Slow<'_>,
+    set: &FixedBitSet,
+    new: &mut FixedBitSet,
+) -> Result<(), AllocError> {
+    let (start, end, zeroes) = (slow.start, slow.end, slow.zeroes());
+    let answers = set.range_is_valid(&(start..end))
+        && set.count_ones(start..end) == slow.ones
+        && set.count_zeroes(start..end) == zeroes
+        && set.contains_all_in_range(start..end) == (zeroes == 0)
+        && set.contains_any_in_range(start..end) == (slow.ones != 0);
+    assert!(rt; answers, "{start}..{end} of {}", set.len());
+    for one in &slow.all {
+        new.clone_from(set)?;
+        change_valid(new, start..end, one.change);
+        assert!(rt;
+            new.len() == slow.flags.len() && new.as_slice() == one.words.as_slice(),
+            "{:?} of {start}..{end} of {}",
+            one.change,
+            set.len()
+        );
     }
     Ok(())
 }
@@ -426,65 +425,77 @@ fn every_range_of_every_length_to_130(rt: HostRuntime) -> Result<(), Fail> {
         assert!(rt; are_words(set.as_slice(), &flags));
         let mut new = set.clone()?;
         for start in 0..bits + 1 {
-            assert_ranges_from(&rt, rt.alloc(), &flags, &set, start, &mut new)?;
+            let mut slow = empty_range(rt.alloc(), &flags, set.as_slice(), start, &CHANGES)?;
+            for end in start..bits + 1 {
+                slow.reach(end);
+                assert_range(&rt, &slow, &set, &mut new)?;
+            }
         }
     }
     Ok(())
 }
 
-// The calls on the range that has its last position too are those on the range up to the next position. The changes are made
-// in the last two sets, one upon the other: each but the second is seen where the range has a position.
-fn assert_alike(
+// Made one upon the other: each but the second is seen where the range has a position.
+const CHANGES_IN_TURN: [Change; 6] = [
+    Change::Toggle,
+    Change::Set(true),
+    Change::Remove,
+    Change::Insert,
+    Change::Set(false),
+    Change::Set(true),
+];
+
+// Each call on the range with its last position, as far as the slow one goes. The changes are made in the last set, and leave
+// the one that is wanted.
+fn assert_inclusive(
     rt: &impl Abort,
+    slow: &Slow<'_>,
     set: &FixedBitSet,
-    start: usize,
-    last: usize,
-    one: &mut FixedBitSet,
-    other: &mut FixedBitSet,
+    wanted: &FixedBitSet,
+    new: &mut FixedBitSet,
 ) -> Result<(), AllocError> {
-    let end = last + 1;
-    assert_eq!(rt; set.count_ones(start..=last), set.count_ones(start..end));
-    assert_eq!(rt;
-        set.count_zeroes(start..=last),
-        set.count_zeroes(start..end)
-    );
-    assert_eq!(rt;
-        set.contains_all_in_range(start..=last),
-        set.contains_all_in_range(start..end)
-    );
-    assert_eq!(rt;
-        set.contains_any_in_range(start..=last),
-        set.contains_any_in_range(start..end)
-    );
-    one.clone_from(set)?;
-    other.clone_from(set)?;
-    for change in [
-        Change::Toggle,
-        Change::Set(true),
-        Change::Remove,
-        Change::Insert,
-        Change::Set(false),
-        Change::Set(true),
-    ] {
-        change_range(rt, one, start..=last, change);
-        change_range(rt, other, start..end, change);
+    let (start, last, zeroes) = (slow.start, slow.end - 1, slow.zeroes());
+    let answers = set.range_is_valid(&(start..=last))
+        && set.count_ones(start..=last) == slow.ones
+        && set.count_zeroes(start..=last) == zeroes
+        && set.contains_all_in_range(start..=last) == (zeroes == 0)
+        && set.contains_any_in_range(start..=last) == (slow.ones != 0);
+    assert!(rt; answers, "{start}..={last} of {}", set.len());
+    new.clone_from(set)?;
+    for one in &slow.all {
+        change_valid(new, start..=last, one.change);
         assert!(rt;
-            *one == *other,
-            "{change:?} of {start}..={last} of {}",
+            new.len() == slow.flags.len() && new.as_slice() == one.words.as_slice(),
+            "{:?} of {start}..={last} of {}",
+            one.change,
             set.len()
         );
     }
+    assert!(rt; *new == *wanted, "{start}..={last} of {}", set.len());
     Ok(())
 }
 
 #[test]
 fn every_inclusive_range_of_every_length_to_130(rt: HostRuntime) -> Result<(), Fail> {
     for bits in 0..131 {
-        let set = filled(rt.alloc(), &chosen(rt.alloc(), bits)?)?;
-        let (mut one, mut other) = (set.clone()?, set.clone()?);
-        for last in 0..bits {
-            for start in 0..last + 2 {
-                assert_alike(&rt, &set, start, last, &mut one, &mut other)?;
+        let flags = chosen(rt.alloc(), bits)?;
+        let set = filled(rt.alloc(), &flags)?;
+        let mut new = set.clone()?;
+        for start in 0..bits + 1 {
+            let mut slow = empty_range(
+                rt.alloc(),
+                &flags,
+                set.as_slice(),
+                start,
+                &CHANGES_IN_TURN,
+            )?;
+            let mut wanted = set.clone()?;
+            for end in start.max(1)..bits + 1 {
+                slow.reach(end);
+                if start < end {
+                    wanted.insert(end - 1);
+                }
+                assert_inclusive(&rt, &slow, &set, &wanted, &mut new)?;
             }
         }
     }

@@ -49,6 +49,16 @@ pub fn changed(was_set: bool, change: Change) -> bool {
     }
 }
 
+/// Changes a range of the set.
+pub fn change_valid<R: IndexRange<usize> + Drop>(set: &mut FixedBitSet, range: R, change: Change) {
+    match change {
+        Change::Insert => set.insert_range(range),
+        Change::Remove => set.remove_range(range),
+        Change::Toggle => set.toggle_range(range),
+        Change::Set(enabled) => set.set_range(range, enabled),
+    }
+}
+
 /// Changes a range, which has to be valid.
 pub fn change_range<R: IndexRange<usize> + Drop>(
     rt: &impl Abort,
@@ -57,12 +67,7 @@ pub fn change_range<R: IndexRange<usize> + Drop>(
     change: Change,
 ) {
     assert!(rt; set.range_is_valid(&range));
-    match change {
-        Change::Insert => set.insert_range(range),
-        Change::Remove => set.remove_range(range),
-        Change::Toggle => set.toggle_range(range),
-        Change::Set(enabled) => set.set_range(range, enabled),
-    }
+    change_valid(set, range, change);
 }
 
 /// Changes the positions of a span.

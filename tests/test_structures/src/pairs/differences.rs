@@ -20,34 +20,72 @@ const STEPS: [[usize; 3]; 6] = [
 // None, one word and less, and lanes of four words with a rest of 0 to 3 words.
 const LENGTHS: [usize; 9] = [0, 1, 64, 65, 192, 256, 257, 511, 576];
 
+// A slow value and its set.
+#[derive(Drop)]
+struct Value {
+    flags: Vec<bool>,
+    set: FixedBitSet,
+}
+
+// The multiples of a step, at each of the lengths.
+fn values(alloc: Global, lengths: &[usize], step: usize) -> Result<Vec<Value>, AllocError> {
+    let mut values = Vec::new(alloc);
+    for length in lengths {
+        let flags = multiples(alloc, *length, step.max(1))?;
+        let set = filled(alloc, &flags)?;
+        values.push(Value { flags, set })?;
+    }
+    Ok(values)
+}
+
+// The set takes in those of the first value that the second lacks, which are the ones that are left.
 fn assert_taken(
     rt: &impl Abort,
     alloc: Global,
-    set: &[bool],
-    gens: &[bool],
-    kills: &[bool],
+    set: &Value,
+    gens: &Value,
+    kills: &Value,
+    left: &[bool],
 ) -> Result<(), AllocError> {
-    let left = joined(alloc, gens.len(), gens, kills, Join::FirstAlone)?;
-    let length = set.len().max(gens.len());
-    let expected = joined(alloc, length, set, &left, Join::Either)?;
-    let changes = count_joined(set, &left, Join::SecondAlone) > 0;
-    let mut made = filled(alloc, set)?;
-    let (gens, kills) = (filled(alloc, gens)?, filled(alloc, kills)?);
-    assert!(rt; made.union_with_difference(&gens, &kills)? == changes);
+    let length = set.flags.len().max(gens.flags.len());
+    let expected = joined(alloc, length, &set.flags, left, Join::Either)?;
+    let changes = count_joined(&set.flags, left, Join::SecondAlone) > 0;
+    let (mut made, gens, kills) = (set.set.clone()?, &gens.set, &kills.set);
+    assert!(rt; made.union_with_difference(gens, kills)? == changes);
     assert!(rt; is_same(&made, &expected));
-    assert!(rt; !made.union_with_difference(&gens, &kills)?);
+    assert!(rt; !made.union_with_difference(gens, kills)?);
     let first = left.iter().position(|is_left| *is_left);
-    assert!(rt; kills.first_lacking(&gens) == first);
-    assert!(rt; first.is_none() == gens.is_subset(&kills));
+    assert!(rt; kills.first_lacking(gens) == first);
+    assert!(rt; first.is_none() == gens.is_subset(kills));
     Ok(())
 }
 
-fn assert_multiples(rt: &impl Abort, alloc: Global, lengths: [usize; 3]) -> Result<(), AllocError> {
+// Each set with each two values.
+fn assert_all_taken(
+    rt: &impl Abort,
+    alloc: Global,
+    sets: &[Value],
+    gens: &[Value],
+    kills: &[Value],
+) -> Result<(), AllocError> {
+    for gens in gens {
+        for kills in kills {
+            let (taken, killed) = (&gens.flags, &kills.flags);
+            let left = joined(alloc, taken.len(), taken, killed, Join::FirstAlone)?;
+            for set in sets {
+                assert_taken(rt, alloc, set, gens, kills, &left)?;
+            }
+        }
+    }
+    Ok(())
+}
+
+fn assert_multiples(rt: &impl Abort, alloc: Global, lengths: &[usize]) -> Result<(), AllocError> {
     for [step, gens_step, kills_step] in STEPS {
-        let set = multiples(alloc, lengths[0], step.max(1))?;
-        let gens = multiples(alloc, lengths[1], gens_step.max(1))?;
-        let kills = multiples(alloc, lengths[2], kills_step.max(1))?;
-        assert_taken(rt, alloc, &set, &gens, &kills)?;
+        let sets = values(alloc, lengths, step)?;
+        let gens = values(alloc, lengths, gens_step)?;
+        let kills = values(alloc, lengths, kills_step)?;
+        assert_all_taken(rt, alloc, &sets, &gens, &kills)?;
     }
     Ok(())
 }
@@ -55,20 +93,14 @@ fn assert_multiples(rt: &impl Abort, alloc: Global, lengths: [usize; 3]) -> Resu
 #[test]
 fn every_length(rt: HostRuntime) -> Result<(), Fail> {
     for length in 0..=130 {
-        assert_multiples(&rt, rt.alloc(), [length, length, length])?;
+        assert_multiples(&rt, rt.alloc(), &[length])?;
     }
     Ok(())
 }
 
 #[test]
 fn unlike_lengths(rt: HostRuntime) -> Result<(), Fail> {
-    for length in LENGTHS {
-        for gens_length in LENGTHS {
-            for kills_length in LENGTHS {
-                assert_multiples(&rt, rt.alloc(), [length, gens_length, kills_length])?;
-            }
-        }
-    }
+    assert_multiples(&rt, rt.alloc(), &LENGTHS)?;
     Ok(())
 }
 

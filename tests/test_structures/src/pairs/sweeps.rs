@@ -32,28 +32,23 @@ fn assert_joins(
     let pairs = every_pair(alloc)?;
     assert_eq!(rt; pairs.len(), PAIRS);
     for pair in &pairs {
+        let (set, other) = (filled(alloc, &pair.a)?, filled(alloc, &pair.b)?);
         for (call, positions, length) in calls {
-            assert_join(rt, alloc, pair, *call, *positions, *length)?;
+            let made = join(set.clone()?, other.clone()?, *call)?;
+            let expected = joined(
+                alloc,
+                length_of(pair, *length),
+                &pair.a,
+                &pair.b,
+                *positions,
+            )?;
+            assert!(rt;
+                is_same(&made, &expected),
+                "{call:?} at length {}",
+                pair.a.len()
+            );
         }
     }
-    Ok(())
-}
-
-fn assert_join(
-    rt: &impl Abort,
-    alloc: Global,
-    pair: &Pair,
-    call: Joining,
-    positions: Join,
-    length: Length,
-) -> Result<(), AllocError> {
-    let expected = joined(alloc, length_of(pair, length), &pair.a, &pair.b, positions)?;
-    let set = join(filled(alloc, &pair.a)?, filled(alloc, &pair.b)?, call)?;
-    assert!(rt;
-        is_same(&set, &expected),
-        "{call:?} at length {}",
-        pair.a.len()
-    );
     Ok(())
 }
 
@@ -116,11 +111,11 @@ const CHANGES: [(Changing, Join, Length, Join); 3] = [
 
 // At the second time nothing changes.
 fn assert_changes(rt: &impl Abort, alloc: Global, pair: &Pair) -> Result<(), AllocError> {
-    let other = filled(alloc, &pair.b)?;
+    let (whole, other) = (filled(alloc, &pair.a)?, filled(alloc, &pair.b)?);
     for (call, positions, length, changed) in CHANGES {
         let expected = joined(alloc, length_of(pair, length), &pair.a, &pair.b, positions)?;
         let changes = count_joined(&pair.a, &pair.b, changed) > 0;
-        let mut set = filled(alloc, &pair.a)?;
+        let mut set = whole.clone()?;
         assert!(rt; change(&mut set, &other, call)? == changes, "{call:?}");
         assert!(rt; is_same(&set, &expected), "{call:?}");
         assert!(rt; !change(&mut set, &other, call)?, "{call:?}");
