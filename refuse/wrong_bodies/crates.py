@@ -147,7 +147,7 @@ class Edit:
         """The lines, from 1, of the answer that its crate stores for the goal that its file names; none where it has none."""
         function = self.functions[0]
         text = self.crate.sources.get(goals.path_of_answers(self.crate, function), "")
-        own = goals.answers_in(text).get(self.goal, range(0))
+        own = goals.answers_in(text, goals.DECLARATION).get(self.goal, range(0))
         return range(own.start + 1, own.stop + 1) if own else own
 
     def applied(self, texts, changes=None):

@@ -5,7 +5,7 @@ tactics before it says so, and checks each answer that is stored. So the file of
 `# goal: NAME`, and behind `# open: NAME ..` the others that the tactics leave open. `refuse/edits --name` writes both lines.
 
 Where the crate stores an answer for the goal, a copy has no other answer of this function, and no tactic. So an error in the
-answer refuses the edit. Else the tactics are asked for this goal, and the others that they leave open, or that have a stored
+answer refuses the edit. A lemma that stands beside the answers may be named too. Else the tactics are asked for this goal, and the others that they leave open, or that have a stored
 answer, have a hole. A goal has the same statement in both, and no goal rests on the answer of another. So what refuses an edit
 in such a copy refuses it in one with all goals. Where the named goal does not, the edit is tried with all of them, so a line
 that fits no longer costs time, and changes no verdict.
@@ -17,8 +17,9 @@ from . import rattle
 GOAL = re.compile(r"(?m)^# goal: (\S+)$")
 OPEN = re.compile(r"(?m)^# open: (.+)$")
 LINES = re.compile(r"(?m)^# (?:goal|open): .*\n?")
-# The line of Answers.antt that begins the answer of a goal.
+# The line of Answers.antt that begins the answer of a goal, and that of any declaration.
 ANSWER = re.compile(r"pub (\S+) : goal\.\S+$")
+DECLARATION = re.compile(r"(?:pub )?(\S+) : ")
 
 
 def named_in(text):
@@ -27,12 +28,12 @@ def named_in(text):
     return goal and goal[1], others[1].split() if others else []
 
 
-def answers_in(text):
-    """The lines, from 0, of each answer in a text of Answers.antt, by the name of its goal."""
+def answers_in(text, begins_one=ANSWER):
+    """The lines, from 0, of each answer in a text of Answers.antt, by the name of its goal, or of each declaration."""
     found, name = {}, None
     lines = text.split("\n")
     for number, line in enumerate(lines):
-        if begins := ANSWER.match(line):
+        if begins := begins_one.match(line):
             name = begins[1]
             found[name] = range(number, number + 1)
         elif name and line.startswith((" ", ")", "]", "}", "unfolding ", f"{name} ")):
@@ -51,7 +52,7 @@ def ask_alone(edit, function, texts):
     path = path_of_answers(edit.crate, function)
     text = texts.get(path) or edit.crate.sources.get(path) or header(edit.crate, function)
     answers = answers_in(text)
-    if edit.goal in answers:
+    if edit.goal in answers_in(text, DECLARATION):
         texts[path] = with_answer(text, answers, edit.goal)
         texts[function.path] = without_tactic(texts.get(function.path) or edit.crate.sources[function.path], function)
     else:

@@ -18,10 +18,12 @@ def write_goal(edit, judges, said):
 
 
 def goal_found(edit, judge, said):
-    """A goal with a stored answer that is false, or else one that the tactics leave open, with the others of these; or None."""
+    """A goal with a stored answer that is false, or a lemma beside these, or else a goal that the tactics leave open, with the
+    others of these; or None."""
     said, function = verdicts.WRAPPED.sub(" ", said), judge.function
     path = goals.path_of_answers(edit.crate, function)
-    answers = goals.answers_in(edit.crate.sources.get(goals.path_of_answers(edit.crate, edit.functions[0]), ""))
+    text = edit.crate.sources.get(goals.path_of_answers(edit.crate, edit.functions[0]), "")
+    answers = goals.answers_in(text, goals.DECLARATION)
     for error in verdicts.errors_in_proofs(said):
         for name, lines in answers.items():
             if error.path == path and error.line - 1 in lines:
