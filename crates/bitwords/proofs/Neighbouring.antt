@@ -4,7 +4,8 @@ use Rattle.std.specs.Int.{bit_at}
 use Rattle.std.proofs.lemmas.Bool.{true≢false}
 use Rattle.std.proofs.lemmas.Bool.Decides.{nat_tests}
 use Rattle.std.proofs.lemmas.List.{get_or-map, length-map}
-use Rattle.std.proofs.lemmas.Nat.Bits.{bit_at-zero}
+use Rattle.std.proofs.lemmas.Nat.{shr-shr}
+use Rattle.std.proofs.lemmas.Nat.Bits.{bit_at-zero, bit_at_above}
 use Rattle.bitlanes.specs.Bits.{bit}
 use Rattle.bitlanes.specs.Ops.{IsWordOp}
 use Rattle.bitlanes.specs.Search.{IsNextOne, IsPreviousOne, AreZerosFrom, AreZerosBelow}
@@ -71,19 +72,42 @@ module _ {f : ℕ → ℕ → ℕ} {t : Bool → Bool → Bool} {keep take_right
       none_in_word m (2 ^ 64 - 1) (64 * m) (64 * (m + 1)) (omega arith) (omega arith) (omega arith) (masked_whole m)
       (sym (get_or-map (f (2 ^ 64 - 1)) ws m 0 0 (omega arith)) ∙ zeros m (omega arith) (omega arith)) i (omega arith) (omega arith)
 
-  -- what the word of `from` tells, joined with the mask of the positions of it from there on
-  module _ (from mask w : ℕ) (fits : mask < 2 ^ 64) (bits : (i : ℕ) → bit mask i ≡ (nat_le (from % 64) i && nat_lt i 64)) (is : w ≡ f mask (get_or ws (from / 64) 0)) where
-    masked_from : (i : ℕ) → bit mask i ≡ (nat_lt i 64 && in_range from (64 * (from / 64 + 1)) (64 * (from / 64) + i))
-    masked_from i = bits i ∙ grind (arith, nat_tests)
+  -- what the word of `from` tells, joined with all ones and moved down so that the bit of `from` is its lowest
+  module _ (from w : ℕ) (is : w ≡ f (2 ^ 64 - 1) (get_or ws (from / 64) 0)) where
+    abbrev rest : ℕ
+    rest = w / 2 ^ (from % 64)
 
-    pub own_next : (j : ℕ) → IsLowestBit w j → from < 64 * length ws → IsNext passes from (64 * length ws) (64 * (from / 64) + j)
+    rest_bit : (i : ℕ) → bit_at rest i ≡ bit_at (f (2 ^ 64 - 1) (get_or ws (from / 64) 0)) (from % 64 + i)
+    rest_bit i = ap (λ n. n % 2) (shr-shr w (from % 64) i) ∙ ap (λ n. bit_at n (from % 64 + i)) is
+
+    clear_from : (p : ℕ) → from ≤ p → p < 64 * (from / 64 + 1) → bit_at rest (p - from) ≡ 0 → passes p ≡ false
+    clear_from p after below clear =
+        let at : from % 64 + (p - from) ≡ p - 64 * (from / 64) = omega arith in
+        clear_fails (from / 64) (2 ^ 64 - 1) (64 * (from / 64)) (64 * (from / 64 + 1)) (omega arith) (omega arith) (omega arith) (masked_whole (from / 64)) p (omega arith) below
+        (rw at at (sym (rest_bit (p - from)) ∙ clear))
+
+    -- a bit of it that is set is one of the word
+    pub own_bit : (j : ℕ) → IsLowestBit rest j → from % 64 + j < 64
+    own_bit j low =
+        grind (arith, rest_bit j, low.set, bit_at_above (f (2 ^ 64 - 1) (get_or ws (from / 64) 0)) 64 (from % 64 + j) (law.fits (2 ^ 64 - 1) (get_or ws (from / 64) 0) (omega arith) (words (from / 64))))
+
+    pub own_next : (j : ℕ) → IsLowestBit rest j → from < 64 * length ws → IsNext passes from (64 * length ws) (from + j)
     own_next j low within =
-        let next = lowest_next (from / 64) mask from (64 * (from / 64 + 1)) fits (omega arith) (omega arith) masked_from j (rw is at low) in
-        record { after = next.after; below = omega (arith, next.below); passes = next.passes; none = next.none }
+        let k : ℕ = from / 64 in
+        let set = sym (rest_bit j) ∙ low.set in
+        let short = own_bit j low in
+        let at = set_passes k (2 ^ 64 - 1) (64 * k) (64 * (k + 1)) (omega arith) (omega arith) (omega arith) (masked_whole k) (from % 64 + j) short set in
+        let place : 64 * k + (from % 64 + j) ≡ from + j = omega arith in
+        record {
+          after = omega arith;
+          below = omega (arith, at.1.0);
+          passes = rw place at at.1.1;
+          none = λ i after before. clear_from i after (omega arith) (low.lowest (i - from) (omega arith));
+        }
 
-    module _ (zero : w ≡ 0) where
+    module _ (zero : rest ≡ 0) where
       here : NonePasses passes from (64 * (from / 64 + 1))
-      here = none_in_word (from / 64) mask from (64 * (from / 64 + 1)) fits (omega arith) (omega arith) masked_from (sym is ∙ zero)
+      here i after below = clear_from i after below (ap (λ n. bit_at n (i - from)) zero ∙ bit_at-zero (i - from))
 
       -- the first position of a later word, where no word before it has one
       pub later_next : (k v : ℕ) → v ≡ f (2 ^ 64 - 1) (get_or ws k 0) → (j : ℕ) → IsNextOne (map (f (2 ^ 64 - 1)) ws) (from / 64 + 1) k → IsLowestBit v j → IsNext passes from (64 * length ws) (64 * k + j)

@@ -1,23 +1,22 @@
 use Rattle.std.proofs.Common.{rules, arith, ◌-◌, ◌^◌}
 use Rattle.std.proofs.lemmas.List.{length-map}
-use Rattle.bitwords.proofs.Neighbouring.{own_next, later_next, none_later}
+use Rattle.bitwords.proofs.Neighbouring.{own_bit, own_next, later_next, none_later}
 use Rattle.bitwords.proofs.positions.next_in_row.Goals as goal
 
-pub returns-then-word-ne0-clause-found : goal.returns-then-word-ne0-clause-found
-returns-then-word-ne0-clause-found g c =
-    own_next g.met.O.WordOp.laws c.requires.drops c.args.words.now (λ k. search rules) c.args.from c.stretch.result c.word-word.result c.stretch.type_inv c.stretch.ensures c.word-word.ensures
-    c.lowest_bit.result c.lowest_bit.ensures c.requires.within
+pub returns-then-rest-ne0-clause-found : goal.returns-then-rest-ne0-clause-found
+returns-then-rest-ne0-clause-found g c =
+    own_next g.met.O.WordOp.laws c.requires.drops c.args.words.now (λ k. search rules) c.args.from c.word.result c.word.ensures c.lowest_bit.result c.lowest_bit.ensures c.requires.within
 
 pub returns-in_err-at-clause-none : goal.returns-in_err-at-clause-none
 returns-in_err-at-clause-none g c =
     rw c.from_residual.ensures
-    (none_later g.met.O.WordOp.laws c.requires.drops c.args.words.now (λ k. search rules) c.args.from c.stretch.result c.word-word.result c.stretch.type_inv c.stretch.ensures c.word-word.ensures
-    c.if-word-ne0.false c.in_err-at.ensures.none)
+    (none_later g.met.O.WordOp.laws c.requires.drops c.args.words.now (λ k. search rules) c.args.from c.word.result c.word.ensures
+    c.if-rest-ne0.false c.in_err-at.ensures.none)
 
 pub returns-clause-found : goal.returns-clause-found
 returns-clause-found g c =
-    later_next g.met.O.WordOp.laws c.requires.drops c.args.words.now (λ k. search rules) c.args.from c.stretch.result c.word-word.result c.stretch.type_inv c.stretch.ensures c.word-word.ensures
-    c.if-word-ne0.false c.in_ok-at.at c.word.result c.word.ensures c.lowest_bit-2.result c.in_ok-at.ensures.found c.lowest_bit-2.ensures
+    later_next g.met.O.WordOp.laws c.requires.drops c.args.words.now (λ k. search rules) c.args.from c.word.result c.word.ensures
+    c.if-rest-ne0.false c.in_ok-at.at c.word-2.result c.word-2.ensures c.lowest_bit-2.result c.in_ok-at.ensures.found c.lowest_bit-2.ensures
 
 pub returns-in_err-at-clause-whole : goal.returns-in_err-at-clause-whole
 returns-in_err-at-clause-whole g c = omega (arith, c.in_err-at.ensures.whole)
@@ -29,9 +28,13 @@ pub returns-clause-whole : goal.returns-clause-whole
 returns-clause-whole g c =
     omega (arith, c.in_ok-at.ensures.cost, c.in_ok-at.ensures.found.within, length-map c.args.words.now (g.O.WordOp.joined (2 ^ 64 - 1)))
 
-pub overflow_mul-result-2 : goal.overflow_mul-result-2
-overflow_mul-result-2 g c =
+pub overflow_mul-result : goal.overflow_mul-result
+overflow_mul-result g c =
     omega (arith, c.in_ok-at.ensures.found.within, length-map c.args.words.now (g.O.WordOp.joined (2 ^ 64 - 1)))
+
+pub overflow_add-result : goal.overflow_add-result
+overflow_add-result g c =
+    omega (arith, own_bit g.met.O.WordOp.laws c.requires.drops c.args.words.now (λ k. search rules) c.args.from c.word.result c.word.ensures c.lowest_bit.result c.lowest_bit.ensures)
 
 pub overflow_add-result-2 : goal.overflow_add-result-2
 overflow_add-result-2 g c =
@@ -42,8 +45,9 @@ pub bounds-words-at-2 : goal.bounds-words-at-2
 bounds-words-at-2 g c =
     omega (arith, c.in_ok-at.ensures.found.within, length-map c.args.words.now (g.O.WordOp.joined (2 ^ 64 - 1)))
 
-pub returns-then-word-ne0-clause-cost : goal.returns-then-word-ne0-clause-cost
-returns-then-word-ne0-clause-cost g c = omega (arith, c.lowest_bit.ensures.within)
+pub returns-then-rest-ne0-clause-cost : goal.returns-then-rest-ne0-clause-cost
+returns-then-rest-ne0-clause-cost g c =
+    omega (arith, own_bit g.met.O.WordOp.laws c.requires.drops c.args.words.now (λ k. search rules) c.args.from c.word.result c.word.ensures c.lowest_bit.result c.lowest_bit.ensures)
 
-pub returns-then-word-ne0-clause-whole : goal.returns-then-word-ne0-clause-whole
-returns-then-word-ne0-clause-whole g c = omega arith
+pub returns-then-rest-ne0-clause-whole : goal.returns-then-rest-ne0-clause-whole
+returns-then-rest-ne0-clause-whole g c = omega arith

@@ -139,9 +139,9 @@ pub fn clear_from(words: &mut [Block], start: usize) {
 fn next_in_row<O: WordOp>(words: &[Block], from: usize, steps: &mut Steps) -> Option<usize> {
     steps.tick();
     let at = from / BITS;
-    let word = O::word(stretch(from % BITS, BITS), words[at]);
-    if word != 0 {
-        return Some(BITS * at + lowest_bit(word));
+    let rest = O::word(Block::MAX, words[at]) >> (from % BITS);
+    if rest != 0 {
+        return Some(from + lowest_bit(rest));
     }
     let at = next_one::<O>(Block::MAX, words, at + 1, steps)?;
     Some(BITS * at + lowest_bit(O::word(Block::MAX, words[at])))
