@@ -164,4 +164,18 @@ impl<A: Part + Drop, B: Part + Drop> InTurn<A, B> {
     {
         self.first.most()?.checked_add(self.second.most()?)
     }
+
+    /// The two walks, each with the items that it has left.
+    #[inline]
+    pub fn into_walks(self) -> (A, B)
+        ensures first { result.0 ≡ self.first }
+        ensures second { result.1 ≡ self.second }
+    {
+        let InTurn {
+            first,
+            second,
+            first_left: _,
+        } = self;
+        (first, second)
+    }
 }

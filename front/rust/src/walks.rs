@@ -364,8 +364,32 @@ macro_rules! walks_in_turn {
             }
 
             #[inline]
-            fn last(self) -> Option<usize> {
-                self.rev().next()
+            fn count(self) -> usize {
+                words::left_of_both(self.walk)
+            }
+
+            #[inline]
+            fn last(mut self) -> Option<usize> {
+                self.next_back()
+            }
+
+            #[inline]
+            fn min(self) -> Option<usize> {
+                let (first, second) = self.walk.into_walks();
+                first.take(1).chain(second.take(1)).min()
+            }
+
+            #[inline]
+            fn max(self) -> Option<usize> {
+                let (mut first, mut second) = self.walk.into_walks();
+                first.next_back().max(second.next_back())
+            }
+
+            #[inline]
+            fn fold<B, F: FnMut(B, usize) -> B>(self, init: B, mut f: F) -> B {
+                let (first, second) = self.walk.into_walks();
+                let begun = first.fold(init, &mut f);
+                second.fold(begun, f)
             }
         }
 

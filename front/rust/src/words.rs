@@ -419,6 +419,13 @@ pub fn left_of<M: Between>(walk: Cursor<M>) -> usize {
     held.middle.positions() + lanes::count_one(&ends, &mut Steps::new())
 }
 
+/// How many positions two walks in turn have left.
+#[inline]
+pub fn left_of_both<A: Between, B: Between>(walk: InTurn<Cursor<A>, Cursor<B>>) -> usize {
+    let (first, second) = walk.into_walks();
+    left_of(first) + left_of(second)
+}
+
 /// The words of a table: for each row as many as a set of so many columns has, with no bit past them.
 #[derive(Clone)]
 pub struct Table {

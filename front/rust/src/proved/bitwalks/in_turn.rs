@@ -85,4 +85,15 @@ impl<A: Part, B: Part> InTurn<A, B> {
     pub fn most(&self) -> Option<usize> {
         self.first.most()?.checked_add(self.second.most()?)
     }
+
+    /// The two walks, each with the items that it has left.
+    #[inline]
+    pub fn into_walks(self) -> (A, B) {
+        let InTurn {
+            first,
+            second,
+            first_left: _,
+        } = self;
+        (first, second)
+    }
 }
