@@ -1,10 +1,17 @@
 -- Words that are moved, and then cut at a length: what that does to the value.
-use Rattle.std.proofs.Common.{◌≡◌, ℕ, ◌+◌, ◌-◌, ◌/◌, ◌^◌, ◌<◌, ◌≤◌, Bool, true, false, ◌&&◌, ◌||◌, nat_lt, nat_le, List, length, take, refl, sym, ap, ◌∙◌, arith}
+use Rattle.std.proofs.Common.{◌≡◌, ℕ, ◌+◌, ◌-◌, ◌*◌, ◌/◌, ◌%◌, ◌^◌, ◌<◌, ◌≤◌, Bool, true, false, ◌&&◌, ◌||◌, nat_lt, nat_le, min, if◌then◌else◌, List, length, ◌++◌, take, drop, refl, sym, ap, ◌∙◌, arith, ⊎_elim, get_or-drop, length-drop}
 use Rattle.std.proofs.lemmas.Bool.Decides.{nat_tests}
-use Rattle.std.proofs.lemmas.List.{length-take-le, get_or-take}
+use Rattle.std.proofs.lemmas.List.{length-take-le, get_or-take, length-append as length-appended, get_or_append_left, get_or-append_right}
+use Rattle.std.proofs.lemmas.Bool.{cases_lt}
+use Rattle.std.specs.Int.{div_ceil}
+use Rattle.bitlanes.specs.Bits.{bit}
+use Rattle.bitlanes.specs.Shifts.{up_steps}
+use Rattle.bitlanes.specs.Words.{lane_steps}
+use Rattle.bitwords.specs.Steps.{join_steps}
 use Rattle.bitwords.specs.Rows.{has_bit, IsJoined, IsCopied}
 use Rattle.bitwords.specs.RowFacts.{has_bit-past}
-use Rattle.fixedbitset.specs.Bits.{Bits, contains, grow, having, of_words, storage_words}
+use Rattle.fixedbitset.specs.Bits.{Bits, contains, grow, having, of_words, storage_words, words_needed}
+use Rattle.fixedbitset.specs.BlocksFacts.{has_bit-take}
 use Rattle.fixedbitset.specs.BitsFacts.{same_bits, contains-grow, length-grow, contains-past}
 use Rattle.fixedbitset.specs.Parts.{shift_up, shift_down, union_with_shifted, slice, copy_range, append, truncate, resize}
 use Rattle.fixedbitset.specs.PartsFacts.{length-shift_up, contains-shift_up, length-shift_down, contains-shift_down, length-union_with_shifted, contains-union_with_shifted, length-copy_range, contains-copy_range, length-append, contains-append, length-truncate, contains-truncate, length-resize, contains-resize}
@@ -22,6 +29,97 @@ keeps_moved n fits ws mid new f test count moved cut =
     let passes : ℕ → Bool = λ p. f (has_bit ws p) (test p) in
     keeps n new (having n passes) fits (cut.long ∙ moved.long ∙ count) (length-having n passes)
     (λ p. grind (arith, nat_tests, count, moved.long, moved.bits p, cut.long, cut.bits p, has_bit-past new p, contains-having n passes p))
+
+-- ---- words of which those that the length needs are written
+
+-- the bits of a row whose first words were written
+has_bit-front : (part rest : List ℕ) (p : ℕ) → p / 64 < length part → has_bit (part ++ rest) p ≡ has_bit part p
+unfolding has_bit
+has_bit-front part rest p within = ap (λ w. bit w (p % 64)) (grind (arith, within, get_or_append_left))
+
+has_bit-behind : (part ws : List ℕ) (k p : ℕ) → length part ≡ k → k ≤ p / 64 → has_bit (part ++ drop k ws) p ≡ has_bit ws p
+unfolding has_bit
+has_bit-behind part ws k p long behind =
+    let at : k + (p / 64 - k) ≡ p / 64 = omega (arith, behind) in
+    ap (λ w. bit w (p % 64)) (grind (arith, long, behind, at, get_or-append_right, get_or-drop))
+
+-- the words that the length needs have all the positions
+module _ (n : ℕ) (ws : List ℕ) (clean : IsClean n ws) (k : ℕ) (count : k ≡ words_needed n) where
+  pub length-used : length (take k ws) ≡ k
+  length-used = length-take-le k ws (omega (arith, clean.count, count))
+
+  pub has_bit-used : (p : ℕ) → has_bit (take k ws) p ≡ has_bit ws p
+  has_bit-used p = ⊎_elim
+      (λ (below : p < n). has_bit-take n k p ws (omega (arith, count)) below)
+      (λ (past : n ≤ p). ⊎_elim
+      (λ (held : p < 64 * k). has_bit-take (64 * k) k p ws (omega arith) held)
+      (λ (behind : 64 * k ≤ p). has_bit-past (take k ws) p (omega (arith, length-used)) ∙ sym (clean.tail p past))
+      (cases_lt p (64 * k)))
+      (cases_lt p n)
+
+  -- those behind them stay
+  pub keeps_used : (part : List ℕ) (v : Bits) → length part ≡ k → v.length ≡ n → ((p : ℕ) → p < 64 * k → has_bit part p ≡ contains v p) → Keeps n (part ++ drop k ws) v
+  keeps_used part v long same_length same =
+      keeps n (part ++ drop k ws) v clean.fits (omega (arith, length-appended part (drop k ws), length-drop k ws, long, clean.count, count)) same_length (λ p. ⊎_elim
+      (λ (below : p < 64 * k). has_bit-front part (drop k ws) p (omega (arith, long)) ∙ same p below)
+      (λ (behind : 64 * k ≤ p). has_bit-behind part ws k p long (omega (arith, behind)) ∙ clean.tail p (omega (arith, count)) ∙ sym (contains-past v p (omega (arith, count, same_length))))
+      (cases_lt p (64 * k)))
+
+  -- a row joined with the positions of a test, and then cut at n
+  pub keeps_used_moved : (mid part : List ℕ) (f : Bool → Bool → Bool) (test on : ℕ → Bool) → IsJoined f (take k ws) test mid → IsJoined (λ x y. x && y) mid (λ p. nat_lt p n) part
+      → ((p : ℕ) → test p ≡ on p) → Keeps n (part ++ drop k ws) (having n (λ p. f (has_bit ws p) (on p)))
+  keeps_used_moved mid part f test on moved cut same =
+      let passes : ℕ → Bool = λ p. f (has_bit ws p) (on p) in
+      keeps_used part (having n passes) (cut.long ∙ moved.long ∙ length-used) (length-having n passes)
+      (λ p within. grind (arith, nat_tests, count, length-used, moved.long, moved.bits p, cut.bits p, contains-having n passes p, same p, has_bit-used p))
+
+-- ---- the steps of these, and those of the lanes that are not moved
+
+swap : (o a b c : ℕ) → a ≤ b → o + (b - a) + (a + c) ≡ o + (b + c)
+swap o a b c less = omega (arith, less)
+
+swap_behind : (o a b c : ℕ) → a ≤ b → o + (b - a) + a + c ≡ o + b + c
+swap_behind o a b c less = omega (arith, less)
+
+lanes_less : (a b : ℕ) → a ≤ b → lane_steps a ≤ lane_steps b
+lanes_less a b less = omega (arith, less)
+
+-- a row and its whole lanes, up to a place
+lanes_upto : (k q : ℕ) → lane_steps (min k q) ≡ lane_steps (min (4 * div_ceil k 4) q)
+lanes_upto k q = ⊎_elim
+    (λ (lt : k < q).
+    let low : min k q ≡ k = omega arith in
+    rw low (omega arith))
+    (λ (ge : q ≤ k).
+    let low : min k q ≡ q = omega arith in
+    let high : min (4 * div_ceil k 4) q ≡ q = omega arith in
+    rw (low, high) refl)
+    (cases_lt k q)
+
+pub down_cost : (n q k long words old mid new : ℕ) → k ≡ words_needed n → long ≡ k → words ≡ storage_words n → mid ≡ old + (lane_steps (words - q) - lane_steps (k - q)) → new ≡ mid + join_steps false long (long - q)
+    → new ≡ old + join_steps false (storage_words n) (storage_words n - q)
+down_cost n q k long words old mid new used same count left moved =
+    let low : ℕ = words_needed n in
+    let kept : (m : ℕ) → min m (m - q) ≡ m - q = λ m. omega arith in
+    let behind : (m : ℕ) → m - (m - q) ≡ min m q = λ m. omega arith in
+    let more = lanes_less (low - q) (4 * div_ceil low 4 - q) (omega arith) in
+    rw (moved, left, same, count, used, kept low, kept (4 * div_ceil low 4), behind low, behind (4 * div_ceil low 4), lanes_upto low q)
+    (swap old (lane_steps (low - q)) (lane_steps (4 * div_ceil low 4 - q)) _ more)
+
+-- the same where they are moved up, and those below are cleared or not
+up_less : (a b by : ℕ) → a ≤ b → up_steps a by ≤ up_steps b by
+up_less a b by less = ⊎_elim
+    (λ (lt : a < div_ceil by 64). grind (arith, nat_tests, lt))
+    (λ (ge : div_ceil by 64 ≤ a). grind (arith, nat_tests, ge, less, lanes_less (a - div_ceil by 64) (b - div_ceil by 64) (omega (arith, less))))
+    (cases_lt a (div_ceil by 64))
+
+pub up_cost : (keep : Bool) (n by k long words old mid new : ℕ) → k ≡ words_needed n → long ≡ k → words ≡ storage_words n
+    → mid ≡ old + (up_steps words by - up_steps k by) → new ≡ mid + up_steps long by + (if keep then 0 else lane_steps (min long (by / 64)))
+    → new ≡ old + up_steps (storage_words n) by + (if keep then 0 else lane_steps (min (storage_words n) (by / 64)))
+up_cost keep n by k long words old mid new used same count left moved =
+    let low : ℕ = words_needed n in
+    let more = up_less low (4 * div_ceil low 4) by (omega arith) in
+    rw (moved, left, same, count, used, lanes_upto low (by / 64)) (swap_behind old (up_steps low by) (up_steps (4 * div_ceil low 4) by) _ more)
 
 -- ---- what the tests of moved rows mean
 
@@ -54,11 +152,12 @@ module _ (n : ℕ) (ws : List ℕ) (clean : IsClean n ws) where
   having_copy m = having_is m (has_bit ws) (resize (of_words n ws) m false) (length-resize _ m false) (λ p below. grind (arith, nat_tests, same p, contains-resize (of_words n ws) m false p))
 
   -- moved down, no position stands past the length
-  pub keeps_down : (by : ℕ) (new : List ℕ) → IsJoined (λ x y. y) ws (λ p. has_bit ws (by + p)) new → Keeps n new (shift_down (of_words n ws) by)
-  keeps_down by new moved =
-      keeps n new (shift_down (of_words n ws) by) clean.fits (moved.long ∙ clean.count) (length-shift_down (of_words n ws) by ∙ sym long) (λ p.
+  pub keeps_down_used : (k : ℕ) → k ≡ words_needed n → (by : ℕ) (part : List ℕ) → IsJoined (λ x y. y) (take k ws) (λ p. has_bit (take k ws) (by + p)) part
+      → Keeps n (part ++ drop k ws) (shift_down (of_words n ws) by)
+  keeps_down_used k count by part moved =
+      keeps_used n ws clean k count part (shift_down (of_words n ws) by) (moved.long ∙ length-used n ws clean k count) (length-shift_down (of_words n ws) by ∙ sym long) (λ p within.
       let turned : by + p ≡ p + by = omega arith in
-      grind (arith, nat_tests, turned, moved.long, moved.bits p, has_bit-past new p, has_bit-past ws (by + p), clean.tail (by + p), same (by + p), contains-shift_down (of_words n ws) by p, long))
+      grind (arith, nat_tests, turned, length-used n ws clean k count, moved.bits p, has_bit-used n ws clean k count (by + p), clean.tail (by + p), same (by + p), contains-shift_down (of_words n ws) by p, long))
 
   -- moved by 0, the value stays
   pub stays_up : of_words n ws ≡ shift_up (of_words n ws) 0

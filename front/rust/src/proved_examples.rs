@@ -1684,7 +1684,7 @@ fn fixedbitset_lent_ranges_97() {
 }
 
 #[test]
-fn fixedbitset_lent_shifts_10() {
+fn fixedbitset_lent_shifts_12() {
     use crate::proved::bitlanes::ops::*;
     use crate::proved::bitlanes::{word, Block, Steps};
     use crate::proved::bitwords::cursors::*;
@@ -1702,7 +1702,7 @@ fn fixedbitset_lent_shifts_10() {
 }
 
 #[test]
-fn fixedbitset_lent_shifts_33() {
+fn fixedbitset_lent_shifts_35() {
     use crate::proved::bitlanes::ops::*;
     use crate::proved::bitlanes::{word, Block, Steps};
     use crate::proved::bitwords::cursors::*;
@@ -1718,7 +1718,7 @@ fn fixedbitset_lent_shifts_33() {
 }
 
 #[test]
-fn fixedbitset_lent_shifts_52() {
+fn fixedbitset_lent_shifts_56() {
     use crate::proved::bitlanes::ops::*;
     use crate::proved::bitlanes::{word, Block, Steps};
     use crate::proved::bitwords::cursors::*;
@@ -1735,7 +1735,7 @@ fn fixedbitset_lent_shifts_52() {
 }
 
 #[test]
-fn fixedbitset_lent_shifts_88() {
+fn fixedbitset_lent_shifts_92() {
     use crate::proved::bitlanes::ops::*;
     use crate::proved::bitlanes::{word, Block, Steps};
     use crate::proved::bitwords::cursors::*;
@@ -1752,7 +1752,7 @@ fn fixedbitset_lent_shifts_88() {
 }
 
 #[test]
-fn fixedbitset_lent_shifts_117() {
+fn fixedbitset_lent_shifts_121() {
     use crate::proved::bitlanes::ops::*;
     use crate::proved::bitlanes::{word, Block, Steps};
     use crate::proved::bitwords::cursors::*;
@@ -1768,7 +1768,7 @@ fn fixedbitset_lent_shifts_117() {
 }
 
 #[test]
-fn fixedbitset_lent_shifts_147() {
+fn fixedbitset_lent_shifts_151() {
     use crate::proved::bitlanes::ops::*;
     use crate::proved::bitlanes::{word, Block, Steps};
     use crate::proved::bitwords::cursors::*;

@@ -11,7 +11,9 @@ ghost use Rattle.fixedbitset.specs.Bits.{of_words, having};
 ghost use Rattle.fixedbitset.specs.Parts as parts;
 ghost use Rattle.fixedbitset.specs.Stored.{IsClean};
 
+use bitlanes::lanes::LANE;
 use bitlanes::ops::{Or, Second, WordOp};
+use bitlanes::word::BITS;
 use bitlanes::{Block, Steps};
 use bitwords::{positions, ranges, shifts};
 
@@ -77,7 +79,9 @@ pub(crate) fn shift_down_counted(words: &mut [Block], length: usize, by: usize, 
         (model.storage_words length - by / 64) }
     ensures bound { steps.new ≤ steps.old + lane_steps (model.storage_words length) + 1 }
 {
-    shifts::down(words, by, steps);
+    let used = length.div_ceil(BITS);
+    tick_unmoved(words.len(), used, by / BITS, steps);
+    shifts::down(&mut words[..used], by, steps);
 }
 
 /// Takes in each position of the second set moved up by `by`, as far as it is below the length then.
@@ -292,6 +296,35 @@ fn join_own<O: WordOp>(words: &mut [Block], length: usize, by: usize, steps: &mu
     ensures cost { steps.new ≡ steps.old + up_steps (model.storage_words length) by
         + (if O.KEEP then 0 else lane_steps (min (model.storage_words length) (by / 64))) }
 {
+    let used = length.div_ceil(BITS);
+    tick_unmoved_up(words.len(), used, by, steps);
+    let words = &mut words[..used];
     shifts::up::<O>(words, by, steps);
     positions::clear_from(words, length);
+}
+
+// Counts the lanes that are not moved as they hold words past the length alone, which stay 0. It does nothing when the
+// program runs.
+#[inline(always)]
+fn tick_unmoved(words: usize, used: usize, first: usize, steps: &mut Steps)
+    ensures { steps.new ≡ steps.old + (lane_steps (words - first) - lane_steps (used - first)) }
+{
+    let lanes = words.saturating_sub(first).div_ceil(LANE);
+    let moved = used.saturating_sub(first).div_ceil(LANE);
+    for _ in 0..lanes.saturating_sub(moved) {
+        steps.tick();
+    }
+}
+
+// The same where the words are moved up, and the first of them has fewer than 64 bits below it.
+#[inline(always)]
+fn tick_unmoved_up(words: usize, used: usize, by: usize, steps: &mut Steps)
+    requires { used ≤ words }
+    ensures { steps.new ≡ steps.old + (up_steps words by - up_steps used by) }
+{
+    let first = by.div_ceil(BITS);
+    tick_unmoved(words, used, first, steps);
+    if used < first && first <= words && by % BITS > 0 {
+        steps.tick();
+    }
 }

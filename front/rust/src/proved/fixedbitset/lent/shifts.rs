@@ -1,7 +1,9 @@
 // Made by front/erase from crates/fixedbitset/src/lent/shifts.rt: change that, and not this.
 //! Positions moved up or down, sets joined with moved ones, and parts.
 
+use crate::proved::bitlanes::lanes::LANE;
 use crate::proved::bitlanes::ops::{Or, Second, WordOp};
+use crate::proved::bitlanes::word::BITS;
 use crate::proved::bitlanes::{Block, Steps};
 use crate::proved::bitwords::{positions, ranges, shifts};
 
@@ -44,7 +46,9 @@ pub fn shift_down(words: &mut [Block], length: usize, by: usize) {
 // `shift_down`, with its steps.
 #[inline]
 pub(crate) fn shift_down_counted(words: &mut [Block], length: usize, by: usize, steps: &mut Steps) {
-    shifts::down(words, by, steps);
+    let used = length.div_ceil(BITS);
+    tick_unmoved(words.len(), used, by / BITS, steps);
+    shifts::down(&mut words[..used], by, steps);
 }
 
 /// Takes in each position of the second set moved up by `by`, as far as it is below the length then.
@@ -183,6 +187,30 @@ pub(crate) fn copy_range_counted(
 // Joins each position by `O` with the one that stood `by` below it, and cuts the words at the length.
 #[inline(always)]
 fn join_own<O: WordOp>(words: &mut [Block], length: usize, by: usize, steps: &mut Steps) {
+    let used = length.div_ceil(BITS);
+    tick_unmoved_up(words.len(), used, by, steps);
+    let words = &mut words[..used];
     shifts::up::<O>(words, by, steps);
     positions::clear_from(words, length);
+}
+
+// Counts the lanes that are not moved as they hold words past the length alone, which stay 0. It does nothing when the
+// program runs.
+#[inline(always)]
+fn tick_unmoved(words: usize, used: usize, first: usize, steps: &mut Steps) {
+    let lanes = words.saturating_sub(first).div_ceil(LANE);
+    let moved = used.saturating_sub(first).div_ceil(LANE);
+    for _ in 0..lanes.saturating_sub(moved) {
+        steps.tick();
+    }
+}
+
+// The same where the words are moved up, and the first of them has fewer than 64 bits below it.
+#[inline(always)]
+fn tick_unmoved_up(words: usize, used: usize, by: usize, steps: &mut Steps) {
+    let first = by.div_ceil(BITS);
+    tick_unmoved(words, used, first, steps);
+    if used < first && first <= words && by % BITS > 0 {
+        steps.tick();
+    }
 }
