@@ -1,7 +1,9 @@
 -- Numbers that pass a test and follow each other, and the first place with room for so many.
-use Rattle.std.specs.Prelude.{ℕ, suc, zero, ◌+◌, ◌-◌, Bool, true, not, ◌&&◌, nat_le, Option, slice_get}
+use Rattle.std.specs.Prelude.{ℕ, suc, zero, ◌+◌, ◌-◌, ◌*◌, ◌/◌, ◌%◌, ◌==◌, Bool, true, not, ◌&&◌, nat_le, Option, slice_get}
 use Rattle.bitlanes.specs.Bits.{bit}
+use Rattle.bitlanes.specs.Words.{lane_steps}
 use Rattle.bitwords.specs.Ascending.{ascending}
+use Rattle.bitwords.specs.Steps.{range_words}
 
 -- whether the k numbers from i on pass
 abbrev pub all_pass : (ℕ → Bool) → ℕ → ℕ → Bool
@@ -19,3 +21,15 @@ has_room_in taken end count p = nat_le (p + count) end && all_pass (λ q. not (t
 -- the least number at or past `from` with so much room
 unfoldable pub first_room : (ℕ → Bool) → (end count from : ℕ) → Option ℕ
 first_room taken end count from = slice_get (ascending (has_room_in taken end count) from (end + 1 - from)) 0
+
+-- whether p is a multiple: of 0 that is 0 alone, for the rest of p by 0 is p
+abbrev pub is_multiple : (align p : ℕ) → Bool
+is_multiple align p = p % align == 0
+
+-- the least multiple of `align` at or past `from` with so much room
+unfoldable pub first_aligned_room : (ℕ → Bool) → (end count align from : ℕ) → Option ℕ
+first_aligned_room taken end count align from = slice_get (ascending (λ p. is_multiple align p && has_room_in taken end count p) from (end + 1 - from)) 0
+
+-- the steps of such a search at most: twice those of the lanes of the range, and two for each multiple in it
+abbrev pub aligned_steps : (align start end : ℕ) → ℕ
+aligned_steps align start end = 2 * lane_steps (range_words start end) + 2 * ((end - start) / align + 1)

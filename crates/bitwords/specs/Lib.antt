@@ -8,6 +8,7 @@ pub mod Runs
 pub mod Gaps
 -- facts for callers
 pub mod AscendingFacts
+pub mod NextFacts
 pub mod RunsFacts
 pub mod GapsFacts
 pub mod CountFacts

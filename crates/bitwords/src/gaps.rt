@@ -3,12 +3,13 @@
 //! A step is one lane of four words, from the word of the position on where a search begins: each lane counts once, as its
 //! first word is looked at.
 
-ghost use Rattle.std.specs.Prelude.{◌≡◌, ◌≢◌, ℕ, ◌+◌, ◌-◌, ◌*◌, ◌^◌, ◌<◌, ◌≤◌, length, map, slice_index, IfSome, IfNone};
+ghost use Rattle.std.specs.Prelude.{◌≡◌, ◌≢◌, ℕ, ◌+◌, ◌-◌, ◌*◌, ◌^◌, ◌<◌, ◌≤◌, length, map, slice_index, IfSome, IfNone, MatchOption};
 ghost use Rattle.std.specs.Int.{bit_at};
 ghost use Rattle.bitlanes.specs.Bits.{bit};
 ghost use Rattle.bitlanes.specs.Word.{IsLowestBit};
 ghost use Rattle.bitlanes.specs.Words.{lane_steps};
-ghost use Rattle.bitwords.specs.Gaps.{has_run, first_room};
+ghost use Rattle.bitwords.specs.Gaps.{has_run, is_multiple, first_room, first_aligned_room, aligned_steps};
+ghost use Rattle.bitwords.specs.Neighbours.{NonePasses, IsNext};
 ghost use Rattle.bitwords.specs.Rows.{has_bit};
 ghost use Rattle.bitwords.specs.Steps.{range_words};
 
@@ -55,6 +56,60 @@ pub fn first(
         return Some(from);
     }
     first_of_some(words, from, end, count, steps)
+}
+
+/// The least multiple of `align` at or past `from` with `count` positions from there on that are clear and below `end`, or
+/// `None` where there is none. The only multiple of 0 is 0. The end may not be past the words.
+///
+/// It looks for a stretch by [`first`], and again from the next multiple on where the stretch begins at none. So it looks at
+/// each position twice at most. It takes at most two steps for each lane of four words up to `end`, and two for each multiple.
+///
+/// ```
+/// let mut steps = Steps::new();
+/// assert_eq!(rt; gaps::first_aligned(&[0xf1f, 1], 1, 128, 3, 4, &mut steps), Some(12));
+/// assert_eq!(rt; gaps::first_aligned(&[0xf1f, 1], 0, 128, 60, 12, &mut steps), Some(72));
+/// assert_eq!(rt; gaps::first_aligned(&[0xf1f, 1], 0, 128, 3, 0, &mut steps), None);
+/// ```
+#[inline]
+pub fn first_aligned(
+    words: &[Block],
+    from: usize,
+    end: usize,
+    count: usize,
+    align: usize,
+    steps: &mut Steps,
+) -> Option<usize>
+    requires { end ≤ 64 * length words.now }
+    ensures gap { result ≡ first_aligned_room (has_bit words.now) end count align from }
+    ensures cost { steps.new ≤ steps.old + aligned_steps align from end }
+    ensures least { IfSome result
+        (λ p. steps.old + lane_steps (range_words p (p + count)) ≤ steps.new) }
+    ensures grows { steps.old ≤ steps.new }
+{
+    let mut at = multiple_from(align, from)?;
+    loop {
+        let found = first(words, at, end, count, steps)?;
+        let next = multiple_from(align, found)?;
+        if next == found {
+            return Some(found);
+        }
+        at = next;
+    }
+}
+
+// The least multiple of `align` at or past a number, or `None` where no `usize` is one. 0 is a multiple of all numbers.
+#[inline(always)]
+#[tactic(auto, using(crate::proofs::Multiples::zero_first))]
+fn multiple_from(align: usize, number: usize) -> Option<usize>
+    ensures { MatchOption result
+        (NonePasses (is_multiple align) number (2 ^ 64))
+        (IsNext (is_multiple align) number (2 ^ 64)) }
+{
+    if number == 0 {
+        Some(0)
+    } else {
+        number.checked_next_multiple_of(align)
+    }
 }
 
 // `first`, where some positions are wanted, and as many are left.

@@ -1,0 +1,201 @@
+-- The first multiple with room, found among all places with room.
+use Rattle.std.proofs.Common.{◌≡◌, ◌≢◌, ℕ, inl, inr, ◌+◌, ◌-◌, ◌*◌, ◌^◌, ◌<◌, ◌≤◌, ◌&&◌, ◌/◌, min, max, not, nat_le, Bool, true, false, Option, Some, None, MatchOption, subst, sym, ap, ◌∙◌, arith}
+use Rattle.std.proofs.lemmas.Bool.{cases_lt, cases_eq, cases_Bool, lt-ltb, le-ltb, le-leb, true≢false}
+use Rattle.std.proofs.lemmas.Bool.Decides.{nat_tests}
+use Rattle.std.proofs.Math.Bool.{and-false}
+use Rattle.std.proofs.lemmas.Nat.{le-div}
+use Rattle.bitlanes.specs.Words.{lane_steps}
+use Rattle.bitwords.specs.Steps.{range_words}
+use Rattle.bitwords.specs.GapsFacts.{pass-fails}
+use Rattle.bitwords.specs.Gaps.{is_multiple, has_room_in, first_room, first_aligned_room, aligned_steps}
+use Rattle.bitwords.specs.Neighbours.{NonePasses, IsNext}
+use Rattle.bitwords.specs.NextFacts.{first_is, first_tells}
+use Rattle.bitwords.proofs.Multiples.{none_of_zero, multiples_apart}
+use Rattle.bitwords.proofs.RunStarts.{pass-holds}
+
+module _ (taken : ℕ → Bool) (end count align from : ℕ) where
+  -- whether p is a multiple with room
+  abbrev pub aligned : ℕ → Bool
+  aligned p = is_multiple align p && has_room_in taken end count p
+
+  -- what has room ends before the end
+  pub room_within : (p : ℕ) → has_room_in taken end count p ≡ true → p + count ≤ end
+  unfolding has_room_in
+  room_within p room = grind (arith, nat_tests)
+
+  not_past : (p : ℕ) → end + 1 ≤ p → aligned p ≡ false
+  unfolding has_room_in
+  not_past p past = grind (arith, nat_tests)
+
+  -- where no number from `low` on passes, no number does that passes another test too
+  pub none_multiple : (low high : ℕ) → NonePasses (is_multiple align) low high → NonePasses aligned low high
+  none_multiple low high none i above below = (let e = none i above below in λ j. e j && has_room_in taken end count i)
+
+  pub none_with_room : (low high : ℕ) → NonePasses (has_room_in taken end count) low high → NonePasses aligned low high
+  none_with_room low high none i above below = ap (λ b. is_multiple align i && b) (none i above below) ∙ and-false (is_multiple align i)
+
+  pub none_joined : (low middle high : ℕ) → NonePasses aligned low middle → NonePasses aligned middle high → NonePasses aligned low high
+  none_joined low middle high before behind i above below = elim (cases_lt i middle) [
+    | inl early ↦ before i above early
+    | inr late ↦ behind i late below
+  ]
+
+  pub no_aligned_room : NonePasses aligned from (end + 1) → None ≡ first_aligned_room taken end count align from
+  unfolding first_aligned_room
+  no_aligned_room none = first_is aligned from (end + 1 - from) None (λ i above below. none i above (omega arith))
+
+  pub aligned_room : (p : ℕ) → from ≤ p → is_multiple align p ≡ true → has_room_in taken end count p ≡ true → NonePasses aligned from p → Some p ≡ first_aligned_room taken end count align from
+  unfolding first_aligned_room
+  aligned_room p after multiple room none = first_is aligned from (end + 1 - from) (Some p) (record {
+    after = after;
+    below = omega (arith, after, room_within p room);
+    passes = (let r = room in λ j. multiple j && r j);
+    none = none;
+  })
+
+-- ---- what a search tells
+
+module _ (test : ℕ → Bool) (low high : ℕ) where
+  pub told_none : (found : Option ℕ) → MatchOption found (NonePasses test low high) (IsNext test low high) → found ≡ None → NonePasses test low high
+  told_none found told is = subst (λ o. MatchOption o (NonePasses test low high) (IsNext test low high)) is told
+
+  pub told_next : (found : Option ℕ) (p : ℕ) → MatchOption found (NonePasses test low high) (IsNext test low high) → found ≡ Some p → IsNext test low high p
+  told_next found p told is = subst (λ o. MatchOption o (NonePasses test low high) (IsNext test low high)) is told
+
+-- what a search for room tells
+pub room_tells : (taken : ℕ → Bool) (end count at : ℕ) (found : Option ℕ) → found ≡ first_room taken end count at
+    → MatchOption found (NonePasses (has_room_in taken end count) at (end + 1)) (IsNext (has_room_in taken end count) at (end + 1))
+unfolding first_room
+room_tells taken end count at found is = told found (first_tells (has_room_in taken end count) at (end + 1 - at) found is)
+  where
+    told : (o : Option ℕ) → MatchOption o (NonePasses (has_room_in taken end count) at (at + (end + 1 - at))) (IsNext (has_room_in taken end count) at (at + (end + 1 - at)))
+        → MatchOption o (NonePasses (has_room_in taken end count) at (end + 1)) (IsNext (has_room_in taken end count) at (end + 1))
+    told None none = λ i above below. none i above (omega arith)
+    told (Some p) next = record { after = next.after; below = omega (arith, next.after, next.below); passes = next.passes; none = next.none }
+
+-- ---- the steps
+
+-- those of one search
+turn_most : (at end : ℕ) → 256 * lane_steps (range_words at end) ≤ end - at + 318
+turn_most at end = elim (cases_lt at end) [
+  | inl some ↦ rw (lt-ltb at end some) (omega (arith, some))
+  | inr none ↦ rw (le-ltb at end none) (omega arith)
+]
+
+no_turn : (at end : ℕ) → end ≤ at → lane_steps (range_words at end) ≡ 0
+no_turn at end none = rw (le-ltb at end none) (omega arith)
+
+-- a search that begins later takes no more
+fewer_later : (at p end : ℕ) → at ≤ p → lane_steps (range_words p end) ≤ lane_steps (range_words at end)
+fewer_later at p end later = elim (cases_lt p end) [
+  | inl some ↦ rw (lt-ltb p end some, lt-ltb at end (omega (arith, some, later))) (omega (arith, later))
+  | inr none ↦ omega (arith, no_turn p end none)
+]
+
+range_least : (from end : ℕ) → end - from ≤ 256 * lane_steps (range_words from end)
+range_least from end = elim (cases_lt from end) [
+  | inl some ↦ rw (lt-ltb from end some) (omega (arith, some))
+  | inr none ↦ omega (arith, none)
+]
+
+module _ (taken : ℕ → Bool) (end count align from : ℕ) where
+  room_clear : (p q : ℕ) → has_room_in taken end count p ≡ true → p ≤ q → q < p + count → not (taken q) ≡ true
+  unfolding has_room_in
+  room_clear p q room above below = elim (cases_Bool (not (taken q))) [
+    | inl free ↦ free
+    | inr set ↦ absurd (true≢false (sym room ∙ ap (λ b. nat_le (p + count) end && b) (pass-fails (λ x. not (taken x)) count p q above below set) ∙ and-false (nat_le (p + count) end)))
+  ]
+
+  clear_room : (p : ℕ) → p + count ≤ end → ((q : ℕ) → p ≤ q → q < p + count → not (taken q) ≡ true) → has_room_in taken end count p ≡ true
+  unfolding has_room_in
+  clear_room p within clear =
+      let fits : nat_le (p + count) end ≡ true = le-leb (p + count) end within in
+      let free = pass-holds (λ x. not (taken x)) count p clear in
+      λ j. fits j && free j
+
+  -- what so many searches took, where the last stretch found ends at `reach`, and the next search begins at the multiple `at`
+  pub record IsSpent (before at after turns reach : ℕ) : Type 0 where
+    pub multiple : is_multiple align at ≡ true
+    pub behind : from ≤ at
+    pub within : reach ≤ max from end
+    pub clear : (q : ℕ) → at ≤ q → q < reach → not (taken q) ≡ true
+    pub positive : 0 < turns → 0 < align
+    pub apart : turns * align ≤ at - from
+    pub few : turns ≤ (end - from) / align + 1
+    pub grown : before ≤ after
+    pub cost : 256 * after ≤ 256 * before + (min at end - from) + (reach - from) + 318 * turns
+
+  pub none_spent : (steps at : ℕ) → is_multiple align at ≡ true → from ≤ at → IsSpent steps at steps 0 from
+  none_spent steps at multiple behind = record {
+    multiple = multiple;
+    behind = behind;
+    within = omega arith;
+    clear = λ q above below. absurd (omega (arith, behind, above, below));
+    positive = λ some. absurd (omega (arith, some));
+    apart = omega arith;
+    few = omega arith;
+    grown = omega arith;
+    cost = omega arith;
+  }
+
+  module _ (before at steps turns reach : ℕ) (spent : IsSpent before at steps turns reach) where
+    -- so many multiples are at most in the range
+    few_at : at ≤ end → turns + 1 ≤ (end - from) / align + 1
+    few_at order = elim (cases_lt 0 turns) [
+      | inl some ↦
+          let most : turns ≤ (end - from) / align = le-div turns (end - from) align (spent.positive some) (omega (arith, spent.apart, order)) in
+          omega (arith, most)
+      | inr none ↦ omega (arith, none)
+    ]
+
+    pub spent_in_all : (new : ℕ) → new ≤ steps + lane_steps (range_words at end) → new ≤ before + aligned_steps align from end
+    spent_in_all new most = elim (cases_lt end at) [
+      | inl past ↦ omega (arith, most, no_turn at end (omega (arith, past)), spent.cost, spent.few, range_least from end, spent.within)
+      | inr order ↦ omega (arith, most, spent.cost, few_at order, turn_most at end, range_least from end, spent.within, order, spent.behind)
+    ]
+
+  module _ (before at steps turns reach p : ℕ) (spent : IsSpent before at steps turns reach) (found : IsNext (has_room_in taken end count) at (end + 1) p) where
+    -- the last search alone took so many
+    pub spent_last : (new : ℕ) → new ≡ steps + lane_steps (range_words at (p + count)) → before + lane_steps (range_words p (p + count)) ≤ new
+    spent_last new is = omega (arith, is, spent.grown, fewer_later at p (p + count) found.after)
+
+    ends : p + count ≤ end
+    ends = room_within taken end count align from p found.passes
+
+    -- where the stretch begins within the last one, it begins at the multiple
+    at_multiple : p < reach → p ≡ at
+    at_multiple inside = elim (cases_lt at p) [
+      | inl early ↦ absurd (true≢false (sym (clear_room at (omega (arith, early, ends)) (λ q above below. elim (cases_lt q p) [
+        | inl before_p ↦ spent.clear q above (omega (arith, before_p, inside))
+        | inr from_p ↦ room_clear p q found.passes from_p (omega (arith, below, early))
+      ])) ∙ found.none at (omega arith) early))
+      | inr late ↦ omega (arith, late, found.after)
+    ]
+
+    module _ (next new : ℕ) (multiple : IsNext (is_multiple align) p (2 ^ 64) next) (other : next ≢ p) (is : new ≡ steps + lane_steps (range_words at (p + count))) where
+      not_inside : reach ≤ p
+      not_inside = elim (cases_lt p reach) [
+        | inl inside ↦
+            let here : is_multiple align p ≡ true = ap (is_multiple align) (at_multiple inside) ∙ spent.multiple in
+            absurd (true≢false (sym here ∙ multiple.none p (omega arith) (omega (arith, multiple.after, other))))
+        | inr behind ↦ behind
+      ]
+
+      positive : 0 < align
+      positive = elim (cases_eq align 0) [
+        | inl zeros ↦ absurd (true≢false (sym multiple.passes ∙ ap (λ a. is_multiple a next) zeros ∙ none_of_zero next (omega (arith, multiple.after, other))))
+        | inr some ↦ omega (arith, some)
+      ]
+
+      pub more_spent : IsSpent before next new (turns + 1) (p + count)
+      more_spent = record {
+        multiple = multiple.passes;
+        behind = omega (arith, spent.behind, found.after, multiple.after);
+        within = omega (arith, ends);
+        clear = λ q above below. room_clear p q found.passes (omega (arith, multiple.after, above)) below;
+        positive = λ _. positive;
+        apart = (let far = multiples_apart align at next spent.multiple multiple.passes (omega (arith, found.after, multiple.after, other)) in omega (arith, far, spent.apart, spent.behind));
+        few = few_at before at steps turns reach spent (omega (arith, found.after, ends));
+        grown = omega (arith, spent.grown, is);
+        cost = omega (arith, spent.cost, is, turn_most at (p + count), not_inside, ends, found.after, multiple.after, other, spent.behind);
+      }
