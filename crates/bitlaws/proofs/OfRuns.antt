@@ -4,6 +4,7 @@ use Rattle.std.proofs.lemmas.Bool.{not-true, not-false, cases_eq, true≢false}
 use Rattle.std.proofs.lemmas.Bool.Decides.{nat_tests}
 use Rattle.bitwords.specs.AscendingFacts.{ascending-none, first-from}
 use Rattle.bitwords.specs.Neighbours.{IsNext, NonePasses}
+use Rattle.bitwords.specs.NextFacts.{least}
 use Rattle.bitwords.specs.Runs.{begins, end_from, stretches}
 use Rattle.bitwords.specs.RunsFacts.{around, none_begin, ends_at, ends_last}
 use Rattle.bitlaws.specs.RunLaws.{AreStretches, RunsAreTheSet, ZeroRunsAreTheOthers, RoomTells, GapIsLeast}
@@ -12,16 +13,6 @@ use Rattle.fixedbitset.specs.BitsFacts.{length-complement}
 use Rattle.fixedbitset.specs.RangesFacts.{contains_any-tells}
 use Rattle.fixedbitset.specs.Ranges.{contains_any}
 use Rattle.fixedbitset.specs.Runs.{runs, zero_runs, has_room, first_gap}
-
--- the least number that passes, if there is one
-least : (test : ℕ → Bool) (k low end : ℕ) → low + k ≡ end → NonePasses test low end ⊎ ((p : ℕ) × IsNext test low end p)
-least test zero low end is = inl (λ i above below. absurd (omega (arith, above, below)))
-least test (suc k) low end is = at_low (test low) refl (least test k (low + 1) end (omega arith))
-  where
-    at_low : (b : Bool) → test low ≡ b → NonePasses test (low + 1) end ⊎ ((p : ℕ) × IsNext test (low + 1) end p) → NonePasses test low end ⊎ ((p : ℕ) × IsNext test low end p)
-    at_low true passes rest = inr (low, record { after = omega arith; below = omega arith; passes = passes; none = λ i above below. absurd (omega arith) })
-    at_low false fails (inl none) = inl (λ i above below. grind (arith, none i))
-    at_low false fails (inr next) = inr (next.0, record { after = omega (arith, next.1.after); below = next.1.below; passes = next.1.passes; none = λ i above below. grind (arith, next.1.none i) })
 
 module _ (test : ℕ → Bool) (n : ℕ) where
   -- what begins at `low` is not cut by it

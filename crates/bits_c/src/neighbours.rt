@@ -1,11 +1,13 @@
 //! The positions of a set next to a given one. Any number may be given.
 
-ghost use Rattle.std.specs.Prelude.{◌≡◌, unwrap_or};
+ghost use Rattle.std.specs.Prelude.{◌≡◌, if◌then◌else◌, unwrap_or};
 ghost use Rattle.bits_c.specs.Sets.{value};
 ghost use Rattle.fixedbitset.specs.Neighbours as neighbours;
+ghost use Rattle.fixedbitset.specs.Ranges.{is_valid};
 ghost use Rattle.fixedbitset.specs.Runs as stretches;
 
 use crate::NONE;
+use crate::ranges::bits_range_is_valid;
 use crate::structs::Set;
 use fixedbitset::lent;
 
@@ -31,6 +33,27 @@ pub extern "C" fn bits_first_gap(set: &Set<'_>, count: usize, from: usize) -> us
     ensures { result ≡ unwrap_or (stretches.first_gap (value set.now) count from) NONE }
 {
     lent::first_gap(set.words, set.length, count, from).unwrap_or(NONE)
+}
+
+/// The least multiple of `align` in the range with `count` clear positions from there on, all in the range, or `NONE`; `NONE`
+/// too where the range is not valid.
+#[unsafe(no_mangle)]
+pub extern "C" fn bits_first_aligned_gap(
+    set: &Set<'_>,
+    count: usize,
+    align: usize,
+    start: usize,
+    end: usize,
+) -> usize
+    ensures { result ≡ (if is_valid (value set.now) start end
+        then unwrap_or (stretches.first_aligned_gap count align (value set.now) start end) NONE
+        else NONE) }
+{
+    if bits_range_is_valid(set, start, end) {
+        lent::first_aligned_gap(set.words, set.length, count, align, start, end).unwrap_or(NONE)
+    } else {
+        NONE
+    }
 }
 
 /// The greatest position below `below` that is set, or `NONE`.

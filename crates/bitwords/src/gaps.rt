@@ -67,7 +67,7 @@ pub fn first(
 /// ```
 /// let mut steps = Steps::new();
 /// assert_eq!(rt; gaps::first_aligned(&[0xf1f, 1], 1, 128, 3, 4, &mut steps), Some(12));
-/// assert_eq!(rt; gaps::first_aligned(&[0xf1f, 1], 0, 128, 60, 12, &mut steps), Some(72));
+/// assert_eq!(rt; gaps::first_aligned(&[0xf1f, 1], 0, 128, 56, 12, &mut steps), Some(72));
 /// assert_eq!(rt; gaps::first_aligned(&[0xf1f, 1], 0, 128, 3, 0, &mut steps), None);
 /// ```
 #[inline]

@@ -5,13 +5,13 @@ use Rattle.std.proofs.lemmas.Bool.Decides.{leb_tells}
 use lib.Dec.{leb}
 use Rattle.bitwords.specs.Ascending.{ascending}
 use Rattle.bitwords.specs.AscendingFacts.{ascending-same}
-use Rattle.bitwords.specs.Gaps.{all_pass, has_room_in, first_room}
+use Rattle.bitwords.specs.Gaps.{all_pass, is_multiple, has_room_in, first_room, first_aligned_room}
 use Rattle.bitwords.specs.GapsFacts.{pass-fails, pass-finds}
 use Rattle.bitwords.specs.Rows.{has_bit}
 use Rattle.fixedbitset.specs.Bits.{contains, of_words}
 use Rattle.fixedbitset.specs.Ranges.{contains_any}
 use Rattle.fixedbitset.specs.RangesFacts.{contains_any-tells}
-use Rattle.fixedbitset.specs.Runs.{has_room, first_gap}
+use Rattle.fixedbitset.specs.Runs.{has_room, first_gap, first_aligned_gap}
 use Rattle.fixedbitset.specs.WordsFacts.{length-of_words, contains-of_words}
 
 module _ (n : ℕ) (ws : List ℕ) (count p : ℕ) where
@@ -58,6 +58,27 @@ unfolding first_room first_gap
 same_gap n ws count from =
     ap (λ m. slice_get (ascending (has_room_in (has_bit ws) n count) from (m + 1 - from)) 0) (sym (length-of_words n ws))
     ∙ ap (λ xs. slice_get xs 0) (ascending-same (has_room_in (has_bit ws) n count) (has_room (of_words n ws) count) from ((of_words n ws).length + 1 - from) (λ q _ _. sym (same_room n ws count q)))
+
+-- an end at or below the length is the only one that tells
+room_below : (n : ℕ) (ws : List ℕ) (count end q : ℕ) → end ≤ n → has_room_in (has_bit ws) end count q ≡ (nat_le (q + count) end && has_room_in (has_bit ws) n count q)
+unfolding has_room_in
+room_below n ws count end q within = by_end (leb_tells (q + count) end)
+  where
+    free : Bool
+    free = all_pass (λ x. not (has_bit ws x)) count q
+
+    by_end : ((leb (q + count) end ≡ true) × (q + count ≤ end)) ⊎ ((leb (q + count) end ≡ false) × (end < q + count)) → (nat_le (q + count) end && free) ≡ (nat_le (q + count) end && (nat_le (q + count) n && free))
+    by_end (inl (_, fits)) =
+        let below : nat_le (q + count) n ≡ true = le-leb (q + count) n (omega (arith, fits, within)) in
+        λ j. nat_le (q + count) end && (sym below j && free)
+    by_end (inr (past, _)) = (λ j. past j && free) ∙ sym (λ j. past j && (nat_le (q + count) n && free))
+
+-- so the first one at a multiple is the same
+pub same_aligned_gap : (n : ℕ) (ws : List ℕ) (count align start end : ℕ) → end ≤ n → first_aligned_room (has_bit ws) end count align start ≡ first_aligned_gap count align (of_words n ws) start end
+unfolding first_aligned_room first_aligned_gap
+same_aligned_gap n ws count align start end within =
+    ap (λ xs. slice_get xs 0) (ascending-same (λ q. is_multiple align q && has_room_in (has_bit ws) end count q) (λ q. is_multiple align q && (nat_le (q + count) end && has_room (of_words n ws) count q)) start (end + 1 - start) (λ q _ _.
+    ap (λ r. is_multiple align q && r) (room_below n ws count end q within ∙ ap (λ r. nat_le (q + count) end && r) (sym (same_room n ws count q)))))
 
 pub equal_le : {a b : ℕ} → a ≡ b → b ≤ a
 equal_le e = omega (arith, e)

@@ -13,7 +13,9 @@ pub use changes::{
     difference_with_change, intersect_with_change, union_with_change, union_with_difference,
 };
 pub use copies::{bitand, bitor, bitxor, clone_from};
-pub use neighbours::{first_gap, next_one, next_zero, previous_one, previous_zero};
+pub use neighbours::{
+    first_aligned_gap, first_gap, next_one, next_zero, previous_one, previous_zero,
+};
 pub use ranges::{
     contains_all_in_range, contains_any_in_range, count_ones, count_zeroes, insert_range,
     remove_range, toggle_range,

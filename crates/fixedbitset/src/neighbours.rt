@@ -1,14 +1,17 @@
 //! The positions of a set next to a given one. Upstream has no such calls.
 //!
-//! Any number may be asked for, at or past the length too. No call takes memory. Each looks at the word of the number,
+//! Any number may be asked for, at or past the length too; a range has to be valid. No call takes memory. Each looks at the word of the number,
 //! and then at sixteen words at a time, or four, up to those that have the position.
 
-ghost use Rattle.std.specs.Prelude.{◌≡◌};
+ghost use Rattle.std.specs.Prelude.{◌≡◌, IsTrue};
 ghost use Rattle.fixedbitset.specs.Neighbours as neighbours;
+ghost use Rattle.fixedbitset.specs.Ranges as ranges;
+ghost use Rattle.fixedbitset.specs.Ranges.{over};
 ghost use Rattle.fixedbitset.specs.Runs as stretches;
 
-use crate::lent;
 use crate::set::FixedBitSet;
+use crate::{counted, lent};
+use bitlanes::{IndexRange, Steps};
 
 impl FixedBitSet {
     /// The least position at or past `from` that is set, or `None` where none is.
@@ -57,6 +60,32 @@ impl FixedBitSet {
         ensures { result ≡ stretches.first_gap self.now count from }
     {
         lent::first_gap(&self.words, self.length, count, from)
+    }
+
+    /// The least multiple of `align` in the range with `count` clear positions from there on, all in the range, or `None`
+    /// where there is none. With a `count` of 0 that may be the end of the range. The only multiple of 0 is 0. The range must
+    /// be valid, as that of [`count_ones`](Self::count_ones).
+    ///
+    /// It looks at no position more than twice: for a stretch, and from the next multiple on where the stretch begins at none.
+    ///
+    /// ```
+    /// let mut set = FixedBitSet::from_iter(alloc, [3, 6, 90])?;
+    /// assert_eq!(rt; set.first_aligned_gap(3, 4, 1..), Some(8));
+    /// assert_eq!(rt; set.first_aligned_gap(3, 4, 9..), Some(12));
+    /// assert_eq!(rt; set.first_aligned_gap(3, 4, 9..14), None);
+    /// ```
+    #[inline]
+    pub fn first_aligned_gap<R: IndexRange<usize> + Drop>(
+        &self,
+        count: usize,
+        align: usize,
+        range: R,
+    ) -> Option<usize>
+        requires { IsTrue (over ranges.is_valid self.now (R.start_of range) (R.end_of range)) }
+        ensures { result ≡ over (stretches.first_aligned_gap count align) self.now
+            (R.start_of range) (R.end_of range) }
+    {
+        counted::first_aligned_gap(self, count, align, range, &mut Steps::new())
     }
 
     /// The greatest position below `below` that is set, or `None` where none is.

@@ -41,6 +41,17 @@ fn first_gap(rt: HostRuntime) {
 }
 
 #[test]
+fn first_aligned_gap(rt: HostRuntime) {
+    let alloc = rt.alloc();
+    let set = set_of(&rt, alloc, &[3, 6, 90]);
+    equal(
+        &rt,
+        counted::first_aligned_gap(&set, 3, 4, 9.., &mut Steps::new()),
+        Some(12),
+    );
+}
+
+#[test]
 #[tactic(auto, using(fixedbitset::specs::BitsFacts::facts))]
 fn previous_one(rt: HostRuntime) {
     let alloc = rt.alloc();

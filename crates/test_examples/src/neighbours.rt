@@ -32,6 +32,15 @@ fn first_gap(rt: HostRuntime) {
 }
 
 #[test]
+fn first_aligned_gap(rt: HostRuntime) {
+    let alloc = rt.alloc();
+    let mut set = set_of(&rt, alloc, &[3, 6, 90]);
+    equal(&rt, set.first_aligned_gap(3, 4, 1..), Some(8));
+    equal(&rt, set.first_aligned_gap(3, 4, 9..), Some(12));
+    equal(&rt, set.first_aligned_gap(3, 4, 9..14), None);
+}
+
+#[test]
 #[tactic(auto, using(fixedbitset::specs::BitsFacts::facts, fixedbitset::specs::RangesFacts::facts))]
 fn previous_one(rt: HostRuntime) {
     let alloc = rt.alloc();

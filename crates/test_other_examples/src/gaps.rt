@@ -19,3 +19,23 @@ fn first(rt: HostRuntime) {
     );
     equal(&rt, gaps::first(&[0xf0f, 1], 0, 124, 60, &mut steps), None);
 }
+
+#[test]
+fn first_aligned(rt: HostRuntime) {
+    let mut steps = Steps::new();
+    equal(
+        &rt,
+        gaps::first_aligned(&[0xf1f, 1], 1, 128, 3, 4, &mut steps),
+        Some(12),
+    );
+    equal(
+        &rt,
+        gaps::first_aligned(&[0xf1f, 1], 0, 128, 56, 12, &mut steps),
+        Some(72),
+    );
+    equal(
+        &rt,
+        gaps::first_aligned(&[0xf1f, 1], 0, 128, 3, 0, &mut steps),
+        None,
+    );
+}

@@ -10,6 +10,8 @@ const LENGTHS: [usize; 8] = [0, 1, 63, 64, 65, 256, 1_000, 1_500];
 
 const COUNTS: [usize; 14] = [0, 1, 2, 3, 20, 33, 62, 63, 64, 65, 128, 200, 700, 1_500];
 
+const ALIGNMENTS: [usize; 9] = [0, 1, 2, 3, 8, 60, 64, 1_000, usize::MAX];
+
 // Stretches that are clear and set by turns, each of 1 up to `longest` positions, by a row of numbers that repeats late.
 fn stretches(alloc: Global, length: usize, longest: usize) -> Result<Vec<bool>, AllocError> {
     let mut number = 12_345;
@@ -54,6 +56,31 @@ fn assert_gaps(rt: &impl Abort, set: &FixedBitSet, clear: &[usize]) {
     }
 }
 
+// Whether a multiple of `align` has so many clear positions from there on, below the end.
+fn is_place(clear: &[usize], place: usize, align: usize, count: usize, end: usize) -> bool {
+    place.is_multiple_of(align) && count <= clear[place] && count <= end - place
+}
+
+fn assert_aligned_gaps(rt: &impl Abort, set: &FixedBitSet, clear: &[usize]) {
+    for align in ALIGNMENTS {
+        for count in COUNTS {
+            for (start, end) in [
+                (0, set.len()),
+                (set.len() / 3, set.len() - set.len() / 5),
+                (set.len() / 2, set.len() / 2),
+            ] {
+                let least = (start..end + 1).find(|at| is_place(clear, *at, align, count, end));
+                assert!(rt; set.range_is_valid(&(start..end)));
+                assert!(rt;
+                    set.first_aligned_gap(count, align, start..end) == least,
+                    "{count} at a multiple of {align} in {start}..{end} of {}",
+                    set.len()
+                );
+            }
+        }
+    }
+}
+
 #[test]
 fn beside_a_slow_search(rt: HostRuntime) -> Result<(), Fail> {
     for length in LENGTHS {
@@ -61,7 +88,9 @@ fn beside_a_slow_search(rt: HostRuntime) -> Result<(), Fail> {
             let mut flags = stretches(rt.alloc(), length, longest)?;
             for _ in 0..2 {
                 let set = filled(rt.alloc(), &flags)?;
-                assert_gaps(&rt, &set, &clear_from(rt.alloc(), &flags)?);
+                let clear = clear_from(rt.alloc(), &flags)?;
+                assert_gaps(&rt, &set, &clear);
+                assert_aligned_gaps(&rt, &set, &clear);
                 for position in 0..length {
                     flags[position] = !flags[position];
                 }
@@ -96,6 +125,35 @@ fn past_full_and_clear_words(rt: HostRuntime) -> Result<(), Fail> {
             "{count} in {start}..{end}"
         );
         assert!(rt; set.first_gap(count, start + 1) == None);
+    }
+    Ok(())
+}
+
+// Worked rows: `count` and `align`, a range, and the answer in a set of 3, 6 and 90.
+#[test]
+fn at_multiples(rt: HostRuntime) -> Result<(), Fail> {
+    let mut set = FixedBitSet::from_iter(rt.alloc(), [3, 6, 90])?;
+    set.grow(200)?;
+    for (count, align, start, end, answer) in [
+        (3, 4, 1, 200, Some(8)),
+        (3, 4, 9, 200, Some(12)),
+        (3, 4, 9, 14, None),
+        (3, 4, 9, 15, Some(12)),
+        (2, 1, 4, 6, Some(4)),
+        (80, 64, 0, 200, None),
+        (72, 64, 0, 200, Some(128)),
+        (1, 0, 0, 200, Some(0)),
+        (4, 0, 0, 200, None),
+        (1, 0, 1, 200, None),
+        (0, 100, 101, 200, Some(200)),
+        (0, 100, 101, 199, None),
+        (1, usize::MAX, 1, 200, None),
+    ] {
+        assert!(rt; set.range_is_valid(&(start..end)));
+        assert!(rt;
+            set.first_aligned_gap(count, align, start..end) == answer,
+            "{count} at a multiple of {align} in {start}..{end}"
+        );
     }
     Ok(())
 }

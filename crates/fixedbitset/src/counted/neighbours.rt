@@ -3,21 +3,24 @@
 //! A call takes one step for the word of the number that it is given, and one for each lane of four words from there on
 //! up to the one that has the position. So what it takes goes by how far away the position is. Where there is none it goes
 //! up to the end, and it takes no step where it has no position to look at. `first_gap` takes one for each lane of four words
-//! from that of the number on, up to the end of the gap.
+//! from that of the number on, up to the end of the gap, and `first_aligned_gap` at most twice as many, and two for each multiple.
 
-ghost use Rattle.std.specs.Prelude.{◌≡◌, ◌<◌, ◌≤◌, ◌+◌, ◌-◌, ◌/◌, min, IfSome, IfNone};
+ghost use Rattle.std.specs.Prelude.{◌≡◌, ◌<◌, ◌≤◌, ◌+◌, ◌-◌, ◌/◌, min, IsTrue, IfSome, IfNone};
 ghost use Rattle.bitlanes.specs.Words.{lane_steps};
+ghost use Rattle.bitwords.specs.Gaps.{aligned_steps};
 ghost use Rattle.bitwords.specs.Steps.{range_words};
 ghost use Rattle.fixedbitset.specs.Bits.{storage_words};
 ghost use Rattle.fixedbitset.specs.Neighbours as neighbours;
+ghost use Rattle.fixedbitset.specs.Ranges as ranges;
+ghost use Rattle.fixedbitset.specs.Ranges.{over};
 ghost use Rattle.fixedbitset.specs.Runs as stretches;
 
-use crate::lent::gaps::first_gap_counted;
+use crate::lent::gaps::{first_aligned_gap_counted, first_gap_counted};
 use crate::lent::neighbours::{
     next_one_counted, next_zero_counted, previous_one_counted, previous_zero_counted,
 };
 use crate::set::FixedBitSet;
-use bitlanes::Steps;
+use bitlanes::{IndexRange, Steps};
 
 /// [`FixedBitSet::next_one`], with the steps that it takes.
 ///
@@ -84,6 +87,35 @@ pub fn first_gap(set: &FixedBitSet, count: usize, from: usize, steps: &mut Steps
         + lane_steps (range_words from (set.now.length + 1 - count)) ≤ steps.new) }
 {
     first_gap_counted(&set.words, set.length, count, from, steps)
+}
+
+/// [`FixedBitSet::first_aligned_gap`], with the steps that it takes: at most two for each lane of four words of the range, and
+/// two for each multiple in it. Where there is such a gap they are at least those of its own lanes.
+///
+/// ```
+/// let set = FixedBitSet::from_iter(alloc, [3, 6, 90])?;
+/// assert_eq!(rt; counted::first_aligned_gap(&set, 3, 4, 9.., &mut Steps::new()), Some(12));
+/// ```
+#[inline]
+pub fn first_aligned_gap<R: IndexRange<usize> + Drop>(
+    set: &FixedBitSet,
+    count: usize,
+    align: usize,
+    range: R,
+    steps: &mut Steps,
+) -> Option<usize>
+    requires { IsTrue (over ranges.is_valid set.now (R.start_of range) (R.end_of range)) }
+    ensures gap { result ≡ over (stretches.first_aligned_gap count align) set.now
+        (R.start_of range) (R.end_of range) }
+    ensures cost { steps.new ≤ steps.old
+        + over (λ _. aligned_steps align) set.now (R.start_of range) (R.end_of range) }
+    ensures least { IfSome result
+        (λ p. steps.old + lane_steps (range_words p (p + count)) ≤ steps.new) }
+    ensures grows { steps.old ≤ steps.new }
+{
+    let start = range.start().unwrap_or(0);
+    let end = range.end().unwrap_or(set.len());
+    first_aligned_gap_counted(&set.words, set.length, count, align, start, end, steps)
 }
 
 /// [`FixedBitSet::previous_one`], with the steps that it takes.

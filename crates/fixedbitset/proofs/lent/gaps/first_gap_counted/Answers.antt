@@ -1,4 +1,4 @@
-use Rattle.std.proofs.Common.{◌≡◌, ℕ, ◌≤◌, ◌∙◌, arith}
+use Rattle.std.proofs.Common.{◌∙◌}
 use Rattle.std.proofs.lemmas.Option.{IfSome_then}
 use Rattle.fixedbitset.proofs.Gaps.{same_gap, equal_le}
 use Rattle.fixedbitset.proofs.lent.gaps.first_gap_counted.Goals as goal
