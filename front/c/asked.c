@@ -215,6 +215,11 @@ static void range_the_other_way(void) {
     bits_count_ones(&set, 4, 3);
 }
 
+static void range_of_a_gap(void) {
+    bits set = good(70);
+    bits_first_aligned_gap(&set, 1, 8, 3, 71);
+}
+
 static void block(void) {
     bits set = good(70);
     bits_set_block(&set, 2, 1);
@@ -267,6 +272,7 @@ static const struct {
     {position_of_a_list, "bits_insert_all: `positions` is 71, which is not below 70", 2},
     {range, "bits_insert_range: from 3 to 71 is not a range of a set of length 70", 2},
     {range_the_other_way, "bits_count_ones: from 4 to 3 is not a range of a set of length 70", 2},
+    {range_of_a_gap, "bits_first_aligned_gap: from 3 to 71 is not a range of a set of length 70", 2},
     {block, "bits_set_block: `index` is 2, which is not below 2", 2},
     {column, "bits_rows_set: `column` is 70, which is not below 70", 2},
 };

@@ -269,6 +269,10 @@ size_t bits_next_one(const bits *set, size_t from) BITS_SYMBOL(bits_next_one);
 size_t bits_next_zero(const bits *set, size_t from) BITS_SYMBOL(bits_next_zero);
 /* The least number at or past `from` with `count` clear positions from there on, or BITS_NONE. */
 size_t bits_first_gap(const bits *set, size_t count, size_t from) BITS_SYMBOL(bits_first_gap);
+/* The least multiple of `align` in the range with `count` clear positions from there on, all in the range, or BITS_NONE; that
+ * too where the range is not valid. The only multiple of 0 is 0. */
+size_t bits_first_aligned_gap(const bits *set, size_t count, size_t align, size_t start, size_t end)
+    BITS_SYMBOL(bits_first_aligned_gap);
 /* The greatest position below `below` that is set, or BITS_NONE. */
 size_t bits_previous_one(const bits *set, size_t below) BITS_SYMBOL(bits_previous_one);
 /* The greatest position below `below` and below the length that is not set, or BITS_NONE. */

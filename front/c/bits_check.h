@@ -252,6 +252,9 @@ BITS_READS_AT(size_t, next_one, from)
 BITS_READS_AT(size_t, next_zero, from)
 BITS_TESTED(size_t, return, first_gap, (const char *here, const bits *set, size_t count, size_t from), (set, count, from),
             BITS_SET(set))
+BITS_TESTED(size_t, return, first_aligned_gap,
+            (const char *here, const bits *set, size_t count, size_t align, size_t start, size_t end),
+            (set, count, align, start, end), BITS_SET(set) BITS_RANGE(start, end, set->length))
 BITS_READS_AT(size_t, previous_one, below)
 BITS_READS_AT(size_t, previous_zero, below)
 BITS_READS(bool, is_clear)
@@ -382,6 +385,7 @@ BITS_RUN_STEP(runs_next_back)
 #define bits_next_one(...) BITS_CALL(next_one, __VA_ARGS__)
 #define bits_next_zero(...) BITS_CALL(next_zero, __VA_ARGS__)
 #define bits_first_gap(...) BITS_CALL(first_gap, __VA_ARGS__)
+#define bits_first_aligned_gap(...) BITS_CALL(first_aligned_gap, __VA_ARGS__)
 #define bits_previous_one(...) BITS_CALL(previous_one, __VA_ARGS__)
 #define bits_previous_zero(...) BITS_CALL(previous_zero, __VA_ARGS__)
 #define bits_is_clear(...) BITS_CALL(is_clear, __VA_ARGS__)

@@ -254,6 +254,14 @@ static void neighbours(one *it) {
     }
 }
 
+static void aligned_gap(one *it, size_t count, size_t align, size_t start, size_t end) {
+    size_t wanted = BITS_NONE;
+    for (size_t p = start; wanted == BITS_NONE && p <= end && count <= end - p; p++)
+        if ((align ? p % align : p) == 0 && !counted(it, p, p + count))
+            wanted = p;
+    HOLDS(bits_first_aligned_gap(&it->set, count, align, start, end) == wanted);
+}
+
 static void gap(one *it) {
     const size_t count = byte() % 4 ? below(130) : number(it->set.length), from = number(it->set.length);
     size_t at = from;
@@ -262,6 +270,7 @@ static void gap(one *it) {
     const bool found = at <= it->set.length && count <= it->set.length - at;
     const size_t answer = bits_first_gap(&it->set, count, from);
     HOLDS(answer == (found ? at : BITS_NONE));
+    aligned_gap(it, count, count % 67, from / 2, it->set.length - it->set.length / 5);
 }
 
 static void range(one *it) {

@@ -131,6 +131,15 @@ impl FixedBitSet {
         previous_zero(below) = bits_previous_zero;
         first_gap(count, from) = bits_first_gap;
     }
+    pub fn first_aligned_gap(
+        &self,
+        count: usize,
+        align: usize,
+        range: Range<usize>,
+    ) -> Option<usize> {
+        let set = self.lent();
+        position(unsafe { bits_first_aligned_gap(&set, count, align, range.start, range.end) })
+    }
     of_ranges! {
         count_ones -> usize = bits_count_ones;
         count_zeroes -> usize = bits_count_zeroes;

@@ -102,6 +102,13 @@ of_archive! {
     pub fn bits_next_one(set: &Lent, from: usize) -> usize;
     pub fn bits_next_zero(set: &Lent, from: usize) -> usize;
     pub fn bits_first_gap(set: &Lent, count: usize, from: usize) -> usize;
+    pub fn bits_first_aligned_gap(
+        set: &Lent,
+        count: usize,
+        align: usize,
+        start: usize,
+        end: usize,
+    ) -> usize;
     pub fn bits_previous_one(set: &Lent, below: usize) -> usize;
     pub fn bits_previous_zero(set: &Lent, below: usize) -> usize;
     pub fn bits_is_clear(set: &Lent) -> bool;

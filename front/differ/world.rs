@@ -317,6 +317,9 @@ impl World {
             _ => {
                 let count = self.near(set.len() / 4);
                 self.say_if(set.first_gap(count, number));
+                let (start, end) = self.range(set.len());
+                let align = self.near(9);
+                self.say_if(set.first_aligned_gap(count, align, start..end));
             }
         }
     }

@@ -28,20 +28,22 @@ static Datum position_or_null(FunctionCallInfo fcinfo, size_t position) {
 #define ASK(name, ...) ASK_OF(name, 0, __VA_ARGS__)
 #define ASK_OF(name, n, datum_of, answer) FUNCTION(name) { READ(set, n); return datum_of(answer); }
 
-/* The first gap, which is looked for in one part of the set after the other. A part is that of the positions below its end. The
- * next one begins where a gap could be that this one cuts. A part is longer than two gaps, so no position is in many. */
-static size_t first_gap(const bits *set, size_t count, size_t from) {
+/* The first gap at a multiple, which is looked for in one part of the range after the other. The next part begins where a gap
+ * could be that this one cuts. A part is longer than two gaps, so no position is in many. */
+static size_t first_gap(const bits *set, size_t count, size_t align, Span span) {
     size_t reach = 2 * Max(count, PART);
-    while (count <= set->length && from <= set->length && set->length - from > reach) {
-        bits part = BITS_OF(set->words, TYPEALIGN_DOWN(LANE_LENGTH, from + reach));
-        size_t found = bits_first_gap(&part, count, from);
+    while (span.start <= span.end && span.end - span.start > reach) {
+        size_t end = span.start + reach;
+        size_t found = bits_first_aligned_gap(set, count, align, span.start, end);
         if (found != BITS_NONE)
             return found;
-        from = part.length - count + 1;
+        span.start = end - count + 1;
         CHECK_FOR_INTERRUPTS();
     }
-    return bits_first_gap(set, count, from);
+    return bits_first_aligned_gap(set, count, align, span.start, span.end);
 }
+
+#define COUNT(n) not_negative(PG_GETARG_INT64(n), "count of positions")
 
 ASK(bitset_contains, BoolGetDatum, bits_contains(set, PG_GETARG_INT64(1)))
 ASK_OF(bitset_contained_position, 1, BoolGetDatum, bits_contains(set, PG_GETARG_INT64(0)))
@@ -56,7 +58,9 @@ ASK(bitset_next_one, FOUND, bits_next_one(set, FROM_ZERO(1)))
 ASK(bitset_next_zero, FOUND, bits_next_zero(set, FROM_ZERO(1)))
 ASK(bitset_previous_one, FOUND, bits_previous_one(set, FROM_ZERO(1)))
 ASK(bitset_previous_zero, FOUND, bits_previous_zero(set, FROM_ZERO(1)))
-ASK(bitset_first_gap, FOUND, first_gap(set, not_negative(PG_GETARG_INT64(1), "count of positions"), FROM_ZERO(2)))
+ASK(bitset_first_gap, FOUND, first_gap(set, COUNT(1), 1, (Span){FROM_ZERO(2), set->length}))
+ASK(bitset_first_aligned_gap, FOUND,
+    first_gap(set, COUNT(1), not_negative(PG_GETARG_INT64(2), "alignment"), read_span(fcinfo, 3, set)))
 
 /* The directory by which a position is found from how many are below it. It is made for one question, by a pass over the words
  * as a count is, and done_ranking frees it. */

@@ -95,6 +95,8 @@ CREATE FUNCTION previous_zero(bitset, below bigint) RETURNS bigint
 AS 'MODULE_PATHNAME', 'bitset_previous_zero' LANGUAGE C IMMUTABLE STRICT PARALLEL SAFE;
 CREATE FUNCTION first_gap(bitset, count bigint, "from" bigint DEFAULT 0) RETURNS bigint
 AS 'MODULE_PATHNAME', 'bitset_first_gap' LANGUAGE C IMMUTABLE STRICT PARALLEL SAFE;
+CREATE FUNCTION first_aligned_gap(bitset, count bigint, align bigint, int8range DEFAULT '(,)') RETURNS bigint
+AS 'MODULE_PATHNAME', 'bitset_first_aligned_gap' LANGUAGE C IMMUTABLE STRICT PARALLEL SAFE;
 CREATE FUNCTION rank(bitset, "position" bigint) RETURNS bigint
 AS 'MODULE_PATHNAME', 'bitset_rank' LANGUAGE C IMMUTABLE STRICT PARALLEL SAFE;
 CREATE FUNCTION select_one(bitset, index bigint) RETURNS bigint

@@ -107,6 +107,11 @@ def gap(s, count, start):
     return next((max(x, start) for x, y in s.gaps() if y - max(x, start) >= count), None)
 
 
+def aligned_gap(s, count, align, start, end):
+    return next((p for p in range(start, end - count + 1)
+                 if (p % align if align else p) == 0 and not s.ones & mask(p, p + count)), None)
+
+
 def long(length, ones):
     return Set(length, ones & mask(0, length)) if length <= 2**32 - 64 else wrong("54000")
 
@@ -220,6 +225,8 @@ CALLS = {
     "rank(s, select_one(s, abs(p) % 400))": lambda s, t, p, a, b: abs(p) % 400 if abs(p) % 400 < s.ones.bit_count() else None,
     "first_gap(s, p)": lambda s, t, p, a, b: gap(s, p, 0),
     "first_gap(s, abs(p) % 12, a - 1)": lambda s, t, p, a, b: gap(s, abs(p) % 12, max(a - 1, 0)),
+    "first_aligned_gap(s, abs(p) % 12, abs(p) % 7, int8range(a, b))": lambda s, t, p, a, b: ranged(
+        s, a, b, lambda m: aligned_gap(s, abs(p) % 12, abs(p) % 7, a, b)),
     "first_lacking(s, t)": lambda s, t, p, a, b: next_of(t.ones & ~s.ones, t.length, 0),
     "bitset_from_bytes(bytes(s), length(t))": lambda s, t, p, a, b: long(t.length, s.ones),
     "positions(s)": lambda s, t, p, a, b: s.positions(),

@@ -43,11 +43,17 @@ FROM (SELECT bitset_agg(p * p % 9973, 9973) FROM generate_series(1, 2000) p) v(s
 SELECT n, first_gap(:s, n), first_gap(:s, n, 5), first_gap(:s, n, 21) FROM unnest('{0,1,3,4,42,43,9223372036854775807}'::bigint[]) n;
 SELECT first_gap(:s, 1, -1), first_gap(:s, 0, 64), first_gap(:s, 0, 65), first_gap('{0-63}/64', 1), first_gap('{}/0', 1), first_gap('{}/64', 64);
 SELECT first_gap(:s, -1);
+-- the same at a multiple, in a range: only 0 is one of 0
+SELECT a, first_aligned_gap(:s, 3, a), first_aligned_gap(:s, 3, a, '[1,)'), first_aligned_gap(:s, 3, a, '[1,27)'),
+    first_aligned_gap(:s, 0, a, '[21,32]'), first_aligned_gap(:s, 64, a) FROM unnest('{0,1,8,32,9223372036854775807}'::bigint[]) a;
+SELECT first_aligned_gap(:s, 1, -1);
+SELECT first_aligned_gap(:s, -1, 1);
+SELECT first_aligned_gap(:s, 1, 1, '[60,65)');
 -- a long set is looked at in parts: gaps within one, over the end of one, and longer than one
 CREATE TABLE long AS SELECT start, stop, remove_range(insert_range(bitset(40000001), '(,)'), int8range(start, stop)) AS s
 FROM (VALUES (5, 9), (33554430, 33554434), (33554431, 33554435), (33554432, 33554436), (39999997, 40000001)) v(start, stop);
 SELECT start, first_gap(s, 4) = start AS four, first_gap(s, 5) AS five, first_gap(s, 1, start + 1) = start + 1 AS one,
-    first_gap(s, 4, start + 1) AS past, first_gap(s, 0, 99) AS none FROM long;
+    first_gap(s, 4, start + 1) AS past, first_gap(s, 0, 99) AS none, first_aligned_gap(s, 2, 2) - start AS even FROM long;
 SELECT first_gap(remove_range(s, '[10000000,36000001)'), n), first_gap(remove_range(s, '[10000000,36000001)'), n, 10000001)
 FROM (SELECT s FROM long LIMIT 1) v, unnest('{4,5,17000000,25999999,26000001,26000002,40000001,40000002}'::bigint[]) n;
 DROP TABLE long;

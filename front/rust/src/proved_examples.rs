@@ -962,6 +962,22 @@ fn bitwords_gaps_21() {
 }
 
 #[test]
+fn bitwords_gaps_50() {
+    use crate::proved::bitlanes::ops::*;
+    use crate::proved::bitlanes::{word, Block, Steps};
+    use crate::proved::bitwords::cursors::*;
+    use crate::proved::bitwords::*;
+    use crate::shim::u64x4;
+    use core::cmp::Ordering;
+    use core::mem::{size_of, size_of_val};
+
+    let mut steps = Steps::new();
+    assert_eq!(gaps::first_aligned(&[0xf1f, 1], 1, 128, 3, 4, &mut steps), Some(12));
+    assert_eq!(gaps::first_aligned(&[0xf1f, 1], 0, 128, 56, 12, &mut steps), Some(72));
+    assert_eq!(gaps::first_aligned(&[0xf1f, 1], 0, 128, 3, 0, &mut steps), None);
+}
+
+#[test]
 fn bitwords_joins_17() {
     use crate::proved::bitlanes::ops::*;
     use crate::proved::bitlanes::{word, Block, Steps};
@@ -1491,6 +1507,23 @@ fn fixedbitset_lent_gaps_9() {
     lent::settle(&mut words, 70, 70);
     assert_eq!(lent::first_gap(&words, 70, 3, 0), Some(4));
     assert_eq!(lent::first_gap(&words, 70, 5, 62), None);
+}
+
+#[test]
+fn fixedbitset_lent_gaps_23() {
+    use crate::proved::bitlanes::ops::*;
+    use crate::proved::bitlanes::{word, Block, Steps};
+    use crate::proved::bitwords::cursors::*;
+    use crate::proved::fixedbitset::*;
+    use crate::shim::u64x4;
+    use core::cmp::Ordering;
+    use core::mem::{size_of, size_of_val};
+
+    let mut words = [9, 2, 0, 0];
+    lent::settle(&mut words, 70, 70);
+    assert_eq!(lent::first_aligned_gap(&words, 70, 2, 4, 1, 70), Some(4));
+    assert_eq!(lent::first_aligned_gap(&words, 70, 5, 32, 1, 70), Some(32));
+    assert_eq!(lent::first_aligned_gap(&words, 70, 5, 32, 1, 36), None);
 }
 
 #[test]

@@ -1,6 +1,6 @@
 //! The stretches of positions that follow each other without a gap. The crate of this name has no such calls.
 
-use crate::{proved, FixedBitSet};
+use crate::{proved, FixedBitSet, IndexRange};
 use core::fmt::{Debug, Formatter, Result};
 use core::iter::FusedIterator;
 
@@ -53,6 +53,32 @@ impl FixedBitSet {
     #[inline]
     pub fn first_gap(&self, count: usize, from: usize) -> Option<usize> {
         self.words.first_gap(count, from)
+    }
+
+    /// The least multiple of `align` in the range with `count` clear positions from there on, all in the range, if there is
+    /// one. With a `count` of 0 that may be the end of the range. The only multiple of 0 is 0.
+    ///
+    /// **Panics** where the range is not valid.
+    ///
+    /// Proved: the answer, for all sets, all numbers and each valid range
+    /// ([contract](crate::contracts#fixedbitsetlentfirst_aligned_gap)).
+    ///
+    /// ```
+    /// # use fixedbitset::FixedBitSet;
+    /// let set: FixedBitSet = [3, 6, 90].into_iter().collect();
+    /// assert_eq!(set.first_aligned_gap(3, 4, 1..), Some(8));
+    /// assert_eq!(set.first_aligned_gap(3, 4, 9..14), None);
+    /// ```
+    #[inline]
+    #[track_caller]
+    pub fn first_aligned_gap<T: IndexRange>(
+        &self,
+        count: usize,
+        align: usize,
+        range: T,
+    ) -> Option<usize> {
+        let (start, end) = self.part(&range);
+        self.words.first_aligned_gap(count, align, start, end)
     }
 }
 

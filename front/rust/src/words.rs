@@ -102,6 +102,7 @@ impl Words {
         count_zeroes(start: usize, end: usize) -> usize;
         contains_all_in_range(start: usize, end: usize) -> bool;
         contains_any_in_range(start: usize, end: usize) -> bool;
+        first_aligned_gap(count: usize, align: usize, start: usize, end: usize) -> Option<usize>;
     }
     changes! {
         clear();

@@ -41,6 +41,48 @@ pub fn first(
     first_of_some(words, from, end, count, steps)
 }
 
+/// The least multiple of `align` at or past `from` with `count` positions from there on that are clear and below `end`, or
+/// `None` where there is none. The only multiple of 0 is 0. The end may not be past the words.
+///
+/// It looks for a stretch by [`first`], and again from the next multiple on where the stretch begins at none. So it looks at
+/// each position twice at most. It takes at most two steps for each lane of four words up to `end`, and two for each multiple.
+///
+/// ```text
+/// let mut steps = Steps::new();
+/// assert_eq!(gaps::first_aligned(&[0xf1f, 1], 1, 128, 3, 4, &mut steps), Some(12));
+/// assert_eq!(gaps::first_aligned(&[0xf1f, 1], 0, 128, 56, 12, &mut steps), Some(72));
+/// assert_eq!(gaps::first_aligned(&[0xf1f, 1], 0, 128, 3, 0, &mut steps), None);
+/// ```
+#[inline]
+pub fn first_aligned(
+    words: &[Block],
+    from: usize,
+    end: usize,
+    count: usize,
+    align: usize,
+    steps: &mut Steps,
+) -> Option<usize> {
+    let mut at = multiple_from(align, from)?;
+    loop {
+        let found = first(words, at, end, count, steps)?;
+        let next = multiple_from(align, found)?;
+        if next == found {
+            return Some(found);
+        }
+        at = next;
+    }
+}
+
+// The least multiple of `align` at or past a number, or `None` where no `usize` is one. 0 is a multiple of all numbers.
+#[inline(always)]
+fn multiple_from(align: usize, number: usize) -> Option<usize> {
+    if number == 0 {
+        Some(0)
+    } else {
+        number.checked_next_multiple_of(align)
+    }
+}
+
 // `first`, where some positions are wanted, and as many are left.
 #[inline(always)]
 fn first_of_some(

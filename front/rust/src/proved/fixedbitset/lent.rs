@@ -26,7 +26,7 @@ pub use changes::{
     difference_with_change, intersect_with_change, union_with_change, union_with_difference,
 };
 pub use copies::{copy, difference_of, intersection_of, symmetric_difference_of, union_of};
-pub use gaps::first_gap;
+pub use gaps::{first_aligned_gap, first_gap};
 pub use neighbours::{next_one, next_zero, previous_one, previous_zero};
 pub use ranges::{
     contains_all_in_range, contains_any_in_range, count_ones, count_zeroes, insert_range,
