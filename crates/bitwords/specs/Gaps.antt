@@ -30,6 +30,6 @@ is_multiple align p = p % align == 0
 unfoldable pub first_aligned_room : (ℕ → Bool) → (end count align from : ℕ) → Option ℕ
 first_aligned_room taken end count align from = slice_get (ascending (λ p. is_multiple align p && has_room_in taken end count p) from (end + 1 - from)) 0
 
--- the steps of such a search at most: twice those of the lanes of the range, and two for each multiple in it
+-- the steps of such a search at most: two for each lane of the range, and two for each multiple that may stand there
 abbrev pub aligned_steps : (align start end : ℕ) → ℕ
 aligned_steps align start end = 2 * lane_steps (range_words start end) + 2 * ((end - start) / align + 1)

@@ -1,7 +1,7 @@
 //! The positions of a set next to a given one. Upstream has no such calls.
 //!
-//! Any number may be asked for, at or past the length too; a range has to be valid. No call takes memory. Each looks at the word of the number,
-//! and then at sixteen words at a time, or four, up to those that have the position.
+//! Any number may be asked for, at or past the length too; a range has to be valid. No call takes memory. Each looks at the word
+//! of the number, and then at sixteen words at a time, or four, up to those that have the position.
 
 ghost use Rattle.std.specs.Prelude.{◌≡◌, IsTrue};
 ghost use Rattle.fixedbitset.specs.Neighbours as neighbours;
@@ -66,7 +66,8 @@ impl FixedBitSet {
     /// where there is none. With a `count` of 0 that may be the end of the range. The only multiple of 0 is 0. The range must
     /// be valid, as that of [`count_ones`](Self::count_ones).
     ///
-    /// It looks at no position more than twice: for a stretch, and from the next multiple on where the stretch begins at none.
+    /// It looks for a stretch, and where that begins at no multiple, again from the next multiple on. So it takes at most two
+    /// steps for each lane of four words of the range, and two for each multiple that may stand in it.
     ///
     /// ```
     /// let mut set = FixedBitSet::from_iter(alloc, [3, 6, 90])?;

@@ -120,6 +120,7 @@ fn sees_walks(set: &FixedBitSet) -> bool {
         && set.runs().next() == Some((3, 4))
         && set.zero_runs().next_back() == Some((4, 10))
         && set.first_gap(5, 0) == Some(4)
+        && set.first_aligned_gap(5, 5, 1..) == Some(5)
         && set.as_slice() == [8].as_slice()
 }
 

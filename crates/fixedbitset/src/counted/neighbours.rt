@@ -3,7 +3,8 @@
 //! A call takes one step for the word of the number that it is given, and one for each lane of four words from there on
 //! up to the one that has the position. So what it takes goes by how far away the position is. Where there is none it goes
 //! up to the end, and it takes no step where it has no position to look at. `first_gap` takes one for each lane of four words
-//! from that of the number on, up to the end of the gap, and `first_aligned_gap` at most twice as many, and two for each multiple.
+//! from that of the number on, up to the end of the gap. `first_aligned_gap` takes at most two for each lane of its range, and
+//! two for each multiple that may stand there.
 
 ghost use Rattle.std.specs.Prelude.{◌≡◌, ◌<◌, ◌≤◌, ◌+◌, ◌-◌, ◌/◌, min, IsTrue, IfSome, IfNone};
 ghost use Rattle.bitlanes.specs.Words.{lane_steps};
@@ -90,7 +91,7 @@ pub fn first_gap(set: &FixedBitSet, count: usize, from: usize, steps: &mut Steps
 }
 
 /// [`FixedBitSet::first_aligned_gap`], with the steps that it takes: at most two for each lane of four words of the range, and
-/// two for each multiple in it. Where there is such a gap they are at least those of its own lanes.
+/// two for each multiple that may stand in it. Where there is such a gap they are at least those of its own lanes.
 ///
 /// ```
 /// let set = FixedBitSet::from_iter(alloc, [3, 6, 90])?;

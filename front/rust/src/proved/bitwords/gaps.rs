@@ -44,8 +44,8 @@ pub fn first(
 /// The least multiple of `align` at or past `from` with `count` positions from there on that are clear and below `end`, or
 /// `None` where there is none. The only multiple of 0 is 0. The end may not be past the words.
 ///
-/// It looks for a stretch by [`first`], and again from the next multiple on where the stretch begins at none. So it looks at
-/// each position twice at most. It takes at most two steps for each lane of four words up to `end`, and two for each multiple.
+/// It looks for a stretch by [`first`], and where that begins at no multiple, again from the next multiple on. So it takes at
+/// most two steps for each lane of four words up to `end`, and two for each multiple that may stand there.
 ///
 /// ```text
 /// let mut steps = Steps::new();
