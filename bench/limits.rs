@@ -200,18 +200,14 @@ fn least_times(loops: &[Loop], call: Rounds) -> [f64; 2] {
     [limit, all - none]
 }
 
+/// Prints the rows of limits.csv, but for the processor, and then what is to be said of them.
 pub fn print() {
     carries::try_out();
-    println!("\n| call | what it does at least | limit, ours: nanoseconds | ours / limit |");
-    println!("|---|---|---|---|");
     for Limit { work, loops, calls } in LIMITS {
         for (name, call) in calls {
             let [limit, ours] = least_times(loops, *call);
-            println!(
-                "| `{name}` | {work} | {limit:.1}, {ours:.1} | {:.2} |",
-                ours / limit
-            );
+            println!("\"{name}\",\"{work}\",{limit:.1},{ours:.1}");
         }
     }
-    println!("\n{}", said());
+    println!("# {}", said());
 }

@@ -1,5 +1,5 @@
 // Times calls of bits.h beside those of other sets of bits: std::bitset, boost::dynamic_bitset and two builds of CRoaring.
-// `run_others` builds it, and writes what it prints to OTHERS.md.
+// `run_others` builds it, and writes what it prints to results/others.csv: the rows but for the processor.
 //
 // usage: others LIBRARY    LIBRARY: the file of the CRoaring that Debian builds. The other build is linked in.
 #include <algorithm>
@@ -75,13 +75,14 @@ static void compare(const char *call, const Sides &sides) {
             stop(call);
 }
 
+// The sides behind ours.
+static const char *const LIBRARIES[] = {"std::bitset", "boost::dynamic_bitset", "CRoaring, as Debian builds it",
+                                        "CRoaring, built for the same processor"};
+
 static void row(const char *call, double share, const Sides &sides) {
-    std::printf("| %s, %g %% |", call, 100 * share);
-    for (const auto &side : sides) {
-        double time = least(side) / 1000;
-        std::printf(" %.*f |", time < 1 ? 3 : 1, time);
-    }
-    std::printf("\n");
+    double ours = least(sides[0]) / 1000;
+    for (size_t other = 1; other < sides.size(); other++)
+        std::printf("\"%s\",%g,\"%s\",%.3f,%.3f\n", call, 100 * share, LIBRARIES[other - 1], ours, least(sides[other]) / 1000);
     std::fflush(stdout);
 }
 
@@ -214,8 +215,6 @@ int main(int count, char **words) {
     if (count != 2)
         stop("the file of a library is missing");
     debian = Roaring(words[1]);
-    std::printf("| Call, share of positions set | ours, µs | std::bitset | boost::dynamic_bitset | CRoaring, as Debian builds it "
-                "| CRoaring, built for the same processor |\n|---|---|---|---|---|---|\n");
     for (double share : {0.001, 0.01, 0.5})
         rows(share);
 }

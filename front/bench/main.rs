@@ -1,4 +1,4 @@
-//! Times each call on our sets and on upstream's in turn, and prints the least times in ns as a table. `run` builds it.
+//! Times each call on our sets and on upstream's in turn, and prints the least times in ns. `run` builds it.
 
 mod ours;
 mod theirs;
@@ -92,19 +92,14 @@ fn take_less(times: &mut Times, line: &str) {
         .for_each(|(time, it)| *time = time.min(it));
 }
 
-fn print_table(rows: &[(&str, Times)]) {
-    print!("| Call |");
-    LENGTHS
-        .iter()
-        .for_each(|bits| print!(" {bits} bits: ours, upstream | ratio |"));
-    print!("\n|---|{}", "---|---|".repeat(LENGTHS.len()));
+/// Prints the rows of times.csv, but for the processor, and then what is to be said of them.
+fn print_rows(rows: &[(&str, Times)]) {
     for (name, times) in rows {
-        print!("\n| {name} |");
-        for [ours, theirs] in times {
-            print!(" {ours:.2}, {theirs:.2} | {:.2} |", ours / theirs);
+        for (bits, [ours, theirs]) in LENGTHS.iter().zip(times) {
+            println!("\"{name}\",{bits},{ours:.3},{theirs:.3}");
         }
     }
-    println!();
+    println!("# {}", turns::said());
 }
 
 /// How many rounds of each row are counted.
@@ -135,7 +130,7 @@ fn run_counted() {
     }
 }
 
-/// Prints the times alone, or with files of such times the table of the least of all. With `count` it prints what
+/// Prints the times alone, or with files of such times rows with the least of all. With `count` it prints what
 /// `count` reads.
 fn main() {
     let files: Vec<String> = std::env::args().skip(1).collect();
@@ -156,6 +151,5 @@ fn main() {
             take_less(times, line);
         }
     }
-    print_table(&rows);
-    println!("\n{}", turns::said());
+    print_rows(&rows);
 }

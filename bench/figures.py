@@ -1,0 +1,81 @@
+"""The figures of the runs, as the files in results/ have them, and the kinds that calls and lines are shown by."""
+import csv
+import pathlib
+import re
+from collections import namedtuple
+
+TOP = pathlib.Path(__file__).resolve().parent.parent
+TIMES = "front/bench/results/times.csv"
+LINES = "bench/results/lines.csv"
+LIMITS = "bench/results/limits.csv"
+OTHERS = "bench/results/others.csv"
+# From so many bits on a set is long.
+LONG = 10_000
+KINDS = [
+    ("parts and stretches", r"ones_in|runs|first_gap|first_lacking"),
+    ("positions moved, slices", r"shift_|union_with_(shifted|own_shift)|slice|append"),
+    ("rank beside `count_ones`", r"rank.* beside"),
+    ("rank and select", r"rank|select"),
+    ("tables", r"union_rows|close"),
+    ("whole walks of 5 positions", r"ones of 5"),
+    ("counts of walks", r"count of"),
+    ("walks of a set", r"ones|zeroes|into_ones"),
+    ("walks of two sets", r"(union|intersection|difference|symmetric_difference)\b"),
+    ("counts of two sets", r"\w+_count\b"),
+    ("joins into a third set", r"\w+_of\b"),
+    ("joins", r"\w+_with\b"),
+    ("joins that tell", r"\w+_with_(change|difference)"),
+    ("neighbours", r"next_one"),
+    ("ranges", r"\w+\("),
+    ("new sets, copies, growth", r"bit|clone|with_capacity|extend|from_iter|grow by"),
+    ("questions and order", r"is_|==|cmp|minimum|maximum"),
+    ("`hash`", r"hash"),
+    ("text", r"to_string"),
+    ("single positions, `clear`", r""),
+]
+KINDS_OF_LINES = [
+    ("`text`, `as_slice`", r"text|as_slice"),
+    ("`to_value`", r"to_value"),
+    ("`from_value`", r"from_value"),
+    ("walks", r"(clone and )?\w+, 8 from"),
+    (
+        "a single position, `extend`, `from_iter`",
+        r"(insert|contains|index|put|remove|toggle|set|copy_bit|set_block|grow_and_insert|extend|from_iter)\b",
+    ),
+    ("ranges", r"count_|contains_a|\w+_range\b|range_"),
+    ("two sets", r"\w+_(with|count|assign)|is_(disjoint|subset|superset)|eq|cmp|clone|bit"),
+    ("`new`, `len`, `minimum` and the like", r""),
+]
+
+# A ratio of two times: ours / theirs. The size is a count of bits, or of lines; lines have no processor.
+Ratio = namedtuple("Ratio", "processor call size value")
+
+
+def rows(name):
+    """Each row of a file, by the names of its columns. The lines above them, which begin with `# `, say what was run."""
+    with open(TOP / name, encoding="utf-8", newline="") as file:
+        return list(csv.DictReader(line for line in file if not line.startswith("# ")))
+
+
+def rounded(ours, theirs):
+    """The ratio of two times to two digits, as it is shown. A time that is rounded to 0 has none."""
+    return round(float(ours) / float(theirs), 2) if float(theirs) else None
+
+
+def ratios_of_calls():
+    """The ratios of the crate for Rust to upstream's."""
+    return [Ratio(it["processor"], it["call"], int(it["bits"]), rounded(it["ours"], it["upstream"])) for it in rows(TIMES)]
+
+
+def ratios_of_lines():
+    """The ratios of the program to the lean one."""
+    return [Ratio("", it["call"], int(it["lines"]), rounded(it["bits_program"], it["lean"])) for it in rows(LINES)]
+
+
+def kind_of(call, kinds):
+    return next(name for name, form in kinds if re.match(form, call))
+
+
+def reach(sizes):
+    """The greatest of the short sizes and the least of the long ones."""
+    return max((it for it in sizes if it < LONG), default=0), min((it for it in sizes if it >= LONG), default=0)
