@@ -33,3 +33,4 @@ pub mod JsonFacts
 -- private, but Stored for callers who keep the words of a set
 pub mod BitsCode
 pub mod Stored
+pub mod Views

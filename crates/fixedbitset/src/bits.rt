@@ -7,8 +7,8 @@
 ghost use Rattle.std.specs.Prelude.{◌≡◌, ◌<◌};
 ghost use Rattle.fixedbitset.specs.Bits as model;
 
-use crate::lent;
 use crate::set::FixedBitSet;
+use crate::views::BitsMut;
 
 impl FixedBitSet {
     /// Whether the position is set: `false` at or past the length. Every position may be asked.
@@ -45,7 +45,7 @@ impl FixedBitSet {
         requires { bit < self.now.length }
         ensures { result ≡ model.contains self.now bit }
     {
-        lent::holds(&self.words, self.length, bit)
+        self.as_bits().contains_unchecked(bit)
     }
 
     /// Sets the position, which has to be below the length.
@@ -77,7 +77,8 @@ impl FixedBitSet {
         requires { bit < self.old.length }
         ensures { self.new ≡ model.insert self.old bit }
     {
-        lent::insert(&mut self.words, self.length, bit);
+        let (words, length) = (&mut *self.words.as_mut_slice(), self.length);
+        BitsMut { words, length }.insert(bit);
     }
 
     /// Clears the position, which has to be below the length.
@@ -111,7 +112,8 @@ impl FixedBitSet {
         requires { bit < self.old.length }
         ensures { self.new ≡ model.remove self.old bit }
     {
-        lent::remove(&mut self.words, self.length, bit);
+        let (words, length) = (&mut *self.words.as_mut_slice(), self.length);
+        BitsMut { words, length }.remove(bit);
     }
 
     /// Sets the position, which has to be below the length, and answers whether it was set before.
@@ -147,7 +149,8 @@ impl FixedBitSet {
         ensures before { result ≡ model.contains self.old bit }
         ensures after { self.new ≡ model.insert self.old bit }
     {
-        lent::put(&mut self.words, self.length, bit)
+        let (words, length) = (&mut *self.words.as_mut_slice(), self.length);
+        BitsMut { words, length }.put(bit)
     }
 
     /// Sets the position if it is clear and clears it if it is set. It has to be below the length.
@@ -182,7 +185,8 @@ impl FixedBitSet {
         requires { bit < self.old.length }
         ensures { self.new ≡ model.toggle self.old bit }
     {
-        lent::toggle(&mut self.words, self.length, bit);
+        let (words, length) = (&mut *self.words.as_mut_slice(), self.length);
+        BitsMut { words, length }.toggle(bit);
     }
 
     /// Sets the position, or clears it where `enabled` is false. It has to be below the length.

@@ -5,8 +5,8 @@ ghost use Rattle.serde_json.specs.View.{view};
 ghost use Rattle.bitjson.specs.declared.fault.JsonFault.TheVariants.{Memory};
 ghost use Rattle.fixedbitset.specs.Json as json;
 
-use crate::lent::storage_words;
 use crate::set::FixedBitSet;
+use crate::views::storage_words;
 pub use bitjson::JsonFault;
 use bitjson::bytes::{value_of_words, words_of_items};
 use bitjson::form::read_form;

@@ -8,7 +8,6 @@ pub mod bits;
 pub mod counted;
 pub mod extend;
 pub mod json;
-pub mod lent;
 pub mod neighbours;
 pub mod operators;
 pub mod order;
@@ -19,6 +18,7 @@ pub mod ranges;
 pub mod set;
 pub mod shifts;
 pub mod text;
+pub mod views;
 pub mod walks;
 pub mod whole;
 
@@ -29,3 +29,4 @@ pub use bitwalks::{
 pub use extend::ExtendFault;
 pub use json::JsonFault;
 pub use set::FixedBitSet;
+pub use views::{Bits, BitsMut};

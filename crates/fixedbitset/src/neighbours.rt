@@ -10,7 +10,7 @@ ghost use Rattle.fixedbitset.specs.Ranges.{over};
 ghost use Rattle.fixedbitset.specs.Runs as stretches;
 
 use crate::set::FixedBitSet;
-use crate::{counted, lent};
+use crate::counted;
 use bitlanes::{IndexRange, Steps};
 
 impl FixedBitSet {
@@ -26,7 +26,7 @@ impl FixedBitSet {
     pub fn next_one(&self, from: usize) -> Option<usize>
         ensures { result ≡ neighbours.next_one self.now from }
     {
-        lent::next_one(&self.words, self.length, from)
+        self.as_bits().next_one(from, &mut Steps::new())
     }
 
     /// The least position at or past `from` and below the length that is not set, or `None` where there is none.
@@ -41,7 +41,7 @@ impl FixedBitSet {
     pub fn next_zero(&self, from: usize) -> Option<usize>
         ensures { result ≡ neighbours.next_zero self.now from }
     {
-        lent::next_zero(&self.words, self.length, from)
+        self.as_bits().next_zero(from, &mut Steps::new())
     }
 
     /// The least number at or past `from` with `count` clear positions from there on, all below the length, or `None` where
@@ -59,7 +59,7 @@ impl FixedBitSet {
     pub fn first_gap(&self, count: usize, from: usize) -> Option<usize>
         ensures { result ≡ stretches.first_gap self.now count from }
     {
-        lent::first_gap(&self.words, self.length, count, from)
+        self.as_bits().first_gap(count, from, &mut Steps::new())
     }
 
     /// The least multiple of `align` in the range with `count` clear positions from there on, all in the range, or `None`
@@ -101,7 +101,7 @@ impl FixedBitSet {
     pub fn previous_one(&self, below: usize) -> Option<usize>
         ensures { result ≡ neighbours.previous_one self.now below }
     {
-        lent::previous_one(&self.words, self.length, below)
+        self.as_bits().previous_one(below, &mut Steps::new())
     }
 
     /// The greatest position below `below` and below the length that is not set, or `None` where there is none.
@@ -116,6 +116,6 @@ impl FixedBitSet {
     pub fn previous_zero(&self, below: usize) -> Option<usize>
         ensures { result ≡ neighbours.previous_zero self.now below }
     {
-        lent::previous_zero(&self.words, self.length, below)
+        self.as_bits().previous_zero(below, &mut Steps::new())
     }
 }

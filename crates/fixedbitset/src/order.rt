@@ -8,8 +8,8 @@ ghost use Rattle.std.specs.Cmp.{partial_equiv_from_equiv};
 ghost use Rattle.fixedbitset.specs.Order.{equal, compare, fed_by, IsBelow};
 ghost use Rattle.fixedbitset.specs.OrderFacts.{equal_laws, compare_partial, compare_total, compare_ties, fed_alike};
 
-use crate::lent;
 use crate::set::FixedBitSet;
+use bitlanes::Steps;
 use std::cmp::Ordering;
 use std::hash::{Hash, Hasher};
 
@@ -36,7 +36,7 @@ impl PartialEq for FixedBitSet {
         ensures value { result ≡ equal self.now other.now }
         ensures same { IsTrue result ↔ (self.now ≡ other.now) }
     {
-        lent::is_equal(&self.words, self.length, &other.words, other.length)
+        self.as_bits().is_equal(other.as_bits(), &mut Steps::new())
     }
 }
 
@@ -93,7 +93,7 @@ impl Ord for FixedBitSet {
         ensures order { MatchOrdering result (IsBelow self.now other.now) (self.now ≡ other.now)
             (IsBelow other.now self.now) }
     {
-        lent::compare(&self.words, self.length, &other.words, other.length)
+        self.as_bits().compare(other.as_bits(), &mut Steps::new())
     }
 }
 

@@ -12,8 +12,8 @@ ghost use Rattle.fixedbitset.specs.Ranges as ranges;
 ghost use Rattle.fixedbitset.specs.Ranges.{over};
 
 use crate::counted;
-use crate::lent::storage_words;
 use crate::set::FixedBitSet;
+use crate::views::storage_words;
 use bitjson::bytes::{bytes_of_words, words_of_bytes};
 use bitlanes::{Block, IndexRange, Steps};
 use bitwords::positions;

@@ -6,7 +6,7 @@ ghost use Rattle.std.specs.Prelude.{◌≡◌, ◌==◌};
 ghost use Rattle.fixedbitset.specs.Bits as model;
 
 use crate::set::FixedBitSet;
-use crate::{counted, lent};
+use crate::counted;
 use bitlanes::Steps;
 
 impl FixedBitSet {
@@ -37,7 +37,7 @@ impl FixedBitSet {
     pub fn is_clear(&self) -> bool
         ensures { result ≡ model.is_clear self.now }
     {
-        lent::is_clear(&self.words, self.length)
+        self.as_bits().is_clear(&mut Steps::new())
     }
 
     /// The first position that is set, or `None` where none is. It looks at four words at a time from the first on, up to
@@ -53,7 +53,7 @@ impl FixedBitSet {
     pub fn minimum(&self) -> Option<usize>
         ensures { result ≡ model.minimum self.now }
     {
-        lent::minimum(&self.words, self.length)
+        self.as_bits().minimum(&mut Steps::new())
     }
 
     /// The last position that is set, or `None` where none is. It looks at four words at a time from the last on, down to
@@ -69,7 +69,7 @@ impl FixedBitSet {
     pub fn maximum(&self) -> Option<usize>
         ensures { result ≡ model.maximum self.now }
     {
-        lent::maximum(&self.words, self.length)
+        self.as_bits().maximum(&mut Steps::new())
     }
 
     /// Whether each position below the length is set; so `true` at length 0.

@@ -5,9 +5,9 @@ ghost use Rattle.std.specs.Vec.{vec_capacity};
 ghost use Rattle.bitlanes.specs.Words.{lane_steps};
 ghost use Rattle.fixedbitset.specs.Bits as model;
 ghost use Rattle.fixedbitset.specs.Blocks.{FirstItems};
+ghost use Rattle.fixedbitset.specs.Views.{value};
 
-use crate::lent;
-use crate::lent::storage_words;
+use crate::views::{Bits, BitsMut, storage_words};
 use bitlanes::Steps;
 use bitlanes::word::{BITS, Block};
 use bitwords::positions;
@@ -194,6 +194,26 @@ impl FixedBitSet {
         Ok(())
     }
 
+    /// The set as a view, to be read: no word is copied.
+    ///
+    /// Upstream has no such call.
+    ///
+    /// ```
+    /// let set = FixedBitSet::from_iter(alloc, [3, 64])?;
+    /// assert!(rt; set.as_bits().contains(64));
+    /// ```
+    #[inline(always)]
+    #[tactic(auto, using(crate::proofs::Words::viewed_length))]
+    pub fn as_bits(&self) -> Bits<'_>
+        ensures value { value result ≡ self.now }
+        ensures length { result.length ≡ self.now.length }
+    {
+        Bits {
+            words: &self.words,
+            length: self.length,
+        }
+    }
+
     /// Makes word `index` the given one. Bits past the length are dropped. It writes one word.
     ///
     /// The word has to be one of those that `as_slice` has. Upstream has no such call: there a caller writes into
@@ -211,7 +231,8 @@ impl FixedBitSet {
         requires { index < length (model.words self.old) }
         ensures { self.new ≡ model.set_block self.old index value }
     {
-        lent::set_block(&mut self.words, self.length, index, value);
+        let (words, length) = (&mut *self.words.as_mut_slice(), self.length);
+        BitsMut { words, length }.set_block(index, value);
     }
 
     /// Clears all positions, and keeps the length. It writes each word once.
@@ -226,7 +247,8 @@ impl FixedBitSet {
     pub fn clear(&mut self)
         ensures { self.new ≡ model.empty self.old.length }
     {
-        lent::clear(&mut self.words, self.length);
+        let (words, length) = (&mut *self.words.as_mut_slice(), self.length);
+        BitsMut { words, length }.clear(&mut Steps::new());
     }
 
     /// The length in bits: set positions and others.
@@ -267,7 +289,7 @@ impl FixedBitSet {
         ensures count { length result.now ≡ model.words_needed self.now.length }
         ensures fits { self.now.length < 2 ^ 64 }
     {
-        lent::used_words(&self.words, self.length)
+        self.as_bits().as_slice()
     }
 }
 

@@ -6,8 +6,8 @@ ghost use Rattle.bitwords.specs.Steps.{search_steps};
 ghost use Rattle.fixedbitset.specs.Bits as model;
 
 use crate::counted::ranges::contains_all_in_range;
-use crate::lent::{maximum_counted, minimum_counted, zero};
 use crate::set::FixedBitSet;
+use crate::views::BitsMut;
 use bitlanes::Steps;
 
 /// [`FixedBitSet::clear`], with the steps that it takes.
@@ -23,7 +23,8 @@ pub fn clear(set: &mut FixedBitSet, steps: &mut Steps)
     ensures value { set.new ≡ model.empty set.old.length }
     ensures cost { steps.new ≡ steps.old + lane_steps (model.storage_words set.old.length) }
 {
-    zero(&mut set.words, set.length, steps);
+    let (words, length) = (&mut *set.words.as_mut_slice(), set.length);
+    BitsMut { words, length }.clear(steps);
 }
 
 /// [`FixedBitSet::is_clear`], with the steps that it takes: one for each lane of four words up to the first position that
@@ -43,7 +44,7 @@ pub fn is_clear(set: &FixedBitSet, steps: &mut Steps) -> bool
     ensures whole { IsTrue result
         → steps.new ≡ steps.old + lane_steps (model.storage_words set.now.length) }
 {
-    minimum(set, steps).is_none()
+    set.as_bits().is_clear(steps)
 }
 
 /// [`FixedBitSet::minimum`], with the steps that it takes: one for each lane of four words, from the first on up to the one
@@ -54,14 +55,13 @@ pub fn is_clear(set: &FixedBitSet, steps: &mut Steps) -> bool
 /// assert_eq!(rt; counted::minimum(&set, &mut Steps::new()), Some(69));
 /// ```
 #[inline]
-#[tactic(auto, using(crate::proofs::Words::of_length))]
 pub fn minimum(set: &FixedBitSet, steps: &mut Steps) -> Option<usize>
     ensures value { result ≡ model.minimum set.now }
     ensures cost { IfSome result (λ p. steps.new ≡ steps.old + lane_steps (p / 64 + 1)) }
     ensures whole { IfNone result
         (steps.new ≡ steps.old + lane_steps (model.storage_words set.now.length)) }
 {
-    minimum_counted(&set.words, set.length, steps)
+    set.as_bits().minimum(steps)
 }
 
 /// [`FixedBitSet::maximum`], with the steps that it takes: one for each lane of four words, from the last on down to the
@@ -72,7 +72,6 @@ pub fn minimum(set: &FixedBitSet, steps: &mut Steps) -> Option<usize>
 /// assert_eq!(rt; counted::maximum(&set, &mut Steps::new()), Some(130));
 /// ```
 #[inline]
-#[tactic(auto, using(crate::proofs::Words::of_length))]
 pub fn maximum(set: &FixedBitSet, steps: &mut Steps) -> Option<usize>
     ensures value { result ≡ model.maximum set.now }
     ensures cost { IfSome result (λ p. steps.new
@@ -80,7 +79,7 @@ pub fn maximum(set: &FixedBitSet, steps: &mut Steps) -> Option<usize>
     ensures whole { IfNone result
         (steps.new ≡ steps.old + lane_steps (model.storage_words set.now.length)) }
 {
-    maximum_counted(&set.words, set.length, steps)
+    set.as_bits().maximum(steps)
 }
 
 /// [`FixedBitSet::is_full`], with the steps that it takes.

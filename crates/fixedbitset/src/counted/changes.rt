@@ -7,10 +7,10 @@ ghost use Rattle.bitwords.specs.Steps.{join_steps};
 ghost use Rattle.fixedbitset.specs.Bits as model;
 ghost use Rattle.fixedbitset.specs.TwoSets as sets;
 
-use crate::lent::changes::{join, join_difference};
 use crate::set::FixedBitSet;
+use crate::views::BitsMut;
 use bitlanes::Steps;
-use bitlanes::ops::{And, AndNot, Or};
+use bitlanes::ops::Or;
 use std::alloc::AllocError;
 
 /// [`FixedBitSet::union_with_change`], with the steps that it takes.
@@ -42,13 +42,8 @@ pub fn union_with_change(
     if set.len() < other.len() {
         return grow_and_unite(set, other, steps);
     }
-    Ok(join::<Or>(
-        &mut set.words,
-        set.length,
-        &other.words,
-        other.length,
-        steps,
-    ))
+    let (words, length) = (&mut *set.words.as_mut_slice(), set.length);
+    Ok(BitsMut { words, length }.union_with_change(other.as_bits(), steps))
 }
 
 /// [`FixedBitSet::intersect_with_change`], with the steps that it takes.
@@ -60,7 +55,7 @@ pub fn union_with_change(
 /// assert_eq!(rt; set.as_slice(), [8, 0].as_slice());
 /// ```
 #[inline]
-#[tactic(auto, using(crate::proofs::JoinedValues::intersection_joined, crate::proofs::JoinedChanges::intersection_changes, crate::proofs::Words::given_back))]
+#[tactic(auto, using(crate::proofs::Words::given_back, crate::proofs::Words::viewed_length))]
 pub fn intersect_with_change(set: &mut FixedBitSet, other: &FixedBitSet, steps: &mut Steps) -> bool
     ensures value { set.new ≡ sets.intersection set.old other.now }
     ensures changed { result ≡ not (sets.is_subset set.old other.now) }
@@ -68,13 +63,8 @@ pub fn intersect_with_change(set: &mut FixedBitSet, other: &FixedBitSet, steps: 
         + join_steps false (model.storage_words set.old.length)
         (model.storage_words other.now.length) }
 {
-    join::<And>(
-        &mut set.words,
-        set.length,
-        &other.words,
-        other.length,
-        steps,
-    )
+    let (words, length) = (&mut *set.words.as_mut_slice(), set.length);
+    BitsMut { words, length }.intersect_with_change(other.as_bits(), steps)
 }
 
 /// [`FixedBitSet::difference_with_change`], with the steps that it takes.
@@ -86,7 +76,7 @@ pub fn intersect_with_change(set: &mut FixedBitSet, other: &FixedBitSet, steps: 
 /// assert_eq!(rt; set.as_slice(), [2, 1].as_slice());
 /// ```
 #[inline]
-#[tactic(auto, using(crate::proofs::JoinedValues::difference_joined, crate::proofs::JoinedChanges::difference_changes, crate::proofs::Words::given_back))]
+#[tactic(auto, using(crate::proofs::Words::given_back, crate::proofs::Words::viewed_length))]
 pub fn difference_with_change(set: &mut FixedBitSet, other: &FixedBitSet, steps: &mut Steps) -> bool
     ensures value { set.new ≡ sets.difference set.old other.now }
     ensures changed { result ≡ not (sets.is_disjoint set.old other.now) }
@@ -94,13 +84,8 @@ pub fn difference_with_change(set: &mut FixedBitSet, other: &FixedBitSet, steps:
         + join_steps true (model.storage_words set.old.length)
         (model.storage_words other.now.length) }
 {
-    join::<AndNot>(
-        &mut set.words,
-        set.length,
-        &other.words,
-        other.length,
-        steps,
-    )
+    let (words, length) = (&mut *set.words.as_mut_slice(), set.length);
+    BitsMut { words, length }.difference_with_change(other.as_bits(), steps)
 }
 
 /// [`FixedBitSet::union_with_difference`], with the steps that it takes.
@@ -135,15 +120,8 @@ pub fn union_with_difference(
     if set.len() < gens.len() {
         return grow_and_take(set, gens, kills, steps);
     }
-    Ok(join_difference(
-        &mut set.words,
-        set.length,
-        &gens.words,
-        gens.length,
-        &kills.words,
-        kills.length,
-        steps,
-    ))
+    let (words, length) = (&mut *set.words.as_mut_slice(), set.length);
+    Ok(BitsMut { words, length }.union_with_difference(gens.as_bits(), kills.as_bits(), steps))
 }
 
 // Unites `set`, which grows before, with the longer set `other`.
@@ -166,13 +144,8 @@ fn grow_and_unite(
     ensures refused { OnErr result (steps.new ≡ steps.old) }
 {
     set.grow(other.len())?;
-    Ok(join::<Or>(
-        &mut set.words,
-        set.length,
-        &other.words,
-        other.length,
-        steps,
-    ))
+    let (words, length) = (&mut *set.words.as_mut_slice(), set.length);
+    Ok(BitsMut { words, length }.join_with_change::<Or>(other.as_bits(), steps))
 }
 
 // Takes into `set`, which grows before, what `kills` lacks of the longer set `gens`.
@@ -197,13 +170,6 @@ fn grow_and_take(
     ensures refused { OnErr result (steps.new ≡ steps.old) }
 {
     set.grow(gens.len())?;
-    Ok(join_difference(
-        &mut set.words,
-        set.length,
-        &gens.words,
-        gens.length,
-        &kills.words,
-        kills.length,
-        steps,
-    ))
+    let (words, length) = (&mut *set.words.as_mut_slice(), set.length);
+    Ok(BitsMut { words, length }.join_difference(gens.as_bits(), kills.as_bits(), steps))
 }

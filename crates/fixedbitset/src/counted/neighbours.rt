@@ -16,10 +16,6 @@ ghost use Rattle.fixedbitset.specs.Ranges as ranges;
 ghost use Rattle.fixedbitset.specs.Ranges.{over};
 ghost use Rattle.fixedbitset.specs.Runs as stretches;
 
-use crate::lent::gaps::{first_aligned_gap_counted, first_gap_counted};
-use crate::lent::neighbours::{
-    next_one_counted, next_zero_counted, previous_one_counted, previous_zero_counted,
-};
 use crate::set::FixedBitSet;
 use bitlanes::{IndexRange, Steps};
 
@@ -31,7 +27,6 @@ use bitlanes::{IndexRange, Steps};
 /// assert_eq!(rt; counted::next_one(&set, 7, &mut Steps::new()), Some(150));
 /// ```
 #[inline]
-#[tactic(auto, using(crate::proofs::Words::of_length))]
 pub fn next_one(set: &FixedBitSet, from: usize, steps: &mut Steps) -> Option<usize>
     ensures next { result ≡ neighbours.next_one set.now from }
     ensures cost { IfSome result
@@ -42,7 +37,7 @@ pub fn next_one(set: &FixedBitSet, from: usize, steps: &mut Steps) -> Option<usi
         + lane_steps (storage_words set.now.length - 1 - from / 64)) }
     ensures empty { set.now.length ≤ from → steps.new ≡ steps.old }
 {
-    next_one_counted(&set.words, set.length, from, steps)
+    set.as_bits().next_one(from, steps)
 }
 
 /// [`FixedBitSet::next_zero`], with the steps that it takes.
@@ -53,7 +48,6 @@ pub fn next_one(set: &FixedBitSet, from: usize, steps: &mut Steps) -> Option<usi
 /// assert_eq!(rt; counted::next_zero(&set, 7, &mut Steps::new()), Some(150));
 /// ```
 #[inline]
-#[tactic(auto, using(crate::proofs::Words::of_length))]
 pub fn next_zero(set: &FixedBitSet, from: usize, steps: &mut Steps) -> Option<usize>
     ensures next { result ≡ neighbours.next_zero set.now from }
     ensures cost { IfSome result
@@ -64,7 +58,7 @@ pub fn next_zero(set: &FixedBitSet, from: usize, steps: &mut Steps) -> Option<us
         + lane_steps ((set.now.length - 1) / 64 - from / 64) ≤ steps.new) }
     ensures empty { set.now.length ≤ from → steps.new ≡ steps.old }
 {
-    next_zero_counted(&set.words, set.length, from, steps)
+    set.as_bits().next_zero(from, steps)
 }
 
 /// [`FixedBitSet::first_gap`], with the steps that it takes: one for each lane of four words from that of `from` up to the end
@@ -76,7 +70,6 @@ pub fn next_zero(set: &FixedBitSet, from: usize, steps: &mut Steps) -> Option<us
 /// assert_eq!(rt; counted::first_gap(&set, 3, 1, &mut Steps::new()), Some(7));
 /// ```
 #[inline]
-#[tactic(auto, using(crate::proofs::Words::of_length))]
 pub fn first_gap(set: &FixedBitSet, count: usize, from: usize, steps: &mut Steps) -> Option<usize>
     ensures gap { result ≡ stretches.first_gap set.now count from }
     ensures cost { steps.new ≤ steps.old + lane_steps (range_words from set.now.length) }
@@ -87,7 +80,7 @@ pub fn first_gap(set: &FixedBitSet, count: usize, from: usize, steps: &mut Steps
     ensures missed { IfNone result (steps.old
         + lane_steps (range_words from (set.now.length + 1 - count)) ≤ steps.new) }
 {
-    first_gap_counted(&set.words, set.length, count, from, steps)
+    set.as_bits().first_gap(count, from, steps)
 }
 
 /// [`FixedBitSet::first_aligned_gap`], with the steps that it takes: at most two for each lane of four words of the range, and
@@ -116,7 +109,7 @@ pub fn first_aligned_gap<R: IndexRange<usize> + Drop>(
 {
     let start = range.start().unwrap_or(0);
     let end = range.end().unwrap_or(set.len());
-    first_aligned_gap_counted(&set.words, set.length, count, align, start, end, steps)
+    set.as_bits().first_aligned_gap(count, align, start, end, steps)
 }
 
 /// [`FixedBitSet::previous_one`], with the steps that it takes.
@@ -127,7 +120,6 @@ pub fn first_aligned_gap<R: IndexRange<usize> + Drop>(
 /// assert_eq!(rt; counted::previous_one(&set, 150, &mut Steps::new()), Some(7));
 /// ```
 #[inline]
-#[tactic(auto, using(crate::proofs::Words::of_length))]
 pub fn previous_one(set: &FixedBitSet, below: usize, steps: &mut Steps) -> Option<usize>
     ensures previous { result ≡ neighbours.previous_one set.now below }
     ensures cost { IfSome result (λ p. steps.new ≡ steps.old + 1
@@ -138,7 +130,7 @@ pub fn previous_one(set: &FixedBitSet, below: usize, steps: &mut Steps) -> Optio
         + lane_steps ((min below set.now.length - 1) / 64)) }
     ensures empty { min below set.now.length ≡ 0 → steps.new ≡ steps.old }
 {
-    previous_one_counted(&set.words, set.length, below, steps)
+    set.as_bits().previous_one(below, steps)
 }
 
 /// [`FixedBitSet::previous_zero`], with the steps that it takes.
@@ -149,7 +141,6 @@ pub fn previous_one(set: &FixedBitSet, below: usize, steps: &mut Steps) -> Optio
 /// assert_eq!(rt; counted::previous_zero(&set, 150, &mut Steps::new()), Some(7));
 /// ```
 #[inline]
-#[tactic(auto, using(crate::proofs::Words::of_length))]
 pub fn previous_zero(set: &FixedBitSet, below: usize, steps: &mut Steps) -> Option<usize>
     ensures previous { result ≡ neighbours.previous_zero set.now below }
     ensures cost { IfSome result (λ p. steps.new ≡ steps.old + 1
@@ -160,5 +151,5 @@ pub fn previous_zero(set: &FixedBitSet, below: usize, steps: &mut Steps) -> Opti
         + lane_steps ((min below set.now.length - 1) / 64)) }
     ensures empty { min below set.now.length ≡ 0 → steps.new ≡ steps.old }
 {
-    previous_zero_counted(&set.words, set.length, below, steps)
+    set.as_bits().previous_zero(below, steps)
 }

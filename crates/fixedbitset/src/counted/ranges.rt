@@ -10,9 +10,8 @@ ghost use Rattle.bitwords.specs.Steps.{range_words, search_steps};
 ghost use Rattle.fixedbitset.specs.Ranges as ranges;
 ghost use Rattle.fixedbitset.specs.Ranges.{over};
 
-use crate::lent::ranges::{change, count, none};
 use crate::set::FixedBitSet;
-use bitlanes::ops::{And, AndNot, Or, Xor};
+use crate::views::BitsMut;
 use bitlanes::{IndexRange, Steps};
 
 /// [`FixedBitSet::insert_range`], with the steps that it takes.
@@ -24,7 +23,7 @@ use bitlanes::{IndexRange, Steps};
 /// assert_eq!(rt; counted::count_ones(&set, .., &mut steps), 3);
 /// ```
 #[inline]
-#[tactic(auto, using(crate::proofs::JoinedValues::insert_joined, crate::proofs::Words::given_back))]
+#[tactic(auto, using(crate::proofs::Words::given_back, crate::proofs::Words::viewed_length))]
 pub fn insert_range<R: IndexRange<usize> + Drop>(set: &mut FixedBitSet, range: R, steps: &mut Steps)
     requires { IsTrue (over ranges.is_valid set.old (R.start_of range) (R.end_of range)) }
     ensures value { set.new ≡ over ranges.insert_range set.old (R.start_of range) (R.end_of range) }
@@ -33,7 +32,8 @@ pub fn insert_range<R: IndexRange<usize> + Drop>(set: &mut FixedBitSet, range: R
 {
     let start = range.start().unwrap_or(0);
     let end = range.end().unwrap_or(set.len());
-    change::<Or>(&mut set.words, set.length, start, end, steps);
+    let (words, length) = (&mut *set.words.as_mut_slice(), set.length);
+    BitsMut { words, length }.insert_range(start, end, steps);
 }
 
 /// [`FixedBitSet::remove_range`], with the steps that it takes.
@@ -46,7 +46,7 @@ pub fn insert_range<R: IndexRange<usize> + Drop>(set: &mut FixedBitSet, range: R
 /// assert_eq!(rt; set.count_ones(..), 2);
 /// ```
 #[inline]
-#[tactic(auto, using(crate::proofs::JoinedValues::remove_joined, crate::proofs::Words::given_back))]
+#[tactic(auto, using(crate::proofs::Words::given_back, crate::proofs::Words::viewed_length))]
 pub fn remove_range<R: IndexRange<usize> + Drop>(set: &mut FixedBitSet, range: R, steps: &mut Steps)
     requires { IsTrue (over ranges.is_valid set.old (R.start_of range) (R.end_of range)) }
     ensures value { set.new ≡ over ranges.remove_range set.old (R.start_of range) (R.end_of range) }
@@ -55,7 +55,8 @@ pub fn remove_range<R: IndexRange<usize> + Drop>(set: &mut FixedBitSet, range: R
 {
     let start = range.start().unwrap_or(0);
     let end = range.end().unwrap_or(set.len());
-    change::<AndNot>(&mut set.words, set.length, start, end, steps);
+    let (words, length) = (&mut *set.words.as_mut_slice(), set.length);
+    BitsMut { words, length }.remove_range(start, end, steps);
 }
 
 /// [`FixedBitSet::toggle_range`], with the steps that it takes.
@@ -68,7 +69,7 @@ pub fn remove_range<R: IndexRange<usize> + Drop>(set: &mut FixedBitSet, range: R
 /// assert_eq!(rt; set.minimum(), Some(60));
 /// ```
 #[inline]
-#[tactic(auto, using(crate::proofs::JoinedValues::toggle_joined, crate::proofs::Words::given_back))]
+#[tactic(auto, using(crate::proofs::Words::given_back, crate::proofs::Words::viewed_length))]
 pub fn toggle_range<R: IndexRange<usize> + Drop>(set: &mut FixedBitSet, range: R, steps: &mut Steps)
     requires { IsTrue (over ranges.is_valid set.old (R.start_of range) (R.end_of range)) }
     ensures value { set.new ≡ over ranges.toggle_range set.old (R.start_of range) (R.end_of range) }
@@ -77,7 +78,8 @@ pub fn toggle_range<R: IndexRange<usize> + Drop>(set: &mut FixedBitSet, range: R
 {
     let start = range.start().unwrap_or(0);
     let end = range.end().unwrap_or(set.len());
-    change::<Xor>(&mut set.words, set.length, start, end, steps);
+    let (words, length) = (&mut *set.words.as_mut_slice(), set.length);
+    BitsMut { words, length }.toggle_range(start, end, steps);
 }
 
 /// [`FixedBitSet::count_ones`], with the steps that it takes.
@@ -88,7 +90,6 @@ pub fn toggle_range<R: IndexRange<usize> + Drop>(set: &mut FixedBitSet, range: R
 /// assert_eq!(rt; counted::count_ones(&set, 63..=64, &mut Steps::new()), 2);
 /// ```
 #[inline]
-#[tactic(auto, using(crate::proofs::JoinedCounts::count_ones_of))]
 pub fn count_ones<R: IndexRange<usize> + Drop>(
     set: &FixedBitSet,
     range: R,
@@ -101,7 +102,7 @@ pub fn count_ones<R: IndexRange<usize> + Drop>(
 {
     let start = range.start().unwrap_or(0);
     let end = range.end().unwrap_or(set.len());
-    count::<And>(&set.words, set.length, start, end, steps)
+    set.as_bits().count_ones(start, end, steps)
 }
 
 /// [`FixedBitSet::count_zeroes`], with the steps that it takes.
@@ -112,7 +113,6 @@ pub fn count_ones<R: IndexRange<usize> + Drop>(
 /// assert_eq!(rt; counted::count_zeroes(&set, 59..=64, &mut Steps::new()), 1);
 /// ```
 #[inline]
-#[tactic(auto, using(crate::proofs::JoinedCounts::count_zeroes_of))]
 pub fn count_zeroes<R: IndexRange<usize> + Drop>(
     set: &FixedBitSet,
     range: R,
@@ -125,7 +125,7 @@ pub fn count_zeroes<R: IndexRange<usize> + Drop>(
 {
     let start = range.start().unwrap_or(0);
     let end = range.end().unwrap_or(set.len());
-    count::<AndNot>(&set.words, set.length, start, end, steps)
+    set.as_bits().count_zeroes(start, end, steps)
 }
 
 /// [`FixedBitSet::contains_all_in_range`], with the steps that it takes.
@@ -137,7 +137,6 @@ pub fn count_zeroes<R: IndexRange<usize> + Drop>(
 /// assert!(rt; !counted::contains_all_in_range(&set, 59..130, &mut Steps::new()));
 /// ```
 #[inline]
-#[tactic(auto, using(crate::proofs::JoinedCounts::contains_all_of))]
 pub fn contains_all_in_range<R: IndexRange<usize> + Drop>(
     set: &FixedBitSet,
     range: R,
@@ -154,7 +153,7 @@ pub fn contains_all_in_range<R: IndexRange<usize> + Drop>(
 {
     let start = range.start().unwrap_or(0);
     let end = range.end().unwrap_or(set.len());
-    none::<AndNot>(&set.words, set.length, start, end, steps)
+    set.as_bits().contains_all_in_range(start, end, steps)
 }
 
 /// [`FixedBitSet::contains_any_in_range`], with the steps that it takes.
@@ -166,7 +165,6 @@ pub fn contains_all_in_range<R: IndexRange<usize> + Drop>(
 /// assert!(rt; !counted::contains_any_in_range(&set, ..60, &mut Steps::new()));
 /// ```
 #[inline]
-#[tactic(auto, using(crate::proofs::JoinedCounts::contains_any_of))]
 pub fn contains_any_in_range<R: IndexRange<usize> + Drop>(
     set: &FixedBitSet,
     range: R,
@@ -183,5 +181,5 @@ pub fn contains_any_in_range<R: IndexRange<usize> + Drop>(
 {
     let start = range.start().unwrap_or(0);
     let end = range.end().unwrap_or(set.len());
-    !none::<And>(&set.words, set.length, start, end, steps)
+    set.as_bits().contains_any_in_range(start, end, steps)
 }

@@ -13,12 +13,8 @@ ghost use Rattle.fixedbitset.specs.Ranges as ranges;
 ghost use Rattle.fixedbitset.specs.Ranges.{over};
 
 use crate::counted::ranges::insert_range;
-use crate::lent::shifts::{
-    copy_range_counted, shift_down_counted, shift_up_counted, slice_counted,
-    union_with_own_shift_counted, union_with_shifted_counted,
-};
-use crate::lent::storage_words;
 use crate::set::FixedBitSet;
+use crate::views::{BitsMut, storage_words};
 use bitlanes::{IndexRange, Steps};
 use std::alloc::{AllocError, Global};
 
@@ -37,7 +33,8 @@ pub fn shift_up(set: &mut FixedBitSet, by: usize, steps: &mut Steps)
         + move_up_steps false (model.storage_words set.old.length) by }
     ensures bound { steps.new ≤ steps.old + lane_steps (model.storage_words set.old.length) + 2 }
 {
-    shift_up_counted(&mut set.words, set.length, by, steps);
+    let (words, length) = (&mut *set.words.as_mut_slice(), set.length);
+    BitsMut { words, length }.shift_up(by, steps);
 }
 
 /// [`FixedBitSet::shift_down`], with the steps that it takes.
@@ -55,7 +52,8 @@ pub fn shift_down(set: &mut FixedBitSet, by: usize, steps: &mut Steps)
         (model.storage_words set.old.length) (model.storage_words set.old.length - by / 64) }
     ensures bound { steps.new ≤ steps.old + lane_steps (model.storage_words set.old.length) + 1 }
 {
-    shift_down_counted(&mut set.words, set.length, by, steps);
+    let (words, length) = (&mut *set.words.as_mut_slice(), set.length);
+    BitsMut { words, length }.shift_down(by, steps);
 }
 
 /// [`FixedBitSet::union_with_shifted`], with the steps that it takes.
@@ -75,14 +73,8 @@ pub fn union_with_shifted(set: &mut FixedBitSet, other: &FixedBitSet, by: usize,
     ensures bound { steps.new ≤ steps.old + 1 + lane_steps (min
         (model.storage_words set.old.length - by / 64) (model.storage_words other.now.length)) }
 {
-    union_with_shifted_counted(
-        &mut set.words,
-        set.length,
-        &other.words,
-        other.length,
-        by,
-        steps,
-    );
+    let (words, length) = (&mut *set.words.as_mut_slice(), set.length);
+    BitsMut { words, length }.union_with_shifted(other.as_bits(), by, steps);
 }
 
 /// [`FixedBitSet::union_with_own_shift`], with the steps that it takes.
@@ -100,7 +92,8 @@ pub fn union_with_own_shift(set: &mut FixedBitSet, by: usize, steps: &mut Steps)
         + move_up_steps true (model.storage_words set.old.length) by }
     ensures bound { steps.new ≤ steps.old + lane_steps (model.storage_words set.old.length) + 1 }
 {
-    union_with_own_shift_counted(&mut set.words, set.length, by, steps);
+    let (words, length) = (&mut *set.words.as_mut_slice(), set.length);
+    BitsMut { words, length }.union_with_own_shift(by, steps);
 }
 
 /// [`FixedBitSet::slice`], with the steps that it takes. That the new words are written as zeros first is not counted.
@@ -132,7 +125,7 @@ pub fn slice<R: IndexRange<usize> + Drop>(
     let start = range.start().unwrap_or(0);
     let end = range.end().unwrap_or(set.len());
     let mut words = vec![in alloc; 0; storage_words(end - start)]?;
-    slice_counted(&mut words, &set.words, set.length, start, end, steps);
+    set.as_bits().slice_to(start, end, &mut words, steps);
     Ok(FixedBitSet {
         words,
         length: end - start,
@@ -170,16 +163,8 @@ pub fn copy_range<R: IndexRange<usize> + Drop>(
 {
     let start = range.start().unwrap_or(0);
     let end = range.end().unwrap_or(other.len());
-    copy_range_counted(
-        &mut set.words,
-        set.length,
-        &other.words,
-        other.length,
-        start,
-        end,
-        at,
-        steps,
-    );
+    let (words, length) = (&mut *set.words.as_mut_slice(), set.length);
+    BitsMut { words, length }.copy_range(other.as_bits(), start, end, at, steps);
 }
 
 /// [`FixedBitSet::append`], with the steps that it takes.

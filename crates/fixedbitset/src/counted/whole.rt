@@ -15,10 +15,10 @@ ghost use Rattle.fixedbitset.specs.Order.{compare};
 ghost use Rattle.fixedbitset.specs.Stored.{joined};
 ghost use Rattle.fixedbitset.specs.TwoSets as sets;
 
-use crate::lent::whole::{count_used, equal, join, lacking, none, ordering};
 use crate::set::FixedBitSet;
+use crate::views::BitsMut;
 use bitlanes::Steps;
-use bitlanes::ops::{And, AndNot, Or, WordOp, Xor};
+use bitlanes::ops::{Or, WordOp, Xor};
 use std::alloc::AllocError;
 use std::cmp::Ordering;
 
@@ -50,13 +50,8 @@ pub fn union_with(
     if set.len() < other.len() {
         return grow_and_join::<Or>(set, other, steps);
     }
-    join::<Or>(
-        &mut set.words,
-        set.length,
-        &other.words,
-        other.length,
-        steps,
-    );
+    let (words, length) = (&mut *set.words.as_mut_slice(), set.length);
+    BitsMut { words, length }.union_with(other.as_bits(), steps);
     Ok(())
 }
 
@@ -88,13 +83,8 @@ pub fn symmetric_difference_with(
     if set.len() < other.len() {
         return grow_and_join::<Xor>(set, other, steps);
     }
-    join::<Xor>(
-        &mut set.words,
-        set.length,
-        &other.words,
-        other.length,
-        steps,
-    );
+    let (words, length) = (&mut *set.words.as_mut_slice(), set.length);
+    BitsMut { words, length }.symmetric_difference_with(other.as_bits(), steps);
     Ok(())
 }
 
@@ -107,20 +97,15 @@ pub fn symmetric_difference_with(
 /// assert_eq!(rt; set.as_slice(), [8, 0].as_slice());
 /// ```
 #[inline]
-#[tactic(auto, using(crate::proofs::JoinedValues::intersection_joined, crate::proofs::Words::given_back))]
+#[tactic(auto, using(crate::proofs::Words::given_back, crate::proofs::Words::viewed_length))]
 pub fn intersect_with(set: &mut FixedBitSet, other: &FixedBitSet, steps: &mut Steps)
     ensures value { set.new ≡ sets.intersection set.old other.now }
     ensures cost { steps.new ≡ steps.old
         + join_steps false (model.storage_words set.old.length)
         (model.storage_words other.now.length) }
 {
-    join::<And>(
-        &mut set.words,
-        set.length,
-        &other.words,
-        other.length,
-        steps,
-    );
+    let (words, length) = (&mut *set.words.as_mut_slice(), set.length);
+    BitsMut { words, length }.intersect_with(other.as_bits(), steps);
 }
 
 /// [`FixedBitSet::difference_with`], with the steps that it takes.
@@ -132,20 +117,15 @@ pub fn intersect_with(set: &mut FixedBitSet, other: &FixedBitSet, steps: &mut St
 /// assert_eq!(rt; set.as_slice(), [2, 1].as_slice());
 /// ```
 #[inline]
-#[tactic(auto, using(crate::proofs::JoinedValues::difference_joined, crate::proofs::Words::given_back, crate::proofs::Words::viewed_length))]
+#[tactic(auto, using(crate::proofs::Words::given_back, crate::proofs::Words::viewed_length))]
 pub fn difference_with(set: &mut FixedBitSet, other: &FixedBitSet, steps: &mut Steps)
     ensures value { set.new ≡ sets.difference set.old other.now }
     ensures cost { steps.new ≡ steps.old
         + join_steps true (model.storage_words set.old.length)
         (model.storage_words other.now.length) }
 {
-    join::<AndNot>(
-        &mut set.words,
-        set.length,
-        &other.words,
-        other.length,
-        steps,
-    );
+    let (words, length) = (&mut *set.words.as_mut_slice(), set.length);
+    BitsMut { words, length }.difference_with(other.as_bits(), steps);
 }
 
 /// [`FixedBitSet::union_count`], with the steps that it takes.
@@ -157,14 +137,13 @@ pub fn difference_with(set: &mut FixedBitSet, other: &FixedBitSet, steps: &mut S
 /// assert_eq!(rt; count, 4);
 /// ```
 #[inline]
-#[tactic(auto, using(crate::proofs::JoinedCounts::union_count_of, crate::proofs::Words::viewed_length))]
 pub fn union_count(set: &FixedBitSet, other: &FixedBitSet, steps: &mut Steps) -> usize
     ensures count { result ≡ sets.union_count set.now other.now }
     ensures cost { steps.new ≡ steps.old
         + both_steps true true (model.storage_words set.now.length)
         (model.storage_words other.now.length) }
 {
-    count_used::<Or>(&set.words, set.length, &other.words, other.length, steps)
+    set.as_bits().union_count(other.as_bits(), steps)
 }
 
 /// [`FixedBitSet::intersection_count`], with the steps that it takes.
@@ -176,14 +155,13 @@ pub fn union_count(set: &FixedBitSet, other: &FixedBitSet, steps: &mut Steps) ->
 /// assert_eq!(rt; count, 1);
 /// ```
 #[inline]
-#[tactic(auto, using(crate::proofs::JoinedCounts::intersection_count_of, crate::proofs::Words::viewed_length))]
 pub fn intersection_count(set: &FixedBitSet, other: &FixedBitSet, steps: &mut Steps) -> usize
     ensures count { result ≡ sets.intersection_count set.now other.now }
     ensures cost { steps.new ≡ steps.old
         + both_steps false false (model.storage_words set.now.length)
         (model.storage_words other.now.length) }
 {
-    count_used::<And>(&set.words, set.length, &other.words, other.length, steps)
+    set.as_bits().intersection_count(other.as_bits(), steps)
 }
 
 /// [`FixedBitSet::difference_count`], with the steps that it takes.
@@ -195,14 +173,13 @@ pub fn intersection_count(set: &FixedBitSet, other: &FixedBitSet, steps: &mut St
 /// assert_eq!(rt; count, 2);
 /// ```
 #[inline]
-#[tactic(auto, using(crate::proofs::JoinedCounts::difference_count_of, crate::proofs::Words::viewed_length))]
 pub fn difference_count(set: &FixedBitSet, other: &FixedBitSet, steps: &mut Steps) -> usize
     ensures count { result ≡ sets.difference_count set.now other.now }
     ensures cost { steps.new ≡ steps.old
         + both_steps true false (model.storage_words set.now.length)
         (model.storage_words other.now.length) }
 {
-    count_used::<AndNot>(&set.words, set.length, &other.words, other.length, steps)
+    set.as_bits().difference_count(other.as_bits(), steps)
 }
 
 /// [`FixedBitSet::symmetric_difference_count`], with the steps that it takes.
@@ -214,7 +191,6 @@ pub fn difference_count(set: &FixedBitSet, other: &FixedBitSet, steps: &mut Step
 /// assert_eq!(rt; count, 3);
 /// ```
 #[inline]
-#[tactic(auto, using(crate::proofs::JoinedCounts::symmetric_difference_count_of, crate::proofs::Words::viewed_length))]
 pub fn symmetric_difference_count(
     set: &FixedBitSet,
     other: &FixedBitSet,
@@ -225,7 +201,7 @@ pub fn symmetric_difference_count(
         + both_steps true true (model.storage_words set.now.length)
         (model.storage_words other.now.length) }
 {
-    count_used::<Xor>(&set.words, set.length, &other.words, other.length, steps)
+    set.as_bits().symmetric_difference_count(other.as_bits(), steps)
 }
 
 /// [`FixedBitSet::is_disjoint`], with the steps that it takes.
@@ -236,7 +212,6 @@ pub fn symmetric_difference_count(
 /// assert!(rt; counted::is_disjoint(&set, &other, &mut Steps::new()));
 /// ```
 #[inline]
-#[tactic(auto, using(crate::proofs::JoinedCounts::disjoint_of, crate::proofs::Words::viewed_length))]
 pub fn is_disjoint(set: &FixedBitSet, other: &FixedBitSet, steps: &mut Steps) -> bool
     ensures told { result ≡ sets.is_disjoint set.now other.now }
     ensures cost { steps.new ≤ steps.old
@@ -247,7 +222,7 @@ pub fn is_disjoint(set: &FixedBitSet, other: &FixedBitSet, steps: &mut Steps) ->
         (model.storage_words other.now.length) }
     ensures stops { result ≡ false → steps.old < steps.new }
 {
-    none::<And>(&set.words, set.length, &other.words, other.length, steps)
+    set.as_bits().is_disjoint(other.as_bits(), steps)
 }
 
 /// [`FixedBitSet::is_subset`], with the steps that it takes.
@@ -259,7 +234,6 @@ pub fn is_disjoint(set: &FixedBitSet, other: &FixedBitSet, steps: &mut Steps) ->
 /// assert!(rt; !counted::is_subset(&other, &set, &mut Steps::new()));
 /// ```
 #[inline]
-#[tactic(auto, using(crate::proofs::JoinedCounts::subset_of, crate::proofs::Words::viewed_length))]
 pub fn is_subset(set: &FixedBitSet, other: &FixedBitSet, steps: &mut Steps) -> bool
     ensures told { result ≡ sets.is_subset set.now other.now }
     ensures cost { steps.new ≤ steps.old
@@ -270,7 +244,7 @@ pub fn is_subset(set: &FixedBitSet, other: &FixedBitSet, steps: &mut Steps) -> b
         (model.storage_words other.now.length) }
     ensures stops { result ≡ false → steps.old < steps.new }
 {
-    none::<AndNot>(&set.words, set.length, &other.words, other.length, steps)
+    set.as_bits().is_subset(other.as_bits(), steps)
 }
 
 /// [`FixedBitSet::first_lacking`], with the steps that it takes.
@@ -282,7 +256,6 @@ pub fn is_subset(set: &FixedBitSet, other: &FixedBitSet, steps: &mut Steps) -> b
 /// assert_eq!(rt; counted::first_lacking(&other, &set, &mut Steps::new()), None);
 /// ```
 #[inline]
-#[tactic(auto, using(crate::proofs::Words::viewed_length))]
 pub fn first_lacking(set: &FixedBitSet, other: &FixedBitSet, steps: &mut Steps) -> Option<usize>
     ensures first { result ≡ model.minimum (sets.difference other.now set.now) }
     ensures bound { steps.new ≤ steps.old
@@ -294,7 +267,7 @@ pub fn first_lacking(set: &FixedBitSet, other: &FixedBitSet, steps: &mut Steps) 
         + both_steps true false (model.storage_words other.now.length)
         (model.storage_words set.now.length)) }
 {
-    lacking(&set.words, set.length, &other.words, other.length, steps)
+    set.as_bits().first_lacking(other.as_bits(), steps)
 }
 
 /// `==` of two sets, with the steps that it takes: none where the lengths differ.
@@ -306,7 +279,7 @@ pub fn first_lacking(set: &FixedBitSet, other: &FixedBitSet, steps: &mut Steps) 
 /// assert!(rt; !counted::is_equal(&set, &other, &mut Steps::new()));
 /// ```
 #[inline]
-#[tactic(auto, using(crate::specs::OrderFacts::facts, crate::proofs::Words::viewed_length))]
+#[tactic(auto, using(crate::specs::OrderFacts::facts))]
 pub fn is_equal(set: &FixedBitSet, other: &FixedBitSet, steps: &mut Steps) -> bool
     ensures same { IsTrue result ↔ (set.now ≡ other.now) }
     ensures cost { steps.new ≤ steps.old + lane_steps (model.storage_words set.now.length) }
@@ -316,7 +289,7 @@ pub fn is_equal(set: &FixedBitSet, other: &FixedBitSet, steps: &mut Steps) -> bo
     ensures stops { result ≡ false → set.now.length ≡ other.now.length
         → steps.old < steps.new }
 {
-    equal(&set.words, set.length, &other.words, other.length, steps)
+    set.as_bits().is_equal(other.as_bits(), steps)
 }
 
 /// `cmp` of two sets, with a step for each lane where the lengths are alike, and none where they differ.
@@ -329,7 +302,6 @@ pub fn is_equal(set: &FixedBitSet, other: &FixedBitSet, steps: &mut Steps) -> bo
 /// assert_eq!(rt; counted::cmp(&set, &other, &mut Steps::new()), Ordering::Less);
 /// ```
 #[inline]
-#[tactic(auto, using(crate::proofs::Words::viewed_length))]
 pub fn cmp(set: &FixedBitSet, other: &FixedBitSet, steps: &mut Steps) -> Ordering
     ensures value { result ≡ compare set.now other.now }
     ensures cost { steps.new ≤ steps.old + lane_steps (model.storage_words set.now.length) }
@@ -339,7 +311,7 @@ pub fn cmp(set: &FixedBitSet, other: &FixedBitSet, steps: &mut Steps) -> Orderin
         → steps.new ≡ steps.old + lane_steps (model.storage_words set.now.length) }
     ensures unlike { set.now.length ≢ other.now.length → steps.new ≡ steps.old }
 {
-    ordering(&set.words, set.length, &other.words, other.length, steps)
+    set.as_bits().compare(other.as_bits(), steps)
 }
 
 // Joins the longer set `other` to `set`, which grows before. It is a call of its own, so that a set which is as long
@@ -364,12 +336,7 @@ fn grow_and_join<O: WordOp>(
     ensures refused { OnErr result (steps.new ≡ steps.old) }
 {
     set.grow(other.len())?;
-    join::<O>(
-        &mut set.words,
-        set.length,
-        &other.words,
-        other.length,
-        steps,
-    );
+    let (words, length) = (&mut *set.words.as_mut_slice(), set.length);
+    BitsMut { words, length }.join::<O>(other.as_bits(), steps);
     Ok(())
 }

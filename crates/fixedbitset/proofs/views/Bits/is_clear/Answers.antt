@@ -1,0 +1,5 @@
+use Rattle.fixedbitset.proofs.Positions.{none_is_clear}
+use Rattle.fixedbitset.proofs.views.Bits.is_clear.Goals as goal
+
+pub returns-clause-answer : goal.returns-clause-answer
+returns-clause-answer c = none_is_clear _ c.minimum.result _ c.minimum.ensures.value c.is_none.ensures

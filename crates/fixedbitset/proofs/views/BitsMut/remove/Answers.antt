@@ -1,0 +1,5 @@
+use Rattle.fixedbitset.proofs.Changes.{remove_clean}
+use Rattle.fixedbitset.proofs.views.BitsMut.remove.Goals as goal
+
+pub invariant_of-self : goal.invariant_of-self
+invariant_of-self c = record { clean = remove_clean _ _ _ c.args.self.now.clean c.requires }

@@ -1,0 +1,5 @@
+use Rattle.fixedbitset.proofs.Changes.{toggle_clean}
+use Rattle.fixedbitset.proofs.views.BitsMut.toggle.Goals as goal
+
+pub invariant_of-self : goal.invariant_of-self
+invariant_of-self c = record { clean = toggle_clean _ _ _ c.args.self.now.clean c.requires }

@@ -1,0 +1,73 @@
+//! Stretches of clear positions, long enough for a caller.
+
+ghost use Rattle.std.specs.Prelude.{◌≡◌, ◌≤◌, ◌+◌, ◌-◌, IsTrue, IfSome, IfNone};
+ghost use Rattle.bitlanes.specs.Words.{lane_steps};
+ghost use Rattle.bitwords.specs.Gaps.{aligned_steps};
+ghost use Rattle.bitwords.specs.Steps.{range_words};
+ghost use Rattle.fixedbitset.specs.Ranges.{is_valid};
+ghost use Rattle.fixedbitset.specs.Runs as stretches;
+ghost use Rattle.fixedbitset.specs.Views.{value};
+
+use crate::views::Bits;
+use bitlanes::Steps;
+use bitwords::gaps;
+
+impl Bits<'_> {
+    /// The least number at or past `from` with `count` clear positions from there on, or `None` where there is none.
+    ///
+    /// It takes one step for each lane from that of `from` up to the end of the gap. Where there is none they are at least those
+    /// up to the last place with room for one, and at most those up to the length.
+    ///
+    /// ```
+    /// let mut words = [9, 2, 0, 0];
+    /// let set = BitsMut::settle(&mut words, 70, 70);
+    /// assert_eq!(rt; set.as_bits().first_gap(3, 0, &mut Steps::new()), Some(4));
+    /// assert_eq!(rt; set.as_bits().first_gap(5, 62, &mut Steps::new()), None);
+    /// ```
+    #[inline]
+    pub fn first_gap(self, count: usize, from: usize, steps: &mut Steps) -> Option<usize>
+        ensures gap { result ≡ stretches.first_gap (value self.entry) count from }
+        ensures cost { steps.new ≤ steps.old + lane_steps (range_words from self.entry.length) }
+        ensures found { IfSome result
+            (λ p. steps.new ≡ steps.old + lane_steps (range_words from (p + count))) }
+        ensures least { IfSome result
+            (λ p. steps.old + lane_steps (range_words from (p + count)) ≤ steps.new) }
+        ensures missed { IfNone result (steps.old
+            + lane_steps (range_words from (self.entry.length + 1 - count)) ≤ steps.new) }
+    {
+        gaps::first(self.words, from, self.length, count, steps)
+    }
+
+    /// The least multiple of `align` from `start` on with `count` clear positions from there on, all below `end`, or `None` where
+    /// there is none. The only multiple of 0 is 0. The range has to be valid.
+    ///
+    /// It takes at most two steps for each lane of the range, and two for each multiple that may stand in it. Where there is such
+    /// a gap they are at least those of its own lanes.
+    ///
+    /// ```
+    /// let mut words = [9, 2, 0, 0];
+    /// let set = BitsMut::settle(&mut words, 70, 70);
+    /// assert_eq!(rt; set.as_bits().first_aligned_gap(2, 4, 1, 70, &mut Steps::new()), Some(4));
+    /// assert_eq!(rt; set.as_bits().first_aligned_gap(5, 32, 1, 70, &mut Steps::new()), Some(32));
+    /// assert_eq!(rt; set.as_bits().first_aligned_gap(5, 32, 1, 36, &mut Steps::new()), None);
+    /// ```
+    #[inline]
+    pub fn first_aligned_gap(
+        self,
+        count: usize,
+        align: usize,
+        start: usize,
+        end: usize,
+        steps: &mut Steps,
+    ) -> Option<usize>
+        requires { IsTrue (is_valid (value self) start end) }
+        ensures gap { result
+            ≡ stretches.first_aligned_gap count align (value self.entry) start end }
+        ensures cost { steps.new ≤ steps.old + aligned_steps align start end }
+        ensures least { IfSome result
+            (λ p. steps.old + lane_steps (range_words p (p + count)) ≤ steps.new) }
+        ensures grows { steps.old ≤ steps.new }
+    {
+        gaps::first_aligned(self.words, start, end, count, align, steps)
+    }
+}

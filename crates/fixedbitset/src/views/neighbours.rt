@@ -1,0 +1,108 @@
+//! The positions of a set next to a given one.
+//!
+//! A step is one lane of four words, but for the first word that is looked at, which is a step by itself.
+
+ghost use Rattle.std.specs.Prelude.{◌≡◌, ◌+◌, ◌-◌, ◌/◌, ◌<◌, ◌≤◌, min, IfSome, IfNone};
+ghost use Rattle.bitlanes.specs.Words.{lane_steps};
+ghost use Rattle.fixedbitset.specs.Bits.{storage_words};
+ghost use Rattle.fixedbitset.specs.Neighbours as neighbours;
+ghost use Rattle.fixedbitset.specs.Views.{value};
+
+use crate::views::Bits;
+use bitlanes::Steps;
+use bitlanes::ops::{And, AndNot};
+use bitwords::positions;
+
+impl Bits<'_> {
+    /// The least position at or past `from` that is set, or `None` where none is.
+    ///
+    /// ```
+    /// let mut words = [9, 2, 0, 0];
+    /// let set = BitsMut::settle(&mut words, 70, 70);
+    /// assert_eq!(rt; set.as_bits().next_one(3, &mut Steps::new()), Some(3));
+    /// assert_eq!(rt; set.as_bits().next_one(4, &mut Steps::new()), Some(65));
+    /// assert_eq!(rt; set.as_bits().next_one(66, &mut Steps::new()), None);
+    /// ```
+    #[inline(always)]
+    #[tactic(auto, using(crate::proofs::NextPositions::next_one_of))]
+    pub fn next_one(self, from: usize, steps: &mut Steps) -> Option<usize>
+        ensures next { result ≡ neighbours.next_one (value self.entry) from }
+        ensures cost { IfSome result
+            (λ p. steps.new ≡ steps.old + 1 + lane_steps (p / 64 - from / 64)) }
+        ensures bound { steps.new ≤ steps.old + 1
+            + lane_steps (storage_words self.entry.length - 1 - from / 64) }
+        ensures missed { IfNone result (from < self.entry.length → steps.new ≡ steps.old + 1
+            + lane_steps (storage_words self.entry.length - 1 - from / 64)) }
+        ensures empty { self.entry.length ≤ from → steps.new ≡ steps.old }
+    {
+        positions::next::<And>(self.words, from, self.length, steps)
+    }
+
+    /// The least position at or past `from` and below the length that is not set, or `None` where there is none.
+    ///
+    /// ```
+    /// let mut words = [9, 63, 0, 0];
+    /// let set = BitsMut::settle(&mut words, 70, 70);
+    /// assert_eq!(rt; set.as_bits().next_zero(0, &mut Steps::new()), Some(1));
+    /// assert_eq!(rt; set.as_bits().next_zero(64, &mut Steps::new()), None);
+    /// ```
+    #[inline(always)]
+    pub fn next_zero(self, from: usize, steps: &mut Steps) -> Option<usize>
+        ensures next { result ≡ neighbours.next_zero (value self.entry) from }
+        ensures cost { IfSome result
+            (λ p. steps.new ≡ steps.old + 1 + lane_steps (p / 64 - from / 64)) }
+        ensures bound { steps.new ≤ steps.old + 1
+            + lane_steps (storage_words self.entry.length - 1 - from / 64) }
+        ensures missed { IfNone result (from < self.entry.length → steps.old + 1
+            + lane_steps ((self.entry.length - 1) / 64 - from / 64) ≤ steps.new) }
+        ensures empty { self.entry.length ≤ from → steps.new ≡ steps.old }
+    {
+        positions::next::<AndNot>(self.words, from, self.length, steps)
+    }
+
+    /// The greatest position below `below` that is set, or `None` where none is.
+    ///
+    /// ```
+    /// let mut words = [9, 2, 0, 0];
+    /// let set = BitsMut::settle(&mut words, 70, 70);
+    /// assert_eq!(rt; set.as_bits().previous_one(65, &mut Steps::new()), Some(3));
+    /// assert_eq!(rt; set.as_bits().previous_one(500, &mut Steps::new()), Some(65));
+    /// assert_eq!(rt; set.as_bits().previous_one(0, &mut Steps::new()), None);
+    /// ```
+    #[inline(always)]
+    #[tactic(auto, using(crate::proofs::NextPositions::previous_one_of))]
+    pub fn previous_one(self, below: usize, steps: &mut Steps) -> Option<usize>
+        ensures previous { result ≡ neighbours.previous_one (value self.entry) below }
+        ensures cost { IfSome result (λ p. steps.new ≡ steps.old + 1
+            + lane_steps ((min below self.entry.length - 1) / 64 - p / 64)) }
+        ensures bound { steps.new ≤ steps.old + 1
+            + lane_steps ((min below self.entry.length - 1) / 64) }
+        ensures missed { IfNone result (0 < min below self.entry.length → steps.new
+            ≡ steps.old + 1 + lane_steps ((min below self.entry.length - 1) / 64)) }
+        ensures empty { min below self.entry.length ≡ 0 → steps.new ≡ steps.old }
+    {
+        positions::previous::<And>(self.words, below.min(self.length), steps)
+    }
+
+    /// The greatest position below `below` and below the length that is not set, or `None` where there is none.
+    ///
+    /// ```
+    /// let mut words = [9, 63, 0, 0];
+    /// let set = BitsMut::settle(&mut words, 70, 70);
+    /// assert_eq!(rt; set.as_bits().previous_zero(70, &mut Steps::new()), Some(63));
+    /// assert_eq!(rt; set.as_bits().previous_zero(1, &mut Steps::new()), None);
+    /// ```
+    #[inline(always)]
+    pub fn previous_zero(self, below: usize, steps: &mut Steps) -> Option<usize>
+        ensures previous { result ≡ neighbours.previous_zero (value self.entry) below }
+        ensures cost { IfSome result (λ p. steps.new ≡ steps.old + 1
+            + lane_steps ((min below self.entry.length - 1) / 64 - p / 64)) }
+        ensures bound { steps.new ≤ steps.old + 1
+            + lane_steps ((min below self.entry.length - 1) / 64) }
+        ensures missed { IfNone result (0 < min below self.entry.length → steps.new
+            ≡ steps.old + 1 + lane_steps ((min below self.entry.length - 1) / 64)) }
+        ensures empty { min below self.entry.length ≡ 0 → steps.new ≡ steps.old }
+    {
+        positions::previous::<AndNot>(self.words, below.min(self.length), steps)
+    }
+}

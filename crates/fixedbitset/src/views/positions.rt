@@ -1,0 +1,352 @@
+//! Views of words, and single positions.
+
+ghost use Rattle.std.specs.Prelude.{◌≡◌, ◌↔◌, ◌<◌, ◌≤◌, ◌+◌, ◌-◌, ◌*◌, ◌/◌, min, IsTrue, IfSome, IfNone, IsSome};
+ghost use Rattle.std.specs.Prelude as prelude;
+ghost use Rattle.bitlanes.specs.Words.{lane_steps};
+ghost use Rattle.fixedbitset.specs.Bits as model;
+ghost use Rattle.fixedbitset.specs.Bits.{of_words, storage_words};
+ghost use Rattle.fixedbitset.specs.Stored.{IsClean};
+ghost use Rattle.fixedbitset.specs.Views.{value, held, Becomes};
+
+use crate::views::{Bits, BitsMut};
+use bitlanes::word::{BITS, Block, ones_below};
+use bitlanes::{Steps, lanes};
+use bitwords::positions;
+
+impl<'a> Bits<'a> {
+    /// The words as a set of `length` positions, or `None` where they are not those of one as they stand: as many whole lanes
+    /// as the length needs, and no bit past it. So words from elsewhere can be refused, where `settle` would clear what does
+    /// not fit.
+    ///
+    /// It looks at the word of the length and at those behind it, which are at most one lane.
+    ///
+    /// ```
+    /// assert!(rt; Bits::over(&[8, 63, 0, 0], 70).is_some());
+    /// assert!(rt; Bits::over(&[8, 64, 0, 0], 70).is_none());
+    /// assert!(rt; Bits::over(&[8, 63], 70).is_none());
+    /// ```
+    #[inline]
+    pub fn over(words: &'a [Block], length: usize) -> Option<Self>
+        ensures some { IfSome result (λ set. value set ≡ of_words length words.now) }
+        ensures clean { IsSome result ↔ IsClean length words.now }
+    {
+        if words.len() == storage_words(length) && positions::none_from(words, length) {
+            Some(Bits { words, length })
+        } else {
+            None
+        }
+    }
+
+    /// The words that the length needs, without those behind them that make up a whole lane: those that
+    /// [`as_slice`](crate::FixedBitSet::as_slice) lends. The walks go over these.
+    ///
+    /// ```
+    /// let mut words = [9, 2, 0, 0];
+    /// let set = BitsMut::settle(&mut words, 70, 70);
+    /// assert_eq!(rt; set.as_bits().as_slice(), [9, 2].as_slice());
+    /// ```
+    #[inline(always)]
+    pub fn as_slice(self) -> &'a [Block]
+        ensures value { result.now ≡ model.words (value self.entry) }
+        ensures count { prelude.length result.now ≡ model.words_needed self.entry.length }
+    {
+        used_words(self.words, self.length)
+    }
+
+    /// Whether the position is set: `false` at or past the length.
+    ///
+    /// ```
+    /// let mut words = [8, 1, 0, 0];
+    /// let set = BitsMut::settle(&mut words, 70, 70);
+    /// assert!(rt; set.as_bits().contains(64));
+    /// assert!(rt; !set.as_bits().contains(500));
+    /// ```
+    #[inline(always)]
+    #[tactic(auto, using(crate::proofs::Words::contains_word))]
+    pub fn contains(self, bit: usize) -> bool
+        ensures { result ≡ model.contains (value self.entry) bit }
+    {
+        positions::contains(self.words, bit)
+    }
+
+    /// Whether the position, which has to be below the length, is set.
+    ///
+    /// ```
+    /// let mut words = [8, 1, 0, 0];
+    /// let set = BitsMut::settle(&mut words, 70, 70);
+    /// assert!(rt; set.as_bits().contains_unchecked(64));
+    /// ```
+    #[inline(always)]
+    #[tactic(auto, using(crate::proofs::Changes::place_within, crate::proofs::Changes::read_bit))]
+    pub fn contains_unchecked(self, bit: usize) -> bool
+        requires { bit < self.length }
+        ensures { result ≡ model.contains (value self.entry) bit }
+    {
+        self.words[bit / BITS] & (1 << (bit % BITS)) != 0
+    }
+
+    /// Whether no position is set.
+    ///
+    /// It takes one step for each lane up to the first position that is set, or for all of them.
+    ///
+    /// ```
+    /// let mut words = [0, 64, 0, 0];
+    /// let set = BitsMut::settle(&mut words, 70, 70);
+    /// assert!(rt; set.as_bits().is_clear(&mut Steps::new()));
+    /// ```
+    #[inline(always)]
+    pub fn is_clear(self, steps: &mut Steps) -> bool
+        ensures answer { result ≡ model.is_clear (value self.entry) }
+        ensures cost { IfSome (model.minimum (value self.entry))
+            (λ p. steps.new ≡ steps.old + lane_steps (p / 64 + 1)) }
+        ensures exact_if_true { IsTrue result
+            → steps.new ≡ steps.old + lane_steps (storage_words self.entry.length) }
+    {
+        self.minimum(steps).is_none()
+    }
+
+    /// The first position that is set, or `None` where none is.
+    ///
+    /// It takes one step for each lane from the first on up to the one that has the position, or for all of them.
+    ///
+    /// ```
+    /// let mut words = [0, 6, 0, 0];
+    /// let set = BitsMut::settle(&mut words, 70, 70);
+    /// assert_eq!(rt; set.as_bits().minimum(&mut Steps::new()), Some(65));
+    /// ```
+    #[inline(always)]
+    #[tactic(auto, using(crate::proofs::Positions::row_minimum))]
+    pub fn minimum(self, steps: &mut Steps) -> Option<usize>
+        ensures value { result ≡ model.minimum (value self.entry) }
+        ensures cost { IfSome result (λ p. steps.new ≡ steps.old + lane_steps (p / 64 + 1)) }
+        ensures exact_if_none { IfNone result
+            (steps.new ≡ steps.old + lane_steps (storage_words self.entry.length)) }
+    {
+        positions::first(self.words, steps)
+    }
+
+    /// The last position that is set, or `None` where none is.
+    ///
+    /// It takes one step for each lane from the last on down to the one that has the position, or for all of them.
+    ///
+    /// ```
+    /// let mut words = [9, Block::MAX, 0, 0];
+    /// let set = BitsMut::settle(&mut words, 70, 70);
+    /// assert_eq!(rt; set.as_bits().maximum(&mut Steps::new()), Some(69));
+    /// ```
+    #[inline(always)]
+    #[tactic(auto, using(crate::proofs::Positions::row_maximum))]
+    pub fn maximum(self, steps: &mut Steps) -> Option<usize>
+        ensures value { result ≡ model.maximum (value self.entry) }
+        ensures cost { IfSome result (λ p. steps.new
+            ≡ steps.old + lane_steps (storage_words self.entry.length - p / 64)) }
+        ensures exact_if_none { IfNone result
+            (steps.new ≡ steps.old + lane_steps (storage_words self.entry.length)) }
+    {
+        positions::last(self.words, steps)
+    }
+}
+
+impl<'a> BitsMut<'a> {
+    /// Makes any words those of a set of `length` positions: of the positions that they have those below `kept` stay.
+    ///
+    /// So with `kept` 0 no position is set, with `kept` the length none below it is lost, and with the length of before the
+    /// set has grown. There have to be as many words as a set of this length keeps. It writes the word of `kept` and those
+    /// behind it.
+    ///
+    /// ```
+    /// let mut words = [8, Block::MAX, 1, 0];
+    /// BitsMut::settle(&mut words, 70, 66);
+    /// assert_eq!(rt; words, [8, 3, 0, 0]);
+    /// ```
+    #[inline(always)]
+    pub fn settle(words: &'a mut [Block], length: usize, kept: usize) -> Self
+        requires count { prelude.length words.old ≡ storage_words length }
+        requires fewer { kept ≤ length }
+        ensures value { held result ≡ model.grow (of_words kept words.old) length }
+        ensures length { result.length ≡ length }
+        ensures same { result.words.ghost_name ≡ words.entry.ghost_name }
+    {
+        positions::clear_from(words, kept);
+        BitsMut { words, length }
+    }
+
+    /// The set to be read.
+    ///
+    /// ```
+    /// let mut words = [8, 1, 0, 0];
+    /// let set = BitsMut::settle(&mut words, 70, 70);
+    /// assert!(rt; set.as_bits().contains(3));
+    /// ```
+    #[inline(always)]
+    pub fn as_bits(&self) -> Bits<'_>
+        ensures value { value result ≡ held self.now }
+        ensures length { result.length ≡ self.now.length }
+    {
+        Bits {
+            words: self.words,
+            length: self.length,
+        }
+    }
+
+    /// Sets the position, which has to be below the length.
+    ///
+    /// ```
+    /// let mut words = [8, 0, 0, 0];
+    /// let mut set = BitsMut::settle(&mut words, 70, 70);
+    /// set.insert(64);
+    /// assert_eq!(rt; words, [8, 1, 0, 0]);
+    /// ```
+    #[inline(always)]
+    #[tactic(auto, using(crate::proofs::Changes::place_within, crate::proofs::Changes::insert_of))]
+    pub fn insert(&mut self, bit: usize)
+        requires { bit < self.old.length }
+        ensures { Becomes self.old self.new (model.insert (held self.old) bit) }
+    {
+        self.words[bit / BITS] |= 1 << (bit % BITS);
+    }
+
+    /// Clears the position, which has to be below the length.
+    ///
+    /// ```
+    /// let mut words = [9, 1, 0, 0];
+    /// let mut set = BitsMut::settle(&mut words, 70, 70);
+    /// set.remove(64);
+    /// assert_eq!(rt; words, [9, 0, 0, 0]);
+    /// ```
+    #[inline(always)]
+    #[tactic(auto, using(crate::proofs::Changes::place_within, crate::proofs::Changes::remove_of))]
+    pub fn remove(&mut self, bit: usize)
+        requires { bit < self.old.length }
+        ensures { Becomes self.old self.new (model.remove (held self.old) bit) }
+    {
+        self.words[bit / BITS] &= !(1 << (bit % BITS));
+    }
+
+    /// Sets the position if it is clear and clears it if it is set. It has to be below the length.
+    ///
+    /// ```
+    /// let mut words = [9, 0, 0, 0];
+    /// let mut set = BitsMut::settle(&mut words, 70, 70);
+    /// set.toggle(0);
+    /// assert_eq!(rt; words, [8, 0, 0, 0]);
+    /// ```
+    #[inline(always)]
+    #[tactic(auto, using(crate::proofs::Changes::place_within, crate::proofs::Changes::toggle_of))]
+    pub fn toggle(&mut self, bit: usize)
+        requires { bit < self.old.length }
+        ensures { Becomes self.old self.new (model.toggle (held self.old) bit) }
+    {
+        self.words[bit / BITS] ^= 1 << (bit % BITS);
+    }
+
+    /// Sets the position, which has to be below the length, and answers whether it was set before.
+    ///
+    /// ```
+    /// let mut words = [8, 0, 0, 0];
+    /// let mut set = BitsMut::settle(&mut words, 70, 70);
+    /// assert!(rt; !set.put(0));
+    /// assert_eq!(rt; words, [9, 0, 0, 0]);
+    /// ```
+    #[inline(always)]
+    pub fn put(&mut self, bit: usize) -> bool
+        requires { bit < self.old.length }
+        ensures before { result ≡ model.contains (held self.old) bit }
+        ensures value { Becomes self.old self.new (model.insert (held self.old) bit) }
+    {
+        let was_set = self.as_bits().contains_unchecked(bit);
+        self.insert(bit);
+        was_set
+    }
+
+    /// Sets the position, or clears it where `enabled` is false. It has to be below the length.
+    ///
+    /// ```
+    /// let mut words = [9, 0, 0, 0];
+    /// let mut set = BitsMut::settle(&mut words, 70, 70);
+    /// set.set(0, false);
+    /// assert_eq!(rt; words, [8, 0, 0, 0]);
+    /// ```
+    #[inline(always)]
+    #[tactic(auto, unfolding(crate::specs::Bits::set_bit))]
+    pub fn set(&mut self, bit: usize, enabled: bool)
+        requires { bit < self.old.length }
+        ensures { Becomes self.old self.new (model.set_bit (held self.old) bit enabled) }
+    {
+        if enabled {
+            self.insert(bit);
+        } else {
+            self.remove(bit);
+        }
+    }
+
+    /// Makes word `index` the given one. Bits past the length are dropped. The word has to be one that the length needs.
+    ///
+    /// ```
+    /// let mut words = [9, 0, 0, 0];
+    /// let mut set = BitsMut::settle(&mut words, 70, 70);
+    /// set.set_block(1, Block::MAX);
+    /// assert_eq!(rt; words, [9, 63, 0, 0]);
+    /// ```
+    #[inline(always)]
+    pub fn set_block(&mut self, index: usize, value: Block)
+        requires { index < model.words_needed self.old.length }
+        ensures { Becomes self.old self.new (model.set_block (held self.old) index value) }
+    {
+        let used = used_bits(self.length, index);
+        self.words[index] = value & ones_below(used);
+    }
+
+    /// Clears all positions. It takes one step for each lane.
+    ///
+    /// ```
+    /// let mut words = [9, 1, 0, 0];
+    /// let mut set = BitsMut::settle(&mut words, 70, 70);
+    /// set.clear(&mut Steps::new());
+    /// assert_eq!(rt; words, [0, 0, 0, 0]);
+    /// ```
+    #[inline(always)]
+    pub fn clear(&mut self, steps: &mut Steps)
+        ensures value { Becomes self.old self.new (model.empty self.old.length) }
+        ensures cost { steps.new ≡ steps.old + lane_steps (storage_words self.old.length) }
+    {
+        lanes::zero(self.words, steps);
+    }
+}
+
+/// How many words a set of so many positions keeps: those that the length needs, and up to three more, so that they make
+/// whole lanes of four.
+///
+/// ```
+/// assert_eq!(rt; views::storage_words(70), 4);
+/// assert_eq!(rt; views::storage_words(257), 8);
+/// ```
+#[inline]
+pub fn storage_words(bits: usize) -> usize
+    ensures { result ≡ storage_words bits }
+{
+    lanes::LANE * bits.div_ceil(BITS).div_ceil(lanes::LANE)
+}
+
+// The first of the words, as many as the length needs.
+#[inline(always)]
+fn used_words<'a>(words: &'a [Block], length: usize) -> &'a [Block]
+    requires { IsClean length words.now }
+    ensures value { result.now ≡ model.words (of_words length words.now) }
+    ensures count { prelude.length result.now ≡ model.words_needed length }
+{
+    &words[..length.div_ceil(BITS)]
+}
+
+// How many positions of word `index` are below the length.
+#[inline(always)]
+fn used_bits(length: usize, index: usize) -> usize
+    requires { index < model.words_needed length }
+    ensures { result ≡ min (length - 64 * index) 64 }
+{
+    if index == length / BITS {
+        length % BITS
+    } else {
+        BITS
+    }
+}

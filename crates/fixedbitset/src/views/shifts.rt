@@ -1,0 +1,218 @@
+//! Positions moved up or down, sets joined with moved ones, and parts.
+//!
+//! A call takes at most one step for each lane that it writes, and one or two more for the words at the ends: `bound` says so,
+//! and `cost` how many it takes. The lanes past the words that the length needs are counted, though they are not moved.
+
+ghost use Rattle.std.specs.Prelude.{◌≡◌, ◌≤◌, ◌<◌, ◌+◌, ◌-◌, ◌/◌, ◌&&◌, nat_le, min, true, false, if◌then◌else◌};
+ghost use Rattle.std.specs.Prelude as prelude;
+ghost use Rattle.bitlanes.specs.Shifts.{up_steps};
+ghost use Rattle.bitlanes.specs.Words.{lane_steps};
+ghost use Rattle.bitwords.specs.Rows.{has_bit};
+ghost use Rattle.bitwords.specs.Steps.{join_steps, join_up_steps, move_up_steps, search_steps};
+ghost use Rattle.fixedbitset.specs.Bits.{having, of_words, storage_words};
+ghost use Rattle.fixedbitset.specs.Parts as parts;
+ghost use Rattle.fixedbitset.specs.Stored.{IsClean};
+ghost use Rattle.fixedbitset.specs.Views.{value, held, Becomes};
+
+use crate::views::{Bits, BitsMut};
+use bitlanes::lanes::LANE;
+use bitlanes::ops::{Or, Second, WordOp};
+use bitlanes::word::BITS;
+use bitlanes::{Block, Steps};
+use bitwords::{positions, ranges, shifts};
+
+impl BitsMut<'_> {
+    /// Moves each position up by `by`. Those that are not below the length then fall away.
+    ///
+    /// ```
+    /// let mut words = [9, 0, 0, 0];
+    /// let mut set = BitsMut::settle(&mut words, 70, 70);
+    /// set.shift_up(64, &mut Steps::new());
+    /// set.shift_up(3, &mut Steps::new());
+    /// assert_eq!(rt; words, [0, 8, 0, 0]);
+    /// ```
+    #[inline]
+    #[tactic(auto, using(crate::proofs::Moves::having_up, crate::proofs::Moves::stays_up))]
+    pub fn shift_up(&mut self, by: usize, steps: &mut Steps)
+        ensures value { Becomes self.old self.new (parts.shift_up (held self.old) by) }
+        ensures cost { steps.new ≡ steps.old
+            + move_up_steps false (storage_words self.old.length) by }
+        ensures bound { steps.new ≤ steps.old + lane_steps (storage_words self.old.length) + 2 }
+    {
+        if by > 0 {
+            self.join_own::<Second>(by, steps);
+        }
+    }
+
+    /// Moves each position down by `by`. Those below `by` fall away.
+    ///
+    /// ```
+    /// let mut words = [9, 8, 0, 0];
+    /// let mut set = BitsMut::settle(&mut words, 70, 70);
+    /// set.shift_down(3, &mut Steps::new());
+    /// assert_eq!(rt; words, [1, 1, 0, 0]);
+    /// ```
+    #[inline]
+    pub fn shift_down(&mut self, by: usize, steps: &mut Steps)
+        ensures value { Becomes self.old self.new (parts.shift_down (held self.old) by) }
+        ensures cost { steps.new ≡ steps.old + join_steps false
+            (storage_words self.old.length) (storage_words self.old.length - by / 64) }
+        ensures bound { steps.new ≤ steps.old + lane_steps (storage_words self.old.length) + 1 }
+    {
+        let used = self.length.div_ceil(BITS);
+        tick_unmoved(self.words.len(), used, by / BITS, steps);
+        shifts::down(&mut self.words[..used], by, steps);
+    }
+
+    /// Takes in each position of the second set moved up by `by`, as far as it is below the length then.
+    ///
+    /// ```
+    /// let (mut words, mut other) = ([9, 0, 0, 0], [7, 0, 0, 0]);
+    /// let mut set = BitsMut::settle(&mut words, 70, 70);
+    /// let other = BitsMut::settle(&mut other, 9, 9);
+    /// set.union_with_shifted(other.as_bits(), 68, &mut Steps::new());
+    /// assert_eq!(rt; words, [9, 48, 0, 0]);
+    /// ```
+    #[inline]
+    pub fn union_with_shifted(&mut self, other: Bits<'_>, by: usize, steps: &mut Steps)
+        ensures value { Becomes self.old self.new
+            (parts.union_with_shifted (held self.old) (value other.entry) by) }
+        ensures cost { steps.new ≡ steps.old + join_up_steps
+            (storage_words self.old.length) (storage_words other.entry.length) by }
+        ensures bound { steps.new ≤ steps.old + 1 + lane_steps (min
+            (storage_words self.old.length - by / 64) (storage_words other.entry.length)) }
+    {
+        let (words, length) = (&mut *self.words, self.length);
+        shifts::join_up::<Or>(words, other.words, by, steps);
+        positions::clear_from(words, length);
+    }
+
+    /// Takes in each position of the set itself moved up by `by`, as far as it is below the length then.
+    ///
+    /// So where the set has the sums of some numbers, it then has those of these numbers and `by`.
+    ///
+    /// ```
+    /// let mut words = [1, 0, 0, 0];
+    /// let mut set = BitsMut::settle(&mut words, 70, 70);
+    /// set.union_with_own_shift(3, &mut Steps::new());
+    /// set.union_with_own_shift(65, &mut Steps::new());
+    /// assert_eq!(rt; words, [9, 18, 0, 0]);
+    /// ```
+    #[inline]
+    #[tactic(auto, using(crate::proofs::Moves::having_with_own, crate::proofs::Moves::stays_with_own))]
+    pub fn union_with_own_shift(&mut self, by: usize, steps: &mut Steps)
+        ensures value { Becomes self.old self.new
+            (parts.union_with_shifted (held self.old) (held self.old) by) }
+        ensures cost { steps.new ≡ steps.old
+            + move_up_steps true (storage_words self.old.length) by }
+        ensures bound { steps.new ≤ steps.old + lane_steps (storage_words self.old.length) + 1 }
+    {
+        if by > 0 {
+            self.join_own::<Or>(by, steps);
+        }
+    }
+
+    /// Writes the positions of the other set from `start` up to and without `end` over those of the set from `at` on. All
+    /// others stay.
+    ///
+    /// The range may not begin behind its end, nor end past the other length. From `at` on it has to end within the length.
+    /// It takes exactly one step for each lane of the words that it writes whole, the last of which may have fewer, and one
+    /// for each other word that it writes.
+    ///
+    /// ```
+    /// let (mut words, mut other) = ([5, 34, 0, 0], [2 | 1 << 63, 2, 0, 0]);
+    /// let mut set = BitsMut::settle(&mut words, 70, 70);
+    /// let other = BitsMut::settle(&mut other, 66, 66);
+    /// set.copy_range(other.as_bits(), 62, 66, 1, &mut Steps::new());
+    /// assert_eq!(rt; words, [21, 34, 0, 0]);
+    /// ```
+    #[inline]
+    pub fn copy_range(
+        &mut self,
+        other: Bits<'_>,
+        start: usize,
+        end: usize,
+        at: usize,
+        steps: &mut Steps,
+    )
+        requires order { start ≤ end }
+        requires within { end ≤ other.length }
+        requires room { at + (end - start) ≤ self.old.length }
+        ensures value { Becomes self.old self.new
+            (parts.copy_range (held self.old) (value other.entry) start end at) }
+        ensures cost { steps.new ≡ steps.old + search_steps at (at + (end - start)) }
+    {
+        ranges::copy(self.words, at, at + (end - start), other.words, start, steps);
+    }
+
+    // Joins each position by `O` with the one that stood `by` below it, and cuts the words at the length.
+    #[inline(always)]
+    fn join_own<O: WordOp>(&mut self, by: usize, steps: &mut Steps)
+        requires some { 0 < by }
+        ensures value { Becomes self.old self.new (having self.old.length
+            (λ p. O.truth (has_bit self.old.words.now p)
+            (nat_le by p && has_bit self.old.words.now (p - by)))) }
+        ensures cost { steps.new ≡ steps.old + up_steps (storage_words self.old.length) by
+            + (if O.KEEP then 0 else lane_steps (min (storage_words self.old.length) (by / 64))) }
+    {
+        let used = self.length.div_ceil(BITS);
+        tick_unmoved_up(self.words.len(), used, by, steps);
+        let words = &mut self.words[..used];
+        shifts::up::<O>(words, by, steps);
+        positions::clear_from(words, self.length);
+    }
+}
+
+impl Bits<'_> {
+    /// Writes the positions of the range, less its start, over the words, which are then those of a set of its length.
+    ///
+    /// The range may not begin behind its end, nor end past the length. There have to be as many words as a set of the
+    /// range's length keeps.
+    ///
+    /// ```
+    /// let (mut words, mut to) = ([9, 8, 0, 0], [0; 4]);
+    /// let set = BitsMut::settle(&mut words, 70, 70);
+    /// set.as_bits().slice_to(3, 68, &mut to, &mut Steps::new());
+    /// assert_eq!(rt; to, [1, 1, 0, 0]);
+    /// ```
+    #[inline]
+    pub fn slice_to(self, start: usize, end: usize, to: &mut [Block], steps: &mut Steps)
+        requires order { start ≤ end }
+        requires within { end ≤ self.length }
+        requires count { prelude.length to.old ≡ storage_words (end - start) }
+        ensures value { of_words (end - start) to.new ≡ parts.slice (value self.entry) start end }
+        ensures clean { IsClean (end - start) to.new }
+        ensures cost { steps.new ≡ steps.old + join_steps false
+            (storage_words (end - start)) (storage_words self.entry.length - start / 64) }
+        ensures bound { steps.new ≤ steps.old + lane_steps (storage_words (end - start)) + 1 }
+    {
+        shifts::join_down::<Second>(to, self.words, start, steps);
+        positions::clear_from(to, end - start);
+    }
+}
+
+// Counts the lanes that are not moved as they hold words past the length alone, which stay 0. It does nothing when the
+// program runs.
+#[inline(always)]
+fn tick_unmoved(words: usize, used: usize, first: usize, steps: &mut Steps)
+    ensures { steps.new ≡ steps.old + (lane_steps (words - first) - lane_steps (used - first)) }
+{
+    let lanes = words.saturating_sub(first).div_ceil(LANE);
+    let moved = used.saturating_sub(first).div_ceil(LANE);
+    for _ in 0..lanes.saturating_sub(moved) {
+        steps.tick();
+    }
+}
+
+// The same where the words are moved up, and the first of them has fewer than 64 bits below it.
+#[inline(always)]
+fn tick_unmoved_up(words: usize, used: usize, by: usize, steps: &mut Steps)
+    requires { used ≤ words }
+    ensures { steps.new ≡ steps.old + (up_steps words by - up_steps used by) }
+{
+    let first = by.div_ceil(BITS);
+    tick_unmoved(words, used, first, steps);
+    if used < first && first <= words && by % BITS > 0 {
+        steps.tick();
+    }
+}

@@ -1,0 +1,162 @@
+//! Walks over the positions of a set, and over those that it lacks.
+//!
+//! A walk goes over the words that the length needs, and not over those behind them that make up a whole lane. It has read
+//! the first and the last of them, and those between are not yet taken.
+
+ghost use Rattle.std.specs.Prelude.{◌≡◌, IsTrue, map};
+ghost use Rattle.std.specs.Int.{bit_not, w64};
+ghost use Rattle.bitwords.specs.Walk.{between_ends};
+ghost use Rattle.fixedbitset.specs.Bits as model;
+ghost use Rattle.fixedbitset.specs.Ranges.{is_valid};
+ghost use Rattle.fixedbitset.specs.Runs as stretches;
+ghost use Rattle.fixedbitset.specs.TwoSets as sets;
+ghost use Rattle.fixedbitset.specs.Views.{value};
+ghost use Rattle.fixedbitset.specs.Walks.{ones_of, zeroes_of, words_of, zero_words_of};
+
+use crate::views::Bits;
+use bitlanes::ops::{And, AndNot};
+use bitwalks::runs::Runs;
+use bitwords::cursors::{Beside, Cursor, Inverted, Plain, ones_within, zeroes_within};
+
+impl<'a> Bits<'a> {
+    /// The positions that are set, in ascending order.
+    ///
+    /// ```
+    /// let mut words = [9, 2, 0, 0];
+    /// let set = BitsMut::settle(&mut words, 70, 70);
+    /// assert!(rt; set.as_bits().ones().eq([0, 3, 65]));
+    /// ```
+    #[inline(always)]
+    pub fn ones(self) -> Cursor<Plain<'a>>
+        ensures items { result.items ≡ model.asc (value self.entry) }
+        ensures words { result.words ≡ between_ends (model.words (value self.entry)) }
+    {
+        let words = self.as_slice();
+        Cursor::over(Plain { words })
+    }
+
+    /// The positions that both sets have, in ascending order. It looks at no word that only one of them has.
+    ///
+    /// ```
+    /// let (mut words, mut other) = ([9, 2, 0, 0], [1, 2, 0, 0]);
+    /// let set = BitsMut::settle(&mut words, 70, 70);
+    /// let other = BitsMut::settle(&mut other, 66, 66);
+    /// assert!(rt; set.as_bits().intersection(other.as_bits()).eq([0, 65]));
+    /// ```
+    #[inline(always)]
+    pub fn intersection(self, other: Bits<'a>) -> Cursor<Beside<'a, And>>
+        ensures items { result.items
+            ≡ model.asc (sets.intersection (value self.entry) (value other.entry)) }
+        ensures words { result.words
+            ≡ between_ends (model.words (sets.bitand (value self.entry) (value other.entry))) }
+    {
+        let words = self.as_slice();
+        let other = other.as_slice();
+        let shared = words.len().min(other.len());
+        Cursor::over(Beside::of(&words[..shared], other))
+    }
+
+    /// The positions of the first set that the second lacks, in ascending order.
+    ///
+    /// ```
+    /// let (mut words, mut other) = ([9, 2, 0, 0], [1, 2, 0, 0]);
+    /// let set = BitsMut::settle(&mut words, 70, 70);
+    /// let other = BitsMut::settle(&mut other, 66, 66);
+    /// assert!(rt; set.as_bits().difference(other.as_bits()).eq([3]));
+    /// ```
+    #[inline(always)]
+    pub fn difference(self, other: Bits<'a>) -> Cursor<Beside<'a, AndNot>>
+        ensures items { result.items
+            ≡ model.asc (sets.difference (value self.entry) (value other.entry)) }
+        ensures words { result.words
+            ≡ between_ends (model.words (sets.difference (value self.entry) (value other.entry))) }
+    {
+        let words = self.as_slice();
+        let other = other.as_slice();
+        Cursor::over(Beside::of(words, other))
+    }
+
+    /// The positions below the length that are not set, in ascending order.
+    ///
+    /// ```
+    /// let mut words = [Block::MAX - 8, 60, 0, 0];
+    /// let set = BitsMut::settle(&mut words, 70, 70);
+    /// assert!(rt; set.as_bits().zeroes().eq([3, 64, 65]));
+    /// ```
+    #[inline(always)]
+    pub fn zeroes(self) -> Cursor<Inverted<'a>>
+        ensures items { result.items ≡ model.asc (model.complement (value self.entry)) }
+        ensures words { result.words
+            ≡ between_ends (map (bit_not w64) (model.words (value self.entry))) }
+    {
+        zeroes_within(self.as_slice(), 0, self.length)
+    }
+
+    /// The stretches of positions that are set, as start and end, in ascending order.
+    ///
+    /// ```
+    /// let mut words = [Block::MAX, 1, 0, 0];
+    /// let set = BitsMut::settle(&mut words, 70, 70);
+    /// assert!(rt; set.as_bits().runs().eq([(0, 65)]));
+    /// ```
+    #[inline(always)]
+    #[tactic(auto, using(crate::proofs::Stretches::runs_of, crate::proofs::Words::of_length))]
+    pub fn runs(self) -> Runs<'a>
+        ensures items { result.items ≡ stretches.runs (value self.entry) }
+        ensures low { result.low ≡ 0 }
+        ensures high { result.high ≡ self.entry.length }
+        ensures steps { result.steps ≡ 0 }
+    {
+        Runs::below(self.as_slice(), true, self.length)
+    }
+
+    /// The stretches of positions below the length that are not set, as start and end, in ascending order.
+    ///
+    /// ```
+    /// let mut words = [Block::MAX, 1, 0, 0];
+    /// let set = BitsMut::settle(&mut words, 70, 70);
+    /// assert!(rt; set.as_bits().zero_runs().eq([(65, 70)]));
+    /// ```
+    #[inline(always)]
+    #[tactic(auto, using(crate::proofs::Stretches::zero_runs_of, crate::proofs::Words::of_length))]
+    pub fn zero_runs(self) -> Runs<'a>
+        ensures items { result.items ≡ stretches.zero_runs (value self.entry) }
+        ensures low { result.low ≡ 0 }
+        ensures high { result.high ≡ self.entry.length }
+        ensures steps { result.steps ≡ 0 }
+    {
+        Runs::below(self.as_slice(), false, self.length)
+    }
+
+    /// The positions that are set, from `start` up to and without `end`, in ascending order. The range has to be valid.
+    ///
+    /// ```
+    /// let mut words = [9, 2, 0, 0];
+    /// let set = BitsMut::settle(&mut words, 70, 70);
+    /// assert!(rt; set.as_bits().ones_in(1, 66).eq([3, 65]));
+    /// ```
+    #[inline(always)]
+    pub fn ones_in(self, start: usize, end: usize) -> Cursor<Plain<'a>>
+        requires { IsTrue (is_valid (value self) start end) }
+        ensures items { result.items ≡ ones_of (value self.entry) start end }
+        ensures words { result.words ≡ words_of (value self.entry) start end }
+    {
+        ones_within(self.as_slice(), start, end)
+    }
+
+    /// The positions that are not set, from `start` up to and without `end`, in ascending order. The range has to be valid.
+    ///
+    /// ```
+    /// let mut words = [Block::MAX - 8, 60, 0, 0];
+    /// let set = BitsMut::settle(&mut words, 70, 70);
+    /// assert!(rt; set.as_bits().zeroes_in(4, 65).eq([64]));
+    /// ```
+    #[inline(always)]
+    pub fn zeroes_in(self, start: usize, end: usize) -> Cursor<Inverted<'a>>
+        requires { IsTrue (is_valid (value self) start end) }
+        ensures items { result.items ≡ zeroes_of (value self.entry) start end }
+        ensures words { result.words ≡ zero_words_of (value self.entry) start end }
+    {
+        zeroes_within(self.as_slice(), start, end)
+    }
+}
