@@ -1,21 +1,16 @@
-//! The calls with a counter of steps: each is the call of that name of the set, with one argument more. `is_equal` is `==`.
+//! The calls that change a set or look at two, with a counter of steps: each is the call of that name of the set, with one
+//! argument more. The counted questions of one set are those of its view ([`as_bits`](crate::FixedBitSet::as_bits)).
 
-mod alone;
 mod changes;
 mod copies;
-mod neighbours;
 mod ranges;
 mod shifts;
 mod whole;
 
-pub use alone::{clear, is_clear, is_full, maximum, minimum};
 pub use changes::{
     difference_with_change, intersect_with_change, union_with_change, union_with_difference,
 };
 pub use copies::{bitand, bitor, bitxor, clone_from};
-pub use neighbours::{
-    first_aligned_gap, first_gap, next_one, next_zero, previous_one, previous_zero,
-};
 pub use ranges::{
     contains_all_in_range, contains_any_in_range, count_ones, count_zeroes, insert_range,
     remove_range, toggle_range,
@@ -25,7 +20,6 @@ pub use shifts::{
     union_with_shifted,
 };
 pub use whole::{
-    cmp, difference_count, difference_with, first_lacking, intersect_with, intersection_count,
-    is_disjoint, is_equal, is_subset, symmetric_difference_count, symmetric_difference_with,
-    union_count, union_with,
+    clear, difference_count, difference_with, intersect_with, intersection_count, is_disjoint,
+    is_subset, symmetric_difference_count, symmetric_difference_with, union_count, union_with,
 };

@@ -10,7 +10,6 @@ ghost use Rattle.fixedbitset.specs.Ranges.{over};
 ghost use Rattle.fixedbitset.specs.Runs as stretches;
 
 use crate::set::FixedBitSet;
-use crate::counted;
 use bitlanes::{IndexRange, Steps};
 
 impl FixedBitSet {
@@ -86,7 +85,10 @@ impl FixedBitSet {
         ensures { result ≡ over (stretches.first_aligned_gap count align) self.now
             (R.start_of range) (R.end_of range) }
     {
-        counted::first_aligned_gap(self, count, align, range, &mut Steps::new())
+        let start = range.start().unwrap_or(0);
+        let end = range.end().unwrap_or(self.len());
+        self.as_bits()
+            .first_aligned_gap(count, align, start, end, &mut Steps::new())
     }
 
     /// The greatest position below `below` that is set, or `None` where none is.

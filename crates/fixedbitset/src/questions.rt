@@ -6,7 +6,6 @@ ghost use Rattle.std.specs.Prelude.{◌≡◌, ◌==◌};
 ghost use Rattle.fixedbitset.specs.Bits as model;
 
 use crate::set::FixedBitSet;
-use crate::counted;
 use bitlanes::Steps;
 
 impl FixedBitSet {
@@ -85,6 +84,6 @@ impl FixedBitSet {
     pub fn is_full(&self) -> bool
         ensures { result ≡ model.is_full self.now }
     {
-        counted::is_full(self, &mut Steps::new())
+        self.as_bits().is_full(&mut Steps::new())
     }
 }

@@ -143,10 +143,10 @@ pub fn contains_all_in_range<R: IndexRange<usize> + Drop>(
     steps: &mut Steps,
 ) -> bool
     requires { IsTrue (over ranges.is_valid set.now (R.start_of range) (R.end_of range)) }
-    ensures told { result ≡ over ranges.contains_all set.now (R.start_of range) (R.end_of range) }
+    ensures answer { result ≡ over ranges.contains_all set.now (R.start_of range) (R.end_of range) }
     ensures cost { steps.new ≤ steps.old
         + over (λ _. search_steps) set.now (R.start_of range) (R.end_of range) }
-    ensures whole { IsTrue result
+    ensures exact_if_true { IsTrue result
         → steps.new ≡ steps.old
         + over (λ _. search_steps) set.now (R.start_of range) (R.end_of range) }
     ensures stops { result ≡ false → steps.old < steps.new }
@@ -171,10 +171,10 @@ pub fn contains_any_in_range<R: IndexRange<usize> + Drop>(
     steps: &mut Steps,
 ) -> bool
     requires { IsTrue (over ranges.is_valid set.now (R.start_of range) (R.end_of range)) }
-    ensures told { result ≡ over ranges.contains_any set.now (R.start_of range) (R.end_of range) }
+    ensures answer { result ≡ over ranges.contains_any set.now (R.start_of range) (R.end_of range) }
     ensures cost { steps.new ≤ steps.old
         + over (λ _. search_steps) set.now (R.start_of range) (R.end_of range) }
-    ensures whole { IsTrue (not result)
+    ensures exact_if_false { IsTrue (not result)
         → steps.new ≡ steps.old
         + over (λ _. search_steps) set.now (R.start_of range) (R.end_of range) }
     ensures stops { IsTrue result → steps.old < steps.new }

@@ -1,4 +1,4 @@
-//! Two whole sets, with a counter of steps.
+//! Whole sets, with a counter of steps.
 //!
 //! A step is one lane of four words in one turn of a kernel. A set of `n` positions has `n / 256` lanes, rounded up. A
 //! change or a count takes exactly one step for each lane that both sets have, and one for each that only one of them has,
@@ -21,6 +21,23 @@ use bitlanes::Steps;
 use bitlanes::ops::{Or, WordOp, Xor};
 use std::alloc::AllocError;
 use std::cmp::Ordering;
+
+/// [`FixedBitSet::clear`], with the steps that it takes.
+///
+/// ```
+/// let mut set = FixedBitSet::from_iter(alloc, [3, 64])?;
+/// counted::clear(&mut set, &mut Steps::new());
+/// assert_eq!(rt; set.as_slice(), [0, 0].as_slice());
+/// ```
+#[inline]
+#[tactic(auto, using(crate::proofs::Words::given_back, crate::proofs::Words::viewed_length))]
+pub fn clear(set: &mut FixedBitSet, steps: &mut Steps)
+    ensures value { set.new ≡ model.empty set.old.length }
+    ensures cost { steps.new ≡ steps.old + lane_steps (model.storage_words set.old.length) }
+{
+    let (words, length) = (&mut *set.words.as_mut_slice(), set.length);
+    BitsMut { words, length }.clear(steps);
+}
 
 /// [`FixedBitSet::union_with`], with the steps that it takes.
 ///
@@ -213,11 +230,11 @@ pub fn symmetric_difference_count(
 /// ```
 #[inline]
 pub fn is_disjoint(set: &FixedBitSet, other: &FixedBitSet, steps: &mut Steps) -> bool
-    ensures told { result ≡ sets.is_disjoint set.now other.now }
+    ensures answer { result ≡ sets.is_disjoint set.now other.now }
     ensures cost { steps.new ≤ steps.old
         + both_steps false false (model.storage_words set.now.length)
         (model.storage_words other.now.length) }
-    ensures whole { IsTrue result → steps.new ≡ steps.old
+    ensures exact_if_true { IsTrue result → steps.new ≡ steps.old
         + both_steps false false (model.storage_words set.now.length)
         (model.storage_words other.now.length) }
     ensures stops { result ≡ false → steps.old < steps.new }
@@ -235,83 +252,16 @@ pub fn is_disjoint(set: &FixedBitSet, other: &FixedBitSet, steps: &mut Steps) ->
 /// ```
 #[inline]
 pub fn is_subset(set: &FixedBitSet, other: &FixedBitSet, steps: &mut Steps) -> bool
-    ensures told { result ≡ sets.is_subset set.now other.now }
+    ensures answer { result ≡ sets.is_subset set.now other.now }
     ensures cost { steps.new ≤ steps.old
         + both_steps true false (model.storage_words set.now.length)
         (model.storage_words other.now.length) }
-    ensures whole { IsTrue result → steps.new ≡ steps.old
+    ensures exact_if_true { IsTrue result → steps.new ≡ steps.old
         + both_steps true false (model.storage_words set.now.length)
         (model.storage_words other.now.length) }
     ensures stops { result ≡ false → steps.old < steps.new }
 {
     set.as_bits().is_subset(other.as_bits(), steps)
-}
-
-/// [`FixedBitSet::first_lacking`], with the steps that it takes.
-///
-/// ```
-/// let set = FixedBitSet::from_iter(alloc, [3, 64])?;
-/// let other = FixedBitSet::from_iter(alloc, [3, 64, 200])?;
-/// assert_eq!(rt; counted::first_lacking(&set, &other, &mut Steps::new()), Some(200));
-/// assert_eq!(rt; counted::first_lacking(&other, &set, &mut Steps::new()), None);
-/// ```
-#[inline]
-pub fn first_lacking(set: &FixedBitSet, other: &FixedBitSet, steps: &mut Steps) -> Option<usize>
-    ensures first { result ≡ model.minimum (sets.difference other.now set.now) }
-    ensures bound { steps.new ≤ steps.old
-        + both_steps true false (model.storage_words other.now.length)
-        (model.storage_words set.now.length) }
-    ensures cost { IfSome result (λ p. steps.new ≡ steps.old
-        + both_steps true false (p / 64 + 1) (model.storage_words set.now.length)) }
-    ensures whole { IfNone result (steps.new ≡ steps.old
-        + both_steps true false (model.storage_words other.now.length)
-        (model.storage_words set.now.length)) }
-{
-    set.as_bits().first_lacking(other.as_bits(), steps)
-}
-
-/// `==` of two sets, with the steps that it takes: none where the lengths differ.
-///
-/// ```
-/// let set = FixedBitSet::from_iter(alloc, [3, 64])?;
-/// let other = FixedBitSet::from_iter(alloc, [3, 64, 200])?;
-/// assert!(rt; counted::is_equal(&set, &set, &mut Steps::new()));
-/// assert!(rt; !counted::is_equal(&set, &other, &mut Steps::new()));
-/// ```
-#[inline]
-#[tactic(auto, using(crate::specs::OrderFacts::facts))]
-pub fn is_equal(set: &FixedBitSet, other: &FixedBitSet, steps: &mut Steps) -> bool
-    ensures same { IsTrue result ↔ (set.now ≡ other.now) }
-    ensures cost { steps.new ≤ steps.old + lane_steps (model.storage_words set.now.length) }
-    ensures whole { IsTrue result
-        → steps.new ≡ steps.old + lane_steps (model.storage_words set.now.length) }
-    ensures unlike { set.now.length ≢ other.now.length → steps.new ≡ steps.old }
-    ensures stops { result ≡ false → set.now.length ≡ other.now.length
-        → steps.old < steps.new }
-{
-    set.as_bits().is_equal(other.as_bits(), steps)
-}
-
-/// `cmp` of two sets, with a step for each lane where the lengths are alike, and none where they differ.
-///
-/// std compares the words, and may stop before all that are counted.
-///
-/// ```
-/// let set = FixedBitSet::from_iter(alloc, [3, 64])?;
-/// let other = FixedBitSet::from_iter(alloc, [9, 64])?;
-/// assert_eq!(rt; counted::cmp(&set, &other, &mut Steps::new()), Ordering::Less);
-/// ```
-#[inline]
-pub fn cmp(set: &FixedBitSet, other: &FixedBitSet, steps: &mut Steps) -> Ordering
-    ensures value { result ≡ compare set.now other.now }
-    ensures cost { steps.new ≤ steps.old + lane_steps (model.storage_words set.now.length) }
-    ensures whole { result ≡ Equal
-        → steps.new ≡ steps.old + lane_steps (model.storage_words set.now.length) }
-    ensures like { set.now.length ≡ other.now.length
-        → steps.new ≡ steps.old + lane_steps (model.storage_words set.now.length) }
-    ensures unlike { set.now.length ≢ other.now.length → steps.new ≡ steps.old }
-{
-    set.as_bits().compare(other.as_bits(), steps)
 }
 
 // Joins the longer set `other` to `set`, which grows before. It is a call of its own, so that a set which is as long

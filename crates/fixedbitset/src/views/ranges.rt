@@ -7,6 +7,7 @@
 
 ghost use Rattle.std.specs.Prelude.{◌≡◌, ◌<◌, ◌≤◌, ◌+◌, ◌==◌, IsTrue, not, true, false};
 ghost use Rattle.bitwords.specs.Steps.{range_words, search_steps};
+ghost use Rattle.fixedbitset.specs.Bits as model;
 ghost use Rattle.fixedbitset.specs.Ranges as ranges;
 ghost use Rattle.fixedbitset.specs.Ranges.{is_valid};
 ghost use Rattle.fixedbitset.specs.Stored.{joined, count_joined, range_set};
@@ -152,6 +153,25 @@ impl Bits<'_> {
         ensures stops { result ≡ false → steps.old < steps.new }
     {
         self.none_in::<AndNot>(start, end, steps)
+    }
+
+    /// Whether each position below the length is set.
+    ///
+    /// ```
+    /// let mut words = [Block::MAX, 63, 0, 0];
+    /// let set = BitsMut::settle(&mut words, 70, 70);
+    /// assert!(rt; set.as_bits().is_full(&mut Steps::new()));
+    /// ```
+    #[inline(always)]
+    #[tactic(auto, using(crate::proofs::Words::of_length, crate::specs::RangesFacts::is_full_all))]
+    pub fn is_full(self, steps: &mut Steps) -> bool
+        ensures answer { result ≡ model.is_full (value self.entry) }
+        ensures cost { steps.new ≤ steps.old + search_steps 0 self.entry.length }
+        ensures exact_if_true { IsTrue result
+            → steps.new ≡ steps.old + search_steps 0 self.entry.length }
+        ensures stops { result ≡ false → steps.old < steps.new }
+    {
+        self.contains_all_in_range(0, self.length, steps)
     }
 
     /// Whether some position of the range is set.
