@@ -7,3 +7,4 @@ pub mod PathFacts
 pub mod StoredFacts
 -- cited only where a caller keeps the words
 pub mod Stored
+pub mod Views

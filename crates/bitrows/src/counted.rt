@@ -4,8 +4,8 @@ ghost use Rattle.std.specs.Prelude.{◌≡◌, ◌≤◌, ◌↔◌, ◌+◌, �
 ghost use Rattle.bitrows.specs.Tables.{HaveSameSize};
 ghost use Rattle.bitrows.specs.Paths.{HasEdge, IsConnected, IsPairCount};
 
-use crate::lent;
 use crate::table::BitRows;
+use crate::views::RowsMut;
 use bitlanes::Steps;
 
 /// [`BitRows::close`], with the joins of two rows that it makes: one for each pair of nodes `a` and `k` with a path from
@@ -17,6 +17,7 @@ use bitlanes::Steps;
 /// counted::close(&mut table, &mut Steps::new());
 /// assert!(rt; table.row(0).eq([1]));
 /// ```
+#[tactic(auto, using(crate::proofs::RowWords::given_back, crate::proofs::RowWords::viewed_rows, crate::proofs::RowWords::viewed_columns))]
 pub fn close(table: &mut BitRows, joins: &mut Steps)
     ensures size { HaveSameSize table.old table.new }
     ensures closed { (a b : ℕ) → HasEdge table.new a b ↔ IsConnected (HasEdge table.old) a b }
@@ -24,6 +25,11 @@ pub fn close(table: &mut BitRows, joins: &mut Steps)
         × (joins.new ≡ joins.old + pairs) }
     ensures bound { joins.new ≤ joins.old + length table.old.rows * length table.old.rows }
 {
-    let (rows, columns) = (table.rows, table.columns);
-    lent::close(&mut table.words, rows, columns, joins);
+    let (words, rows, columns) = (&mut *table.words.as_mut_slice(), table.rows, table.columns);
+    RowsMut {
+        words,
+        rows,
+        columns,
+    }
+    .close(joins);
 }

@@ -3,16 +3,18 @@
 ghost use Rattle.std.specs.Prelude.{◌≡◌, ◌<◌, ◌↔◌, ℕ, not, All, IsTrue, IfOk, length};
 ghost use Rattle.std.specs.Iterator.Runs.{EachRunFrom, ItemsAre, ItemsAreReversed};
 ghost use Rattle.bitwords.specs.Walk.{GivesFirst, GivesLast, between_ends};
+ghost use Rattle.bitrows.specs.Views.{table};
 ghost use Rattle.fixedbitset.specs.Bits.{asc, words};
 ghost use Rattle.fixedbitset.specs.TwoSets.{union, is_subset};
 ghost use Rattle.bitrows.specs.Tables.{row_of, has, blank, with_row, set_at, HaveSameSize};
 ghost use Rattle.bitrows.specs.Paths.{HasEdge, IsConnected};
 
-use crate::{counted, lent};
+use crate::counted;
+use crate::views::{Rows, RowsMut};
 use bitlanes::Steps;
 use bitlanes::word::Block;
 use bitwalks::walks::Ones;
-use fixedbitset::lent as sets;
+use fixedbitset::views::storage_words;
 use std::alloc::{AllocError, Global};
 use std::marker::Model;
 
@@ -56,7 +58,7 @@ impl BitRows {
     pub fn new(alloc: Global, rows: usize, columns: usize) -> Result<BitRows, AllocError>
         ensures { IfOk result (λ table. table ≡ blank rows columns) }
     {
-        let Some(count) = rows.checked_mul(lent::width(columns)) else {
+        let Some(count) = rows.checked_mul(storage_words(columns)) else {
             return Err(AllocError);
         };
         Ok(BitRows {
@@ -93,6 +95,26 @@ impl BitRows {
         self.columns
     }
 
+    /// The table as a view, to be read: no word is copied.
+    ///
+    /// ```
+    /// let table = BitRows::new(alloc, 3, 70)?;
+    /// assert!(rt; table.as_rows().row(2).is_clear(&mut Steps::new()));
+    /// ```
+    #[inline(always)]
+    #[tactic(auto, using(crate::proofs::RowWords::viewed_rows, crate::proofs::RowWords::viewed_columns))]
+    pub fn as_rows(&self) -> Rows<'_>
+        ensures table { table result ≡ self.now }
+        ensures rows { result.rows ≡ length self.now.rows }
+        ensures columns { result.columns ≡ self.now.columns }
+    {
+        Rows {
+            words: &self.words,
+            rows: self.rows,
+            columns: self.columns,
+        }
+    }
+
     /// Whether the row has a bit at the column: `false` past the columns. The row has to be one of the table's.
     ///
     /// ```
@@ -106,7 +128,7 @@ impl BitRows {
         requires { row < length self.now.rows }
         ensures { result ≡ has self.now row column }
     {
-        lent::get(&self.words, self.rows, self.columns, row, column)
+        self.as_rows().get(row, column)
     }
 
     /// Sets the bit of the row at the column, or clears it where `enabled` is false. The table has to have both. It writes
@@ -120,13 +142,19 @@ impl BitRows {
     /// assert!(rt; table.row(1).eq([3]));
     /// ```
     #[inline]
+    #[tactic(auto, using(crate::proofs::RowWords::given_back, crate::proofs::RowWords::viewed_rows, crate::proofs::RowWords::viewed_columns))]
     pub fn set(&mut self, row: usize, column: usize, enabled: bool)
         requires row { row < length self.old.rows }
         requires column { column < self.old.columns }
         ensures { self.new ≡ set_at self.old row column enabled }
     {
-        let (rows, columns) = (self.rows, self.columns);
-        lent::set(&mut self.words, rows, columns, row, column, enabled);
+        let (words, rows, columns) = (&mut *self.words.as_mut_slice(), self.rows, self.columns);
+        RowsMut {
+            words,
+            rows,
+            columns,
+        }
+        .set(row, column, enabled);
     }
 
     /// Row `into` takes in the bits of row `from`, and the other rows stay. It answers whether a bit came in. The table has
@@ -139,6 +167,7 @@ impl BitRows {
     /// assert!(rt; !table.union_rows(0, 2) && !table.union_rows(0, 0));
     /// assert!(rt; table.get(2, 69) && !table.get(1, 69));
     /// ```
+    #[tactic(auto, using(crate::proofs::RowWords::given_back, crate::proofs::RowWords::viewed_rows, crate::proofs::RowWords::viewed_columns))]
     pub fn union_rows(&mut self, from: usize, into: usize) -> bool
         requires from { from < length self.old.rows }
         requires into { into < length self.old.rows }
@@ -146,8 +175,13 @@ impl BitRows {
             ≡ with_row self.old into (union (row_of self.old into) (row_of self.old from)) }
         ensures changed { result ≡ not (is_subset (row_of self.old from) (row_of self.old into)) }
     {
-        let (rows, columns) = (self.rows, self.columns);
-        lent::union_rows(&mut self.words, rows, columns, from, into)
+        let (words, rows, columns) = (&mut *self.words.as_mut_slice(), self.rows, self.columns);
+        RowsMut {
+            words,
+            rows,
+            columns,
+        }
+        .union_rows(from, into)
     }
 
     /// The columns at which the row has a bit, in ascending order. The row has to be one of the table's. It takes no memory,
@@ -171,8 +205,7 @@ impl BitRows {
         ensures turns { result.turns ≡ 0 }
         ensures taken { result.taken ≡ 0 }
     {
-        let words = lent::words_of(&self.words, self.rows, self.columns, row);
-        Ones::over(sets::used_words(words, self.columns))
+        Ones::over(self.as_rows().row(row).as_slice())
     }
 
     /// The transitive closure of the graph that has an edge from each row to each column at which the row has a bit:

@@ -1,4 +1,4 @@
-use Rattle.bitrows.proofs.Rows.{viewed_columns, viewed_all}
+use Rattle.bitrows.proofs.RowWords.{viewed_columns, viewed_all}
 use Rattle.bitrows.proofs.table.BitRows.columns.Goals as goal
 
 pub returns-clause-count : goal.returns-clause-count

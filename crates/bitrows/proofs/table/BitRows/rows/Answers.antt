@@ -1,4 +1,4 @@
-use Rattle.bitrows.proofs.Rows.{viewed_rows}
+use Rattle.bitrows.proofs.RowWords.{viewed_rows}
 use Rattle.bitrows.proofs.table.BitRows.rows.Goals as goal
 
 pub returns : goal.returns

@@ -134,9 +134,9 @@ module _ (n w count : ℕ) (ws : List ℕ) (t : Table) (view : table_of n w coun
   pub viewed_all : All (λ row. row.length ≡ n) t.rows
   viewed_all i d inside = let below : i < count = omega (arith, viewed_rows) in cc (get_or-table n w count ws i d below, length-of_words n (row_words w ws i))
 
--- the words of a row that were lent and are given back
-pub given_back : {Z : Type 0} (words : Vec ℕ Z) (new : List ℕ) → length new ≡ length words.items → (with_items words new).items ≡ new
-given_back words new same = with_items_is words new (same ∙ sym words.ok.0)
+-- the words of a table that were lent and are given back
+pub given_back : {Z : Type 0} (words : Vec ℕ Z) (rows n : ℕ) (new : List ℕ) → IsTable rows n words.items → IsTable rows n new → (with_items words new).items ≡ new
+given_back words rows n new before after = with_items_is words new (after.long ∙ sym before.long ∙ sym words.ok.0)
 
 -- one row of words is written anew
 pub row_written : (w i v : ℕ) (ws row : List ℕ) → v ≡ w → put_mid (i * v) (i * v + v - i * v) ws row ≡ put_row w ws i row

@@ -1,0 +1,200 @@
+//! Tables made and changed, and the closure of a graph.
+
+ghost use Rattle.std.specs.Prelude.{◌≡◌, ◌≢◌, ◌<◌, ◌≤◌, ◌↔◌, ◌+◌, ◌*◌, ℕ, not, length};
+ghost use Rattle.bitrows.specs.Paths.{HasEdge, IsConnected, IsPairCount};
+ghost use Rattle.bitrows.specs.Stored.{AreRows, IsRowJoined};
+ghost use Rattle.bitrows.specs.Tables.{row_of, blank, with_row, set_at};
+ghost use Rattle.bitrows.specs.Views.{table, held, Becomes};
+ghost use Rattle.fixedbitset.specs.Bits.{of_words, set_bit, storage_words};
+ghost use Rattle.fixedbitset.specs.Stored.{IsClean};
+ghost use Rattle.fixedbitset.specs.TwoSets.{union, is_subset};
+
+use crate::views::{Rows, RowsMut};
+use bitlanes::word::Block;
+use bitlanes::{Steps, lanes};
+use fixedbitset::views::storage_words;
+use fixedbitset::{Bits, BitsMut};
+
+impl<'a> RowsMut<'a> {
+    /// Makes any words those of a table of so many rows and columns, with no bit. There have to be as many words as it keeps:
+    /// for each row as many as [`storage_words`](fixedbitset::views::storage_words) of the columns. It writes each word once.
+    ///
+    /// ```
+    /// let mut words = [7; 8];
+    /// RowsMut::blank(&mut words, 2, 70);
+    /// assert_eq!(rt; words, [0; 8]);
+    /// ```
+    #[inline(always)]
+    pub fn blank(words: &'a mut [Block], rows: usize, columns: usize) -> Self
+        requires { length words.old ≡ rows * storage_words columns }
+        ensures table { held result ≡ blank rows columns }
+        ensures rows { result.rows ≡ rows }
+        ensures columns { result.columns ≡ columns }
+        ensures same { result.words.ghost_name ≡ words.entry.ghost_name }
+    {
+        lanes::zero(words, &mut Steps::new());
+        RowsMut {
+            words,
+            rows,
+            columns,
+        }
+    }
+
+    /// The table to be read.
+    ///
+    /// ```
+    /// let mut words = [7; 8];
+    /// let table = RowsMut::blank(&mut words, 2, 70);
+    /// assert!(rt; !table.as_rows().get(1, 64));
+    /// ```
+    #[inline(always)]
+    pub fn as_rows(&self) -> Rows<'_>
+        ensures table { table result ≡ held self.now }
+        ensures rows { result.rows ≡ self.now.rows }
+        ensures columns { result.columns ≡ self.now.columns }
+    {
+        Rows {
+            words: self.words,
+            rows: self.rows,
+            columns: self.columns,
+        }
+    }
+
+    /// Sets the bit of the row at the column, or clears it where `enabled` is false. The table has to have both. It writes one
+    /// word.
+    ///
+    /// ```
+    /// let mut words = [7; 8];
+    /// let mut table = RowsMut::blank(&mut words, 2, 70);
+    /// table.set(1, 64, true);
+    /// assert_eq!(rt; words, [0, 0, 0, 0, 0, 1, 0, 0]);
+    /// ```
+    #[inline(always)]
+    pub fn set(&mut self, row: usize, column: usize, enabled: bool)
+        requires row { row < self.old.rows }
+        requires column { column < self.old.columns }
+        ensures { Becomes self.old self.new (set_at (held self.old) row column enabled) }
+    {
+        let wide = storage_words(self.columns);
+        let start = row * wide;
+        let end = start + wide;
+        set_in(&mut self.words[start..end], self.columns, column, enabled);
+    }
+
+    /// Row `into` takes in the bits of row `from`, and the other rows stay. It answers whether a bit came in. The table has to
+    /// have both rows; where they are one, nothing changes. It reads each word of the two rows once.
+    ///
+    /// ```
+    /// let mut words = [7; 8];
+    /// let mut table = RowsMut::blank(&mut words, 2, 70);
+    /// table.set(0, 64, true);
+    /// assert!(rt; table.union_rows(0, 1));
+    /// assert_eq!(rt; words, [0, 1, 0, 0, 0, 1, 0, 0]);
+    /// ```
+    #[inline]
+    pub fn union_rows(&mut self, from: usize, into: usize) -> bool
+        requires from { from < self.old.rows }
+        requires into { into < self.old.rows }
+        ensures table { Becomes self.old self.new (with_row (held self.old) into
+            (union (row_of (held self.old) into) (row_of (held self.old) from))) }
+        ensures changed { result
+            ≡ not (is_subset (row_of (held self.old) from) (row_of (held self.old) into)) }
+    {
+        if from == into {
+            return false;
+        }
+        let wide = storage_words(self.columns);
+        join_rows(self.words, self.rows, wide, self.columns, from, into)
+    }
+
+    /// The transitive closure of the graph that has an edge from each row to each column at which the row has a bit, with the
+    /// joins of two rows that it makes: one for each pair of nodes `a` and `k` with a path from `a` to `k` whose nodes between
+    /// its ends are all below `k`.
+    ///
+    /// ```
+    /// let mut words = [7; 12];
+    /// let mut table = RowsMut::blank(&mut words, 3, 3);
+    /// table.set(0, 1, true);
+    /// table.set(1, 2, true);
+    /// table.close(&mut Steps::new());
+    /// assert_eq!(rt; words, [6, 0, 0, 0, 4, 0, 0, 0, 0, 0, 0, 0]);
+    /// ```
+    pub fn close(&mut self, joins: &mut Steps)
+        ensures closed { (a b : ℕ) → HasEdge (held self.new) a b
+            ↔ IsConnected (HasEdge (held self.old)) a b }
+        ensures cost { (pairs : ℕ) × IsPairCount (HasEdge (held self.old)) self.old.rows pairs
+            × (joins.new ≡ joins.old + pairs) }
+        ensures bound { joins.new ≤ joins.old + self.old.rows * self.old.rows }
+        ensures words { Becomes self.old self.new (held self.new) }
+    {
+        for through in 0..self.rows {
+            for row in 0..self.rows {
+                if self.as_rows().get(row, through) {
+                    joins.tick();
+                    self.union_rows(through, row);
+                }
+            }
+        }
+    }
+}
+
+// Row `into` of these words takes in what row `from` has. It answers whether a bit came in.
+#[inline]
+fn join_rows(
+    words: &mut [Block],
+    rows: usize,
+    width: usize,
+    columns: usize,
+    from: usize,
+    into: usize,
+) -> bool
+    requires rows { AreRows columns width rows words.old }
+    requires from { from < rows }
+    requires into { into < rows }
+    requires apart { from ≢ into }
+    ensures { IsRowJoined columns width words.old from into result words.new }
+{
+    if from < into {
+        let (low, high) = words.split_at_mut(into * width);
+        let start = from * width;
+        let other = &low[start..start + width];
+        take_in(&mut high[..width], other, columns)
+    } else {
+        let (low, high) = words.split_at_mut(from * width);
+        let start = into * width;
+        let row = &mut low[start..start + width];
+        take_in(row, &high[..width], columns)
+    }
+}
+
+// The words of a row take in those of another. It answers whether a bit came in.
+#[inline(always)]
+fn take_in(words: &mut [Block], other: &[Block], length: usize) -> bool
+    requires clean { IsClean length words.old }
+    requires clean_other { IsClean length other.now }
+    ensures value { of_words length words.new
+        ≡ union (of_words length words.old) (of_words length other.now) }
+    ensures changed { result
+        ≡ not (is_subset (of_words length other.now) (of_words length words.old)) }
+    ensures clean { IsClean length words.new }
+{
+    let other = Bits {
+        words: other,
+        length,
+    };
+    let words = &mut *words;
+    BitsMut { words, length }.union_with_change(other, &mut Steps::new())
+}
+
+// Sets the bit of a row at the column, or clears it where `enabled` is false.
+#[inline(always)]
+fn set_in(words: &mut [Block], length: usize, column: usize, enabled: bool)
+    requires clean { IsClean length words.old }
+    requires below { column < length }
+    ensures value { of_words length words.new
+        ≡ set_bit (of_words length words.old) column enabled }
+    ensures clean { IsClean length words.new }
+{
+    let words = &mut *words;
+    BitsMut { words, length }.set(column, enabled);
+}
