@@ -2,7 +2,14 @@
 
 use crate::calls::{equal, holds, ok, set_of};
 use fixedbitset::{Steps, counted};
-use std::cmp::Ordering;
+
+#[test]
+fn clear(rt: HostRuntime) {
+    let alloc = rt.alloc();
+    let mut set = set_of(&rt, alloc, &[3, 64]);
+    counted::clear(&mut set, &mut Steps::new());
+    equal(&rt, set.as_slice(), [0, 0].as_slice());
+}
 
 #[test]
 fn union_with(rt: HostRuntime) {
@@ -97,42 +104,4 @@ fn is_subset(rt: HostRuntime) {
     let other = set_of(&rt, alloc, &[3, 64, 200]);
     holds(&rt, counted::is_subset(&set, &other, &mut Steps::new()));
     holds(&rt, !counted::is_subset(&other, &set, &mut Steps::new()));
-}
-
-#[test]
-fn first_lacking(rt: HostRuntime) {
-    let alloc = rt.alloc();
-    let set = set_of(&rt, alloc, &[3, 64]);
-    let other = set_of(&rt, alloc, &[3, 64, 200]);
-    equal(
-        &rt,
-        counted::first_lacking(&set, &other, &mut Steps::new()),
-        Some(200),
-    );
-    equal(
-        &rt,
-        counted::first_lacking(&other, &set, &mut Steps::new()),
-        None,
-    );
-}
-
-#[test]
-fn is_equal(rt: HostRuntime) {
-    let alloc = rt.alloc();
-    let set = set_of(&rt, alloc, &[3, 64]);
-    let other = set_of(&rt, alloc, &[3, 64, 200]);
-    holds(&rt, counted::is_equal(&set, &set, &mut Steps::new()));
-    holds(&rt, !counted::is_equal(&set, &other, &mut Steps::new()));
-}
-
-#[test]
-fn cmp(rt: HostRuntime) {
-    let alloc = rt.alloc();
-    let set = set_of(&rt, alloc, &[3, 64]);
-    let other = set_of(&rt, alloc, &[9, 64]);
-    equal(
-        &rt,
-        counted::cmp(&set, &other, &mut Steps::new()),
-        Ordering::Less,
-    );
 }

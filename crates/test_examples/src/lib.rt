@@ -7,13 +7,9 @@ mod bits;
 #[cfg(test)]
 mod calls;
 #[cfg(test)]
-mod counted_alone;
-#[cfg(test)]
 mod counted_changes;
 #[cfg(test)]
 mod counted_copies;
-#[cfg(test)]
-mod counted_neighbours;
 #[cfg(test)]
 mod counted_ranges;
 #[cfg(test)]
@@ -24,26 +20,6 @@ mod counted_whole;
 mod extend;
 #[cfg(test)]
 mod json;
-#[cfg(test)]
-mod lent;
-#[cfg(test)]
-mod lent_bytes;
-#[cfg(test)]
-mod lent_changes;
-#[cfg(test)]
-mod lent_copies;
-#[cfg(test)]
-mod lent_gaps;
-#[cfg(test)]
-mod lent_neighbours;
-#[cfg(test)]
-mod lent_ranges;
-#[cfg(test)]
-mod lent_shifts;
-#[cfg(test)]
-mod lent_walks;
-#[cfg(test)]
-mod lent_whole;
 #[cfg(test)]
 mod neighbours;
 #[cfg(test)]
@@ -68,6 +44,26 @@ mod shifts;
 mod solver;
 #[cfg(test)]
 mod text;
+#[cfg(test)]
+mod views_bytes;
+#[cfg(test)]
+mod views_changes;
+#[cfg(test)]
+mod views_copies;
+#[cfg(test)]
+mod views_gaps;
+#[cfg(test)]
+mod views_neighbours;
+#[cfg(test)]
+mod views_positions;
+#[cfg(test)]
+mod views_ranges;
+#[cfg(test)]
+mod views_shifts;
+#[cfg(test)]
+mod views_walks;
+#[cfg(test)]
+mod views_whole;
 #[cfg(test)]
 mod walks;
 #[cfg(test)]

@@ -63,6 +63,13 @@ fn clone_from(rt: HostRuntime) {
 }
 
 #[test]
+fn as_bits(rt: HostRuntime) {
+    let alloc = rt.alloc();
+    let set = set_of(&rt, alloc, &[3, 64]);
+    holds(&rt, set.as_bits().contains(64));
+}
+
+#[test]
 #[tactic(auto, using(fixedbitset::specs::BitsFacts::facts))]
 fn set_block(rt: HostRuntime) {
     let alloc = rt.alloc();

@@ -39,8 +39,6 @@ mod lanes;
 #[cfg(test)]
 mod laws;
 #[cfg(test)]
-mod lent;
-#[cfg(test)]
 mod lines;
 #[cfg(test)]
 mod new_rows;
@@ -66,6 +64,10 @@ mod shifts;
 mod sieve;
 #[cfg(test)]
 mod table;
+#[cfg(test)]
+mod views_changes;
+#[cfg(test)]
+mod views_reads;
 #[cfg(test)]
 mod walks;
 #[cfg(test)]

@@ -2,6 +2,7 @@
 
 use crate::calls::{equal, gives, holds, ok};
 use bitrows::BitRows;
+use fixedbitset::Steps;
 
 #[test]
 #[tactic(auto, using(bitrows::specs::TableFacts::facts))]
@@ -27,6 +28,14 @@ fn columns(rt: HostRuntime) {
     let alloc = rt.alloc();
     let table = ok(&rt, BitRows::new(alloc, 3, 70));
     equal(&rt, table.columns(), 70);
+}
+
+#[test]
+#[tactic(auto, using(bitrows::specs::TableFacts::facts))]
+fn as_rows(rt: HostRuntime) {
+    let alloc = rt.alloc();
+    let table = ok(&rt, BitRows::new(alloc, 3, 70));
+    holds(&rt, table.as_rows().row(2).is_clear(&mut Steps::new()));
 }
 
 #[test]

@@ -383,21 +383,21 @@ fn are_counted(short: &FixedBitSet, long: &FixedBitSet) -> bool {
         && counted::symmetric_difference_count(short, long, steps) == 2
         && counted::is_disjoint(short, long, steps)
         && !counted::is_subset(short, long, steps)
-        && counted::first_lacking(short, long, steps) == Some(LONG - 1)
-        && !counted::is_equal(short, long, steps)
-        && counted::cmp(short, long, steps) == short.cmp(long)
+        && short.as_bits().first_lacking(long.as_bits(), steps) == Some(LONG - 1)
+        && !short.as_bits().is_equal(long.as_bits(), steps)
+        && short.as_bits().compare(long.as_bits(), steps) == short.cmp(long)
 }
 
 fn are_found(short: &FixedBitSet, long: &FixedBitSet) -> bool {
     let steps = &mut Steps::new();
-    !counted::is_full(short, steps)
-        && !counted::is_clear(short, steps)
-        && counted::minimum(short, steps) == short.minimum()
-        && counted::maximum(long, steps) == long.maximum()
-        && counted::next_one(short, 0, steps) == short.next_one(0)
-        && counted::next_zero(short, 0, steps) == short.next_zero(0)
-        && counted::previous_one(short, 10, steps) == short.previous_one(10)
-        && counted::previous_zero(short, 10, steps) == short.previous_zero(10)
+    !short.as_bits().is_full(steps)
+        && !short.as_bits().is_clear(steps)
+        && short.as_bits().minimum(steps) == short.minimum()
+        && long.as_bits().maximum(steps) == long.maximum()
+        && short.as_bits().next_one(0, steps) == short.next_one(0)
+        && short.as_bits().next_zero(0, steps) == short.next_zero(0)
+        && short.as_bits().previous_one(10, steps) == short.previous_one(10)
+        && short.as_bits().previous_zero(10, steps) == short.previous_zero(10)
 }
 
 fn changes_counted(
