@@ -62,7 +62,7 @@ pub fn bitand(
     ensures cost { steps.new ≤ steps.old
         + both_steps false false (model.storage_words set.now.length)
         (model.storage_words other.now.length) }
-    ensures whole { OnOk result (steps.new ≡ steps.old
+    ensures exact_if_ok { OnOk result (steps.new ≡ steps.old
         + both_steps false false (model.storage_words set.now.length)
         (model.storage_words other.now.length)) }
     ensures grows { steps.old ≤ steps.new }
@@ -93,7 +93,7 @@ pub fn bitor(
     ensures cost { steps.new ≤ steps.old
         + both_steps false false (model.storage_words set.now.length)
         (model.storage_words other.now.length) }
-    ensures whole { OnOk result (steps.new ≡ steps.old
+    ensures exact_if_ok { OnOk result (steps.new ≡ steps.old
         + both_steps false false (model.storage_words set.now.length)
         (model.storage_words other.now.length)) }
     ensures grows { steps.old ≤ steps.new }
@@ -124,7 +124,7 @@ pub fn bitxor(
     ensures cost { steps.new ≤ steps.old
         + both_steps false false (model.storage_words set.now.length)
         (model.storage_words other.now.length) }
-    ensures whole { OnOk result (steps.new ≡ steps.old
+    ensures exact_if_ok { OnOk result (steps.new ≡ steps.old
         + both_steps false false (model.storage_words set.now.length)
         (model.storage_words other.now.length)) }
     ensures grows { steps.old ≤ steps.new }
@@ -148,7 +148,7 @@ fn joined_copy<O: WordOp>(
     ensures cost { steps.new ≤ steps.old
         + join_steps O.KEEP (model.storage_words set.now.length)
         (model.storage_words other.now.length) }
-    ensures whole { OnOk result (steps.new ≡ steps.old
+    ensures exact_if_ok { OnOk result (steps.new ≡ steps.old
         + join_steps O.KEEP (model.storage_words set.now.length)
         (model.storage_words other.now.length)) }
     ensures grows { steps.old ≤ steps.new }

@@ -13,13 +13,13 @@ join_whole m n le = let fewer : storage_words m ≤ storage_words n = omega arit
 pub returns-else-set-other-clause-cost : goal.returns-else-set-other-clause-cost
 returns-else-set-other-clause-cost c = omega (arith, c.joined_copy-else-set-other.ensures.cost, c.if-set-other.false, viewed_length _ _ _ c.set.view_is, viewed_length _ _ _ c.other.view_is)
 
-pub returns-else-set-other-clause-whole : goal.returns-else-set-other-clause-whole
-returns-else-set-other-clause-whole c =
+pub returns-else-set-other-clause-exact_if_ok : goal.returns-else-set-other-clause-exact_if_ok
+returns-else-set-other-clause-exact_if_ok c =
     let shorter : c.args.other.now.length ≤ c.args.set.now.length = omega (arith, c.if-set-other.false, viewed_length _ _ _ c.set.view_is, viewed_length _ _ _ c.other.view_is) in
-    rw (← join_whole c.args.other.now.length c.args.set.now.length shorter) c.joined_copy-else-set-other.ensures.whole
+    rw (← join_whole c.args.other.now.length c.args.set.now.length shorter) c.joined_copy-else-set-other.ensures.exact_if_ok
 
 pub returns-else-set-other-clause-value : goal.returns-else-set-other-clause-value
 returns-else-set-other-clause-value c = grind (arith, bitand_shorter, bitand_longer, viewed_length)
 
-pub returns-then-set-other-clause-whole : goal.returns-then-set-other-clause-whole
-returns-then-set-other-clause-whole c = grind (arith, common_steps, viewed_length)
+pub returns-then-set-other-clause-exact_if_ok : goal.returns-then-set-other-clause-exact_if_ok
+returns-then-set-other-clause-exact_if_ok c = grind (arith, common_steps, viewed_length)

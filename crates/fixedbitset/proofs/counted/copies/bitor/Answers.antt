@@ -3,5 +3,5 @@ use Rattle.std.proofs.lemmas.Grind.{common_steps}
 use Rattle.fixedbitset.proofs.Words.{viewed_length}
 use Rattle.fixedbitset.proofs.counted.copies.bitor.Goals as goal
 
-pub returns-then-set-other-clause-whole : goal.returns-then-set-other-clause-whole
-returns-then-set-other-clause-whole c = grind (arith, common_steps, viewed_length)
+pub returns-then-set-other-clause-exact_if_ok : goal.returns-then-set-other-clause-exact_if_ok
+returns-then-set-other-clause-exact_if_ok c = grind (arith, common_steps, viewed_length)
