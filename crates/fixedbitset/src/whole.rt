@@ -382,6 +382,7 @@ impl FixedBitSet {
     pub fn first_lacking(&self, other: &Self) -> Option<usize>
         ensures { result ≡ model.minimum (sets.difference other.now self.now) }
     {
-        self.as_bits().first_lacking(other.as_bits(), &mut Steps::new())
+        self.as_bits()
+            .first_lacking(other.as_bits(), &mut Steps::new())
     }
 }

@@ -218,7 +218,8 @@ pub fn symmetric_difference_count(
         + both_steps true true (model.storage_words set.now.length)
         (model.storage_words other.now.length) }
 {
-    set.as_bits().symmetric_difference_count(other.as_bits(), steps)
+    set.as_bits()
+        .symmetric_difference_count(other.as_bits(), steps)
 }
 
 /// [`FixedBitSet::is_disjoint`], with the steps that it takes.

@@ -110,7 +110,12 @@ impl BitsMut<'_> {
 
     // Joins the second set, but for the positions of the third, to the first, and answers whether a position changed.
     #[inline(always)]
-    pub(crate) fn join_difference(&mut self, gens: Bits<'_>, kills: Bits<'_>, steps: &mut Steps) -> bool
+    pub(crate) fn join_difference(
+        &mut self,
+        gens: Bits<'_>,
+        kills: Bits<'_>,
+        steps: &mut Steps,
+    ) -> bool
         requires shorter { gens.length ≤ self.old.length }
         ensures value { Becomes self.old self.new (joined (λ x y. x || y) (held self.old)
             (sets.difference (value gens.entry) (value kills.entry))) }

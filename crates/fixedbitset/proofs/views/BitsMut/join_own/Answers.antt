@@ -6,14 +6,20 @@ use Rattle.fixedbitset.proofs.views.BitsMut.join_own.Goals as goal
 pub invariant_of-self : goal.invariant_of-self
 invariant_of-self g c =
     let used = c.div_ceil-used.ensures in
-    record { clean = (keeps_used_moved _ _ c.args.self.now.clean _ used _ _ _ _ (λ p. nat_le c.args.by p && has_bit c.args.self.now.words.now (p - c.args.by)) c.up.ensures.bits c.clear_from.ensures
-    (λ p. ap (λ b. nat_le c.args.by p && b) (has_bit-used _ _ c.args.self.now.clean _ used (p - c.args.by)))).clean }
+    record {
+      clean = (keeps_used_moved _ _ c.args.self.now.clean _ used _ _ _ _ (λ p. nat_le c.args.by p && has_bit c.args.self.now.words.now (p - c.args.by)) c.up.ensures.bits c.clear_from.ensures
+          (λ p. ap (λ b. nat_le c.args.by p && b) (has_bit-used _ _ c.args.self.now.clean _ used (p - c.args.by)))).clean;
+    }
 
 pub returns-clause-value : goal.returns-clause-value
 returns-clause-value g c =
     let used = c.div_ceil-used.ensures in
-    record { value = (keeps_used_moved _ _ c.args.self.now.clean _ used _ _ _ _ (λ p. nat_le c.args.by p && has_bit c.args.self.now.words.now (p - c.args.by)) c.up.ensures.bits c.clear_from.ensures
-    (λ p. ap (λ b. nat_le c.args.by p && b) (has_bit-used _ _ c.args.self.now.clean _ used (p - c.args.by)))).value; length = refl; same = refl }
+    record {
+      value = (keeps_used_moved _ _ c.args.self.now.clean _ used _ _ _ _ (λ p. nat_le c.args.by p && has_bit c.args.self.now.words.now (p - c.args.by)) c.up.ensures.bits c.clear_from.ensures
+          (λ p. ap (λ b. nat_le c.args.by p && b) (has_bit-used _ _ c.args.self.now.clean _ used (p - c.args.by)))).value;
+      length = refl;
+      same = refl;
+    }
 
 pub returns-clause-cost : goal.returns-clause-cost
 returns-clause-cost g c =
