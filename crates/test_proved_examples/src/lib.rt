@@ -7,6 +7,8 @@ mod bitranks_laws;
 #[cfg(test)]
 mod calling_1;
 #[cfg(test)]
+mod calling_3;
+#[cfg(test)]
 mod calls;
 #[cfg(test)]
 mod counted;

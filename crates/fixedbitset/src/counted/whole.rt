@@ -18,7 +18,7 @@ ghost use Rattle.fixedbitset.specs.TwoSets as sets;
 use crate::set::FixedBitSet;
 use crate::views::BitsMut;
 use bitlanes::Steps;
-use bitlanes::ops::{Or, WordOp, Xor};
+use bitlanes::ops::{And, AndNot, Or, WordOp, Xor};
 use std::alloc::AllocError;
 use std::cmp::Ordering;
 
@@ -154,13 +154,14 @@ pub fn difference_with(set: &mut FixedBitSet, other: &FixedBitSet, steps: &mut S
 /// assert_eq!(rt; count, 4);
 /// ```
 #[inline]
+#[tactic(auto, using(crate::proofs::JoinedCounts::union_count_of))]
 pub fn union_count(set: &FixedBitSet, other: &FixedBitSet, steps: &mut Steps) -> usize
     ensures count { result ≡ sets.union_count set.now other.now }
     ensures cost { steps.new ≡ steps.old
         + both_steps true true (model.storage_words set.now.length)
         (model.storage_words other.now.length) }
 {
-    set.as_bits().union_count(other.as_bits(), steps)
+    set.as_bits().count_used::<Or>(other.as_bits(), steps)
 }
 
 /// [`FixedBitSet::intersection_count`], with the steps that it takes.
@@ -172,13 +173,14 @@ pub fn union_count(set: &FixedBitSet, other: &FixedBitSet, steps: &mut Steps) ->
 /// assert_eq!(rt; count, 1);
 /// ```
 #[inline]
+#[tactic(auto, using(crate::proofs::JoinedCounts::intersection_count_of))]
 pub fn intersection_count(set: &FixedBitSet, other: &FixedBitSet, steps: &mut Steps) -> usize
     ensures count { result ≡ sets.intersection_count set.now other.now }
     ensures cost { steps.new ≡ steps.old
         + both_steps false false (model.storage_words set.now.length)
         (model.storage_words other.now.length) }
 {
-    set.as_bits().intersection_count(other.as_bits(), steps)
+    set.as_bits().count_used::<And>(other.as_bits(), steps)
 }
 
 /// [`FixedBitSet::difference_count`], with the steps that it takes.
@@ -190,13 +192,14 @@ pub fn intersection_count(set: &FixedBitSet, other: &FixedBitSet, steps: &mut St
 /// assert_eq!(rt; count, 2);
 /// ```
 #[inline]
+#[tactic(auto, using(crate::proofs::JoinedCounts::difference_count_of))]
 pub fn difference_count(set: &FixedBitSet, other: &FixedBitSet, steps: &mut Steps) -> usize
     ensures count { result ≡ sets.difference_count set.now other.now }
     ensures cost { steps.new ≡ steps.old
         + both_steps true false (model.storage_words set.now.length)
         (model.storage_words other.now.length) }
 {
-    set.as_bits().difference_count(other.as_bits(), steps)
+    set.as_bits().count_used::<AndNot>(other.as_bits(), steps)
 }
 
 /// [`FixedBitSet::symmetric_difference_count`], with the steps that it takes.
@@ -208,6 +211,7 @@ pub fn difference_count(set: &FixedBitSet, other: &FixedBitSet, steps: &mut Step
 /// assert_eq!(rt; count, 3);
 /// ```
 #[inline]
+#[tactic(auto, using(crate::proofs::JoinedCounts::symmetric_difference_count_of))]
 pub fn symmetric_difference_count(
     set: &FixedBitSet,
     other: &FixedBitSet,
@@ -218,8 +222,7 @@ pub fn symmetric_difference_count(
         + both_steps true true (model.storage_words set.now.length)
         (model.storage_words other.now.length) }
 {
-    set.as_bits()
-        .symmetric_difference_count(other.as_bits(), steps)
+    set.as_bits().count_used::<Xor>(other.as_bits(), steps)
 }
 
 /// [`FixedBitSet::is_disjoint`], with the steps that it takes.

@@ -133,7 +133,7 @@ impl Bits<'_> {
         ensures cost { steps.new ≡ steps.old + both_steps true true
             (storage_words self.entry.length) (storage_words other.entry.length) }
     {
-        self.count_used::<Or>(other, steps)
+        self.count::<Or>(other, steps)
     }
 
     /// How many positions are in both sets.
@@ -151,7 +151,7 @@ impl Bits<'_> {
         ensures cost { steps.new ≡ steps.old + both_steps false false
             (storage_words self.entry.length) (storage_words other.entry.length) }
     {
-        self.count_used::<And>(other, steps)
+        self.count::<And>(other, steps)
     }
 
     /// How many positions of the first set the second lacks.
@@ -169,7 +169,7 @@ impl Bits<'_> {
         ensures cost { steps.new ≡ steps.old + both_steps true false
             (storage_words self.entry.length) (storage_words other.entry.length) }
     {
-        self.count_used::<AndNot>(other, steps)
+        self.count::<AndNot>(other, steps)
     }
 
     /// How many positions are in exactly one of the sets.
@@ -189,7 +189,7 @@ impl Bits<'_> {
         ensures cost { steps.new ≡ steps.old + both_steps true true
             (storage_words self.entry.length) (storage_words other.entry.length) }
     {
-        self.count_used::<Xor>(other, steps)
+        self.count::<Xor>(other, steps)
     }
 
     /// Whether no position is in both sets.
@@ -313,11 +313,20 @@ impl Bits<'_> {
         }
     }
 
-    // How many positions of either set pass the operation's truth function. Sets of one lane are counted by the words that
-    // the longer length needs: compiled by the kit for AVX2, the four words of a lane become one vector, which takes longer
-    // than two words.
+    // How many positions of either set pass the operation's truth function.
     #[inline(always)]
-    fn count_used<O: WordOp>(self, other: Bits<'_>, steps: &mut Steps) -> usize
+    fn count<O: WordOp>(self, other: Bits<'_>, steps: &mut Steps) -> usize
+        ensures count { result ≡ count_joined O.truth (value self.entry) (value other.entry) }
+        ensures cost { steps.new ≡ steps.old + both_steps O.KEEP O.TAKE
+            (storage_words self.entry.length) (storage_words other.entry.length) }
+    {
+        joins::count::<O>(self.words, other.words, steps)
+    }
+
+    // The same, where sets of one lane are counted by the words that the longer length needs. Compiled by the kit for AVX2,
+    // the four words of a lane become one vector, which takes longer than two words.
+    #[inline(always)]
+    pub(crate) fn count_used<O: WordOp>(self, other: Bits<'_>, steps: &mut Steps) -> usize
         ensures count { result ≡ count_joined O.truth (value self.entry) (value other.entry) }
         ensures cost { steps.new ≡ steps.old + both_steps O.KEEP O.TAKE
             (storage_words self.entry.length) (storage_words other.entry.length) }
@@ -327,16 +336,6 @@ impl Bits<'_> {
             return joins::count::<O>(&self.words[..used], &other.words[..used], steps);
         }
         self.count::<O>(other, steps)
-    }
-
-    // The same by all words.
-    #[inline(always)]
-    fn count<O: WordOp>(self, other: Bits<'_>, steps: &mut Steps) -> usize
-        ensures count { result ≡ count_joined O.truth (value self.entry) (value other.entry) }
-        ensures cost { steps.new ≡ steps.old + both_steps O.KEEP O.TAKE
-            (storage_words self.entry.length) (storage_words other.entry.length) }
-    {
-        joins::count::<O>(self.words, other.words, steps)
     }
 
     // Whether no position of either set passes the operation's truth function.
