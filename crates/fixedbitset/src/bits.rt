@@ -153,6 +153,27 @@ impl FixedBitSet {
         BitsMut { words, length }.put(bit)
     }
 
+    /// Clears the position, which has to be below the length, and answers whether it was set before.
+    ///
+    /// Upstream has no such call; it is the counterpart of [`put`](Self::put).
+    ///
+    /// ```
+    /// let mut set = FixedBitSet::from_iter(alloc, [3, 64])?;
+    /// assert!(rt; set.take(64));
+    /// assert!(rt; !set.take(64));
+    /// assert_eq!(rt; set.count_ones(..), 1);
+    /// ```
+    #[inline]
+    #[tactic(auto, using(crate::proofs::Words::given_back, crate::proofs::Words::viewed_length))]
+    pub fn take(&mut self, bit: usize) -> bool
+        requires { bit < self.old.length }
+        ensures before { result ≡ model.contains self.old bit }
+        ensures after { self.new ≡ model.remove self.old bit }
+    {
+        let (words, length) = (&mut *self.words.as_mut_slice(), self.length);
+        BitsMut { words, length }.take(bit)
+    }
+
     /// Sets the position if it is clear and clears it if it is set. It has to be below the length.
     ///
     /// ```
