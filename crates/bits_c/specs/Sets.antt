@@ -1,4 +1,4 @@
--- What a contract sees of a set that is lent, and of an answer.
+-- What a contract sees of words that are lent, and of an answer.
 use Rattle.std.specs.Prelude.{ℤ, pos, negsuc}
 use Rattle.std.specs.declared.cmp.Ordering.{Ordering}
 use Rattle.std.specs.declared.cmp.Ordering.TheVariants.{Less, Equal, Greater}
@@ -8,11 +8,6 @@ use Rattle.bitrows.specs.Tables.{Table}
 use Rattle.bits_c.specs.declared.structs.Ranks.{Ranks}
 use Rattle.bits_c.specs.declared.structs.Room.{Room}
 use Rattle.bits_c.specs.declared.structs.Rows.{Rows}
-use Rattle.bits_c.specs.declared.structs.Set.{Set}
-
--- the value of the words and the length
-abbrev pub value : Set → Bits
-value set = of_words set.length set.words.now
 
 -- the value of the words and the length of room for a set
 abbrev pub written : Room → Bits

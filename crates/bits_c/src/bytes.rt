@@ -2,13 +2,12 @@
 
 ghost use Rattle.std.specs.Prelude.{◌≡◌, ◌*◌, ◌==◌, if◌then◌else◌, length, map};
 ghost use Rattle.std.specs.Int.{reverse_bits, w8};
-ghost use Rattle.bits_c.specs.Sets.{value};
 ghost use Rattle.fixedbitset.specs.Bits.{words_needed};
 ghost use Rattle.fixedbitset.specs.Json as json;
+ghost use Rattle.fixedbitset.specs.Views.{value, held};
 
 use crate::bits_blocks;
-use crate::structs::Set;
-use fixedbitset::lent;
+use fixedbitset::views::{Bits, BitsMut};
 
 /// How many bytes `bits_to_bytes` writes: eight for each word that the length needs.
 #[unsafe(no_mangle)]
@@ -20,20 +19,20 @@ pub extern "C" fn bits_bytes(length: usize) -> usize
 
 /// Leaves the positions that the bytes say. Bytes that are missing count as 0, and bits past the length are dropped.
 #[unsafe(no_mangle)]
-pub extern "C" fn bits_from_bytes(set: &mut Set<'_>, bytes: &[u8])
-    ensures { value set.new ≡ json.of_bytes set.old.length bytes.now }
+pub extern "C" fn bits_from_bytes(set: &mut BitsMut<'_>, bytes: &[u8])
+    ensures { held set.new ≡ json.of_bytes set.old.length bytes.now }
 {
-    lent::from_bytes(set.words, set.length, bytes);
+    set.assign_bytes(bytes);
 }
 
 /// Writes the bytes of the set, and answers whether there are as many as `bits_bytes` says; else nothing is changed.
 #[unsafe(no_mangle)]
-pub extern "C" fn bits_to_bytes(set: &Set<'_>, bytes: &mut [u8]) -> bool
-    ensures told { result ≡ (length bytes.old == 8 * words_needed set.now.length) }
+pub extern "C" fn bits_to_bytes(set: &Bits<'_>, bytes: &mut [u8]) -> bool
+    ensures answer { result ≡ (length bytes.old == 8 * words_needed set.now.length) }
     ensures bytes { bytes.new ≡ (if result then json.bytes (value set.now) else bytes.old) }
 {
     if bytes.len() == bits_bytes(set.length) {
-        lent::to_bytes(set.words, set.length, bytes);
+        set.to_bytes(bytes);
         true
     } else {
         false

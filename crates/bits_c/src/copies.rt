@@ -2,21 +2,22 @@
 //! once. The words that are written may not be those of the other sets.
 
 ghost use Rattle.std.specs.Prelude.{◌≡◌, ◌==◌, ◌&&◌, max, min, true, false, length};
-ghost use Rattle.bits_c.specs.Sets.{value, written};
+ghost use Rattle.bits_c.specs.Sets.{written};
 ghost use Rattle.fixedbitset.specs.Bits.{storage_words};
 ghost use Rattle.fixedbitset.specs.Parts as parts;
 ghost use Rattle.fixedbitset.specs.Stored.{IsClean};
 ghost use Rattle.fixedbitset.specs.TwoSets as sets;
+ghost use Rattle.fixedbitset.specs.Views.{value};
 
 use crate::bits_words;
-use crate::structs::{Room, Set};
-use fixedbitset::lent;
+use crate::structs::Room;
+use fixedbitset::views::Bits;
 
 /// Makes the words those of the set's positions that are below the length of the room, and answers whether it did: where
 /// there are `bits_words` of this length. Else nothing is changed.
 #[unsafe(no_mangle)]
-pub extern "C" fn bits_copy(to: &mut Room<'_>, set: &Set<'_>) -> bool
-    ensures told { result ≡ (length to.old.words.now == storage_words to.old.length) }
+pub extern "C" fn bits_copy(to: &mut Room<'_>, set: &Bits<'_>) -> bool
+    ensures answer { result ≡ (length to.old.words.now == storage_words to.old.length) }
     ensures clean { result ≡ true → IsClean to.new.length to.new.words.now }
     ensures value { result ≡ true
         → written to.new ≡ parts.resize (value set.now) to.old.length false }
@@ -24,7 +25,7 @@ pub extern "C" fn bits_copy(to: &mut Room<'_>, set: &Set<'_>) -> bool
     ensures length { to.new.length ≡ to.old.length }
 {
     if to.words.len() == bits_words(to.length) {
-        lent::copy(to.words, to.length, set.words, set.length);
+        set.copy_to(to.words, to.length);
         true
     } else {
         false
@@ -34,8 +35,8 @@ pub extern "C" fn bits_copy(to: &mut Room<'_>, set: &Set<'_>) -> bool
 /// Makes the words those of the positions of either set, and answers whether it did: where the room has the greater of their
 /// lengths, and `bits_words` of it. Else nothing is changed.
 #[unsafe(no_mangle)]
-pub extern "C" fn bits_union_of(to: &mut Room<'_>, set: &Set<'_>, other: &Set<'_>) -> bool
-    ensures told { result ≡ (length to.old.words.now == storage_words to.old.length
+pub extern "C" fn bits_union_of(to: &mut Room<'_>, set: &Bits<'_>, other: &Bits<'_>) -> bool
+    ensures answer { result ≡ (length to.old.words.now == storage_words to.old.length
         && to.old.length == max set.now.length other.now.length) }
     ensures clean { result ≡ true → IsClean to.new.length to.new.words.now }
     ensures value { result ≡ true
@@ -44,7 +45,7 @@ pub extern "C" fn bits_union_of(to: &mut Room<'_>, set: &Set<'_>, other: &Set<'_
     ensures length { to.new.length ≡ to.old.length }
 {
     if to.words.len() == bits_words(to.length) && to.length == set.length.max(other.length) {
-        lent::union_of(to.words, set.words, set.length, other.words, other.length);
+        set.union_to(*other, to.words);
         true
     } else {
         false
@@ -56,10 +57,10 @@ pub extern "C" fn bits_union_of(to: &mut Room<'_>, set: &Set<'_>, other: &Set<'_
 #[unsafe(no_mangle)]
 pub extern "C" fn bits_symmetric_difference_of(
     to: &mut Room<'_>,
-    set: &Set<'_>,
-    other: &Set<'_>,
+    set: &Bits<'_>,
+    other: &Bits<'_>,
 ) -> bool
-    ensures told { result ≡ (length to.old.words.now == storage_words to.old.length
+    ensures answer { result ≡ (length to.old.words.now == storage_words to.old.length
         && to.old.length == max set.now.length other.now.length) }
     ensures clean { result ≡ true → IsClean to.new.length to.new.words.now }
     ensures value { result ≡ true
@@ -68,7 +69,7 @@ pub extern "C" fn bits_symmetric_difference_of(
     ensures length { to.new.length ≡ to.old.length }
 {
     if to.words.len() == bits_words(to.length) && to.length == set.length.max(other.length) {
-        lent::symmetric_difference_of(to.words, set.words, set.length, other.words, other.length);
+        set.symmetric_difference_to(*other, to.words);
         true
     } else {
         false
@@ -78,8 +79,8 @@ pub extern "C" fn bits_symmetric_difference_of(
 /// Makes the words those of the positions of both sets, and answers whether it did: where the room has the smaller of their
 /// lengths, and `bits_words` of it. Else nothing is changed.
 #[unsafe(no_mangle)]
-pub extern "C" fn bits_intersection_of(to: &mut Room<'_>, set: &Set<'_>, other: &Set<'_>) -> bool
-    ensures told { result ≡ (length to.old.words.now == storage_words to.old.length
+pub extern "C" fn bits_intersection_of(to: &mut Room<'_>, set: &Bits<'_>, other: &Bits<'_>) -> bool
+    ensures answer { result ≡ (length to.old.words.now == storage_words to.old.length
         && to.old.length == min set.now.length other.now.length) }
     ensures clean { result ≡ true → IsClean to.new.length to.new.words.now }
     ensures value { result ≡ true
@@ -88,7 +89,7 @@ pub extern "C" fn bits_intersection_of(to: &mut Room<'_>, set: &Set<'_>, other: 
     ensures length { to.new.length ≡ to.old.length }
 {
     if to.words.len() == bits_words(to.length) && to.length == set.length.min(other.length) {
-        lent::intersection_of(to.words, set.words, set.length, other.words, other.length);
+        set.intersection_to(*other, to.words);
         true
     } else {
         false
@@ -98,8 +99,8 @@ pub extern "C" fn bits_intersection_of(to: &mut Room<'_>, set: &Set<'_>, other: 
 /// Makes the words those of the positions of the first set that the second lacks, and answers whether it did: where the room
 /// has the length of the first, and `bits_words` of it. Else nothing is changed.
 #[unsafe(no_mangle)]
-pub extern "C" fn bits_difference_of(to: &mut Room<'_>, set: &Set<'_>, other: &Set<'_>) -> bool
-    ensures told { result ≡ (length to.old.words.now == storage_words to.old.length
+pub extern "C" fn bits_difference_of(to: &mut Room<'_>, set: &Bits<'_>, other: &Bits<'_>) -> bool
+    ensures answer { result ≡ (length to.old.words.now == storage_words to.old.length
         && to.old.length == set.now.length) }
     ensures clean { result ≡ true → IsClean to.new.length to.new.words.now }
     ensures value { result ≡ true
@@ -108,7 +109,7 @@ pub extern "C" fn bits_difference_of(to: &mut Room<'_>, set: &Set<'_>, other: &S
     ensures length { to.new.length ≡ to.old.length }
 {
     if to.words.len() == bits_words(to.length) && to.length == set.length {
-        lent::difference_of(to.words, set.words, set.length, other.words, other.length);
+        set.difference_to(*other, to.words);
         true
     } else {
         false

@@ -3,16 +3,16 @@
 
 ghost use Rattle.std.specs.Prelude.{◌≡◌, ◌++◌, [], false, length};
 ghost use Rattle.std.specs.Iterator.{YieldsFirst, YieldsLast};
-ghost use Rattle.bits_c.specs.Sets.{value};
 ghost use Rattle.bits_c.specs.Walks.{given, joined_left, lacked_left, split_left, words_between};
 ghost use Rattle.fixedbitset.specs.Bits as model;
 ghost use Rattle.fixedbitset.specs.TwoSets as sets;
+ghost use Rattle.fixedbitset.specs.Views.{value};
 
-use crate::structs::{Ones, Pair, Set, Sieve};
+use crate::structs::{Ones, Pair, Sieve};
 use crate::walks::hand_out;
 use bitlanes::ops::AndNot;
 use bitlanes::word::BITS;
-use fixedbitset::lent;
+use fixedbitset::views::Bits;
 
 impl<'a> Pair<'a> {
     // The first position of the second walk. The other bits of its word become the first walk: so the next calls find them
@@ -64,7 +64,7 @@ impl<'a> Pair<'a> {
 /// Begins the walk over the positions of the first set, and then over those of the second that the first lacks, each part
 /// in ascending order.
 #[unsafe(no_mangle)]
-pub extern "C" fn bits_union<'a>(walk: &mut Pair<'a>, set: &'a Set<'_>, other: &'a Set<'_>)
+pub extern "C" fn bits_union<'a>(walk: &mut Pair<'a>, set: &Bits<'a>, other: &Bits<'a>)
     ensures left { joined_left walk.new ≡ model.asc (value set.now)
         ++ model.asc (sets.difference (value other.now) (value set.now)) }
     ensures words { length walk.new.first.walk.words.now ≡ words_between set.now.length }
@@ -72,7 +72,7 @@ pub extern "C" fn bits_union<'a>(walk: &mut Pair<'a>, set: &'a Set<'_>, other: &
 {
     *walk = Pair {
         first: Sieve {
-            walk: Ones::of(lent::ones(set.words, set.length)),
+            walk: Ones::of(set.ones()),
             other: other.words,
         },
         second: Sieve::lacking(other, set),
@@ -116,8 +116,8 @@ pub extern "C" fn bits_union_next_back(walk: &mut Pair<'_>, position: &mut usize
 #[unsafe(no_mangle)]
 pub extern "C" fn bits_symmetric_difference<'a>(
     walk: &mut Pair<'a>,
-    set: &'a Set<'_>,
-    other: &'a Set<'_>,
+    set: &Bits<'a>,
+    other: &Bits<'a>,
 )
     ensures left { split_left walk.new
         ≡ model.asc (sets.difference (value set.now) (value other.now))

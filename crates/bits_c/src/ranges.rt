@@ -2,30 +2,30 @@
 //! its end not past the length.
 
 ghost use Rattle.std.specs.Prelude.{◌≡◌, ◌&&◌, if◌then◌else◌};
-ghost use Rattle.bits_c.specs.Sets.{value};
 ghost use Rattle.fixedbitset.specs.Ranges as model;
 ghost use Rattle.fixedbitset.specs.Ranges.{is_valid};
+ghost use Rattle.fixedbitset.specs.Views.{value, held};
 
-use crate::structs::Set;
-use fixedbitset::lent;
+use bitlanes::Steps;
+use fixedbitset::views::{Bits, BitsMut};
 
 /// Whether the range is valid.
 #[unsafe(no_mangle)]
-pub extern "C" fn bits_range_is_valid(set: &Set<'_>, start: usize, end: usize) -> bool
+pub extern "C" fn bits_range_is_valid(set: &Bits<'_>, start: usize, end: usize) -> bool
     ensures { result ≡ is_valid (value set.now) start end }
 {
-    lent::range_is_valid(set.words, set.length, start, end)
+    set.range_is_valid(start, end)
 }
 
 /// Sets the positions of the range, and answers whether it is valid; else nothing is changed.
 #[unsafe(no_mangle)]
-pub extern "C" fn bits_insert_range(set: &mut Set<'_>, start: usize, end: usize) -> bool
-    ensures told { result ≡ is_valid (value set.old) start end }
-    ensures value { value set.new
-        ≡ (if result then model.insert_range (value set.old) start end else value set.old) }
+pub extern "C" fn bits_insert_range(set: &mut BitsMut<'_>, start: usize, end: usize) -> bool
+    ensures answer { result ≡ is_valid (held set.old) start end }
+    ensures value { held set.new
+        ≡ (if result then model.insert_range (held set.old) start end else held set.old) }
 {
-    if bits_range_is_valid(set, start, end) {
-        lent::insert_range(set.words, set.length, start, end);
+    if set.as_bits().range_is_valid(start, end) {
+        set.insert_range(start, end, &mut Steps::new());
         true
     } else {
         false
@@ -34,13 +34,13 @@ pub extern "C" fn bits_insert_range(set: &mut Set<'_>, start: usize, end: usize)
 
 /// Clears the positions of the range, and answers whether it is valid; else nothing is changed.
 #[unsafe(no_mangle)]
-pub extern "C" fn bits_remove_range(set: &mut Set<'_>, start: usize, end: usize) -> bool
-    ensures told { result ≡ is_valid (value set.old) start end }
-    ensures value { value set.new
-        ≡ (if result then model.remove_range (value set.old) start end else value set.old) }
+pub extern "C" fn bits_remove_range(set: &mut BitsMut<'_>, start: usize, end: usize) -> bool
+    ensures answer { result ≡ is_valid (held set.old) start end }
+    ensures value { held set.new
+        ≡ (if result then model.remove_range (held set.old) start end else held set.old) }
 {
-    if bits_range_is_valid(set, start, end) {
-        lent::remove_range(set.words, set.length, start, end);
+    if set.as_bits().range_is_valid(start, end) {
+        set.remove_range(start, end, &mut Steps::new());
         true
     } else {
         false
@@ -50,13 +50,13 @@ pub extern "C" fn bits_remove_range(set: &mut Set<'_>, start: usize, end: usize)
 /// Sets each position of the range that is clear and clears each that is set, and answers whether it is valid; else
 /// nothing is changed.
 #[unsafe(no_mangle)]
-pub extern "C" fn bits_toggle_range(set: &mut Set<'_>, start: usize, end: usize) -> bool
-    ensures told { result ≡ is_valid (value set.old) start end }
-    ensures value { value set.new
-        ≡ (if result then model.toggle_range (value set.old) start end else value set.old) }
+pub extern "C" fn bits_toggle_range(set: &mut BitsMut<'_>, start: usize, end: usize) -> bool
+    ensures answer { result ≡ is_valid (held set.old) start end }
+    ensures value { held set.new
+        ≡ (if result then model.toggle_range (held set.old) start end else held set.old) }
 {
-    if bits_range_is_valid(set, start, end) {
-        lent::toggle_range(set.words, set.length, start, end);
+    if set.as_bits().range_is_valid(start, end) {
+        set.toggle_range(start, end, &mut Steps::new());
         true
     } else {
         false
@@ -65,12 +65,12 @@ pub extern "C" fn bits_toggle_range(set: &mut Set<'_>, start: usize, end: usize)
 
 /// How many positions of the range are set; 0 where it is not valid.
 #[unsafe(no_mangle)]
-pub extern "C" fn bits_count_ones(set: &Set<'_>, start: usize, end: usize) -> usize
+pub extern "C" fn bits_count_ones(set: &Bits<'_>, start: usize, end: usize) -> usize
     ensures { result ≡ (if is_valid (value set.now) start end
         then model.count_ones (value set.now) start end else 0) }
 {
     if bits_range_is_valid(set, start, end) {
-        lent::count_ones(set.words, set.length, start, end)
+        set.count_ones(start, end, &mut Steps::new())
     } else {
         0
     }
@@ -78,12 +78,12 @@ pub extern "C" fn bits_count_ones(set: &Set<'_>, start: usize, end: usize) -> us
 
 /// How many positions of the range are not set; 0 where it is not valid.
 #[unsafe(no_mangle)]
-pub extern "C" fn bits_count_zeroes(set: &Set<'_>, start: usize, end: usize) -> usize
+pub extern "C" fn bits_count_zeroes(set: &Bits<'_>, start: usize, end: usize) -> usize
     ensures { result ≡ (if is_valid (value set.now) start end
         then model.count_zeroes (value set.now) start end else 0) }
 {
     if bits_range_is_valid(set, start, end) {
-        lent::count_zeroes(set.words, set.length, start, end)
+        set.count_zeroes(start, end, &mut Steps::new())
     } else {
         0
     }
@@ -91,20 +91,18 @@ pub extern "C" fn bits_count_zeroes(set: &Set<'_>, start: usize, end: usize) -> 
 
 /// Whether each position of the range is set; `false` where it is not valid.
 #[unsafe(no_mangle)]
-pub extern "C" fn bits_contains_all_in_range(set: &Set<'_>, start: usize, end: usize) -> bool
+pub extern "C" fn bits_contains_all_in_range(set: &Bits<'_>, start: usize, end: usize) -> bool
     ensures { result
         ≡ (is_valid (value set.now) start end && model.contains_all (value set.now) start end) }
 {
-    bits_range_is_valid(set, start, end)
-        && lent::contains_all_in_range(set.words, set.length, start, end)
+    bits_range_is_valid(set, start, end) && set.contains_all_in_range(start, end, &mut Steps::new())
 }
 
 /// Whether some position of the range is set; `false` where it is not valid.
 #[unsafe(no_mangle)]
-pub extern "C" fn bits_contains_any_in_range(set: &Set<'_>, start: usize, end: usize) -> bool
+pub extern "C" fn bits_contains_any_in_range(set: &Bits<'_>, start: usize, end: usize) -> bool
     ensures { result
         ≡ (is_valid (value set.now) start end && model.contains_any (value set.now) start end) }
 {
-    bits_range_is_valid(set, start, end)
-        && lent::contains_any_in_range(set.words, set.length, start, end)
+    bits_range_is_valid(set, start, end) && set.contains_any_in_range(start, end, &mut Steps::new())
 }

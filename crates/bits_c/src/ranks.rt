@@ -7,13 +7,15 @@
 ghost use Rattle.std.specs.Prelude.{◌≡◌, ◌==◌, true, false, unwrap_or, if◌then◌else◌, length};
 ghost use Rattle.bitranks.specs.Ranks as model;
 ghost use Rattle.bitranks.specs.Ranks.{IsDirectory};
-ghost use Rattle.bits_c.specs.Sets.{value, ranked};
+ghost use Rattle.bits_c.specs.Sets.{ranked};
 ghost use Rattle.fixedbitset.specs.Bits.{empty, storage_words};
+ghost use Rattle.fixedbitset.specs.Views.{value};
 
-use crate::structs::{Ranks, Set};
+use crate::structs::Ranks;
 use crate::{NONE, bits_words};
 use bitlanes::Steps;
 use bitranks::directory;
+use fixedbitset::views::Bits;
 
 /// How many entries the directory of a set of so many positions has: one for each eight words, rounded up.
 #[unsafe(no_mangle)]
@@ -27,8 +29,8 @@ pub extern "C" fn bits_ranks_entries(length: usize) -> usize
 // apart since its `&mut` ends with it: of one that goes into the ranks no clause says how a call leaves it.
 #[tactic(auto, using(crate::proofs::Ranked::all_fit))]
 #[inline(always)]
-fn write_directory(set: &Set<'_>, directory: &mut [usize]) -> bool
-    ensures told { result
+fn write_directory(set: &Bits<'_>, directory: &mut [usize]) -> bool
+    ensures answer { result
         ≡ (length directory.old == model.entries (storage_words set.now.length)) }
     ensures kept { result ≡ true → IsDirectory set.now.words.now directory.new }
     ensures stays { result ≡ false → directory.new ≡ directory.old }
@@ -47,10 +49,10 @@ fn write_directory(set: &Set<'_>, directory: &mut [usize]) -> bool
 #[unsafe(no_mangle)]
 pub extern "C" fn bits_ranks_fill<'a>(
     ranks: &mut Ranks<'a>,
-    set: &'a Set<'_>,
+    set: &Bits<'a>,
     directory: &'a mut [usize],
 ) -> bool
-    ensures told { result
+    ensures answer { result
         ≡ (length directory.old == model.entries (storage_words set.now.length)) }
     ensures value { ranked ranks.new ≡ (if result then value set.now else empty 0) }
 {

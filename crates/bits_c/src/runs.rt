@@ -6,13 +6,13 @@
 
 ghost use Rattle.std.specs.Prelude.{◌≡◌, false};
 ghost use Rattle.std.specs.Iterator.{YieldsFirst, YieldsLast};
-ghost use Rattle.bits_c.specs.Sets.{value};
 ghost use Rattle.bits_c.specs.Walks.{given_run, stretches_left};
 ghost use Rattle.fixedbitset.specs.Runs as stretches;
+ghost use Rattle.fixedbitset.specs.Views.{value};
 
-use crate::structs::{Runs, Set};
+use crate::structs::Runs;
 use bitwalks::runs::{HeldRuns, Runs as Walk};
-use fixedbitset::lent;
+use fixedbitset::views::Bits;
 
 impl<'a> Runs<'a> {
     #[inline(always)]
@@ -64,22 +64,22 @@ fn hand_out_run(run: Option<(usize, usize)>, start: &mut usize, end: &mut usize)
 
 /// Begins the walk over the stretches of positions that are set, in ascending order.
 #[unsafe(no_mangle)]
-pub extern "C" fn bits_runs<'a>(walk: &mut Runs<'a>, set: &'a Set<'_>)
+pub extern "C" fn bits_runs<'a>(walk: &mut Runs<'a>, set: &Bits<'a>)
     ensures left { stretches_left walk.new ≡ stretches.runs (value set.now) }
     ensures low { walk.new.low ≡ 0 }
     ensures high { walk.new.high ≡ set.now.length }
 {
-    *walk = Runs::of(lent::runs(set.words, set.length));
+    *walk = Runs::of(set.runs());
 }
 
 /// Begins the walk over the stretches of positions below the length that are not set, in ascending order.
 #[unsafe(no_mangle)]
-pub extern "C" fn bits_zero_runs<'a>(walk: &mut Runs<'a>, set: &'a Set<'_>)
+pub extern "C" fn bits_zero_runs<'a>(walk: &mut Runs<'a>, set: &Bits<'a>)
     ensures left { stretches_left walk.new ≡ stretches.zero_runs (value set.now) }
     ensures low { walk.new.low ≡ 0 }
     ensures high { walk.new.high ≡ set.now.length }
 {
-    *walk = Runs::of(lent::zero_runs(set.words, set.length));
+    *walk = Runs::of(set.zero_runs());
 }
 
 /// Gives the first stretch left.

@@ -6,26 +6,26 @@
 
 ghost use Rattle.std.specs.Prelude.{◌≡◌, false, length, min};
 ghost use Rattle.std.specs.Iterator.{YieldsFirst, YieldsLast};
-ghost use Rattle.bits_c.specs.Sets.{value};
 ghost use Rattle.bits_c.specs.Walks.{given, sieved, shared_left, lacked_left, words_between};
 ghost use Rattle.fixedbitset.specs.Bits as model;
 ghost use Rattle.fixedbitset.specs.TwoSets as sets;
+ghost use Rattle.fixedbitset.specs.Views.{value};
 
-use crate::structs::{Ones, Set, Sieve};
+use crate::structs::{Ones, Sieve};
 use crate::walks::hand_out;
 use bitlanes::ops::{And, AndNot, WordOp};
 use bitwords::cursors::{Beside, Cursor, Held};
-use fixedbitset::lent;
+use fixedbitset::views::Bits;
 
 impl<'a> Sieve<'a> {
     // The walk over the positions of the first set that the second lacks, before its first call.
     #[inline(always)]
-    pub(crate) fn lacking(set: &'a Set<'_>, other: &'a Set<'_>) -> Sieve<'a>
+    pub(crate) fn lacking(set: &Bits<'a>, other: &Bits<'a>) -> Sieve<'a>
         ensures left { lacked_left result
             ≡ model.asc (sets.difference (value set.now) (value other.now)) }
         ensures words { length result.walk.words.now ≡ words_between set.now.length }
     {
-        let cursor = lent::difference(set.words, set.length, other.words, other.length);
+        let cursor = set.difference(*other);
         Sieve::of(cursor)
     }
 
@@ -85,13 +85,13 @@ impl<'a> Sieve<'a> {
 
 /// Begins the walk over the positions that both sets have, in ascending order.
 #[unsafe(no_mangle)]
-pub extern "C" fn bits_intersection<'a>(walk: &mut Sieve<'a>, set: &'a Set<'_>, other: &'a Set<'_>)
+pub extern "C" fn bits_intersection<'a>(walk: &mut Sieve<'a>, set: &Bits<'a>, other: &Bits<'a>)
     ensures left { shared_left walk.new
         ≡ model.asc (sets.intersection (value set.now) (value other.now)) }
     ensures words { length walk.new.walk.words.now
         ≡ words_between (min set.now.length other.now.length) }
 {
-    *walk = Sieve::of(lent::intersection(set.words, set.length, other.words, other.length));
+    *walk = Sieve::of(set.intersection(*other));
 }
 
 /// Gives the least position left.
@@ -116,7 +116,7 @@ pub extern "C" fn bits_intersection_next_back(walk: &mut Sieve<'_>, position: &m
 
 /// Begins the walk over the positions of the first set that the second lacks, in ascending order.
 #[unsafe(no_mangle)]
-pub extern "C" fn bits_difference<'a>(walk: &mut Sieve<'a>, set: &'a Set<'_>, other: &'a Set<'_>)
+pub extern "C" fn bits_difference<'a>(walk: &mut Sieve<'a>, set: &Bits<'a>, other: &Bits<'a>)
     ensures left { lacked_left walk.new
         ≡ model.asc (sets.difference (value set.now) (value other.now)) }
     ensures words { length walk.new.walk.words.now ≡ words_between set.now.length }

@@ -12,15 +12,6 @@ ghost use Rattle.fixedbitset.specs.Stored.{IsClean};
 
 use bitlanes::Block;
 
-/// A set that is lent: its words, and its length in bits.
-#[repr(C)]
-#[derive(Drop)]
-pub struct Set<'a> {
-    pub words: &'a mut [Block],
-    pub length: usize,
-    pub ghost clean: { IsClean length words.now },
-}
-
 /// Room for a set: words that may hold anything, and the length in bits of the set to be.
 #[repr(C)]
 #[derive(Drop)]

@@ -9,16 +9,16 @@
 
 ghost use Rattle.std.specs.Prelude.{◌≡◌, [], false, if◌then◌else◌, length};
 ghost use Rattle.std.specs.Iterator.{YieldsFirst, YieldsLast};
-ghost use Rattle.bits_c.specs.Sets.{value};
 ghost use Rattle.bits_c.specs.Walks.{given, ones_left, zeroes_left, words_between, range_words_between};
 ghost use Rattle.fixedbitset.specs.Bits as model;
 ghost use Rattle.fixedbitset.specs.Ranges.{is_valid};
 ghost use Rattle.fixedbitset.specs.Walks.{ones_of, zeroes_of};
+ghost use Rattle.fixedbitset.specs.Views.{value};
 
 use crate::ranges::bits_range_is_valid;
-use crate::structs::{Ones, Set, Zeroes};
+use crate::structs::{Ones, Zeroes};
 use bitwords::cursors::{Cursor, Held, Inverted, Plain};
-use fixedbitset::lent;
+use fixedbitset::views::Bits;
 
 impl<'a> Ones<'a> {
     #[inline(always)]
@@ -120,11 +120,11 @@ pub(crate) fn hand_out(item: Option<usize>, position: &mut usize) -> bool
 
 /// Begins the walk over the positions that are set, in ascending order.
 #[unsafe(no_mangle)]
-pub extern "C" fn bits_ones<'a>(walk: &mut Ones<'a>, set: &'a Set<'_>)
+pub extern "C" fn bits_ones<'a>(walk: &mut Ones<'a>, set: &Bits<'a>)
     ensures left { ones_left walk.new ≡ model.asc (value set.now) }
     ensures words { length walk.new.words.now ≡ words_between set.now.length }
 {
-    *walk = Ones::of(lent::ones(set.words, set.length));
+    *walk = Ones::of(set.ones());
 }
 
 /// Gives the least position left.
@@ -152,18 +152,18 @@ pub extern "C" fn bits_ones_next_back(walk: &mut Ones<'_>, position: &mut usize)
 #[unsafe(no_mangle)]
 pub extern "C" fn bits_ones_in<'a>(
     walk: &mut Ones<'a>,
-    set: &'a Set<'_>,
+    set: &Bits<'a>,
     start: usize,
     end: usize,
 ) -> bool
-    ensures told { result ≡ is_valid (value set.now) start end }
+    ensures answer { result ≡ is_valid (value set.now) start end }
     ensures left { ones_left walk.new
         ≡ (if result then ones_of (value set.now) start end else []) }
     ensures words { length walk.new.words.now
         ≡ (if result then range_words_between start end else 0) }
 {
     if bits_range_is_valid(set, start, end) {
-        *walk = Ones::of(lent::ones_in(set.words, set.length, start, end));
+        *walk = Ones::of(set.ones_in(start, end));
         true
     } else {
         *walk = Ones::of(Cursor::over(Plain { words: &[] }));
@@ -176,18 +176,18 @@ pub extern "C" fn bits_ones_in<'a>(
 #[unsafe(no_mangle)]
 pub extern "C" fn bits_zeroes_in<'a>(
     walk: &mut Zeroes<'a>,
-    set: &'a Set<'_>,
+    set: &Bits<'a>,
     start: usize,
     end: usize,
 ) -> bool
-    ensures told { result ≡ is_valid (value set.now) start end }
+    ensures answer { result ≡ is_valid (value set.now) start end }
     ensures left { zeroes_left walk.new
         ≡ (if result then zeroes_of (value set.now) start end else []) }
     ensures words { length walk.new.words.now
         ≡ (if result then range_words_between start end else 0) }
 {
     if bits_range_is_valid(set, start, end) {
-        *walk = Zeroes::of(lent::zeroes_in(set.words, set.length, start, end));
+        *walk = Zeroes::of(set.zeroes_in(start, end));
         true
     } else {
         let plain = Plain { words: &[] };
@@ -198,11 +198,11 @@ pub extern "C" fn bits_zeroes_in<'a>(
 
 /// Begins the walk over the positions below the length that are not set, in ascending order.
 #[unsafe(no_mangle)]
-pub extern "C" fn bits_zeroes<'a>(walk: &mut Zeroes<'a>, set: &'a Set<'_>)
+pub extern "C" fn bits_zeroes<'a>(walk: &mut Zeroes<'a>, set: &Bits<'a>)
     ensures left { zeroes_left walk.new ≡ model.asc (model.complement (value set.now)) }
     ensures words { length walk.new.words.now ≡ words_between set.now.length }
 {
-    *walk = Zeroes::of(lent::zeroes(set.words, set.length));
+    *walk = Zeroes::of(set.zeroes());
 }
 
 /// Gives the least position left.

@@ -2,7 +2,7 @@ use Rattle.std.proofs.Common.{◌≡◌, ◌+◌, ◌<◌, ◌++◌, ◌∷◌, 
 use Rattle.std.proofs.Math.ListN.{set}
 use Rattle.std.proofs.lemmas.List.{drop-map, take-map}
 use Rattle.fixedbitset.specs.Bits.{contains}
-use Rattle.bits_c.specs.Sets.{value}
+use Rattle.fixedbitset.specs.Views.{value}
 use Rattle.bits_c.proofs.Takes.{more_written}
 use Rattle.bits_c.proofs.lists.bits_contains_each.Goals as goal
 

@@ -1,6 +1,6 @@
 use Rattle.std.proofs.Common.{◌≡◌, ◌++◌, map, take, drop}
 use Rattle.fixedbitset.specs.Bits.{contains}
-use Rattle.bits_c.specs.Sets.{value}
+use Rattle.fixedbitset.specs.Views.{value}
 use Rattle.bits_c.proofs.lists.bits_contains_each.Given as goal
 
 -- the answers for the positions that came are written

@@ -1,9 +1,6 @@
-use Rattle.std.proofs.Common.{◌∙◌, arith}
+use Rattle.std.proofs.Common.{◌∙◌}
 use Rattle.bits_c.proofs.Between.{words_left}
 use Rattle.bits_c.proofs.walks.bits_ones.Goals as goal
-
-pub returns-clause-left : goal.returns-clause-left
-returns-clause-left c = grind arith
 
 pub returns-clause-words : goal.returns-clause-words
 returns-clause-words c = words_left _ _ _ (c.of.ensures.words ∙ c.ones.ensures.words)

@@ -4,12 +4,6 @@ use Rattle.fixedbitset.specs.WordsFacts.{length-of_words}
 use Rattle.bits_c.proofs.Between.{range_left}
 use Rattle.bits_c.proofs.walks.bits_ones_in.Goals as goal
 
-pub ones_in-requires-clause-valid : goal.ones_in-requires-clause-valid
-ones_in-requires-clause-valid c = grind arith
-
-pub returns-then-bits_range_is_valid-clause-left : goal.returns-then-bits_range_is_valid-clause-left
-returns-then-bits_range_is_valid-clause-left c = grind arith
-
 pub returns-then-bits_range_is_valid-clause-words : goal.returns-then-bits_range_is_valid-clause-words
 returns-then-bits_range_is_valid-clause-words c =
     let within : c.args.end ≤ c.args.set.now.length = grind (arith, nat_tests, length-of_words c.args.set.now.length c.args.set.now.words.now) in

@@ -1,9 +1,6 @@
-use Rattle.std.proofs.Common.{◌∙◌, arith}
+use Rattle.std.proofs.Common.{◌∙◌}
 use Rattle.bits_c.proofs.Between.{inverted_left}
 use Rattle.bits_c.proofs.walks.bits_zeroes.Goals as goal
-
-pub returns-clause-left : goal.returns-clause-left
-returns-clause-left c = grind arith
 
 pub returns-clause-words : goal.returns-clause-words
 returns-clause-words c = c.of.ensures.words ∙ inverted_left _ _ _ c.zeroes.ensures.words
