@@ -3,11 +3,8 @@ use Rattle.std.specs.Prelude.{ℤ, pos, negsuc}
 use Rattle.std.specs.declared.cmp.Ordering.{Ordering}
 use Rattle.std.specs.declared.cmp.Ordering.TheVariants.{Less, Equal, Greater}
 use Rattle.fixedbitset.specs.Bits.{Bits, of_words}
-use Rattle.bitrows.specs.Stored.{table_in}
-use Rattle.bitrows.specs.Tables.{Table}
 use Rattle.bits_c.specs.declared.structs.Ranks.{Ranks}
 use Rattle.bits_c.specs.declared.structs.Room.{Room}
-use Rattle.bits_c.specs.declared.structs.Rows.{Rows}
 
 -- the value of the words and the length of room for a set
 abbrev pub written : Room → Bits
@@ -16,10 +13,6 @@ written room = of_words room.length room.words.now
 -- the value of the set that is lent with its directory
 abbrev pub ranked : Ranks → Bits
 ranked ranks = of_words ranks.length ranks.words.now
-
--- the table of the words and the numbers of rows and columns
-abbrev pub table : Rows → Table
-table rows = table_in rows.rows rows.columns rows.words.now
 
 -- an order as a number: -1, 0 or 1
 abbrev pub sign : Ordering → ℤ

@@ -1,23 +1,23 @@
 //! Tables of bits: rows of one length, in words of the caller's.
 //!
-//! A table is the struct `Rows`. Each row keeps as many words as a set of `columns` positions, one row behind the other.
+//! A table is the struct `bits_rows` of `front/c/bits.h`: here `bitrows::Rows` where it is read, and `bitrows::RowsMut`
+//! where it is changed. Each row keeps as many words as a set of `columns` positions, one row behind the other.
 //! `bits_rows_clear` makes any words those of a table with no bit.
 
 ghost use Rattle.std.specs.Prelude.{◌≡◌, ◌<◌, ◌≤◌, ◌*◌, ◌^◌, ◌↔◌, ◌&&◌, ℕ, [], ◌==◌, nat_lt, true, false, not, if◌then◌else◌, length};
 ghost use Rattle.bitrows.specs.Paths.{HasEdge, IsConnected};
 ghost use Rattle.bitrows.specs.Stored.{IsTable, table_in};
 ghost use Rattle.bitrows.specs.Tables.{row_of, has, blank, with_row, set_at, HaveSameSize};
-ghost use Rattle.bits_c.specs.Sets.{table};
+ghost use Rattle.bitrows.specs.Views.{table, held};
 ghost use Rattle.bits_c.specs.Walks.{ones_left, words_between};
 ghost use Rattle.fixedbitset.specs.Bits.{asc, storage_words};
 ghost use Rattle.fixedbitset.specs.TwoSets.{union, is_subset};
 
-use crate::structs::{Ones, Rows};
+use crate::structs::Ones;
 use crate::{NONE, bits_words};
 use bitlanes::{Block, Steps};
-use bitrows::lent;
+use bitrows::{Rows, RowsMut};
 use bitwords::cursors::{Cursor, Plain};
-use fixedbitset::lent as sets;
 
 /// How many words a table of so many rows and columns has, or `NONE` where they are more than there are numbers.
 #[unsafe(no_mangle)]
@@ -33,13 +33,13 @@ pub extern "C" fn bits_rows_words(rows: usize, columns: usize) -> usize
 /// `bits_rows_words` says; else nothing is changed.
 #[unsafe(no_mangle)]
 pub extern "C" fn bits_rows_clear(words: &mut [Block], rows: usize, columns: usize) -> bool
-    ensures told { result ≡ (length words.old == rows * storage_words columns) }
+    ensures answer { result ≡ (length words.old == rows * storage_words columns) }
     ensures clean { result ≡ true → IsTable rows columns words.new }
     ensures value { result ≡ true → table_in rows columns words.new ≡ blank rows columns }
     ensures stays { result ≡ false → words.new ≡ words.old }
 {
     if words.len() == bits_rows_words(rows, columns) {
-        lent::clear(words, rows, columns);
+        RowsMut::blank(words, rows, columns);
         true
     } else {
         false
@@ -53,7 +53,7 @@ pub extern "C" fn bits_rows_get(rows: &Rows<'_>, row: usize, column: usize) -> b
     ensures { result ≡ has (table rows.now) row column }
 {
     if row < rows.rows {
-        lent::get(rows.words, rows.rows, rows.columns, row, column)
+        rows.get(row, column)
     } else {
         false
     }
@@ -63,17 +63,17 @@ pub extern "C" fn bits_rows_get(rows: &Rows<'_>, row: usize, column: usize) -> b
 /// nothing is changed.
 #[unsafe(no_mangle)]
 pub extern "C" fn bits_rows_set(
-    rows: &mut Rows<'_>,
+    rows: &mut RowsMut<'_>,
     row: usize,
     column: usize,
     enabled: bool,
 ) -> bool
-    ensures told { result ≡ (nat_lt row rows.old.rows && nat_lt column rows.old.columns) }
-    ensures value { table rows.new
-        ≡ (if result then set_at (table rows.old) row column enabled else table rows.old) }
+    ensures answer { result ≡ (nat_lt row rows.old.rows && nat_lt column rows.old.columns) }
+    ensures value { held rows.new
+        ≡ (if result then set_at (held rows.old) row column enabled else held rows.old) }
 {
     if row < rows.rows && column < rows.columns {
-        lent::set(rows.words, rows.rows, rows.columns, row, column, enabled);
+        rows.set(row, column, enabled);
         true
     } else {
         false
@@ -84,22 +84,22 @@ pub extern "C" fn bits_rows_set(
 /// writes to `changed` whether a bit came in; where the table has not both, nothing.
 #[unsafe(no_mangle)]
 pub extern "C" fn bits_rows_union(
-    rows: &mut Rows<'_>,
+    rows: &mut RowsMut<'_>,
     from: usize,
     into: usize,
     changed: &mut bool,
 ) -> bool
-    ensures told { result ≡ (nat_lt from rows.old.rows && nat_lt into rows.old.rows) }
-    ensures value { table rows.new ≡ (if result
-        then with_row (table rows.old) into
-        (union (row_of (table rows.old) into) (row_of (table rows.old) from))
-        else table rows.old) }
+    ensures answer { result ≡ (nat_lt from rows.old.rows && nat_lt into rows.old.rows) }
+    ensures value { held rows.new ≡ (if result
+        then with_row (held rows.old) into
+        (union (row_of (held rows.old) into) (row_of (held rows.old) from))
+        else held rows.old) }
     ensures changed { changed.new ≡ (if result
-        then not (is_subset (row_of (table rows.old) from) (row_of (table rows.old) into))
+        then not (is_subset (row_of (held rows.old) from) (row_of (held rows.old) into))
         else changed.old) }
 {
     if from < rows.rows && into < rows.rows {
-        *changed = lent::union_rows(rows.words, rows.rows, rows.columns, from, into);
+        *changed = rows.union_rows(from, into);
         true
     } else {
         false
@@ -109,16 +109,15 @@ pub extern "C" fn bits_rows_union(
 /// Begins the walk over the columns at which the row has a bit, in ascending order, and answers whether the table has the
 /// row; else the walk gives none.
 #[unsafe(no_mangle)]
-pub extern "C" fn bits_rows_ones<'a>(walk: &mut Ones<'a>, rows: &'a Rows<'_>, row: usize) -> bool
-    ensures told { result ≡ nat_lt row rows.now.rows }
+pub extern "C" fn bits_rows_ones<'a>(walk: &mut Ones<'a>, rows: &Rows<'a>, row: usize) -> bool
+    ensures answer { result ≡ nat_lt row rows.now.rows }
     ensures left { ones_left walk.new
         ≡ (if result then asc (row_of (table rows.now) row) else []) }
     ensures words { length walk.new.words.now
         ≡ (if result then words_between rows.now.columns else 0) }
 {
     if row < rows.rows {
-        let words = lent::words_of(rows.words, rows.rows, rows.columns, row);
-        *walk = Ones::of(sets::ones(words, rows.columns));
+        *walk = Ones::of(rows.row(row).ones());
         true
     } else {
         *walk = Ones::of(Cursor::over(Plain { words: &[] }));
@@ -129,10 +128,10 @@ pub extern "C" fn bits_rows_ones<'a>(walk: &mut Ones<'a>, rows: &'a Rows<'_>, ro
 /// The transitive closure of the graph that has an edge from each row to each column at which the row has a bit: afterwards
 /// row `a` has a bit at column `b` exactly if some path of one or more edges led from `a` to `b`. The table keeps its size.
 #[unsafe(no_mangle)]
-pub extern "C" fn bits_rows_close(rows: &mut Rows<'_>)
-    ensures size { HaveSameSize (table rows.old) (table rows.new) }
-    ensures closed { (a b : ℕ) → HasEdge (table rows.new) a b
-        ↔ IsConnected (HasEdge (table rows.old)) a b }
+pub extern "C" fn bits_rows_close(rows: &mut RowsMut<'_>)
+    ensures size { HaveSameSize (held rows.old) (held rows.new) }
+    ensures closed { (a b : ℕ) → HasEdge (held rows.new) a b
+        ↔ IsConnected (HasEdge (held rows.old)) a b }
 {
-    lent::close(rows.words, rows.rows, rows.columns, &mut Steps::new());
+    rows.close(&mut Steps::new());
 }

@@ -1,11 +1,10 @@
-//! The structs that a caller keeps. `front/c/bits.h` declares them as `bits`, `bits_walk`, `bits_run_walk`, `bits_sieve`,
-//! `bits_pair`, `bits_ranks` and `bits_rows`.
+//! The structs that a caller keeps, but for the sets and the tables. `front/c/bits.h` declares them as `bits`, `bits_walk`,
+//! `bits_run_walk`, `bits_sieve`, `bits_pair` and `bits_ranks`.
 //!
 //! They stand in a file of their own, since the definitions of `specs/` name them.
 
 ghost use Rattle.std.specs.Prelude.{◌*◌, ◌^◌, ◌≤◌, length};
 ghost use Rattle.bitranks.specs.Ranks.{IsDirectory};
-ghost use Rattle.bitrows.specs.Stored.{IsTable};
 ghost use Rattle.bitwords.specs.Runs.{IsBetween, is_like};
 ghost use Rattle.bitwords.specs.WalkedWords.{IsSpaced};
 ghost use Rattle.fixedbitset.specs.Stored.{IsClean};
@@ -86,14 +85,4 @@ pub struct Ranks<'a> {
     pub directory: &'a [usize],
     pub ghost clean: { IsClean length words.now },
     pub ghost kept: { IsDirectory words.now directory.now },
-}
-
-/// A table that is lent: the words of its rows, one row behind the other, how many rows there are, and how many columns.
-#[repr(C)]
-#[derive(Drop)]
-pub struct Rows<'a> {
-    pub words: &'a mut [Block],
-    pub rows: usize,
-    pub columns: usize,
-    pub ghost clean: { IsTable rows columns words.now },
 }
