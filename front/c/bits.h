@@ -245,6 +245,9 @@ bool bits_toggle(bits *set, size_t bit) BITS_SYMBOL(bits_toggle);
 /* Sets the position, and answers whether it was set before. At or past the length nothing is changed, and the answer is
  * false. */
 bool bits_put(bits *set, size_t bit) BITS_SYMBOL(bits_put);
+/* Clears the position, and answers whether it was set before. At or past the length nothing is changed, and the answer is
+ * false. */
+bool bits_take(bits *set, size_t bit) BITS_SYMBOL(bits_take);
 /* Sets the position, or clears it where `enabled` is false, and answers whether it is below the length; else nothing is
  * changed. */
 bool bits_set(bits *set, size_t bit, bool enabled) BITS_SYMBOL(bits_set);

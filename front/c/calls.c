@@ -39,6 +39,7 @@ static void positions(void) {
     assert(bits_is_clear(&set) && !bits_is_full(&set) && bits_minimum(&set) == BITS_NONE);
     assert(bits_insert(&set, 69) && !bits_insert(&set, 70) && bits_contains(&set, 69) && !bits_contains(&set, 70));
     assert(!bits_put(&set, 3) && bits_put(&set, 3) && !bits_put(&set, SIZE_MAX));
+    assert(bits_take(&set, 3) && !bits_take(&set, 3) && !bits_take(&set, SIZE_MAX) && !bits_put(&set, 3));
     assert(bits_toggle(&set, 3) && !bits_contains(&set, 3) && !bits_toggle(&set, 70));
     assert(bits_set(&set, 5, true) && bits_set(&set, 6, false) && !bits_set(&set, 70, true));
     assert(bits_minimum(&set) == 5 && bits_maximum(&set) == 69);

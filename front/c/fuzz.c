@@ -204,12 +204,13 @@ static void position(one *it) {
     const bool within = p < it->set.length, was = has(it, p);
     bool now = was;
     HOLDS(bits_contains(&it->set, p) == was);
-    switch (byte() % 6) {
+    switch (byte() % 7) {
     case 0: HOLDS(bits_insert(&it->set, p) == within), now = true; break;
     case 1: HOLDS(bits_remove(&it->set, p) == within), now = false; break;
     case 2: HOLDS(bits_toggle(&it->set, p) == within), now = !was; break;
     case 3: HOLDS(bits_put(&it->set, p) == was), now = true; break;
     case 4: HOLDS(bits_set(&it->set, p, false) == within), now = false; break;
+    case 5: HOLDS(bits_take(&it->set, p) == was), now = false; break;
     default: HOLDS(bits_set(&it->set, p, true) == within), now = true;
     }
     if (within)

@@ -263,6 +263,10 @@ impl FixedBitSet {
         unsafe { bits_put(&mut self.lent_mut(), bit) }
     }
 
+    pub fn take(&mut self, bit: usize) -> bool {
+        unsafe { bits_take(&mut self.lent_mut(), bit) }
+    }
+
     pub fn copy_bit(&mut self, from: usize, to: usize) {
         let enabled = self.contains(from);
         self.set(to, enabled);

@@ -86,6 +86,7 @@ of_archive! {
     pub fn bits_remove(set: &mut Lent, bit: usize) -> bool;
     pub fn bits_toggle(set: &mut Lent, bit: usize) -> bool;
     pub fn bits_put(set: &mut Lent, bit: usize) -> bool;
+    pub fn bits_take(set: &mut Lent, bit: usize) -> bool;
     pub fn bits_set(set: &mut Lent, bit: usize, enabled: bool) -> bool;
     pub fn bits_set_block(set: &mut Lent, index: usize, block: usize) -> bool;
     pub fn bits_insert_all(set: &mut Lent, positions: *const usize, count: usize) -> bool;

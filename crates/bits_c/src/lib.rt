@@ -172,6 +172,22 @@ pub extern "C" fn bits_put(set: &mut BitsMut<'_>, bit: usize) -> bool
     }
 }
 
+/// Clears the position, and answers whether it was set before. At or past the length nothing is changed, and the answer is
+/// `false`.
+#[tactic(auto, using(crate::proofs::Sets::none_past))]
+#[unsafe(no_mangle)]
+pub extern "C" fn bits_take(set: &mut BitsMut<'_>, bit: usize) -> bool
+    ensures answer { result ≡ model.contains (held set.old) bit }
+    ensures value { held set.new
+        ≡ (if nat_lt bit set.old.length then model.remove (held set.old) bit else held set.old) }
+{
+    if bit < set.length {
+        set.take(bit)
+    } else {
+        false
+    }
+}
+
 /// Makes word `index` the given one, without its bits past the length. It answers whether the length needs a word of this
 /// index; else nothing is changed.
 #[unsafe(no_mangle)]
