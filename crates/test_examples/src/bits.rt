@@ -83,6 +83,15 @@ fn put_unchecked(rt: HostRuntime) {
 }
 
 #[test]
+fn take(rt: HostRuntime) {
+    let alloc = rt.alloc();
+    let mut set = set_of(&rt, alloc, &[3, 64]);
+    holds(&rt, set.take(64));
+    holds(&rt, !set.take(64));
+    equal(&rt, set.count_ones(..), 1);
+}
+
+#[test]
 #[tactic(auto, using(fixedbitset::specs::BitsFacts::facts))]
 fn toggle(rt: HostRuntime) {
     let alloc = rt.alloc();

@@ -113,6 +113,16 @@ fn put(rt: HostRuntime) {
 
 #[test]
 #[tactic(auto, using(fixedbitset::specs::WordsFacts::facts))]
+fn take(rt: HostRuntime) {
+    let mut words = [9, 0, 0, 0];
+    let mut set = BitsMut::settle(&mut words, 70, 70);
+    holds(&rt, set.take(3));
+    holds(&rt, !set.take(3));
+    equal(&rt, words, [1, 0, 0, 0]);
+}
+
+#[test]
+#[tactic(auto, using(fixedbitset::specs::WordsFacts::facts))]
 fn set(rt: HostRuntime) {
     let mut words = [9, 0, 0, 0];
     let mut set = BitsMut::settle(&mut words, 70, 70);
