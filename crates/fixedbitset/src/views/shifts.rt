@@ -142,14 +142,8 @@ impl BitsMut<'_> {
             (parts.copy_range (held self.old) (value other.entry) start end at) }
         ensures cost { steps.new ≡ steps.old + search_steps at (at + (end - start)) }
     {
-        ranges::copy(
-            self.words,
-            at,
-            at + (end - start),
-            other.words,
-            start,
-            steps,
-        );
+        let behind = at + (end - start);
+        ranges::copy(self.words, at, behind, other.words, start, steps);
     }
 
     // Joins each position by `O` with the one that stood `by` below it, and cuts the words at the length.
