@@ -3,18 +3,26 @@
 ghost use Rattle.std.specs.Prelude.{◌≡◌, ◌==◌, ◌<◌, ◌↔◌, IsTrue, true, false, map, length, if◌then◌else◌};
 ghost use Rattle.std.specs.List.{All};
 ghost use Rattle.fixedbitset.specs.Bits as model;
-ghost use Rattle.fixedbitset.specs.Views.{value, held, Becomes};
+ghost use Rattle.fixedbitset.specs.Bits.{of_words};
+ghost use Rattle.fixedbitset.specs.Stored.{IsClean};
+ghost use Rattle.fixedbitset.specs.Views.{value, held};
 
+use bitlanes::Block;
 use fixedbitset::views::{Bits, BitsMut};
 
-// Sets each position of the list.
+// Sets each position of the list. It takes the words apart from the set: of a set behind a pointer, each turn would look
+// anew where they lie.
 #[inline(always)]
-fn insert_each(set: &mut BitsMut<'_>, positions: &[usize])
-    requires { All (λ p. p < set.old.length) positions.now }
-    ensures { Becomes set.old set.new (model.add_all (held set.old) positions.now) }
+fn insert_each(words: &mut [Block], length: usize, positions: &[usize])
+    requires lent { IsClean length words.old }
+    requires below { All (λ p. p < length) positions.now }
+    ensures value { of_words length words.new
+        ≡ model.add_all (of_words length words.old) positions.now }
+    ensures clean { IsClean length words.new }
 {
     for position in positions {
-        set.insert(*position);
+        let words = &mut *words;
+        BitsMut { words, length }.insert(*position);
     }
 }
 
@@ -27,7 +35,7 @@ pub extern "C" fn bits_insert_all(set: &mut BitsMut<'_>, positions: &[usize]) ->
 {
     let length = set.length;
     if positions.iter().all(|position| *position < length) {
-        insert_each(set, positions);
+        insert_each(set.words, length, positions);
         true
     } else {
         false

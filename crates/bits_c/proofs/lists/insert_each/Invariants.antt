@@ -1,8 +1,11 @@
-use Rattle.std.proofs.Common.{take}
-use Rattle.fixedbitset.specs.Bits.{add_all}
-use Rattle.fixedbitset.specs.Views.{held, Becomes}
+use Rattle.std.proofs.Common.{◌≡◌, take}
+use Rattle.fixedbitset.specs.Bits.{of_words, add_all}
+use Rattle.fixedbitset.specs.Stored.{IsClean}
 use Rattle.bits_c.proofs.lists.insert_each.Given as goal
 
 -- the positions that came are set
 abbrev pub invariant-loop-position : goal.invariant-loop-position
-invariant-loop-position l = Becomes l.fn.set l.set (add_all (held l.fn.set) (take l.position-index l.positions))
+invariant-loop-position l = record {
+  value : of_words l.length l.words ≡ add_all (of_words l.length l.fn.words) (take l.position-index l.positions);
+  clean : IsClean l.length l.words;
+}
