@@ -1,5 +1,5 @@
 #!/usr/bin/env python3
-"""Compares the declarations of differ/declared.rs and c/bits.h, and their structs, with the exports of crates/bits_c.
+"""Compares the declarations of differ/declared.rs and c/bits.h, and their structs, with the exports of crates/bits_c and the views that cross.
 
 usage: front/declarations.py
 
@@ -22,28 +22,28 @@ KINDS = {
     "&mut [Block]": "word* word", "&[Block]": "const word* word",
     "&mut [usize]": "word* word", "&[usize]": "const word* word", "const size_t *": "const word*",
     "NonNull<usize>": "word*", "*const usize": "const word*", "const uint64_t *": "const word*",
-    "&Set": "const set*", "&Lent": "const set*", "const bits *": "const set*",
-    "&mut Set": "set*", "&mut Room": "set*", "&mut Lent": "set*", "bits *": "set*",
+    "&Bits": "const set*", "&Lent": "const set*", "const bits *": "const set*",
+    "&mut BitsMut": "set*", "&mut Room": "set*", "&mut Lent": "set*", "bits *": "set*",
     "&mut Ones": "walk*", "&mut Zeroes": "walk*", "&mut Walk": "walk*", "bits_walk *": "walk*",
     "&mut Runs": "runs*", "bits_run_walk *": "runs*",
     "&mut Sieve": "sieve*", "bits_sieve *": "sieve*",
     "&mut Pair": "pair*", "bits_pair *": "pair*",
     "&[u8]": "const byte* word", "*const u8": "const byte*", "const uint8_t *": "const byte*",
     "&mut [u8]": "byte* word", "NonNull<u8>": "byte*", "uint8_t *": "byte*",
-    "&mut Rows": "rows*", "bits_rows *": "rows*", "&Rows": "const rows*", "const bits_rows *": "const rows*",
+    "&mut RowsMut": "rows*", "&mut Rows": "rows*", "bits_rows *": "rows*", "&Rows": "const rows*", "const bits_rows *": "const rows*",
     "&mut Ranks": "ranks*", "&mut LentRanks": "ranks*", "bits_ranks *": "ranks*", "&LentRanks": "const ranks*",
     "&Ranks": "const ranks*", "const bits_ranks *": "const ranks*",
 }
 # The struct that each of the three has, by its name in bits.h.
 STRUCTS = {
-    "bits": ("Set", "Lent"),
-    "bits_view": ("Set", "Lent"),
+    "bits": ("BitsMut", "Lent"),
+    "bits_view": ("Bits", "Lent"),
     "bits_walk": ("Ones", "Walk"),
     "bits_run_walk": ("Runs", "Runs"),
     "bits_sieve": ("Sieve", "Sieve"),
     "bits_pair": ("Pair", "Pair"),
     "bits_ranks": ("Ranks", "LentRanks"),
-    "bits_rows": ("Rows", "Rows"),
+    "bits_rows": ("RowsMut", "Rows"),
 }
 
 
@@ -116,7 +116,7 @@ def wrong_structs(sources, archive, header):
         for side, fields in (("declared.rs", fields_of(archive, of_archive)), ("bits.h", fields_of(header, name))):
             if not agree(exported, fields):
                 yield f"{side}: the struct {name} is {exported}, and declared {fields}"
-    for one, other, name in (("Ones", "Zeroes", "bits_walk"), ("Set", "Room", "bits")):
+    for one, other, name in (("Ones", "Zeroes", "bits_walk"), ("Bits", "BitsMut", "bits"), ("BitsMut", "Room", "bits"), ("Rows", "RowsMut", "bits_rows")):
         if fields_of(sources, one) != fields_of(sources, other):
             yield f"the structs {one} and {other} differ, and {name} stands for both"
 
@@ -129,7 +129,8 @@ def wrong_tests(exported, tests):
 
 
 def main():
-    sources = "\n".join(it.read_text() for it in sorted((TOP / "crates/bits_c/src").rglob("*.rt")))
+    views = [TOP / "crates" / it / "src/views.rt" for it in ("fixedbitset", "bitrows")]
+    sources = "\n".join(it.read_text() for it in [*views, *sorted((TOP / "crates/bits_c/src").rglob("*.rt"))])
     archive, header, tests = ((TOP / "front" / it).read_text() for it in ("differ/declared.rs", "c/bits.h", "c/bits_check.h"))
     exported = of_rust(sources)
     wrong = [*wrong_calls(exported, archive, header), *wrong_structs(sources, archive, header), *wrong_tests(exported, tests)]
