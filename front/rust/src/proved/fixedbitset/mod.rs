@@ -3,4 +3,5 @@
 //!
 //! A set is seen by every contract as its length in bits and the set of positions below it that are set
 //! (`specs/Bits.antt`). It is kept in words of 64 bits: position `p` is bit `p % 64` of word `p / 64`.
-pub mod lent;
+pub mod views;
+pub use self::views::{Bits, BitsMut};

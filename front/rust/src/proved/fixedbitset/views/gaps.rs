@@ -1,0 +1,49 @@
+// Made by front/erase from crates/fixedbitset/src/views/gaps.rt: change that, and not this.
+//! Stretches of clear positions, long enough for a caller.
+
+use crate::proved::fixedbitset::views::Bits;
+use crate::proved::bitlanes::Steps;
+use crate::proved::bitwords::gaps;
+
+impl Bits<'_> {
+    /// The least number at or past `from` with `count` clear positions from there on, or `None` where there is none.
+    ///
+    /// It takes one step for each lane from that of `from` up to the end of the gap. Where there is none they are at least those
+    /// up to the last place with room for one, and at most those up to the length.
+    ///
+    /// ```text
+    /// let mut words = [9, 2, 0, 0];
+    /// let set = BitsMut::settle(&mut words, 70, 70);
+    /// assert_eq!(set.as_bits().first_gap(3, 0, &mut Steps::new()), Some(4));
+    /// assert_eq!(set.as_bits().first_gap(5, 62, &mut Steps::new()), None);
+    /// ```
+    #[inline]
+    pub fn first_gap(self, count: usize, from: usize, steps: &mut Steps) -> Option<usize> {
+        gaps::first(self.words, from, self.length, count, steps)
+    }
+
+    /// The least multiple of `align` from `start` on with `count` clear positions from there on, all below `end`, or `None` where
+    /// there is none. The only multiple of 0 is 0. The range has to be valid.
+    ///
+    /// It takes at most two steps for each lane of the range, and two for each multiple that may stand in it. Where there is such
+    /// a gap they are at least those of its own lanes.
+    ///
+    /// ```text
+    /// let mut words = [9, 2, 0, 0];
+    /// let set = BitsMut::settle(&mut words, 70, 70);
+    /// assert_eq!(set.as_bits().first_aligned_gap(2, 4, 1, 70, &mut Steps::new()), Some(4));
+    /// assert_eq!(set.as_bits().first_aligned_gap(5, 32, 1, 70, &mut Steps::new()), Some(32));
+    /// assert_eq!(set.as_bits().first_aligned_gap(5, 32, 1, 36, &mut Steps::new()), None);
+    /// ```
+    #[inline]
+    pub fn first_aligned_gap(
+        self,
+        count: usize,
+        align: usize,
+        start: usize,
+        end: usize,
+        steps: &mut Steps,
+    ) -> Option<usize> {
+        gaps::first_aligned(self.words, start, end, count, align, steps)
+    }
+}

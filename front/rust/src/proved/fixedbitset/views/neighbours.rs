@@ -1,0 +1,65 @@
+// Made by front/erase from crates/fixedbitset/src/views/neighbours.rt: change that, and not this.
+//! The positions of a set next to a given one.
+//!
+//! A step is one lane of four words, but for the first word that is looked at, which is a step by itself.
+
+use crate::proved::fixedbitset::views::Bits;
+use crate::proved::bitlanes::Steps;
+use crate::proved::bitlanes::ops::{And, AndNot};
+use crate::proved::bitwords::positions;
+
+impl Bits<'_> {
+    /// The least position at or past `from` that is set, or `None` where none is.
+    ///
+    /// ```text
+    /// let mut words = [9, 2, 0, 0];
+    /// let set = BitsMut::settle(&mut words, 70, 70);
+    /// assert_eq!(set.as_bits().next_one(3, &mut Steps::new()), Some(3));
+    /// assert_eq!(set.as_bits().next_one(4, &mut Steps::new()), Some(65));
+    /// assert_eq!(set.as_bits().next_one(66, &mut Steps::new()), None);
+    /// ```
+    #[inline(always)]
+    pub fn next_one(self, from: usize, steps: &mut Steps) -> Option<usize> {
+        positions::next::<And>(self.words, from, self.length, steps)
+    }
+
+    /// The least position at or past `from` and below the length that is not set, or `None` where there is none.
+    ///
+    /// ```text
+    /// let mut words = [9, 63, 0, 0];
+    /// let set = BitsMut::settle(&mut words, 70, 70);
+    /// assert_eq!(set.as_bits().next_zero(0, &mut Steps::new()), Some(1));
+    /// assert_eq!(set.as_bits().next_zero(64, &mut Steps::new()), None);
+    /// ```
+    #[inline(always)]
+    pub fn next_zero(self, from: usize, steps: &mut Steps) -> Option<usize> {
+        positions::next::<AndNot>(self.words, from, self.length, steps)
+    }
+
+    /// The greatest position below `below` that is set, or `None` where none is.
+    ///
+    /// ```text
+    /// let mut words = [9, 2, 0, 0];
+    /// let set = BitsMut::settle(&mut words, 70, 70);
+    /// assert_eq!(set.as_bits().previous_one(65, &mut Steps::new()), Some(3));
+    /// assert_eq!(set.as_bits().previous_one(500, &mut Steps::new()), Some(65));
+    /// assert_eq!(set.as_bits().previous_one(0, &mut Steps::new()), None);
+    /// ```
+    #[inline(always)]
+    pub fn previous_one(self, below: usize, steps: &mut Steps) -> Option<usize> {
+        positions::previous::<And>(self.words, below.min(self.length), steps)
+    }
+
+    /// The greatest position below `below` and below the length that is not set, or `None` where there is none.
+    ///
+    /// ```text
+    /// let mut words = [9, 63, 0, 0];
+    /// let set = BitsMut::settle(&mut words, 70, 70);
+    /// assert_eq!(set.as_bits().previous_zero(70, &mut Steps::new()), Some(63));
+    /// assert_eq!(set.as_bits().previous_zero(1, &mut Steps::new()), None);
+    /// ```
+    #[inline(always)]
+    pub fn previous_zero(self, below: usize, steps: &mut Steps) -> Option<usize> {
+        positions::previous::<AndNot>(self.words, below.min(self.length), steps)
+    }
+}

@@ -1,0 +1,116 @@
+// Made by front/erase from crates/fixedbitset/src/views/walks.rt: change that, and not this.
+//! Walks over the positions of a set, and over those that it lacks.
+//!
+//! A walk goes over the words that the length needs, and not over those behind them that make up a whole lane. It has read
+//! the first and the last of them, and those between are not yet taken.
+
+use crate::proved::fixedbitset::views::Bits;
+use crate::proved::bitlanes::ops::{And, AndNot};
+use crate::proved::bitwalks::runs::Runs;
+use crate::proved::bitwords::cursors::{Beside, Cursor, Inverted, Plain, ones_within, zeroes_within};
+
+impl<'a> Bits<'a> {
+    /// The positions that are set, in ascending order.
+    ///
+    /// ```text
+    /// let mut words = [9, 2, 0, 0];
+    /// let set = BitsMut::settle(&mut words, 70, 70);
+    /// assert!(set.as_bits().ones().eq([0, 3, 65]));
+    /// ```
+    #[inline(always)]
+    pub fn ones(self) -> Cursor<Plain<'a>> {
+        let words = self.as_slice();
+        Cursor::over(Plain { words })
+    }
+
+    /// The positions that both sets have, in ascending order. It looks at no word that only one of them has.
+    ///
+    /// ```text
+    /// let (mut words, mut other) = ([9, 2, 0, 0], [1, 2, 0, 0]);
+    /// let set = BitsMut::settle(&mut words, 70, 70);
+    /// let other = BitsMut::settle(&mut other, 66, 66);
+    /// assert!(set.as_bits().intersection(other.as_bits()).eq([0, 65]));
+    /// ```
+    #[inline(always)]
+    pub fn intersection(self, other: Bits<'a>) -> Cursor<Beside<'a, And>> {
+        let words = self.as_slice();
+        let other = other.as_slice();
+        let shared = words.len().min(other.len());
+        Cursor::over(Beside::of(&words[..shared], other))
+    }
+
+    /// The positions of the first set that the second lacks, in ascending order.
+    ///
+    /// ```text
+    /// let (mut words, mut other) = ([9, 2, 0, 0], [1, 2, 0, 0]);
+    /// let set = BitsMut::settle(&mut words, 70, 70);
+    /// let other = BitsMut::settle(&mut other, 66, 66);
+    /// assert!(set.as_bits().difference(other.as_bits()).eq([3]));
+    /// ```
+    #[inline(always)]
+    pub fn difference(self, other: Bits<'a>) -> Cursor<Beside<'a, AndNot>> {
+        let words = self.as_slice();
+        let other = other.as_slice();
+        Cursor::over(Beside::of(words, other))
+    }
+
+    /// The positions below the length that are not set, in ascending order.
+    ///
+    /// ```text
+    /// let mut words = [Block::MAX - 8, 60, 0, 0];
+    /// let set = BitsMut::settle(&mut words, 70, 70);
+    /// assert!(set.as_bits().zeroes().eq([3, 64, 65]));
+    /// ```
+    #[inline(always)]
+    pub fn zeroes(self) -> Cursor<Inverted<'a>> {
+        zeroes_within(self.as_slice(), 0, self.length)
+    }
+
+    /// The stretches of positions that are set, as start and end, in ascending order.
+    ///
+    /// ```text
+    /// let mut words = [Block::MAX, 1, 0, 0];
+    /// let set = BitsMut::settle(&mut words, 70, 70);
+    /// assert!(set.as_bits().runs().eq([(0, 65)]));
+    /// ```
+    #[inline(always)]
+    pub fn runs(self) -> Runs<'a> {
+        Runs::below(self.as_slice(), true, self.length)
+    }
+
+    /// The stretches of positions below the length that are not set, as start and end, in ascending order.
+    ///
+    /// ```text
+    /// let mut words = [Block::MAX, 1, 0, 0];
+    /// let set = BitsMut::settle(&mut words, 70, 70);
+    /// assert!(set.as_bits().zero_runs().eq([(65, 70)]));
+    /// ```
+    #[inline(always)]
+    pub fn zero_runs(self) -> Runs<'a> {
+        Runs::below(self.as_slice(), false, self.length)
+    }
+
+    /// The positions that are set, from `start` up to and without `end`, in ascending order. The range has to be valid.
+    ///
+    /// ```text
+    /// let mut words = [9, 2, 0, 0];
+    /// let set = BitsMut::settle(&mut words, 70, 70);
+    /// assert!(set.as_bits().ones_in(1, 66).eq([3, 65]));
+    /// ```
+    #[inline(always)]
+    pub fn ones_in(self, start: usize, end: usize) -> Cursor<Plain<'a>> {
+        ones_within(self.as_slice(), start, end)
+    }
+
+    /// The positions that are not set, from `start` up to and without `end`, in ascending order. The range has to be valid.
+    ///
+    /// ```text
+    /// let mut words = [Block::MAX - 8, 60, 0, 0];
+    /// let set = BitsMut::settle(&mut words, 70, 70);
+    /// assert!(set.as_bits().zeroes_in(4, 65).eq([64]));
+    /// ```
+    #[inline(always)]
+    pub fn zeroes_in(self, start: usize, end: usize) -> Cursor<Inverted<'a>> {
+        zeroes_within(self.as_slice(), start, end)
+    }
+}
