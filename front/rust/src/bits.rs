@@ -1,10 +1,10 @@
 //! Single positions.
-use crate::{panics, FixedBitSet};
+use crate::FixedBitSet;
 
 impl FixedBitSet {
     /// Whether position `bit` is set. At or past the length none is. `set[bit]` is the same.
     ///
-    /// Proved: the answer, for all sets and all numbers ([contract](crate::contracts#fixedbitsetlentcontains)).
+    /// Proved: the answer, for all sets and all numbers ([contract](crate::contracts#fixedbitsetbitscontains)).
     ///
     /// ```
     /// # use fixedbitset::FixedBitSet;
@@ -13,7 +13,7 @@ impl FixedBitSet {
     /// ```
     #[inline]
     pub fn contains(&self, bit: usize) -> bool {
-        self.words.contains(bit)
+        self.as_bits().contains(bit)
     }
 
     /// Sets position `bit`.
@@ -21,7 +21,7 @@ impl FixedBitSet {
     /// **Panics** where it is at or past the length.
     ///
     /// Proved: what it leaves, for all sets and each position below the length
-    /// ([contract](crate::contracts#fixedbitsetlentinsert)).
+    /// ([contract](crate::contracts#fixedbitsetbitsmutinsert)).
     ///
     /// ```
     /// # use fixedbitset::FixedBitSet;
@@ -32,8 +32,7 @@ impl FixedBitSet {
     #[inline]
     #[track_caller]
     pub fn insert(&mut self, bit: usize) {
-        self.assert_below("insert at", bit);
-        self.words.insert(bit);
+        self.as_bits_mut().insert(bit);
     }
 
     /// Clears position `bit`.
@@ -41,7 +40,7 @@ impl FixedBitSet {
     /// **Panics** where it is at or past the length.
     ///
     /// Proved: what it leaves, for all sets and each position below the length
-    /// ([contract](crate::contracts#fixedbitsetlentremove)).
+    /// ([contract](crate::contracts#fixedbitsetbitsmutremove)).
     ///
     /// ```
     /// # use fixedbitset::FixedBitSet;
@@ -52,8 +51,7 @@ impl FixedBitSet {
     #[inline]
     #[track_caller]
     pub fn remove(&mut self, bit: usize) {
-        self.assert_below("remove at", bit);
-        self.words.remove(bit);
+        self.as_bits_mut().remove(bit);
     }
 
     /// Sets position `bit`, and answers whether it was set before.
@@ -61,7 +59,7 @@ impl FixedBitSet {
     /// **Panics** where it is at or past the length.
     ///
     /// Proved: the answer and what it leaves, for all sets and each position below the length
-    /// ([contract](crate::contracts#fixedbitsetlentput)).
+    /// ([contract](crate::contracts#fixedbitsetbitsmutput)).
     ///
     /// ```
     /// # use fixedbitset::FixedBitSet;
@@ -71,8 +69,7 @@ impl FixedBitSet {
     #[inline]
     #[track_caller]
     pub fn put(&mut self, bit: usize) -> bool {
-        self.assert_below("put at", bit);
-        self.words.put(bit)
+        self.as_bits_mut().put(bit)
     }
 
     /// Turns position `bit`: it is set where it was not, and cleared where it was.
@@ -80,7 +77,7 @@ impl FixedBitSet {
     /// **Panics** where it is at or past the length.
     ///
     /// Proved: what it leaves, for all sets and each position below the length
-    /// ([contract](crate::contracts#fixedbitsetlenttoggle)).
+    /// ([contract](crate::contracts#fixedbitsetbitsmuttoggle)).
     ///
     /// ```
     /// # use fixedbitset::FixedBitSet;
@@ -91,8 +88,7 @@ impl FixedBitSet {
     #[inline]
     #[track_caller]
     pub fn toggle(&mut self, bit: usize) {
-        self.assert_below("toggle at", bit);
-        self.words.toggle(bit);
+        self.as_bits_mut().toggle(bit);
     }
 
     /// Sets position `bit` where `enabled` is true, and else clears it.
@@ -100,7 +96,7 @@ impl FixedBitSet {
     /// **Panics** where it is at or past the length.
     ///
     /// Proved: what it leaves, for all sets and each position below the length
-    /// ([contract](crate::contracts#fixedbitsetlentset)).
+    /// ([contract](crate::contracts#fixedbitsetbitsmutset)).
     ///
     /// ```
     /// # use fixedbitset::FixedBitSet;
@@ -111,8 +107,7 @@ impl FixedBitSet {
     #[inline]
     #[track_caller]
     pub fn set(&mut self, bit: usize, enabled: bool) {
-        self.assert_below("set at", bit);
-        self.words.set(bit, enabled);
+        self.as_bits_mut().set(bit, enabled);
     }
 
     /// Makes position `to` what position `from` is. At or past the length `from` is not set.
@@ -120,7 +115,7 @@ impl FixedBitSet {
     /// **Panics** where `to` is at or past the length.
     ///
     /// Proved: the answer about `from`, and what is then set or cleared
-    /// ([contract](crate::contracts#fixedbitsetlentset)).
+    /// ([contract](crate::contracts#fixedbitsetbitsmutset)).
     ///
     /// ```
     /// # use fixedbitset::FixedBitSet;
@@ -131,16 +126,14 @@ impl FixedBitSet {
     #[inline]
     #[track_caller]
     pub fn copy_bit(&mut self, from: usize, to: usize) {
-        let enabled = self.contains(from);
-        self.assert_below("copy to", to);
-        self.words.set(to, enabled);
+        self.as_bits_mut().copy_bit(from, to);
     }
 
     /// Sets each of the positions, in any order.
     ///
     /// **Panics** where one is at or past the length, with the first that is. Then nothing is set.
     ///
-    /// Proved: what each position leaves ([contract](crate::contracts#fixedbitsetlentinsert)).
+    /// Proved: what each position leaves ([contract](crate::contracts#fixedbitsetbitsmutinsert)).
     ///
     /// ```
     /// # use fixedbitset::FixedBitSet;
@@ -151,17 +144,14 @@ impl FixedBitSet {
     #[inline]
     #[track_caller]
     pub fn insert_all(&mut self, positions: &[usize]) {
-        if let Some(past) = positions.iter().find(|bit| **bit >= self.len()) {
-            self.assert_below("insert at", *past);
-        }
-        positions.iter().for_each(|bit| self.words.insert(*bit));
+        self.as_bits_mut().insert_all(positions);
     }
 
     /// Writes for each of the positions whether it is set. At or past the length none is.
     ///
     /// **Panics** where there are not as many answers as positions.
     ///
-    /// Proved: each of the answers ([contract](crate::contracts#fixedbitsetlentcontains)).
+    /// Proved: each of the answers ([contract](crate::contracts#fixedbitsetbitscontains)).
     ///
     /// ```
     /// # use fixedbitset::FixedBitSet;
@@ -173,20 +163,6 @@ impl FixedBitSet {
     #[inline]
     #[track_caller]
     pub fn contains_each(&self, positions: &[usize], answers: &mut [bool]) {
-        let (count, places) = (positions.len(), answers.len());
-        if count != places {
-            panics::unlike(places, count);
-        }
-        let each = positions.iter().zip(answers);
-        each.for_each(|(bit, answer)| *answer = self.contains(*bit));
-    }
-
-    /// The panic of upstream's calls on a position at or past the length.
-    #[inline]
-    #[track_caller]
-    fn assert_below(&self, call: &str, bit: usize) {
-        if bit >= self.len() {
-            panics::past(call, bit, self.len());
-        }
+        self.as_bits().contains_each(positions, answers);
     }
 }

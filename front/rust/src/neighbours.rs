@@ -5,7 +5,7 @@ use crate::FixedBitSet;
 impl FixedBitSet {
     /// The least position at or past `from` that is set, if there is one. Any number may be given.
     ///
-    /// Proved: the answer, for all sets and all numbers ([contract](crate::contracts#fixedbitsetlentnext_one)).
+    /// Proved: the answer, for all sets and all numbers ([contract](crate::contracts#fixedbitsetbitsnext_one)).
     ///
     /// ```
     /// # use fixedbitset::FixedBitSet;
@@ -14,12 +14,12 @@ impl FixedBitSet {
     /// ```
     #[inline]
     pub fn next_one(&self, from: usize) -> Option<usize> {
-        self.words.next_one(from)
+        self.as_bits().next_one(from)
     }
 
     /// The least position at or past `from` and below the length that is not set, if there is one.
     ///
-    /// Proved: the answer, for all sets and all numbers ([contract](crate::contracts#fixedbitsetlentnext_zero)).
+    /// Proved: the answer, for all sets and all numbers ([contract](crate::contracts#fixedbitsetbitsnext_zero)).
     ///
     /// ```
     /// # use fixedbitset::FixedBitSet;
@@ -28,12 +28,12 @@ impl FixedBitSet {
     /// ```
     #[inline]
     pub fn next_zero(&self, from: usize) -> Option<usize> {
-        self.words.next_zero(from)
+        self.as_bits().next_zero(from)
     }
 
     /// The greatest position below `below` that is set, if there is one. Any number may be given.
     ///
-    /// Proved: the answer, for all sets and all numbers ([contract](crate::contracts#fixedbitsetlentprevious_one)).
+    /// Proved: the answer, for all sets and all numbers ([contract](crate::contracts#fixedbitsetbitsprevious_one)).
     ///
     /// ```
     /// # use fixedbitset::FixedBitSet;
@@ -42,13 +42,13 @@ impl FixedBitSet {
     /// ```
     #[inline]
     pub fn previous_one(&self, below: usize) -> Option<usize> {
-        self.words.previous_one(below)
+        self.as_bits().previous_one(below)
     }
 
     /// The greatest position below `below` and below the length that is not set, if there is one.
     ///
     /// Proved: the answer, for all sets and all numbers
-    /// ([contract](crate::contracts#fixedbitsetlentprevious_zero)).
+    /// ([contract](crate::contracts#fixedbitsetbitsprevious_zero)).
     ///
     /// ```
     /// # use fixedbitset::FixedBitSet;
@@ -57,6 +57,6 @@ impl FixedBitSet {
     /// ```
     #[inline]
     pub fn previous_zero(&self, below: usize) -> Option<usize> {
-        self.words.previous_zero(below)
+        self.as_bits().previous_zero(below)
     }
 }

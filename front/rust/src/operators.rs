@@ -4,7 +4,7 @@
 use crate::FixedBitSet;
 use core::ops::{BitAnd, BitAndAssign, BitOr, BitOrAssign, BitXor, BitXorAssign, Index};
 
-/// Proved: what the join leaves in a copy of the shorter set ([contract](crate::contracts#fixedbitsetlentintersect_with)).
+/// Proved: what the join leaves in a copy of the shorter set ([contract](crate::contracts#fixedbitsetbitsmutintersect_with)).
 /// The copy itself is not.
 impl BitAnd for &FixedBitSet {
     type Output = FixedBitSet;
@@ -18,7 +18,7 @@ impl BitAnd for &FixedBitSet {
     }
 }
 
-/// Proved: what the join leaves in a copy of the longer set ([contract](crate::contracts#fixedbitsetlentunion_with)). The
+/// Proved: what the join leaves in a copy of the longer set ([contract](crate::contracts#fixedbitsetbitsmutunion_with)). The
 /// copy itself is not.
 impl BitOr for &FixedBitSet {
     type Output = FixedBitSet;
@@ -27,13 +27,13 @@ impl BitOr for &FixedBitSet {
     fn bitor(self, other: &FixedBitSet) -> FixedBitSet {
         let (shorter, longer) = by_length(self, other);
         let mut set = longer.clone();
-        set.words.union_with(&shorter.words);
+        set.as_bits_mut().union_with(shorter.as_bits());
         set
     }
 }
 
 /// Proved: what the join leaves in a copy of the longer set
-/// ([contract](crate::contracts#fixedbitsetlentsymmetric_difference_with)). The copy itself is not.
+/// ([contract](crate::contracts#fixedbitsetbitsmutsymmetric_difference_with)). The copy itself is not.
 impl BitXor for &FixedBitSet {
     type Output = FixedBitSet;
 
@@ -41,7 +41,8 @@ impl BitXor for &FixedBitSet {
     fn bitxor(self, other: &FixedBitSet) -> FixedBitSet {
         let (shorter, longer) = by_length(self, other);
         let mut set = longer.clone();
-        set.words.symmetric_difference_with(&shorter.words);
+        set.as_bits_mut()
+            .symmetric_difference_with(shorter.as_bits());
         set
     }
 }
@@ -60,7 +61,7 @@ fn by_length<'a>(
 
 /// [`intersect_with`](Self::intersect_with).
 ///
-/// Proved: what it leaves, for any two sets ([contract](crate::contracts#fixedbitsetlentintersect_with)).
+/// Proved: what it leaves, for any two sets ([contract](crate::contracts#fixedbitsetbitsmutintersect_with)).
 impl BitAndAssign for FixedBitSet {
     fn bitand_assign(&mut self, other: Self) {
         self.intersect_with(&other);
@@ -69,7 +70,7 @@ impl BitAndAssign for FixedBitSet {
 
 /// [`intersect_with`](Self::intersect_with).
 ///
-/// Proved: what it leaves, for any two sets ([contract](crate::contracts#fixedbitsetlentintersect_with)).
+/// Proved: what it leaves, for any two sets ([contract](crate::contracts#fixedbitsetbitsmutintersect_with)).
 impl BitAndAssign<&Self> for FixedBitSet {
     fn bitand_assign(&mut self, other: &Self) {
         self.intersect_with(other);
@@ -78,7 +79,7 @@ impl BitAndAssign<&Self> for FixedBitSet {
 
 /// [`union_with`](Self::union_with).
 ///
-/// Proved: what it leaves, once the length is great enough ([contract](crate::contracts#fixedbitsetlentunion_with)).
+/// Proved: what it leaves, once the length is great enough ([contract](crate::contracts#fixedbitsetbitsmutunion_with)).
 impl BitOrAssign for FixedBitSet {
     fn bitor_assign(&mut self, other: Self) {
         self.union_with(&other);
@@ -87,7 +88,7 @@ impl BitOrAssign for FixedBitSet {
 
 /// [`union_with`](Self::union_with).
 ///
-/// Proved: what it leaves, once the length is great enough ([contract](crate::contracts#fixedbitsetlentunion_with)).
+/// Proved: what it leaves, once the length is great enough ([contract](crate::contracts#fixedbitsetbitsmutunion_with)).
 impl BitOrAssign<&Self> for FixedBitSet {
     fn bitor_assign(&mut self, other: &Self) {
         self.union_with(other);
@@ -96,7 +97,7 @@ impl BitOrAssign<&Self> for FixedBitSet {
 
 /// [`symmetric_difference_with`](Self::symmetric_difference_with).
 ///
-/// Proved: what it leaves, once the length is great enough ([contract](crate::contracts#fixedbitsetlentsymmetric_difference_with)).
+/// Proved: what it leaves, once the length is great enough ([contract](crate::contracts#fixedbitsetbitsmutsymmetric_difference_with)).
 impl BitXorAssign for FixedBitSet {
     fn bitxor_assign(&mut self, other: Self) {
         self.symmetric_difference_with(&other);
@@ -105,14 +106,14 @@ impl BitXorAssign for FixedBitSet {
 
 /// [`symmetric_difference_with`](Self::symmetric_difference_with).
 ///
-/// Proved: what it leaves, once the length is great enough ([contract](crate::contracts#fixedbitsetlentsymmetric_difference_with)).
+/// Proved: what it leaves, once the length is great enough ([contract](crate::contracts#fixedbitsetbitsmutsymmetric_difference_with)).
 impl BitXorAssign<&Self> for FixedBitSet {
     fn bitxor_assign(&mut self, other: &Self) {
         self.symmetric_difference_with(other);
     }
 }
 
-/// Proved: the answer, for all sets and all numbers ([contract](crate::contracts#fixedbitsetlentcontains)).
+/// Proved: the answer, for all sets and all numbers ([contract](crate::contracts#fixedbitsetbitscontains)).
 impl Index<usize> for FixedBitSet {
     type Output = bool;
 
@@ -127,7 +128,7 @@ impl Index<usize> for FixedBitSet {
     }
 }
 
-/// Proved: what each position leaves, once the length is great enough ([contract](crate::contracts#fixedbitsetlentinsert)).
+/// Proved: what each position leaves, once the length is great enough ([contract](crate::contracts#fixedbitsetbitsmutinsert)).
 impl Extend<usize> for FixedBitSet {
     /// Sets each position, and makes the length greater where one needs it. **Panics** at the position `usize::MAX`.
     fn extend<I: IntoIterator<Item = usize>>(&mut self, positions: I) {
@@ -138,7 +139,7 @@ impl Extend<usize> for FixedBitSet {
     }
 }
 
-/// Proved: what each position leaves, once the length is great enough ([contract](crate::contracts#fixedbitsetlentinsert)).
+/// Proved: what each position leaves, once the length is great enough ([contract](crate::contracts#fixedbitsetbitsmutinsert)).
 impl FromIterator<usize> for FixedBitSet {
     /// The set of these positions, with the least length that has them. **Panics** at the position `usize::MAX`.
     fn from_iter<I: IntoIterator<Item = usize>>(positions: I) -> Self {

@@ -1,11 +1,12 @@
 //! Two sets, of any two lengths.
+use crate::proved::bitlanes::Steps;
 use crate::FixedBitSet;
 
 impl FixedBitSet {
     /// Adds the positions of `other`. The length is then that of the longer.
     ///
     /// Proved: what it leaves, once the length is great enough
-    /// ([contract](crate::contracts#fixedbitsetlentunion_with)).
+    /// ([contract](crate::contracts#fixedbitsetbitsmutunion_with)).
     ///
     /// ```
     /// # use fixedbitset::FixedBitSet;
@@ -16,12 +17,13 @@ impl FixedBitSet {
     #[inline]
     pub fn union_with(&mut self, other: &FixedBitSet) {
         self.grow(other.len());
-        self.words.union_with(&other.words);
+        let bits = other.words.as_bits();
+        self.words.as_bits_mut().union_with(bits, &mut Steps::new());
     }
 
     /// Leaves the positions that `other` has too, and the length.
     ///
-    /// Proved: what it leaves, for any two sets ([contract](crate::contracts#fixedbitsetlentintersect_with)).
+    /// Proved: what it leaves, for any two sets ([contract](crate::contracts#fixedbitsetbitsmutintersect_with)).
     ///
     /// ```
     /// # use fixedbitset::FixedBitSet;
@@ -31,12 +33,12 @@ impl FixedBitSet {
     /// ```
     #[inline]
     pub fn intersect_with(&mut self, other: &FixedBitSet) {
-        self.words.intersect_with(&other.words);
+        self.as_bits_mut().intersect_with(other.as_bits());
     }
 
     /// Leaves the positions that `other` lacks, and the length.
     ///
-    /// Proved: what it leaves, for any two sets ([contract](crate::contracts#fixedbitsetlentdifference_with)).
+    /// Proved: what it leaves, for any two sets ([contract](crate::contracts#fixedbitsetbitsmutdifference_with)).
     ///
     /// ```
     /// # use fixedbitset::FixedBitSet;
@@ -46,13 +48,13 @@ impl FixedBitSet {
     /// ```
     #[inline]
     pub fn difference_with(&mut self, other: &FixedBitSet) {
-        self.words.difference_with(&other.words);
+        self.as_bits_mut().difference_with(other.as_bits());
     }
 
     /// Leaves the positions that exactly one of both has. The length is then that of the longer.
     ///
     /// Proved: what it leaves, once the length is great enough
-    /// ([contract](crate::contracts#fixedbitsetlentsymmetric_difference_with)).
+    /// ([contract](crate::contracts#fixedbitsetbitsmutsymmetric_difference_with)).
     ///
     /// ```
     /// # use fixedbitset::FixedBitSet;
@@ -63,14 +65,17 @@ impl FixedBitSet {
     #[inline]
     pub fn symmetric_difference_with(&mut self, other: &FixedBitSet) {
         self.grow(other.len());
-        self.words.symmetric_difference_with(&other.words);
+        let bits = other.words.as_bits();
+        self.words
+            .as_bits_mut()
+            .symmetric_difference_with(bits, &mut Steps::new());
     }
 
     /// [`union_with`](Self::union_with), with the answer whether a position came in. The length may become greater even where
     /// none came in. Upstream has no such call.
     ///
     /// Proved: the answer and what it leaves, once the length is great enough
-    /// ([contract](crate::contracts#fixedbitsetlentunion_with_change)).
+    /// ([contract](crate::contracts#fixedbitsetbitsmutunion_with_change)).
     ///
     /// ```
     /// # use fixedbitset::FixedBitSet;
@@ -82,13 +87,16 @@ impl FixedBitSet {
     #[inline]
     pub fn union_with_change(&mut self, other: &FixedBitSet) -> bool {
         self.grow(other.len());
-        self.words.union_with_change(&other.words)
+        let bits = other.words.as_bits();
+        self.words
+            .as_bits_mut()
+            .union_with_change(bits, &mut Steps::new())
     }
 
     /// [`intersect_with`](Self::intersect_with), with the answer whether a position went. Upstream has no such call.
     ///
     /// Proved: the answer and what it leaves, for any two sets
-    /// ([contract](crate::contracts#fixedbitsetlentintersect_with_change)).
+    /// ([contract](crate::contracts#fixedbitsetbitsmutintersect_with_change)).
     ///
     /// ```
     /// # use fixedbitset::FixedBitSet;
@@ -99,13 +107,13 @@ impl FixedBitSet {
     /// ```
     #[inline]
     pub fn intersect_with_change(&mut self, other: &FixedBitSet) -> bool {
-        self.words.intersect_with_change(&other.words)
+        self.as_bits_mut().intersect_with_change(other.as_bits())
     }
 
     /// [`difference_with`](Self::difference_with), with the answer whether a position went. Upstream has no such call.
     ///
     /// Proved: the answer and what it leaves, for any two sets
-    /// ([contract](crate::contracts#fixedbitsetlentdifference_with_change)).
+    /// ([contract](crate::contracts#fixedbitsetbitsmutdifference_with_change)).
     ///
     /// ```
     /// # use fixedbitset::FixedBitSet;
@@ -116,14 +124,14 @@ impl FixedBitSet {
     /// ```
     #[inline]
     pub fn difference_with_change(&mut self, other: &FixedBitSet) -> bool {
-        self.words.difference_with_change(&other.words)
+        self.as_bits_mut().difference_with_change(other.as_bits())
     }
 
     /// Adds the positions of `gens` that `kills` lacks, and answers whether one came in. The length is then that of the
     /// longer of this set and `gens`. Upstream has no such call.
     ///
     /// Proved: the answer and what it leaves, once the length is great enough
-    /// ([contract](crate::contracts#fixedbitsetlentunion_with_difference)).
+    /// ([contract](crate::contracts#fixedbitsetbitsmutunion_with_difference)).
     ///
     /// ```
     /// # use fixedbitset::FixedBitSet;
@@ -136,14 +144,16 @@ impl FixedBitSet {
     #[inline]
     pub fn union_with_difference(&mut self, gens: &FixedBitSet, kills: &FixedBitSet) -> bool {
         self.grow(gens.len());
-        self.words.union_with_difference(&gens.words, &kills.words)
+        let (gens, kills) = (gens.words.as_bits(), kills.words.as_bits());
+        let mut bits = self.words.as_bits_mut();
+        bits.union_with_difference(gens, kills, &mut Steps::new())
     }
 
     /// Becomes the positions of either set. The length is that of the longer. It goes over both sets once, and takes memory
     /// only where it needs more words than it has. Upstream has no such call.
     ///
     /// Proved: what it leaves, once the length is that of the result
-    /// ([contract](crate::contracts#fixedbitsetlentunion_of)).
+    /// ([contract](crate::contracts#fixedbitsetbitsunion_to)).
     ///
     /// ```
     /// # use fixedbitset::FixedBitSet;
@@ -154,14 +164,15 @@ impl FixedBitSet {
     #[inline]
     pub fn union_of(&mut self, set: &FixedBitSet, other: &FixedBitSet) {
         self.fit(set.len().max(other.len()));
-        self.words.union_of(&set.words, &other.words);
+        let bits = set.words.as_bits();
+        bits.union_to(other.words.as_bits(), self.words.row_mut());
     }
 
     /// Becomes the positions of exactly one of both sets. The length is that of the longer. It goes over both sets
     /// once, and takes memory only where it needs more words than it has. Upstream has no such call.
     ///
     /// Proved: what it leaves, once the length is that of the result
-    /// ([contract](crate::contracts#fixedbitsetlentsymmetric_difference_of)).
+    /// ([contract](crate::contracts#fixedbitsetbitssymmetric_difference_to)).
     ///
     /// ```
     /// # use fixedbitset::FixedBitSet;
@@ -172,14 +183,15 @@ impl FixedBitSet {
     #[inline]
     pub fn symmetric_difference_of(&mut self, set: &FixedBitSet, other: &FixedBitSet) {
         self.fit(set.len().max(other.len()));
-        self.words.symmetric_difference_of(&set.words, &other.words);
+        let bits = set.words.as_bits();
+        bits.symmetric_difference_to(other.words.as_bits(), self.words.row_mut());
     }
 
     /// Becomes the positions of both sets. The length is that of the shorter. It goes over both sets once, and takes
     /// memory only where it needs more words than it has. Upstream has no such call.
     ///
     /// Proved: what it leaves, once the length is that of the result
-    /// ([contract](crate::contracts#fixedbitsetlentintersection_of)).
+    /// ([contract](crate::contracts#fixedbitsetbitsintersection_to)).
     ///
     /// ```
     /// # use fixedbitset::FixedBitSet;
@@ -190,14 +202,15 @@ impl FixedBitSet {
     #[inline]
     pub fn intersection_of(&mut self, set: &FixedBitSet, other: &FixedBitSet) {
         self.fit(set.len().min(other.len()));
-        self.words.intersection_of(&set.words, &other.words);
+        let bits = set.words.as_bits();
+        bits.intersection_to(other.words.as_bits(), self.words.row_mut());
     }
 
     /// Becomes the positions of `set` that `other` lacks. The length is that of `set`. It goes over both sets once, and
     /// takes memory only where it needs more words than it has. Upstream has no such call.
     ///
     /// Proved: what it leaves, once the length is that of the result
-    /// ([contract](crate::contracts#fixedbitsetlentdifference_of)).
+    /// ([contract](crate::contracts#fixedbitsetbitsdifference_to)).
     ///
     /// ```
     /// # use fixedbitset::FixedBitSet;
@@ -208,7 +221,8 @@ impl FixedBitSet {
     #[inline]
     pub fn difference_of(&mut self, set: &FixedBitSet, other: &FixedBitSet) {
         self.fit(set.len());
-        self.words.difference_of(&set.words, &other.words);
+        let bits = set.words.as_bits();
+        bits.difference_to(other.words.as_bits(), self.words.row_mut());
     }
 
     /// Makes the length `length`, for a call that writes over all positions.
@@ -222,7 +236,7 @@ impl FixedBitSet {
 
     /// How many positions are in either set.
     ///
-    /// Proved: the answer, for any two sets ([contract](crate::contracts#fixedbitsetlentunion_count)).
+    /// Proved: the answer, for any two sets ([contract](crate::contracts#fixedbitsetbitsunion_count)).
     ///
     /// ```
     /// # use fixedbitset::FixedBitSet;
@@ -231,12 +245,12 @@ impl FixedBitSet {
     /// ```
     #[inline]
     pub fn union_count(&self, other: &FixedBitSet) -> usize {
-        self.words.union_count(&other.words)
+        self.as_bits().union_count(other.as_bits())
     }
 
     /// How many positions are in both sets.
     ///
-    /// Proved: the answer, for any two sets ([contract](crate::contracts#fixedbitsetlentintersection_count)).
+    /// Proved: the answer, for any two sets ([contract](crate::contracts#fixedbitsetbitsintersection_count)).
     ///
     /// ```
     /// # use fixedbitset::FixedBitSet;
@@ -245,12 +259,12 @@ impl FixedBitSet {
     /// ```
     #[inline]
     pub fn intersection_count(&self, other: &FixedBitSet) -> usize {
-        self.words.intersection_count(&other.words)
+        self.as_bits().intersection_count(other.as_bits())
     }
 
     /// How many positions of this set `other` lacks.
     ///
-    /// Proved: the answer, for any two sets ([contract](crate::contracts#fixedbitsetlentdifference_count)).
+    /// Proved: the answer, for any two sets ([contract](crate::contracts#fixedbitsetbitsdifference_count)).
     ///
     /// ```
     /// # use fixedbitset::FixedBitSet;
@@ -259,13 +273,13 @@ impl FixedBitSet {
     /// ```
     #[inline]
     pub fn difference_count(&self, other: &FixedBitSet) -> usize {
-        self.words.difference_count(&other.words)
+        self.as_bits().difference_count(other.as_bits())
     }
 
     /// How many positions are in exactly one of both sets.
     ///
     /// Proved: the answer, for any two sets
-    /// ([contract](crate::contracts#fixedbitsetlentsymmetric_difference_count)).
+    /// ([contract](crate::contracts#fixedbitsetbitssymmetric_difference_count)).
     ///
     /// ```
     /// # use fixedbitset::FixedBitSet;
@@ -274,12 +288,12 @@ impl FixedBitSet {
     /// ```
     #[inline]
     pub fn symmetric_difference_count(&self, other: &FixedBitSet) -> usize {
-        self.words.symmetric_difference_count(&other.words)
+        self.as_bits().symmetric_difference_count(other.as_bits())
     }
 
     /// Whether no position is in both sets.
     ///
-    /// Proved: the answer, for any two sets ([contract](crate::contracts#fixedbitsetlentis_disjoint)).
+    /// Proved: the answer, for any two sets ([contract](crate::contracts#fixedbitsetbitsis_disjoint)).
     ///
     /// ```
     /// # use fixedbitset::FixedBitSet;
@@ -288,12 +302,12 @@ impl FixedBitSet {
     /// ```
     #[inline]
     pub fn is_disjoint(&self, other: &FixedBitSet) -> bool {
-        self.words.is_disjoint(&other.words)
+        self.as_bits().is_disjoint(other.as_bits())
     }
 
     /// Whether `other` has each position of this set. The lengths do not matter.
     ///
-    /// Proved: the answer, for any two sets ([contract](crate::contracts#fixedbitsetlentis_subset)).
+    /// Proved: the answer, for any two sets ([contract](crate::contracts#fixedbitsetbitsis_subset)).
     ///
     /// ```
     /// # use fixedbitset::FixedBitSet;
@@ -302,12 +316,12 @@ impl FixedBitSet {
     /// ```
     #[inline]
     pub fn is_subset(&self, other: &FixedBitSet) -> bool {
-        self.words.is_subset(&other.words)
+        self.as_bits().is_subset(other.as_bits())
     }
 
     /// Whether this set has each position of `other`. The lengths do not matter.
     ///
-    /// Proved: the answer, for any two sets ([contract](crate::contracts#fixedbitsetlentis_subset)).
+    /// Proved: the answer, for any two sets ([contract](crate::contracts#fixedbitsetbitsis_subset)).
     ///
     /// ```
     /// # use fixedbitset::FixedBitSet;
@@ -322,7 +336,7 @@ impl FixedBitSet {
     /// The least position of `other` that this set lacks, if there is one. The lengths do not matter. Upstream has no such
     /// call.
     ///
-    /// Proved: the answer, for any two sets ([contract](crate::contracts#fixedbitsetlentfirst_lacking)).
+    /// Proved: the answer, for any two sets ([contract](crate::contracts#fixedbitsetbitsfirst_lacking)).
     ///
     /// ```
     /// # use fixedbitset::FixedBitSet;
@@ -331,6 +345,6 @@ impl FixedBitSet {
     /// ```
     #[inline]
     pub fn first_lacking(&self, other: &FixedBitSet) -> Option<usize> {
-        self.words.first_lacking(&other.words)
+        self.as_bits().first_lacking(other.as_bits())
     }
 }

@@ -4,7 +4,7 @@ use crate::{panics, FixedBitSet, IndexRange};
 impl FixedBitSet {
     /// Moves each position up by `by`, any number. Those that are not below the length then fall away.
     ///
-    /// Proved: what it leaves, for all sets and all numbers ([contract](crate::contracts#fixedbitsetlentshift_up)).
+    /// Proved: what it leaves, for all sets and all numbers ([contract](crate::contracts#fixedbitsetbitsmutshift_up)).
     ///
     /// ```
     /// # use fixedbitset::FixedBitSet;
@@ -14,13 +14,13 @@ impl FixedBitSet {
     /// ```
     #[inline]
     pub fn shift_up(&mut self, by: usize) {
-        self.words.shift_up(by);
+        self.as_bits_mut().shift_up(by);
     }
 
     /// Moves each position down by `by`, any number. Those below `by` fall away.
     ///
     /// Proved: what it leaves, for all sets and all numbers
-    /// ([contract](crate::contracts#fixedbitsetlentshift_down)).
+    /// ([contract](crate::contracts#fixedbitsetbitsmutshift_down)).
     ///
     /// ```
     /// # use fixedbitset::FixedBitSet;
@@ -30,14 +30,14 @@ impl FixedBitSet {
     /// ```
     #[inline]
     pub fn shift_down(&mut self, by: usize) {
-        self.words.shift_down(by);
+        self.as_bits_mut().shift_down(by);
     }
 
     /// Adds the positions of `other` moved up by `by`, any number, as far as they are below the length then. The length
     /// stays, and no memory is taken.
     ///
     /// Proved: what it leaves, for any two sets and all numbers
-    /// ([contract](crate::contracts#fixedbitsetlentunion_with_shifted)).
+    /// ([contract](crate::contracts#fixedbitsetbitsmutunion_with_shifted)).
     ///
     /// ```
     /// # use fixedbitset::FixedBitSet;
@@ -47,14 +47,14 @@ impl FixedBitSet {
     /// ```
     #[inline]
     pub fn union_with_shifted(&mut self, other: &FixedBitSet, by: usize) {
-        self.words.union_with_shifted(&other.words, by);
+        self.as_bits_mut().union_with_shifted(other.as_bits(), by);
     }
 
     /// Adds the positions of the set itself moved up by `by`, any number, as far as they are below the length then. So
     /// where the set has the sums that some numbers make, it then has those that these numbers and `by` make.
     ///
     /// Proved: what it leaves, for all sets and all numbers
-    /// ([contract](crate::contracts#fixedbitsetlentunion_with_own_shift)).
+    /// ([contract](crate::contracts#fixedbitsetbitsmutunion_with_own_shift)).
     ///
     /// ```
     /// # use fixedbitset::FixedBitSet;
@@ -65,7 +65,7 @@ impl FixedBitSet {
     /// ```
     #[inline]
     pub fn union_with_own_shift(&mut self, by: usize) {
-        self.words.union_with_own_shift(by);
+        self.as_bits_mut().union_with_own_shift(by);
     }
 
     /// The positions of the range, less its start, as a set of the length of the range.
@@ -73,7 +73,7 @@ impl FixedBitSet {
     /// **Panics** where the range is not valid.
     ///
     /// Proved: the positions of the new set, for all sets and each valid range
-    /// ([contract](crate::contracts#fixedbitsetlentslice)).
+    /// ([contract](crate::contracts#fixedbitsetbitsslice_to)).
     ///
     /// ```
     /// # use fixedbitset::FixedBitSet;
@@ -83,7 +83,7 @@ impl FixedBitSet {
     #[inline]
     #[track_caller]
     pub fn slice<T: IndexRange>(&self, range: T) -> FixedBitSet {
-        let (start, end) = self.part(&range);
+        let (start, end) = self.as_bits().part(&range);
         FixedBitSet {
             words: self.words.slice(start, end),
         }
@@ -94,7 +94,7 @@ impl FixedBitSet {
     /// **Panics** where the range is not valid in `other`, and where from `at` on it does not end within this set.
     ///
     /// Proved: what it leaves, for any two sets where the range and its place are valid
-    /// ([contract](crate::contracts#fixedbitsetlentcopy_range)).
+    /// ([contract](crate::contracts#fixedbitsetbitsmutcopy_range)).
     ///
     /// ```
     /// # use fixedbitset::FixedBitSet;
@@ -106,12 +106,8 @@ impl FixedBitSet {
     #[inline]
     #[track_caller]
     pub fn copy_range<T: IndexRange>(&mut self, other: &FixedBitSet, range: T, at: usize) {
-        let (start, end) = other.part(&range);
-        let (count, length) = (end - start, self.len());
-        if at > length || count > length - at {
-            panics::no_room(at, count, length);
-        }
-        self.words.copy_range(&other.words, start, end, at);
+        let other = other.as_bits();
+        self.as_bits_mut().copy_range(other, range, at);
     }
 
     /// Puts the positions of `other` behind those of this set. The lengths are added.
@@ -119,7 +115,7 @@ impl FixedBitSet {
     /// **Panics** where the sum of the lengths is past `usize::MAX`.
     ///
     /// Proved: what comes in behind, once the length is great enough
-    /// ([contract](crate::contracts#fixedbitsetlentunion_with_shifted)).
+    /// ([contract](crate::contracts#fixedbitsetbitsmutunion_with_shifted)).
     ///
     /// ```
     /// # use fixedbitset::FixedBitSet;
@@ -141,7 +137,7 @@ impl FixedBitSet {
     /// Makes the length `bits`, where it is greater than that. The positions that are not below it fall away. The memory
     /// stays.
     ///
-    /// Proved: which positions stay, for all sets ([contract](crate::contracts#fixedbitsetlentsettle)).
+    /// Proved: which positions stay, for all sets ([contract](crate::contracts#fixedbitsetbitsmutsettle)).
     ///
     /// ```
     /// # use fixedbitset::FixedBitSet;
@@ -160,7 +156,7 @@ impl FixedBitSet {
     /// Makes the length `bits`. Where it was greater, the positions that are not below `bits` fall away. Where it was less,
     /// each new position is set or not, as `enabled` says.
     ///
-    /// Proved: which positions stay, and which are set ([contract](crate::contracts#fixedbitsetlentinsert_range)).
+    /// Proved: which positions stay, and which are set ([contract](crate::contracts#fixedbitsetbitsmutinsert_range)).
     ///
     /// ```
     /// # use fixedbitset::FixedBitSet;

@@ -1310,7 +1310,7 @@ fn bitwords_shifts_77() {
 }
 
 #[test]
-fn fixedbitset_lent_bytes_15() {
+fn fixedbitset_views_bytes_14() {
     use crate::proved::bitlanes::ops::*;
     use crate::proved::bitlanes::{word, Block, Steps};
     use crate::proved::bitwords::cursors::*;
@@ -1319,13 +1319,14 @@ fn fixedbitset_lent_bytes_15() {
     use core::cmp::Ordering;
     use core::mem::{size_of, size_of_val};
 
-    let mut words = [7; 4];
-    lent::from_bytes(&mut words, 10, &[76, 255]);
+    let mut words = [0; 4];
+    let mut set = BitsMut::settle(&mut words, 10, 10);
+    set.assign_bytes(&[76, 255]);
     assert_eq!(words, [844, 0, 0, 0]);
 }
 
 #[test]
-fn fixedbitset_lent_bytes_28() {
+fn fixedbitset_views_bytes_31() {
     use crate::proved::bitlanes::ops::*;
     use crate::proved::bitlanes::{word, Block, Steps};
     use crate::proved::bitwords::cursors::*;
@@ -1335,13 +1336,13 @@ fn fixedbitset_lent_bytes_28() {
     use core::mem::{size_of, size_of_val};
 
     let (mut words, mut data) = ([516, 0, 0, 0], [7; 8]);
-    lent::settle(&mut words, 10, 10);
-    lent::to_bytes(&words, 10, &mut data);
+    let set = BitsMut::settle(&mut words, 10, 10);
+    set.as_bits().to_bytes(&mut data);
     assert_eq!(data, [4, 2, 0, 0, 0, 0, 0, 0]);
 }
 
 #[test]
-fn fixedbitset_lent_changes_10() {
+fn fixedbitset_views_changes_13() {
     use crate::proved::bitlanes::ops::*;
     use crate::proved::bitlanes::{word, Block, Steps};
     use crate::proved::bitwords::cursors::*;
@@ -1351,14 +1352,14 @@ fn fixedbitset_lent_changes_10() {
     use core::mem::{size_of, size_of_val};
 
     let (mut words, mut other) = ([9, 0, 0, 0], [3, 0, 0, 0]);
-    lent::settle(&mut words, 70, 70);
-    lent::settle(&mut other, 9, 9);
-    assert!(lent::union_with_change(&mut words, 70, &other, 9));
-    assert!(!lent::union_with_change(&mut words, 70, &other, 9));
+    let mut set = BitsMut::settle(&mut words, 70, 70);
+    let other = BitsMut::settle(&mut other, 9, 9);
+    assert!(set.union_with_change(other.as_bits(), &mut Steps::new()));
+    assert!(!set.union_with_change(other.as_bits(), &mut Steps::new()));
 }
 
 #[test]
-fn fixedbitset_lent_changes_29() {
+fn fixedbitset_views_changes_27() {
     use crate::proved::bitlanes::ops::*;
     use crate::proved::bitlanes::{word, Block, Steps};
     use crate::proved::bitwords::cursors::*;
@@ -1368,14 +1369,14 @@ fn fixedbitset_lent_changes_29() {
     use core::mem::{size_of, size_of_val};
 
     let (mut words, mut other) = ([9, 1, 0, 0], [3, 0, 0, 0]);
-    lent::settle(&mut words, 70, 70);
-    lent::settle(&mut other, 9, 9);
-    assert!(lent::intersect_with_change(&mut words, 70, &other, 9));
-    assert!(!lent::intersect_with_change(&mut words, 70, &other, 9));
+    let mut set = BitsMut::settle(&mut words, 70, 70);
+    let other = BitsMut::settle(&mut other, 9, 9);
+    assert!(set.intersect_with_change(other.as_bits(), &mut Steps::new()));
+    assert!(!set.intersect_with_change(other.as_bits(), &mut Steps::new()));
 }
 
 #[test]
-fn fixedbitset_lent_changes_48() {
+fn fixedbitset_views_changes_41() {
     use crate::proved::bitlanes::ops::*;
     use crate::proved::bitlanes::{word, Block, Steps};
     use crate::proved::bitwords::cursors::*;
@@ -1385,14 +1386,14 @@ fn fixedbitset_lent_changes_48() {
     use core::mem::{size_of, size_of_val};
 
     let (mut words, mut other) = ([9, 1, 0, 0], [3, 0, 0, 0]);
-    lent::settle(&mut words, 70, 70);
-    lent::settle(&mut other, 9, 9);
-    assert!(lent::difference_with_change(&mut words, 70, &other, 9));
-    assert!(!lent::difference_with_change(&mut words, 70, &other, 9));
+    let mut set = BitsMut::settle(&mut words, 70, 70);
+    let other = BitsMut::settle(&mut other, 9, 9);
+    assert!(set.difference_with_change(other.as_bits(), &mut Steps::new()));
+    assert!(!set.difference_with_change(other.as_bits(), &mut Steps::new()));
 }
 
 #[test]
-fn fixedbitset_lent_changes_68() {
+fn fixedbitset_views_changes_56() {
     use crate::proved::bitlanes::ops::*;
     use crate::proved::bitlanes::{word, Block, Steps};
     use crate::proved::bitwords::cursors::*;
@@ -1402,15 +1403,15 @@ fn fixedbitset_lent_changes_68() {
     use core::mem::{size_of, size_of_val};
 
     let (mut words, mut gens, mut kills) = ([1, 0, 0, 0], [7, 0, 0, 0], [4, 1, 0, 0]);
-    lent::settle(&mut words, 9, 9);
-    lent::settle(&mut gens, 9, 9);
-    lent::settle(&mut kills, 70, 70);
-    assert!(lent::union_with_difference(&mut words, 9, &gens, 9, &kills, 70));
-    assert!(!lent::union_with_difference(&mut words, 9, &gens, 9, &kills, 70));
+    let mut set = BitsMut::settle(&mut words, 9, 9);
+    let (gens, kills) = (BitsMut::settle(&mut gens, 9, 9), BitsMut::settle(&mut kills, 70, 70));
+    let (gens, kills) = (gens.as_bits(), kills.as_bits());
+    assert!(set.union_with_difference(gens, kills, &mut Steps::new()));
+    assert!(!set.union_with_difference(gens, kills, &mut Steps::new()));
 }
 
 #[test]
-fn fixedbitset_lent_copies_12() {
+fn fixedbitset_views_copies_13() {
     use crate::proved::bitlanes::ops::*;
     use crate::proved::bitlanes::{word, Block, Steps};
     use crate::proved::bitwords::cursors::*;
@@ -1420,13 +1421,13 @@ fn fixedbitset_lent_copies_12() {
     use core::mem::{size_of, size_of_val};
 
     let (mut to, mut words) = ([7; 4], [9, 34, 0, 0]);
-    lent::settle(&mut words, 70, 70);
-    lent::copy(&mut to, 66, &words, 70);
+    let set = BitsMut::settle(&mut words, 70, 70);
+    set.as_bits().copy_to(&mut to, 66);
     assert_eq!(to, [9, 2, 0, 0]);
 }
 
 #[test]
-fn fixedbitset_lent_copies_28() {
+fn fixedbitset_views_copies_27() {
     use crate::proved::bitlanes::ops::*;
     use crate::proved::bitlanes::{word, Block, Steps};
     use crate::proved::bitwords::cursors::*;
@@ -1436,14 +1437,14 @@ fn fixedbitset_lent_copies_28() {
     use core::mem::{size_of, size_of_val};
 
     let (mut to, mut words, mut other) = ([7; 4], [9, 1, 0, 0], [3, 0, 0, 0]);
-    lent::settle(&mut words, 70, 70);
-    lent::settle(&mut other, 9, 9);
-    lent::union_of(&mut to, &words, 70, &other, 9);
+    let set = BitsMut::settle(&mut words, 70, 70);
+    let other = BitsMut::settle(&mut other, 9, 9);
+    set.as_bits().union_to(other.as_bits(), &mut to);
     assert_eq!(to, [11, 1, 0, 0]);
 }
 
 #[test]
-fn fixedbitset_lent_copies_54() {
+fn fixedbitset_views_copies_45() {
     use crate::proved::bitlanes::ops::*;
     use crate::proved::bitlanes::{word, Block, Steps};
     use crate::proved::bitwords::cursors::*;
@@ -1453,14 +1454,14 @@ fn fixedbitset_lent_copies_54() {
     use core::mem::{size_of, size_of_val};
 
     let (mut to, mut words, mut other) = ([7; 4], [9, 1, 0, 0], [3, 0, 0, 0]);
-    lent::settle(&mut words, 70, 70);
-    lent::settle(&mut other, 9, 9);
-    lent::symmetric_difference_of(&mut to, &words, 70, &other, 9);
+    let set = BitsMut::settle(&mut words, 70, 70);
+    let other = BitsMut::settle(&mut other, 9, 9);
+    set.as_bits().symmetric_difference_to(other.as_bits(), &mut to);
     assert_eq!(to, [10, 1, 0, 0]);
 }
 
 #[test]
-fn fixedbitset_lent_copies_80() {
+fn fixedbitset_views_copies_63() {
     use crate::proved::bitlanes::ops::*;
     use crate::proved::bitlanes::{word, Block, Steps};
     use crate::proved::bitwords::cursors::*;
@@ -1470,14 +1471,14 @@ fn fixedbitset_lent_copies_80() {
     use core::mem::{size_of, size_of_val};
 
     let (mut to, mut words, mut other) = ([7; 4], [9, 1, 0, 0], [3, 0, 0, 0]);
-    lent::settle(&mut words, 70, 70);
-    lent::settle(&mut other, 9, 9);
-    lent::intersection_of(&mut to, &words, 70, &other, 9);
+    let set = BitsMut::settle(&mut words, 70, 70);
+    let other = BitsMut::settle(&mut other, 9, 9);
+    set.as_bits().intersection_to(other.as_bits(), &mut to);
     assert_eq!(to, [1, 0, 0, 0]);
 }
 
 #[test]
-fn fixedbitset_lent_copies_106() {
+fn fixedbitset_views_copies_81() {
     use crate::proved::bitlanes::ops::*;
     use crate::proved::bitlanes::{word, Block, Steps};
     use crate::proved::bitwords::cursors::*;
@@ -1487,14 +1488,14 @@ fn fixedbitset_lent_copies_106() {
     use core::mem::{size_of, size_of_val};
 
     let (mut to, mut words, mut other) = ([7; 4], [9, 1, 0, 0], [3, 0, 0, 0]);
-    lent::settle(&mut words, 70, 70);
-    lent::settle(&mut other, 9, 9);
-    lent::difference_of(&mut to, &words, 70, &other, 9);
+    let set = BitsMut::settle(&mut words, 70, 70);
+    let other = BitsMut::settle(&mut other, 9, 9);
+    set.as_bits().difference_to(other.as_bits(), &mut to);
     assert_eq!(to, [8, 1, 0, 0]);
 }
 
 #[test]
-fn fixedbitset_lent_gaps_9() {
+fn fixedbitset_views_gaps_14() {
     use crate::proved::bitlanes::ops::*;
     use crate::proved::bitlanes::{word, Block, Steps};
     use crate::proved::bitwords::cursors::*;
@@ -1504,13 +1505,13 @@ fn fixedbitset_lent_gaps_9() {
     use core::mem::{size_of, size_of_val};
 
     let mut words = [9, 2, 0, 0];
-    lent::settle(&mut words, 70, 70);
-    assert_eq!(lent::first_gap(&words, 70, 3, 0), Some(4));
-    assert_eq!(lent::first_gap(&words, 70, 5, 62), None);
+    let set = BitsMut::settle(&mut words, 70, 70);
+    assert_eq!(set.as_bits().first_gap(3, 0, &mut Steps::new()), Some(4));
+    assert_eq!(set.as_bits().first_gap(5, 62, &mut Steps::new()), None);
 }
 
 #[test]
-fn fixedbitset_lent_gaps_23() {
+fn fixedbitset_views_gaps_31() {
     use crate::proved::bitlanes::ops::*;
     use crate::proved::bitlanes::{word, Block, Steps};
     use crate::proved::bitwords::cursors::*;
@@ -1520,14 +1521,14 @@ fn fixedbitset_lent_gaps_23() {
     use core::mem::{size_of, size_of_val};
 
     let mut words = [9, 2, 0, 0];
-    lent::settle(&mut words, 70, 70);
-    assert_eq!(lent::first_aligned_gap(&words, 70, 2, 4, 1, 70), Some(4));
-    assert_eq!(lent::first_aligned_gap(&words, 70, 5, 32, 1, 70), Some(32));
-    assert_eq!(lent::first_aligned_gap(&words, 70, 5, 32, 1, 36), None);
+    let set = BitsMut::settle(&mut words, 70, 70);
+    assert_eq!(set.as_bits().first_aligned_gap(2, 4, 1, 70, &mut Steps::new()), Some(4));
+    assert_eq!(set.as_bits().first_aligned_gap(5, 32, 1, 70, &mut Steps::new()), Some(32));
+    assert_eq!(set.as_bits().first_aligned_gap(5, 32, 1, 36, &mut Steps::new()), None);
 }
 
 #[test]
-fn fixedbitset_lent_neighbours_12() {
+fn fixedbitset_views_neighbours_14() {
     use crate::proved::bitlanes::ops::*;
     use crate::proved::bitlanes::{word, Block, Steps};
     use crate::proved::bitwords::cursors::*;
@@ -1537,14 +1538,14 @@ fn fixedbitset_lent_neighbours_12() {
     use core::mem::{size_of, size_of_val};
 
     let mut words = [9, 2, 0, 0];
-    lent::settle(&mut words, 70, 70);
-    assert_eq!(lent::next_one(&words, 70, 3), Some(3));
-    assert_eq!(lent::next_one(&words, 70, 4), Some(65));
-    assert_eq!(lent::next_one(&words, 70, 66), None);
+    let set = BitsMut::settle(&mut words, 70, 70);
+    assert_eq!(set.as_bits().next_one(3, &mut Steps::new()), Some(3));
+    assert_eq!(set.as_bits().next_one(4, &mut Steps::new()), Some(65));
+    assert_eq!(set.as_bits().next_one(66, &mut Steps::new()), None);
 }
 
 #[test]
-fn fixedbitset_lent_neighbours_26() {
+fn fixedbitset_views_neighbours_28() {
     use crate::proved::bitlanes::ops::*;
     use crate::proved::bitlanes::{word, Block, Steps};
     use crate::proved::bitwords::cursors::*;
@@ -1554,13 +1555,13 @@ fn fixedbitset_lent_neighbours_26() {
     use core::mem::{size_of, size_of_val};
 
     let mut words = [9, 63, 0, 0];
-    lent::settle(&mut words, 70, 70);
-    assert_eq!(lent::next_zero(&words, 70, 0), Some(1));
-    assert_eq!(lent::next_zero(&words, 70, 64), None);
+    let set = BitsMut::settle(&mut words, 70, 70);
+    assert_eq!(set.as_bits().next_zero(0, &mut Steps::new()), Some(1));
+    assert_eq!(set.as_bits().next_zero(64, &mut Steps::new()), None);
 }
 
 #[test]
-fn fixedbitset_lent_neighbours_39() {
+fn fixedbitset_views_neighbours_41() {
     use crate::proved::bitlanes::ops::*;
     use crate::proved::bitlanes::{word, Block, Steps};
     use crate::proved::bitwords::cursors::*;
@@ -1570,14 +1571,14 @@ fn fixedbitset_lent_neighbours_39() {
     use core::mem::{size_of, size_of_val};
 
     let mut words = [9, 2, 0, 0];
-    lent::settle(&mut words, 70, 70);
-    assert_eq!(lent::previous_one(&words, 70, 65), Some(3));
-    assert_eq!(lent::previous_one(&words, 70, 500), Some(65));
-    assert_eq!(lent::previous_one(&words, 70, 0), None);
+    let set = BitsMut::settle(&mut words, 70, 70);
+    assert_eq!(set.as_bits().previous_one(65, &mut Steps::new()), Some(3));
+    assert_eq!(set.as_bits().previous_one(500, &mut Steps::new()), Some(65));
+    assert_eq!(set.as_bits().previous_one(0, &mut Steps::new()), None);
 }
 
 #[test]
-fn fixedbitset_lent_neighbours_53() {
+fn fixedbitset_views_neighbours_55() {
     use crate::proved::bitlanes::ops::*;
     use crate::proved::bitlanes::{word, Block, Steps};
     use crate::proved::bitwords::cursors::*;
@@ -1587,13 +1588,13 @@ fn fixedbitset_lent_neighbours_53() {
     use core::mem::{size_of, size_of_val};
 
     let mut words = [9, 63, 0, 0];
-    lent::settle(&mut words, 70, 70);
-    assert_eq!(lent::previous_zero(&words, 70, 70), Some(63));
-    assert_eq!(lent::previous_zero(&words, 70, 1), None);
+    let set = BitsMut::settle(&mut words, 70, 70);
+    assert_eq!(set.as_bits().previous_zero(70, &mut Steps::new()), Some(63));
+    assert_eq!(set.as_bits().previous_zero(1, &mut Steps::new()), None);
 }
 
 #[test]
-fn fixedbitset_lent_ranges_9() {
+fn fixedbitset_views_positions_16() {
     use crate::proved::bitlanes::ops::*;
     use crate::proved::bitlanes::{word, Block, Steps};
     use crate::proved::bitwords::cursors::*;
@@ -1602,588 +1603,13 @@ fn fixedbitset_lent_ranges_9() {
     use core::cmp::Ordering;
     use core::mem::{size_of, size_of_val};
 
-    let mut words = [9, 0, 0, 0];
-    lent::settle(&mut words, 70, 70);
-    assert!(lent::range_is_valid(&words, 70, 60, 70));
-    assert!(!lent::range_is_valid(&words, 70, 60, 71));
+    assert!(Bits::over(&[8, 63, 0, 0], 70).is_some());
+    assert!(Bits::over(&[8, 64, 0, 0], 70).is_none());
+    assert!(Bits::over(&[8, 63], 70).is_none());
 }
 
 #[test]
-fn fixedbitset_lent_ranges_22() {
-    use crate::proved::bitlanes::ops::*;
-    use crate::proved::bitlanes::{word, Block, Steps};
-    use crate::proved::bitwords::cursors::*;
-    use crate::proved::fixedbitset::*;
-    use crate::shim::u64x4;
-    use core::cmp::Ordering;
-    use core::mem::{size_of, size_of_val};
-
-    let mut words = [9, 0, 0, 0];
-    lent::settle(&mut words, 70, 70);
-    lent::insert_range(&mut words, 70, 62, 66);
-    assert_eq!(words, [9 | 3 << 62, 3, 0, 0]);
-}
-
-#[test]
-fn fixedbitset_lent_ranges_35() {
-    use crate::proved::bitlanes::ops::*;
-    use crate::proved::bitlanes::{word, Block, Steps};
-    use crate::proved::bitwords::cursors::*;
-    use crate::proved::fixedbitset::*;
-    use crate::shim::u64x4;
-    use core::cmp::Ordering;
-    use core::mem::{size_of, size_of_val};
-
-    let mut words = [9, 1, 0, 0];
-    lent::settle(&mut words, 70, 70);
-    lent::remove_range(&mut words, 70, 1, 70);
-    assert_eq!(words, [1, 0, 0, 0]);
-}
-
-#[test]
-fn fixedbitset_lent_ranges_48() {
-    use crate::proved::bitlanes::ops::*;
-    use crate::proved::bitlanes::{word, Block, Steps};
-    use crate::proved::bitwords::cursors::*;
-    use crate::proved::fixedbitset::*;
-    use crate::shim::u64x4;
-    use core::cmp::Ordering;
-    use core::mem::{size_of, size_of_val};
-
-    let mut words = [9, 0, 0, 0];
-    lent::settle(&mut words, 70, 70);
-    lent::toggle_range(&mut words, 70, 0, 3);
-    assert_eq!(words, [14, 0, 0, 0]);
-}
-
-#[test]
-fn fixedbitset_lent_ranges_61() {
-    use crate::proved::bitlanes::ops::*;
-    use crate::proved::bitlanes::{word, Block, Steps};
-    use crate::proved::bitwords::cursors::*;
-    use crate::proved::fixedbitset::*;
-    use crate::shim::u64x4;
-    use core::cmp::Ordering;
-    use core::mem::{size_of, size_of_val};
-
-    let mut words = [9, 3, 0, 0];
-    lent::settle(&mut words, 70, 70);
-    assert_eq!(lent::count_ones(&words, 70, 1, 65), 2);
-}
-
-#[test]
-fn fixedbitset_lent_ranges_73() {
-    use crate::proved::bitlanes::ops::*;
-    use crate::proved::bitlanes::{word, Block, Steps};
-    use crate::proved::bitwords::cursors::*;
-    use crate::proved::fixedbitset::*;
-    use crate::shim::u64x4;
-    use core::cmp::Ordering;
-    use core::mem::{size_of, size_of_val};
-
-    let mut words = [9, 3, 0, 0];
-    lent::settle(&mut words, 70, 70);
-    assert_eq!(lent::count_zeroes(&words, 70, 1, 65), 62);
-}
-
-#[test]
-fn fixedbitset_lent_ranges_85() {
-    use crate::proved::bitlanes::ops::*;
-    use crate::proved::bitlanes::{word, Block, Steps};
-    use crate::proved::bitwords::cursors::*;
-    use crate::proved::fixedbitset::*;
-    use crate::shim::u64x4;
-    use core::cmp::Ordering;
-    use core::mem::{size_of, size_of_val};
-
-    let mut words = [9, 3, 0, 0];
-    lent::settle(&mut words, 70, 70);
-    assert!(lent::contains_all_in_range(&words, 70, 64, 66));
-}
-
-#[test]
-fn fixedbitset_lent_ranges_97() {
-    use crate::proved::bitlanes::ops::*;
-    use crate::proved::bitlanes::{word, Block, Steps};
-    use crate::proved::bitwords::cursors::*;
-    use crate::proved::fixedbitset::*;
-    use crate::shim::u64x4;
-    use core::cmp::Ordering;
-    use core::mem::{size_of, size_of_val};
-
-    let mut words = [9, 3, 0, 0];
-    lent::settle(&mut words, 70, 70);
-    assert!(!lent::contains_any_in_range(&words, 70, 4, 64));
-}
-
-#[test]
-fn fixedbitset_lent_shifts_12() {
-    use crate::proved::bitlanes::ops::*;
-    use crate::proved::bitlanes::{word, Block, Steps};
-    use crate::proved::bitwords::cursors::*;
-    use crate::proved::fixedbitset::*;
-    use crate::shim::u64x4;
-    use core::cmp::Ordering;
-    use core::mem::{size_of, size_of_val};
-
-    let mut words = [9, 0, 0, 0];
-    lent::settle(&mut words, 70, 70);
-    lent::shift_up(&mut words, 70, 64);
-    assert_eq!(words, [0, 9, 0, 0]);
-    lent::shift_up(&mut words, 70, 3);
-    assert_eq!(words, [0, 8, 0, 0]);
-}
-
-#[test]
-fn fixedbitset_lent_shifts_35() {
-    use crate::proved::bitlanes::ops::*;
-    use crate::proved::bitlanes::{word, Block, Steps};
-    use crate::proved::bitwords::cursors::*;
-    use crate::proved::fixedbitset::*;
-    use crate::shim::u64x4;
-    use core::cmp::Ordering;
-    use core::mem::{size_of, size_of_val};
-
-    let mut words = [9, 8, 0, 0];
-    lent::settle(&mut words, 70, 70);
-    lent::shift_down(&mut words, 70, 3);
-    assert_eq!(words, [1, 1, 0, 0]);
-}
-
-#[test]
-fn fixedbitset_lent_shifts_56() {
-    use crate::proved::bitlanes::ops::*;
-    use crate::proved::bitlanes::{word, Block, Steps};
-    use crate::proved::bitwords::cursors::*;
-    use crate::proved::fixedbitset::*;
-    use crate::shim::u64x4;
-    use core::cmp::Ordering;
-    use core::mem::{size_of, size_of_val};
-
-    let (mut words, mut other) = ([9, 0, 0, 0], [7, 0, 0, 0]);
-    lent::settle(&mut words, 70, 70);
-    lent::settle(&mut other, 9, 9);
-    lent::union_with_shifted(&mut words, 70, &other, 9, 68);
-    assert_eq!(words, [9, 48, 0, 0]);
-}
-
-#[test]
-fn fixedbitset_lent_shifts_92() {
-    use crate::proved::bitlanes::ops::*;
-    use crate::proved::bitlanes::{word, Block, Steps};
-    use crate::proved::bitwords::cursors::*;
-    use crate::proved::fixedbitset::*;
-    use crate::shim::u64x4;
-    use core::cmp::Ordering;
-    use core::mem::{size_of, size_of_val};
-
-    let mut words = [1, 0, 0, 0];
-    lent::settle(&mut words, 70, 70);
-    lent::union_with_own_shift(&mut words, 70, 3);
-    lent::union_with_own_shift(&mut words, 70, 65);
-    assert_eq!(words, [9, 18, 0, 0]);
-}
-
-#[test]
-fn fixedbitset_lent_shifts_121() {
-    use crate::proved::bitlanes::ops::*;
-    use crate::proved::bitlanes::{word, Block, Steps};
-    use crate::proved::bitwords::cursors::*;
-    use crate::proved::fixedbitset::*;
-    use crate::shim::u64x4;
-    use core::cmp::Ordering;
-    use core::mem::{size_of, size_of_val};
-
-    let (mut words, mut to) = ([9, 8, 0, 0], [0; 4]);
-    lent::settle(&mut words, 70, 70);
-    lent::slice(&mut to, &words, 70, 3, 68);
-    assert_eq!(to, [1, 1, 0, 0]);
-}
-
-#[test]
-fn fixedbitset_lent_shifts_151() {
-    use crate::proved::bitlanes::ops::*;
-    use crate::proved::bitlanes::{word, Block, Steps};
-    use crate::proved::bitwords::cursors::*;
-    use crate::proved::fixedbitset::*;
-    use crate::shim::u64x4;
-    use core::cmp::Ordering;
-    use core::mem::{size_of, size_of_val};
-
-    let (mut words, mut other) = ([5, 34, 0, 0], [2 | 1 << 63, 2, 0, 0]);
-    lent::settle(&mut words, 70, 70);
-    lent::settle(&mut other, 66, 66);
-    lent::copy_range(&mut words, 70, &other, 66, 62, 66, 1);
-    assert_eq!(words, [21, 34, 0, 0]);
-}
-
-#[test]
-fn fixedbitset_lent_walks_15() {
-    use crate::proved::bitlanes::ops::*;
-    use crate::proved::bitlanes::{word, Block, Steps};
-    use crate::proved::bitwords::cursors::*;
-    use crate::proved::fixedbitset::*;
-    use crate::shim::u64x4;
-    use core::cmp::Ordering;
-    use core::mem::{size_of, size_of_val};
-
-    let mut words = [9, 2, 0, 0];
-    lent::settle(&mut words, 70, 70);
-    assert!(lent::ones(&words, 70).eq([0, 3, 65]));
-}
-
-#[test]
-fn fixedbitset_lent_walks_28() {
-    use crate::proved::bitlanes::ops::*;
-    use crate::proved::bitlanes::{word, Block, Steps};
-    use crate::proved::bitwords::cursors::*;
-    use crate::proved::fixedbitset::*;
-    use crate::shim::u64x4;
-    use core::cmp::Ordering;
-    use core::mem::{size_of, size_of_val};
-
-    let (mut words, mut other) = ([9, 2, 0, 0], [1, 2, 0, 0]);
-    lent::settle(&mut words, 70, 70);
-    lent::settle(&mut other, 66, 66);
-    assert!(lent::intersection(&words, 70, &other, 66).eq([0, 65]));
-}
-
-#[test]
-fn fixedbitset_lent_walks_49() {
-    use crate::proved::bitlanes::ops::*;
-    use crate::proved::bitlanes::{word, Block, Steps};
-    use crate::proved::bitwords::cursors::*;
-    use crate::proved::fixedbitset::*;
-    use crate::shim::u64x4;
-    use core::cmp::Ordering;
-    use core::mem::{size_of, size_of_val};
-
-    let (mut words, mut other) = ([9, 2, 0, 0], [1, 2, 0, 0]);
-    lent::settle(&mut words, 70, 70);
-    lent::settle(&mut other, 66, 66);
-    assert!(lent::difference(&words, 70, &other, 66).eq([3]));
-}
-
-#[test]
-fn fixedbitset_lent_walks_67() {
-    use crate::proved::bitlanes::ops::*;
-    use crate::proved::bitlanes::{word, Block, Steps};
-    use crate::proved::bitwords::cursors::*;
-    use crate::proved::fixedbitset::*;
-    use crate::shim::u64x4;
-    use core::cmp::Ordering;
-    use core::mem::{size_of, size_of_val};
-
-    let mut words = [Block::MAX - 8, 60, 0, 0];
-    lent::settle(&mut words, 70, 70);
-    assert!(lent::zeroes(&words, 70).eq([3, 64, 65]));
-}
-
-#[test]
-fn fixedbitset_lent_walks_79() {
-    use crate::proved::bitlanes::ops::*;
-    use crate::proved::bitlanes::{word, Block, Steps};
-    use crate::proved::bitwords::cursors::*;
-    use crate::proved::fixedbitset::*;
-    use crate::shim::u64x4;
-    use core::cmp::Ordering;
-    use core::mem::{size_of, size_of_val};
-
-    let mut words = [Block::MAX, 1, 0, 0];
-    lent::settle(&mut words, 70, 70);
-    assert!(lent::runs(&words, 70).eq([(0, 65)]));
-}
-
-#[test]
-fn fixedbitset_lent_walks_91() {
-    use crate::proved::bitlanes::ops::*;
-    use crate::proved::bitlanes::{word, Block, Steps};
-    use crate::proved::bitwords::cursors::*;
-    use crate::proved::fixedbitset::*;
-    use crate::shim::u64x4;
-    use core::cmp::Ordering;
-    use core::mem::{size_of, size_of_val};
-
-    let mut words = [Block::MAX, 1, 0, 0];
-    lent::settle(&mut words, 70, 70);
-    assert!(lent::zero_runs(&words, 70).eq([(65, 70)]));
-}
-
-#[test]
-fn fixedbitset_lent_walks_103() {
-    use crate::proved::bitlanes::ops::*;
-    use crate::proved::bitlanes::{word, Block, Steps};
-    use crate::proved::bitwords::cursors::*;
-    use crate::proved::fixedbitset::*;
-    use crate::shim::u64x4;
-    use core::cmp::Ordering;
-    use core::mem::{size_of, size_of_val};
-
-    let mut words = [9, 2, 0, 0];
-    lent::settle(&mut words, 70, 70);
-    assert!(lent::ones_in(&words, 70, 1, 66).eq([3, 65]));
-}
-
-#[test]
-fn fixedbitset_lent_walks_115() {
-    use crate::proved::bitlanes::ops::*;
-    use crate::proved::bitlanes::{word, Block, Steps};
-    use crate::proved::bitwords::cursors::*;
-    use crate::proved::fixedbitset::*;
-    use crate::shim::u64x4;
-    use core::cmp::Ordering;
-    use core::mem::{size_of, size_of_val};
-
-    let mut words = [Block::MAX - 8, 60, 0, 0];
-    lent::settle(&mut words, 70, 70);
-    assert!(lent::zeroes_in(&words, 70, 4, 65).eq([64]));
-}
-
-#[test]
-fn fixedbitset_lent_whole_14() {
-    use crate::proved::bitlanes::ops::*;
-    use crate::proved::bitlanes::{word, Block, Steps};
-    use crate::proved::bitwords::cursors::*;
-    use crate::proved::fixedbitset::*;
-    use crate::shim::u64x4;
-    use core::cmp::Ordering;
-    use core::mem::{size_of, size_of_val};
-
-    let (mut words, mut other) = ([9, 0, 0, 0], [3, 0, 0, 0]);
-    lent::settle(&mut words, 70, 70);
-    lent::settle(&mut other, 9, 9);
-    lent::union_with(&mut words, 70, &other, 9);
-    assert_eq!(words, [11, 0, 0, 0]);
-}
-
-#[test]
-fn fixedbitset_lent_whole_28() {
-    use crate::proved::bitlanes::ops::*;
-    use crate::proved::bitlanes::{word, Block, Steps};
-    use crate::proved::bitwords::cursors::*;
-    use crate::proved::fixedbitset::*;
-    use crate::shim::u64x4;
-    use core::cmp::Ordering;
-    use core::mem::{size_of, size_of_val};
-
-    let (mut words, mut other) = ([9, 0, 0, 0], [3, 0, 0, 0]);
-    lent::settle(&mut words, 70, 70);
-    lent::settle(&mut other, 9, 9);
-    lent::symmetric_difference_with(&mut words, 70, &other, 9);
-    assert_eq!(words, [10, 0, 0, 0]);
-}
-
-#[test]
-fn fixedbitset_lent_whole_47() {
-    use crate::proved::bitlanes::ops::*;
-    use crate::proved::bitlanes::{word, Block, Steps};
-    use crate::proved::bitwords::cursors::*;
-    use crate::proved::fixedbitset::*;
-    use crate::shim::u64x4;
-    use core::cmp::Ordering;
-    use core::mem::{size_of, size_of_val};
-
-    let (mut words, mut other) = ([9, 1, 0, 0], [3, 0, 0, 0]);
-    lent::settle(&mut words, 70, 70);
-    lent::settle(&mut other, 9, 9);
-    lent::intersect_with(&mut words, 70, &other, 9);
-    assert_eq!(words, [1, 0, 0, 0]);
-}
-
-#[test]
-fn fixedbitset_lent_whole_61() {
-    use crate::proved::bitlanes::ops::*;
-    use crate::proved::bitlanes::{word, Block, Steps};
-    use crate::proved::bitwords::cursors::*;
-    use crate::proved::fixedbitset::*;
-    use crate::shim::u64x4;
-    use core::cmp::Ordering;
-    use core::mem::{size_of, size_of_val};
-
-    let (mut words, mut other) = ([9, 1, 0, 0], [3, 0, 0, 0]);
-    lent::settle(&mut words, 70, 70);
-    lent::settle(&mut other, 9, 9);
-    lent::difference_with(&mut words, 70, &other, 9);
-    assert_eq!(words, [8, 1, 0, 0]);
-}
-
-#[test]
-fn fixedbitset_lent_whole_75() {
-    use crate::proved::bitlanes::ops::*;
-    use crate::proved::bitlanes::{word, Block, Steps};
-    use crate::proved::bitwords::cursors::*;
-    use crate::proved::fixedbitset::*;
-    use crate::shim::u64x4;
-    use core::cmp::Ordering;
-    use core::mem::{size_of, size_of_val};
-
-    let (mut words, mut other) = ([9, 1, 0, 0], [3, 0, 0, 0]);
-    lent::settle(&mut words, 70, 70);
-    lent::settle(&mut other, 9, 9);
-    assert_eq!(lent::union_count(&words, 70, &other, 9), 4);
-}
-
-#[test]
-fn fixedbitset_lent_whole_88() {
-    use crate::proved::bitlanes::ops::*;
-    use crate::proved::bitlanes::{word, Block, Steps};
-    use crate::proved::bitwords::cursors::*;
-    use crate::proved::fixedbitset::*;
-    use crate::shim::u64x4;
-    use core::cmp::Ordering;
-    use core::mem::{size_of, size_of_val};
-
-    let (mut words, mut other) = ([9, 1, 0, 0], [3, 0, 0, 0]);
-    lent::settle(&mut words, 70, 70);
-    lent::settle(&mut other, 9, 9);
-    assert_eq!(lent::intersection_count(&words, 70, &other, 9), 1);
-}
-
-#[test]
-fn fixedbitset_lent_whole_106() {
-    use crate::proved::bitlanes::ops::*;
-    use crate::proved::bitlanes::{word, Block, Steps};
-    use crate::proved::bitwords::cursors::*;
-    use crate::proved::fixedbitset::*;
-    use crate::shim::u64x4;
-    use core::cmp::Ordering;
-    use core::mem::{size_of, size_of_val};
-
-    let (mut words, mut other) = ([9, 1, 0, 0], [3, 0, 0, 0]);
-    lent::settle(&mut words, 70, 70);
-    lent::settle(&mut other, 9, 9);
-    assert_eq!(lent::difference_count(&words, 70, &other, 9), 2);
-}
-
-#[test]
-fn fixedbitset_lent_whole_124() {
-    use crate::proved::bitlanes::ops::*;
-    use crate::proved::bitlanes::{word, Block, Steps};
-    use crate::proved::bitwords::cursors::*;
-    use crate::proved::fixedbitset::*;
-    use crate::shim::u64x4;
-    use core::cmp::Ordering;
-    use core::mem::{size_of, size_of_val};
-
-    let (mut words, mut other) = ([9, 1, 0, 0], [3, 0, 0, 0]);
-    lent::settle(&mut words, 70, 70);
-    lent::settle(&mut other, 9, 9);
-    assert_eq!(lent::symmetric_difference_count(&words, 70, &other, 9), 3);
-}
-
-#[test]
-fn fixedbitset_lent_whole_142() {
-    use crate::proved::bitlanes::ops::*;
-    use crate::proved::bitlanes::{word, Block, Steps};
-    use crate::proved::bitwords::cursors::*;
-    use crate::proved::fixedbitset::*;
-    use crate::shim::u64x4;
-    use core::cmp::Ordering;
-    use core::mem::{size_of, size_of_val};
-
-    let (mut words, mut other) = ([9, 1, 0, 0], [6, 0, 0, 0]);
-    lent::settle(&mut words, 70, 70);
-    lent::settle(&mut other, 9, 9);
-    assert!(lent::is_disjoint(&words, 70, &other, 9));
-}
-
-#[test]
-fn fixedbitset_lent_whole_155() {
-    use crate::proved::bitlanes::ops::*;
-    use crate::proved::bitlanes::{word, Block, Steps};
-    use crate::proved::bitwords::cursors::*;
-    use crate::proved::fixedbitset::*;
-    use crate::shim::u64x4;
-    use core::cmp::Ordering;
-    use core::mem::{size_of, size_of_val};
-
-    let (mut words, mut other) = ([9, 0, 0, 0], [11, 0, 0, 0]);
-    lent::settle(&mut words, 70, 70);
-    lent::settle(&mut other, 9, 9);
-    assert!(lent::is_subset(&words, 70, &other, 9));
-}
-
-#[test]
-fn fixedbitset_lent_whole_168() {
-    use crate::proved::bitlanes::ops::*;
-    use crate::proved::bitlanes::{word, Block, Steps};
-    use crate::proved::bitwords::cursors::*;
-    use crate::proved::fixedbitset::*;
-    use crate::shim::u64x4;
-    use core::cmp::Ordering;
-    use core::mem::{size_of, size_of_val};
-
-    let (mut words, mut other) = ([9, 0, 0, 0], [11, 1, 0, 0]);
-    lent::settle(&mut words, 9, 9);
-    lent::settle(&mut other, 70, 70);
-    assert_eq!(lent::first_lacking(&words, 9, &other, 70), Some(1));
-    assert_eq!(lent::first_lacking(&other, 70, &words, 9), None);
-}
-
-#[test]
-fn fixedbitset_lent_whole_187() {
-    use crate::proved::bitlanes::ops::*;
-    use crate::proved::bitlanes::{word, Block, Steps};
-    use crate::proved::bitwords::cursors::*;
-    use crate::proved::fixedbitset::*;
-    use crate::shim::u64x4;
-    use core::cmp::Ordering;
-    use core::mem::{size_of, size_of_val};
-
-    let (mut words, mut other) = ([9, 0, 0, 0], [9, 0, 0, 0]);
-    lent::settle(&mut words, 70, 70);
-    lent::settle(&mut other, 9, 9);
-    assert!(!lent::is_equal(&words, 70, &other, 9));
-}
-
-#[test]
-fn fixedbitset_lent_whole_200() {
-    use crate::proved::bitlanes::ops::*;
-    use crate::proved::bitlanes::{word, Block, Steps};
-    use crate::proved::bitwords::cursors::*;
-    use crate::proved::fixedbitset::*;
-    use crate::shim::u64x4;
-    use core::cmp::Ordering;
-    use core::mem::{size_of, size_of_val};
-
-    let (mut words, mut other) = ([9, 0, 0, 0], [11, 0, 0, 0]);
-    lent::settle(&mut words, 70, 70);
-    lent::settle(&mut other, 9, 9);
-    assert_eq!(lent::compare(&words, 70, &other, 9), Ordering::Greater);
-}
-
-#[test]
-fn fixedbitset_lent_51() {
-    use crate::proved::bitlanes::ops::*;
-    use crate::proved::bitlanes::{word, Block, Steps};
-    use crate::proved::bitwords::cursors::*;
-    use crate::proved::fixedbitset::*;
-    use crate::shim::u64x4;
-    use core::cmp::Ordering;
-    use core::mem::{size_of, size_of_val};
-
-    let mut words = [8, Block::MAX, 1, 0];
-    lent::settle(&mut words, 70, 66);
-    assert_eq!(words, [8, 3, 0, 0]);
-}
-
-#[test]
-fn fixedbitset_lent_66() {
-    use crate::proved::bitlanes::ops::*;
-    use crate::proved::bitlanes::{word, Block, Steps};
-    use crate::proved::bitwords::cursors::*;
-    use crate::proved::fixedbitset::*;
-    use crate::shim::u64x4;
-    use core::cmp::Ordering;
-    use core::mem::{size_of, size_of_val};
-
-    assert!(lent::is_clean(&[8, 63, 0, 0], 70));
-    assert!(!lent::is_clean(&[8, 64, 0, 0], 70));
-    assert!(!lent::is_clean(&[8, 63], 70));
-}
-
-#[test]
-fn fixedbitset_lent_91() {
+fn fixedbitset_views_positions_45() {
     use crate::proved::bitlanes::ops::*;
     use crate::proved::bitlanes::{word, Block, Steps};
     use crate::proved::bitwords::cursors::*;
@@ -2193,13 +1619,13 @@ fn fixedbitset_lent_91() {
     use core::mem::{size_of, size_of_val};
 
     let mut words = [8, 1, 0, 0];
-    lent::settle(&mut words, 70, 70);
-    assert!(lent::contains(&words, 70, 64));
-    assert!(!lent::contains(&words, 70, 500));
+    let set = BitsMut::settle(&mut words, 70, 70);
+    assert!(set.as_bits().contains(64));
+    assert!(!set.as_bits().contains(500));
 }
 
 #[test]
-fn fixedbitset_lent_104() {
+fn fixedbitset_views_positions_58() {
     use crate::proved::bitlanes::ops::*;
     use crate::proved::bitlanes::{word, Block, Steps};
     use crate::proved::bitwords::cursors::*;
@@ -2208,110 +1634,13 @@ fn fixedbitset_lent_104() {
     use core::cmp::Ordering;
     use core::mem::{size_of, size_of_val};
 
-    let mut words = [8, 0, 0, 0];
-    lent::settle(&mut words, 70, 70);
-    lent::insert(&mut words, 70, 64);
-    assert_eq!(words, [8, 1, 0, 0]);
+    let mut words = [8, 1, 0, 0];
+    let set = BitsMut::settle(&mut words, 70, 70);
+    assert!(set.as_bits().contains_unchecked(64));
 }
 
 #[test]
-fn fixedbitset_lent_117() {
-    use crate::proved::bitlanes::ops::*;
-    use crate::proved::bitlanes::{word, Block, Steps};
-    use crate::proved::bitwords::cursors::*;
-    use crate::proved::fixedbitset::*;
-    use crate::shim::u64x4;
-    use core::cmp::Ordering;
-    use core::mem::{size_of, size_of_val};
-
-    let mut words = [9, 1, 0, 0];
-    lent::settle(&mut words, 70, 70);
-    lent::remove(&mut words, 70, 64);
-    assert_eq!(words, [9, 0, 0, 0]);
-}
-
-#[test]
-fn fixedbitset_lent_130() {
-    use crate::proved::bitlanes::ops::*;
-    use crate::proved::bitlanes::{word, Block, Steps};
-    use crate::proved::bitwords::cursors::*;
-    use crate::proved::fixedbitset::*;
-    use crate::shim::u64x4;
-    use core::cmp::Ordering;
-    use core::mem::{size_of, size_of_val};
-
-    let mut words = [9, 0, 0, 0];
-    lent::settle(&mut words, 70, 70);
-    lent::toggle(&mut words, 70, 0);
-    assert_eq!(words, [8, 0, 0, 0]);
-}
-
-#[test]
-fn fixedbitset_lent_143() {
-    use crate::proved::bitlanes::ops::*;
-    use crate::proved::bitlanes::{word, Block, Steps};
-    use crate::proved::bitwords::cursors::*;
-    use crate::proved::fixedbitset::*;
-    use crate::shim::u64x4;
-    use core::cmp::Ordering;
-    use core::mem::{size_of, size_of_val};
-
-    let mut words = [8, 0, 0, 0];
-    lent::settle(&mut words, 70, 70);
-    assert!(!lent::put(&mut words, 70, 0));
-    assert_eq!(words, [9, 0, 0, 0]);
-}
-
-#[test]
-fn fixedbitset_lent_158() {
-    use crate::proved::bitlanes::ops::*;
-    use crate::proved::bitlanes::{word, Block, Steps};
-    use crate::proved::bitwords::cursors::*;
-    use crate::proved::fixedbitset::*;
-    use crate::shim::u64x4;
-    use core::cmp::Ordering;
-    use core::mem::{size_of, size_of_val};
-
-    let mut words = [9, 0, 0, 0];
-    lent::settle(&mut words, 70, 70);
-    lent::set(&mut words, 70, 0, false);
-    assert_eq!(words, [8, 0, 0, 0]);
-}
-
-#[test]
-fn fixedbitset_lent_175() {
-    use crate::proved::bitlanes::ops::*;
-    use crate::proved::bitlanes::{word, Block, Steps};
-    use crate::proved::bitwords::cursors::*;
-    use crate::proved::fixedbitset::*;
-    use crate::shim::u64x4;
-    use core::cmp::Ordering;
-    use core::mem::{size_of, size_of_val};
-
-    let mut words = [9, 0, 0, 0];
-    lent::settle(&mut words, 70, 70);
-    lent::set_block(&mut words, 70, 1, Block::MAX);
-    assert_eq!(words, [9, 63, 0, 0]);
-}
-
-#[test]
-fn fixedbitset_lent_189() {
-    use crate::proved::bitlanes::ops::*;
-    use crate::proved::bitlanes::{word, Block, Steps};
-    use crate::proved::bitwords::cursors::*;
-    use crate::proved::fixedbitset::*;
-    use crate::shim::u64x4;
-    use core::cmp::Ordering;
-    use core::mem::{size_of, size_of_val};
-
-    let mut words = [9, 1, 0, 0];
-    lent::settle(&mut words, 70, 70);
-    lent::clear(&mut words, 70);
-    assert_eq!(words, [0, 0, 0, 0]);
-}
-
-#[test]
-fn fixedbitset_lent_202() {
+fn fixedbitset_views_positions_72() {
     use crate::proved::bitlanes::ops::*;
     use crate::proved::bitlanes::{word, Block, Steps};
     use crate::proved::bitwords::cursors::*;
@@ -2321,12 +1650,12 @@ fn fixedbitset_lent_202() {
     use core::mem::{size_of, size_of_val};
 
     let mut words = [0, 64, 0, 0];
-    lent::settle(&mut words, 70, 70);
-    assert!(lent::is_clear(&words, 70));
+    let set = BitsMut::settle(&mut words, 70, 70);
+    assert!(set.as_bits().is_clear(&mut Steps::new()));
 }
 
 #[test]
-fn fixedbitset_lent_214() {
+fn fixedbitset_views_positions_86() {
     use crate::proved::bitlanes::ops::*;
     use crate::proved::bitlanes::{word, Block, Steps};
     use crate::proved::bitwords::cursors::*;
@@ -2336,12 +1665,12 @@ fn fixedbitset_lent_214() {
     use core::mem::{size_of, size_of_val};
 
     let mut words = [0, 6, 0, 0];
-    lent::settle(&mut words, 70, 70);
-    assert_eq!(lent::minimum(&words, 70), Some(65));
+    let set = BitsMut::settle(&mut words, 70, 70);
+    assert_eq!(set.as_bits().minimum(&mut Steps::new()), Some(65));
 }
 
 #[test]
-fn fixedbitset_lent_226() {
+fn fixedbitset_views_positions_100() {
     use crate::proved::bitlanes::ops::*;
     use crate::proved::bitlanes::{word, Block, Steps};
     use crate::proved::bitwords::cursors::*;
@@ -2351,6 +1680,738 @@ fn fixedbitset_lent_226() {
     use core::mem::{size_of, size_of_val};
 
     let mut words = [9, Block::MAX, 0, 0];
-    lent::settle(&mut words, 70, 70);
-    assert_eq!(lent::maximum(&words, 70), Some(69));
+    let set = BitsMut::settle(&mut words, 70, 70);
+    assert_eq!(set.as_bits().maximum(&mut Steps::new()), Some(69));
+}
+
+#[test]
+fn fixedbitset_views_positions_118() {
+    use crate::proved::bitlanes::ops::*;
+    use crate::proved::bitlanes::{word, Block, Steps};
+    use crate::proved::bitwords::cursors::*;
+    use crate::proved::fixedbitset::*;
+    use crate::shim::u64x4;
+    use core::cmp::Ordering;
+    use core::mem::{size_of, size_of_val};
+
+    let mut words = [8, Block::MAX, 1, 0];
+    BitsMut::settle(&mut words, 70, 66);
+    assert_eq!(words, [8, 3, 0, 0]);
+}
+
+#[test]
+fn fixedbitset_views_positions_131() {
+    use crate::proved::bitlanes::ops::*;
+    use crate::proved::bitlanes::{word, Block, Steps};
+    use crate::proved::bitwords::cursors::*;
+    use crate::proved::fixedbitset::*;
+    use crate::shim::u64x4;
+    use core::cmp::Ordering;
+    use core::mem::{size_of, size_of_val};
+
+    let mut words = [8, 1, 0, 0];
+    let set = BitsMut::settle(&mut words, 70, 70);
+    assert!(set.as_bits().contains(3));
+}
+
+#[test]
+fn fixedbitset_views_positions_146() {
+    use crate::proved::bitlanes::ops::*;
+    use crate::proved::bitlanes::{word, Block, Steps};
+    use crate::proved::bitwords::cursors::*;
+    use crate::proved::fixedbitset::*;
+    use crate::shim::u64x4;
+    use core::cmp::Ordering;
+    use core::mem::{size_of, size_of_val};
+
+    let mut words = [8, 0, 0, 0];
+    let mut set = BitsMut::settle(&mut words, 70, 70);
+    set.insert(64);
+    assert_eq!(words, [8, 1, 0, 0]);
+}
+
+#[test]
+fn fixedbitset_views_positions_159() {
+    use crate::proved::bitlanes::ops::*;
+    use crate::proved::bitlanes::{word, Block, Steps};
+    use crate::proved::bitwords::cursors::*;
+    use crate::proved::fixedbitset::*;
+    use crate::shim::u64x4;
+    use core::cmp::Ordering;
+    use core::mem::{size_of, size_of_val};
+
+    let mut words = [9, 1, 0, 0];
+    let mut set = BitsMut::settle(&mut words, 70, 70);
+    set.remove(64);
+    assert_eq!(words, [9, 0, 0, 0]);
+}
+
+#[test]
+fn fixedbitset_views_positions_172() {
+    use crate::proved::bitlanes::ops::*;
+    use crate::proved::bitlanes::{word, Block, Steps};
+    use crate::proved::bitwords::cursors::*;
+    use crate::proved::fixedbitset::*;
+    use crate::shim::u64x4;
+    use core::cmp::Ordering;
+    use core::mem::{size_of, size_of_val};
+
+    let mut words = [9, 0, 0, 0];
+    let mut set = BitsMut::settle(&mut words, 70, 70);
+    set.toggle(0);
+    assert_eq!(words, [8, 0, 0, 0]);
+}
+
+#[test]
+fn fixedbitset_views_positions_185() {
+    use crate::proved::bitlanes::ops::*;
+    use crate::proved::bitlanes::{word, Block, Steps};
+    use crate::proved::bitwords::cursors::*;
+    use crate::proved::fixedbitset::*;
+    use crate::shim::u64x4;
+    use core::cmp::Ordering;
+    use core::mem::{size_of, size_of_val};
+
+    let mut words = [8, 0, 0, 0];
+    let mut set = BitsMut::settle(&mut words, 70, 70);
+    assert!(!set.put(0));
+    assert_eq!(words, [9, 0, 0, 0]);
+}
+
+#[test]
+fn fixedbitset_views_positions_200() {
+    use crate::proved::bitlanes::ops::*;
+    use crate::proved::bitlanes::{word, Block, Steps};
+    use crate::proved::bitwords::cursors::*;
+    use crate::proved::fixedbitset::*;
+    use crate::shim::u64x4;
+    use core::cmp::Ordering;
+    use core::mem::{size_of, size_of_val};
+
+    let mut words = [9, 0, 0, 0];
+    let mut set = BitsMut::settle(&mut words, 70, 70);
+    set.set(0, false);
+    assert_eq!(words, [8, 0, 0, 0]);
+}
+
+#[test]
+fn fixedbitset_views_positions_217() {
+    use crate::proved::bitlanes::ops::*;
+    use crate::proved::bitlanes::{word, Block, Steps};
+    use crate::proved::bitwords::cursors::*;
+    use crate::proved::fixedbitset::*;
+    use crate::shim::u64x4;
+    use core::cmp::Ordering;
+    use core::mem::{size_of, size_of_val};
+
+    let mut words = [9, 0, 0, 0];
+    let mut set = BitsMut::settle(&mut words, 70, 70);
+    set.set_block(1, Block::MAX);
+    assert_eq!(words, [9, 63, 0, 0]);
+}
+
+#[test]
+fn fixedbitset_views_positions_231() {
+    use crate::proved::bitlanes::ops::*;
+    use crate::proved::bitlanes::{word, Block, Steps};
+    use crate::proved::bitwords::cursors::*;
+    use crate::proved::fixedbitset::*;
+    use crate::shim::u64x4;
+    use core::cmp::Ordering;
+    use core::mem::{size_of, size_of_val};
+
+    let mut words = [9, 1, 0, 0];
+    let mut set = BitsMut::settle(&mut words, 70, 70);
+    set.clear(&mut Steps::new());
+    assert_eq!(words, [0, 0, 0, 0]);
+}
+
+#[test]
+fn fixedbitset_views_positions_246() {
+    use crate::proved::bitlanes::ops::*;
+    use crate::proved::bitlanes::{word, Block, Steps};
+    use crate::proved::bitwords::cursors::*;
+    use crate::proved::fixedbitset::*;
+    use crate::shim::u64x4;
+    use core::cmp::Ordering;
+    use core::mem::{size_of, size_of_val};
+
+    assert_eq!(views::storage_words(70), 4);
+    assert_eq!(views::storage_words(257), 8);
+}
+
+#[test]
+fn fixedbitset_views_ranges_16() {
+    use crate::proved::bitlanes::ops::*;
+    use crate::proved::bitlanes::{word, Block, Steps};
+    use crate::proved::bitwords::cursors::*;
+    use crate::proved::fixedbitset::*;
+    use crate::shim::u64x4;
+    use core::cmp::Ordering;
+    use core::mem::{size_of, size_of_val};
+
+    let mut words = [9, 0, 0, 0];
+    let mut set = BitsMut::settle(&mut words, 70, 70);
+    set.insert_range(62, 66, &mut Steps::new());
+    assert_eq!(words, [9 | 3 << 62, 3, 0, 0]);
+}
+
+#[test]
+fn fixedbitset_views_ranges_29() {
+    use crate::proved::bitlanes::ops::*;
+    use crate::proved::bitlanes::{word, Block, Steps};
+    use crate::proved::bitwords::cursors::*;
+    use crate::proved::fixedbitset::*;
+    use crate::shim::u64x4;
+    use core::cmp::Ordering;
+    use core::mem::{size_of, size_of_val};
+
+    let mut words = [9, 1, 0, 0];
+    let mut set = BitsMut::settle(&mut words, 70, 70);
+    set.remove_range(1, 70, &mut Steps::new());
+    assert_eq!(words, [1, 0, 0, 0]);
+}
+
+#[test]
+fn fixedbitset_views_ranges_42() {
+    use crate::proved::bitlanes::ops::*;
+    use crate::proved::bitlanes::{word, Block, Steps};
+    use crate::proved::bitwords::cursors::*;
+    use crate::proved::fixedbitset::*;
+    use crate::shim::u64x4;
+    use core::cmp::Ordering;
+    use core::mem::{size_of, size_of_val};
+
+    let mut words = [9, 0, 0, 0];
+    let mut set = BitsMut::settle(&mut words, 70, 70);
+    set.toggle_range(0, 3, &mut Steps::new());
+    assert_eq!(words, [14, 0, 0, 0]);
+}
+
+#[test]
+fn fixedbitset_views_ranges_63() {
+    use crate::proved::bitlanes::ops::*;
+    use crate::proved::bitlanes::{word, Block, Steps};
+    use crate::proved::bitwords::cursors::*;
+    use crate::proved::fixedbitset::*;
+    use crate::shim::u64x4;
+    use core::cmp::Ordering;
+    use core::mem::{size_of, size_of_val};
+
+    let mut words = [9, 0, 0, 0];
+    let set = BitsMut::settle(&mut words, 70, 70);
+    assert!(set.as_bits().range_is_valid(60, 70));
+    assert!(!set.as_bits().range_is_valid(60, 71));
+}
+
+#[test]
+fn fixedbitset_views_ranges_76() {
+    use crate::proved::bitlanes::ops::*;
+    use crate::proved::bitlanes::{word, Block, Steps};
+    use crate::proved::bitwords::cursors::*;
+    use crate::proved::fixedbitset::*;
+    use crate::shim::u64x4;
+    use core::cmp::Ordering;
+    use core::mem::{size_of, size_of_val};
+
+    let mut words = [9, 3, 0, 0];
+    let set = BitsMut::settle(&mut words, 70, 70);
+    assert_eq!(set.as_bits().count_ones(1, 65, &mut Steps::new()), 2);
+}
+
+#[test]
+fn fixedbitset_views_ranges_88() {
+    use crate::proved::bitlanes::ops::*;
+    use crate::proved::bitlanes::{word, Block, Steps};
+    use crate::proved::bitwords::cursors::*;
+    use crate::proved::fixedbitset::*;
+    use crate::shim::u64x4;
+    use core::cmp::Ordering;
+    use core::mem::{size_of, size_of_val};
+
+    let mut words = [9, 3, 0, 0];
+    let set = BitsMut::settle(&mut words, 70, 70);
+    assert_eq!(set.as_bits().count_zeroes(1, 65, &mut Steps::new()), 62);
+}
+
+#[test]
+fn fixedbitset_views_ranges_100() {
+    use crate::proved::bitlanes::ops::*;
+    use crate::proved::bitlanes::{word, Block, Steps};
+    use crate::proved::bitwords::cursors::*;
+    use crate::proved::fixedbitset::*;
+    use crate::shim::u64x4;
+    use core::cmp::Ordering;
+    use core::mem::{size_of, size_of_val};
+
+    let mut words = [9, 3, 0, 0];
+    let set = BitsMut::settle(&mut words, 70, 70);
+    assert!(set.as_bits().contains_all_in_range(64, 66, &mut Steps::new()));
+}
+
+#[test]
+fn fixedbitset_views_ranges_112() {
+    use crate::proved::bitlanes::ops::*;
+    use crate::proved::bitlanes::{word, Block, Steps};
+    use crate::proved::bitwords::cursors::*;
+    use crate::proved::fixedbitset::*;
+    use crate::shim::u64x4;
+    use core::cmp::Ordering;
+    use core::mem::{size_of, size_of_val};
+
+    let mut words = [Block::MAX, 63, 0, 0];
+    let set = BitsMut::settle(&mut words, 70, 70);
+    assert!(set.as_bits().is_full(&mut Steps::new()));
+}
+
+#[test]
+fn fixedbitset_views_ranges_124() {
+    use crate::proved::bitlanes::ops::*;
+    use crate::proved::bitlanes::{word, Block, Steps};
+    use crate::proved::bitwords::cursors::*;
+    use crate::proved::fixedbitset::*;
+    use crate::shim::u64x4;
+    use core::cmp::Ordering;
+    use core::mem::{size_of, size_of_val};
+
+    let mut words = [9, 3, 0, 0];
+    let set = BitsMut::settle(&mut words, 70, 70);
+    assert!(!set.as_bits().contains_any_in_range(4, 64, &mut Steps::new()));
+}
+
+#[test]
+fn fixedbitset_views_shifts_17() {
+    use crate::proved::bitlanes::ops::*;
+    use crate::proved::bitlanes::{word, Block, Steps};
+    use crate::proved::bitwords::cursors::*;
+    use crate::proved::fixedbitset::*;
+    use crate::shim::u64x4;
+    use core::cmp::Ordering;
+    use core::mem::{size_of, size_of_val};
+
+    let mut words = [9, 0, 0, 0];
+    let mut set = BitsMut::settle(&mut words, 70, 70);
+    set.shift_up(64, &mut Steps::new());
+    set.shift_up(3, &mut Steps::new());
+    assert_eq!(words, [0, 8, 0, 0]);
+}
+
+#[test]
+fn fixedbitset_views_shifts_33() {
+    use crate::proved::bitlanes::ops::*;
+    use crate::proved::bitlanes::{word, Block, Steps};
+    use crate::proved::bitwords::cursors::*;
+    use crate::proved::fixedbitset::*;
+    use crate::shim::u64x4;
+    use core::cmp::Ordering;
+    use core::mem::{size_of, size_of_val};
+
+    let mut words = [9, 8, 0, 0];
+    let mut set = BitsMut::settle(&mut words, 70, 70);
+    set.shift_down(3, &mut Steps::new());
+    assert_eq!(words, [1, 1, 0, 0]);
+}
+
+#[test]
+fn fixedbitset_views_shifts_48() {
+    use crate::proved::bitlanes::ops::*;
+    use crate::proved::bitlanes::{word, Block, Steps};
+    use crate::proved::bitwords::cursors::*;
+    use crate::proved::fixedbitset::*;
+    use crate::shim::u64x4;
+    use core::cmp::Ordering;
+    use core::mem::{size_of, size_of_val};
+
+    let (mut words, mut other) = ([9, 0, 0, 0], [7, 0, 0, 0]);
+    let mut set = BitsMut::settle(&mut words, 70, 70);
+    let other = BitsMut::settle(&mut other, 9, 9);
+    set.union_with_shifted(other.as_bits(), 68, &mut Steps::new());
+    assert_eq!(words, [9, 48, 0, 0]);
+}
+
+#[test]
+fn fixedbitset_views_shifts_66() {
+    use crate::proved::bitlanes::ops::*;
+    use crate::proved::bitlanes::{word, Block, Steps};
+    use crate::proved::bitwords::cursors::*;
+    use crate::proved::fixedbitset::*;
+    use crate::shim::u64x4;
+    use core::cmp::Ordering;
+    use core::mem::{size_of, size_of_val};
+
+    let mut words = [1, 0, 0, 0];
+    let mut set = BitsMut::settle(&mut words, 70, 70);
+    set.union_with_own_shift(3, &mut Steps::new());
+    set.union_with_own_shift(65, &mut Steps::new());
+    assert_eq!(words, [9, 18, 0, 0]);
+}
+
+#[test]
+fn fixedbitset_views_shifts_87() {
+    use crate::proved::bitlanes::ops::*;
+    use crate::proved::bitlanes::{word, Block, Steps};
+    use crate::proved::bitwords::cursors::*;
+    use crate::proved::fixedbitset::*;
+    use crate::shim::u64x4;
+    use core::cmp::Ordering;
+    use core::mem::{size_of, size_of_val};
+
+    let (mut words, mut other) = ([5, 34, 0, 0], [2 | 1 << 63, 2, 0, 0]);
+    let mut set = BitsMut::settle(&mut words, 70, 70);
+    let other = BitsMut::settle(&mut other, 66, 66);
+    set.copy_range(other.as_bits(), 62, 66, 1, &mut Steps::new());
+    assert_eq!(words, [21, 34, 0, 0]);
+}
+
+#[test]
+fn fixedbitset_views_shifts_123() {
+    use crate::proved::bitlanes::ops::*;
+    use crate::proved::bitlanes::{word, Block, Steps};
+    use crate::proved::bitwords::cursors::*;
+    use crate::proved::fixedbitset::*;
+    use crate::shim::u64x4;
+    use core::cmp::Ordering;
+    use core::mem::{size_of, size_of_val};
+
+    let (mut words, mut to) = ([9, 8, 0, 0], [0; 4]);
+    let set = BitsMut::settle(&mut words, 70, 70);
+    set.as_bits().slice_to(3, 68, &mut to, &mut Steps::new());
+    assert_eq!(to, [1, 1, 0, 0]);
+}
+
+#[test]
+fn fixedbitset_views_walks_15() {
+    use crate::proved::bitlanes::ops::*;
+    use crate::proved::bitlanes::{word, Block, Steps};
+    use crate::proved::bitwords::cursors::*;
+    use crate::proved::fixedbitset::*;
+    use crate::shim::u64x4;
+    use core::cmp::Ordering;
+    use core::mem::{size_of, size_of_val};
+
+    let mut words = [9, 2, 0, 0];
+    let set = BitsMut::settle(&mut words, 70, 70);
+    assert!(set.as_bits().ones().eq([0, 3, 65]));
+}
+
+#[test]
+fn fixedbitset_views_walks_28() {
+    use crate::proved::bitlanes::ops::*;
+    use crate::proved::bitlanes::{word, Block, Steps};
+    use crate::proved::bitwords::cursors::*;
+    use crate::proved::fixedbitset::*;
+    use crate::shim::u64x4;
+    use core::cmp::Ordering;
+    use core::mem::{size_of, size_of_val};
+
+    let (mut words, mut other) = ([9, 2, 0, 0], [1, 2, 0, 0]);
+    let set = BitsMut::settle(&mut words, 70, 70);
+    let other = BitsMut::settle(&mut other, 66, 66);
+    assert!(set.as_bits().intersection(other.as_bits()).eq([0, 65]));
+}
+
+#[test]
+fn fixedbitset_views_walks_44() {
+    use crate::proved::bitlanes::ops::*;
+    use crate::proved::bitlanes::{word, Block, Steps};
+    use crate::proved::bitwords::cursors::*;
+    use crate::proved::fixedbitset::*;
+    use crate::shim::u64x4;
+    use core::cmp::Ordering;
+    use core::mem::{size_of, size_of_val};
+
+    let (mut words, mut other) = ([9, 2, 0, 0], [1, 2, 0, 0]);
+    let set = BitsMut::settle(&mut words, 70, 70);
+    let other = BitsMut::settle(&mut other, 66, 66);
+    assert!(set.as_bits().difference(other.as_bits()).eq([3]));
+}
+
+#[test]
+fn fixedbitset_views_walks_59() {
+    use crate::proved::bitlanes::ops::*;
+    use crate::proved::bitlanes::{word, Block, Steps};
+    use crate::proved::bitwords::cursors::*;
+    use crate::proved::fixedbitset::*;
+    use crate::shim::u64x4;
+    use core::cmp::Ordering;
+    use core::mem::{size_of, size_of_val};
+
+    let mut words = [Block::MAX - 8, 60, 0, 0];
+    let set = BitsMut::settle(&mut words, 70, 70);
+    assert!(set.as_bits().zeroes().eq([3, 64, 65]));
+}
+
+#[test]
+fn fixedbitset_views_walks_71() {
+    use crate::proved::bitlanes::ops::*;
+    use crate::proved::bitlanes::{word, Block, Steps};
+    use crate::proved::bitwords::cursors::*;
+    use crate::proved::fixedbitset::*;
+    use crate::shim::u64x4;
+    use core::cmp::Ordering;
+    use core::mem::{size_of, size_of_val};
+
+    let mut words = [Block::MAX, 1, 0, 0];
+    let set = BitsMut::settle(&mut words, 70, 70);
+    assert!(set.as_bits().runs().eq([(0, 65)]));
+}
+
+#[test]
+fn fixedbitset_views_walks_83() {
+    use crate::proved::bitlanes::ops::*;
+    use crate::proved::bitlanes::{word, Block, Steps};
+    use crate::proved::bitwords::cursors::*;
+    use crate::proved::fixedbitset::*;
+    use crate::shim::u64x4;
+    use core::cmp::Ordering;
+    use core::mem::{size_of, size_of_val};
+
+    let mut words = [Block::MAX, 1, 0, 0];
+    let set = BitsMut::settle(&mut words, 70, 70);
+    assert!(set.as_bits().zero_runs().eq([(65, 70)]));
+}
+
+#[test]
+fn fixedbitset_views_walks_95() {
+    use crate::proved::bitlanes::ops::*;
+    use crate::proved::bitlanes::{word, Block, Steps};
+    use crate::proved::bitwords::cursors::*;
+    use crate::proved::fixedbitset::*;
+    use crate::shim::u64x4;
+    use core::cmp::Ordering;
+    use core::mem::{size_of, size_of_val};
+
+    let mut words = [9, 2, 0, 0];
+    let set = BitsMut::settle(&mut words, 70, 70);
+    assert!(set.as_bits().ones_in(1, 66).eq([3, 65]));
+}
+
+#[test]
+fn fixedbitset_views_walks_107() {
+    use crate::proved::bitlanes::ops::*;
+    use crate::proved::bitlanes::{word, Block, Steps};
+    use crate::proved::bitwords::cursors::*;
+    use crate::proved::fixedbitset::*;
+    use crate::shim::u64x4;
+    use core::cmp::Ordering;
+    use core::mem::{size_of, size_of_val};
+
+    let mut words = [Block::MAX - 8, 60, 0, 0];
+    let set = BitsMut::settle(&mut words, 70, 70);
+    assert!(set.as_bits().zeroes_in(4, 65).eq([64]));
+}
+
+#[test]
+fn fixedbitset_views_whole_19() {
+    use crate::proved::bitlanes::ops::*;
+    use crate::proved::bitlanes::{word, Block, Steps};
+    use crate::proved::bitwords::cursors::*;
+    use crate::proved::fixedbitset::*;
+    use crate::shim::u64x4;
+    use core::cmp::Ordering;
+    use core::mem::{size_of, size_of_val};
+
+    let (mut words, mut other) = ([9, 0, 0, 0], [3, 0, 0, 0]);
+    let mut set = BitsMut::settle(&mut words, 70, 70);
+    let other = BitsMut::settle(&mut other, 9, 9);
+    set.union_with(other.as_bits(), &mut Steps::new());
+    assert_eq!(words, [11, 0, 0, 0]);
+}
+
+#[test]
+fn fixedbitset_views_whole_33() {
+    use crate::proved::bitlanes::ops::*;
+    use crate::proved::bitlanes::{word, Block, Steps};
+    use crate::proved::bitwords::cursors::*;
+    use crate::proved::fixedbitset::*;
+    use crate::shim::u64x4;
+    use core::cmp::Ordering;
+    use core::mem::{size_of, size_of_val};
+
+    let (mut words, mut other) = ([9, 0, 0, 0], [3, 0, 0, 0]);
+    let mut set = BitsMut::settle(&mut words, 70, 70);
+    let other = BitsMut::settle(&mut other, 9, 9);
+    set.symmetric_difference_with(other.as_bits(), &mut Steps::new());
+    assert_eq!(words, [10, 0, 0, 0]);
+}
+
+#[test]
+fn fixedbitset_views_whole_47() {
+    use crate::proved::bitlanes::ops::*;
+    use crate::proved::bitlanes::{word, Block, Steps};
+    use crate::proved::bitwords::cursors::*;
+    use crate::proved::fixedbitset::*;
+    use crate::shim::u64x4;
+    use core::cmp::Ordering;
+    use core::mem::{size_of, size_of_val};
+
+    let (mut words, mut other) = ([9, 1, 0, 0], [3, 0, 0, 0]);
+    let mut set = BitsMut::settle(&mut words, 70, 70);
+    let other = BitsMut::settle(&mut other, 9, 9);
+    set.intersect_with(other.as_bits(), &mut Steps::new());
+    assert_eq!(words, [1, 0, 0, 0]);
+}
+
+#[test]
+fn fixedbitset_views_whole_61() {
+    use crate::proved::bitlanes::ops::*;
+    use crate::proved::bitlanes::{word, Block, Steps};
+    use crate::proved::bitwords::cursors::*;
+    use crate::proved::fixedbitset::*;
+    use crate::shim::u64x4;
+    use core::cmp::Ordering;
+    use core::mem::{size_of, size_of_val};
+
+    let (mut words, mut other) = ([9, 1, 0, 0], [3, 0, 0, 0]);
+    let mut set = BitsMut::settle(&mut words, 70, 70);
+    let other = BitsMut::settle(&mut other, 9, 9);
+    set.difference_with(other.as_bits(), &mut Steps::new());
+    assert_eq!(words, [8, 1, 0, 0]);
+}
+
+#[test]
+fn fixedbitset_views_whole_83() {
+    use crate::proved::bitlanes::ops::*;
+    use crate::proved::bitlanes::{word, Block, Steps};
+    use crate::proved::bitwords::cursors::*;
+    use crate::proved::fixedbitset::*;
+    use crate::shim::u64x4;
+    use core::cmp::Ordering;
+    use core::mem::{size_of, size_of_val};
+
+    let (mut words, mut other) = ([9, 1, 0, 0], [3, 0, 0, 0]);
+    let set = BitsMut::settle(&mut words, 70, 70);
+    let other = BitsMut::settle(&mut other, 9, 9);
+    assert_eq!(set.as_bits().union_count(other.as_bits(), &mut Steps::new()), 4);
+}
+
+#[test]
+fn fixedbitset_views_whole_96() {
+    use crate::proved::bitlanes::ops::*;
+    use crate::proved::bitlanes::{word, Block, Steps};
+    use crate::proved::bitwords::cursors::*;
+    use crate::proved::fixedbitset::*;
+    use crate::shim::u64x4;
+    use core::cmp::Ordering;
+    use core::mem::{size_of, size_of_val};
+
+    let (mut words, mut other) = ([9, 1, 0, 0], [3, 0, 0, 0]);
+    let set = BitsMut::settle(&mut words, 70, 70);
+    let other = BitsMut::settle(&mut other, 9, 9);
+    assert_eq!(set.as_bits().intersection_count(other.as_bits(), &mut Steps::new()), 1);
+}
+
+#[test]
+fn fixedbitset_views_whole_109() {
+    use crate::proved::bitlanes::ops::*;
+    use crate::proved::bitlanes::{word, Block, Steps};
+    use crate::proved::bitwords::cursors::*;
+    use crate::proved::fixedbitset::*;
+    use crate::shim::u64x4;
+    use core::cmp::Ordering;
+    use core::mem::{size_of, size_of_val};
+
+    let (mut words, mut other) = ([9, 1, 0, 0], [3, 0, 0, 0]);
+    let set = BitsMut::settle(&mut words, 70, 70);
+    let other = BitsMut::settle(&mut other, 9, 9);
+    assert_eq!(set.as_bits().difference_count(other.as_bits(), &mut Steps::new()), 2);
+}
+
+#[test]
+fn fixedbitset_views_whole_122() {
+    use crate::proved::bitlanes::ops::*;
+    use crate::proved::bitlanes::{word, Block, Steps};
+    use crate::proved::bitwords::cursors::*;
+    use crate::proved::fixedbitset::*;
+    use crate::shim::u64x4;
+    use core::cmp::Ordering;
+    use core::mem::{size_of, size_of_val};
+
+    let (mut words, mut other) = ([9, 1, 0, 0], [3, 0, 0, 0]);
+    let set = BitsMut::settle(&mut words, 70, 70);
+    let other = BitsMut::settle(&mut other, 9, 9);
+    let count = set.as_bits().symmetric_difference_count(other.as_bits(), &mut Steps::new());
+    assert_eq!(count, 3);
+}
+
+#[test]
+fn fixedbitset_views_whole_136() {
+    use crate::proved::bitlanes::ops::*;
+    use crate::proved::bitlanes::{word, Block, Steps};
+    use crate::proved::bitwords::cursors::*;
+    use crate::proved::fixedbitset::*;
+    use crate::shim::u64x4;
+    use core::cmp::Ordering;
+    use core::mem::{size_of, size_of_val};
+
+    let (mut words, mut other) = ([9, 1, 0, 0], [6, 0, 0, 0]);
+    let set = BitsMut::settle(&mut words, 70, 70);
+    let other = BitsMut::settle(&mut other, 9, 9);
+    assert!(set.as_bits().is_disjoint(other.as_bits(), &mut Steps::new()));
+}
+
+#[test]
+fn fixedbitset_views_whole_149() {
+    use crate::proved::bitlanes::ops::*;
+    use crate::proved::bitlanes::{word, Block, Steps};
+    use crate::proved::bitwords::cursors::*;
+    use crate::proved::fixedbitset::*;
+    use crate::shim::u64x4;
+    use core::cmp::Ordering;
+    use core::mem::{size_of, size_of_val};
+
+    let (mut words, mut other) = ([9, 0, 0, 0], [11, 0, 0, 0]);
+    let set = BitsMut::settle(&mut words, 70, 70);
+    let other = BitsMut::settle(&mut other, 9, 9);
+    assert!(set.as_bits().is_subset(other.as_bits(), &mut Steps::new()));
+}
+
+#[test]
+fn fixedbitset_views_whole_164() {
+    use crate::proved::bitlanes::ops::*;
+    use crate::proved::bitlanes::{word, Block, Steps};
+    use crate::proved::bitwords::cursors::*;
+    use crate::proved::fixedbitset::*;
+    use crate::shim::u64x4;
+    use core::cmp::Ordering;
+    use core::mem::{size_of, size_of_val};
+
+    let (mut words, mut other) = ([9, 0, 0, 0], [11, 1, 0, 0]);
+    let set = BitsMut::settle(&mut words, 9, 9);
+    let other = BitsMut::settle(&mut other, 70, 70);
+    let lacking = set.as_bits().first_lacking(other.as_bits(), &mut Steps::new());
+    assert_eq!(lacking, Some(1));
+}
+
+#[test]
+fn fixedbitset_views_whole_178() {
+    use crate::proved::bitlanes::ops::*;
+    use crate::proved::bitlanes::{word, Block, Steps};
+    use crate::proved::bitwords::cursors::*;
+    use crate::proved::fixedbitset::*;
+    use crate::shim::u64x4;
+    use core::cmp::Ordering;
+    use core::mem::{size_of, size_of_val};
+
+    let (mut words, mut other) = ([9, 0, 0, 0], [9, 0, 0, 0]);
+    let set = BitsMut::settle(&mut words, 70, 70);
+    let other = BitsMut::settle(&mut other, 9, 9);
+    assert!(!set.as_bits().is_equal(other.as_bits(), &mut Steps::new()));
+}
+
+#[test]
+fn fixedbitset_views_whole_194() {
+    use crate::proved::bitlanes::ops::*;
+    use crate::proved::bitlanes::{word, Block, Steps};
+    use crate::proved::bitwords::cursors::*;
+    use crate::proved::fixedbitset::*;
+    use crate::shim::u64x4;
+    use core::cmp::Ordering;
+    use core::mem::{size_of, size_of_val};
+
+    let (mut words, mut other) = ([9, 0, 0, 0], [11, 0, 0, 0]);
+    let set = BitsMut::settle(&mut words, 70, 70);
+    let other = BitsMut::settle(&mut other, 9, 9);
+    let order = set.as_bits().compare(other.as_bits(), &mut Steps::new());
+    assert_eq!(order, Ordering::Greater);
 }

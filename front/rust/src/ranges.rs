@@ -1,5 +1,5 @@
 //! Ranges of positions. A range is valid where its start is not past its end, and its end not past the length.
-use crate::{panics, FixedBitSet, IndexRange};
+use crate::{panics, Bits, FixedBitSet, IndexRange};
 
 impl FixedBitSet {
     /// How many positions of the range are set.
@@ -7,7 +7,7 @@ impl FixedBitSet {
     /// **Panics** where the range is not valid.
     ///
     /// Proved: the answer, for all sets and each valid range
-    /// ([contract](crate::contracts#fixedbitsetlentcount_ones)).
+    /// ([contract](crate::contracts#fixedbitsetbitscount_ones)).
     ///
     /// ```
     /// # use fixedbitset::FixedBitSet;
@@ -17,8 +17,7 @@ impl FixedBitSet {
     #[inline]
     #[track_caller]
     pub fn count_ones<T: IndexRange>(&self, range: T) -> usize {
-        let (start, end) = self.part(&range);
-        self.words.count_ones(start, end)
+        self.as_bits().count_ones(range)
     }
 
     /// How many positions of the range are not set.
@@ -26,7 +25,7 @@ impl FixedBitSet {
     /// **Panics** where the range is not valid.
     ///
     /// Proved: the answer, for all sets and each valid range
-    /// ([contract](crate::contracts#fixedbitsetlentcount_zeroes)).
+    /// ([contract](crate::contracts#fixedbitsetbitscount_zeroes)).
     ///
     /// ```
     /// # use fixedbitset::FixedBitSet;
@@ -36,8 +35,7 @@ impl FixedBitSet {
     #[inline]
     #[track_caller]
     pub fn count_zeroes<T: IndexRange>(&self, range: T) -> usize {
-        let (start, end) = self.part(&range);
-        self.words.count_zeroes(start, end)
+        self.as_bits().count_zeroes(range)
     }
 
     /// Whether each position of the range is set.
@@ -45,7 +43,7 @@ impl FixedBitSet {
     /// **Panics** where the range is not valid.
     ///
     /// Proved: the answer, for all sets and each valid range
-    /// ([contract](crate::contracts#fixedbitsetlentcontains_all_in_range)).
+    /// ([contract](crate::contracts#fixedbitsetbitscontains_all_in_range)).
     ///
     /// ```
     /// # use fixedbitset::FixedBitSet;
@@ -55,8 +53,7 @@ impl FixedBitSet {
     #[inline]
     #[track_caller]
     pub fn contains_all_in_range<T: IndexRange>(&self, range: T) -> bool {
-        let (start, end) = self.part(&range);
-        self.words.contains_all_in_range(start, end)
+        self.as_bits().contains_all_in_range(range)
     }
 
     /// Whether some position of the range is set.
@@ -64,7 +61,7 @@ impl FixedBitSet {
     /// **Panics** where the range is not valid.
     ///
     /// Proved: the answer, for all sets and each valid range
-    /// ([contract](crate::contracts#fixedbitsetlentcontains_any_in_range)).
+    /// ([contract](crate::contracts#fixedbitsetbitscontains_any_in_range)).
     ///
     /// ```
     /// # use fixedbitset::FixedBitSet;
@@ -74,8 +71,7 @@ impl FixedBitSet {
     #[inline]
     #[track_caller]
     pub fn contains_any_in_range<T: IndexRange>(&self, range: T) -> bool {
-        let (start, end) = self.part(&range);
-        self.words.contains_any_in_range(start, end)
+        self.as_bits().contains_any_in_range(range)
     }
 
     /// Sets each position of the range where `enabled` is true, and else clears each.
@@ -83,7 +79,7 @@ impl FixedBitSet {
     /// **Panics** where the range is not valid.
     ///
     /// Proved: what it leaves, for all sets and each valid range
-    /// ([contract](crate::contracts#fixedbitsetlentinsert_range)).
+    /// ([contract](crate::contracts#fixedbitsetbitsmutinsert_range)).
     ///
     /// ```
     /// # use fixedbitset::FixedBitSet;
@@ -94,11 +90,7 @@ impl FixedBitSet {
     #[inline]
     #[track_caller]
     pub fn set_range<T: IndexRange>(&mut self, range: T, enabled: bool) {
-        if enabled {
-            self.insert_range(range);
-        } else {
-            self.remove_range(range);
-        }
+        self.as_bits_mut().set_range(range, enabled);
     }
 
     /// Sets each position of the range.
@@ -106,7 +98,7 @@ impl FixedBitSet {
     /// **Panics** where the range is not valid.
     ///
     /// Proved: what it leaves, for all sets and each valid range
-    /// ([contract](crate::contracts#fixedbitsetlentinsert_range)).
+    /// ([contract](crate::contracts#fixedbitsetbitsmutinsert_range)).
     ///
     /// ```
     /// # use fixedbitset::FixedBitSet;
@@ -117,8 +109,7 @@ impl FixedBitSet {
     #[inline]
     #[track_caller]
     pub fn insert_range<T: IndexRange>(&mut self, range: T) {
-        let (start, end) = self.part(&range);
-        self.words.insert_range(start, end);
+        self.as_bits_mut().insert_range(range);
     }
 
     /// Clears each position of the range.
@@ -126,7 +117,7 @@ impl FixedBitSet {
     /// **Panics** where the range is not valid.
     ///
     /// Proved: what it leaves, for all sets and each valid range
-    /// ([contract](crate::contracts#fixedbitsetlentremove_range)).
+    /// ([contract](crate::contracts#fixedbitsetbitsmutremove_range)).
     ///
     /// ```
     /// # use fixedbitset::FixedBitSet;
@@ -137,8 +128,7 @@ impl FixedBitSet {
     #[inline]
     #[track_caller]
     pub fn remove_range<T: IndexRange>(&mut self, range: T) {
-        let (start, end) = self.part(&range);
-        self.words.remove_range(start, end);
+        self.as_bits_mut().remove_range(range);
     }
 
     /// Turns each position of the range: it is set where it was not, and cleared where it was.
@@ -146,7 +136,7 @@ impl FixedBitSet {
     /// **Panics** where the range is not valid.
     ///
     /// Proved: what it leaves, for all sets and each valid range
-    /// ([contract](crate::contracts#fixedbitsetlenttoggle_range)).
+    /// ([contract](crate::contracts#fixedbitsetbitsmuttoggle_range)).
     ///
     /// ```
     /// # use fixedbitset::FixedBitSet;
@@ -157,12 +147,13 @@ impl FixedBitSet {
     #[inline]
     #[track_caller]
     pub fn toggle_range<T: IndexRange>(&mut self, range: T) {
-        let (start, end) = self.part(&range);
-        self.words.toggle_range(start, end);
+        self.as_bits_mut().toggle_range(range);
     }
+}
 
+impl Bits<'_> {
     #[inline]
-    pub(crate) fn ends<T: IndexRange>(&self, range: &T) -> (usize, usize) {
+    pub(crate) fn ends<T: IndexRange>(self, range: &T) -> (usize, usize) {
         (
             range.start().unwrap_or(0),
             range.end().unwrap_or(self.len()),
@@ -172,9 +163,9 @@ impl FixedBitSet {
     /// The ends of a range, which has to be valid.
     #[inline]
     #[track_caller]
-    pub(crate) fn part<T: IndexRange>(&self, range: &T) -> (usize, usize) {
+    pub(crate) fn part<T: IndexRange>(self, range: &T) -> (usize, usize) {
         let (start, end) = self.ends(range);
-        if !self.words.range_is_valid(start, end) {
+        if !self.view.range_is_valid(start, end) {
             panics::not_valid(start, end, self.len());
         }
         (start, end)

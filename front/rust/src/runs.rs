@@ -9,7 +9,7 @@ impl FixedBitSet {
     /// A stretch costs by its words, and not by its positions.
     ///
     /// Proved: each stretch, for all sets and any mix of calls from both ends
-    /// ([contract](crate::contracts#fixedbitsetlentruns)).
+    /// ([contract](crate::contracts#fixedbitsetbitsruns)).
     ///
     /// ```
     /// # use fixedbitset::FixedBitSet;
@@ -18,15 +18,13 @@ impl FixedBitSet {
     /// ```
     #[inline]
     pub fn runs(&self) -> Runs<'_> {
-        Runs {
-            walk: self.words.runs(),
-        }
+        self.as_bits().runs()
     }
 
     /// The stretches of positions below the length that are not set, as start and end, in ascending order.
     ///
     /// Proved: each stretch, for all sets and any mix of calls from both ends
-    /// ([contract](crate::contracts#fixedbitsetlentzero_runs)).
+    /// ([contract](crate::contracts#fixedbitsetbitszero_runs)).
     ///
     /// ```
     /// # use fixedbitset::FixedBitSet;
@@ -35,15 +33,13 @@ impl FixedBitSet {
     /// ```
     #[inline]
     pub fn zero_runs(&self) -> Runs<'_> {
-        Runs {
-            walk: self.words.zero_runs(),
-        }
+        self.as_bits().zero_runs()
     }
 
     /// The least number at or past `from` with `count` clear positions from there on, all below the length, if there is
     /// one. With a `count` of 0 that is `from`, up to the length.
     ///
-    /// Proved: the answer, for all sets and all numbers ([contract](crate::contracts#fixedbitsetlentfirst_gap)).
+    /// Proved: the answer, for all sets and all numbers ([contract](crate::contracts#fixedbitsetbitsfirst_gap)).
     ///
     /// ```
     /// # use fixedbitset::FixedBitSet;
@@ -52,7 +48,7 @@ impl FixedBitSet {
     /// ```
     #[inline]
     pub fn first_gap(&self, count: usize, from: usize) -> Option<usize> {
-        self.words.first_gap(count, from)
+        self.as_bits().first_gap(count, from)
     }
 
     /// The least multiple of `align` in the range with `count` clear positions from there on, all in the range, if there is
@@ -61,7 +57,7 @@ impl FixedBitSet {
     /// **Panics** where the range is not valid.
     ///
     /// Proved: the answer, for all sets, all numbers and each valid range
-    /// ([contract](crate::contracts#fixedbitsetlentfirst_aligned_gap)).
+    /// ([contract](crate::contracts#fixedbitsetbitsfirst_aligned_gap)).
     ///
     /// ```
     /// # use fixedbitset::FixedBitSet;
@@ -77,15 +73,14 @@ impl FixedBitSet {
         align: usize,
         range: T,
     ) -> Option<usize> {
-        let (start, end) = self.part(&range);
-        self.words.first_aligned_gap(count, align, start, end)
+        self.as_bits().first_aligned_gap(count, align, range)
     }
 }
 
 /// The walk of [`FixedBitSet::runs`] and of [`FixedBitSet::zero_runs`].
 ///
 /// Proved: each stretch that it gives, in any mix of calls from both ends
-/// ([contract](crate::contracts#fixedbitsetlentruns)).
+/// ([contract](crate::contracts#fixedbitsetbitsruns)).
 ///
 /// ```
 /// # use fixedbitset::FixedBitSet;
@@ -95,7 +90,7 @@ impl FixedBitSet {
 /// ```
 #[derive(Clone)]
 pub struct Runs<'a> {
-    walk: proved::bitwalks::Runs<'a>,
+    pub(crate) walk: proved::bitwalks::Runs<'a>,
 }
 
 /// Proved: each stretch, for any mix of calls from both ends ([contract](crate::contracts#bitwalksruns-as-iterator)).

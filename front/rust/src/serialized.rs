@@ -12,7 +12,7 @@ const FIELDS: &[&str] = &["length", "data"];
 /// How many bytes of a list are asked for at once at most, for its length is only claimed.
 const AT_ONCE: usize = 4096;
 
-/// Proved: the bytes, for all sets ([contract](crate::contracts#fixedbitsetlentto_bytes)). The form around them is not.
+/// Proved: the bytes, for all sets ([contract](crate::contracts#fixedbitsetbitsto_bytes)). The form around them is not.
 impl Serialize for FixedBitSet {
     /// The length, and the bytes of the words: eight for each, the lowest first. A format without bytes writes a list.
     fn serialize<S: Serializer>(&self, serializer: S) -> Result<S::Ok, S::Error> {
@@ -23,7 +23,7 @@ impl Serialize for FixedBitSet {
     }
 }
 
-/// Proved: the positions, for all bytes ([contract](crate::contracts#fixedbitsetlentfrom_bytes)). How the form is read is not.
+/// Proved: the positions, for all bytes ([contract](crate::contracts#fixedbitsetbitsmutassign_bytes)). How the form is read is not.
 impl<'de> Deserialize<'de> for FixedBitSet {
     /// Reads what upstream's crate and this one write, and a list in place of the struct and of the bytes. Bytes that are
     /// missing are 0, and bits past the length are dropped. Anything else is an error, and so is a length that no memory

@@ -11,7 +11,7 @@ impl FixedBitSet {
     /// The positions that are set, in ascending order.
     ///
     /// Proved: each item, for all sets and any mix of calls from both ends
-    /// ([contract](crate::contracts#fixedbitsetlentones)).
+    /// ([contract](crate::contracts#fixedbitsetbitsones)).
     ///
     /// ```
     /// # use fixedbitset::FixedBitSet;
@@ -20,9 +20,7 @@ impl FixedBitSet {
     /// ```
     #[inline]
     pub fn ones(&self) -> Ones<'_> {
-        Ones {
-            walk: self.words.ones(),
-        }
+        self.as_bits().ones()
     }
 
     /// The positions that are set, in ascending order. The walk owns the set.
@@ -45,7 +43,7 @@ impl FixedBitSet {
     /// The positions below the length that are not set, in ascending order.
     ///
     /// Proved: each item, for all sets and any mix of calls from both ends
-    /// ([contract](crate::contracts#fixedbitsetlentzeroes)).
+    /// ([contract](crate::contracts#fixedbitsetbitszeroes)).
     ///
     /// ```
     /// # use fixedbitset::FixedBitSet;
@@ -54,9 +52,7 @@ impl FixedBitSet {
     /// ```
     #[inline]
     pub fn zeroes(&self) -> Zeroes<'_> {
-        Zeroes {
-            walk: self.words.zeroes(),
-        }
+        self.as_bits().zeroes()
     }
 
     /// The positions of the range that are set, in ascending order. It takes only the words that hold a position of the
@@ -65,7 +61,7 @@ impl FixedBitSet {
     /// **Panics** where the range is not valid.
     ///
     /// Proved: each item, for all sets, each valid range, and any mix of calls from both ends
-    /// ([contract](crate::contracts#fixedbitsetlentones_in)).
+    /// ([contract](crate::contracts#fixedbitsetbitsones_in)).
     ///
     /// ```
     /// # use fixedbitset::FixedBitSet;
@@ -75,10 +71,7 @@ impl FixedBitSet {
     #[inline]
     #[track_caller]
     pub fn ones_in<T: IndexRange>(&self, range: T) -> Ones<'_> {
-        let (start, end) = self.part(&range);
-        Ones {
-            walk: self.words.ones_in(start, end),
-        }
+        self.as_bits().ones_in(range)
     }
 
     /// The positions of the range that are not set, in ascending order. It takes only the words that hold a position of
@@ -87,7 +80,7 @@ impl FixedBitSet {
     /// **Panics** where the range is not valid.
     ///
     /// Proved: each item, for all sets, each valid range, and any mix of calls from both ends
-    /// ([contract](crate::contracts#fixedbitsetlentzeroes_in)).
+    /// ([contract](crate::contracts#fixedbitsetbitszeroes_in)).
     ///
     /// ```
     /// # use fixedbitset::FixedBitSet;
@@ -97,16 +90,13 @@ impl FixedBitSet {
     #[inline]
     #[track_caller]
     pub fn zeroes_in<T: IndexRange>(&self, range: T) -> Zeroes<'_> {
-        let part = self.part(&range);
-        Zeroes {
-            walk: self.words.zeroes_in(part.0, part.1),
-        }
+        self.as_bits().zeroes_in(range)
     }
 
     /// The positions of both sets, in ascending order.
     ///
     /// Proved: each item, for any two sets and any mix of calls from both ends
-    /// ([contract](crate::contracts#fixedbitsetlentintersection)).
+    /// ([contract](crate::contracts#fixedbitsetbitsintersection)).
     ///
     /// ```
     /// # use fixedbitset::FixedBitSet;
@@ -115,9 +105,7 @@ impl FixedBitSet {
     /// ```
     #[inline]
     pub fn intersection<'a>(&'a self, other: &'a FixedBitSet) -> Intersection<'a> {
-        Intersection {
-            walk: self.words.intersection(&other.words),
-        }
+        self.as_bits().intersection(other.as_bits())
     }
 
     /// The positions of this set in ascending order, and then those that `other` alone has.
@@ -132,15 +120,13 @@ impl FixedBitSet {
     /// ```
     #[inline]
     pub fn union<'a>(&'a self, other: &'a FixedBitSet) -> Union<'a> {
-        Union {
-            walk: self.words.union(&other.words),
-        }
+        self.as_bits().union(other.as_bits())
     }
 
     /// The positions of this set that `other` lacks, in ascending order.
     ///
     /// Proved: each item, for any two sets and any mix of calls from both ends
-    /// ([contract](crate::contracts#fixedbitsetlentdifference)).
+    /// ([contract](crate::contracts#fixedbitsetbitsdifference)).
     ///
     /// ```
     /// # use fixedbitset::FixedBitSet;
@@ -149,9 +135,7 @@ impl FixedBitSet {
     /// ```
     #[inline]
     pub fn difference<'a>(&'a self, other: &'a FixedBitSet) -> Difference<'a> {
-        Difference {
-            walk: self.words.difference(&other.words),
-        }
+        self.as_bits().difference(other.as_bits())
     }
 
     /// The positions that this set alone has in ascending order, and then those that `other` alone has.
@@ -166,16 +150,14 @@ impl FixedBitSet {
     /// ```
     #[inline]
     pub fn symmetric_difference<'a>(&'a self, other: &'a FixedBitSet) -> SymmetricDifference<'a> {
-        SymmetricDifference {
-            walk: self.words.symmetric_difference(&other.words),
-        }
+        self.as_bits().symmetric_difference(other.as_bits())
     }
 }
 
 /// The walk of [`FixedBitSet::ones`] and of [`FixedBitSet::ones_in`].
 ///
 /// Proved: each item that it gives, in any mix of calls from both ends
-/// ([contract](crate::contracts#fixedbitsetlentones)).
+/// ([contract](crate::contracts#fixedbitsetbitsones)).
 ///
 /// ```
 /// # use fixedbitset::FixedBitSet;
@@ -199,13 +181,13 @@ pub struct Ones<'a> {
 /// assert_eq!(walk.count(), 0);
 /// ```
 pub struct IntoOnes {
-    walk: OwnedLeft,
+    pub(crate) walk: OwnedLeft,
 }
 
 /// The walk of [`FixedBitSet::zeroes`] and of [`FixedBitSet::zeroes_in`].
 ///
 /// Proved: each item that it gives, in any mix of calls from both ends
-/// ([contract](crate::contracts#fixedbitsetlentzeroes)).
+/// ([contract](crate::contracts#fixedbitsetbitszeroes)).
 ///
 /// ```
 /// # use fixedbitset::FixedBitSet;
@@ -214,13 +196,13 @@ pub struct IntoOnes {
 /// ```
 #[derive(Clone)]
 pub struct Zeroes<'a> {
-    walk: ZeroesLeft<'a>,
+    pub(crate) walk: ZeroesLeft<'a>,
 }
 
 /// The walk of [`FixedBitSet::intersection`].
 ///
 /// Proved: each item that it gives, in any mix of calls from both ends
-/// ([contract](crate::contracts#fixedbitsetlentintersection)).
+/// ([contract](crate::contracts#fixedbitsetbitsintersection)).
 ///
 /// ```
 /// # use fixedbitset::FixedBitSet;
@@ -229,13 +211,13 @@ pub struct Zeroes<'a> {
 /// ```
 #[derive(Clone)]
 pub struct Intersection<'a> {
-    walk: SharedLeft<'a>,
+    pub(crate) walk: SharedLeft<'a>,
 }
 
 /// The walk of [`FixedBitSet::difference`].
 ///
 /// Proved: each item that it gives, in any mix of calls from both ends
-/// ([contract](crate::contracts#fixedbitsetlentdifference)).
+/// ([contract](crate::contracts#fixedbitsetbitsdifference)).
 ///
 /// ```
 /// # use fixedbitset::FixedBitSet;
@@ -244,7 +226,7 @@ pub struct Intersection<'a> {
 /// ```
 #[derive(Clone)]
 pub struct Difference<'a> {
-    walk: LackedLeft<'a>,
+    pub(crate) walk: LackedLeft<'a>,
 }
 
 /// The walk of [`FixedBitSet::union`]. From the back it begins with what the second set alone has.
@@ -259,7 +241,7 @@ pub struct Difference<'a> {
 /// ```
 #[derive(Clone)]
 pub struct Union<'a> {
-    walk: JoinedLeft<'a>,
+    pub(crate) walk: JoinedLeft<'a>,
 }
 
 /// The walk of [`FixedBitSet::symmetric_difference`]. From the back it begins with what the second set alone has.
@@ -274,7 +256,7 @@ pub struct Union<'a> {
 /// ```
 #[derive(Clone)]
 pub struct SymmetricDifference<'a> {
-    walk: SplitLeft<'a>,
+    pub(crate) walk: SplitLeft<'a>,
 }
 
 /// The traits of a walk over one row of words, which ascends.

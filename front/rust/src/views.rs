@@ -1,0 +1,275 @@
+//! Sets over words that someone else keeps. The crate of this name has none.
+use crate::proved::bitlanes::Steps;
+use crate::proved::fixedbitset::views;
+use crate::words::Words;
+use crate::{panics, Block, FixedBitSet};
+use core::cmp::Ordering;
+use core::ops::Index;
+
+/// A set over lent words, to be read: to a [`FixedBitSet`] what a slice is to a `Vec`.
+///
+/// It has each call of a set that changes nothing and takes no memory. Its words are those of a set: whole lanes of four, as
+/// many as the length needs ([`storage_words`]), with no bit past the length. So a set can stand in words that were read from a
+/// file, with no copy of them.
+///
+/// Proved: of each call what its page says ([contract](crate::contracts#fixedbitsetbits)).
+///
+/// ```
+/// use fixedbitset::{storage_words, Bits, BitsMut, Block};
+/// # let path = std::env::temp_dir().join(format!("bits-of-a-file-{}", std::process::id()));
+/// # std::fs::write(&path, [9, 0, 0, 0, 0, 0, 0, 0, 0b110])?;
+///
+/// let bytes = std::fs::read(&path)?;
+/// let mut words = vec![0; storage_words(70)];
+/// for (word, chunk) in words.iter_mut().zip(bytes.chunks(8)) {
+///     let mut whole = [0; 8];
+///     whole[..chunk.len()].copy_from_slice(chunk);
+///     *word = Block::from_le_bytes(whole);
+/// }
+///
+/// let mut set = BitsMut::over(&mut words, 70).expect("no bit past the length");
+/// set.insert(64);
+/// let set = Bits::over(&words, 70).expect("words of a set");
+/// assert_eq!(set.ones().collect::<Vec<_>>(), [0, 3, 64, 65, 66]);
+/// assert_eq!(format!("{set:?}"), "Bits { length: 70, ones: {0, 3, 64, 65, 66} }");
+/// # std::fs::remove_file(&path)?;
+/// # Ok::<(), std::io::Error>(())
+/// ```
+#[derive(Clone, Copy)]
+pub struct Bits<'a> {
+    pub(crate) view: views::Bits<'a>,
+}
+
+/// A set over lent words, to be changed: to a [`FixedBitSet`] what a slice `&mut [T]` is to a `Vec`.
+///
+/// It has each call of a set that changes it and takes no memory, and [`as_bits`](Self::as_bits) lends it to those that read.
+/// Its length stays. What is lent cannot be made the words of no set:
+///
+/// ```compile_fail,E0616
+/// let mut words = [0; 4];
+/// fixedbitset::BitsMut::settle(&mut words, 70, 70).view.words[3] = 1;
+/// ```
+///
+/// Proved: of each call what its page says ([contract](crate::contracts#fixedbitsetbitsmut)).
+///
+/// ```
+/// # use fixedbitset::BitsMut;
+/// let mut words = [0; 4];
+/// let mut set = BitsMut::settle(&mut words, 70, 0);
+/// set.insert_range(62..66);
+/// assert_eq!(format!("{set:?}"), "BitsMut { length: 70, ones: {62, 63, 64, 65} }");
+/// assert_eq!(words, [3 << 62, 3, 0, 0]);
+/// ```
+pub struct BitsMut<'a> {
+    pub(crate) view: views::BitsMut<'a>,
+}
+
+/// How many words a set of this length keeps: those that the length needs, and up to three more that make whole lanes of
+/// four.
+///
+/// Proved: the answer, for all numbers ([contract](crate::contracts#fixedbitsetviewsstorage_words)).
+///
+/// ```
+/// # use fixedbitset::storage_words;
+/// assert_eq!([0, 1, 256, 257].map(storage_words), [0, 4, 4, 8]);
+/// ```
+#[inline]
+pub fn storage_words(bits: usize) -> usize {
+    views::storage_words(bits)
+}
+
+impl<'a> Bits<'a> {
+    /// The words as a set of this length, or `None` where they are not those of one as they stand: [`storage_words`] of them,
+    /// and no bit past the length.
+    ///
+    /// Proved: the answer, for all words and all numbers ([contract](crate::contracts#fixedbitsetbitsover)).
+    ///
+    /// ```
+    /// # use fixedbitset::Bits;
+    /// assert!(Bits::over(&[8, 63, 0, 0], 70).is_some());
+    /// assert!(Bits::over(&[8, 64, 0, 0], 70).is_none());
+    /// assert!(Bits::over(&[8, 63], 70).is_none());
+    /// ```
+    #[inline]
+    pub fn over(words: &'a [Block], length: usize) -> Option<Self> {
+        let view = views::Bits::over(words, length)?;
+        Some(Bits { view })
+    }
+}
+
+impl<'a> BitsMut<'a> {
+    /// [`Bits::over`], to be changed. [`settle`](Self::settle) clears what this refuses.
+    ///
+    /// Proved: the answer, for all words and all numbers ([contract](crate::contracts#fixedbitsetbitsover)).
+    ///
+    /// ```
+    /// # use fixedbitset::BitsMut;
+    /// let mut words = [8, 64, 0, 0];
+    /// assert!(BitsMut::over(&mut words, 70).is_none());
+    /// BitsMut::over(&mut words, 71).unwrap().remove(70);
+    /// assert_eq!(words, [8, 0, 0, 0]);
+    /// ```
+    #[inline]
+    pub fn over(words: &'a mut [Block], length: usize) -> Option<Self> {
+        views::Bits::over(words, length)?;
+        let view = views::BitsMut { words, length };
+        Some(BitsMut { view })
+    }
+
+    /// Makes any words those of a set of this length: of the positions that they have those below `kept` stay.
+    ///
+    /// So with `kept` 0 no position is set, with `kept` the length none below it is lost, and with the length of before the
+    /// set has grown. It writes the word of `kept` and those behind it.
+    ///
+    /// **Panics** where there are not [`storage_words`] of them, and where `kept` is past the length.
+    ///
+    /// Proved: what it leaves, for all words of this count ([contract](crate::contracts#fixedbitsetbitsmutsettle)).
+    ///
+    /// ```
+    /// # use fixedbitset::BitsMut;
+    /// let mut words = [8, 255, 1, 0];
+    /// BitsMut::settle(&mut words, 70, 66);
+    /// assert_eq!(words, [8, 3, 0, 0]);
+    /// ```
+    #[inline]
+    #[track_caller]
+    pub fn settle(words: &'a mut [Block], length: usize, kept: usize) -> Self {
+        if words.len() != storage_words(length) {
+            panics::miscounted(words.len(), length);
+        }
+        if kept > length {
+            panics::past("keep below", kept, length);
+        }
+        let view = views::BitsMut::settle(words, length, kept);
+        BitsMut { view }
+    }
+
+    /// The set, to be read.
+    ///
+    /// Proved: that it is the same set ([contract](crate::contracts#fixedbitsetbitsmutas_bits)).
+    ///
+    /// ```
+    /// # use fixedbitset::BitsMut;
+    /// let mut words = [8, 1, 0, 0];
+    /// let set = BitsMut::over(&mut words, 70).unwrap();
+    /// assert_eq!(set.as_bits().count_ones(..), 2);
+    /// ```
+    #[inline]
+    pub fn as_bits(&self) -> Bits<'_> {
+        let view = self.view.as_bits();
+        Bits { view }
+    }
+}
+
+impl FixedBitSet {
+    /// The set as one over lent words, to be read.
+    ///
+    /// Not proved: it lends the words that are kept.
+    ///
+    /// ```
+    /// # use fixedbitset::{Bits, FixedBitSet};
+    /// let set: FixedBitSet = [0, 3].into_iter().collect();
+    /// assert_eq!(set.as_bits(), Bits::over(&[9, 0, 0, 0], 4).unwrap());
+    /// ```
+    #[inline]
+    pub fn as_bits(&self) -> Bits<'_> {
+        let view = self.words.as_bits();
+        Bits { view }
+    }
+
+    /// The set as one over lent words, to be changed. Its length stays.
+    ///
+    /// Not proved: it lends the words that are kept.
+    ///
+    /// ```
+    /// # use fixedbitset::{Bits, FixedBitSet};
+    /// let mut set = FixedBitSet::with_capacity(4);
+    /// set.as_bits_mut().union_with(Bits::over(&[5, 0, 0, 0], 3).unwrap());
+    /// assert_eq!(set.to_string(), "1010");
+    /// ```
+    #[inline]
+    pub fn as_bits_mut(&mut self) -> BitsMut<'_> {
+        let view = self.words.as_bits_mut();
+        BitsMut { view }
+    }
+}
+
+/// Not proved: `Vec` copies the words.
+impl From<Bits<'_>> for FixedBitSet {
+    /// A copy.
+    fn from(set: Bits<'_>) -> Self {
+        FixedBitSet {
+            words: Words::of(set.view),
+        }
+    }
+}
+
+/// Proved: the answer, for any two sets ([contract](crate::contracts#fixedbitsetbitsis_equal)).
+impl PartialEq for Bits<'_> {
+    #[inline]
+    fn eq(&self, other: &Self) -> bool {
+        self.view.is_equal(other.view, &mut Steps::new())
+    }
+}
+
+/// Proved: that sets are equal exactly where their lengths and their positions are
+/// ([contract](crate::contracts#fixedbitsetbitsis_equal)).
+impl Eq for Bits<'_> {}
+
+/// Proved: the answer, which is that of [`Ord`] ([contract](crate::contracts#fixedbitsetbitscompare)).
+impl PartialOrd for Bits<'_> {
+    #[inline]
+    fn partial_cmp(&self, other: &Self) -> Option<Ordering> {
+        Some(self.cmp(other))
+    }
+}
+
+/// Proved: the answer, for any two sets ([contract](crate::contracts#fixedbitsetbitscompare)).
+impl Ord for Bits<'_> {
+    #[inline]
+    fn cmp(&self, other: &Self) -> Ordering {
+        self.view.compare(other.view, &mut Steps::new())
+    }
+}
+
+/// Proved: the answer, for any two sets ([contract](crate::contracts#fixedbitsetbitsis_equal)).
+impl PartialEq for BitsMut<'_> {
+    #[inline]
+    fn eq(&self, other: &Self) -> bool {
+        self.as_bits() == other.as_bits()
+    }
+}
+
+/// Proved: that sets are equal exactly where their lengths and their positions are
+/// ([contract](crate::contracts#fixedbitsetbitsis_equal)).
+impl Eq for BitsMut<'_> {}
+
+/// Proved: the answer, for all sets and all numbers ([contract](crate::contracts#fixedbitsetbitscontains)).
+impl Index<usize> for Bits<'_> {
+    type Output = bool;
+
+    /// Whether the position is set. At or past the length none is.
+    #[inline]
+    fn index(&self, bit: usize) -> &bool {
+        if self.contains(bit) {
+            &true
+        } else {
+            &false
+        }
+    }
+}
+
+/// Proved: the answer, for all sets and all numbers ([contract](crate::contracts#fixedbitsetbitscontains)).
+impl Index<usize> for BitsMut<'_> {
+    type Output = bool;
+
+    /// Whether the position is set. At or past the length none is.
+    #[inline]
+    fn index(&self, bit: usize) -> &bool {
+        if self.as_bits().contains(bit) {
+            &true
+        } else {
+            &false
+        }
+    }
+}
