@@ -643,21 +643,7 @@ fn bitranks_directory_89() {
 }
 
 #[test]
-fn bitrows_lent_15() {
-    use crate::proved::bitlanes::ops::*;
-    use crate::proved::bitlanes::{word, Block, Steps};
-    use crate::proved::bitwords::cursors::*;
-    use crate::proved::bitrows::*;
-    use crate::shim::u64x4;
-    use core::cmp::Ordering;
-    use core::mem::{size_of, size_of_val};
-
-    assert_eq!(lent::width(0), 0);
-    assert_eq!(lent::width(257), 8);
-}
-
-#[test]
-fn bitrows_lent_27() {
+fn bitrows_views_changes_14() {
     use crate::proved::bitlanes::ops::*;
     use crate::proved::bitlanes::{word, Block, Steps};
     use crate::proved::bitwords::cursors::*;
@@ -667,12 +653,12 @@ fn bitrows_lent_27() {
     use core::mem::{size_of, size_of_val};
 
     let mut words = [7; 8];
-    lent::clear(&mut words, 2, 70);
+    RowsMut::blank(&mut words, 2, 70);
     assert_eq!(words, [0; 8]);
 }
 
 #[test]
-fn bitrows_lent_54() {
+fn bitrows_views_changes_31() {
     use crate::proved::bitlanes::ops::*;
     use crate::proved::bitlanes::{word, Block, Steps};
     use crate::proved::bitwords::cursors::*;
@@ -682,14 +668,12 @@ fn bitrows_lent_54() {
     use core::mem::{size_of, size_of_val};
 
     let mut words = [7; 8];
-    lent::clear(&mut words, 2, 70);
-    lent::set(&mut words, 2, 70, 1, 64, true);
-    assert!(lent::get(&words, 2, 70, 1, 64));
-    assert!(!lent::get(&words, 2, 70, 0, 64));
+    let table = RowsMut::blank(&mut words, 2, 70);
+    assert!(!table.as_rows().get(1, 64));
 }
 
 #[test]
-fn bitrows_lent_69() {
+fn bitrows_views_changes_48() {
     use crate::proved::bitlanes::ops::*;
     use crate::proved::bitlanes::{word, Block, Steps};
     use crate::proved::bitwords::cursors::*;
@@ -699,13 +683,13 @@ fn bitrows_lent_69() {
     use core::mem::{size_of, size_of_val};
 
     let mut words = [7; 8];
-    lent::clear(&mut words, 2, 70);
-    lent::set(&mut words, 2, 70, 1, 64, true);
+    let mut table = RowsMut::blank(&mut words, 2, 70);
+    table.set(1, 64, true);
     assert_eq!(words, [0, 0, 0, 0, 0, 1, 0, 0]);
 }
 
 #[test]
-fn bitrows_lent_93() {
+fn bitrows_views_changes_65() {
     use crate::proved::bitlanes::ops::*;
     use crate::proved::bitlanes::{word, Block, Steps};
     use crate::proved::bitwords::cursors::*;
@@ -715,14 +699,14 @@ fn bitrows_lent_93() {
     use core::mem::{size_of, size_of_val};
 
     let mut words = [7; 8];
-    lent::clear(&mut words, 2, 70);
-    lent::set(&mut words, 2, 70, 0, 64, true);
-    assert!(lent::union_rows(&mut words, 2, 70, 0, 1));
+    let mut table = RowsMut::blank(&mut words, 2, 70);
+    table.set(0, 64, true);
+    assert!(table.union_rows(0, 1));
     assert_eq!(words, [0, 1, 0, 0, 0, 1, 0, 0]);
 }
 
 #[test]
-fn bitrows_lent_119() {
+fn bitrows_views_changes_85() {
     use crate::proved::bitlanes::ops::*;
     use crate::proved::bitlanes::{word, Block, Steps};
     use crate::proved::bitwords::cursors::*;
@@ -732,11 +716,44 @@ fn bitrows_lent_119() {
     use core::mem::{size_of, size_of_val};
 
     let mut words = [7; 12];
-    lent::clear(&mut words, 3, 3);
-    lent::set(&mut words, 3, 3, 0, 1, true);
-    lent::set(&mut words, 3, 3, 1, 2, true);
-    lent::close(&mut words, 3, 3, &mut Steps::new());
+    let mut table = RowsMut::blank(&mut words, 3, 3);
+    table.set(0, 1, true);
+    table.set(1, 2, true);
+    table.close(&mut Steps::new());
     assert_eq!(words, [6, 0, 0, 0, 4, 0, 0, 0, 0, 0, 0, 0]);
+}
+
+#[test]
+fn bitrows_views_reads_11() {
+    use crate::proved::bitlanes::ops::*;
+    use crate::proved::bitlanes::{word, Block, Steps};
+    use crate::proved::bitwords::cursors::*;
+    use crate::proved::bitrows::*;
+    use crate::shim::u64x4;
+    use core::cmp::Ordering;
+    use core::mem::{size_of, size_of_val};
+
+    let mut words = [7; 8];
+    let mut table = RowsMut::blank(&mut words, 2, 70);
+    table.set(1, 64, true);
+    assert!(table.as_rows().row(1).ones().eq([64]));
+}
+
+#[test]
+fn bitrows_views_reads_29() {
+    use crate::proved::bitlanes::ops::*;
+    use crate::proved::bitlanes::{word, Block, Steps};
+    use crate::proved::bitwords::cursors::*;
+    use crate::proved::bitrows::*;
+    use crate::shim::u64x4;
+    use core::cmp::Ordering;
+    use core::mem::{size_of, size_of_val};
+
+    let mut words = [7; 8];
+    let mut table = RowsMut::blank(&mut words, 2, 70);
+    table.set(1, 64, true);
+    assert!(table.as_rows().get(1, 64));
+    assert!(!table.as_rows().get(0, 64));
 }
 
 #[test]
@@ -2064,7 +2081,7 @@ fn fixedbitset_views_shifts_87() {
 }
 
 #[test]
-fn fixedbitset_views_shifts_123() {
+fn fixedbitset_views_shifts_130() {
     use crate::proved::bitlanes::ops::*;
     use crate::proved::bitlanes::{word, Block, Steps};
     use crate::proved::bitwords::cursors::*;

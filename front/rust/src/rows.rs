@@ -1,4 +1,5 @@
 //! Tables of bits. The crate of this name has none.
+use crate::proved::bitlanes::Steps;
 use crate::words::Table;
 use crate::{panics, Ones};
 use core::fmt::{Debug, Formatter, Result};
@@ -7,7 +8,7 @@ use core::fmt::{Debug, Formatter, Result};
 ///
 /// The rows stand in one row of words. Each keeps the words that a set of so many columns has: whole lanes of four.
 ///
-/// Proved: what its calls answer and leave ([contract](crate::contracts#bitrowslentclose)).
+/// Proved: what its calls answer and leave ([contract](crate::contracts#bitrowsrowsmutclose)).
 ///
 /// ```
 /// use fixedbitset::BitRows;
@@ -29,7 +30,7 @@ impl BitRows {
     /// **Panics** where its words would be more than a vector can have.
     ///
     /// Not proved: it makes words that are 0. How many a row has is proved
-    /// ([contract](crate::contracts#bitrowslentwidth)).
+    /// ([contract](crate::contracts#fixedbitsetviewsstorage_words)).
     ///
     /// ```
     /// # use fixedbitset::BitRows;
@@ -52,7 +53,7 @@ impl BitRows {
     /// ```
     #[inline]
     pub fn rows(&self) -> usize {
-        self.table.rows()
+        self.table.as_rows().rows
     }
 
     /// How many columns there are.
@@ -65,12 +66,12 @@ impl BitRows {
     /// ```
     #[inline]
     pub fn columns(&self) -> usize {
-        self.table.columns()
+        self.table.as_rows().columns
     }
 
     /// Whether the row has a bit at the column: `false` past the rows and past the columns.
     ///
-    /// Proved: the answer, for all tables ([contract](crate::contracts#bitrowslentget)).
+    /// Proved: the answer, for all tables ([contract](crate::contracts#bitrowsrowsget)).
     ///
     /// ```
     /// # use fixedbitset::BitRows;
@@ -80,14 +81,14 @@ impl BitRows {
     /// ```
     #[inline]
     pub fn get(&self, row: usize, column: usize) -> bool {
-        row < self.rows() && self.table.get(row, column)
+        row < self.rows() && self.table.as_rows().get(row, column)
     }
 
     /// Sets the bit of the row at the column, or clears it where `enabled` is false.
     ///
     /// **Panics** where the table has no such row or no such column.
     ///
-    /// Proved: what it leaves, for each row and column of the table ([contract](crate::contracts#bitrowslentset)).
+    /// Proved: what it leaves, for each row and column of the table ([contract](crate::contracts#bitrowsrowsmutset)).
     ///
     /// ```
     /// # use fixedbitset::BitRows;
@@ -104,7 +105,7 @@ impl BitRows {
         if row >= rows || column >= columns {
             panics::no_cell(row, column, rows, columns);
         }
-        self.table.set(row, column, enabled);
+        self.table.as_rows_mut().set(row, column, enabled);
     }
 
     /// Row `into` takes in the bits of row `from`, and the other rows stay. It answers whether a bit came in. Where the two
@@ -113,7 +114,7 @@ impl BitRows {
     /// **Panics** where the table has not both rows.
     ///
     /// Proved: the answer and what it leaves, for any two rows of the table
-    /// ([contract](crate::contracts#bitrowslentunion_rows)).
+    /// ([contract](crate::contracts#bitrowsrowsmutunion_rows)).
     ///
     /// ```
     /// # use fixedbitset::BitRows;
@@ -129,14 +130,14 @@ impl BitRows {
         if from >= rows || into >= rows {
             panics::no_pair(from, into, rows);
         }
-        self.table.union_rows(from, into)
+        self.table.as_rows_mut().union_rows(from, into)
     }
 
     /// The columns at which the row has a bit, in ascending order.
     ///
     /// **Panics** where the table has no such row.
     ///
-    /// Proved: each item, for each row of the table ([contract](crate::contracts#bitrowslentwords_of)).
+    /// Proved: each item, for each row of the table ([contract](crate::contracts#bitrowsrowsrow)).
     ///
     /// ```
     /// # use fixedbitset::BitRows;
@@ -153,7 +154,7 @@ impl BitRows {
             panics::no_row(row, rows);
         }
         Ones {
-            walk: self.table.ones(row),
+            walk: self.table.as_rows().row(row).ones(),
         }
     }
 
@@ -161,7 +162,7 @@ impl BitRows {
     /// afterwards row `a` has a bit at column `b` exactly if some path of one or more edges led from `a` to `b`. Nothing
     /// leads on from a column that is no row.
     ///
-    /// Proved: what it leaves, for all tables ([contract](crate::contracts#bitrowslentclose)).
+    /// Proved: what it leaves, for all tables ([contract](crate::contracts#bitrowsrowsmutclose)).
     ///
     /// ```
     /// # use fixedbitset::BitRows;
@@ -172,11 +173,11 @@ impl BitRows {
     /// assert_eq!(edges.row(0).collect::<Vec<_>>(), [0, 1]);
     /// ```
     pub fn close(&mut self) {
-        self.table.close();
+        self.table.as_rows_mut().close(&mut Steps::new());
     }
 }
 
-/// Proved: the columns of each row ([contract](crate::contracts#bitrowslentwords_of)). The text around them is not.
+/// Proved: the columns of each row ([contract](crate::contracts#bitrowsrowsrow)). The text around them is not.
 impl Debug for BitRows {
     /// The columns of each row.
     fn fmt(&self, f: &mut Formatter<'_>) -> Result {

@@ -7,7 +7,7 @@ use crate::proved::bitlanes::ops::{And, AndNot, WordOp};
 use crate::proved::bitlanes::word::BITS;
 use crate::proved::bitlanes::{lanes, Steps};
 use crate::proved::bitranks::directory;
-use crate::proved::bitrows::lent as tables;
+use crate::proved::bitrows::views::{Rows, RowsMut};
 use crate::proved::bitwalks::in_turn::InTurn;
 use crate::proved::bitwords::cursors::{Beside, Cursor, Inverted, Middle, Plain};
 use crate::proved::bitwords::joins;
@@ -272,7 +272,7 @@ pub struct Table {
 impl Table {
     /// With no bit.
     pub fn new(rows: usize, columns: usize) -> Self {
-        let count = rows.checked_mul(tables::width(columns));
+        let count = rows.checked_mul(storage_words(columns));
         Table {
             words: vec![0; count.expect("capacity overflow")],
             rows,
@@ -281,49 +281,20 @@ impl Table {
     }
 
     #[inline]
-    pub fn rows(&self) -> usize {
-        self.rows
+    pub fn as_rows(&self) -> Rows<'_> {
+        Rows {
+            words: &self.words,
+            rows: self.rows,
+            columns: self.columns,
+        }
     }
 
     #[inline]
-    pub fn columns(&self) -> usize {
-        self.columns
-    }
-
-    /// The row has to be one of the table's.
-    #[inline]
-    pub fn get(&self, row: usize, column: usize) -> bool {
-        tables::get(&self.words, self.rows, self.columns, row, column)
-    }
-
-    /// The table has to have the row and the column.
-    #[inline]
-    pub fn set(&mut self, row: usize, column: usize, enabled: bool) {
-        tables::set(
-            &mut self.words,
-            self.rows,
-            self.columns,
-            row,
-            column,
-            enabled,
-        );
-    }
-
-    /// The table has to have both rows.
-    #[inline]
-    pub fn union_rows(&mut self, from: usize, into: usize) -> bool {
-        tables::union_rows(&mut self.words, self.rows, self.columns, from, into)
-    }
-
-    /// The row has to be one of the table's.
-    #[inline]
-    pub fn ones(&self, row: usize) -> OnesLeft<'_> {
-        let words = tables::words_of(&self.words, self.rows, self.columns, row);
-        let length = self.columns;
-        Bits { words, length }.ones()
-    }
-
-    pub fn close(&mut self) {
-        tables::close(&mut self.words, self.rows, self.columns, &mut Steps::new());
+    pub fn as_rows_mut(&mut self) -> RowsMut<'_> {
+        RowsMut {
+            words: &mut self.words,
+            rows: self.rows,
+            columns: self.columns,
+        }
     }
 }

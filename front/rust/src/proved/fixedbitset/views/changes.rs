@@ -73,7 +73,12 @@ impl BitsMut<'_> {
 
     // Joins the second set, but for the positions of the third, to the first, and answers whether a position changed.
     #[inline(always)]
-    pub(crate) fn join_difference(&mut self, gens: Bits<'_>, kills: Bits<'_>, steps: &mut Steps) -> bool {
+    pub(crate) fn join_difference(
+        &mut self,
+        gens: Bits<'_>,
+        kills: Bits<'_>,
+        steps: &mut Steps,
+    ) -> bool {
         joins::union_with_difference(self.words, gens.words, kills.words, steps)
     }
 

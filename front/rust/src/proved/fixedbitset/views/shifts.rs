@@ -100,7 +100,14 @@ impl BitsMut<'_> {
         at: usize,
         steps: &mut Steps,
     ) {
-        ranges::copy(self.words, at, at + (end - start), other.words, start, steps);
+        ranges::copy(
+            self.words,
+            at,
+            at + (end - start),
+            other.words,
+            start,
+            steps,
+        );
     }
 
     // Joins each position by `O` with the one that stood `by` below it, and cuts the words at the length.
