@@ -90,7 +90,11 @@ impl FixedBitSet {
     #[inline]
     #[track_caller]
     pub fn set_range<T: IndexRange>(&mut self, range: T, enabled: bool) {
-        self.as_bits_mut().set_range(range, enabled);
+        if enabled {
+            self.insert_range(range);
+        } else {
+            self.remove_range(range);
+        }
     }
 
     /// Sets each position of the range.
