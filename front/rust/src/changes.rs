@@ -1,5 +1,4 @@
-//! The calls that change a set over lent words. Those of `FixedBitSet` hand over to them. What is `inline(always)` here would
-//! else be a call of its own below that of a set.
+//! The calls that change a set over lent words. Those of `FixedBitSet` hand over to them.
 use crate::proved::bitlanes::Steps;
 use crate::{panics, Bits, BitsMut, Block, IndexRange};
 
@@ -249,7 +248,7 @@ impl BitsMut<'_> {
     /// set.insert_range(..4);
     /// assert_eq!(words, [15, 2, 0, 0]);
     /// ```
-    #[inline(always)]
+    #[inline]
     #[track_caller]
     pub fn insert_range<T: IndexRange>(&mut self, range: T) {
         let (start, end) = self.as_bits().part(&range);
@@ -270,7 +269,7 @@ impl BitsMut<'_> {
     /// set.remove_range(..4);
     /// assert_eq!(words, [0, 2, 0, 0]);
     /// ```
-    #[inline(always)]
+    #[inline]
     #[track_caller]
     pub fn remove_range<T: IndexRange>(&mut self, range: T) {
         let (start, end) = self.as_bits().part(&range);
@@ -291,7 +290,7 @@ impl BitsMut<'_> {
     /// set.toggle_range(..4);
     /// assert_eq!(words, [6, 2, 0, 0]);
     /// ```
-    #[inline(always)]
+    #[inline]
     #[track_caller]
     pub fn toggle_range<T: IndexRange>(&mut self, range: T) {
         let (start, end) = self.as_bits().part(&range);

@@ -1,4 +1,7 @@
 //! Ranges of positions. A range is valid where its start is not past its end, and its end not past the length.
+//!
+//! Those that change a set make the proved calls themselves: below one of `BitsMut` the view would be written to memory.
+use crate::proved::bitlanes::Steps;
 use crate::{panics, Bits, FixedBitSet, IndexRange};
 
 impl FixedBitSet {
@@ -113,7 +116,9 @@ impl FixedBitSet {
     #[inline]
     #[track_caller]
     pub fn insert_range<T: IndexRange>(&mut self, range: T) {
-        self.as_bits_mut().insert_range(range);
+        let (start, end) = self.as_bits().part(&range);
+        let mut bits = self.words.as_bits_mut();
+        bits.insert_range(start, end, &mut Steps::new());
     }
 
     /// Clears each position of the range.
@@ -132,7 +137,9 @@ impl FixedBitSet {
     #[inline]
     #[track_caller]
     pub fn remove_range<T: IndexRange>(&mut self, range: T) {
-        self.as_bits_mut().remove_range(range);
+        let (start, end) = self.as_bits().part(&range);
+        let mut bits = self.words.as_bits_mut();
+        bits.remove_range(start, end, &mut Steps::new());
     }
 
     /// Turns each position of the range: it is set where it was not, and cleared where it was.
@@ -151,7 +158,9 @@ impl FixedBitSet {
     #[inline]
     #[track_caller]
     pub fn toggle_range<T: IndexRange>(&mut self, range: T) {
-        self.as_bits_mut().toggle_range(range);
+        let (start, end) = self.as_bits().part(&range);
+        let mut bits = self.words.as_bits_mut();
+        bits.toggle_range(start, end, &mut Steps::new());
     }
 }
 
