@@ -88,7 +88,7 @@ impl Bits<'_> {
     /// ```
     #[inline(always)]
     pub fn union_count(self, other: Bits<'_>, steps: &mut Steps) -> usize {
-        self.count_used::<Or>(other, steps)
+        self.count::<Or>(other, steps)
     }
 
     /// How many positions are in both sets.
@@ -101,7 +101,7 @@ impl Bits<'_> {
     /// ```
     #[inline(always)]
     pub fn intersection_count(self, other: Bits<'_>, steps: &mut Steps) -> usize {
-        self.count_used::<And>(other, steps)
+        self.count::<And>(other, steps)
     }
 
     /// How many positions of the first set the second lacks.
@@ -114,7 +114,7 @@ impl Bits<'_> {
     /// ```
     #[inline(always)]
     pub fn difference_count(self, other: Bits<'_>, steps: &mut Steps) -> usize {
-        self.count_used::<AndNot>(other, steps)
+        self.count::<AndNot>(other, steps)
     }
 
     /// How many positions are in exactly one of the sets.
@@ -128,7 +128,7 @@ impl Bits<'_> {
     /// ```
     #[inline(always)]
     pub fn symmetric_difference_count(self, other: Bits<'_>, steps: &mut Steps) -> usize {
-        self.count_used::<Xor>(other, steps)
+        self.count::<Xor>(other, steps)
     }
 
     /// Whether no position is in both sets.
@@ -209,22 +209,21 @@ impl Bits<'_> {
         }
     }
 
-    // How many positions of either set pass the operation's truth function. Sets of one lane are counted by the words that
-    // the longer length needs: compiled by the kit for AVX2, the four words of a lane become one vector, which takes longer
-    // than two words.
+    // How many positions of either set pass the operation's truth function.
     #[inline(always)]
-    fn count_used<O: WordOp>(self, other: Bits<'_>, steps: &mut Steps) -> usize {
+    fn count<O: WordOp>(self, other: Bits<'_>, steps: &mut Steps) -> usize {
+        joins::count::<O>(self.words, other.words, steps)
+    }
+
+    // The same, where sets of one lane are counted by the words that the longer length needs. Compiled by the kit for AVX2,
+    // the four words of a lane become one vector, which takes longer than two words.
+    #[inline(always)]
+    pub(crate) fn count_used<O: WordOp>(self, other: Bits<'_>, steps: &mut Steps) -> usize {
         if self.words.len() == LANE && other.words.len() == LANE {
             let used = self.length.max(other.length).div_ceil(BITS).min(LANE);
             return joins::count::<O>(&self.words[..used], &other.words[..used], steps);
         }
         self.count::<O>(other, steps)
-    }
-
-    // The same by all words.
-    #[inline(always)]
-    fn count<O: WordOp>(self, other: Bits<'_>, steps: &mut Steps) -> usize {
-        joins::count::<O>(self.words, other.words, steps)
     }
 
     // Whether no position of either set passes the operation's truth function.
