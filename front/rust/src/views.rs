@@ -15,25 +15,20 @@ use core::ops::Index;
 /// Proved: of each call what its page says ([contract](crate::contracts#fixedbitsetbits)).
 ///
 /// ```
-/// use fixedbitset::{storage_words, Bits, BitsMut, Block};
-/// # let path = std::env::temp_dir().join(format!("bits-of-a-file-{}", std::process::id()));
-/// # std::fs::write(&path, [9, 0, 0, 0, 0, 0, 0, 0, 0b110])?;
+/// use fixedbitset::{Bits, Block};
+/// # let path = std::env::temp_dir().join(format!("words-of-a-set-{}", std::process::id()));
+/// # std::fs::write(&path, [9, 6, 0, 0].map(u64::to_le_bytes).concat())?;
 ///
 /// let bytes = std::fs::read(&path)?;
-/// let mut words = vec![0; storage_words(70)];
-/// for (word, chunk) in words.iter_mut().zip(bytes.chunks(8)) {
-///     let mut whole = [0; 8];
-///     whole[..chunk.len()].copy_from_slice(chunk);
-///     *word = Block::from_le_bytes(whole);
-/// }
+/// let word = |bytes: &[u8]| Block::from_le_bytes(bytes.try_into().unwrap());
+/// let words: Vec<Block> = bytes.chunks_exact(8).map(word).collect();
 ///
-/// let mut set = BitsMut::over(&mut words, 70).expect("no bit past the length");
-/// set.insert(64);
-/// let set = Bits::over(&words, 70).expect("words of a set");
-/// assert_eq!(set.ones().collect::<Vec<_>>(), [0, 3, 64, 65, 66]);
-/// assert_eq!(format!("{set:?}"), "Bits { length: 70, ones: {0, 3, 64, 65, 66} }");
+/// let set = Bits::over(&words, 70).ok_or("these are no words of a set of length 70")?;
+/// assert_eq!(set.count_ones(3..), 3);
+/// assert_eq!(format!("{set:?}"), "Bits { length: 70, ones: {0, 3, 65, 66} }");
+/// assert_eq!(Bits::over(&words, 66), None);
 /// # std::fs::remove_file(&path)?;
-/// # Ok::<(), std::io::Error>(())
+/// # Ok::<(), Box<dyn std::error::Error>>(())
 /// ```
 #[derive(Clone, Copy)]
 pub struct Bits<'a> {
