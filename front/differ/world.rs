@@ -191,7 +191,11 @@ impl World {
         match call {
             8 if bit < 100_000 => set.grow_and_insert(bit),
             9 if bit < n => set.insert(bit),
-            10 if bit < n => set.remove(bit),
+            10 if bit < n && enabled => set.remove(bit),
+            10 if bit < n => {
+                let was = set.take(bit);
+                self.say(was as u64);
+            }
             11 if bit < n => set.toggle(bit),
             12 if bit < n => {
                 let was = set.put(bit);

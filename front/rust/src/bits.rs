@@ -72,6 +72,24 @@ impl FixedBitSet {
         self.as_bits_mut().put(bit)
     }
 
+    /// Clears position `bit`, and answers whether it was set before. Upstream has no such call.
+    ///
+    /// **Panics** where it is at or past the length.
+    ///
+    /// Proved: the answer and what it leaves, for all sets and each position below the length
+    /// ([contract](crate::contracts#fixedbitsetbitsmuttake)).
+    ///
+    /// ```
+    /// # use fixedbitset::FixedBitSet;
+    /// let mut set: FixedBitSet = [3].into_iter().collect();
+    /// assert!(set.take(3) && !set.take(3));
+    /// ```
+    #[inline]
+    #[track_caller]
+    pub fn take(&mut self, bit: usize) -> bool {
+        self.as_bits_mut().take(bit)
+    }
+
     /// Turns position `bit`: it is set where it was not, and cleared where it was.
     ///
     /// **Panics** where it is at or past the length.

@@ -93,6 +93,27 @@ impl BitsMut<'_> {
         self.view.put(bit)
     }
 
+    /// [`FixedBitSet::take`](crate::FixedBitSet::take).
+    ///
+    /// **Panics** where it is at or past the length.
+    ///
+    /// Proved: the answer and what it leaves, for all sets and each position below the length
+    /// ([contract](crate::contracts#fixedbitsetbitsmuttake)).
+    ///
+    /// ```
+    /// # use fixedbitset::BitsMut;
+    /// let mut words = [9, 2, 0, 0];
+    /// let mut set = BitsMut::over(&mut words, 70).unwrap();
+    /// assert!(set.take(65) && !set.take(64));
+    /// assert_eq!(words, [9, 0, 0, 0]);
+    /// ```
+    #[inline]
+    #[track_caller]
+    pub fn take(&mut self, bit: usize) -> bool {
+        self.assert_below("take at", bit);
+        self.view.take(bit)
+    }
+
     /// [`FixedBitSet::toggle`](crate::FixedBitSet::toggle).
     ///
     /// **Panics** where it is at or past the length.

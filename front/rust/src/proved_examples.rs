@@ -1807,12 +1807,29 @@ fn fixedbitset_views_positions_200() {
 
     let mut words = [9, 0, 0, 0];
     let mut set = BitsMut::settle(&mut words, 70, 70);
+    assert!(set.take(3));
+    assert!(!set.take(3));
+    assert_eq!(words, [1, 0, 0, 0]);
+}
+
+#[test]
+fn fixedbitset_views_positions_216() {
+    use crate::proved::bitlanes::ops::*;
+    use crate::proved::bitlanes::{word, Block, Steps};
+    use crate::proved::bitwords::cursors::*;
+    use crate::proved::fixedbitset::*;
+    use crate::shim::u64x4;
+    use core::cmp::Ordering;
+    use core::mem::{size_of, size_of_val};
+
+    let mut words = [9, 0, 0, 0];
+    let mut set = BitsMut::settle(&mut words, 70, 70);
     set.set(0, false);
     assert_eq!(words, [8, 0, 0, 0]);
 }
 
 #[test]
-fn fixedbitset_views_positions_217() {
+fn fixedbitset_views_positions_233() {
     use crate::proved::bitlanes::ops::*;
     use crate::proved::bitlanes::{word, Block, Steps};
     use crate::proved::bitwords::cursors::*;
@@ -1828,7 +1845,7 @@ fn fixedbitset_views_positions_217() {
 }
 
 #[test]
-fn fixedbitset_views_positions_231() {
+fn fixedbitset_views_positions_247() {
     use crate::proved::bitlanes::ops::*;
     use crate::proved::bitlanes::{word, Block, Steps};
     use crate::proved::bitwords::cursors::*;
@@ -1844,7 +1861,7 @@ fn fixedbitset_views_positions_231() {
 }
 
 #[test]
-fn fixedbitset_views_positions_246() {
+fn fixedbitset_views_positions_262() {
     use crate::proved::bitlanes::ops::*;
     use crate::proved::bitlanes::{word, Block, Steps};
     use crate::proved::bitwords::cursors::*;

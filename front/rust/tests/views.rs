@@ -350,6 +350,7 @@ fn changes_of_positions_are_those_of_the_flags() {
             check(flags, |set| set.set(bit, true), with);
             check(flags, |set| assert_eq!(set.put(bit), flags[bit]), with);
             check(flags, |set| set.remove(bit), without);
+            check(flags, |set| assert_eq!(set.take(bit), flags[bit]), without);
             check(flags, |set| set.set(bit, false), without);
             let turned = |at: usize| (at == bit) != flags[at];
             check(flags, |set| set.toggle(bit), turned);
@@ -545,6 +546,7 @@ fn what_no_call_takes_panics() {
         refused(|set| set.remove(bit), &at("remove at", bit));
         refused(|set| set.toggle(bit), &at("toggle at", bit));
         refused(|set| assert!(set.put(bit)), &at("put at", bit));
+        refused(|set| assert!(set.take(bit)), &at("take at", bit));
         refused(|set| set.set(bit, true), &at("set at", bit));
         refused(|set| set.copy_bit(0, bit), &at("copy to", bit));
         refused(|set| set.insert_all(&[1, bit]), &at("insert at", bit));

@@ -195,6 +195,22 @@ impl<'a> BitsMut<'a> {
         was_set
     }
 
+    /// Clears the position, which has to be below the length, and answers whether it was set before.
+    ///
+    /// ```text
+    /// let mut words = [9, 0, 0, 0];
+    /// let mut set = BitsMut::settle(&mut words, 70, 70);
+    /// assert!(set.take(3));
+    /// assert!(!set.take(3));
+    /// assert_eq!(words, [1, 0, 0, 0]);
+    /// ```
+    #[inline(always)]
+    pub fn take(&mut self, bit: usize) -> bool {
+        let is_taken = self.as_bits().contains_unchecked(bit);
+        self.remove(bit);
+        is_taken
+    }
+
     /// Sets the position, or clears it where `enabled` is false. It has to be below the length.
     ///
     /// ```text
