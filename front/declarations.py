@@ -1,5 +1,6 @@
 #!/usr/bin/env python3
-"""Compares the declarations of differ/declared.rs and c/bits.h, and their structs, with the exports of crates/bits_c and the views that cross.
+"""Compares the declarations of differ/declared.rs and c/bits.h, and their structs, with the exports of crates/bits_c and the
+views that these take.
 
 usage: front/declarations.py
 
@@ -116,7 +117,7 @@ def wrong_structs(sources, archive, header):
         for side, fields in (("declared.rs", fields_of(archive, of_archive)), ("bits.h", fields_of(header, name))):
             if not agree(exported, fields):
                 yield f"{side}: the struct {name} is {exported}, and declared {fields}"
-    for one, other, name in (("Ones", "Zeroes", "bits_walk"), ("Bits", "BitsMut", "bits"), ("BitsMut", "Room", "bits"), ("Rows", "RowsMut", "bits_rows")):
+    for one, other, name in (("Ones", "Zeroes", "bits_walk"), ("BitsMut", "Room", "bits"), ("RowsMut", "Rows", "bits_rows")):
         if fields_of(sources, one) != fields_of(sources, other):
             yield f"the structs {one} and {other} differ, and {name} stands for both"
 
@@ -129,8 +130,8 @@ def wrong_tests(exported, tests):
 
 
 def main():
-    views = [TOP / "crates" / it / "src/views.rt" for it in ("fixedbitset", "bitrows")]
-    sources = "\n".join(it.read_text() for it in [*views, *sorted((TOP / "crates/bits_c/src").rglob("*.rt"))])
+    views = [TOP / f"crates/{it}/src/views.rt" for it in ("fixedbitset", "bitrows")]
+    sources = "\n".join(it.read_text() for it in [*sorted((TOP / "crates/bits_c/src").rglob("*.rt")), *views])
     archive, header, tests = ((TOP / "front" / it).read_text() for it in ("differ/declared.rs", "c/bits.h", "c/bits_check.h"))
     exported = of_rust(sources)
     wrong = [*wrong_calls(exported, archive, header), *wrong_structs(sources, archive, header), *wrong_tests(exported, tests)]
