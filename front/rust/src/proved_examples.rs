@@ -2098,7 +2098,7 @@ fn fixedbitset_views_shifts_87() {
 }
 
 #[test]
-fn fixedbitset_views_shifts_130() {
+fn fixedbitset_views_shifts_124() {
     use crate::proved::bitlanes::ops::*;
     use crate::proved::bitlanes::{word, Block, Steps};
     use crate::proved::bitwords::cursors::*;

@@ -100,14 +100,8 @@ impl BitsMut<'_> {
         at: usize,
         steps: &mut Steps,
     ) {
-        ranges::copy(
-            self.words,
-            at,
-            at + (end - start),
-            other.words,
-            start,
-            steps,
-        );
+        let behind = at + (end - start);
+        ranges::copy(self.words, at, behind, other.words, start, steps);
     }
 
     // Joins each position by `O` with the one that stood `by` below it, and cuts the words at the length.
