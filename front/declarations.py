@@ -1,6 +1,5 @@
 #!/usr/bin/env python3
-"""Compares the declarations of differ/declared.rs and c/bits.h, and their structs, with the exports of crates/bits_c and the
-views that these take.
+"""Compares the declarations of differ/declared.rs and c/bits.h, and their structs, with the exports of crates/bits_c and the views that cross.
 
 usage: front/declarations.py
 
@@ -117,7 +116,7 @@ def wrong_structs(sources, archive, header):
         for side, fields in (("declared.rs", fields_of(archive, of_archive)), ("bits.h", fields_of(header, name))):
             if not agree(exported, fields):
                 yield f"{side}: the struct {name} is {exported}, and declared {fields}"
-    for one, other, name in (("Ones", "Zeroes", "bits_walk"), ("BitsMut", "Room", "bits"), ("RowsMut", "Rows", "bits_rows")):
+    for one, other, name in (("Ones", "Zeroes", "bits_walk"), ("Bits", "BitsMut", "bits"), ("BitsMut", "Room", "bits"), ("Rows", "RowsMut", "bits_rows")):
         if fields_of(sources, one) != fields_of(sources, other):
             yield f"the structs {one} and {other} differ, and {name} stands for both"
 
@@ -130,8 +129,8 @@ def wrong_tests(exported, tests):
 
 
 def main():
-    views = [TOP / f"crates/{it}/src/views.rt" for it in ("fixedbitset", "bitrows")]
-    sources = "\n".join(it.read_text() for it in [*sorted((TOP / "crates/bits_c/src").rglob("*.rt")), *views])
+    views = [TOP / "crates" / it / "src/views.rt" for it in ("fixedbitset", "bitrows")]
+    sources = "\n".join(it.read_text() for it in [*views, *sorted((TOP / "crates/bits_c/src").rglob("*.rt"))])
     archive, header, tests = ((TOP / "front" / it).read_text() for it in ("differ/declared.rs", "c/bits.h", "c/bits_check.h"))
     exported = of_rust(sources)
     wrong = [*wrong_calls(exported, archive, header), *wrong_structs(sources, archive, header), *wrong_tests(exported, tests)]
