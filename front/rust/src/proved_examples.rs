@@ -2098,7 +2098,7 @@ fn fixedbitset_views_shifts_87() {
 }
 
 #[test]
-fn fixedbitset_views_shifts_124() {
+fn fixedbitset_views_shifts_125() {
     use crate::proved::bitlanes::ops::*;
     use crate::proved::bitlanes::{word, Block, Steps};
     use crate::proved::bitwords::cursors::*;
@@ -2114,7 +2114,7 @@ fn fixedbitset_views_shifts_124() {
 }
 
 #[test]
-fn fixedbitset_views_walks_15() {
+fn fixedbitset_views_walks_16() {
     use crate::proved::bitlanes::ops::*;
     use crate::proved::bitlanes::{word, Block, Steps};
     use crate::proved::bitwords::cursors::*;
@@ -2129,7 +2129,7 @@ fn fixedbitset_views_walks_15() {
 }
 
 #[test]
-fn fixedbitset_views_walks_28() {
+fn fixedbitset_views_walks_29() {
     use crate::proved::bitlanes::ops::*;
     use crate::proved::bitlanes::{word, Block, Steps};
     use crate::proved::bitwords::cursors::*;
@@ -2145,7 +2145,7 @@ fn fixedbitset_views_walks_28() {
 }
 
 #[test]
-fn fixedbitset_views_walks_44() {
+fn fixedbitset_views_walks_45() {
     use crate::proved::bitlanes::ops::*;
     use crate::proved::bitlanes::{word, Block, Steps};
     use crate::proved::bitwords::cursors::*;
@@ -2161,7 +2161,7 @@ fn fixedbitset_views_walks_44() {
 }
 
 #[test]
-fn fixedbitset_views_walks_59() {
+fn fixedbitset_views_walks_60() {
     use crate::proved::bitlanes::ops::*;
     use crate::proved::bitlanes::{word, Block, Steps};
     use crate::proved::bitwords::cursors::*;
@@ -2176,7 +2176,7 @@ fn fixedbitset_views_walks_59() {
 }
 
 #[test]
-fn fixedbitset_views_walks_71() {
+fn fixedbitset_views_walks_72() {
     use crate::proved::bitlanes::ops::*;
     use crate::proved::bitlanes::{word, Block, Steps};
     use crate::proved::bitwords::cursors::*;
@@ -2191,7 +2191,7 @@ fn fixedbitset_views_walks_71() {
 }
 
 #[test]
-fn fixedbitset_views_walks_83() {
+fn fixedbitset_views_walks_84() {
     use crate::proved::bitlanes::ops::*;
     use crate::proved::bitlanes::{word, Block, Steps};
     use crate::proved::bitwords::cursors::*;
@@ -2206,7 +2206,7 @@ fn fixedbitset_views_walks_83() {
 }
 
 #[test]
-fn fixedbitset_views_walks_95() {
+fn fixedbitset_views_walks_96() {
     use crate::proved::bitlanes::ops::*;
     use crate::proved::bitlanes::{word, Block, Steps};
     use crate::proved::bitwords::cursors::*;
@@ -2221,7 +2221,7 @@ fn fixedbitset_views_walks_95() {
 }
 
 #[test]
-fn fixedbitset_views_walks_107() {
+fn fixedbitset_views_walks_108() {
     use crate::proved::bitlanes::ops::*;
     use crate::proved::bitlanes::{word, Block, Steps};
     use crate::proved::bitwords::cursors::*;

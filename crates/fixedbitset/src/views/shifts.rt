@@ -156,11 +156,12 @@ impl BitsMut<'_> {
         ensures cost { steps.new ≡ steps.old + up_steps (storage_words self.old.length) by
             + (if O.KEEP then 0 else lane_steps (min (storage_words self.old.length) (by / 64))) }
     {
-        let used = self.length.div_ceil(BITS);
+        let length = self.length;
+        let used = length.div_ceil(BITS);
         tick_unmoved_up(self.words.len(), used, by, steps);
         let words = &mut self.words[..used];
         shifts::up::<O>(words, by, steps);
-        positions::clear_from(words, self.length);
+        positions::clear_from(words, length);
     }
 }
 

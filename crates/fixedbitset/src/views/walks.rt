@@ -5,6 +5,7 @@
 
 ghost use Rattle.std.specs.Prelude.{◌≡◌, IsTrue, map};
 ghost use Rattle.std.specs.Int.{bit_not, w64};
+ghost use Rattle.bitwords.specs.RowFacts.{AreWords};
 ghost use Rattle.bitwords.specs.Walk.{between_ends};
 ghost use Rattle.fixedbitset.specs.Bits as model;
 ghost use Rattle.fixedbitset.specs.Ranges.{is_valid};
@@ -14,6 +15,7 @@ ghost use Rattle.fixedbitset.specs.Views.{value};
 ghost use Rattle.fixedbitset.specs.Walks.{ones_of, zeroes_of, words_of, zero_words_of};
 
 use crate::views::Bits;
+use bitlanes::Block;
 use bitlanes::ops::{And, AndNot};
 use bitwalks::runs::Runs;
 use bitwords::cursors::{Beside, Cursor, Inverted, Plain, ones_within, zeroes_within};
@@ -72,7 +74,7 @@ impl<'a> Bits<'a> {
             ≡ between_ends (model.words (sets.difference (value self.entry) (value other.entry))) }
     {
         let words = self.as_slice();
-        let other = other.as_slice();
+        let other = all(other.words);
         Cursor::over(Beside::of(words, other))
     }
 
@@ -159,4 +161,13 @@ impl<'a> Bits<'a> {
     {
         zeroes_within(self.as_slice(), start, end)
     }
+}
+
+// The words as they stand.
+#[inline(always)]
+fn all<'a>(lent: &'a [Block]) -> &'a [Block]
+    ensures same { result.now ≡ lent.now }
+    ensures words { AreWords result.now }
+{
+    lent
 }

@@ -107,11 +107,12 @@ impl BitsMut<'_> {
     // Joins each position by `O` with the one that stood `by` below it, and cuts the words at the length.
     #[inline(always)]
     fn join_own<O: WordOp>(&mut self, by: usize, steps: &mut Steps) {
-        let used = self.length.div_ceil(BITS);
+        let length = self.length;
+        let used = length.div_ceil(BITS);
         tick_unmoved_up(self.words.len(), used, by, steps);
         let words = &mut self.words[..used];
         shifts::up::<O>(words, by, steps);
-        positions::clear_from(words, self.length);
+        positions::clear_from(words, length);
     }
 }
 

@@ -5,6 +5,7 @@
 //! the first and the last of them, and those between are not yet taken.
 
 use crate::proved::fixedbitset::views::Bits;
+use crate::proved::bitlanes::Block;
 use crate::proved::bitlanes::ops::{And, AndNot};
 use crate::proved::bitwalks::runs::Runs;
 use crate::proved::bitwords::cursors::{Beside, Cursor, Inverted, Plain, ones_within, zeroes_within};
@@ -50,7 +51,7 @@ impl<'a> Bits<'a> {
     #[inline(always)]
     pub fn difference(self, other: Bits<'a>) -> Cursor<Beside<'a, AndNot>> {
         let words = self.as_slice();
-        let other = other.as_slice();
+        let other = all(other.words);
         Cursor::over(Beside::of(words, other))
     }
 
@@ -113,4 +114,10 @@ impl<'a> Bits<'a> {
     pub fn zeroes_in(self, start: usize, end: usize) -> Cursor<Inverted<'a>> {
         zeroes_within(self.as_slice(), start, end)
     }
+}
+
+// The words as they stand.
+#[inline(always)]
+fn all<'a>(lent: &'a [Block]) -> &'a [Block] {
+    lent
 }
