@@ -86,9 +86,12 @@ CHANGE(bitset_insert, change_at(&changed, bits_insert, PG_GETARG_INT64(1)))
 CHANGE(bitset_remove, change_at(&changed, bits_remove, PG_GETARG_INT64(1)))
 CHANGE(bitset_toggle, change_at(&changed, bits_toggle, PG_GETARG_INT64(1)))
 
-/* Changes a range that was found valid. */
+/* Changes a range that was found valid, one part after the other. */
 static void change_in(bits *set, bool (*call)(bits *, size_t, size_t), Span span) {
-    sure(call(set, span.start, span.end));
+    for (size_t at = span.start; at < span.end; at += PART) {
+        sure(call(set, at, Min(at + PART, span.end)));
+        CHECK_FOR_INTERRUPTS();
+    }
 }
 
 CHANGE(bitset_insert_range, change_in(&changed, bits_insert_range, read_span(fcinfo, 1, set)))
@@ -109,13 +112,22 @@ ASK_RANGE(bitset_count_zeroes_range, Int64GetDatum, bits_count_zeroes)
 ASK_RANGE(bitset_contains_all, BoolGetDatum, bits_contains_all_in_range)
 ASK_RANGE(bitset_contains_any, BoolGetDatum, bits_contains_any_in_range)
 
+/* Writes two sets joined over a room of the length that the call makes, one part after the other. */
+static void join_in(const bits *room, bool (*call)(bits *, const bits *, const bits *), const bits *a, const bits *b) {
+    for (size_t at = 0; at < room->length; at += PART) {
+        bits to = part_of(room, at), one = part_of(a, at), other = part_of(b, at);
+        sure(call(&to, &one, &other));
+        CHECK_FOR_INTERRUPTS();
+    }
+}
+
 /* A function that joins two sets, with the length that its set has. */
 #define JOIN(name, call, length_of_join)                                                                               \
     FUNCTION(name) {                                                                                                   \
         READ(a, 0);                                                                                                    \
         READ(b, 1);                                                                                                    \
         bits joined = room_for(length_of_join);                                                                        \
-        sure(call(&joined, a, b));                                                                                     \
+        join_in(&joined, call, a, b);                                                                                  \
         return stored_set(&joined);                                                                                    \
     }
 

@@ -46,6 +46,8 @@ typedef struct Stored {
 /* How many positions a lane has. */
 #define LANE_LENGTH 256
 
+StaticAssertDecl(PART % LANE_LENGTH == 0, "a part of a set has whole lanes");
+
 StaticAssertDecl(VARHDRSZ_SHORT + sizeof(uint32) + SHORT_WORDS * WORD_SIZE <= VARATT_SHORT_MAX,
                  "a short set fits behind the short header");
 
@@ -104,6 +106,7 @@ extern void done_reading(Reading *reading);
 
 /* Sets that are made. Before their words is room for the header of a stored set, which stored_set fills in. After that the
  * set may not be used. */
+extern bits part_of(const bits *set, size_t at);
 extern bits room_for(size_t length);
 extern bits new_set(size_t length);
 extern bits copy_set(const bits *set, size_t length);

@@ -66,17 +66,31 @@ static Stored *header_of(const bits *set) {
     return (Stored *)((char *)set->words - offsetof(Stored, words));
 }
 
+/* The positions from a multiple of PART on, as many as a part has, as a set. */
+bits part_of(const bits *set, size_t at) {
+    size_t length = at < set->length ? Min(set->length - at, PART) : 0;
+    return BITS_OF(length == 0 ? set->words : set->words + at / 64, length);
+}
+
 /* The set with no position. */
 bits new_set(size_t length) {
     bits set = room_for(length);
-    sure(bits_settle(set.words, set.count, length, 0));
+    for (size_t at = 0; at < length; at += PART) {
+        bits part = part_of(&set, at);
+        sure(bits_settle(part.words, part.count, part.length, 0));
+        CHECK_FOR_INTERRUPTS();
+    }
     return set;
 }
 
 /* The set's positions below a length. */
 bits copy_set(const bits *set, size_t length) {
     bits copy = room_for(length);
-    sure(bits_copy(&copy, set));
+    for (size_t at = 0; at < length; at += PART) {
+        bits to = part_of(&copy, at), from = part_of(set, at);
+        sure(bits_copy(&to, &from));
+        CHECK_FOR_INTERRUPTS();
+    }
     return copy;
 }
 

@@ -56,6 +56,12 @@ SELECT start, first_gap(s, 4) = start AS four, first_gap(s, 5) AS five, first_ga
     first_gap(s, 4, start + 1) AS past, first_gap(s, 0, 99) AS none, first_aligned_gap(s, 2, 2) - start AS even FROM long;
 SELECT first_gap(remove_range(s, '[10000000,36000001)'), n), first_gap(remove_range(s, '[10000000,36000001)'), n, 10000001)
 FROM (SELECT s FROM long LIMIT 1) v, unnest('{4,5,17000000,25999999,26000001,26000002,40000001,40000002}'::bigint[]) n;
+-- so is it where it is copied, changed and joined: what is made agrees with counts, which go over the whole
+SELECT count_ones(~s) = count_zeroes(s, '(,)') AS "not", count_ones(s | t) = union_count(s, t) AS "or",
+    count_ones(s & t) = intersection_count(s, t) AS "and", count_ones(s # t) = symmetric_difference_count(s, t) AS "xor",
+    count_ones(s - t) = difference_count(s, t) AS minus, count_ones(t - s) = difference_count(t, s) AS other, grow(s, 50000001) @> s AS grown,
+    count_ones(remove_range(s, '[16777210,33554440)')) = count_ones(s) - count_ones(s, '[16777210,33554440)') AS removed
+FROM (SELECT s, shift_up(truncate(s, 20000000), 3) AS t FROM long WHERE start < 33554432) v;
 DROP TABLE long;
 SELECT first_lacking(:s, :t), first_lacking(:t, :s), first_lacking(:s, :s), first_lacking('{1}/5', '{1,99}/100'), first_lacking('{}/0', '{}/9');
 
