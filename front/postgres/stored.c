@@ -69,7 +69,7 @@ static Stored *header_of(const bits *set) {
 /* The positions from a multiple of PART on, as many as a part has, as a set. */
 bits part_of(const bits *set, size_t at) {
     size_t length = at < set->length ? Min(set->length - at, PART) : 0;
-    return BITS_OF(length == 0 ? set->words : set->words + at / 64, length);
+    return BITS_OF(length == 0 ? set->words : set->words + bits_blocks(at), length);
 }
 
 /* The set with no position. */
