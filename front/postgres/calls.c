@@ -88,10 +88,8 @@ CHANGE(bitset_toggle, change_at(&changed, bits_toggle, PG_GETARG_INT64(1)))
 
 /* Changes a range that was found valid, one part after the other. */
 static void change_in(bits *set, bool (*call)(bits *, size_t, size_t), Span span) {
-    for (size_t at = span.start; at < span.end; at += PART) {
+    FOR_PARTS(at, span.start, span.end)
         sure(call(set, at, Min(at + PART, span.end)));
-        CHECK_FOR_INTERRUPTS();
-    }
 }
 
 CHANGE(bitset_insert_range, change_in(&changed, bits_insert_range, read_span(fcinfo, 1, set)))
@@ -114,10 +112,9 @@ ASK_RANGE(bitset_contains_any, BoolGetDatum, bits_contains_any_in_range)
 
 /* Writes two sets joined over a room of the length that the call makes, one part after the other. */
 static void join_in(const bits *room, bool (*call)(bits *, const bits *, const bits *), const bits *a, const bits *b) {
-    for (size_t at = 0; at < room->length; at += PART) {
+    FOR_PARTS(at, 0, room->length) {
         bits to = part_of(room, at), one = part_of(a, at), other = part_of(b, at);
         sure(call(&to, &one, &other));
-        CHECK_FOR_INTERRUPTS();
     }
 }
 

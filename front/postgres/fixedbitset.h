@@ -43,6 +43,11 @@ typedef struct Stored {
 #define SHORT_LENGTH (SHORT_WORDS * 64)
 #define LANE_REST 3
 
+/* Goes over the positions from `start` up to and without `end`, one part after the other: `at` is where a part begins. Between
+ * two parts it looks whether the query is cancelled. */
+#define FOR_PARTS(at, start, end)                                                                                      \
+    for (size_t at = (start); at < (end); at = next_part(at, end))
+
 /* How many positions a lane has. */
 #define LANE_LENGTH 256
 
@@ -106,6 +111,7 @@ extern void done_reading(Reading *reading);
 
 /* Sets that are made. Before their words is room for the header of a stored set, which stored_set fills in. After that the
  * set may not be used. */
+extern size_t next_part(size_t at, size_t end);
 extern bits part_of(const bits *set, size_t at);
 extern bits room_for(size_t length);
 extern bits new_set(size_t length);

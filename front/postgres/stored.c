@@ -66,6 +66,13 @@ static Stored *header_of(const bits *set) {
     return (Stored *)((char *)set->words - offsetof(Stored, words));
 }
 
+/* Where the part behind the one from `at` on begins. */
+size_t next_part(size_t at, size_t end) {
+    if (at + PART < end)
+        CHECK_FOR_INTERRUPTS();
+    return at + PART;
+}
+
 /* The positions from a multiple of PART on, as many as a part has, as a set. */
 bits part_of(const bits *set, size_t at) {
     size_t length = at < set->length ? Min(set->length - at, PART) : 0;
@@ -75,10 +82,9 @@ bits part_of(const bits *set, size_t at) {
 /* The set with no position. */
 bits new_set(size_t length) {
     bits set = room_for(length);
-    for (size_t at = 0; at < length; at += PART) {
+    FOR_PARTS(at, 0, length) {
         bits part = part_of(&set, at);
         sure(bits_settle(part.words, part.count, part.length, 0));
-        CHECK_FOR_INTERRUPTS();
     }
     return set;
 }
@@ -86,10 +92,9 @@ bits new_set(size_t length) {
 /* The set's positions below a length. */
 bits copy_set(const bits *set, size_t length) {
     bits copy = room_for(length);
-    for (size_t at = 0; at < length; at += PART) {
+    FOR_PARTS(at, 0, length) {
         bits to = part_of(&copy, at), from = part_of(set, at);
         sure(bits_copy(&to, &from));
-        CHECK_FOR_INTERRUPTS();
     }
     return copy;
 }
