@@ -45,8 +45,7 @@ typedef struct Stored {
 
 /* Goes over the positions from `start` up to and without `end`, one part after the other: `at` is where a part begins. Between
  * two parts it looks whether the query is cancelled. */
-#define FOR_PARTS(at, start, end)                                                                                      \
-    for (size_t at = (start); at < (end); at = next_part(at, end))
+#define FOR_PARTS(at, start, end) for (size_t at = (start); at < (end); at = next_part(at, end))
 
 /* How many positions a lane has. */
 #define LANE_LENGTH 256
