@@ -30,7 +30,7 @@ pub mod OrderFacts
 pub mod TextFacts
 pub mod BlocksFacts
 pub mod JsonFacts
--- private, but Stored for callers who keep the words of a set
+-- private, but Stored and Views for callers who keep the words of a set
 pub mod BitsCode
 pub mod Stored
 pub mod Views

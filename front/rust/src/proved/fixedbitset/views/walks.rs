@@ -116,7 +116,7 @@ impl<'a> Bits<'a> {
     }
 }
 
-// The words as they stand.
+// The words as they stand. A clause of a slice says that each is below 2 ^ 64, and a field of a struct has none to say it.
 #[inline(always)]
 fn all<'a>(lent: &'a [Block]) -> &'a [Block] {
     lent
