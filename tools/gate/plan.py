@@ -5,6 +5,8 @@ import re
 from stages import Stage
 
 SCRIPTS = "tools/gate"
+# What scripts of several folders of tools/ share.
+SHARED = ("tools/calls.py", "tools/kept.py", "tools/running.py")
 # Crates of examples, which are run and not proved: the proof of each costs as much as that of a library.
 EXAMPLES = ("test_examples", "test_other_examples")
 MAKERS = ("cc", "gcc", "g++", "clang", "make", "cargo", "rustc", "pkg-config", "valgrind", "python3")
@@ -55,17 +57,19 @@ class Plan:
 
     def first(self):
         """What needs no proof, the quickest first."""
-        script = ("./bits", "bits", "use", "build.sh", "README.md", "crates.txt", "docs/COMMANDS.md", "tools/refusals", "refuse/calls.py")
+        script = ("bits", "use", "tools/launch", "tools/calls.py", "README.md", "CHANGELOG.md", "crates.txt", "docs/COMMANDS.md")
+        calls = ("bits", "use", "test", "tools", "tests/libraries.txt", "crates.txt")
         return [
-            Stage("./bits where it cannot start", ("refuse/check_bits",), ("refuse/check_bits", *script[1:])),
-            Stage("calls that are not known", ("refuse/check_calls",), ("refuse", "tests/run", "test", "docs/check_names", "tools", "crates.txt")),
+            Stage("./bits where it cannot start", ("tools/launch/check_bits",), script),
+            Stage("calls that are not known", ("tools/launch/check_calls",), calls),
         ]
 
     def scripts(self):
         """The tests of the scripts that judge."""
-        gate = ("refuse", "tests/libraries.txt", "crates.txt", "test", SCRIPTS)
+        edits = (*SHARED, "tools/mutants")
+        gate = (*edits, "tests/libraries.txt", "crates.txt", "test", SCRIPTS)
         return [
-            Stage("the script that tries edits", ("refuse/check_edits",), ("refuse",)),
+            Stage("the script that tries edits", ("tools/mutants/check_edits",), edits),
             Stage("the gate by itself", (f"{SCRIPTS}/check_gate",), gate),
         ] if self.is_whole else []
 
@@ -83,7 +87,7 @@ class Plan:
     def tests_of_values(self):
         tests = self.tests()
         used = sorted({it for names in tests.values() for it in names})
-        return Stage("tests of values", ("tests/run", *tests), ("tests", *self.sources(*used))) if tests else None
+        return Stage("tests of values", ("tools/run_tests", *tests), ("tests", "tools/run_tests", *self.sources(*used))) if tests else None
 
     def lines_of(self, names):
         return "".join(f"{it}: {' '.join(self.crates[it])}\n" for it in names if it in self.crates)
@@ -94,38 +98,38 @@ class Plan:
     def edits(self, log, folder, lanes):
         words = ("--proved", "--lanes", str(lanes), "--beside", log, "--from", folder)
         names = () if self.is_whole else tuple(it for it in self.names if it not in EXAMPLES)
-        return Stage("wrong bodies", ("refuse/edits", *words, *names), keeps=True)
+        return Stage("wrong bodies", ("tools/mutants/edits", *words, *names), keeps=True)
 
     def fronts(self):
         """What stands above the static library and is no Rattle."""
         library = self.sources("bits_c", parts=("src", "specs", "proofs"))
-        front = Stage("the crate for Rust and the header for C", ("front/test",), ("front", "docs/make_api", *library), MAKERS, ("README.md",))
+        front = Stage("the crate for Rust and the header for C", ("front/test",), ("front", "tools/docs/make_api", *library), MAKERS, ("README.md",))
         server = ("pg_config", "postgres", "psql", *MAKERS)
         inputs = ("front/postgres", "front/lib", "front/c")
         postgres = Stage("the type for PostgreSQL", ("front/postgres/test",), inputs, server, ("README.md",))
         crate = ("front/rust", "front/differ", "front/registry", "front/compilers")
         gcc = [f"{it}-linux-gnu-gcc" for it in ("aarch64", "i686", "s390x")]
         emulators = ("qemu-aarch64-static", "qemu-s390x-static", "wasm-ld", "node", "cargo", "rustc", "cc", *gcc)
-        targets = Stage("the crate on other targets", ("front/targets",), (*crate, "front/targets", "front/wrong", "front/wrong_lines", "refuse/kept.py"), emulators)
+        others = ("front/targets", "front/wrong", "front/wrong_lines", "tools/kept.py")
+        targets = Stage("the crate on other targets", ("front/targets",), (*crate, *others), emulators)
         client = Stage("petgraph over the crate", ("front/client",), (*crate, "front/client"), ("cargo", "rustc", "cc"))
         return [front, postgres, targets, client] if self.has("bits_c") else []
 
     def last(self):
         """What runs the programs."""
-        bits = (*self.sources("bits"), "bits", "build.sh", "tools/refusals", "refuse/calls.py", "docs/COMMANDS.md", "examples",
-                f"{SCRIPTS}/programs", f"{SCRIPTS}/report.sh")
-        shared = ("refuse/running.py", "refuse/slow.py", "refuse/slow_answers.py", "refuse/refuse.c", "refuse/memory.txt",
-                  "refuse/calls.py")
+        script = ("bits", "tools/launch/build.sh", "tools/launch/refusals", "tools/calls.py")
+        bits = (*self.sources("bits"), *script, "docs/COMMANDS.md", "examples", f"{SCRIPTS}/programs", f"{SCRIPTS}/report.sh")
+        shared = ("tools/calls.py", "tools/running.py", "tools/fuzz", "tools/memory")
         uses = [it for it in self.names if it.startswith("use_") and it != "use_text"]
         stored = [f"crates/{it}/{part}" for it in uses for part in ("cases", "wrong", "stdin", "stdout")]
         stored = [it for it in stored if (self.top / it).exists()]
-        commands = ("docs/check_commands",)
+        commands = ("tools/docs/check_commands",)
         refusals = self.sources("test_refusals", "bits")
         stages = [
             (["bits"], Stage("programs", (f"{SCRIPTS}/programs",), bits, ("cc",))),
-            (["bits"], Stage("examples of docs/COMMANDS.md", ("docs/check_commands",), (*bits, *commands))),
-            (["bits"], Stage("lines with one byte changed", ("refuse/mutants",), (*bits, *commands, "refuse/mutants", *shared))),
-            (uses, Stage("input of the uses", ("refuse/uses", *uses), (*self.sources(*uses), *stored, "refuse/uses", *shared))),
-            (["test_refusals"], Stage("memory refused", ("refuse/sweep",), (*refusals, "refuse/sweep", "examples", "docs/COMMANDS.md", *shared))),
+            (["bits"], Stage("examples of docs/COMMANDS.md", ("tools/docs/check_commands",), (*bits, *commands))),
+            (["bits"], Stage("lines with one byte changed", ("tools/fuzz/lines",), (*bits, *commands, *shared))),
+            (uses, Stage("input of the uses", ("tools/fuzz/uses", *uses), (*self.sources(*uses), *stored, *shared))),
+            (["test_refusals"], Stage("memory refused", ("tools/memory/sweep",), (*refusals, "examples", "docs/COMMANDS.md", *shared))),
         ]
         return [stage for names, stage in stages if self.has(*names)]

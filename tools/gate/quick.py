@@ -103,8 +103,8 @@ def run(top):
             quick.step(f"check of {name}", ["rt", "check"], f"crates/{name}")
     edits = edits_to_try(top, base, files)
     if edits:
-        quick.step(f"{len(edits)} wrong bodies", ["refuse/edits", "--those", *edits])
+        quick.step(f"{len(edits)} wrong bodies", ["tools/mutants/edits", "--those", *edits])
     tests = tests_to_run(top, files, crates)
     if tests:
-        quick.step("tests of values", ["tests/run", *(it for it in tests if it not in EXAMPLES)])
+        quick.step("tests of values", ["tools/run_tests", *(it for it in tests if it not in EXAMPLES)])
     return quick.finish()

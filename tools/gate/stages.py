@@ -38,7 +38,7 @@ class Stage:
             return [*self.command]
         more = [word for it in self.blocks for word in ("--blocks", it)]
         more += [word for it in self.tools for word in ("--tool", it)]
-        return ["refuse/kept_stage", *flag, self.name, "--inputs", *self.inputs, *more, "--", *self.command]
+        return ["tools/gate/kept_stage", *flag, self.name, "--inputs", *self.inputs, *more, "--", *self.command]
 
 
 class Run:

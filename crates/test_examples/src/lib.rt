@@ -1,5 +1,5 @@
 //! The examples in the docs of the public calls of a set and of `flow`, as tests.
-//! docs/make_examples writes each file of this crate but `calls.rt`.
+//! tools/docs/make_examples writes each file of this crate but `calls.rt`.
 #![tactic(auto)]
 
 #[cfg(test)]

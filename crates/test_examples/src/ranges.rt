@@ -1,4 +1,4 @@
-//! The examples in the docs of `fixedbitset::ranges`. docs/make_examples writes this file.
+//! The examples in the docs of `fixedbitset::ranges`. tools/docs/make_examples writes this file.
 
 use crate::calls::{cleared, equal, holds};
 

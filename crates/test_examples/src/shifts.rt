@@ -1,4 +1,4 @@
-//! The examples in the docs of `fixedbitset::shifts`. docs/make_examples writes this file.
+//! The examples in the docs of `fixedbitset::shifts`. tools/docs/make_examples writes this file.
 
 use crate::calls::{cleared, equal, gives, known, known_equal, set_of};
 

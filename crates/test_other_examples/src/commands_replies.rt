@@ -1,4 +1,4 @@
-//! The examples in the docs of `bitcommands::commands::replies`. docs/make_examples writes this file.
+//! The examples in the docs of `bitcommands::commands::replies`. tools/docs/make_examples writes this file.
 
 use crate::calls::{equal, ok};
 use bitcommands::commands::Reply;

@@ -1,4 +1,4 @@
-//! The examples in the docs of `bitjson::form`. docs/make_examples writes this file.
+//! The examples in the docs of `bitjson::form`. tools/docs/make_examples writes this file.
 
 use crate::calls::{equal, ok};
 use bitjson::form;

@@ -1,4 +1,4 @@
-//! Block 1 of CALLING.md. docs/make_examples writes this file.
+//! Block 1 of CALLING.md. tools/docs/make_examples writes this file.
 
 ghost use Rattle.std.specs.Prelude.{IfOk, ◌≡◌, ◌<◌};
 ghost use Rattle.fixedbitset.specs.Bits as model;

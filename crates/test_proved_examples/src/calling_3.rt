@@ -1,4 +1,4 @@
-//! Block 3 of CALLING.md. docs/make_examples writes this file.
+//! Block 3 of CALLING.md. tools/docs/make_examples writes this file.
 
 ghost use Rattle.std.specs.Prelude.{◌≡◌, IfSome};
 ghost use Rattle.fixedbitset.specs.Bits.{of_words};

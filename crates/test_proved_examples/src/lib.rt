@@ -1,5 +1,5 @@
 //! The examples in the docs of the laws of sets, and of ranks with their laws, as tests, and the blocks of the documents.
-//! docs/make_examples writes each file of this crate.
+//! tools/docs/make_examples writes each file of this crate.
 #![tactic(auto)]
 
 #[cfg(test)]

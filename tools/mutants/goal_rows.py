@@ -1,0 +1,128 @@
+"""Rows of tools/mutants/check_edits on edits that name a goal: how their files and copies are read, and with a stand-in for the checks,
+what is told of them."""
+import contextlib
+import io
+
+from kept_rows import StandIn
+from wrong_bodies import goals, naming
+from wrong_bodies.copies import Judge
+
+ANSWERS = """use Rattle.numbers.proofs.next.Goals as goal
+
+-- A lemma.
+small : 1 ≤ 2
+small = omega arith
+
+pub returns : goal.returns
+unfolding small
+returns c =
+    grind arith
+
+-- src/lib.rt:9:1
+pub overflow : goal.overflow
+overflow c = small
+"""
+ONE_ANSWER = """use Rattle.numbers.proofs.next.Goals as goal
+
+-- A lemma.
+small : 1 ≤ 2
+small = omega arith
+
+
+
+
+
+
+-- src/lib.rt:9:1
+pub overflow : goal.overflow
+overflow c = small
+"""
+HOLES = """use Rattle.numbers.proofs.next.Goals as goal
+
+-- A lemma.
+small : 1 ≤ 2
+small = omega arith
+
+pub returns : goal.returns
+returns = ?
+
+
+
+-- src/lib.rt:9:1
+pub overflow : goal.overflow
+overflow = ?
+
+pub other : goal.other
+other = ?"""
+OPEN = "note: src/lib.rt:9:1: it is not proved that what it ensures holds (`returns`)\n"
+NEXT = OPEN + "fn numbers::next: no proof: `search` did not prove `returns`\nonly=1"
+# What a check says where the answer that stands for `returns`, or the other, is false, in which lines.
+FALSE = "proofs/next/Answers.antt:{}:5: error: `{}`: the goal fails\nfn numbers::next: not proved\nonly=1"
+NOTHING = "fn numbers::next: perhaps\nonly=1"
+# A goal and the answers that are stored, what the checks of an edit say in turn, and what has to be told.
+SAID = [
+    ("the goal that it names is open", "returns", "", [NEXT], "refused: src/lib.rt:9: "),
+    ("it names a goal that there is not", "nothing", "", [NOTHING, NEXT], "refused: src/lib.rt:9: "),
+    ("no goal of it is open", "returns", "", [NOTHING, NOTHING, "logic=proved"], "NOT REFUSED"),
+    ("the answer of its goal is false", "returns", ANSWERS, [FALSE.format(10, "returns")], "refused: proofs/next/Answers.antt:10: "),
+    ("a goal that no tactic was asked for is open", "returns", ANSWERS, [NEXT, NEXT], "refused: src/lib.rt:9: "),
+    ("the answer of another goal is false", "returns", ANSWERS, [FALSE.format(14, "overflow"), NEXT], "refused: src/lib.rt:9: "),
+]
+
+
+def check_goals(counts, project, runner_of):
+    """Rows on the texts, and on an edit of `next` in a project, which `runner_of` gives a runner with a stand-in."""
+    answers = goals.answers_in(ANSWERS)
+    counts.compare("answers in a proof file", answers, {"returns": range(6, 10), "overflow": range(12, 14)})
+    counts.compare("one answer is left", goals.with_answer(ANSWERS, answers, "overflow"), ONE_ANSWER)
+    counts.compare("holes in place of answers", goals.with_holes(ANSWERS, answers, ["other", "returns"]), HOLES)
+    counts.compare("an edit names a goal", goals.named_in("file: a\n# goal: b-c\n# open: d e\n"), ("b-c", ["d", "e"]))
+    counts.compare("an edit names none", goals.named_in("file: a\nold: # goal: b\n"), (None, []))
+    crate = project.crates["numbers"]
+    function = next(it for it in crate.functions if it.name == "next")
+    text = goals.without_tactic(crate.sources[function.path], function)
+    counts.compare("no tactic is asked for", text.count("#[tactic(none)]\npub fn next("), 1)
+    counts.compare("no tactic stands twice", goals.without_tactic(text, function), text)
+    for row in SAID:
+        check_said(counts, crate, runner_of, *row)
+    check_names(counts, crate)
+
+
+def edit_of_next(crate):
+    edit = next(it for it in crate.edits() if it.name == "next-stands")
+    edit.wrong_body = None  # (it stands in its function's place, as one of a trait's method does)
+    return edit
+
+
+def check_said(counts, crate, runner_of, name, goal, answers, said, wanted):
+    with stored(crate, answers), contextlib.redirect_stdout(io.StringIO()) as told:
+        edit, checks = edit_of_next(crate), StandIn(["logic=proved", *said])
+        edit.goal = goal
+        runner_of(checks).try_group([edit], 100)
+    counts.report(name, "" if f"next-stands: {wanted}" in told.getvalue() and not checks.left else f"{told.getvalue()}, {checks.left}")
+
+
+def check_names(counts, crate):
+    """The goal that is found for the file of an edit, by what a check says."""
+    edit = edit_of_next(crate)
+    judge = Judge(edit.functions[0], 0)
+    both = OPEN + OPEN.replace("`returns`", "`overflow`") + "fn numbers::next: no proof\n"
+    with stored(crate, ANSWERS):
+        found = naming.goal_found(edit, judge, FALSE.format(14, "overflow"))
+        counts.compare("the goal of an answer that is false", found, ("overflow", []))
+    counts.compare("the goals that are open", naming.goal_found(edit, judge, both), ("returns", ["overflow"]))
+    counts.compare("no goal is open", naming.goal_found(edit, judge, NOTHING), None)
+
+
+@contextlib.contextmanager
+def stored(crate, answers):
+    """These answers of `next` stand in the crate."""
+    path = "proofs/next/Answers.antt"
+    if answers:
+        crate.sources[path] = answers
+    crate.__dict__.pop("proofs", None)
+    try:
+        yield
+    finally:
+        crate.sources.pop(path, None)
+        crate.__dict__.pop("proofs", None)

@@ -1,0 +1,92 @@
+"""The goal that the file of an edit names, and copies that ask for this goal alone.
+
+A wrong body leaves some goals of its function open. One is enough to refuse it, but a check tries each of them with all its
+tactics before it says so, and checks each answer that is stored. So the file of an edit names a goal that refuses it,
+`# goal: NAME`, and behind `# open: NAME ..` the others that the tactics leave open. `tools/mutants/edits --name` writes both lines.
+
+Where the crate stores an answer for the goal, a copy has no other answer of this function, and no tactic. So an error in the
+answer refuses the edit. A lemma that stands beside the answers may be named too. Else the tactics are asked for this goal, and the others that they leave open, or that have a stored
+answer, have a hole. A goal has the same statement in both, and no goal rests on the answer of another. So what refuses an edit
+in such a copy refuses it in one with all goals. Where the named goal does not, the edit is tried with all of them, so a line
+that fits no longer costs time, and changes no verdict.
+"""
+import re
+
+from . import rattle
+
+GOAL = re.compile(r"(?m)^# goal: (\S+)$")
+OPEN = re.compile(r"(?m)^# open: (.+)$")
+LINES = re.compile(r"(?m)^# (?:goal|open): .*\n?")
+# The line of Answers.antt that begins the answer of a goal, and that of any declaration.
+ANSWER = re.compile(r"pub (\S+) : goal\.\S+$")
+DECLARATION = re.compile(r"(?:pub )?(\S+) : ")
+
+
+def named_in(text):
+    """The goal that the text of an edit names, or None, and the others that it says are open."""
+    goal, others = GOAL.search(text), OPEN.search(text)
+    return goal and goal[1], others[1].split() if others else []
+
+
+def answers_in(text, begins_one=ANSWER):
+    """The lines, from 0, of each answer in a text of Answers.antt, by the name of its goal, or of each declaration."""
+    found, name = {}, None
+    lines = text.split("\n")
+    for number, line in enumerate(lines):
+        if begins := begins_one.match(line):
+            name = begins[1]
+            found[name] = range(number, number + 1)
+        elif name and line.startswith((" ", ")", "]", "}", "unfolding ", f"{name} ")):
+            found[name] = range(found[name].start, number + 1)
+        elif line:
+            name = None
+    return found
+
+
+def path_of_answers(crate, function):
+    return f"proofs/{crate.place_of(function).replace('::', '/')}/Answers.antt"
+
+
+def ask_alone(edit, function, texts):
+    """Changes the texts of a copy so that a check of them asks of this function for the goal alone that the edit names."""
+    path = path_of_answers(edit.crate, function)
+    text = texts.get(path) or edit.crate.sources.get(path) or header(edit.crate, function)
+    answers = answers_in(text)
+    if edit.goal in answers_in(text, DECLARATION):
+        texts[path] = with_answer(text, answers, edit.goal)
+        texts[function.path] = without_tactic(texts.get(function.path) or edit.crate.sources[function.path], function)
+    else:
+        texts[path] = with_holes(text, answers, edit.others)
+
+
+def header(crate, function):
+    """The head of an Answers.antt."""
+    return f"use Rattle.{crate.name}.proofs.{crate.place_of(function).replace('::', '.')}.Goals as goal\n"
+
+
+def with_answer(text, answers, goal):
+    """The text with empty lines in place of all answers but one."""
+    lines = text.split("\n")
+    for name, own in answers.items():
+        if name != goal:
+            lines[own.start : own.stop] = [""] * len(own)
+    return "\n".join(lines)
+
+
+def with_holes(text, answers, others):
+    """The text with a hole for each goal that it answers, and for these others."""
+    lines = text.split("\n")
+    for name, own in answers.items():
+        lines[own.start + 1 : own.stop] = [f"{name} = ?", *[""] * (len(own) - 2)]
+    return "\n".join([*lines, *(f"pub {name} : goal.{name}\n{name} = ?" for name in others if name not in answers)])
+
+
+def without_tactic(text, function):
+    """The text of a file where no tactic is asked for any goal of the function."""
+    lines = text.split("\n")
+    now = next(it for it in rattle.functions_of(function.path, text) if it.symbol == function.symbol)
+    own = lines[now.lines.start - 1 : now.lines.stop - 1]
+    head = next(at for at, line in enumerate(own) if rattle.HEAD.match(line))
+    attributes = [line for line in own[:head] if not line.lstrip().startswith("#[tactic(")]
+    own = [f"{rattle.HEAD.match(own[head])[1]}#[tactic(none)]", *attributes, *own[head:]]
+    return "\n".join([*lines[: now.lines.start - 1], *own, *lines[now.lines.stop - 1 :]])

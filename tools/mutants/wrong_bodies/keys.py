@@ -1,0 +1,133 @@
+"""The verdicts of earlier runs on this machine, and what a verdict rests on: its key is the sum of all that."""
+import functools
+import pathlib
+import re
+import sys
+
+from . import copies, rattle
+
+MUTANTS = pathlib.Path(__file__).resolve().parent.parent
+sys.path.append(str(MUTANTS.parent))
+import kept  # noqa: E402
+
+# The lines of a library's `format` that change with each body, here or below, or with how it was built: sums of its files, and
+# what it has of the libraries below it.
+SUMS = re.compile(r"(?m)^(?:checked|sum|needs|over|carries|incremental)\b.*\n?")
+
+
+class Verdicts:
+    """Keeps that an edit is refused, and nothing else: what is not refused, or not known, is tried again by each run."""
+    def __init__(self, project, store):
+        self.project, self.store = project, store
+
+    def kept(self, edit):
+        """What an earlier run said of the same edit, which was refused, or None."""
+        if not self.store.is_usable:
+            return None
+        for key_of in (self.key_in_round, self.key_alone):
+            key = key_of(edit)
+            value = self.store.get(key) if key else None
+            if value and value.get("edit") == f"{edit.crate.name}/{edit.name}":
+                return moved(edit, value["why"], first_line(edit) - value["first_line"])
+        return None
+
+    def keep(self, edit, why, is_alone=False):
+        if not self.store.is_usable:
+            return
+        key = self.key_alone(edit) if is_alone else self.key_in_round(edit)
+        if key and self.libraries_are_as_read(edit.crate):
+            value = {"edit": f"{edit.crate.name}/{edit.name}", "why": why, "first_line": first_line(edit)}
+            self.store.put(key, value)
+
+    @functools.cache
+    def key_in_round(self, edit):
+        """The sum of the copy that a round of this edit by itself would check, of all that a check reads beside it, and of
+        this script."""
+        copy = copies.copy_of([edit])
+        texts = [sum_of_text(path, text) for path, text in sorted(copy.files().items())]
+        return self.key("in a round", edit, [*sorted(copy.only), *texts], library_read_above)
+
+    @functools.cache
+    def key_alone(self, edit):
+        """The sum of the crate with this edit in it, and of all libraries below it as they are."""
+        texts = {**edit.crate.sources, **edit.applied({})}
+        parts = [part for path, text in sorted(texts.items()) for part in (path, text)]
+        return self.key("alone", edit, parts, library_as_it_is)
+
+    def key(self, kind, edit, texts, read):
+        """The key of an edit, or None where a library below its crate is not built."""
+        below = sorted(self.project.below(edit.crate), key=lambda crate: crate.name)
+        libraries = [read(crate) for crate in below]
+        if None in libraries:
+            return None
+        lines = [crate.line for crate in (edit.crate, *below)]
+        judging = [edit.name, str(edit.is_lone), *sorted(edit.symbols), *sorted(edit.reach or ())]
+        return kept.sum_of([kind, kept.kit_sum(), sum_of_script(), *lines, *judging, *texts, *libraries])
+
+    def libraries_are_as_read(self, crate):
+        """Whether no library below was built anew since a key was made of it."""
+        return all(format_of(library) == read_format(library) for library in self.project.below(crate))
+
+
+def first_line(edit):
+    return edit.functions[0].lines.start if edit.functions else 0
+
+
+def moved(edit, why, by):
+    """What was said of an edit, with the line of a goal in its function where that stands now."""
+    path = re.escape(edit.functions[0].path) if edit.functions else "none"
+    return re.sub(rf"^(refused: {path}:)(\d+)", lambda found: found[1] + str(int(found[2]) + by), why)
+
+
+@functools.lru_cache(maxsize=None)
+def sum_of_text(path, text):
+    return kept.sum_of([path, rattle.without_comments(path, text)])
+
+
+@functools.cache
+def sum_of_script():
+    """A sum of this script's own sources."""
+    package = sorted((MUTANTS / "wrong_bodies").glob("*.py"))
+    texts = [path.read_bytes() for path in [MUTANTS / "edits", MUTANTS / "turns.py", MUTANTS.parent / "kept.py", *package]]
+    return kept.sum_of(texts)
+
+
+def library_of(crate):
+    return crate.rlib / f"{crate.name}.rlib"
+
+
+def read_format(crate):
+    try:
+        return (library_of(crate) / "format").read_text()
+    except OSError:
+        return None
+
+
+@functools.cache
+def format_of(crate):
+    """The file of a library that has a sum of all its files."""
+    return read_format(crate)
+
+
+@functools.cache
+def library_read_above(crate):
+    """A sum of what a check of a crate above reads of a library: the signatures and clauses of its functions, which the kit
+    wrote down without bodies and comments, its types and constants, its specs, and what its `format` says of each."""
+    folder, said = library_of(crate), format_of(crate)
+    if said is None:
+        return None
+    parts = [said_of_own(crate, said)]
+    for part in ("interface/lang", "lang/src", "lang/antt/specs", "lang/antt/specs.antt"):
+        for path in kept.files_below(folder / part):
+            parts += [str(path.relative_to(folder)), path.read_bytes()]
+    return kept.sum_of(parts)
+
+
+def said_of_own(crate, said):
+    """What a library's `format` says of its own functions and modules."""
+    of_others = re.compile(rf"(?m)^free\S* Rattle[-.](?!{crate.name}\b).*\n?")
+    return of_others.sub("", SUMS.sub("", said))
+
+
+def library_as_it_is(crate):
+    return format_of(crate)
