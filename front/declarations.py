@@ -129,6 +129,8 @@ def wrong_tests(exported, tests):
 
 
 def main():
+    if sys.argv[1:] == ["--help"]:
+        sys.exit(print(__doc__.strip()))
     views = [TOP / "crates" / it / "src/views.rt" for it in ("fixedbitset", "bitrows")]
     sources = "\n".join(it.read_text() for it in [*views, *sorted((TOP / "crates/bits_c/src").rglob("*.rt"))])
     archive, header, tests = ((TOP / "front" / it).read_text() for it in ("differ/declared.rs", "c/bits.h", "c/bits_check.h"))

@@ -11,6 +11,14 @@ def stop(script, sentence):
     sys.exit(2)
 
 
+def answer_help(words, text):
+    """Prints the text at the head of a script and ends it, where that is asked for."""
+    if "--help" in words or "-h" in words:
+        with contextlib.suppress(BrokenPipeError):
+            print(text.strip(), flush=True)
+        os._exit(0)
+
+
 class Parser(argparse.ArgumentParser):
     """The words of a call. `--help` prints the text at the head of the script."""
     def __init__(self, script, text):
@@ -22,14 +30,12 @@ class Parser(argparse.ArgumentParser):
         stop(self.script, f"{message}; {self.script} --help says how it is called")
 
     def parse_args(self, words=None):
-        if "--help" in words or "-h" in words:
-            with contextlib.suppress(BrokenPipeError):
-                print(self.text.strip(), flush=True)
-            os._exit(0)
+        answer_help(words, self.text)
         return super().parse_args(words)
 
 
-def no_words(script, words):
-    """For a script that takes none."""
+def no_words(script, words, text):
+    """For a script that takes none but `--help`."""
+    answer_help(words, text)
     if words:
         stop(script, f"it takes no word, and {words[0]} was given")

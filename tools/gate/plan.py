@@ -58,7 +58,8 @@ class Plan:
     def first(self):
         """What needs no proof, the quickest first."""
         script = ("bits", "use", "tools/launch", "tools/calls.py", "README.md", "CHANGELOG.md", "crates.txt", "docs/COMMANDS.md")
-        calls = ("bits", "use", "test", "tools", "tests/libraries.txt", "crates.txt")
+        programs = (".ci", "bits", "use", "test", "tools", "front", "bench")
+        calls = (*programs, "tests/libraries.txt", "crates.txt", "README.md", "CONTRIBUTING.md")
         return [
             Stage("./bits where it cannot start", ("tools/launch/check_bits",), script),
             Stage("calls that are not known", ("tools/launch/check_calls",), calls),
@@ -103,7 +104,7 @@ class Plan:
     def fronts(self):
         """What stands above the static library and is no Rattle."""
         library = self.sources("bits_c", parts=("src", "specs", "proofs"))
-        front = Stage("the crate for Rust and the header for C", ("front/test",), ("front", "tools/docs/make_api", *library), MAKERS, ("README.md",))
+        front = Stage("the crate for Rust and the header for C", ("front/test",), ("front", "tools/docs/make_api", "tools/calls.py", *library), MAKERS, ("README.md",))
         server = ("pg_config", "postgres", "psql", *MAKERS)
         inputs = ("front/postgres", "front/lib", "front/c")
         postgres = Stage("the type for PostgreSQL", ("front/postgres/test",), inputs, server, ("README.md",))
