@@ -91,7 +91,7 @@ pub fn count<O: WordOp>(a: &[Block], b: &[Block], steps: &mut Steps) -> usize
 pub fn none<O: WordOp>(a: &[Block], b: &[Block], steps: &mut Steps) -> bool
     ensures zero { result ≡ list_all (λ word. word == 0) (zip2 O.joined a.now b.now) }
     ensures cost { steps.new ≤ steps.old + lane_steps (min (length a.now) (length b.now)) }
-    ensures whole { IsTrue result
+    ensures exact_if_true { IsTrue result
         → steps.new ≡ steps.old + lane_steps (min (length a.now) (length b.now)) }
     ensures stops { result ≡ false → steps.old < steps.new }
 {
@@ -169,7 +169,7 @@ pub fn count_one(a: &[Block], steps: &mut Steps) -> usize
 pub fn none_one(a: &[Block], steps: &mut Steps) -> bool
     ensures zero { result ≡ list_all (λ word. word == 0) a.now }
     ensures cost { steps.new ≤ steps.old + lane_steps (length a.now) }
-    ensures whole { IsTrue result → steps.new ≡ steps.old + lane_steps (length a.now) }
+    ensures exact_if_true { IsTrue result → steps.new ≡ steps.old + lane_steps (length a.now) }
     ensures stops { result ≡ false → steps.old < steps.new }
 {
     let words = a.len();
@@ -203,7 +203,7 @@ pub fn none_one(a: &[Block], steps: &mut Steps) -> bool
 pub fn none_masked<O: WordOp>(mask: Block, words: &[Block], steps: &mut Steps) -> bool
     ensures zero { result ≡ list_all (λ word. word == 0) (map (O.joined mask) words.now) }
     ensures cost { steps.new ≤ steps.old + lane_steps (length words.now) }
-    ensures whole { IsTrue result → steps.new ≡ steps.old + lane_steps (length words.now) }
+    ensures exact_if_true { IsTrue result → steps.new ≡ steps.old + lane_steps (length words.now) }
     ensures stops { result ≡ false → steps.old < steps.new }
 {
     let count = words.len();

@@ -33,7 +33,7 @@ pub fn first_one(words: &[Block], steps: &mut Steps) -> Option<usize>
     ensures found { IfSome result (IsFirstOne words.now) }
     ensures none { IfNone result (AreZeros words.now) }
     ensures cost { IfSome result (λ at. steps.new ≡ steps.old + lane_steps (at + 1)) }
-    ensures whole { IfNone result (steps.new ≡ steps.old + lane_steps (length words.now)) }
+    ensures exact_if_none { IfNone result (steps.new ≡ steps.old + lane_steps (length words.now)) }
 {
     next_one::<And>(Block::MAX, words, 0, steps)
 }
@@ -54,7 +54,7 @@ pub fn last_one(words: &[Block], steps: &mut Steps) -> Option<usize>
     ensures none { IfNone result (AreZeros words.now) }
     ensures cost { IfSome result
         (λ at. steps.new ≡ steps.old + lane_steps (length words.now - at)) }
-    ensures whole { IfNone result (steps.new ≡ steps.old + lane_steps (length words.now)) }
+    ensures exact_if_none { IfNone result (steps.new ≡ steps.old + lane_steps (length words.now)) }
 {
     previous_one::<And>(Block::MAX, words, words.len(), steps)
 }
@@ -80,7 +80,7 @@ pub fn next_one<O: WordOp>(
     ensures found { IfSome result (IsNextOne (map (O.joined mask) words.now) from) }
     ensures none { IfNone result (AreZerosFrom (map (O.joined mask) words.now) from) }
     ensures cost { IfSome result (λ at. steps.new ≡ steps.old + lane_steps (at + 1 - from)) }
-    ensures whole { IfNone result
+    ensures exact_if_none { IfNone result
         (steps.new ≡ steps.old + lane_steps (length words.now - from)) }
 {
     let start = skip_zeros::<O>(mask, words, from, steps);
@@ -154,7 +154,7 @@ pub fn previous_one<O: WordOp>(
     ensures found { IfSome result (IsPreviousOne (map (O.joined mask) words.now) below) }
     ensures none { IfNone result (AreZerosBelow (map (O.joined mask) words.now) below) }
     ensures cost { IfSome result (λ at. steps.new ≡ steps.old + lane_steps (below - at)) }
-    ensures whole { IfNone result (steps.new ≡ steps.old + lane_steps below) }
+    ensures exact_if_none { IfNone result (steps.new ≡ steps.old + lane_steps below) }
 {
     let mut end = below;
     while end >= 2 * FOUR && are_zero_at::<O>(mask, words, end - FOUR) {
@@ -190,7 +190,7 @@ pub fn first_joined<O: WordOp>(a: &[Block], b: &[Block], steps: &mut Steps) -> O
     ensures found { IfSome result (IsFirstOne (zip2 O.joined a.now b.now)) }
     ensures none { IfNone result (AreZeros (zip2 O.joined a.now b.now)) }
     ensures cost { IfSome result (λ at. steps.new ≡ steps.old + lane_steps (at + 1)) }
-    ensures whole { IfNone result
+    ensures exact_if_none { IfNone result
         (steps.new ≡ steps.old + lane_steps (min (length a.now) (length b.now))) }
 {
     let common = a.len().min(b.len());

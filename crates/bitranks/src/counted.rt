@@ -75,7 +75,7 @@ pub fn select(ranks: &Ranks, index: usize, steps: &mut Steps) -> Option<usize>
     ensures value { result ≡ model.select ranks.now index }
     ensures cost { IfSome result (λ p. Halves (model.entries (words_needed ranks.now.length))
         (steps.old + nth_of_entry (p / 64)) steps.new) }
-    ensures whole { IfNone result (Halves (model.entries (words_needed ranks.now.length))
+    ensures exact_if_none { IfNone result (Halves (model.entries (words_needed ranks.now.length))
         (steps.old + last_words (words_needed ranks.now.length)) steps.new) }
     ensures bound { (n : ℕ) → model.entries (words_needed ranks.now.length) ≤ 2 ^ n
         → steps.new ≤ steps.old + n + 8 }

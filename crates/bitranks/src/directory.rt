@@ -123,7 +123,7 @@ pub fn select(
         ≡ slice_get (ascending (has_bit words.now) 0 (64 * length words.now)) index }
     ensures cost { IfSome result
         (λ p. Halves (length directory.now) (steps.old + nth_of_entry (p / 64)) steps.new) }
-    ensures whole { IfNone result (Halves (length directory.now)
+    ensures exact_if_none { IfNone result (Halves (length directory.now)
         (steps.old + last_words (length words.now)) steps.new) }
     ensures bound { (n : ℕ) → length directory.now ≤ 2 ^ n → steps.new ≤ steps.old + n + 8 }
 {
@@ -180,7 +180,7 @@ fn select_in(
     ensures none { IfNone result (count_below (has_bit words.now) (64 * end)
         ≤ count_below (has_bit words.now) (64 * first) + index) }
     ensures cost { IfSome result (λ p. steps.new + first ≡ steps.old + (p / 64 + 1)) }
-    ensures whole { IfNone result (steps.new ≡ steps.old + (end - first)) }
+    ensures exact_if_none { IfNone result (steps.new ≡ steps.old + (end - first)) }
     ensures bound { steps.new ≤ steps.old + (end - first) }
 {
     let mut left = index;

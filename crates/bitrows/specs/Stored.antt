@@ -41,4 +41,4 @@ pub record IsRowJoined (n w : ℕ) (old : List ℕ) (from into : ℕ) (changed :
   pub words : new ≡ put_row w old into row
   pub clean : IsClean n row
   pub value : of_words n row ≡ union (of_words n (row_words w old into)) (of_words n (row_words w old from))
-  pub told : changed ≡ not (is_subset (of_words n (row_words w old from)) (of_words n (row_words w old into)))
+  pub answer : changed ≡ not (is_subset (of_words n (row_words w old from)) (of_words n (row_words w old into)))

@@ -41,7 +41,7 @@ both_takes xs ys before front room end n m first mid long second end_is =
     let count : m ≡ min (length before - n) (length ys) = second ∙ rw (room_is, length-drop n before) refl in
     let both = joined xs ys n m (omega arith) (λ (lt : n < length xs). omega arith) in
     record {
-      told = omega (arith, length-append xs ys);
+      answer = omega (arith, length-append xs ys);
       written = rw (front_is, end_is, room_is, drop-drop m n before) (sym (append_assoc (take n xs) (take m ys) (drop (n + m) before)) ∙ ap (λ zs. zs ++ drop (n + m) before) (sym both.0));
       rest = sym both.1;
     }
@@ -56,5 +56,5 @@ rest_reversed xs rest n within is =
 -- what is taken from the front of a reversed list is taken from the end of the list
 pub from_reversed : (xs before after rest : List ℕ) (n : ℕ) → TakesFirst (λ zs. zs) (reverse xs) before n after (reverse rest) → TakesLast (λ zs. zs) xs before n after rest
 from_reversed xs before after rest n first =
-    let told : n ≡ min (length before) (length xs) = first.told ∙ ap (min (length before)) (length-reverse xs) in
-    record { told = told; written = first.written; rest = rest_reversed xs rest n (omega arith) first.rest }
+    let answer : n ≡ min (length before) (length xs) = first.answer ∙ ap (min (length before)) (length-reverse xs) in
+    record { answer = answer; written = first.written; rest = rest_reversed xs rest n (omega arith) first.rest }

@@ -61,12 +61,12 @@ split_left walk = lacked_left walk.first ++ lacked_left walk.second
 
 -- A call wrote the first positions left, as many as are left or as there is room for, and left those behind them.
 pub record TakesFirst {S : Type 0} (left : S → List ℕ) (old : S) (before : List ℕ) (count : ℕ) (after : List ℕ) (new : S) : Type 0 where
-  pub told : count ≡ min (length before) (length (left old))
+  pub answer : count ≡ min (length before) (length (left old))
   pub written : after ≡ take count (left old) ++ drop count before
   pub rest : left new ≡ drop count (left old)
 
 -- The same from the end: the last position is written first.
 pub record TakesLast {S : Type 0} (left : S → List ℕ) (old : S) (before : List ℕ) (count : ℕ) (after : List ℕ) (new : S) : Type 0 where
-  pub told : count ≡ min (length before) (length (left old))
+  pub answer : count ≡ min (length before) (length (left old))
   pub written : after ≡ take count (reverse (left old)) ++ drop count before
   pub rest : left new ≡ take (length (left old) - count) (left old)

@@ -35,7 +35,7 @@ pub trait Part {
     /// That number, which is not below the number of items left, where it is a `usize`.
     fn most(&self) -> Option<usize>
         ensures upper { IfSome result (UpTo (at_most (length (items self.now)))) }
-        ensures known { room self.now < 2 ^ 64 → result ≡ Some (room self.now) };
+        ensures some_if_fits { room self.now < 2 ^ 64 → result ≡ Some (room self.now) };
 
     /// Where no call is made, `front` holds of the walk and itself.
     ghost front_stays: { (walk : Self) → front walk walk };
@@ -159,7 +159,7 @@ impl<A: Part + Drop, B: Part + Drop> InTurn<A, B> {
     pub fn most(&self) -> Option<usize>
         ensures upper { IfSome result
             (UpTo (at_most (length (A.items self.now.first ++ B.items self.now.second)))) }
-        ensures known { A.room self.now.first + B.room self.now.second < 2 ^ 64
+        ensures some_if_fits { A.room self.now.first + B.room self.now.second < 2 ^ 64
             → result ≡ Some (A.room self.now.first + B.room self.now.second) }
     {
         self.first.most()?.checked_add(self.second.most()?)

@@ -142,7 +142,7 @@ impl<'a> Iterator for Union<'a> {
         ensures zero { result.0 ≡ 0 }
         ensures lower { IsWithinCount result.0 (item_count joined_items self.now) }
         ensures upper { IfSome result.1 (UpTo (item_count joined_items self.now)) }
-        ensures known { 64 * (length self.now.first.words + 2)
+        ensures some_if_fits { 64 * (length self.now.first.words + 2)
             + 64 * (length self.now.second.source.words + 2) < 2 ^ 64
             → result.1 ≡ Some
             (64 * (length self.now.first.words + 2)
@@ -207,7 +207,7 @@ impl<'a> Iterator for SymmetricDifference<'a> {
         ensures zero { result.0 ≡ 0 }
         ensures lower { IsWithinCount result.0 (item_count split_items self.now) }
         ensures upper { IfSome result.1 (UpTo (item_count split_items self.now)) }
-        ensures known { 64 * (length self.now.first.source.words + 2)
+        ensures some_if_fits { 64 * (length self.now.first.source.words + 2)
             + 64 * (length self.now.second.source.words + 2) < 2 ^ 64
             → result.1 ≡ Some
             (64 * (length self.now.first.source.words + 2)

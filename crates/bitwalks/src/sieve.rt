@@ -152,7 +152,7 @@ impl<'a, C: Choice> Iterator for Sieve<'a, C> {
         ensures zero { result.0 ≡ 0 }
         ensures lower { IsWithinCount result.0 (item_count (λ sieved. sieved.items) self.now) }
         ensures upper { IfSome result.1 (UpTo (item_count (λ sieved. sieved.items) self.now)) }
-        ensures known { 64 * (length self.now.source.words + 2) < 2 ^ 64
+        ensures some_if_fits { 64 * (length self.now.source.words + 2) < 2 ^ 64
             → result.1 ≡ Some (64 * (length self.now.source.words + 2)) }
     {
         (0, self.source.size_hint().1)

@@ -234,7 +234,7 @@ impl<'a> Iterator for Ones<'a> {
         ensures zero { result.0 ≡ 0 }
         ensures lower { IsWithinCount result.0 (item_count (λ walk. walk.items) self.now) }
         ensures upper { IfSome result.1 (UpTo (item_count (λ walk. walk.items) self.now)) }
-        ensures known { 64 * (length self.now.words + 2) < 2 ^ 64
+        ensures some_if_fits { 64 * (length self.now.words + 2) < 2 ^ 64
             → result.1 ≡ Some (64 * (length self.now.words + 2)) }
     {
         self.ones.size_hint()
@@ -273,7 +273,7 @@ impl Iterator for IntoOnes {
         ensures zero { result.0 ≡ 0 }
         ensures lower { IsWithinCount result.0 (item_count (λ walk. walk.items) self.now) }
         ensures upper { IfSome result.1 (UpTo (item_count (λ walk. walk.items) self.now)) }
-        ensures known { 64 * (length self.now.words + 2) < 2 ^ 64
+        ensures some_if_fits { 64 * (length self.now.words + 2) < 2 ^ 64
             → result.1 ≡ Some (64 * (length self.now.words + 2)) }
     {
         self.owned.size_hint()
@@ -334,7 +334,7 @@ impl<'a> Iterator for Zeroes<'a> {
         ensures zero { result.0 ≡ 0 }
         ensures lower { IsWithinCount result.0 (item_count (λ walk. walk.items) self.now) }
         ensures upper { IfSome result.1 (UpTo (item_count (λ walk. walk.items) self.now)) }
-        ensures known { 64 * (length self.now.words + 2) < 2 ^ 64
+        ensures some_if_fits { 64 * (length self.now.words + 2) < 2 ^ 64
             → result.1 ≡ Some (64 * (length self.now.words + 2)) }
     {
         self.zeroes.size_hint()

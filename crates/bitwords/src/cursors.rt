@@ -437,7 +437,7 @@ impl<M: Middle + Drop> Iterator for Cursor<M> {
         ensures zero { result.0 ≡ 0 }
         ensures lower { IsWithinCount result.0 (item_count (λ walk. walk.items) self.now) }
         ensures upper { IfSome result.1 (UpTo (item_count (λ walk. walk.items) self.now)) }
-        ensures known { 64 * (length self.now.words + 2) < 2 ^ 64
+        ensures some_if_fits { 64 * (length self.now.words + 2) < 2 ^ 64
             → result.1 ≡ Some (64 * (length self.now.words + 2)) }
     {
         (0, (self.middle.left() + 2).checked_mul(BITS))

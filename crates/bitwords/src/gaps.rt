@@ -45,7 +45,7 @@ pub fn first(
     ensures gap { result ≡ first_room (has_bit words.now) end count from }
     ensures cost { IfSome result
         (λ p. steps.new ≡ steps.old + lane_steps (range_words from (p + count))) }
-    ensures whole { steps.new ≤ steps.old + lane_steps (range_words from end) }
+    ensures bound { steps.new ≤ steps.old + lane_steps (range_words from end) }
     ensures missed { IfNone result
         (steps.old + lane_steps (range_words from (end + 1 - count)) ≤ steps.new) }
 {
@@ -127,7 +127,7 @@ fn first_of_some(
     ensures gap { result ≡ first_room (has_bit words.now) end count from }
     ensures cost { IfSome result
         (λ p. steps.new ≡ steps.old + lane_steps (range_words from (p + count))) }
-    ensures whole { steps.new ≤ steps.old + lane_steps (range_words from end) }
+    ensures bound { steps.new ≤ steps.old + lane_steps (range_words from end) }
     ensures missed { IfNone result
         (steps.old + lane_steps (range_words from (end + 1 - count)) ≤ steps.new) }
 {

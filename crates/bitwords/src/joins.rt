@@ -164,7 +164,7 @@ pub fn none<O: WordOp>(a: &[Block], b: &[Block], steps: &mut Steps) -> bool
     ensures none { result ≡ (count_below (bits_test O.truth a.now b.now)
         (64 * max (length a.now) (length b.now)) == 0) }
     ensures cost { steps.new ≤ steps.old + both_steps O.KEEP O.TAKE (length a.now) (length b.now) }
-    ensures whole { IsTrue result
+    ensures exact_if_true { IsTrue result
         → steps.new ≡ steps.old + both_steps O.KEEP O.TAKE (length a.now) (length b.now) }
     ensures stops { result ≡ false → steps.old < steps.new }
 {
@@ -191,7 +191,7 @@ pub fn first_of_difference(a: &[Block], b: &[Block], steps: &mut Steps) -> Optio
     ensures bound { steps.new ≤ steps.old + both_steps true false (length a.now) (length b.now) }
     ensures cost { IfSome result
         (λ p. steps.new ≡ steps.old + both_steps true false (p / 64 + 1) (length b.now)) }
-    ensures whole { IfNone result
+    ensures exact_if_none { IfNone result
         (steps.new ≡ steps.old + both_steps true false (length a.now) (length b.now)) }
 {
     let at = first_word(a, b, steps)?;
@@ -250,7 +250,7 @@ fn none_rest(words: &[Block], from: usize, counts: bool, steps: &mut Steps) -> b
         (drop from words.now) else true) }
     ensures cost { steps.new ≤ steps.old
         + (if counts then lane_steps (length words.now - from) else 0) }
-    ensures whole { IsTrue result
+    ensures exact_if_true { IsTrue result
         → steps.new ≡ steps.old + (if counts then lane_steps (length words.now - from) else 0) }
     ensures stops { result ≡ false → steps.old < steps.new }
 {
@@ -268,7 +268,7 @@ fn none_words<O: WordOp>(a: &[Block], b: &[Block], steps: &mut Steps) -> bool
     ensures zero { result ≡ list_all (λ word. word == 0)
         (zip_longest O.joined O.KEEP O.TAKE a.now b.now) }
     ensures cost { steps.new ≤ steps.old + both_steps O.KEEP O.TAKE (length a.now) (length b.now) }
-    ensures whole { IsTrue result
+    ensures exact_if_true { IsTrue result
         → steps.new ≡ steps.old + both_steps O.KEEP O.TAKE (length a.now) (length b.now) }
     ensures stops { result ≡ false → steps.old < steps.new }
 {
@@ -287,7 +287,7 @@ fn none_unlike<O: WordOp>(a: &[Block], b: &[Block], steps: &mut Steps) -> bool
     ensures zero { result ≡ list_all (λ word. word == 0)
         (zip_longest O.joined O.KEEP O.TAKE a.now b.now) }
     ensures cost { steps.new ≤ steps.old + both_steps O.KEEP O.TAKE (length a.now) (length b.now) }
-    ensures whole { IsTrue result
+    ensures exact_if_true { IsTrue result
         → steps.new ≡ steps.old + both_steps O.KEEP O.TAKE (length a.now) (length b.now) }
     ensures stops { result ≡ false → steps.old < steps.new }
 {
@@ -304,7 +304,7 @@ fn first_word(a: &[Block], b: &[Block], steps: &mut Steps) -> Option<usize>
     ensures bound { steps.new ≤ steps.old + both_steps true false (length a.now) (length b.now) }
     ensures cost { IfSome result
         (λ at. steps.new ≡ steps.old + both_steps true false (at + 1) (length b.now)) }
-    ensures whole { IfNone result
+    ensures exact_if_none { IfNone result
         (steps.new ≡ steps.old + both_steps true false (length a.now) (length b.now)) }
 {
     let common = a.len().min(b.len());

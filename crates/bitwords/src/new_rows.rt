@@ -32,7 +32,7 @@ pub fn joined<O: WordOp>(
 ) -> Result<Vec<Block>, AllocError>
     ensures bits { IfOk result (λ new. IsJoined O.truth words.now (has_bit other.now) new.items) }
     ensures cost { steps.new ≤ steps.old + join_steps O.KEEP (length words.now) (length other.now) }
-    ensures whole { OnOk result
+    ensures exact_if_ok { OnOk result
         (steps.new ≡ steps.old + join_steps O.KEEP (length words.now) (length other.now)) }
     ensures grows { steps.old ≤ steps.new }
 {
@@ -60,7 +60,7 @@ fn joined_long<O: WordOp>(
     requires rest { O.KEEP ≡ false → length words.now ≤ length other.now }
     ensures bits { IfOk result (λ new. IsJoined O.truth words.now (has_bit other.now) new.items) }
     ensures cost { steps.new ≤ steps.old + lane_steps (min (length words.now) (length other.now)) }
-    ensures whole { OnOk result
+    ensures exact_if_ok { OnOk result
         (steps.new ≡ steps.old + lane_steps (min (length words.now) (length other.now))) }
     ensures grows { steps.old ≤ steps.new }
 {
@@ -84,7 +84,7 @@ fn write_joined<O: WordOp>(
     ensures words { OnOk result
         (to.new.items ≡ zip_longest O.joined true false words.now other.now) }
     ensures cost { steps.new ≤ steps.old + lane_steps (min (length words.now) (length other.now)) }
-    ensures whole { OnOk result
+    ensures exact_if_ok { OnOk result
         (steps.new ≡ steps.old + lane_steps (min (length words.now) (length other.now))) }
     ensures grows { steps.old ≤ steps.new }
 {

@@ -45,7 +45,7 @@ pub fn first(words: &[Block], steps: &mut Steps) -> Option<usize>
     ensures value { result
         ≡ slice_get (ascending (has_bit words.now) 0 (64 * length words.now)) 0 }
     ensures cost { IfSome result (λ p. steps.new ≡ steps.old + lane_steps (p / 64 + 1)) }
-    ensures whole { IfNone result (steps.new ≡ steps.old + lane_steps (length words.now)) }
+    ensures exact_if_none { IfNone result (steps.new ≡ steps.old + lane_steps (length words.now)) }
 {
     let at = first_one(words, steps)?;
     Some(BITS * at + lowest_bit(words[at]))
@@ -69,7 +69,7 @@ pub fn last(words: &[Block], steps: &mut Steps) -> Option<usize>
         ≡ last_or None (ascending (has_bit words.now) 0 (64 * length words.now)) }
     ensures cost { IfSome result
         (λ p. steps.new ≡ steps.old + lane_steps (length words.now - p / 64)) }
-    ensures whole { IfNone result (steps.new ≡ steps.old + lane_steps (length words.now)) }
+    ensures exact_if_none { IfNone result (steps.new ≡ steps.old + lane_steps (length words.now)) }
 {
     let at = last_one(words, steps)?;
     Some(BITS * at + highest_bit(words[at]))
@@ -98,7 +98,7 @@ pub fn next<O: WordOp>(words: &[Block], from: usize, end: usize, steps: &mut Ste
     ensures none { IfNone result (NonePasses (bit_test (O.truth true) words.now) from end) }
     ensures cost { IfSome result
         (λ p. steps.new ≡ steps.old + 1 + lane_steps (p / 64 - from / 64)) }
-    ensures whole { steps.new ≤ steps.old + 1 + lane_steps (length words.now - 1 - from / 64) }
+    ensures bound { steps.new ≤ steps.old + 1 + lane_steps (length words.now - 1 - from / 64) }
     ensures missed { IfNone result (from < end
         → steps.old + 1 + lane_steps ((end - 1) / 64 - from / 64) ≤ steps.new) }
     ensures row { from < end
@@ -136,7 +136,7 @@ pub fn previous<O: WordOp>(words: &[Block], below: usize, steps: &mut Steps) -> 
     ensures none { IfNone result (NonePasses (bit_test (O.truth true) words.now) 0 below) }
     ensures cost { IfSome result
         (λ p. steps.new ≡ steps.old + 1 + lane_steps ((below - 1) / 64 - p / 64)) }
-    ensures whole { steps.new ≤ steps.old + 1 + lane_steps ((below - 1) / 64) }
+    ensures bound { steps.new ≤ steps.old + 1 + lane_steps ((below - 1) / 64) }
     ensures missed { IfNone result (0 < below
         → steps.new ≡ steps.old + 1 + lane_steps ((below - 1) / 64)) }
     ensures empty { below ≡ 0 → steps.new ≡ steps.old }
@@ -200,7 +200,7 @@ fn next_in_row<O: WordOp>(words: &[Block], from: usize, steps: &mut Steps) -> Op
         (NonePasses (bit_test (O.truth true) words.now) from (64 * length words.now)) }
     ensures cost { IfSome result
         (λ p. steps.new ≡ steps.old + 1 + lane_steps (p / 64 - from / 64)) }
-    ensures whole { steps.new ≤ steps.old + 1 + lane_steps (length words.now - 1 - from / 64) }
+    ensures bound { steps.new ≤ steps.old + 1 + lane_steps (length words.now - 1 - from / 64) }
     ensures missed { IfNone result
         (steps.new ≡ steps.old + 1 + lane_steps (length words.now - 1 - from / 64)) }
 {

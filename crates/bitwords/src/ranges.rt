@@ -81,7 +81,7 @@ pub fn none<O: WordOp>(words: &[Block], start: usize, end: usize, steps: &mut St
     ensures none { result ≡ (count_below (bit_test (O.truth true) words.now) end
         == count_below (bit_test (O.truth true) words.now) start) }
     ensures cost { steps.new ≤ steps.old + search_steps start end }
-    ensures whole { IsTrue result → steps.new ≡ steps.old + search_steps start end }
+    ensures exact_if_true { IsTrue result → steps.new ≡ steps.old + search_steps start end }
     ensures stops { result ≡ false → steps.old < steps.new }
 {
     let (low, high) = cut(start, end);
@@ -256,7 +256,7 @@ fn none_whole<O: WordOp>(words: &[Block], first: usize, last: usize, steps: &mut
     ensures none { result ≡ (count_below (bit_test (O.truth true) words.now) (64 * last)
         == count_below (bit_test (O.truth true) words.now) (64 * first)) }
     ensures cost { steps.new ≤ steps.old + lane_steps (last - first) }
-    ensures whole { IsTrue result → steps.new ≡ steps.old + lane_steps (last - first) }
+    ensures exact_if_true { IsTrue result → steps.new ≡ steps.old + lane_steps (last - first) }
     ensures stops { result ≡ false → steps.old < steps.new }
 {
     // A single word is tested by itself: as a lane with zeros it would go through a vector register.

@@ -13,8 +13,8 @@ returns-clause-none g c i _ =
 pub loop-at-preserved : goal.loop-at-preserved
 loop-at-preserved g c = record { zeros = λ i below. grind (arith, c.loop-at.invariant.zeros i); cost = grind arith }
 
-pub returns-clause-whole : goal.returns-clause-whole
-returns-clause-whole g c = grind arith
+pub returns-clause-exact_if_none : goal.returns-clause-exact_if_none
+returns-clause-exact_if_none g c = grind arith
 
 pub loop-lane-preserved : goal.loop-lane-preserved
 loop-lane-preserved g c = record {

@@ -8,8 +8,8 @@ loop-at-preserved g c = record { zeros = λ i from below. grind (arith, common_s
 pub returns-then-word-ne0-clause-cost : goal.returns-then-word-ne0-clause-cost
 returns-then-word-ne0-clause-cost g c = grind arith
 
-pub returns-clause-whole : goal.returns-clause-whole
-returns-clause-whole g c = grind arith
+pub returns-clause-exact_if_none : goal.returns-clause-exact_if_none
+returns-clause-exact_if_none g c = grind arith
 
 pub returns-then-word-ne0-clause-found : goal.returns-then-word-ne0-clause-found
 returns-then-word-ne0-clause-found g c = grind (arith, common_steps)

@@ -19,8 +19,8 @@ loop-end-init g c = record { within = omega arith; zeros = λ i from below. absu
 pub returns-clause-none : goal.returns-clause-none
 returns-clause-none g c i below = grind (arith, c.loop-at.invariant.zeros i)
 
-pub returns-clause-whole : goal.returns-clause-whole
-returns-clause-whole g c = grind arith
+pub returns-clause-exact_if_none : goal.returns-clause-exact_if_none
+returns-clause-exact_if_none g c = grind arith
 
 pub loop-end-2-preserved : goal.loop-end-2-preserved
 loop-end-2-preserved g c = record {

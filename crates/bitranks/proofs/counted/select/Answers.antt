@@ -12,11 +12,11 @@ returns-clause-cost c =
     let all = kept_entries _ _ _ c.ranks.invariant ∙ ap (λ v. entries (words_needed v.length)) c.ranks.view_is in
     rw (ap length c.deref.ensures.value ∙ all) at c.select.ensures.cost
 
-pub returns-clause-whole : goal.returns-clause-whole
-returns-clause-whole c =
+pub returns-clause-exact_if_none : goal.returns-clause-exact_if_none
+returns-clause-exact_if_none c =
     let all = kept_entries _ _ _ c.ranks.invariant ∙ ap (λ v. entries (words_needed v.length)) c.ranks.view_is in
     let words = kept_words _ _ _ c.ranks.invariant ∙ ap (λ v. words_needed v.length) c.ranks.view_is in
-    rw (ap length c.deref.ensures.value ∙ all, words) at c.select.ensures.whole
+    rw (ap length c.deref.ensures.value ∙ all, words) at c.select.ensures.exact_if_none
 
 pub returns-clause-bound : goal.returns-clause-bound
 returns-clause-bound c n long =

@@ -2,4 +2,4 @@ use Rattle.std.proofs.Common.{arith}
 use Rattle.bits_c.proofs.handfuls.bits_ones_take.Goals as goal
 
 pub returns : goal.returns
-returns c = record { told = grind arith; written = grind arith; rest = grind arith }
+returns c = record { answer = grind arith; written = grind arith; rest = grind arith }

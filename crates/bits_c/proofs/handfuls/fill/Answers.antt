@@ -8,7 +8,7 @@ returns-in-None g c =
     let left = g.G.Giver.left in
     let none : drop c.loop-index.index (left c.args.giver.now) ≡ [] = sym c.loop-index.invariant.rest ∙ c.in-None.ensures.0 in
     record {
-      told = omega (arith, length-drop c.loop-index.index (left c.args.giver.now), ap length none);
+      answer = omega (arith, length-drop c.loop-index.index (left c.args.giver.now), ap length none);
       written = set-get_or c.loop-index.positions c.loop-index.index 0 ∙ c.loop-index.invariant.written;
       rest = c.in-None.ensures.1 ∙ sym none;
     }

@@ -89,17 +89,17 @@ loop-found-preserved c =
 pub returns-in_err-found-clause-cost : goal.returns-in_err-found-clause-cost
 returns-in_err-found-clause-cost c =
     let spent = c.loop-found.invariant.spent in
-    spent_in_all (has_bit c.args.words.now) c.args.end c.args.count c.args.align c.args.from c.args.steps.now c.loop-found.at c.loop-found.steps spent.0 spent.1 spent.2 c.first.new.steps c.first.ensures.whole
+    spent_in_all (has_bit c.args.words.now) c.args.end c.args.count c.args.align c.args.from c.args.steps.now c.loop-found.at c.loop-found.steps spent.0 spent.1 spent.2 c.first.new.steps c.first.ensures.bound
 
 pub returns-in_err-next-clause-cost : goal.returns-in_err-next-clause-cost
 returns-in_err-next-clause-cost c =
     let spent = c.loop-found.invariant.spent in
-    spent_in_all (has_bit c.args.words.now) c.args.end c.args.count c.args.align c.args.from c.args.steps.now c.loop-found.at c.loop-found.steps spent.0 spent.1 spent.2 c.first.new.steps c.first.ensures.whole
+    spent_in_all (has_bit c.args.words.now) c.args.end c.args.count c.args.align c.args.from c.args.steps.now c.loop-found.at c.loop-found.steps spent.0 spent.1 spent.2 c.first.new.steps c.first.ensures.bound
 
 pub returns-then-next-found-clause-cost : goal.returns-then-next-found-clause-cost
 returns-then-next-found-clause-cost c =
     let spent = c.loop-found.invariant.spent in
-    spent_in_all (has_bit c.args.words.now) c.args.end c.args.count c.args.align c.args.from c.args.steps.now c.loop-found.at c.loop-found.steps spent.0 spent.1 spent.2 c.first.new.steps c.first.ensures.whole
+    spent_in_all (has_bit c.args.words.now) c.args.end c.args.count c.args.align c.args.from c.args.steps.now c.loop-found.at c.loop-found.steps spent.0 spent.1 spent.2 c.first.new.steps c.first.ensures.bound
 
 pub returns-then-next-found-clause-least : goal.returns-then-next-found-clause-least
 returns-then-next-found-clause-least c =

@@ -26,8 +26,8 @@ returns-then-begin-count-clause-cost c =
     let spent = spent_at c.args.steps.now c.loop-begin.steps c.tick_at.new.steps (x - c.args.from / 64) inv.cost c.tick_at.ensures in
     steps_exact c.args.from (c.loop-begin.begin + c.args.count) x inv.first c.args.steps.now _ spent (omega (arith, inv.after, c.requires.some)) inv.needed (omega (arith, c.if-begin-count.true, c.clear_below.ensures.within))
 
-pub returns-then-begin-count-clause-whole : goal.returns-then-begin-count-clause-whole
-returns-then-begin-count-clause-whole c =
+pub returns-then-begin-count-clause-bound : goal.returns-then-begin-count-clause-bound
+returns-then-begin-count-clause-bound c =
     let inv = c.loop-begin.invariant in
     let x = c.loop-begin.index in
     let spent = spent_at c.args.steps.now c.loop-begin.steps c.tick_at.new.steps (x - c.args.from / 64) inv.cost c.tick_at.ensures in
@@ -90,8 +90,8 @@ returns-then-last-index-clause-gap c =
     let past = open_past ws c.args.from x c.loop-begin.mask next inv.masked c.if-word.true full c.args.count c.loop-begin.begin c.clear_below.result c.requires.some inv.opened lowest short in
     room_none (has_bit ws) c.args.end c.args.count c.args.from (λ q above ends. past.none q (omega (arith, c.if-last-index.true)))
 
-pub returns-then-last-index-clause-whole : goal.returns-then-last-index-clause-whole
-returns-then-last-index-clause-whole c =
+pub returns-then-last-index-clause-bound : goal.returns-then-last-index-clause-bound
+returns-then-last-index-clause-bound c =
     let inv = c.loop-begin.invariant in
     let x = c.loop-begin.index in
     let spent = spent_at c.args.steps.now c.loop-begin.steps c.tick_at.new.steps (x - c.args.from / 64) inv.cost c.tick_at.ensures in
@@ -173,8 +173,8 @@ returns-then-start-last-clause-cost c =
     let spent = spent_at c.args.steps.now c.loop-begin.steps c.tick_at.new.steps (x - c.args.from / 64) inv.cost c.tick_at.ensures in
     steps_exact c.args.from (64 * x + k + c.args.count) x inv.first c.args.steps.now _ spent (omega (arith, after, c.requires.some)) (omega (arith, c.requires.some)) (omega (arith, within))
 
-pub returns-then-start-last-clause-whole : goal.returns-then-start-last-clause-whole
-returns-then-start-last-clause-whole c =
+pub returns-then-start-last-clause-bound : goal.returns-then-start-last-clause-bound
+returns-then-start-last-clause-bound c =
     let inv = c.loop-begin.invariant in
     let x = c.loop-begin.index in
     let spent = spent_at c.args.steps.now c.loop-begin.steps c.tick_at.new.steps (x - c.args.from / 64) inv.cost c.tick_at.ensures in
@@ -195,8 +195,8 @@ returns-else-start-last-clause-gap c =
     let none = none_inside f c.args.count (64 * x) _ c.loop-begin.begin c.requires.some is inv.opened c.clear_below.result lowest short fits c.run_starts-starts.result k c.run_starts-starts.ensures c.lowest_bit.ensures within in
     room_none (has_bit ws) c.args.end c.args.count c.args.from (λ q above ends. none q (omega (arith, c.if-start-last.false)))
 
-pub returns-else-start-last-clause-whole : goal.returns-else-start-last-clause-whole
-returns-else-start-last-clause-whole c =
+pub returns-else-start-last-clause-bound : goal.returns-else-start-last-clause-bound
+returns-else-start-last-clause-bound c =
     let inv = c.loop-begin.invariant in
     let x = c.loop-begin.index in
     let spent = spent_at c.args.steps.now c.loop-begin.steps c.tick_at.new.steps (x - c.args.from / 64) inv.cost c.tick_at.ensures in
@@ -223,8 +223,8 @@ returns-then-last-taken-clause-gap c =
     let behind = open_behind f c.args.count (64 * x) _ c.loop-begin.begin c.requires.some is inv.opened c.clear_below.result lowest short fits c.highest_bit.result c.highest_bit.ensures no_runs in
     room_none (has_bit ws) c.args.end c.args.count c.args.from (λ q above ends. behind.none q (omega (arith, c.if-last-taken.true)))
 
-pub returns-then-last-taken-clause-whole : goal.returns-then-last-taken-clause-whole
-returns-then-last-taken-clause-whole c =
+pub returns-then-last-taken-clause-bound : goal.returns-then-last-taken-clause-bound
+returns-then-last-taken-clause-bound c =
     let inv = c.loop-begin.invariant in
     let x = c.loop-begin.index in
     let spent = spent_at c.args.steps.now c.loop-begin.steps c.tick_at.new.steps (x - c.args.from / 64) inv.cost c.tick_at.ensures in

@@ -15,7 +15,7 @@ returns-in-Some-clause-cost c = omega (arith, c.in-Some.ensures.cost, c.in-Some.
 
 pub returns-in-None-clause-cost : goal.returns-in-None-clause-cost
 returns-in-None-clause-cost c =
-    steps_behind c.args.a.now c.args.b.now c.next_one.result c.min-common.result _ _ _ c.min-common.ensures (c.in-None.ensures.whole) c.next_one.ensures.found c.next_one.ensures.cost
+    steps_behind c.args.a.now c.args.b.now c.next_one.result c.min-common.result _ _ _ c.min-common.ensures (c.in-None.ensures.exact_if_none) c.next_one.ensures.found c.next_one.ensures.cost
 
 pub returns-in-None-clause-found : goal.returns-in-None-clause-found
 returns-in-None-clause-found c = found_behind bit_without c.args.a.now c.args.b.now c.in-None.ensures.none c.min-common.result c.min-common.ensures c.next_one.result c.next_one.ensures.found

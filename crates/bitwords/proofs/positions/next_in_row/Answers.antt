@@ -18,14 +18,14 @@ returns-clause-found g c =
     later_next g.met.O.WordOp.laws c.requires.drops c.args.words.now (λ k. search rules) c.args.from c.word.result c.word.ensures
     c.if-rest-ne0.false c.in_ok-at.at c.word-2.result c.word-2.ensures c.lowest_bit-2.result c.in_ok-at.ensures.found c.lowest_bit-2.ensures
 
-pub returns-in_err-at-clause-whole : goal.returns-in_err-at-clause-whole
-returns-in_err-at-clause-whole g c = omega (arith, c.in_err-at.ensures.whole)
+pub returns-in_err-at-clause-bound : goal.returns-in_err-at-clause-bound
+returns-in_err-at-clause-bound g c = omega (arith, c.in_err-at.ensures.exact_if_none)
 
 pub returns-clause-cost : goal.returns-clause-cost
 returns-clause-cost g c = omega (arith, c.in_ok-at.ensures.cost, c.in_ok-at.ensures.found.after, c.lowest_bit-2.ensures.within)
 
-pub returns-clause-whole : goal.returns-clause-whole
-returns-clause-whole g c =
+pub returns-clause-bound : goal.returns-clause-bound
+returns-clause-bound g c =
     omega (arith, c.in_ok-at.ensures.cost, c.in_ok-at.ensures.found.within, length-map c.args.words.now (g.O.WordOp.joined (2 ^ 64 - 1)))
 
 pub overflow_mul-result : goal.overflow_mul-result
@@ -49,5 +49,5 @@ pub returns-then-rest-ne0-clause-cost : goal.returns-then-rest-ne0-clause-cost
 returns-then-rest-ne0-clause-cost g c =
     omega (arith, own_bit g.met.O.WordOp.laws c.requires.drops c.args.words.now (λ k. search rules) c.args.from c.word.result c.word.ensures c.lowest_bit.result c.lowest_bit.ensures)
 
-pub returns-then-rest-ne0-clause-whole : goal.returns-then-rest-ne0-clause-whole
-returns-then-rest-ne0-clause-whole g c = omega arith
+pub returns-then-rest-ne0-clause-bound : goal.returns-then-rest-ne0-clause-bound
+returns-then-rest-ne0-clause-bound g c = omega arith

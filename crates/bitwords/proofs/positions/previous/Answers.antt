@@ -28,5 +28,5 @@ returns-clause-cost g c =
     let all : c.args.below ≡ c.in_ok-last.last + 1 = search rules in
     omega (arith, all, c.in_ok-at.ensures.cost, c.highest_bit-2.ensures.within)
 
-pub returns-clause-whole : goal.returns-clause-whole
-returns-clause-whole g c = omega (arith, c.in_ok-at.ensures.cost)
+pub returns-clause-bound : goal.returns-clause-bound
+returns-clause-bound g c = omega (arith, c.in_ok-at.ensures.cost)

@@ -4,8 +4,8 @@ use Rattle.bitwords.proofs.Counted.{grows_within, same-between, stays_upto}
 use Rattle.bitwords.proofs.ranges.none.Goals as goal
 use Rattle.bitwords.proofs.ranges.none.Goals.{then-none_part, else-none_part}
 
-pub returns-then-none_whole-clause-whole : goal.returns-then-none_whole-clause-whole
-returns-then-none_whole-clause-whole g c = grind arith
+pub returns-then-none_whole-clause-exact_if_true : goal.returns-then-none_whole-clause-exact_if_true
+returns-then-none_whole-clause-exact_if_true g c = grind arith
 
 pub returns-else-none_whole-clause-none : goal.returns-else-none_whole-clause-none
 returns-else-none_whole-clause-none g c =

@@ -15,5 +15,5 @@ returns-then-last-first-eq1-clause-none g c =
     let after : c.args.last ≡ c.args.first + 1 = omega arith in
     rw after (ap (λ w. w == 0) c.word.ensures ∙ ones-zero _ ∙ sum_is_start _ _ _ (count-whole g.met.O.WordOp.laws c.requires.drops c.args.words.now (λ k. search rules) c.args.first))
 
-pub returns-clause-whole : goal.returns-clause-whole
-returns-clause-whole g c = omega (arith, c.none_masked.ensures.whole)
+pub returns-clause-exact_if_true : goal.returns-clause-exact_if_true
+returns-clause-exact_if_true g c = omega (arith, c.none_masked.ensures.exact_if_true)

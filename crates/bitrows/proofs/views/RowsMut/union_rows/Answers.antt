@@ -35,7 +35,7 @@ returns-clause-changed c =
     rw (
       get_or-table c.args.self.now.columns _ c.args.self.now.rows c.args.self.now.words.now c.args.into (empty 0) c.requires.into,
       get_or-table c.args.self.now.columns _ c.args.self.now.rows c.args.self.now.words.now c.args.from (empty 0) c.requires.from,
-    ) (rw c.storage_words-wide.ensures at c.join_rows.ensures).told
+    ) (rw c.storage_words-wide.ensures at c.join_rows.ensures).answer
 
 pub invariant_of-self : goal.invariant_of-self
 invariant_of-self c =

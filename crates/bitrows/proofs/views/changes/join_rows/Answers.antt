@@ -18,5 +18,5 @@ returns-then-from-into c =
       words = cc (cut.front, cut.back);
       clean = c.take_in.ensures.clean;
       value = cc (c.take_in.ensures.value, own, other);
-      told = cc (c.take_in.ensures.changed, own, other);
+      answer = cc (c.take_in.ensures.changed, own, other);
     }

@@ -21,7 +21,7 @@ returns-clause-cost g c =
     rw (← first, ← second) c.joined.ensures.cost
 
 pub returns-clause-exact_if_ok : goal.returns-clause-exact_if_ok
-returns-clause-exact_if_ok g c = cc (c.in_ok-words.ensures.whole, viewed_count _ _ _ c.set.view_is c.set.invariant, viewed_count _ _ _ c.other.view_is c.other.invariant)
+returns-clause-exact_if_ok g c = cc (c.in_ok-words.ensures.exact_if_ok, viewed_count _ _ _ c.set.view_is c.set.invariant, viewed_count _ _ _ c.other.view_is c.other.invariant)
 
 pub returns-in_err-words-clause-cost : goal.returns-in_err-words-clause-cost
 returns-in_err-words-clause-cost g c =
