@@ -1,5 +1,6 @@
 -- What stands in quotes for a character.
-use Rattle.std.proofs.Common.{◌≡◌, ℕ, ◌/◌, ◌%◌, ◌<◌, ◌≤◌, true, ◌||◌, ◌==◌, cond, List, [], ◌∷◌, length, get_or, suc, refl, sym, arith, append-nil}
+use Rattle.std.proofs.Common.{◌≡◌, ℕ, ◌/◌, ◌%◌, ◌<◌, ◌≤◌, true, ◌||◌, ◌==◌, cond, List}
+use Rattle.std.proofs.Common.{[], ◌∷◌, length, get_or, suc, refl, sym, arith, append-nil}
 use Rattle.std.specs.Prelude.{nat_lt}
 use Rattle.std.proofs.lemmas.Bool.Decides.{nat_tests}
 use Rattle.std.proofs.lemmas.Str.{encode_ascii, inside_one}
@@ -10,9 +11,13 @@ use Rattle.bitcommands.specs.Quoting.{quoting, escaped, in_quotes}
 
 -- the letter that stands for a byte behind a backslash, or 0 where there is none
 abbrev letter : ℕ → ℕ
-letter x = cond ((x == 34) || (x == 92)) x (cond (x == 8) 98 (cond (x == 12) 102 (cond (x == 10) 110 (cond (x == 13) 114 (cond (x == 9) 116 0)))))
+letter x =
+    cond ((x == 34) || (x == 92)) x
+    (cond (x == 8) 98 (cond (x == 12) 102 (cond (x == 10) 110 (cond (x == 13) 114 (cond (x == 9) 116 0)))))
 
-escaped-is : (x : ℕ) → escaped x ≡ cond (nat_lt 0 (letter x)) (92 ∷ letter x ∷ []) (cond (nat_lt x 32) (92 ∷ 117 ∷ 48 ∷ 48 ∷ digit_char (x / 16) ∷ digit_char (x % 16) ∷ []) (x ∷ []))
+escaped-is : (x : ℕ)
+    → escaped x ≡ cond (nat_lt 0 (letter x)) (92 ∷ letter x ∷ [])
+    (cond (nat_lt x 32) (92 ∷ 117 ∷ 48 ∷ 48 ∷ digit_char (x / 16) ∷ digit_char (x % 16) ∷ []) (x ∷ []))
 unfolding escaped quoting serde_json_on_literals
 escaped-is x = refl
 
@@ -32,7 +37,14 @@ all_plain (x ∷ xs) high = grind (arith, high 0, escaped-plain x, all_plain xs 
 -- any other character that is not below the space stands for itself
 pub of_other : (c : ℕ) → 32 ≤ c → (c ≡ 34 → ⊥) → (c ≡ 92 → ⊥) → in_quotes c ≡ encode_utf8 c
 of_other c above q b =
-    grind (arith, encode_ascii c, escaped-plain c, λ (big : 128 ≤ c). all_plain (encode_utf8 c) (λ k below. grind (arith, inside_one c [] (encode_utf8 c) k (sym (append-nil _)) below)))
+    grind (
+      arith,
+      encode_ascii c,
+      escaped-plain c,
+      λ (big : 128 ≤ c).
+          all_plain (encode_utf8 c)
+          (λ k below. grind (arith, inside_one c [] (encode_utf8 c) k (sym (append-nil _)) below)),
+    )
 
 -- a character below the space that has no letter stands there by the four digits of its code
 pub of_control : (c : ℕ) → c < 32 → (c ≡ 8 → ⊥) → (c ≡ 9 → ⊥) → (c ≡ 10 → ⊥) → (c ≡ 12 → ⊥) → (c ≡ 13 → ⊥)

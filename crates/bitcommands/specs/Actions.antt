@@ -24,8 +24,8 @@ use Rattle.bitcommands.specs.declared.commands.walking.Walk.TheVariants as walks
 abbrev pub Range : Type 0
 Range = Option ℕ × Option ℕ
 
--- Numbers of sets, positions, lengths, words, ranges, lists, JSON values and ends of walks, in the order in which a line
--- has them. A line below has commands of one shape.
+-- Numbers of sets, positions, lengths, words, ranges, lists, JSON values and ends of walks, in the order in which a
+-- line has them. A line below has commands of one shape.
 pub data Action : Type 0 where
   new default len is_empty is_clear is_full minimum maximum : ℕ → Action
   as_slice text to_value clear : ℕ → Action

@@ -3,7 +3,8 @@ use Rattle.std.specs.Prelude.{ℕ, ◌-◌, List, [], ◌∷◌, length, take, d
 use Rattle.bitcommands.specs.declared.commands.arguments.End.{End}
 use Rattle.bitcommands.specs.declared.commands.arguments.End.TheVariants.{Front, Back}
 
--- what the calls of a walk answer: one item an end, in order, the first or the last of those left, or `None` where none is left
+-- what the calls of a walk answer: one item an end, in order, the first or the last
+-- of those left, or `None` where none is left
 abbrev pub calls : List End → List ℕ → List (Option ℕ)
 calls [] xs = []
 calls (Front ∷ ends) xs = slice_get xs 0 ∷ calls ends (drop 1 xs)

@@ -43,7 +43,9 @@ past_limit limit n = refuse refusal.Limit (nat_lt limit n)
 
 -- there is no such set, or the value is not in the form, or its length is above the limit
 abbrev pub no_value : ℕ → Sets → ℕ → Data → Option Refusal
-no_value limit s d json = option_or (no_set s d) (option_or (option_map refusal.Json (result_err (length_of json))) (past_limit limit (result_unwrap_or (length_of json) 0)))
+no_value limit s d json = option_or (no_set s d)
+    (option_or (option_map refusal.Json (result_err (length_of json)))
+    (past_limit limit (result_unwrap_or (length_of json) 0)))
 
 -- whether the set needs more words for this length than it has
 abbrev pub needs_more_words : Bits → ℕ → Bool
@@ -65,11 +67,13 @@ has_greatest items = list_any is_greatest items
 
 -- there is no such set, or the position is the greatest number, or it isn't below the limit
 abbrev pub no_item : ℕ → Sets → ℕ → ℕ → Option Refusal
-no_item limit s k p = option_or (no_set s k) (option_or (refuse refusal.Greatest (is_greatest p)) (refuse refusal.Limit (not (nat_lt p limit))))
+no_item limit s k p = option_or (no_set s k)
+    (option_or (refuse refusal.Greatest (is_greatest p)) (refuse refusal.Limit (not (nat_lt p limit))))
 
 -- there is no such set, or one of those items isn't below the limit
 abbrev pub no_items : ℕ → Sets → ℕ → List ℕ → Option Refusal
-no_items limit s k items = option_or (no_set s k) (refuse refusal.Limit (not (list_all (λ p. nat_lt p limit) (before_greatest items))))
+no_items limit s k items =
+    option_or (no_set s k) (refuse refusal.Limit (not (list_all (λ p. nat_lt p limit) (before_greatest items))))
 
 -- ---- ranges
 

@@ -4,7 +4,8 @@ use Rattle.std.specs.Prelude.{Bool, false}
 use Rattle.fixedbitset.specs.Bits.{Bits}
 use Rattle.fixedbitset.specs.TwoSets as sets
 use Rattle.bitcommands.specs.declared.commands.joining.Joint.{Joint}
-use Rattle.bitcommands.specs.declared.commands.joining.Joint.TheVariants.{Union, SymmetricDifference, Intersection, Difference, Copy}
+use Rattle.bitcommands.specs.declared.commands.joining.Joint.TheVariants.{Union, SymmetricDifference}
+use Rattle.bitcommands.specs.declared.commands.joining.Joint.TheVariants.{Intersection, Difference, Copy}
 use Rattle.bitcommands.specs.Guards.{needs_more_words}
 
 -- the value that is left

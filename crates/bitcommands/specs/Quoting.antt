@@ -7,7 +7,8 @@ use Rattle.serde_json.specs.Data.{string}
 use Rattle.serde_json.specs.Written.{compact_text}
 
 -- the text of a string is made of its bytes one by one, between quotes
-unfoldable pub quoting : (escape : ℕ → List ℕ) × ((s : List ℕ) → compact_text (string s) ≡ 34 ∷ (flat_map escape s ++ 34 ∷ []))
+unfoldable pub quoting : (escape : ℕ → List ℕ)
+    × ((s : List ℕ) → compact_text (string s) ≡ 34 ∷ (flat_map escape s ++ 34 ∷ []))
 quoting = (_, λ s. refl)
 
 -- what stands there for a byte

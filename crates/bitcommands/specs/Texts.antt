@@ -1,5 +1,6 @@
 -- The texts of replies.
-use Rattle.std.specs.Prelude.{◌≡◌, ◌≤◌, ℕ, Bool, true, not, List, ◌++◌, map, Option, Some, None, codes, if◌then◌else◌, length, ◌==◌}
+use Rattle.std.specs.Prelude.{◌≡◌, ◌≤◌, ℕ, Bool, true, not, List, ◌++◌, map, Option}
+use Rattle.std.specs.Prelude.{Some, None, codes, if◌then◌else◌, length, ◌==◌}
 use Rattle.std.specs.List.{join_with_byte}
 use Rattle.std.specs.Fmt.{decimal}
 use Rattle.std.specs.declared.cmp.Ordering.{Ordering}
@@ -10,7 +11,8 @@ use Rattle.serde_json.specs.Written.{compact_text, has_float, IsInOrder}
 use Rattle.bitjson.specs.declared.fault.JsonFault.{JsonFault}
 use Rattle.bitjson.specs.declared.fault.JsonFault.TheVariants as fault
 use Rattle.bitcommands.specs.declared.commands.refusals.Refusal.{Refusal}
-use Rattle.bitcommands.specs.declared.commands.refusals.Refusal.TheVariants.{NoSet, Position, Range, Greatest, Json, Memory, Limit}
+use Rattle.bitcommands.specs.declared.commands.refusals.Refusal.TheVariants.{NoSet, Position, Range}
+use Rattle.bitcommands.specs.declared.commands.refusals.Refusal.TheVariants.{Greatest, Json, Memory, Limit}
 use Rattle.bitcommands.specs.Answers as answer
 use Rattle.bitcommands.specs.Answers.{Answer}
 
@@ -86,7 +88,8 @@ abbrev pub value_of : Answer → Option Data
 value_of (answer.value d) = Some d
 value_of r = None
 
--- the text has the items and members of the JSON value in order and its whole numbers in decimal, and is read as the value
+-- the text has the items and members of the JSON value in order and its whole
+-- numbers in decimal, and is read as the value
 pub record IsTextOfValue (d : Data) (text : List ℕ) : Type 0 where
   pub in_order : IsInOrder text d
   pub read_back : depth d ≤ max_depth → read text ≡ Some d

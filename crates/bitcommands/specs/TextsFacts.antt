@@ -1,5 +1,7 @@
--- The answers of the table have one text each, with no line end in it, for those who print replies and cut an output into lines.
-use Rattle.std.proofs.Common.{◌≡◌, ℕ, zero, suc, ◌/◌, ◌%◌, List, [], ◌∷◌, ◌++◌, map, Option, Some, None, MatchOption, Bool, true, false, not, eqb, ◌⊎◌, inl, inr, refl, arith}
+-- The answers of the table have one text each, with no line end in it, for those who
+-- print replies and cut an output into lines.
+use Rattle.std.proofs.Common.{◌≡◌, ℕ, zero, suc, ◌/◌, ◌%◌, List, [], ◌∷◌, ◌++◌, map, Option, Some, None}
+use Rattle.std.proofs.Common.{MatchOption, Bool, true, false, not, eqb, ◌⊎◌, inl, inr, refl, arith}
 use Rattle.std.specs.Prelude.{⊤, if◌then◌else◌}
 use Rattle.std.specs.List.{list_all, join_with_byte}
 use Rattle.std.specs.Fmt.{decimal, digits, digits_onto, digit_glyph}
@@ -41,13 +43,17 @@ unfolding digits
 decimal_line n = digits_line 64 n [] refl
 
 -- texts with no line end, and a byte between two of them that is none
-joined_line : {A : Type 0} (text : A → List ℕ) (byte : ℕ) → eqb byte 10 ≡ false → ((a : A) → is_one_line (text a) ≡ true) → (list : List A) → is_one_line (join_with_byte byte (map text list)) ≡ true
+joined_line : {A : Type 0} (text : A → List ℕ) (byte : ℕ) → eqb byte 10 ≡ false
+    → ((a : A) → is_one_line (text a) ≡ true) → (list : List A)
+    → is_one_line (join_with_byte byte (map text list)) ≡ true
 joined_line text byte other line [] = refl
 joined_line text byte other line (x ∷ []) = line x
-joined_line text byte other line (x ∷ y ∷ list) = grind (arith, after, line x, joined_line text byte other line (y ∷ list))
+joined_line text byte other line (x ∷ y ∷ list) =
+    grind (arith, after, line x, joined_line text byte other line (y ∷ list))
 
 -- bytes that are no line end
-mapped_line : {A : Type 0} (byte : A → ℕ) → ((a : A) → eqb (byte a) 10 ≡ false) → (list : List A) → is_one_line (map byte list) ≡ true
+mapped_line : {A : Type 0} (byte : A → ℕ) → ((a : A) → eqb (byte a) 10 ≡ false) → (list : List A)
+    → is_one_line (map byte list) ≡ true
 mapped_line byte other [] = refl
 mapped_line byte other (x ∷ list) = grind (arith, other x, mapped_line byte other list)
 
@@ -98,15 +104,18 @@ row_plain m s (action.to_value a) = (value_line (at s a), has_float-written (at 
 row_plain m s c = tt
 
 answered_plain : (r a : Answer) (test : Option Refusal) (P Q R : Type 0) → IsPlain a
-    → MatchOption test (((r ≡ a) × P) ⊎ ((r ≡ answer.refused refusal.Memory) × Q)) (λ f. (r ≡ answer.refused f) × R) → IsPlain r
+    → MatchOption test (((r ≡ a) × P) ⊎ ((r ≡ answer.refused refusal.Memory) × Q)) (λ f. (r ≡ answer.refused f) × R)
+    → IsPlain r
 answered_plain r a None P Q R plain (inl h) = rw h.0 plain
 answered_plain r a None P Q R plain (inr h) = rw h.0 tt
 answered_plain r a (Some f) P Q R plain h = rw h.0 tt
 
 -- each step answers what has no line end
-pub step_line : (m : ℕ) (old new : Sets) (c : Action) (r : Answer) → Step m old c r new → is_one_line (answer_text r) ≡ true
+pub step_line : (m : ℕ) (old new : Sets) (c : Action) (r : Answer) → Step m old c r new
+    → is_one_line (answer_text r) ≡ true
 step_line m old new c r step = answer_line r (answered_plain r _ _ _ _ _ (row_plain m old c) step)
 
 -- each step answers what has one text
-pub step_one_text : (m : ℕ) (old new : Sets) (c : Action) (r : Answer) → Step m old c r new → one_text r ≡ Some (answer_text r)
+pub step_one_text : (m : ℕ) (old new : Sets) (c : Action) (r : Answer) → Step m old c r new
+    → one_text r ≡ Some (answer_text r)
 step_one_text m old new c r step = answer_one r (answered_plain r _ _ _ _ _ (row_plain m old c) step)

@@ -6,7 +6,8 @@ use Rattle.std.proofs.lemmas.Simd.{map-map}
 use Rattle.std.proofs.lemmas.List.FromFn.{map-range_with_len_more, get_or-map-range_with_len, length-map-range_with_len}
 
 -- one more value of f
-pub one_more : {X : Type 0} (f : ℕ → X) (k : ℕ) → map f (range_with_len 0 (k + 1)) ≡ map f (range_with_len 0 k) ++ f k ∷ []
+pub one_more : {X : Type 0} (f : ℕ → X) (k : ℕ)
+    → map f (range_with_len 0 (k + 1)) ≡ map f (range_with_len 0 k) ++ f k ∷ []
 one_more f k = map-range_with_len_more f 0 k k (omega arith)
 
 -- a list that takes one more value, and is then mapped

@@ -8,7 +8,8 @@ use Rattle.serde_json.specs.Find.{as_array}
 use Rattle.serde_json.specs.Events.{items_len}
 use Rattle.serde_json.specs.View.{items_view}
 use Rattle.serde_json.specs.declared.value.Value.{Value}
-use Rattle.serde_json.proofs.Views.{view-Array, view-Object, items_len-items_view, get_item_within, members_len-members_view}
+use Rattle.serde_json.proofs.Views.{view-Array, view-Object, items_len-items_view}
+use Rattle.serde_json.proofs.Views.{get_item_within, members_len-members_view}
 use Rattle.bitjson.specs.Form.{bytes, bytes_from, item_byte}
 
 -- what a list and an object have (`grind` uses a lemma where its first call stands)
@@ -18,7 +19,8 @@ items_at_view vs = (refl, items_len-items_view vs)
 pub ruleset parts_facts = (nat_tests, view-Array, view-Object, items_at_view, get_item_within, members_len-members_view)
 
 -- where no item is a fault, the bytes are those of the items
-all_bytes : (vs : List Value) (k : ℕ) → result_err (bytes_from k (items_view vs)) ≡ None → Ok (map item_byte vs) ≡ bytes_from k (items_view vs)
+all_bytes : (vs : List Value) (k : ℕ) → result_err (bytes_from k (items_view vs)) ≡ None
+    → Ok (map item_byte vs) ≡ bytes_from k (items_view vs)
 all_bytes [] k e = refl
 all_bytes (v ∷ vs) k e = let rest = all_bytes vs (k + 1) in grind (arith, rest)
 
@@ -28,4 +30,5 @@ pub bytes_ok : (d : Data) (vs : List Value) (k : ℕ) → Some (items_view vs) �
 unfolding bytes
 bytes_ok d vs k some past same =
     let is : d ≡ array (items_view vs) = grind arith in
-    rw is (all_bytes vs 0 (sym (rw is at same) ∙ at_drop_all (λ xs. result_err (bytes_from k (items_view xs))) vs k past))
+    rw is
+    (all_bytes vs 0 (sym (rw is at same) ∙ at_drop_all (λ xs. result_err (bytes_from k (items_view xs))) vs k past))

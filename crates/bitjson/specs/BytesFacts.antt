@@ -34,7 +34,8 @@ joined g small (suc n) =
     let turned : low + g (suc n) * 256 ^ suc n ≡ g (suc n) * 2 ^ (8 * suc n) + low = rw (power (suc n)) (omega arith) in
     let more : 8 * suc (suc n) ≡ 8 * suc n + 8 = omega arith in
     rw turned (record {
-      bound = rw (more, pow-add 2 (8 * suc n) 8) (mul-add-lt (g (suc n)) (2 ^ (8 * suc n)) low 256 (small (suc n)) before.bound);
+      bound = rw (more, pow-add 2 (8 * suc n) 8)
+          (mul-add-lt (g (suc n)) (2 ^ (8 * suc n)) low 256 (small (suc n)) before.bound);
       bits = λ i h. joined_more g n low i before.bound (before.bits i) h;
     })
 
@@ -47,7 +48,8 @@ bit_at-word_of bs small k i h = (joined (λ j. get_or bs (8 * k + j) 0) (λ j. s
 -- ---- the bytes of words
 
 -- bit i of a byte of words is bit 8 (j mod 8) + i of the word
-pub bit_at-byte_of : (ws : List ℕ) (j i : ℕ) → i < 8 → bit_at (byte_of ws j) i ≡ bit_at (get_or ws (j / 8) 0) (8 * (j % 8) + i)
+pub bit_at-byte_of : (ws : List ℕ) (j i : ℕ) → i < 8
+    → bit_at (byte_of ws j) i ≡ bit_at (get_or ws (j / 8) 0) (8 * (j % 8) + i)
 bit_at-byte_of ws j i h =
     let x : ℕ = get_or ws (j / 8) 0 / 2 ^ (8 * (j % 8)) in
     let whole : x / 256 * 2 ^ 8 + x % 256 ≡ x = omega arith in

@@ -1,6 +1,8 @@
 -- The JSON form of a length and bytes.
-use Rattle.std.specs.Prelude.{ℕ, ◌+◌, List, [], ◌∷◌, map, Option, Some, None, Result, Ok, Err, nat_lt, ◌==◌, if◌then◌else◌, option_and_then, unwrap_or, codes}
-use Rattle.serde_json.specs.Data.{Data, Items, null, boolean, number, string, array, object, no_items, item, no_members, member, unsigned}
+use Rattle.std.specs.Prelude.{ℕ, ◌+◌, List, [], ◌∷◌, map, Option, Some, None, Result, Ok, Err}
+use Rattle.std.specs.Prelude.{nat_lt, ◌==◌, if◌then◌else◌, option_and_then, unwrap_or, codes}
+use Rattle.serde_json.specs.Data.{Data, Items, null, boolean, number, string, array}
+use Rattle.serde_json.specs.Data.{object, no_items, item, no_members, member, unsigned}
 use Rattle.serde_json.specs.Find.{get_member, as_number, as_u64}
 use Rattle.serde_json.specs.Events.{members_len}
 use Rattle.serde_json.specs.View.{view, items_of}
@@ -70,7 +72,8 @@ item_byte x = unwrap_or (byte (view x)) 0
 
 -- the object with this length and these items, its keys in order
 abbrev pub object_with : ℕ → Items → Data
-object_with n items = object (member (codes "data") (array items) (member (codes "length") (number (unsigned n)) no_members))
+object_with n items =
+    object (member (codes "data") (array items) (member (codes "length") (number (unsigned n)) no_members))
 
 -- whole numbers as values
 abbrev pub numbers : List ℕ → List Data

@@ -16,9 +16,11 @@ item_bytes_lt (v ∷ vs) (suc j) = item_bytes_lt vs j
 
 -- ---- the object of a length and bytes
 
-bytes_from-numbers : (bs : List ℕ) (k : ℕ) → ((j : ℕ) → get_or bs j 0 < 256) → bytes_from k (items_of (numbers bs)) ≡ Ok bs
+bytes_from-numbers : (bs : List ℕ) (k : ℕ) → ((j : ℕ) → get_or bs j 0 < 256)
+    → bytes_from k (items_of (numbers bs)) ≡ Ok bs
 bytes_from-numbers [] k small = refl
-bytes_from-numbers (b ∷ bs) k small = rw (lt-ltb b 256 (small zero), bytes_from-numbers bs (k + 1) (λ j. small (suc j))) refl
+bytes_from-numbers (b ∷ bs) k small =
+    rw (lt-ltb b 256 (small zero), bytes_from-numbers bs (k + 1) (λ j. small (suc j))) refl
 
 -- it is in the form
 pub form-object_of : (n : ℕ) (bs : List ℕ) → ((j : ℕ) → get_or bs j 0 < 256) → form (object_of n bs) ≡ Ok (n, bs)

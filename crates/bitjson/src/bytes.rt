@@ -1,6 +1,7 @@
 //! Items as the bytes of words, and words as a value in the form.
 
-ghost use Rattle.std.specs.Prelude.{◌≡◌, ◌<◌, ◌≤◌, ◌+◌, ◌*◌, ◌^◌, IfOk, length, map, slice_index, vec_len};
+ghost use Rattle.std.specs.Prelude.{◌≡◌, ◌<◌, ◌≤◌, ◌+◌, ◌*◌, ◌^◌, IfOk};
+ghost use Rattle.std.specs.Prelude.{length, map, slice_index, vec_len};
 ghost use Rattle.std.specs.List.{range_with_len};
 ghost use Rattle.serde_json.specs.View.{view, items_view};
 ghost use Rattle.bitjson.specs.Form as json;

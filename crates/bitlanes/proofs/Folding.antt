@@ -1,5 +1,6 @@
 -- tests of a list, one lane of four further, and lists of zeros
-use Rattle.std.proofs.Common.{◌≡◌, ℕ, zero, suc, ◌+◌, ◌-◌, ◌≤◌, Bool, true, false, ◌==◌, ◌<◌, ◌&&◌, List, slice_index, slice_set, [], ◌∷◌, length, take, drop, replicate, bit_or, refl, arith, take-add}
+use Rattle.std.proofs.Common.{◌≡◌, ℕ, zero, suc, ◌+◌, ◌-◌, ◌≤◌, Bool, true, false, ◌==◌, ◌<◌, ◌&&◌, List, slice_index}
+use Rattle.std.proofs.Common.{slice_set, [], ◌∷◌, length, take, drop, replicate, bit_or, refl, arith, take-add}
 use Rattle.std.specs.List.{list_all}
 use Rattle.std.specs.Simd.Lanes.{zip2, fold_l, chunk, put_chunk}
 use Rattle.std.proofs.lemmas.Bool.Decides.{nat_tests}
@@ -21,20 +22,34 @@ pub or_of_lane : (xs : List ℕ) → (fold_l bit_or 0 xs == 0) ≡ list_all (λ 
 or_of_lane = fold_or 0
 
 -- the test of one lane more
-pub all_lane : (p : ℕ → Bool) (i : ℕ) (xs : List ℕ) → list_all p (take (i + 4) xs) ≡ (list_all p (take i xs) && list_all p (chunk i 4 xs))
+pub all_lane : (p : ℕ → Bool) (i : ℕ) (xs : List ℕ)
+    → list_all p (take (i + 4) xs) ≡ (list_all p (take i xs) && list_all p (chunk i 4 xs))
 all_lane p i xs = rw (take-add i 4 xs) (list_all-append p (take i xs) (chunk i 4 xs))
 
 -- where a stretch fails, the whole does
 pub fails_within : (p : ℕ → Bool) (i n : ℕ) (xs : List ℕ) → list_all p (chunk i n xs) ≡ false → list_all p xs ≡ false
 fails_within p i n xs h =
-    grind (arith, nat_tests, take-append-drop i xs, chunk-drop i n xs, list_all-append p (take i xs) (drop i xs), list_all-append p (chunk i n xs) (drop (i + n) xs))
+    grind (
+      arith,
+      nat_tests,
+      take-append-drop i xs,
+      chunk-drop i n xs,
+      list_all-append p (take i xs) (drop i xs),
+      list_all-append p (chunk i n xs) (drop (i + n) xs),
+    )
 
-pub zeros_lane : (i : ℕ) (xs : List ℕ) → i + 4 ≤ length xs → take i xs ≡ replicate i 0 → take (i + 4) (put_chunk i xs (replicate 4 0)) ≡ replicate (i + 4) 0
+pub zeros_lane : (i : ℕ) (xs : List ℕ) → i + 4 ≤ length xs → take i xs ≡ replicate i 0
+    → take (i + 4) (put_chunk i xs (replicate 4 0)) ≡ replicate (i + 4) 0
 zeros_lane i xs le h =
-    rw (take_more_put_chunk i xs (replicate 4 0) (i + 4) (omega arith) (omega arith), h, replicate-append-replicate {A = ℕ} i 4 0) refl
+    rw (
+      take_more_put_chunk i xs (replicate 4 0) (i + 4) (omega arith) (omega arith),
+      h,
+      replicate-append-replicate {A = ℕ} i 4 0,
+    ) refl
 
 -- one word more
-pub zeros_word : (i : ℕ) (xs : List ℕ) → i < length xs → take i xs ≡ replicate i 0 → take (i + 1) (slice_set xs i 0) ≡ replicate (i + 1) 0
+pub zeros_word : (i : ℕ) (xs : List ℕ) → i < length xs → take i xs ≡ replicate i 0
+    → take (i + 1) (slice_set xs i 0) ≡ replicate (i + 1) 0
 zeros_word i xs le h = rw (take_more_set xs i 0 le, h) (replicate-append-replicate {A = ℕ} i 1 0)
 
 -- what lies past a lane stays as it is written
@@ -50,21 +65,25 @@ all_zero : (xs : List ℕ) → list_all (λ w. w == 0) xs ≡ true → (i : ℕ)
 all_zero xs h i = grind (arith, nat_tests, list_all_at (λ (w : ℕ). w == 0) xs i 0, get_or_past xs i 0)
 
 -- where each word of two rows joined by `or` is 0, each of both is
-pub or_of_rows : (xs ys : List ℕ) → length xs ≡ length ys → list_all (λ w. w == 0) (zip2 bit_or xs ys) ≡ (list_all (λ w. w == 0) xs && list_all (λ w. w == 0) ys)
+pub or_of_rows : (xs ys : List ℕ) → length xs ≡ length ys
+    → list_all (λ w. w == 0) (zip2 bit_or xs ys) ≡ (list_all (λ w. w == 0) xs && list_all (λ w. w == 0) ys)
 or_of_rows [] [] e = refl
 or_of_rows (x ∷ xs) (y ∷ ys) e = grind (arith, nat_tests, bit_or-is_zero x y, or_of_rows xs ys (omega arith))
 or_of_rows xs ys e = absurd (omega arith)
 
 -- a stretch is its first m words and the n behind them
-pub all_chunk : (p : ℕ → Bool) (i m n : ℕ) (xs : List ℕ) → list_all p (chunk i (m + n) xs) ≡ (list_all p (chunk i m xs) && list_all p (chunk (i + m) n xs))
+pub all_chunk : (p : ℕ → Bool) (i m n : ℕ) (xs : List ℕ)
+    → list_all p (chunk i (m + n) xs) ≡ (list_all p (chunk i m xs) && list_all p (chunk (i + m) n xs))
 all_chunk p i m n xs =
     rw (take-add m n (drop i xs), drop-drop m i xs) (list_all-append p (chunk i m xs) (chunk (i + m) n xs))
 
 -- the words of a stretch, as those of the row
-pub zero_in_stretch : (k n : ℕ) (xs : List ℕ) → list_all (λ w. w == 0) (chunk k n xs) ≡ true → (i : ℕ) → k ≤ i → i < k + n → slice_index xs i ≡ 0
+pub zero_in_stretch : (k n : ℕ) (xs : List ℕ) → list_all (λ w. w == 0) (chunk k n xs) ≡ true → (i : ℕ) → k ≤ i
+    → i < k + n → slice_index xs i ≡ 0
 zero_in_stretch k n xs h i from to =
     grind (arith, get_or-chunk k n xs (i - k) 0, all_zero (chunk k n xs) h (i - k))
 
 -- the words of a lane, as those of the row
-pub zero_in_lane : (k : ℕ) (xs : List ℕ) → list_all (λ w. w == 0) (chunk k 4 xs) ≡ true → (i : ℕ) → k ≤ i → i < k + 4 → slice_index xs i ≡ 0
+pub zero_in_lane : (k : ℕ) (xs : List ℕ) → list_all (λ w. w == 0) (chunk k 4 xs) ≡ true → (i : ℕ) → k ≤ i → i < k + 4
+    → slice_index xs i ≡ 0
 zero_in_lane k xs = zero_in_stretch k 4 xs

@@ -1,5 +1,6 @@
 -- the operations on words, bit by bit, and that they give words
-use Rattle.std.specs.Prelude.{◌≡◌, ℕ, ◌+◌, ◌-◌, ◌<◌, ◌≤◌, ◌*◌, ◌%◌, ◌^◌, Bool, true, false, ◌==◌, ◌&&◌, ◌||◌, not, bit_and, bit_or, bit_xor, refl}
+use Rattle.std.specs.Prelude.{◌≡◌, ℕ, ◌+◌, ◌-◌, ◌<◌, ◌≤◌, ◌*◌, ◌%◌, ◌^◌, Bool, true, false}
+use Rattle.std.specs.Prelude.{◌==◌, ◌&&◌, ◌||◌, not, bit_and, bit_or, bit_xor, refl}
 use Rattle.std.specs.Int.{bit_at, bit_not, w64}
 use Rattle.std.specs.Int.Bits.{and_lt}
 use Rattle.std.proofs.Common.{◌∙◌, ap, sym, arith, zero, suc, min, max, ◌⊎◌, inl, inr}
@@ -13,7 +14,8 @@ use Rattle.bitlanes.specs.Ops.{IsWordOp}
 
 -- where f of two binary digits is the truth function t at each of the four pairs, it is t
 digits : (f : ℕ → ℕ → ℕ) (t : Bool → Bool → Bool)
-    → (f 0 0 == 1) ≡ t false false → (f 0 1 == 1) ≡ t false true → (f 1 0 == 1) ≡ t true false → (f 1 1 == 1) ≡ t true true
+    → (f 0 0 == 1) ≡ t false false → (f 0 1 == 1) ≡ t false true → (f 1 0 == 1) ≡ t true false
+    → (f 1 1 == 1) ≡ t true true
     → (x y : ℕ) → x < 2 → y < 2 → (f x y == 1) ≡ t (x == 1) (y == 1)
 digits f t neither second first both zero zero p q = neither
 digits f t neither second first both zero (suc zero) p q = second
@@ -23,22 +25,27 @@ digits f t neither second first both (suc (suc x)) y p q = absurd (omega arith)
 digits f t neither second first both x (suc (suc y)) p q = absurd (omega arith)
 
 pub bit-or : (a b i : ℕ) → bit (bit_or a b) i ≡ (bit a i || bit b i)
-bit-or a b i = ap (λ n. n == 1) (bit_at_or a b i) ∙ digits max (λ x y. x || y) refl refl refl refl (bit_at a i) (bit_at b i) (bit_at-lt a i) (bit_at-lt b i)
+bit-or a b i = ap (λ n. n == 1) (bit_at_or a b i)
+    ∙ digits max (λ x y. x || y) refl refl refl refl (bit_at a i) (bit_at b i) (bit_at-lt a i) (bit_at-lt b i)
 
 pub bit-and : (a b i : ℕ) → bit (bit_and a b) i ≡ (bit a i && bit b i)
-bit-and a b i = ap (λ n. n == 1) (bit_at_and a b i) ∙ digits min (λ x y. x && y) refl refl refl refl (bit_at a i) (bit_at b i) (bit_at-lt a i) (bit_at-lt b i)
+bit-and a b i = ap (λ n. n == 1) (bit_at_and a b i)
+    ∙ digits min (λ x y. x && y) refl refl refl refl (bit_at a i) (bit_at b i) (bit_at-lt a i) (bit_at-lt b i)
 
 pub bit-xor : (a b i : ℕ) → bit (bit_xor a b) i ≡ either (bit a i) (bit b i)
-bit-xor a b i = ap (λ n. n == 1) (bit_at_xor a b i) ∙ digits (λ x y. (x + y) % 2) either refl refl refl refl (bit_at a i) (bit_at b i) (bit_at-lt a i) (bit_at-lt b i)
+bit-xor a b i = ap (λ n. n == 1) (bit_at_xor a b i)
+    ∙ digits (λ x y. (x + y) % 2) either refl refl refl refl (bit_at a i) (bit_at b i) (bit_at-lt a i) (bit_at-lt b i)
 
 pub without_fits : (a b : ℕ) → a < 2 ^ 64 → bit_without a b < 2 ^ 64
 without_fits a b p = let le : bit_without a b ≤ a = and_le_l a (bit_not w64 b) in omega arith
 
 -- below place 64 by the digits; from there on a has no bit
-without_at : (a b i : ℕ) → a < 2 ^ 64 → b < 2 ^ 64 → ((leb 64 i ≡ true) × (64 ≤ i)) ⊎ ((leb 64 i ≡ false) × (i < 64)) → bit (bit_without a b) i ≡ (bit a i && not (bit b i))
+without_at : (a b i : ℕ) → a < 2 ^ 64 → b < 2 ^ 64 → ((leb 64 i ≡ true) × (64 ≤ i)) ⊎ ((leb 64 i ≡ false) × (i < 64))
+    → bit (bit_without a b) i ≡ (bit a i && not (bit b i))
 without_at a b i p q (inr (_, below)) =
     ap (λ n. n == 1) (bit_at_and a (bit_not w64 b) i ∙ ap (λ n. min (bit_at a i) n) (bit_at_not w64 b i q below))
-    ∙ digits (λ x y. min x (1 - y)) (λ x y. x && not y) refl refl refl refl (bit_at a i) (bit_at b i) (bit_at-lt a i) (bit_at-lt b i)
+    ∙ digits (λ x y. min x (1 - y)) (λ x y. x && not y) refl refl refl refl (bit_at a i) (bit_at b i) (bit_at-lt a i)
+    (bit_at-lt b i)
 without_at a b i p q (inl (_, above)) =
     ap (λ n. n == 1) (bit_at_above (bit_without a b) 64 i (without_fits a b p) above)
     ∙ sym (ap (λ n. (n == 1) && not (bit b i)) (bit_at_above a 64 i p above))
@@ -59,7 +66,8 @@ bit-not a i p below = ap (λ n. n == 1) (bit_at_not w64 a i p below) ∙ flipped
 
 test_pow : (b k : ℕ) → b < 2 → not (b * 2 ^ k == 0) ≡ (b == 1)
 test_pow zero k h = let e : 0 * 2 ^ k ≡ 0 = omega arith in rw e
-test_pow (suc zero) k h = let p : 0 < 2 ^ k = pow_pos k in let e : (1 * 2 ^ k == 0) ≡ false = ne_eqb _ _ (λ e. omega arith) in ap not e
+test_pow (suc zero) k h =
+    let p : 0 < 2 ^ k = pow_pos k in let e : (1 * 2 ^ k == 0) ≡ false = ne_eqb _ _ (λ e. omega arith) in ap not e
 test_pow (suc (suc b)) k h = absurd (omega arith)
 
 pub test_of_and : (x k : ℕ) → k < 64 → not (bit_and x (1 * 2 ^ k % 2 ^ 64) == 0) ≡ bit x k

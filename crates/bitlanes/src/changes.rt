@@ -1,7 +1,8 @@
 //! The kernels that change words and answer whether a bit changed. Each word is read once.
 //!
 //! A step is one lane, as in module `lanes`.
-ghost use Rattle.std.specs.Prelude.{◌≡◌, ◌+◌, ◌≤◌, ◌<◌, ◌==◌, ◌&&◌, not, length, min, replicate, take, true, false};
+ghost use Rattle.std.specs.Prelude.{◌≡◌, ◌+◌, ◌≤◌, ◌<◌, ◌==◌, ◌&&◌, not};
+ghost use Rattle.std.specs.Prelude.{length, min, replicate, take, true, false};
 ghost use Rattle.std.specs.List.{list_all};
 ghost use Rattle.std.specs.Simd.Lanes.{zip2, chunk, put_chunk};
 ghost use Rattle.bitlanes.specs.Changes.{changed_bits};

@@ -1,8 +1,10 @@
 //! The operations that join two sets, on one word of each and on lanes of four.
-ghost use Rattle.std.specs.Prelude.{◌≡◌, ℕ, Bool, true, false, ◌&&◌, ◌||◌, not, bit_and, bit_or, bit_xor};
+ghost use Rattle.std.specs.Prelude.{◌≡◌, ℕ, Bool, true, false, ◌&&◌};
+ghost use Rattle.std.specs.Prelude.{◌||◌, not, bit_and, bit_or, bit_xor};
 ghost use Rattle.std.specs.Simd.Lanes.{zip2};
 ghost use Rattle.bitlanes.specs.Bits.{either, bit_without};
-ghost use Rattle.bitlanes.specs.BitLaws.{laws_of_or, laws_of_and, laws_of_without, laws_of_xor, laws_of_second};
+ghost use Rattle.bitlanes.specs.BitLaws.{laws_of_or, laws_of_and, laws_of_without};
+ghost use Rattle.bitlanes.specs.BitLaws.{laws_of_xor, laws_of_second};
 ghost use Rattle.bitlanes.specs.Ops.{IsWordOp};
 
 use crate::Block;

@@ -3,11 +3,13 @@
 //! Each word is joined with one mask first, so the same loops find a word that has a bit and a word that lacks one. A
 //! step is one lane of four words from the place on where the search begins: each lane counts once, up to the one that
 //! has the word, though the last sixteen words may be looked at again. The search of two rows goes by lanes alone.
-ghost use Rattle.std.specs.Prelude.{◌≡◌, ℕ, ◌+◌, ◌-◌, ◌*◌, ◌<◌, ◌≤◌, ◌==◌, false, length, map, min, slice_index, IfSome, IfNone};
+ghost use Rattle.std.specs.Prelude.{◌≡◌, ℕ, ◌+◌, ◌-◌, ◌*◌, ◌<◌, ◌≤◌, ◌==◌, false};
+ghost use Rattle.std.specs.Prelude.{length, map, min, slice_index, IfSome, IfNone};
 ghost use Rattle.std.specs.List.{list_all};
 ghost use Rattle.std.specs.Simd.Lanes.{zip2, chunk};
 ghost use Rattle.bitlanes.specs.Ones.{has_no_ones};
-ghost use Rattle.bitlanes.specs.Search.{IsNextOne, IsPreviousOne, AreZerosFrom, AreZerosBelow, IsFirstOne, IsLastOne, AreZeros};
+ghost use Rattle.bitlanes.specs.Search.{IsNextOne, IsPreviousOne, AreZerosFrom};
+ghost use Rattle.bitlanes.specs.Search.{AreZerosBelow, IsFirstOne, IsLastOne, AreZeros};
 ghost use Rattle.bitlanes.specs.Words.{lane_steps};
 
 use crate::lanes::{LANE, is_zero, lane_at, masked_lane_at, word_at};

@@ -2,7 +2,8 @@
 //!
 //! A moved word is made of two words that follow each other, so each lane is made of two loads that lie one word apart. A
 //! step is one lane of four words that are written, as in module `lanes`, and the last lane may have fewer.
-ghost use Rattle.std.specs.Prelude.{◌≡◌, ℕ, ◌+◌, ◌-◌, ◌*◌, ◌/◌, ◌%◌, ◌^◌, ◌<◌, ◌≤◌, length, min, slice_index};
+ghost use Rattle.std.specs.Prelude.{◌≡◌, ℕ, ◌+◌, ◌-◌, ◌*◌, ◌/◌, ◌%◌, ◌^◌};
+ghost use Rattle.std.specs.Prelude.{◌<◌, ◌≤◌, length, min, slice_index};
 ghost use Rattle.std.specs.Int.{div_ceil};
 ghost use Rattle.std.specs.Simd.Lanes.{zip2, chunk, put_chunk};
 ghost use Rattle.bitlanes.specs.Shifts.{straddle, window, up_steps};
@@ -27,7 +28,8 @@ use std::simd::prelude::*;
 #[inline(always)]
 pub fn join_down<O: WordOp>(dst: &mut [Block], src: &[Block], from: usize, steps: &mut Steps)
     ensures words { (k : ℕ) → k < length dst.old → k + from / 64 < length src.now
-        → slice_index dst.new k ≡ O.joined (slice_index dst.old k) (window src.now (from + 64 * k)) }
+        → slice_index dst.new k
+        ≡ O.joined (slice_index dst.old k) (window src.now (from + 64 * k)) }
     ensures rest { (k : ℕ) → length src.now ≤ k + from / 64
         → slice_index dst.new k ≡ slice_index dst.old k }
     ensures cost { steps.new ≡ steps.old

@@ -1,5 +1,6 @@
 -- Equality, the order and the ends of a set by positions.
-use Rattle.std.proofs.Common.{◌≡◌, ◌↔◌, ℕ, ◌<◌, ◌≤◌, false, IsTrue, List, [], ◌∷◌, Option, Some, None, refl, sym, ap, ◌∙◌, arith, ⊎_elim}
+use Rattle.std.proofs.Common.{◌≡◌, ◌↔◌, ℕ, ◌<◌, ◌≤◌, false, IsTrue, List, [], ◌∷◌}
+use Rattle.std.proofs.Common.{Option, Some, None, refl, sym, ap, ◌∙◌, arith, ⊎_elim}
 use Rattle.std.specs.List.{Contains, last_or}
 use Rattle.std.proofs.lemmas.Bool.{true≢false}
 use Rattle.std.proofs.lemmas.List.Kept.{AllPairs-from_increasing}
@@ -41,7 +42,8 @@ last_greatest : (x : ℕ) (xs : List ℕ) (p : ℕ) → Ascends (x ∷ xs) → l
 last_greatest x [] p ascends is =
     let same : x ≡ p = cc in (
       (0, omega arith, same),
-      λ q member. ⊎_elim (λ (here : x ≡ q). omega arith) (λ none. absurd (omega (arith, none.1))) (Contains-cases x [] q member),
+      λ q member. ⊎_elim (λ (here : x ≡ q). omega arith) (λ none. absurd (omega (arith, none.1)))
+          (Contains-cases x [] q member),
     )
 last_greatest x (y ∷ ys) p ascends is =
     let last = last_greatest y ys p (Ascends-tail x (y ∷ ys) ascends) is in (
@@ -52,7 +54,8 @@ last_greatest x (y ∷ ys) p ascends is =
           (Contains-cases x (y ∷ ys) q member),
     )
 
-last_of : (xs : List ℕ) (p : ℕ) → Ascends xs → last_or None xs ≡ Some p → Contains xs p × ((q : ℕ) → Contains xs q → q ≤ p)
+last_of : (xs : List ℕ) (p : ℕ) → Ascends xs → last_or None xs ≡ Some p
+    → Contains xs p × ((q : ℕ) → Contains xs q → q ≤ p)
 last_of [] p ascends is = absurd (none-some p is)
 last_of (x ∷ xs) p ascends is = last_greatest x xs p ascends is
 
@@ -64,7 +67,8 @@ has_none : (xs : List ℕ) → last_or None xs ≡ None → xs ≡ []
 has_none [] e = refl
 has_none (x ∷ xs) e = absurd (has_last x xs e)
 
-maximum_greatest : (v : Bits) (p : ℕ) → maximum v ≡ Some p → IsTrue (contains v p) × ((q : ℕ) → IsTrue (contains v q) → q ≤ p)
+maximum_greatest : (v : Bits) (p : ℕ) → maximum v ≡ Some p
+    → IsTrue (contains v p) × ((q : ℕ) → IsTrue (contains v q) → q ≤ p)
 unfolding maximum
 maximum_greatest v p is =
     let one = asc_is_one v in
@@ -76,4 +80,5 @@ unfolding maximum
 maximum_none v e = no_item v (has_none (asc v) e)
 
 pub maximum_is_greatest : MaximumIsGreatest
-maximum_is_greatest v = found v (maximum v) (λ p q. q ≤ p) (λ p q a b. omega arith) (maximum_none v) (maximum_greatest v)
+maximum_is_greatest v =
+    found v (maximum v) (λ p q. q ≤ p) (λ p q a b. omega arith) (maximum_none v) (maximum_greatest v)

@@ -29,10 +29,12 @@ number_of_range_words start end words same =
     let past : ℕ = words_needed end in
     let all : words ≡ numbers_between first past = same_set _ _ (λ k. same_truth _ _
     (λ one. let within = (is k some).0 ((same k).0 one) in simp contains-numbers_between (grind (arith, nat_tests)))
-    (λ one. let within = simp contains-numbers_between at one in (same k).1 ((is k some).1 (grind (arith, nat_tests), grind (arith, nat_tests))))) in
+    (λ one. let within = simp contains-numbers_between at one in
+    (same k).1 ((is k some).1 (grind (arith, nat_tests), grind (arith, nat_tests))))) in
     simp (all, len-numbers_between) (grind (arith, nat_tests)))
     (λ (none : end ≤ start).
-    let out : (k : ℕ) → set.contains words k ≡ true → k < 0 = λ k one. let held = (same k).0 one in absurd (omega (arith, held.1, held.2)) in
+    let out : (k : ℕ) → set.contains words k ≡ true → k < 0 = λ k one. let held = (same k).0 one in
+    absurd (omega (arith, held.1, held.2)) in
     len-below 0 words out ∙ count-zero (set.contains words) ∙ grind (arith, nat_tests))
     (cases_lt start end)
 
@@ -46,4 +48,5 @@ toggling_twice v start end =
 -- ---- the tests
 
 pub is_valid_tells : IsValidTells
-is_valid_tells v start end = (λ valid. (grind (arith, nat_tests), grind (arith, nat_tests)), λ ends. grind (arith, nat_tests))
+is_valid_tells v start end =
+    (λ valid. (grind (arith, nat_tests), grind (arith, nat_tests)), λ ends. grind (arith, nat_tests))

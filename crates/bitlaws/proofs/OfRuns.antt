@@ -1,5 +1,6 @@
 -- The stretches of the numbers that pass, one after the other.
-use Rattle.std.proofs.Common.{inl, inr, ◌⊎◌, ◌≡◌, ℕ, zero, suc, ◌+◌, ◌-◌, ◌<◌, ◌≤◌, Bool, true, false, not, ◌∷◌, map, refl, sym, ap, ◌∙◌, subst, arith, ⊎_elim}
+use Rattle.std.proofs.Common.{inl, inr, ◌⊎◌, ◌≡◌, ℕ, zero, suc, ◌+◌, ◌-◌, ◌<◌, ◌≤◌, Bool, true}
+use Rattle.std.proofs.Common.{false, not, ◌∷◌, map, refl, sym, ap, ◌∙◌, subst, arith, ⊎_elim}
 use Rattle.std.proofs.lemmas.Bool.{not-true, not-false, cases_eq, true≢false}
 use Rattle.std.proofs.lemmas.Bool.Decides.{nat_tests}
 use Rattle.bitwords.specs.AscendingFacts.{ascending-none, first-from}
@@ -20,7 +21,9 @@ module _ (test : ℕ → Bool) (n : ℕ) where
   IsEdge low = low < n → test low ≡ true → begins test low ≡ true
 
   -- one stretch, and those behind it
-  module _ (low start end : ℕ) (edge : IsEdge low) (next : IsNext test low n start) (some : start < end) (within : end ≤ n) (all : (p : ℕ) → start ≤ p → p < end → test p ≡ true) (stops : end < n → test end ≡ false) where
+  module _ (low start end : ℕ) (edge : IsEdge low) (next : IsNext test low n start) (some : start < end)
+      (within : end ≤ n) (all : (p : ℕ) → start ≤ p → p < end → test p ≡ true)
+      (stops : end < n → test end ≡ false) where
     first : begins test start ≡ true
     first = grind (arith, nat_tests, next.none (start - 1))
 
@@ -32,34 +35,54 @@ module _ (test : ℕ → Bool) (n : ℕ) where
         ]
 
     listed : stretches test n low n ≡ (start, end) ∷ stretches test n end n
-    listed = rw (around test n low start end n next.after some within first all, none_begin test n low start next.none, ending) refl
+    listed =
+        rw (
+          around test n low start end n next.after some within first all,
+          none_begin test n low start next.none,
+          ending,
+        ) refl
 
     one_stretch : AreStretches test end n (stretches test n end n) → AreStretches test low n (stretches test n low n)
     unfolding AreStretches
-    one_stretch others = subst (AreStretches test low n) (sym listed) (next.after, next.none, some, all, within, stops, others)
+    one_stretch others =
+        subst (AreStretches test low n) (sym listed) (next.after, next.none, some, all, within, stops, others)
 
   no_stretch : (low : ℕ) → NonePasses test low n → AreStretches test low n (stretches test n low n)
   unfolding AreStretches
-  no_stretch low none = subst (AreStretches test low n) (sym (ap (map (λ p. (p, end_from test n p))) (none_begin test n low n none))) none
+  no_stretch low none =
+      subst (AreStretches test low n) (sym (ap (map (λ p. (p, end_from test n p))) (none_begin test n low n none))) none
 
-  all_stretches : (fuel low : ℕ) → n ≤ low + fuel → low ≤ n → IsEdge low → AreStretches test low n (stretches test n low n)
-  all_stretches zero low short within edge = no_stretch low (λ i above below. absurd (omega (arith, short, above, below)))
-  all_stretches (suc fuel) low short within edge = from_least (all_stretches fuel) (least test (n - low) low n (omega arith))
+  all_stretches : (fuel low : ℕ) → n ≤ low + fuel → low ≤ n → IsEdge low
+      → AreStretches test low n (stretches test n low n)
+  all_stretches zero low short within edge =
+      no_stretch low (λ i above below. absurd (omega (arith, short, above, below)))
+  all_stretches (suc fuel) low short within edge =
+      from_least (all_stretches fuel) (least test (n - low) low n (omega arith))
     where
-      from_end : ((next : ℕ) → n ≤ next + fuel → next ≤ n → IsEdge next → AreStretches test next n (stretches test n next n)) → (start : ℕ) → IsNext test low n start → NonePasses (λ q. not (test q)) start n ⊎ ((q : ℕ) × IsNext (λ q. not (test q)) start n q) → AreStretches test low n (stretches test n low n)
+      from_end : ((next : ℕ) → n ≤ next + fuel → next ≤ n → IsEdge next
+          → AreStretches test next n (stretches test n next n)) → (start : ℕ) → IsNext test low n start
+          → NonePasses (λ q. not (test q)) start n ⊎ ((q : ℕ) × IsNext (λ q. not (test q)) start n q)
+          → AreStretches test low n (stretches test n low n)
       from_end more start next (inl none) =
-          one_stretch low start n edge next next.below (omega arith) (λ p above below. not-false (test p) (none p above below)) (λ less. absurd (omega (arith, less)))
+          one_stretch low start n edge next next.below (omega arith)
+          (λ p above below. not-false (test p) (none p above below)) (λ less. absurd (omega (arith, less)))
           (more n (omega arith) (omega arith) (λ less. absurd (omega (arith, less))))
       from_end more start next (inr found) =
           let end : ℕ = found.0 in
           let fails : test end ≡ false = not-true (test end) found.1.passes in
           let some : start < end = grind (arith, next.passes, found.1.after) in
-          one_stretch low start end edge next some (omega (arith, found.1.below)) (λ p above below. not-false (test p) (found.1.none p above below)) (λ less. fails)
-          (more end (omega (arith, short, some, next.after)) (omega (arith, found.1.below)) (λ less passes. absurd (true≢false (sym passes ∙ fails))))
+          one_stretch low start end edge next some (omega (arith, found.1.below))
+          (λ p above below. not-false (test p) (found.1.none p above below)) (λ less. fails)
+          (more end (omega (arith, short, some, next.after)) (omega (arith, found.1.below))
+          (λ less passes. absurd (true≢false (sym passes ∙ fails))))
 
-      from_least : ((next : ℕ) → n ≤ next + fuel → next ≤ n → IsEdge next → AreStretches test next n (stretches test n next n)) → NonePasses test low n ⊎ ((p : ℕ) × IsNext test low n p) → AreStretches test low n (stretches test n low n)
+      from_least : ((next : ℕ) → n ≤ next + fuel → next ≤ n → IsEdge next
+          → AreStretches test next n (stretches test n next n)) → NonePasses test low n
+          ⊎ ((p : ℕ) × IsNext test low n p) → AreStretches test low n (stretches test n low n)
       from_least more (inl none) = no_stretch low none
-      from_least more (inr found) = from_end more found.0 found.1 (least (λ q. not (test q)) (n - found.0) found.0 n (omega (arith, found.1.below)))
+      from_least more (inr found) =
+          from_end more found.0 found.1
+          (least (λ q. not (test q)) (n - found.0) found.0 n (omega (arith, found.1.below)))
 
   pub stretches_of : AreStretches test 0 n (stretches test n 0 n)
   stretches_of = all_stretches n 0 (omega arith) (omega arith) (λ _ one. grind arith)
@@ -70,7 +93,9 @@ runs_are_the_set v = stretches_of (contains v) v.length
 
 pub zero_runs_are_the_others : ZeroRunsAreTheOthers
 unfolding runs zero_runs
-zero_runs_are_the_others v = subst (λ n. AreStretches (contains (complement v)) 0 n (zero_runs v)) (length-complement v) (stretches_of (contains (complement v)) (complement v).length)
+zero_runs_are_the_others v =
+    subst (λ n. AreStretches (contains (complement v)) 0 n (zero_runs v)) (length-complement v)
+    (stretches_of (contains (complement v)) (complement v).length)
 
 -- ---- gaps
 
@@ -82,7 +107,8 @@ room_tells v count p = (
     λ q above below one. let some = (contains_any-tells v p (p + count)).1 (q, above, below, one) in grind arith,
   ),
   λ free.
-      let none : ¬ (contains_any v p (p + count) ≡ true) = λ some. let one = (contains_any-tells v p (p + count)).0 some in free.1 one.0 one.1 one.2 one.3 in
+      let none : ¬ (contains_any v p (p + count) ≡ true) = λ some. let one =
+      (contains_any-tells v p (p + count)).0 some in free.1 one.0 one.1 one.2 one.3 in
       grind (arith, nat_tests),
 )
 

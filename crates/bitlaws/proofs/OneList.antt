@@ -1,5 +1,6 @@
 -- There is one strictly ascending list with given members.
-use Rattle.std.proofs.Common.{inl, inr, ◌≡◌, ℕ, zero, suc, ◌+◌, ◌<◌, ◌≤◌, ◌⊎◌, Bool, true, false, cond, IsTrue, List, [], ◌∷◌, length, get_or, refl, ap, ◌∙◌, arith, ⊎_elim}
+use Rattle.std.proofs.Common.{inl, inr, ◌≡◌, ℕ, zero, suc, ◌+◌, ◌<◌, ◌≤◌, ◌⊎◌, Bool, true, false, cond}
+use Rattle.std.proofs.Common.{IsTrue, List, [], ◌∷◌, length, get_or, refl, ap, ◌∙◌, arith, ⊎_elim}
 use Rattle.std.specs.List.{range_with_len, slice_index_or, Contains, AllPairs}
 use Rattle.std.specs.List.Sorted.{IsStrictlyIncreasing}
 use Rattle.std.proofs.lemmas.Bool.{cases_eq}
@@ -45,7 +46,8 @@ head_least x xs p ascends member = ⊎_elim
     (Contains-cases x xs p member)
 
 -- two ascending lists with the same members are one list
-same_lists : (xs ys : List ℕ) → Ascends xs → Ascends ys → ((p : ℕ) → Contains xs p → Contains ys p) → ((p : ℕ) → Contains ys p → Contains xs p) → xs ≡ ys
+same_lists : (xs ys : List ℕ) → Ascends xs → Ascends ys → ((p : ℕ) → Contains xs p → Contains ys p)
+    → ((p : ℕ) → Contains ys p → Contains xs p) → xs ≡ ys
 same_lists [] [] a b to from = refl
 same_lists [] (y ∷ ys) a b to from = absurd (omega (arith, (from y (Contains-head y ys)).1))
 same_lists (x ∷ xs) [] a b to from = absurd (omega (arith, (to x (Contains-head x xs)).1))
@@ -67,7 +69,8 @@ listed test low (suc n) p from to passes =
       | inl here ↦ let at_low : test low ≡ true = ap test here ∙ passes in rw at_low (0, omega arith, here)
       | inr later ↦
           let rest = listed test (low + 1) n p (omega arith) (omega arith) passes in
-          elim (test low) as (λ b. Contains (cond b (low ∷ others) others) p) [ true ↦ Contains-later low others p rest | false ↦ rest ]
+          elim (test low) as (λ b. Contains (cond b (low ∷ others) others) p)
+          [ true ↦ Contains-later low others p rest | false ↦ rest ]
     ]
 
 IsStrictlyIncreasing-asc : (v : Bits) → IsStrictlyIncreasing (asc v)
@@ -75,7 +78,8 @@ unfolding asc
 IsStrictlyIncreasing-asc v = IsStrictlyIncreasing-filter (contains v) (range_with_len 0 v.length) (λ k h.
     let long : length (range_with_len 0 v.length) ≡ v.length = length-range_with_len 0 v.length in
     let here : get_or (range_with_len 0 v.length) k 0 ≡ 0 + k = get_or-range_with_len 0 v.length k 0 (omega arith) in
-    let next : get_or (range_with_len 0 v.length) (k + 1) 0 ≡ 0 + (k + 1) = get_or-range_with_len 0 v.length (k + 1) 0 (omega arith) in
+    let next : get_or (range_with_len 0 v.length) (k + 1) 0 ≡ 0 + (k + 1) =
+    get_or-range_with_len 0 v.length (k + 1) 0 (omega arith) in
     omega arith)
 
 pub asc_is_one : (v : Bits) → IsAscendingListOf v (asc v)
@@ -83,8 +87,10 @@ unfolding asc
 asc_is_one v = record {
   ascends = IsStrictlyIncreasing-asc v;
   members = λ p. (
-    λ member. All-contains (λ x. IsTrue (contains v x)) (asc v) p (filter_passes (contains v) (range_with_len 0 v.length)) member,
-    λ holds. let below : p < v.length = contains_below v p holds in listed (contains v) 0 v.length p (omega arith) (omega arith) holds,
+    λ member. All-contains (λ x. IsTrue (contains v x)) (asc v) p
+        (filter_passes (contains v) (range_with_len 0 v.length)) member,
+    λ holds. let below : p < v.length = contains_below v p holds in
+        listed (contains v) 0 v.length p (omega arith) (omega arith) holds,
   );
 }
 
@@ -92,7 +98,8 @@ pub one_ascending_list : OneAscendingList
 one_ascending_list = λ v.
     let one = asc_is_one v in (
       one,
-      λ xs other. same_lists xs (asc v) (AllPairs-from_increasing xs other.ascends) (AllPairs-from_increasing (asc v) one.ascends)
+      λ xs other. same_lists xs (asc v) (AllPairs-from_increasing xs other.ascends)
+          (AllPairs-from_increasing (asc v) one.ascends)
           (λ p member. (one.members p).1 ((other.members p).0 member))
           (λ p member. (other.members p).1 ((one.members p).0 member)),
     )

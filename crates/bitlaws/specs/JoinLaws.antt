@@ -45,7 +45,8 @@ UnionIsLeast = (v w : Bits) → IsTrue (is_subset v (union v w)) × IsTrue (is_s
 
 -- both sets have the intersection, and it has every set that both have
 abbrev pub IntersectionIsGreatest : Type 0
-IntersectionIsGreatest = (v w : Bits) → IsTrue (is_subset (intersection v w) v) × IsTrue (is_subset (intersection v w) w)
+IntersectionIsGreatest =
+    (v w : Bits) → IsTrue (is_subset (intersection v w) v) × IsTrue (is_subset (intersection v w) w)
     × ((u : Bits) → IsTrue (is_subset u v) → IsTrue (is_subset u w) → IsTrue (is_subset u (intersection v w)))
 
 -- ---- complements, at equal lengths
@@ -55,10 +56,12 @@ ComplementTwice = (v : Bits) → complement (complement v) ≡ v
 
 -- De Morgan: what is in neither, and what is not in both
 abbrev pub ComplementOfUnion : Type 0
-ComplementOfUnion = (v w : Bits) → v.length ≡ w.length → complement (union v w) ≡ intersection (complement v) (complement w)
+ComplementOfUnion =
+    (v w : Bits) → v.length ≡ w.length → complement (union v w) ≡ intersection (complement v) (complement w)
 
 abbrev pub ComplementOfIntersection : Type 0
-ComplementOfIntersection = (v w : Bits) → v.length ≡ w.length → complement (intersection v w) ≡ union (complement v) (complement w)
+ComplementOfIntersection =
+    (v w : Bits) → v.length ≡ w.length → complement (intersection v w) ≡ union (complement v) (complement w)
 
 -- the difference is what is in the first and in the complement of the second
 abbrev pub DifferenceByComplement : Type 0

@@ -7,9 +7,11 @@ use Rattle.fixedbitset.specs.Bits.{Bits}
 use Rattle.fixedbitset.specs.Json as json
 use Rattle.bitlaws.specs.InForm.{InForm, HasFault}
 
--- it answers what `of` makes of a length and bytes exactly where the value is in the form with these, and a fault exactly where the value has it
+-- it answers what `of` makes of a length and bytes exactly where the value is in the form with these,
+-- and a fault exactly where the value has it
 abbrev pub ReadsForm : {A : Type 0} → (Data → Result A JsonFault) → (ℕ → List ℕ → A) → Type 0
-ReadsForm {A} read of = (d : Data) → ((x : A) → (read d ≡ Ok x) ↔ ((n : ℕ) × (bs : List ℕ) × InForm d n bs × (x ≡ of n bs)))
+ReadsForm {A} read of =
+    (d : Data) → ((x : A) → (read d ≡ Ok x) ↔ ((n : ℕ) × (bs : List ℕ) × InForm d n bs × (x ≡ of n bs)))
     × ((f : JsonFault) → (read d ≡ Err f) ↔ HasFault d f)
 
 -- so do `meaning`, with the set of this length that the bytes say, and `length_of`, with the length

@@ -1,5 +1,6 @@
 -- What holds of a set in pieces and of two sets in pieces, for all values of any lengths and for any cuts.
-use Rattle.std.specs.Prelude.{◌≡◌, ℕ, ◌+◌, ◌-◌, ◌<◌, Bool, IsTrue, ◌↔◌, if◌then◌else◌, List, ◌∷◌, map, sum, sum_by, count_by, flat_map, slice_get, All}
+use Rattle.std.specs.Prelude.{◌≡◌, ℕ, ◌+◌, ◌-◌, ◌<◌, Bool, IsTrue, ◌↔◌, if◌then◌else◌, List}
+use Rattle.std.specs.Prelude.{◌∷◌, map, sum, sum_by, count_by, flat_map, slice_get, All}
 use Rattle.std.specs.declared.option.Option.TheVariants.{None}
 use Rattle.std.specs.List.{list_all, last_or}
 use Rattle.fixedbitset.specs.Bits.{Bits, contains, empty, asc, minimum, maximum}
@@ -29,7 +30,8 @@ CountsByPieces count = (v w : Bits) (cuts : List ℕ) → AreCuts v 0 cuts → c
 
 -- a question about two sets is answered `true` exactly if it is of each two pieces
 abbrev pub TestsByPieces : (Bits → Bits → Bool) → Type 0
-TestsByPieces test = (v w : Bits) (cuts : List ℕ) → AreCuts v 0 cuts → test v w ≡ list_all (λ answer. answer) (by_pieces test v w cuts)
+TestsByPieces test =
+    (v w : Bits) (cuts : List ℕ) → AreCuts v 0 cuts → test v w ≡ list_all (λ answer. answer) (by_pieces test v w cuts)
 
 -- ---- one set
 
@@ -39,11 +41,13 @@ SizeByPieces = (v : Bits) (cuts : List ℕ) → AreCuts v 0 cuts → size v ≡ 
 
 -- each position below the length lies in exactly one piece
 abbrev pub InOnePiece : Type 0
-InOnePiece = (v : Bits) (cuts : List ℕ) (p : ℕ) → AreCuts v 0 cuts → p < v.length → count_by (lies_in p) (placed v cuts) ≡ 1
+InOnePiece =
+    (v : Bits) (cuts : List ℕ) (p : ℕ) → AreCuts v 0 cuts → p < v.length → count_by (lies_in p) (placed v cuts) ≡ 1
 
 -- a position is set exactly if, less the start of the piece in which it lies, it is set in that piece
 abbrev pub MembersByPieces : Type 0
-MembersByPieces = (v : Bits) (cuts : List ℕ) (p : ℕ) → All (λ at. IsTrue (lies_in p at) → contains v p ≡ contains at.1 (p - at.0)) (placed v cuts)
+MembersByPieces = (v : Bits) (cuts : List ℕ) (p : ℕ)
+    → All (λ at. IsTrue (lies_in p at) → contains v p ≡ contains at.1 (p - at.0)) (placed v cuts)
 
 -- a change of one position is made in the piece in which it lies, less the start of that piece; the others stay
 abbrev pub ChangesByPieces : (Bits → ℕ → Bits) → Type 0
@@ -52,7 +56,8 @@ ChangesByPieces change = (v : Bits) (cuts : List ℕ) (p : ℕ) → AreCuts v 0 
 
 -- the positions in ascending order are those of the pieces, each moved up by the start of its piece
 abbrev pub AscendingByPieces : Type 0
-AscendingByPieces = (v : Bits) (cuts : List ℕ) → AreCuts v 0 cuts → asc v ≡ flat_map (λ at. map (λ p. at.0 + p) (asc at.1)) (placed v cuts)
+AscendingByPieces = (v : Bits) (cuts : List ℕ) → AreCuts v 0 cuts
+    → asc v ≡ flat_map (λ at. map (λ p. at.0 + p) (asc at.1)) (placed v cuts)
 
 -- the least position is that of the first piece that has one
 abbrev pub MinimumByPieces : Type 0
@@ -66,7 +71,8 @@ MaximumByPieces = (v : Bits) (cuts : List ℕ) → AreCuts v 0 cuts → maximum 
 
 -- a slice is the empty set of its length exactly if none of its positions is set
 abbrev pub MissingIsEmpty : Type 0
-MissingIsEmpty = (v : Bits) (start end : ℕ) → (slice v start end ≡ empty (end - start)) ↔ (¬ (IsTrue (contains_any v start end)))
+MissingIsEmpty =
+    (v : Bits) (start end : ℕ) → (slice v start end ≡ empty (end - start)) ↔ (¬ (IsTrue (contains_any v start end)))
 
 -- what f answers of a set before the empty set of its length, and behind it
 abbrev pub WithNothing : {A : Type 0} → (Bits → Bits → A) → (before behind : Bits → A) → Type 0

@@ -11,13 +11,15 @@ use Rattle.fixedbitset.specs.Ranges.{is_valid, toggle_range, count_ones, count_z
 abbrev pub HoldsPosition : ℕ → ℕ → ℕ → Type 0
 HoldsPosition start end k = (p : ℕ) × (start ≤ p) × (p < end) × (p / 64 ≡ k)
 
--- a word holds a position of the range exactly if it is not before that of the start, and among those that `end` positions need
+-- a word holds a position of the range exactly if it is not before that of the
+-- start, and among those that `end` positions need
 abbrev pub WordsOfRange : Type 0
 WordsOfRange = (start end k : ℕ) → start < end → HoldsPosition start end k ↔ ((start / 64 ≤ k) × (k < words_needed end))
 
 -- a set of exactly the words that hold a position of the range has `range_words` members
 abbrev pub NumberOfRangeWords : Type 0
-NumberOfRangeWords = (start end : ℕ) (words : FinSet nat_cmp) → ((k : ℕ) → IsTrue (set.contains words k) ↔ HoldsPosition start end k) → set.len words ≡ range_words start end
+NumberOfRangeWords = (start end : ℕ) (words : FinSet nat_cmp)
+    → ((k : ℕ) → IsTrue (set.contains words k) ↔ HoldsPosition start end k) → set.len words ≡ range_words start end
 
 -- they are at most two more than the 64ths of the range
 abbrev pub RangeWordsBound : Type 0
@@ -41,8 +43,10 @@ IsValidTells = (v : Bits) (start end : ℕ) → IsTrue (is_valid v start end) �
 
 -- `contains_all` is true exactly if each position of the range is set
 abbrev pub ContainsAllTells : Type 0
-ContainsAllTells = (v : Bits) (start end : ℕ) → IsTrue (contains_all v start end) ↔ ((p : ℕ) → start ≤ p → p < end → IsTrue (contains v p))
+ContainsAllTells = (v : Bits) (start end : ℕ)
+    → IsTrue (contains_all v start end) ↔ ((p : ℕ) → start ≤ p → p < end → IsTrue (contains v p))
 
 -- `contains_any` is true exactly if some position of the range is set
 abbrev pub ContainsAnyTells : Type 0
-ContainsAnyTells = (v : Bits) (start end : ℕ) → IsTrue (contains_any v start end) ↔ ((p : ℕ) × (start ≤ p) × (p < end) × IsTrue (contains v p))
+ContainsAnyTells = (v : Bits) (start end : ℕ)
+    → IsTrue (contains_any v start end) ↔ ((p : ℕ) × (start ≤ p) × (p < end) × IsTrue (contains v p))

@@ -24,7 +24,8 @@ ZeroRunsAreTheOthers = (v : Bits) → AreStretches (contains (complement v)) 0 v
 
 -- there is room exactly if the positions are below the length and none of them is set
 abbrev pub RoomTells : Type 0
-RoomTells = (v : Bits) (count p : ℕ) → IsTrue (has_room v count p) ↔ ((p + count ≤ v.length) × ((q : ℕ) → p ≤ q → q < p + count → ¬ (IsTrue (contains v q))))
+RoomTells = (v : Bits) (count p : ℕ) → IsTrue (has_room v count p)
+    ↔ ((p + count ≤ v.length) × ((q : ℕ) → p ≤ q → q < p + count → ¬ (IsTrue (contains v q))))
 
 -- the first gap is the least number with room, and where there is none no number has
 abbrev pub GapIsLeast : Type 0

@@ -4,11 +4,13 @@ use Rattle.bitlanes.specs.Words.{lane_steps}
 use Rattle.bitwords.specs.Steps.{join_steps, both_steps, join_up_steps, search_steps}
 use Rattle.fixedbitset.specs.Bits.{Bits, contains, words_needed, storage_words}
 use Rattle.fixedbitset.specs.Ranges.{count_ones}
-use Rattle.fixedbitset.specs.TwoSets.{union_count, intersection_count, difference_count, symmetric_difference_count, is_subset, is_disjoint}
+use Rattle.fixedbitset.specs.TwoSets.{union_count, intersection_count, difference_count}
+use Rattle.fixedbitset.specs.TwoSets.{symmetric_difference_count, is_subset, is_disjoint}
 
 -- the positions of either and those of both are as many as those of the two sets
 abbrev pub CountsAddUp : Type 0
-CountsAddUp = (v w : Bits) → union_count v w + intersection_count v w ≡ count_ones v 0 v.length + count_ones w 0 w.length
+CountsAddUp =
+    (v w : Bits) → union_count v w + intersection_count v w ≡ count_ones v 0 v.length + count_ones w 0 w.length
 
 -- the positions of exactly one are those that the second lacks and those that the first lacks
 abbrev pub SymmetricDifferenceIsSum : Type 0
@@ -24,7 +26,8 @@ IsSubsetTells = (v w : Bits) → IsTrue (is_subset v w) ↔ ((p : ℕ) → IsTru
 
 -- `is_disjoint` is true exactly if no position is in both
 abbrev pub IsDisjointTells : Type 0
-IsDisjointTells = (v w : Bits) → IsTrue (is_disjoint v w) ↔ ((p : ℕ) → IsTrue (contains v p) → ¬ (IsTrue (contains w p)))
+IsDisjointTells =
+    (v w : Bits) → IsTrue (is_disjoint v w) ↔ ((p : ℕ) → IsTrue (contains v p) → ¬ (IsTrue (contains w p)))
 
 -- steps that suffice over n and m words: by fours over those that both have, and over the rest of the longer
 abbrev pub most_steps : ℕ → ℕ → ℕ
@@ -32,10 +35,12 @@ most_steps n m = min n m / 4 + 3 + ((max n m - min n m) / 4 + 3)
 
 -- no call over two sets of these lengths takes more steps than suffice over their words
 abbrev pub StepsBound : Type 0
-StepsBound = (keep take : Bool) (n m : ℕ) → (join_steps keep (storage_words n) (storage_words m) ≤ most_steps (words_needed n) (words_needed m))
+StepsBound = (keep take : Bool) (n m : ℕ)
+    → (join_steps keep (storage_words n) (storage_words m) ≤ most_steps (words_needed n) (words_needed m))
     × (both_steps keep take (storage_words n) (storage_words m) ≤ most_steps (words_needed n) (words_needed m))
 
--- one kernel over the words of the second set takes no more: it is what a call that grows takes, and a copy or a comparison
+-- one kernel over the words of the second set takes no more: it is what a call
+-- that grows takes, and a copy or a comparison
 abbrev pub WholeStepsBound : Type 0
 WholeStepsBound = (n m : ℕ) → (lane_steps (words_needed m) ≤ most_steps (words_needed n) (words_needed m))
     × (lane_steps (storage_words m) ≤ most_steps (words_needed n) (words_needed m))
@@ -46,9 +51,11 @@ MovedStepsBound = (k n m by : ℕ) → join_up_steps k (storage_words m) by ≤ 
 
 -- nor does a range of the second set that is copied to where the first has room
 abbrev pub CopyStepsBound : Type 0
-CopyStepsBound = (n m at size : ℕ) → size ≤ m → at + size ≤ n → search_steps at (at + size) ≤ most_steps (words_needed n) (words_needed m)
+CopyStepsBound = (n m at size : ℕ) → size ≤ m → at + size ≤ n
+    → search_steps at (at + size) ≤ most_steps (words_needed n) (words_needed m)
 
 -- where both lengths need as many words, each takes the steps of one kernel over them
 abbrev pub StepsOfEqual : Type 0
-StepsOfEqual = (keep take : Bool) (n m : ℕ) → words_needed n ≡ words_needed m → (join_steps keep (storage_words n) (storage_words m) ≡ lane_steps (words_needed n))
+StepsOfEqual = (keep take : Bool) (n m : ℕ) → words_needed n ≡ words_needed m
+    → (join_steps keep (storage_words n) (storage_words m) ≡ lane_steps (words_needed n))
     × (both_steps keep take (storage_words n) (storage_words m) ≡ lane_steps (words_needed n))

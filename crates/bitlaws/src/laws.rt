@@ -1,19 +1,32 @@
 //! Each function here does nothing: its contract is a law, which holds for all values.
 
 ghost use Rattle.bitlaws.specs.AscendingLaws.{OneAscendingList};
-ghost use Rattle.bitlaws.specs.JoinLaws.{Commutes, Associates, IsIdempotent, Absorbs, Distributes, IntersectionIsBitand};
-ghost use Rattle.bitlaws.specs.JoinLaws.{SubsetOfItself, SubsetThrough, SameSubsets, UnionIsLeast, IntersectionIsGreatest};
-ghost use Rattle.bitlaws.specs.JoinLaws.{ComplementTwice, ComplementOfUnion, ComplementOfIntersection, DifferenceByComplement};
-ghost use Rattle.bitlaws.specs.JsonLaws.{FormTells, WrittenReadsBack, TextIsExact, HasWholeNumbers, NestsTwice};
-ghost use Rattle.bitlaws.specs.OrderLaws.{EqualTells, CompareTells, MinimumIsLeast, MaximumIsGreatest};
-ghost use Rattle.bitlaws.specs.RangeLaws.{WordsOfRange, NumberOfRangeWords, RangeWordsBound, SearchBound, TogglingTwice, RangeCountsAddUp, IsValidTells, ContainsAllTells, ContainsAnyTells};
+ghost use Rattle.bitlaws.specs.JoinLaws.{Commutes, Associates, IsIdempotent};
+ghost use Rattle.bitlaws.specs.JoinLaws.{Absorbs, Distributes, IntersectionIsBitand};
+ghost use Rattle.bitlaws.specs.JoinLaws.{SubsetOfItself, SubsetThrough, SameSubsets};
+ghost use Rattle.bitlaws.specs.JoinLaws.{UnionIsLeast, IntersectionIsGreatest};
+ghost use Rattle.bitlaws.specs.JoinLaws.{ComplementTwice, ComplementOfUnion};
+ghost use Rattle.bitlaws.specs.JoinLaws.{ComplementOfIntersection, DifferenceByComplement};
+ghost use Rattle.bitlaws.specs.JsonLaws.{FormTells, WrittenReadsBack, TextIsExact};
+ghost use Rattle.bitlaws.specs.JsonLaws.{HasWholeNumbers, NestsTwice};
+ghost use Rattle.bitlaws.specs.OrderLaws.{EqualTells, CompareTells};
+ghost use Rattle.bitlaws.specs.OrderLaws.{MinimumIsLeast, MaximumIsGreatest};
+ghost use Rattle.bitlaws.specs.RangeLaws.{WordsOfRange, NumberOfRangeWords, RangeWordsBound};
+ghost use Rattle.bitlaws.specs.RangeLaws.{SearchBound, TogglingTwice, RangeCountsAddUp};
+ghost use Rattle.bitlaws.specs.RangeLaws.{IsValidTells, ContainsAllTells, ContainsAnyTells};
 ghost use Rattle.bitlaws.specs.RunLaws.{RunsAreTheSet, ZeroRunsAreTheOthers, RoomTells, GapIsLeast};
-ghost use Rattle.bitlaws.specs.SetLaws.{ClearHasNone, FullHasAll, InsertAddsOne, InsertKeeps, RemoveTakesOne, RemoveKeeps, WordsReadBack};
-ghost use Rattle.bitlaws.specs.TwoSetLaws.{CountsAddUp, SymmetricDifferenceIsSum, SubsetBothWays, IsSubsetTells, IsDisjointTells, StepsBound, WholeStepsBound, MovedStepsBound, CopyStepsBound, StepsOfEqual};
-ghost use Rattle.bitlaws.specs.WalkLaws.{PartsAreTheList, TurnsOfCalls, LooksUpOnce, JoinsOnce, SplitsOnce};
+ghost use Rattle.bitlaws.specs.SetLaws.{ClearHasNone, FullHasAll, InsertAddsOne, InsertKeeps};
+ghost use Rattle.bitlaws.specs.SetLaws.{RemoveTakesOne, RemoveKeeps, WordsReadBack};
+ghost use Rattle.bitlaws.specs.TwoSetLaws.{CountsAddUp, SymmetricDifferenceIsSum};
+ghost use Rattle.bitlaws.specs.TwoSetLaws.{SubsetBothWays, IsSubsetTells};
+ghost use Rattle.bitlaws.specs.TwoSetLaws.{IsDisjointTells, StepsBound, WholeStepsBound};
+ghost use Rattle.bitlaws.specs.TwoSetLaws.{MovedStepsBound, CopyStepsBound, StepsOfEqual};
+ghost use Rattle.bitlaws.specs.WalkLaws.{PartsAreTheList, TurnsOfCalls};
+ghost use Rattle.bitlaws.specs.WalkLaws.{LooksUpOnce, JoinsOnce, SplitsOnce};
 ghost use Rattle.bitwords.specs.Walk.{GivesFirst, GivesLast};
 ghost use Rattle.fixedbitset.specs.TwoSets.{union, symmetric_difference, intersection, bitand};
-ghost use Rattle.bitwalks.specs.Pairs.{SievesFirst, SievesLast, joined_items, JoinsFirst, JoinsLast, split_items, SplitsFirst, SplitsLast};
+ghost use Rattle.bitwalks.specs.Pairs.{SievesFirst, SievesLast, joined_items, JoinsFirst};
+ghost use Rattle.bitwalks.specs.Pairs.{JoinsLast, split_items, SplitsFirst, SplitsLast};
 
 /// The ascending list of a set's positions is strictly ascending and has them all and no other, and every list that is
 /// so is this one.

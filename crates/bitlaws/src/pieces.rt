@@ -6,9 +6,14 @@
 ghost use Rattle.std.specs.Prelude.{true};
 ghost use Rattle.fixedbitset.specs.Bits.{empty, insert, remove, toggle, is_clear};
 ghost use Rattle.fixedbitset.specs.TwoSets.{union, intersection, difference, symmetric_difference};
-ghost use Rattle.fixedbitset.specs.TwoSets.{union_count, intersection_count, difference_count, symmetric_difference_count, is_subset, is_disjoint};
+ghost use Rattle.fixedbitset.specs.TwoSets.{union_count, intersection_count, difference_count};
+ghost use Rattle.fixedbitset.specs.TwoSets.{symmetric_difference_count, is_subset, is_disjoint};
 ghost use Rattle.bitlaws.specs.SetLaws.{size};
-ghost use Rattle.bitlaws.specs.PieceLaws.{PiecesAreTheSet, AnySetsArePieces, JoinsByPieces, CountsByPieces, TestsByPieces, SizeByPieces, InOnePiece, MembersByPieces, ChangesByPieces, AscendingByPieces, MinimumByPieces, MaximumByPieces, MissingIsEmpty, WithNothing};
+ghost use Rattle.bitlaws.specs.PieceLaws.{PiecesAreTheSet, AnySetsArePieces, JoinsByPieces};
+ghost use Rattle.bitlaws.specs.PieceLaws.{CountsByPieces, TestsByPieces, SizeByPieces};
+ghost use Rattle.bitlaws.specs.PieceLaws.{InOnePiece, MembersByPieces, ChangesByPieces};
+ghost use Rattle.bitlaws.specs.PieceLaws.{AscendingByPieces, MinimumByPieces};
+ghost use Rattle.bitlaws.specs.PieceLaws.{MaximumByPieces, MissingIsEmpty, WithNothing};
 
 /// The pieces of a set, appended in order, are that set. And any sets are the pieces of what they make when appended.
 ///

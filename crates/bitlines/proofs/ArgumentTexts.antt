@@ -1,5 +1,6 @@
 -- Texts of arguments are read back.
-use Rattle.std.proofs.Common.{◌≡◌, ℕ, ◌+◌, ◌^◌, ◌<◌, Bool, true, false, not, eqb, List, [], ◌∷◌, ◌++◌, length, map, Some, refl, ap, ◌∙◌, arith, decimal}
+use Rattle.std.proofs.Common.{◌≡◌, ℕ, ◌+◌, ◌^◌, ◌<◌, Bool, true, false, not, eqb, List, []}
+use Rattle.std.proofs.Common.{◌∷◌, ◌++◌, length, map, Some, refl, ap, ◌∙◌, arith, decimal}
 use Rattle.std.specs.Prelude.{slice_index_or, position}
 use Rattle.std.specs.Char.{is_ascii_digit}
 use Rattle.std.specs.Str.{all_ascii_digits}
@@ -28,14 +29,17 @@ pub lacks-append : (b : ℕ) (xs ys : List ℕ) → lacks b xs ≡ true → lack
 lacks-append b xs ys e f = list_all-append (λ x. not (eqb x b)) xs ys ∙ and_from _ _ e f
 
 -- a text is cut at the first byte
-pub cut_at : (b : ℕ) (xs ys : List ℕ) → lacks b xs ≡ true → slice_split (λ x. eqb x b) (xs ++ b ∷ ys) ≡ xs ∷ slice_split (λ x. eqb x b) ys
+pub cut_at : (b : ℕ) (xs ys : List ℕ) → lacks b xs ≡ true
+    → slice_split (λ x. eqb x b) (xs ++ b ∷ ys) ≡ xs ∷ slice_split (λ x. eqb x b) ys
 cut_at b [] ys e = slice_split-cons_yes (λ x. eqb x b) b ys (eq-eqb b b refl)
 cut_at b (x ∷ xs) ys e =
-    slice_split-cons_no (λ x. eqb x b) x (xs ++ b ∷ ys) (not-true _ (and_parts _ _ e).0) ∙ ap (onto_first x) (cut_at b xs ys (and_parts _ _ e).1)
+    slice_split-cons_no (λ x. eqb x b) x (xs ++ b ∷ ys) (not-true _ (and_parts _ _ e).0)
+    ∙ ap (onto_first x) (cut_at b xs ys (and_parts _ _ e).1)
 
 pub not_cut : (b : ℕ) (xs : List ℕ) → lacks b xs ≡ true → slice_split (λ x. eqb x b) xs ≡ xs ∷ []
 not_cut b [] e = refl
-not_cut b (x ∷ xs) e = slice_split-cons_no (λ x. eqb x b) x xs (not-true _ (and_parts _ _ e).0) ∙ ap (onto_first x) (not_cut b xs (and_parts _ _ e).1)
+not_cut b (x ∷ xs) e = slice_split-cons_no (λ x. eqb x b) x xs (not-true _ (and_parts _ _ e).0)
+    ∙ ap (onto_first x) (not_cut b xs (and_parts _ _ e).1)
 
 -- ---- numbers
 
@@ -44,7 +48,13 @@ own = numerals_by_value (λ ds. all_ascii_digits ds ≡ true) tells_all_ascii_di
 
 pub number_read : (n : ℕ) → n < 2 ^ 64 → number_of (decimal n) ≡ Some n
 unfolding number_of
-number_read n h = rw (lt-ltb 0 (length (decimal n)) (decimal_nonempty n h), digits_decimal own n h, digits_value-decimal own n h, lt-ltb n (2 ^ 64) h) refl
+number_read n h =
+    rw (
+      lt-ltb 0 (length (decimal n)) (decimal_nonempty n h),
+      digits_decimal own n h,
+      digits_value-decimal own n h,
+      lt-ltb n (2 ^ 64) h,
+    ) refl
 
 -- a byte that is no digit is nowhere among digits
 pub digits_lack : (b : ℕ) (ds : List ℕ) → is_ascii_digit b ≡ false → all_ascii_digits ds ≡ true → lacks b ds ≡ true
@@ -55,9 +65,11 @@ digits_lack b (d ∷ ds) none e =
 
 -- ---- a range
 
-position_or_len_cut : (b : ℕ) (xs ys : List ℕ) → lacks b xs ≡ true → position_or_len (λ x. eqb x b) (xs ++ b ∷ ys) ≡ length xs
+position_or_len_cut : (b : ℕ) (xs ys : List ℕ) → lacks b xs ≡ true
+    → position_or_len (λ x. eqb x b) (xs ++ b ∷ ys) ≡ length xs
 position_or_len_cut b [] ys e = rw (eq-eqb b b refl) refl
-position_or_len_cut b (x ∷ xs) ys e = grind (arith, nat_tests, position_or_len_cut b xs ys (and_parts (not (eqb x b)) (lacks b xs) e).1)
+position_or_len_cut b (x ∷ xs) ys e =
+    grind (arith, nat_tests, position_or_len_cut b xs ys (and_parts (not (eqb x b)) (lacks b xs) e).1)
 
 pub found_at : (b : ℕ) (xs ys : List ℕ) → lacks b xs ≡ true → position (λ x. eqb x b) (xs ++ b ∷ ys) ≡ Some (length xs)
 found_at b xs ys e = grind (arith, nat_tests, common_steps, position_or_len_cut b xs ys e)

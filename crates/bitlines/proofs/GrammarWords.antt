@@ -58,7 +58,8 @@ without_zeros (c ∷ []) some digits fits =
 without_zeros (c ∷ d ∷ ds) some digits fits =
     ⊎_elim
     (λ (zero : c ≡ 48).
-    let more = without_zeros (d ∷ ds) (omega arith) (and_parts (is_ascii_digit c) (all_ascii_digits (d ∷ ds)) digits).1 (rw zero at fits) in
+    let more = without_zeros (d ∷ ds) (omega arith) (and_parts (is_ascii_digit c) (all_ascii_digits (d ∷ ds)) digits).1
+    (rw zero at fits) in
     let same : digits_value 10 (c ∷ d ∷ ds) ≡ digits_value 10 (d ∷ ds) = ap (λ x. digits_value 10 (x ∷ d ∷ ds)) zero in
     (suc more.0, cc (zero, more.1, same)))
     (λ (other : c ≢ 48). (0, sym (decimal-digits_value own (c ∷ d ∷ ds) digits some (λ z. absurd (other z)) fits)))

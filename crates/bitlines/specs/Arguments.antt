@@ -1,5 +1,6 @@
 -- The arguments of commands.
-use Rattle.std.specs.Prelude.{ℕ, ◌+◌, Bool, true, false, ◌==◌, List, [], ◌∷◌, length, take, drop, position, slice_index_or, Option, Some, None, if◌then◌else◌, codes}
+use Rattle.std.specs.Prelude.{ℕ, ◌+◌, Bool, true, false, ◌==◌, List, [], ◌∷◌, length, take, drop}
+use Rattle.std.specs.Prelude.{position, slice_index_or, Option, Some, None, if◌then◌else◌, codes}
 use Rattle.std.specs.List.{join_with_byte}
 use Rattle.std.specs.Str.{bytes_eq, is_utf8}
 use Rattle.serde_json.specs.Data.{Data}
@@ -31,7 +32,8 @@ bound_of w = if length w == 0 then Some None else (number_of w >>= λ n. Some (S
 
 -- a bound, or `=` and the last position of the range, which then ends behind it
 unfoldable pub end_bound_of : List ℕ → Option (Option ℕ)
-end_bound_of w = if slice_index_or w 0 0 == 61 then (number_of (drop 1 w) >>= λ n. Some (Some (behind n))) else bound_of w
+end_bound_of w =
+    if slice_index_or w 0 0 == 61 then (number_of (drop 1 w) >>= λ n. Some (Some (behind n))) else bound_of w
 
 -- the two bounds of a range
 unfoldable pub bounds_of : List ℕ → List ℕ → Option Range
@@ -79,7 +81,8 @@ numbers_of (w ∷ ws) = number_of w >>= λ n. numbers_of ws >>= λ ns. Some (n �
 unfoldable pub json_of : List ℕ → Option Data
 json_of text = if is_utf8 text then read text else None
 
--- the JSON value of all the words, with the spaces between them; where there are none it is that of the empty text, which has none
+-- the JSON value of all the words, with the spaces between them; where there are none
+-- it is that of the empty text, which has none
 unfoldable pub json_at : List (List ℕ) → Option Data
 json_at ws = json_of (join_with_byte 32 ws)
 

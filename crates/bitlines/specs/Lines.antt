@@ -4,7 +4,8 @@ use Rattle.bitcommands.specs.declared.commands.arguments.End.{End}
 use Rattle.bitcommands.specs.Actions as action
 use Rattle.bitcommands.specs.Actions.{Action, Range}
 use Rattle.bitlines.specs.Words.{◌>>=◌, words}
-use Rattle.bitlines.specs.Arguments.{one, two, three, two_and_flag, one_and_range, range_and_flag, one_and_ends, two_and_ends, one_and_list, two_and_list, one_and_json}
+use Rattle.bitlines.specs.Arguments.{one, two, three, two_and_flag, one_and_range, range_and_flag}
+use Rattle.bitlines.specs.Arguments.{one_and_ends, two_and_ends, one_and_list, two_and_list, one_and_json}
 use Rattle.bitlines.specs.Names.{name_of}
 use Rattle.bitlines.specs.declared.names.Name.{Name}
 use Rattle.bitlines.specs.declared.names.Name.TheVariants as name
@@ -123,7 +124,8 @@ command_by (name.OneSet c) args = one args >>= λ k. Some (of_one_set c k)
 command_by (name.SetAndNumber c) args = two args >>= λ x. Some (of_set_and_number c x.0 x.1)
 command_by (name.SetAndTwoNumbers c) args = three args >>= λ x. Some (of_set_and_two_numbers c x.0 x.1 x.2)
 command_by (name.SetAndList c) args = one_and_list args >>= λ x. Some (of_set_and_list c x.0 x.1)
-command_by name.WithCapacityAndBlocks args = two_and_list args >>= λ x. Some (action.with_capacity_and_blocks x.0 x.1 x.2)
+command_by name.WithCapacityAndBlocks args =
+    two_and_list args >>= λ x. Some (action.with_capacity_and_blocks x.0 x.1 x.2)
 command_by name.FromValue args = one_and_json args >>= λ x. Some (action.from_value x.0 x.1)
 command_by (name.TwoSets c) args = two args >>= λ x. Some (of_two_sets c x.0 x.1)
 command_by (name.ThreeSets c) args = three args >>= λ x. Some (of_three_sets c x.0 x.1 x.2)
@@ -165,6 +167,7 @@ unfoldable pub begins_with_one : List (List ℕ) → Bool
 begins_with_one [] = false
 begins_with_one (w ∷ args) = is_one_of_them (name_of w)
 
--- whether memory may lack as the line is read: where its first word is the name of a command with a list or a JSON value
+-- whether memory may lack as the line is read: where its first word is the
+-- name of a command with a list or a JSON value
 abbrev pub may_lack : List ℕ → Bool
 may_lack line = begins_with_one (words line)

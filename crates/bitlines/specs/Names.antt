@@ -3,16 +3,27 @@ use Rattle.std.specs.Prelude.{ℕ, List, [], ◌∷◌, Option, Some, None, if�
 use Rattle.std.specs.Option.{option_or}
 use Rattle.std.specs.Str.{bytes_eq}
 use Rattle.bitlines.specs.declared.names.Name.{Name}
-use Rattle.bitlines.specs.declared.names.Name.TheVariants.{OneSet, SetAndNumber, SetAndTwoNumbers, SetAndList, TwoSets, ThreeSets, SetAndRange, SetAndEnds, TwoSetsAndEnds, WithCapacityAndBlocks, FromValue, Set, SetRange}
-use Rattle.bitlines.specs.declared.names.OneSet.TheVariants.{New, Default, Len, IsEmpty, IsClear, IsFull, Minimum, Maximum, AsSlice, Text, ToValue, Clear}
-use Rattle.bitlines.specs.declared.names.SetAndNumber.TheVariants.{WithCapacity, Contains, Index, Grow, GrowAndInsert, Insert, Remove, Toggle, Put}
+use Rattle.bitlines.specs.declared.names.Name.TheVariants.{OneSet, SetAndNumber, SetAndTwoNumbers, SetAndList, TwoSets}
+use Rattle.bitlines.specs.declared.names.Name.TheVariants.{ThreeSets, SetAndRange, SetAndEnds, TwoSetsAndEnds}
+use Rattle.bitlines.specs.declared.names.Name.TheVariants.{WithCapacityAndBlocks, FromValue, Set, SetRange}
+use Rattle.bitlines.specs.declared.names.OneSet.TheVariants.{New, Default, Len, IsEmpty, IsClear, IsFull}
+use Rattle.bitlines.specs.declared.names.OneSet.TheVariants.{Minimum, Maximum, AsSlice, Text, ToValue, Clear}
+use Rattle.bitlines.specs.declared.names.SetAndNumber.TheVariants.{WithCapacity, Contains, Index, Grow}
+use Rattle.bitlines.specs.declared.names.SetAndNumber.TheVariants.{GrowAndInsert, Insert, Remove, Toggle, Put}
 use Rattle.bitlines.specs.declared.names.SetAndTwoNumbers.TheVariants.{CopyBit, SetBlock}
 use Rattle.bitlines.specs.declared.names.SetAndList.TheVariants.{FromIter, Extend}
-use Rattle.bitlines.specs.declared.names.TwoSets.TheVariants.{Clone, CloneFrom, UnionWith, SymmetricDifferenceWith, BitorAssign, BitxorAssign, IntersectWith, DifferenceWith, BitandAssign, UnionCount, IntersectionCount, DifferenceCount, SymmetricDifferenceCount, IsDisjoint, IsSubset, IsSuperset, Eq, Cmp}
+use Rattle.bitlines.specs.declared.names.TwoSets.TheVariants.{Clone, CloneFrom, UnionWith, SymmetricDifferenceWith}
+use Rattle.bitlines.specs.declared.names.TwoSets.TheVariants.{BitorAssign, BitxorAssign, IntersectWith, DifferenceWith}
+use Rattle.bitlines.specs.declared.names.TwoSets.TheVariants.{BitandAssign, UnionCount, IntersectionCount}
+use Rattle.bitlines.specs.declared.names.TwoSets.TheVariants.{DifferenceCount, SymmetricDifferenceCount, IsDisjoint}
+use Rattle.bitlines.specs.declared.names.TwoSets.TheVariants.{IsSubset, IsSuperset, Eq, Cmp}
 use Rattle.bitlines.specs.declared.names.ThreeSets.TheVariants.{Bitand, Bitor, Bitxor}
-use Rattle.bitlines.specs.declared.names.SetAndRange.TheVariants.{CountOnes, CountZeroes, InsertRange, RemoveRange, ToggleRange, ContainsAllInRange, ContainsAnyInRange, RangeIsValid}
+use Rattle.bitlines.specs.declared.names.SetAndRange.TheVariants.{CountOnes, CountZeroes, InsertRange}
+use Rattle.bitlines.specs.declared.names.SetAndRange.TheVariants.{RemoveRange, ToggleRange, ContainsAllInRange}
+use Rattle.bitlines.specs.declared.names.SetAndRange.TheVariants.{ContainsAnyInRange, RangeIsValid}
 use Rattle.bitlines.specs.declared.names.SetAndEnds.TheVariants.{Ones, IntoOnes, Zeroes}
-use Rattle.bitlines.specs.declared.names.TwoSetsAndEnds.TheVariants.{Union, Intersection, Difference, SymmetricDifference}
+use Rattle.bitlines.specs.declared.names.TwoSetsAndEnds.TheVariants.{Union, Intersection, Difference}
+use Rattle.bitlines.specs.declared.names.TwoSetsAndEnds.TheVariants.{SymmetricDifference}
 
 -- the name that stands beside this text, in a list of texts and names
 abbrev pub name_in : List (List ℕ × Name) → List ℕ → Option Name

@@ -21,7 +21,9 @@ AreReplies sets [] replies = replies ≡ []
 AreReplies sets (line ∷ lines) replies = (reply : List ℕ) × (rest : List (List ℕ)) × (mid : Sets)
     × Replies sets line reply mid × AreReplies mid lines rest × (replies ≡ reply ∷ rest)
 
--- The lines of an output are the replies to the lines of the input, in order and as many. So no reply has a line end in it.
+-- The lines of an output are the replies to the lines of the input, in order and
+-- as many. So no reply has a line end in it.
 abbrev pub OneLineEach : Type 0
 OneLineEach = (input output : List ℕ) → IsOutput input output
-    → AreReplies (replicate 16 (empty 0)) (lines_of input) (lines_of output) × (length (lines_of output) ≡ length (lines_of input))
+    → AreReplies (replicate 16 (empty 0)) (lines_of input) (lines_of output)
+    × (length (lines_of output) ≡ length (lines_of input))

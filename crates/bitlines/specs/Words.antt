@@ -1,5 +1,6 @@
 -- The words of a line, and numbers.
-use Rattle.std.specs.Prelude.{ℕ, ◌^◌, ◌&&◌, List, [], ◌∷◌, length, Option, Some, None, nat_lt, ◌==◌, if◌then◌else◌, option_and_then}
+use Rattle.std.specs.Prelude.{ℕ, ◌^◌, ◌&&◌, List, [], ◌∷◌, length, Option, Some}
+use Rattle.std.specs.Prelude.{None, nat_lt, ◌==◌, if◌then◌else◌, option_and_then}
 use Rattle.std.specs.List.{slice_split}
 use Rattle.std.specs.Str.{all_ascii_digits}
 use Rattle.std.specs.Str.Parse.{digits_value}
@@ -10,7 +11,8 @@ words text = slice_split (λ b. b == 32) text
 
 -- one or more decimal digits, of a value below 2 ^ 64
 unfoldable pub number_of : List ℕ → Option ℕ
-number_of word = if nat_lt 0 (length word) && (all_ascii_digits word && nat_lt (digits_value 10 word) (2 ^ 64)) then Some (digits_value 10 word) else None
+number_of word = if nat_lt 0 (length word) && (all_ascii_digits word && nat_lt (digits_value 10 word) (2 ^ 64))
+    then Some (digits_value 10 word) else None
 
 -- ---- readers of words
 

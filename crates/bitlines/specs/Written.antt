@@ -1,5 +1,6 @@
 -- The line that a command is written as.
-use Rattle.std.specs.Prelude.{◌≡◌, ℕ, ◌^◌, ◌<◌, List, [], ◌∷◌, ◌++◌, map, length, Option, Some, None, MatchOption, codes, decimal}
+use Rattle.std.specs.Prelude.{◌≡◌, ℕ, ◌^◌, ◌<◌, List, [], ◌∷◌, ◌++◌, map, length}
+use Rattle.std.specs.Prelude.{Option, Some, None, MatchOption, codes, decimal}
 use Rattle.std.specs.List.{join_with_byte}
 use Rattle.serde_json.specs.Written.{compact_text}
 use Rattle.bitcommands.specs.declared.commands.arguments.End.{End}

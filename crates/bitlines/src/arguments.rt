@@ -2,7 +2,11 @@
 ghost use Rattle.std.specs.Prelude.{◌≡◌, true, false};
 ghost use Rattle.serde_json.specs.View.{view};
 ghost use Rattle.bitlines.specs.Reads.{Reads};
-ghost use Rattle.bitlines.specs.Arguments.{bound_of, end_bound_of, bounds_of, range_of, range_at, end_of, ends_of, ends_at, one, two, three, two_and_flag, one_and_range, range_and_flag, one_and_ends, two_and_ends, numbers_of, one_and_list, two_and_list, one_and_json};
+ghost use Rattle.bitlines.specs.Arguments.{bound_of, end_bound_of, bounds_of, range_of};
+ghost use Rattle.bitlines.specs.Arguments.{range_at, end_of, ends_of, ends_at, one, two};
+ghost use Rattle.bitlines.specs.Arguments.{three, two_and_flag, one_and_range, range_and_flag};
+ghost use Rattle.bitlines.specs.Arguments.{one_and_ends, two_and_ends, numbers_of};
+ghost use Rattle.bitlines.specs.Arguments.{one_and_list, two_and_list, one_and_json};
 
 use crate::fault::LineFault;
 use crate::words::{Words, find, number};
@@ -64,7 +68,8 @@ pub(crate) fn one_and_range(mut args: Words<'_>) -> Result<(usize, Span), LineFa
 
 #[tactic(auto, unfolding(crate::specs::Arguments::range_and_flag))]
 pub(crate) fn range_and_flag(mut args: Words<'_>) -> Result<(usize, Span, bool), LineFault>
-    ensures { Reads false (λ x. (x.0, (x.1.start, x.1.end), x.2)) result (range_and_flag args.entry) }
+    ensures { Reads false (λ x. (x.0, (x.1.start, x.1.end), x.2)) result
+        (range_and_flag args.entry) }
 {
     let set = args.number()?;
     let range = range_in(&mut args)?;

@@ -3,7 +3,10 @@ ghost use Rattle.std.specs.Prelude.{◌≡◌, true};
 ghost use Rattle.bitcommands.specs.Actions.{action_of};
 ghost use Rattle.bitlines.specs.Reads.{Reads};
 ghost use Rattle.bitlines.specs.declared.names.Name.TheVariants as names;
-ghost use Rattle.bitlines.specs.Lines.{of_one_set, of_set_and_number, of_set_and_two_numbers, of_set_and_list, of_two_sets, of_three_sets, of_set_and_range, of_set_and_ends, of_two_sets_and_ends, command_by, command_of, takes_memory, may_lack};
+ghost use Rattle.bitlines.specs.Lines.{of_one_set, of_set_and_number, of_set_and_two_numbers};
+ghost use Rattle.bitlines.specs.Lines.{of_set_and_list, of_two_sets, of_three_sets};
+ghost use Rattle.bitlines.specs.Lines.{of_set_and_range, of_set_and_ends, of_two_sets_and_ends};
+ghost use Rattle.bitlines.specs.Lines.{command_by, command_of, takes_memory, may_lack};
 
 use crate::arguments::{
     one, one_and_ends, one_and_json, one_and_list, one_and_range, range_and_flag, three, two,

@@ -1,5 +1,6 @@
 //! The program over any reader and writer.
-ghost use Rattle.std.specs.Prelude.{◌≡◌, ◌≢◌, ◌∷◌, ◌++◌, ℕ, ◌<◌, List, length, replicate, IfOk, OnOk, IfErr, Err};
+ghost use Rattle.std.specs.Prelude.{◌≡◌, ◌≢◌, ◌∷◌, ◌++◌, ℕ, ◌<◌, List, length};
+ghost use Rattle.std.specs.Prelude.{replicate, IfOk, OnOk, IfErr, Err};
 ghost use Rattle.std.specs.Io.{StartsWith};
 ghost use Rattle.std.specs.Io.KnownBytes.{Keeps, Appends};
 ghost use Rattle.fixedbitset.specs.Bits.{empty};
@@ -63,7 +64,8 @@ pub fn run_text<R: Read, W: Write>(
         × IsOutput input output × Appends (W.contents writer.old) (W.contents writer.new) output) }
     ensures write { result ≡ Err RunFault.Write
         → (input output sent : List ℕ) × IsRead R.remaining reader.old reader.new input
-        × IsOutput input output × StartsWith output sent × Appends (W.contents writer.old) (W.contents writer.new) sent }
+        × IsOutput input output × StartsWith output sent
+        × Appends (W.contents writer.old) (W.contents writer.new) sent }
     ensures read { result ≡ Err RunFault.Read
         → Keeps (W.contents writer.old) (W.contents writer.new) }
     ensures memory { result ≡ Err RunFault.Memory

@@ -1,6 +1,8 @@
--- Counts of positions as a directory has them, the position with so many positions before it in a word, in a row of words and in the
--- ascending list, and a value with its words and a directory of them.
-use Rattle.std.proofs.Common.{◌≡◌, ◌==◌, ℕ, zero, suc, ◌+◌, ◌-◌, ◌*◌, ◌/◌, ◌%◌, ◌^◌, ◌<◌, ◌≤◌, Bool, true, false, ◌&&◌, nat_lt, bit_and, min, Option, Some, None, IfSome, IfNone, List, length, get_or, set, slice_index, refl, sym, subst, ap, ◌∙◌, arith, ⊎_elim}
+-- Counts of positions as a directory has them, the position with so many positions before it in a word, in a row of
+-- words and in the ascending list, and a value with its words and a directory of them.
+use Rattle.std.proofs.Common.{◌≡◌, ◌==◌, ℕ, zero, suc, ◌+◌, ◌-◌, ◌*◌, ◌/◌, ◌%◌, ◌^◌, ◌<◌, ◌≤◌, Bool, true}
+use Rattle.std.proofs.Common.{false, ◌&&◌, nat_lt, bit_and, min, Option, Some, None, IfSome, IfNone, List}
+use Rattle.std.proofs.Common.{length, get_or, set, slice_index, refl, sym, subst, ap, ◌∙◌, arith, ⊎_elim}
 use Rattle.std.specs.List.{slice_get}
 use Rattle.std.specs.Int.{bit_at}
 use Rattle.std.specs.Int.Count.{ones}
@@ -28,15 +30,20 @@ use Rattle.bitranks.specs.RanksFacts.{nth-ascending, none-ascending, rank-count}
 
 -- a position past the end counts as the end
 pub count-min : (ws : List ℕ) (n : ℕ) → count_below (has_bit ws) (min n (64 * length ws)) ≡ count_below (has_bit ws) n
-count-min ws n = sym (count-shorter (has_bit ws) (min n (64 * length ws)) n (omega arith) (λ p from below. has_bit-past ws p (omega arith)))
+count-min ws n =
+    sym (count-shorter (has_bit ws) (min n (64 * length ws)) n (omega arith)
+    (λ p from below. has_bit-past ws p (omega arith)))
 
 -- one number more is written behind those that are as they should be
-pub written_more : (f : ℕ → ℕ) (xs : List ℕ) (n x : ℕ) → n < length xs → ((k : ℕ) → k < n → get_or xs k 0 ≡ f k) → x ≡ f n → (k : ℕ) → k < n + 1 → get_or (set xs n x) k 0 ≡ f k
-written_more f xs n x within before here k below = let was = before k in grind (arith, was, get_or-set_same xs n x 0, get_or-set_other xs n k x 0)
+pub written_more : (f : ℕ → ℕ) (xs : List ℕ) (n x : ℕ) → n < length xs → ((k : ℕ) → k < n → get_or xs k 0 ≡ f k)
+    → x ≡ f n → (k : ℕ) → k < n + 1 → get_or (set xs n x) k 0 ≡ f k
+written_more f xs n x within before here k below =
+    let was = before k in grind (arith, was, get_or-set_same xs n x 0, get_or-set_other xs n k x 0)
 
 -- the count before eight words and that of the eight is the count before the next
 pub next_entry : (ws : List ℕ) (n had more : ℕ) → 0 < n → had ≡ count_below (has_bit ws) (64 * (8 * (n - 1)))
-    → more + count_below (bit_test (λ y. true && y) ws) (512 * (n - 1)) ≡ count_below (bit_test (λ y. true && y) ws) (512 * (n - 1) + 512)
+    → more + count_below (bit_test (λ y. true && y) ws) (512 * (n - 1))
+    ≡ count_below (bit_test (λ y. true && y) ws) (512 * (n - 1) + 512)
     → had + more ≡ count_below (has_bit ws) (64 * (8 * n))
 unfolding bit_test
 next_entry ws n had more some before counted =
@@ -76,38 +83,61 @@ ones-bits (suc w) x h =
     omega (arith, split, top, low, ones-bits w r small, count-suc (bit x) w)
 
 -- those of a word, below place n
-pub ones-below : (word mask n : ℕ) → word < 2 ^ 64 → n ≤ 64 → ((i : ℕ) → bit mask i ≡ nat_lt i n) → ones (bit_and word mask) ≡ count_below (bit word) n
+pub ones-below : (word mask n : ℕ) → word < 2 ^ 64 → n ≤ 64 → ((i : ℕ) → bit mask i ≡ nat_lt i n)
+    → ones (bit_and word mask) ≡ count_below (bit word) n
 ones-below word mask n fits within masked =
     let less : bit_and word mask ≤ word = and_le_l word mask in
     ones-bits 64 (bit_and word mask) (omega arith)
-    ∙ count-shorter (bit (bit_and word mask)) n 64 within (λ i from _. grind (arith, nat_tests, bit-and word mask i, masked i))
-    ∙ count-same (bit (bit_and word mask)) (bit word) n (λ i below. grind (arith, nat_tests, bit-and word mask i, masked i))
+    ∙ count-shorter (bit (bit_and word mask)) n 64 within
+    (λ i from _. grind (arith, nat_tests, bit-and word mask i, masked i))
+    ∙ count-same (bit (bit_and word mask)) (bit word) n
+    (λ i below. grind (arith, nat_tests, bit-and word mask i, masked i))
 
 -- ---- the words of a row
 
 module _ (ws : List ℕ) (words : AreWords ws) (k : ℕ) where
   -- some bits further within word k
-  pub count-within : (n : ℕ) → n ≤ 64 → count_below (has_bit ws) (64 * k + n) ≡ count_below (has_bit ws) (64 * k) + count_below (bit (get_or ws k 0)) n
+  pub count-within : (n : ℕ) → n ≤ 64
+      → count_below (has_bit ws) (64 * k + n) ≡ count_below (has_bit ws) (64 * k) + count_below (bit (get_or ws k 0)) n
   count-within n within =
       let c : ℕ → Bool = has_bit ws in
-      omega (arith, count-append c (64 * k) n, count-same (λ i. c (64 * k + i)) (bit (get_or ws k 0)) n (λ i below. has_bit-at ws k i (omega arith)))
+      omega (
+        arith,
+        count-append c (64 * k) n,
+        count-same (λ i. c (64 * k + i)) (bit (get_or ws k 0)) n (λ i below. has_bit-at ws k i (omega arith)),
+      )
 
   -- one word further
   pub word-count : count_below (has_bit ws) (64 * (k + 1)) ≡ count_below (has_bit ws) (64 * k) + ones (get_or ws k 0)
   word-count =
       let e : 64 * (k + 1) ≡ 64 * k + 64 = omega arith in
-      omega (arith, ap (count_below (has_bit ws)) e, count-within 64 (omega arith), ones-bits 64 (get_or ws k 0) (words k))
+      omega (
+        arith,
+        ap (count_below (has_bit ws)) e,
+        count-within 64 (omega arith),
+        ones-bits 64 (get_or ws k 0) (words k),
+      )
 
   -- up to a position, where word k has it or is the last one
-  pub count-upto : (position n mask total at : ℕ) → total ≡ count_below (has_bit ws) (64 * at) → at ≡ k → k ≡ min (position / 64) (length ws - 1) → 0 < length ws
-      → n ≡ min (position - 64 * k) 64 → ((i : ℕ) → bit mask i ≡ nat_lt i n) → total + ones (bit_and (get_or ws k 0) mask) ≡ count_below (has_bit ws) position
+  pub count-upto : (position n mask total at : ℕ) → total ≡ count_below (has_bit ws) (64 * at) → at ≡ k
+      → k ≡ min (position / 64) (length ws - 1) → 0 < length ws
+      → n ≡ min (position - 64 * k) 64 → ((i : ℕ) → bit mask i ≡ nat_lt i n)
+      → total + ones (bit_and (get_or ws k 0) mask) ≡ count_below (has_bit ws) position
   count-upto position n mask total at had here last some below masked =
       let end : 64 * k + n ≡ min position (64 * length ws) = omega arith in
       let ones = ones-below (get_or ws k 0) mask n (words k) (omega arith) masked in
-      omega (arith, ap (λ j. count_below (has_bit ws) (64 * j)) here, count-within n (omega arith), ones, ap (count_below (has_bit ws)) end, count-min ws position)
+      omega (
+        arith,
+        ap (λ j. count_below (has_bit ws) (64 * j)) here,
+        count-within n (omega arith),
+        ones,
+        ap (count_below (has_bit ws)) end,
+        count-min ws position,
+      )
 
   -- the position of a bit of word k
-  pub nth-word : (index left j : ℕ) → j < 64 → IsNth (bit (get_or ws k 0)) left j → count_below (has_bit ws) (64 * k) + left ≡ index → IsNth (has_bit ws) index (64 * k + j)
+  pub nth-word : (index left j : ℕ) → j < 64 → IsNth (bit (get_or ws k 0)) left j
+      → count_below (has_bit ws) (64 * k) + left ≡ index → IsNth (has_bit ws) index (64 * k + j)
   nth-word index left j within is all =
       record {
         passes = has_bit-at ws k j within ∙ is.passes;
@@ -118,9 +148,11 @@ module _ (ws : List ℕ) (words : AreWords ws) (k : ℕ) where
 
 module _ (ws directory : List ℕ) (is : IsDirectory ws directory) where
   -- where none is found, the entry is the last
-  pub last_entry : (index entry end left : ℕ) → entry < length directory → slice_index directory entry ≤ index → (entry + 1 < length directory → index < slice_index directory (entry + 1))
+  pub last_entry : (index entry end left : ℕ) → entry < length directory → slice_index directory entry ≤ index
+      → (entry + 1 < length directory → index < slice_index directory (entry + 1))
       → end ≡ min (length ws) (8 * entry + 8) → left ≡ index - slice_index directory entry
-      → count_below (has_bit ws) (64 * end) ≤ count_below (has_bit ws) (64 * (8 * entry)) + left → entry + 1 ≡ length directory
+      → count_below (has_bit ws) (64 * end) ≤ count_below (has_bit ws) (64 * (8 * entry)) + left
+      → entry + 1 ≡ length directory
   last_entry index entry end left within low high ends rest none =
       let few : count_below (has_bit ws) (64 * end) ≤ index = omega (arith, none, is.counts entry within) in
       ⊎_elim
@@ -131,7 +163,8 @@ module _ (ws directory : List ℕ) (is : IsDirectory ws directory) where
       (cases_lt (entry + 1) (length directory))
 
   -- what is found among the words of one entry, and what is not
-  pub selected : (index entry end left : ℕ) → entry < length directory → slice_index directory entry ≤ index → (entry + 1 < length directory → index < slice_index directory (entry + 1))
+  pub selected : (index entry end left : ℕ) → entry < length directory → slice_index directory entry ≤ index
+      → (entry + 1 < length directory → index < slice_index directory (entry + 1))
       → end ≡ min (length ws) (8 * entry + 8) → left ≡ index - slice_index directory entry
       → (found : Option ℕ)
       → IfSome found (IsNth (has_bit ws) (count_below (has_bit ws) (64 * (8 * entry)) + left))
@@ -140,7 +173,8 @@ module _ (ws directory : List ℕ) (is : IsDirectory ws directory) where
       → found ≡ slice_get (ascending (has_bit ws) 0 (64 * length ws)) index
   selected index entry end left within low high ends rest (Some p) nth below none =
       let all : count_below (has_bit ws) (64 * (8 * entry)) + left ≡ index = omega (arith, is.counts entry within) in
-      sym (nth-ascending (has_bit ws) (64 * length ws) index p (omega (arith, below)) (subst (λ k. IsNth (has_bit ws) k p) all nth))
+      sym (nth-ascending (has_bit ws) (64 * length ws) index p (omega (arith, below))
+      (subst (λ k. IsNth (has_bit ws) k p) all nth))
   selected index entry end left within low high ends rest None nth below none =
       let c : ℕ → Bool = has_bit ws in
       let few : count_below c (64 * end) ≤ index = omega (arith, none, is.counts entry within) in
@@ -156,16 +190,20 @@ module _ (v : Bits) (ws directory : List ℕ) (is : IsKept v ws directory) where
   same_bit p = ap (λ xs. has_bit xs p) is.of_value ∙ has_bit-words v p
 
   pub kept_rank : (position count : ℕ) → count ≡ count_below (has_bit ws) position → count ≡ rank v position
-  kept_rank position count counted = counted ∙ count-same (has_bit ws) (contains v) position (λ p _. same_bit p) ∙ sym (rank-count v position)
+  kept_rank position count counted =
+      counted ∙ count-same (has_bit ws) (contains v) position (λ p _. same_bit p) ∙ sym (rank-count v position)
 
-  pub kept_select : (index : ℕ) (found : Option ℕ) → found ≡ slice_get (ascending (has_bit ws) 0 (64 * length ws)) index → found ≡ select v index
+  pub kept_select : (index : ℕ) (found : Option ℕ) → found ≡ slice_get (ascending (has_bit ws) 0 (64 * length ws)) index
+      → found ≡ select v index
   unfolding select asc
   kept_select index found is_item =
-      let whole : 64 * length ws ≡ v.length + (64 * length ws - v.length) = omega (arith, ap length is.of_value, length-words v) in
+      let whole : 64 * length ws ≡ v.length + (64 * length ws - v.length) =
+      omega (arith, ap length is.of_value, length-words v) in
       is_item
       ∙ ap (λ xs. slice_get xs index)
       (ap (ascending (has_bit ws) 0) whole
-      ∙ ascending-cut (has_bit ws) (contains v) 0 v.length (64 * length ws - v.length) (λ i _ _. same_bit i) (λ i past _. same_bit i ∙ contains-past v i (omega (arith, past))))
+      ∙ ascending-cut (has_bit ws) (contains v) 0 v.length (64 * length ws - v.length) (λ i _ _. same_bit i)
+      (λ i past _. same_bit i ∙ contains-past v i (omega (arith, past))))
 
   -- as many words as the value needs, and as many entries as these ask for
   pub kept_words : length ws ≡ words_needed v.length

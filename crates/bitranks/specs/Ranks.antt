@@ -1,5 +1,6 @@
 -- Rank and select of a value, and the directory that answers them.
-use Rattle.std.specs.Prelude.{◌≡◌, ℕ, ◌+◌, ◌-◌, ◌*◌, ◌/◌, ◌%◌, ◌^◌, ◌<◌, ◌≤◌, min, Bool, true, Option, List, length, slice_get, slice_index}
+use Rattle.std.specs.Prelude.{◌≡◌, ℕ, ◌+◌, ◌-◌, ◌*◌, ◌/◌, ◌%◌, ◌^◌, ◌<◌, ◌≤◌, min}
+use Rattle.std.specs.Prelude.{Bool, true, Option, List, length, slice_get, slice_index}
 use Rattle.std.specs.Int.{div_ceil}
 use Rattle.bitwords.specs.Rows.{has_bit, count_below}
 use Rattle.fixedbitset.specs.Bits.{Bits, asc, words}
@@ -29,7 +30,8 @@ nth_of_entry k = k % 8 + 1
 abbrev pub rank_steps : (n p : ℕ) → ℕ
 rank_steps n p = min n (nth_of_entry (min (p / 64) (n - 1)))
 
--- from `before` steps to `after`, as many as halve n entries until one is left: their binary logarithm, rounded down or up
+-- from `before` steps to `after`, as many as halve n entries until one is left:
+-- their binary logarithm, rounded down or up
 pub record Halves (n before after : ℕ) : Type 0 where
   pub grows : before ≤ after
   pub least : (log : ℕ) → 2 ^ log ≤ n → before + log ≤ after

@@ -1,5 +1,6 @@
 -- Rank as a count and select by rank, for those who call them.
-use Rattle.std.proofs.Common.{◌≡◌, ℕ, zero, suc, ◌+◌, ◌-◌, ◌<◌, ◌≤◌, Bool, true, false, cond, ◌&&◌, ◌↔◌, Some, None, List, ◌∷◌, ◌++◌, length, get_or, sym, subst, ap, ◌∙◌, arith, ⊎_elim}
+use Rattle.std.proofs.Common.{◌≡◌, ℕ, zero, suc, ◌+◌, ◌-◌, ◌<◌, ◌≤◌, Bool, true, false, cond, ◌&&◌, ◌↔◌, Some}
+use Rattle.std.proofs.Common.{None, List, ◌∷◌, ◌++◌, length, get_or, sym, subst, ap, ◌∙◌, arith, ⊎_elim}
 use Rattle.std.specs.Prelude.{slice_get}
 use Rattle.std.specs.Cmp.{nat_cmp_total}
 use Rattle.std.specs.FinSet as set
@@ -23,7 +24,8 @@ use Rattle.bitranks.specs.Ranks.{rank, select, IsNth}
 pub nth-between : (test : ℕ → Bool) (k p : ℕ) → count_below test p ≤ k → k < count_below test (p + 1) → IsNth test k p
 nth-between test k p low high =
     let e : p + 1 ≡ suc p = omega arith in
-    let step : count_below test (p + 1) ≡ count_below test p + indicator (test p) = ap (count_below test) e ∙ count-suc test p in
+    let step : count_below test (p + 1) ≡ count_below test p + indicator (test p) = ap (count_below test) e
+    ∙ count-suc test p in
     ⊎_elim
     (λ (one : test p ≡ true). record { passes = one; before = omega (arith, step, ap indicator one) })
     (λ (none : test p ≡ false). absurd (omega (arith, step, ap indicator none)))
@@ -34,8 +36,13 @@ pub nth-below : (test : ℕ → Bool) (n k : ℕ) → k < count_below test n →
 nth-below test zero k more = absurd (omega (arith, count-zero test))
 nth-below test (suc n) k more =
     ⊎_elim
-    (λ (lower : k < count_below test n). let found = nth-below test n k lower in (found.0, (let below : found.0 < n = found.1 in omega arith), found.2))
-    (λ (last : count_below test n ≤ k). (n, omega arith, nth-between test k n last (let e : suc n ≡ n + 1 = omega arith in omega (arith, ap (count_below test) e))))
+    (λ (lower : k < count_below test n).
+    let found = nth-below test n k lower in (found.0, (let below : found.0 < n = found.1 in omega arith), found.2))
+    (λ (last : count_below test n ≤ k). (
+      n,
+      omega arith,
+      nth-between test k n last (let e : suc n ≡ n + 1 = omega arith in omega (arith, ap (count_below test) e)),
+    ))
     (cases_lt k (count_below test n))
 
 -- behind those before it stands the k-th
@@ -52,9 +59,11 @@ nth-ascending test n k p within is =
     let rest : ℕ = n - (p + 1) in
     let e : n ≡ p + suc rest = omega arith in
     let z : 0 + p ≡ p = omega arith in
-    let here : ascending test p (suc rest) ≡ p ∷ ascending test (p + 1) rest = ap (λ b. cond b (p ∷ ascending test (p + 1) rest) (ascending test (p + 1) rest)) is.passes in
+    let here : ascending test p (suc rest) ≡ p ∷ ascending test (p + 1) rest =
+    ap (λ b. cond b (p ∷ ascending test (p + 1) rest) (ascending test (p + 1) rest)) is.passes in
     ap (λ m. slice_get (ascending test 0 m) k) e
-    ∙ ap (λ xs. slice_get xs k) (ascending-append test 0 p (suc rest) ∙ ap (λ xs. ascending test 0 p ++ xs) (ap (λ low. ascending test low (suc rest)) z ∙ here))
+    ∙ ap (λ xs. slice_get xs k) (ascending-append test 0 p (suc rest)
+    ∙ ap (λ xs. ascending test 0 p ++ xs) (ap (λ low. ascending test low (suc rest)) z ∙ here))
     ∙ seam (ascending test 0 p) _ k p (omega (arith, length-count test p, is.before))
 
 pub none-ascending : (test : ℕ → Bool) (n k : ℕ) → count_below test n ≤ k → slice_get (ascending test 0 n) k ≡ None
@@ -79,9 +88,12 @@ unfolding rank count_ones contains
 rank-count v p =
     let common = set.intersection (numbers_between 0 p) v.positions in
     let member : (q : ℕ) → set.contains common q ≡ (in_range 0 p q && contains v q) = λ q.
-    set.contains-intersection nat_cmp_total (numbers_between 0 p) v.positions q ∙ ap (λ b. b && contains v q) (contains-numbers_between 0 p q) in
-    len-below p common (λ q one. ltb-true q p ((and_parts _ _ ((and_parts (in_range 0 p q) _ (sym (member q) ∙ one)).0)).1))
-    ∙ count-same (set.contains common) (contains v) p (λ q below. member q ∙ ap (λ b. b && contains v q) (and_from _ _ (le-leb 0 q (omega arith)) (lt-ltb q p below)))
+    set.contains-intersection nat_cmp_total (numbers_between 0 p) v.positions q
+    ∙ ap (λ b. b && contains v q) (contains-numbers_between 0 p q) in
+    len-below p common
+    (λ q one. ltb-true q p ((and_parts _ _ ((and_parts (in_range 0 p q) _ (sym (member q) ∙ one)).0)).1))
+    ∙ count-same (set.contains common) (contains v) p
+    (λ q below. member q ∙ ap (λ b. b && contains v q) (and_from _ _ (le-leb 0 q (omega arith)) (lt-ltb q p below)))
 
 -- from the length on it is the number of positions
 pub rank-size : (v : Bits) (p : ℕ) → v.length ≤ p → rank v p ≡ set.len v.positions
@@ -100,12 +112,14 @@ rank-select v k p item = rank-count v p ∙ (item-nth (contains v) v.length k p 
 
 pub select-rank : (v : Bits) (p : ℕ) → contains v p ≡ true → select v (rank v p) ≡ Some p
 unfolding select asc
-select-rank v p one = nth-ascending (contains v) v.length (rank v p) p (contains_below v p one) (record { passes = one; before = sym (rank-count v p) })
+select-rank v p one = nth-ascending (contains v) v.length (rank v p) p (contains_below v p one)
+    (record { passes = one; before = sym (rank-count v p) })
 
 pub select-none : (v : Bits) (k : ℕ) → (select v k ≡ None) ↔ (set.len v.positions ≤ k)
 unfolding select asc
 select-none v k =
-    let size : count_below (contains v) v.length ≡ set.len v.positions = sym (rank-count v v.length) ∙ rank-size v v.length (omega arith) in (
+    let size : count_below (contains v) v.length ≡ set.len v.positions = sym (rank-count v v.length)
+    ∙ rank-size v v.length (omega arith) in (
       λ none. ⊎_elim
           (λ (more : k < count_below (contains v) v.length).
           let found = nth-below (contains v) v.length k more in

@@ -2,7 +2,8 @@
 //!
 //! A step is one word of the set, or one entry of the directory that a search looks at.
 
-ghost use Rattle.std.specs.Prelude.{◌≡◌, ℕ, ◌+◌, ◌-◌, ◌*◌, ◌/◌, ◌^◌, ◌≤◌, IfOk, OnOk, OnErr, IfSome, IfNone};
+ghost use Rattle.std.specs.Prelude.{◌≡◌, ℕ, ◌+◌, ◌-◌, ◌*◌, ◌/◌, ◌^◌, ◌≤◌};
+ghost use Rattle.std.specs.Prelude.{IfOk, OnOk, OnErr, IfSome, IfNone};
 ghost use Rattle.fixedbitset.specs.Bits.{words_needed};
 ghost use Rattle.bitranks.specs.Ranks as model;
 ghost use Rattle.bitranks.specs.Ranks.{Halves, last_words, nth_of_entry};

@@ -2,7 +2,8 @@
 //!
 //! Position `p` stands at bit `p % 64` of word `p / 64`. Entry `k` of the directory is how many bits are set in the words
 //! before word `8 * k`, so it takes one word of memory for eight words of the row.
-ghost use Rattle.std.specs.Prelude.{◌≡◌, ℕ, ◌+◌, ◌-◌, ◌*◌, ◌/◌, ◌^◌, ◌<◌, ◌≤◌, length, slice_get, slice_index, IfSome, IfNone};
+ghost use Rattle.std.specs.Prelude.{◌≡◌, ℕ, ◌+◌, ◌-◌, ◌*◌, ◌/◌, ◌^◌, ◌<◌, ◌≤◌};
+ghost use Rattle.std.specs.Prelude.{length, slice_get, slice_index, IfSome, IfNone};
 ghost use Rattle.std.specs.Int.RustNames.{count_ones};
 ghost use Rattle.bitlanes.specs.Bits.{bit};
 ghost use Rattle.bitwords.specs.Ascending.{ascending};

@@ -1,6 +1,7 @@
 //! Each function here does nothing: its contract is a law, which holds for all values.
 
-ghost use Rattle.bitranks.specs.RankLaws.{RankOfSelect, SelectOfRank, SelectEnds, RankGrows, RankIsSize};
+ghost use Rattle.bitranks.specs.RankLaws.{RankOfSelect, SelectOfRank};
+ghost use Rattle.bitranks.specs.RankLaws.{SelectEnds, RankGrows, RankIsSize};
 
 /// As many positions stand below the one that `select` answers as its index says, and none is answered exactly where the
 /// set has no more positions than that.

@@ -1,6 +1,7 @@
--- The closure of a table: whether a path leads from one node to another whose nodes between its ends are all below a bound, and a
--- table on its way, with a pass for each node, and in a pass the rows one after the other.
-use Rattle.std.proofs.Common.{◌≡◌, ◌∙◌, ℕ, zero, suc, ◌+◌, ◌*◌, ◌<◌, ◌≤◌, ◌↔◌, Bool, true, false, ◌&&◌, ◌||◌, IsTrue, [], ◌∷◌, length, sum_by, refl, sym, subst, arith, ⊎_elim, add-one, zero-add}
+-- The closure of a table: whether a path leads from one node to another whose nodes between its ends are all below a
+-- bound, and a table on its way, with a pass for each node, and in a pass the rows one after the other.
+use Rattle.std.proofs.Common.{◌≡◌, ◌∙◌, ℕ, zero, suc, ◌+◌, ◌*◌, ◌<◌, ◌≤◌, ◌↔◌, Bool, true, false, ◌&&◌, ◌||◌}
+use Rattle.std.proofs.Common.{IsTrue, [], ◌∷◌, length, sum_by, refl, sym, subst, arith, ⊎_elim, add-one, zero-add}
 use Rattle.std.specs.List.{range_with_len}
 use Rattle.std.proofs.lemmas.Bool.{or_cases, or_left, and_parts}
 use Rattle.std.proofs.lemmas.Bool.Decides.{nat_tests}
@@ -15,7 +16,8 @@ use Rattle.bitrows.specs.Paths.{HasPath, HasEdge, IsConnected, HasPathBelow, IsC
 
 -- ---- the paths
 
--- with no bound an edge; with one node more below it, a path that avoids this node, or one to it and one from it that do
+-- with no bound an edge; with one node more below it, a path that avoids this
+-- node, or one to it and one from it that do
 abbrev pub through : (ℕ → ℕ → Bool) → ℕ → ℕ → ℕ → Bool
 through edge zero a b = edge a b
 through edge (suc k) a b = through edge k a b || (through edge k a k && through edge k k b)
@@ -29,7 +31,8 @@ module _ (edge : ℕ → ℕ → Bool) where
   through_edge (suc k) a b one = or_left _ _ (through_edge k a b one)
 
   -- two paths that meet below the bound
-  meet_next : (k c a b : ℕ) → ((x y : ℕ) → c < k → through edge k x c ≡ true → through edge k c y ≡ true → through edge k x y ≡ true)
+  meet_next : (k c a b : ℕ)
+      → ((x y : ℕ) → c < k → through edge k x c ≡ true → through edge k c y ≡ true → through edge k x y ≡ true)
       → c < suc k → through edge (suc k) a c ≡ true → through edge (suc k) c b ≡ true → through edge (suc k) a b ≡ true
   meet_next k c a b meets below to from = grind (arith, nat_tests, meets a b, meets a k, meets k b)
 
@@ -41,7 +44,8 @@ module _ (edge : ℕ → ℕ → Bool) where
 
   weaken : (k n a b : ℕ) → HasPathBelow Edge k n a b → HasPathBelow Edge (suc k) n a b
   weaken k zero a b one = one
-  weaken k (suc n) a b path = (path.0, weaken k n a path.0 path.1, path.2, let less : path.0 < k = path.3 in omega arith)
+  weaken k (suc n) a b path =
+      (path.0, weaken k n a path.0 path.1, path.2, let less : path.0 < k = path.3 in omega arith)
 
   -- one path and then another
   behind : (k m n a b : ℕ) → HasPathBelow Edge k n a k → HasPathBelow Edge k m k b → IsConnectedBelow Edge (suc k) a b
@@ -100,9 +104,20 @@ pub through_first : (t : Table) → IsThrough (has t) 0 t
 through_first t a b = refl
 
 module _ (edge : ℕ → ℕ → Bool) (k r : ℕ) (t : Table) (so_far : IsPassed edge k r t) where
-  pub passed_joined : (new : Table) → r < length t.rows → has t r k ≡ true → new ≡ with_row t r (union (row_of t r) (row_of t k)) → IsPassed edge k (r + 1) new
+  pub passed_joined : (new : Table) → r < length t.rows → has t r k ≡ true
+      → new ≡ with_row t r (union (row_of t r) (row_of t k)) → IsPassed edge k (r + 1) new
   passed_joined new within one is = rw is record {
-    done = λ a b below. grind (arith, nat_tests, has-joined t r k a b within, so_far.done a b, so_far.due r b, so_far.due r k, so_far.done k b, so_far.due k b);
+    done = λ a b below.
+        grind (
+          arith,
+          nat_tests,
+          has-joined t r k a b within,
+          so_far.done a b,
+          so_far.due r b,
+          so_far.due r k,
+          so_far.done k b,
+          so_far.due k b,
+        );
     due = λ a b past. grind (arith, nat_tests, has-joined t r k a b within, so_far.due a b);
   }
 
@@ -115,7 +130,8 @@ module _ (edge : ℕ → ℕ → Bool) (k r : ℕ) (t : Table) (so_far : IsPasse
   pub passed_all : length t.rows ≤ r → IsThrough edge (k + 1) t
   passed_all past a b = rw add-one (grind (arith, so_far.done a b, so_far.due a b, so_far.due a k, has-past t a k))
 
-pub closed : (t new : Table) → IsThrough (has t) (length t.rows) new → (a b : ℕ) → HasEdge new a b ↔ IsConnected (HasEdge t) a b
+pub closed : (t new : Table) → IsThrough (has t) (length t.rows) new → (a b : ℕ)
+    → HasEdge new a b ↔ IsConnected (HasEdge t) a b
 closed t new all a b =
     let is = through_all (has t) (length t.rows) (has_row t) a b in
     (λ one. is.0 (sym (all a b) ∙ one), λ path. all a b ∙ is.1 path)
@@ -130,14 +146,19 @@ joins_in edge k r = count_below (λ a. through edge k a k) r
 abbrev pub joins_before : (ℕ → ℕ → Bool) → ℕ → ℕ → ℕ
 joins_before edge n k = sum_by (λ j. joins_in edge j n) (range_with_len 0 k)
 
-pub joins_more : (edge : ℕ → ℕ → Bool) (k r : ℕ) (one : Bool) → through edge k r k ≡ one → joins_in edge k (r + 1) ≡ joins_in edge k r + indicator one
+pub joins_more : (edge : ℕ → ℕ → Bool) (k r : ℕ) (one : Bool) → through edge k r k ≡ one
+    → joins_in edge k (r + 1) ≡ joins_in edge k r + indicator one
 joins_more edge k r one is = rw (add-one, count-suc (λ a. through edge k a k) r, is) refl
 
-pub joins_passed : (edge : ℕ → ℕ → Bool) (n k : ℕ) → joins_before edge n (k + 1) ≡ joins_before edge n k + joins_in edge k n
-joins_passed edge n k = rw (add-one, range-push 0 k, zero-add k, sum_by-append (λ j. joins_in edge j n) (range_with_len 0 k) (k ∷ [])) (omega arith)
+pub joins_passed : (edge : ℕ → ℕ → Bool) (n k : ℕ)
+    → joins_before edge n (k + 1) ≡ joins_before edge n k + joins_in edge k n
+joins_passed edge n k =
+    rw (add-one, range-push 0 k, zero-add k, sum_by-append (λ j. joins_in edge j n) (range_with_len 0 k) (k ∷ []))
+    (omega arith)
 
 pub joins_bound : (edge : ℕ → ℕ → Bool) (n k : ℕ) → joins_before edge n k ≤ k * n
-joins_bound edge n k = simp length-range_with_len at (sum_by-le (λ j. joins_in edge j n) n (range_with_len 0 k) (λ i d _. count-le _ n))
+joins_bound edge n k =
+    simp length-range_with_len at (sum_by-le (λ j. joins_in edge j n) n (range_with_len 0 k) (λ i d _. count-le _ n))
 
 pub pairs : (t : Table) (n : ℕ) → IsPairCount (HasEdge t) n (joins_before (has t) n n)
 pairs t n = (λ k a. through (has t) k a k, λ k a. through_below (has t) k a k, refl)

@@ -1,10 +1,13 @@
 -- The words of the rows of a table, and the value that they mean.
-use Rattle.std.proofs.Common.{◌≡◌, ◌≢◌, ◌∙◌, ℕ, ◌+◌, ◌-◌, ◌*◌, ◌/◌, ◌%◌, ◌^◌, ◌<◌, ◌≤◌, false, not, List, Vec, length, replicate, take, drop, get_or, set, refl, sym, ap, arith, ⊎_elim}
+use Rattle.std.proofs.Common.{◌≡◌, ◌≢◌, ◌∙◌, ℕ, ◌+◌, ◌-◌, ◌*◌, ◌/◌, ◌%◌, ◌^◌, ◌<◌, ◌≤◌, false, not, List}
+use Rattle.std.proofs.Common.{Vec, length, replicate, take, drop, get_or, set, refl, sym, ap, arith, ⊎_elim}
 use Rattle.std.specs.Prelude.{All, slice_range}
 use Rattle.std.specs.Vec.{with_items}
 use Rattle.std.proofs.lemmas.Bool.{cases_eq}
 use Rattle.std.proofs.lemmas.Grind.{common_steps}
-use Rattle.std.proofs.lemmas.List.{drop-take, length-set, length-append, length-take, length-drop, length-replicate, take-replicate, drop-replicate, get_or-replicate, get_or-set_same, get_or-set_other, get_or_past, with_items_is, set-get_or, take-take}
+use Rattle.std.proofs.lemmas.List.{drop-take, length-set, length-append, length-take, length-drop, length-replicate}
+use Rattle.std.proofs.lemmas.List.{take-replicate, drop-replicate, get_or-replicate, get_or-set_same}
+use Rattle.std.proofs.lemmas.List.{get_or-set_other, get_or_past, with_items_is, set-get_or, take-take}
 use Rattle.std.proofs.lemmas.List.FromFn.{get_or-map-range_with_len, fill_by_all}
 use Rattle.std.proofs.lemmas.Slice.{take-put_mid_below, drop-put_mid, between-put_mid}
 use Rattle.std.proofs.lemmas.Nat.{row_fits}
@@ -27,11 +30,13 @@ pub row_within : (i count w : ℕ) → i < count → i * w + w ≤ count * w
 row_within i count w below = row_fits i w count w below (omega arith)
 
 -- the end of a row, where each keeps as many words as the columns need
-pub row_end : {n rows i w : ℕ} {ws : List ℕ} → IsTable rows n ws → w ≡ storage_words n → i < rows → i * w + w ≤ length ws
+pub row_end : {n rows i w : ℕ} {ws : List ℕ} → IsTable rows n ws → w ≡ storage_words n → i < rows
+    → i * w + w ≤ length ws
 row_end {n} {rows} {i} are wide below = rw wide omega (arith, row_within i rows (storage_words n) below, are.long)
 
 pub row_is : (i v w : ℕ) (ws : List ℕ) → v ≡ w → slice_range ws (i * v) (i * v + v) ≡ row_words w ws i
-row_is i v w ws wide = rw wide (let long : i * w + w - i * w ≡ w = omega arith in ap (λ k. take k (drop (i * w) ws)) long)
+row_is i v w ws wide =
+    rw wide (let long : i * w + w - i * w ≡ w = omega arith in ap (λ k. take k (drop (i * w) ws)) long)
 
 cut_is : (w i : ℕ) (ws : List ℕ) → row_words w ws i ≡ drop (i * w) (take (i * w + w) ws)
 cut_is w i ws = sym (drop-take (i * w) w ws)
@@ -43,27 +48,46 @@ module _ (w : ℕ) (ws : List ℕ) (i : ℕ) (row : List ℕ) (within : i * w + 
   length-put_row = simp (length-append, length-take, length-drop) (omega arith)
 
   put_same : row_words w (put_row w ws i row) i ≡ row
-  put_same = sym (row_is i w w (put_row w ws i row) refl) ∙ between-put_mid (i * w) w ws row (i * w + w) (omega arith) (omega arith)
+  put_same =
+      sym (row_is i w w (put_row w ws i row) refl)
+      ∙ between-put_mid (i * w) w ws row (i * w + w) (omega arith) (omega arith)
 
   put_other : (j : ℕ) → j ≢ i → row_words w (put_row w ws i row) j ≡ row_words w ws j
   put_other j other =
       let before = row_within j i w in
       let behind = row_within i j w in
-      grind (arith, before, behind, cut_is w j (put_row w ws i row), cut_is w j ws, take-put_mid_below (i * w) w ws row (j * w + w), drop-put_mid (i * w) w ws row (j * w))
+      grind (
+        arith,
+        before,
+        behind,
+        cut_is w j (put_row w ws i row),
+        cut_is w j ws,
+        take-put_mid_below (i * w) w ws row (j * w + w),
+        drop-put_mid (i * w) w ws row (j * w),
+      )
 
 -- ---- the table of words
 
 module _ (n w count : ℕ) (ws : List ℕ) where
-  pub get_or-table : (i : ℕ) (d : Bits) → i < count → get_or (table_of n w count ws).rows i d ≡ of_words n (row_words w ws i)
+  pub get_or-table : (i : ℕ) (d : Bits) → i < count
+      → get_or (table_of n w count ws).rows i d ≡ of_words n (row_words w ws i)
   unfolding table_of
-  get_or-table i d below = get_or-map-range_with_len (λ i. of_words n (row_words w ws i)) 0 count i i d below (omega arith)
+  get_or-table i d below =
+      get_or-map-range_with_len (λ i. of_words n (row_words w ws i)) 0 count i i d below (omega arith)
 
-  table_is : (rows : List Bits) → length rows ≡ count → ((i : ℕ) → i < count → get_or rows i (empty 0) ≡ of_words n (row_words w ws i))
+  table_is : (rows : List Bits) → length rows ≡ count
+      → ((i : ℕ) → i < count → get_or rows i (empty 0) ≡ of_words n (row_words w ws i))
       → table_of n w count ws ≡ record { columns = n; rows = rows }
   unfolding table_of
-  table_is rows long each = λ i. record { columns = n; rows = sym (fill_by_all (λ j. of_words n (row_words w ws j)) rows count (empty 0) long each) i }
+  table_is rows long each =
+      λ i.
+      record {
+        columns = n;
+        rows = sym (fill_by_all (λ j. of_words n (row_words w ws j)) rows count (empty 0) long each) i;
+      }
 
-module _ (n w count : ℕ) (ws : List ℕ) (i : ℕ) (row : List ℕ) (are : AreRows n w count ws) (below : i < count) (clean : IsClean n row) where
+module _ (n w count : ℕ) (ws : List ℕ) (i : ℕ) (row : List ℕ) (are : AreRows n w count ws) (below : i < count)
+    (clean : IsClean n row) where
   within : i * w + w ≤ length ws
   within = omega (arith, row_within i count w below, are.long)
 
@@ -90,7 +114,15 @@ module _ (n w count : ℕ) (ws : List ℕ) (i : ℕ) (row : List ℕ) (are : Are
       (λ j inside.
       let same = put_same w ws i row within long in
       let other = put_other w ws i row within long j in
-      grind (arith, same, other, get_or-table n w count ws j (empty 0), get_or-set_same rows i v (empty 0), get_or-set_other rows i j v (empty 0), length-table))
+      grind (
+        arith,
+        same,
+        other,
+        get_or-table n w count ws j (empty 0),
+        get_or-set_same rows i v (empty 0),
+        get_or-set_other rows i j v (empty 0),
+        length-table,
+      ))
       ∙ rw columns-table refl
 
 -- ---- no bit yet
@@ -99,14 +131,19 @@ no_bit : (m p : ℕ) → has_bit (replicate m 0) p ≡ false
 unfolding has_bit
 no_bit m p =
     let zeros : List ℕ = replicate m 0 in
-    let zero_at : get_or zeros (p / 64) 0 ≡ 0 = grind (arith, common_steps, get_or-replicate {A = ℕ} m (p / 64) 0 0, get_or_past zeros (p / 64) 0) in
+    let zero_at : get_or zeros (p / 64) 0 ≡ 0 =
+    grind (arith, common_steps, get_or-replicate {A = ℕ} m (p / 64) 0 0, get_or_past zeros (p / 64) 0) in
     rw zero_at (bit-zero (p % 64))
 
 row-zeros : (w count i : ℕ) → i < count → row_words w (replicate (count * w) 0) i ≡ replicate w 0
-row-zeros w count i below = rw (drop-replicate {X = ℕ} (i * w) (count * w) 0) (take-replicate w (count * w - i * w) 0 (omega (arith, row_within i count w below)))
+row-zeros w count i below =
+    rw (drop-replicate {X = ℕ} (i * w) (count * w) 0)
+    (take-replicate w (count * w - i * w) 0 (omega (arith, row_within i count w below)))
 
 value-zeros : (n m : ℕ) → of_words n (replicate m 0) ≡ empty n
-value-zeros n m = same_bits _ _ (cc (length-of_words n (replicate m 0), length-empty n)) (λ p. grind (arith, contains-of_words n (replicate m 0) p, no_bit m p, contains-empty n p))
+value-zeros n m =
+    same_bits _ _ (cc (length-of_words n (replicate m 0), length-empty n))
+    (λ p. grind (arith, contains-of_words n (replicate m 0) p, no_bit m p, contains-empty n p))
 
 module _ (n w count : ℕ) (fits : n < 2 ^ 64) (wide : w ≡ storage_words n) where
   pub are_rows-zeros : AreRows n w count (replicate (count * w) 0)
@@ -114,7 +151,9 @@ module _ (n w count : ℕ) (fits : n < 2 ^ 64) (wide : w ≡ storage_words n) wh
     fits = fits;
     wide = wide;
     long = length-replicate (count * w) 0;
-    each = λ i below. rw (row-zeros w count i below) (record { fits = fits; count = length-replicate w 0 ∙ wide; tail = λ p _. no_bit w p });
+    each = λ i below.
+        rw (row-zeros w count i below)
+        (record { fits = fits; count = length-replicate w 0 ∙ wide; tail = λ p _. no_bit w p });
   }
 
   pub table_of-zeros : table_of n w count (replicate (count * w) 0) ≡ blank count n
@@ -132,20 +171,31 @@ module _ (n w count : ℕ) (ws : List ℕ) (t : Table) (view : table_of n w coun
   viewed_rows = cc (length-table n w count ws)
 
   pub viewed_all : All (λ row. row.length ≡ n) t.rows
-  viewed_all i d inside = let below : i < count = omega (arith, viewed_rows) in cc (get_or-table n w count ws i d below, length-of_words n (row_words w ws i))
+  viewed_all i d inside = let below : i < count = omega (arith, viewed_rows) in
+      cc (get_or-table n w count ws i d below, length-of_words n (row_words w ws i))
 
 -- the words of a table that were lent and are given back
-pub given_back : {Z : Type 0} (words : Vec ℕ Z) (rows n : ℕ) (new : List ℕ) → IsTable rows n words.items → IsTable rows n new → (with_items words new).items ≡ new
+pub given_back : {Z : Type 0} (words : Vec ℕ Z) (rows n : ℕ) (new : List ℕ) → IsTable rows n words.items
+    → IsTable rows n new → (with_items words new).items ≡ new
 given_back words rows n new before after = with_items_is words new (after.long ∙ sym before.long ∙ sym words.ok.0)
 
 -- one row of words is written anew
-pub row_written : (w i v : ℕ) (ws row : List ℕ) → v ≡ w → put_mid (i * v) (i * v + v - i * v) ws row ≡ put_row w ws i row
-row_written w i v ws row wide = rw wide (let long : i * w + w - i * w ≡ w = omega arith in ap (λ k. put_mid (i * w) k ws row) long)
+pub row_written : (w i v : ℕ) (ws row : List ℕ) → v ≡ w
+    → put_mid (i * v) (i * v + v - i * v) ws row ≡ put_row w ws i row
+row_written w i v ws row wide =
+    rw wide (let long : i * w + w - i * w ≡ w = omega arith in ap (λ k. put_mid (i * w) k ws row) long)
 
 -- ---- a part of the first words
 
-pub row_of_low : (w from mid : ℕ) (ws : List ℕ) → from * w + w ≤ mid → slice_range (take mid ws) (from * w) (from * w + w) ≡ row_words w ws from
-row_of_low w from mid ws within = cc (row_is from w w (take mid ws) refl, cut_is w from (take mid ws), take-take (from * w + w) mid ws within, cut_is w from ws)
+pub row_of_low : (w from mid : ℕ) (ws : List ℕ) → from * w + w ≤ mid
+    → slice_range (take mid ws) (from * w) (from * w + w) ≡ row_words w ws from
+row_of_low w from mid ws within =
+    cc (
+      row_is from w w (take mid ws) refl,
+      cut_is w from (take mid ws),
+      take-take (from * w + w) mid ws within,
+      cut_is w from ws,
+    )
 
 -- ---- a row joined with itself
 

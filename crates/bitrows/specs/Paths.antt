@@ -26,8 +26,9 @@ HasPathBelow Edge k (suc n) a b = (c : ℕ) × HasPathBelow Edge k n a c × Edge
 abbrev pub IsConnectedBelow : (ℕ → ℕ → Type 0) → ℕ → ℕ → ℕ → Type 0
 IsConnectedBelow Edge k a b = (n : ℕ) × HasPathBelow Edge k n a b
 
--- how many pairs of a node k and a node a there are, both below n, with a path from a to k whose nodes between its ends are
--- all below k
+-- how many pairs of a node k and a node a there are, both below n, with a path from a to k whose nodes between its ends
+-- are all below k
 abbrev pub IsPairCount : (ℕ → ℕ → Type 0) → ℕ → ℕ → Type 0
 IsPairCount Edge n pairs =
-    (test : ℕ → ℕ → Bool) × ((k a : ℕ) → IsTrue (test k a) ↔ IsConnectedBelow Edge k a k) × (pairs ≡ sum_by (λ k. count_below (test k) n) (range_with_len 0 n))
+    (test : ℕ → ℕ → Bool) × ((k a : ℕ) → IsTrue (test k a) ↔ IsConnectedBelow Edge k a k)
+    × (pairs ≡ sum_by (λ k. count_below (test k) n) (range_with_len 0 n))

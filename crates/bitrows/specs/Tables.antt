@@ -36,4 +36,5 @@ HaveSameSize old new = (length new.rows ≡ length old.rows) × (new.columns ≡
 
 -- tables are told apart by these two
 abbrev pub code : Coded Table
-code = code_by (ℕ × List Bits) (coded× coded_ℕ (coded_list bits.code)) (λ t. (t.columns, t.rows)) (λ d. record { columns = d.0; rows = d.1 }) (λ _. refl)
+code = code_by (ℕ × List Bits) (coded× coded_ℕ (coded_list bits.code)) (λ t. (t.columns, t.rows))
+    (λ d. record { columns = d.0; rows = d.1 }) (λ _. refl)

@@ -1,5 +1,6 @@
 -- The ranks of words that are lent.
-use Rattle.std.proofs.Common.{◌≡◌, ℕ, ◌+◌, ◌-◌, ◌*◌, ◌^◌, ◌<◌, ◌≤◌, Bool, true, false, ◌&&◌, List, [], length, refl, sym, ap, ◌∙◌, arith, ⊎_elim}
+use Rattle.std.proofs.Common.{◌≡◌, ℕ, ◌+◌, ◌-◌, ◌*◌, ◌^◌, ◌<◌, ◌≤◌, Bool, true, false}
+use Rattle.std.proofs.Common.{◌&&◌, List, [], length, refl, sym, ap, ◌∙◌, arith, ⊎_elim}
 use Rattle.std.specs.Prelude.{slice_get}
 use Rattle.std.proofs.lemmas.Bool.{cases_lt, lt-ltb, and_left}
 use Rattle.bitwords.specs.Ascending.{ascending}
@@ -30,7 +31,8 @@ module _ (n : ℕ) (ws : List ℕ) (clean : IsClean n ws) where
   all_fit = let fits = clean.fits in omega (arith, clean.count)
 
   pub lent_rank : (p : ℕ) → count_below (has_bit ws) p ≡ rank (of_words n ws) p
-  lent_rank p = count-same (has_bit ws) (contains (of_words n ws)) p (λ q _. same_bit q) ∙ sym (rank-count (of_words n ws) p)
+  lent_rank p =
+      count-same (has_bit ws) (contains (of_words n ws)) p (λ q _. same_bit q) ∙ sym (rank-count (of_words n ws) p)
 
   pub lent_select : (k : ℕ) → slice_get (ascending (has_bit ws) 0 (64 * length ws)) k ≡ select (of_words n ws) k
   unfolding select asc
@@ -38,7 +40,8 @@ module _ (n : ℕ) (ws : List ℕ) (clean : IsClean n ws) where
       let room : 64 * length ws ≡ n + (64 * length ws - n) = omega (arith, clean.count) in
       ap (λ xs. slice_get xs k)
       (ap (ascending (has_bit ws) 0) room
-      ∙ ascending-cut (has_bit ws) (contains (of_words n ws)) 0 n (64 * length ws - n) (λ p _ _. same_bit p) (λ p past _. clean.tail p (omega (arith, past)))
+      ∙ ascending-cut (has_bit ws) (contains (of_words n ws)) 0 n (64 * length ws - n) (λ p _ _. same_bit p)
+      (λ p past _. clean.tail p (omega (arith, past)))
       ∙ ap (ascending (contains (of_words n ws)) 0) (sym (length-of_words n ws)))
 
 -- ---- no words

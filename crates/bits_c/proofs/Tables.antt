@@ -7,5 +7,8 @@ use Rattle.bitrows.specs.TableFacts.{has-past}
 use Rattle.bitrows.specs.Tables.{has}
 
 -- past the rows there is no bit
-pub none_past : (rows columns : ℕ) (ws : List ℕ) (row column : ℕ) → rows ≤ row → false ≡ has (table_in rows columns ws) row column
-none_past rows columns ws row column past = sym (has-past (table_in rows columns ws) row column (subst (λ n. n ≤ row) (sym (length-table columns (storage_words columns) rows ws)) past))
+pub none_past : (rows columns : ℕ) (ws : List ℕ) (row column : ℕ) → rows ≤ row
+    → false ≡ has (table_in rows columns ws) row column
+none_past rows columns ws row column past =
+    sym (has-past (table_in rows columns ws) row column
+    (subst (λ n. n ≤ row) (sym (length-table columns (storage_words columns) rows ws)) past))

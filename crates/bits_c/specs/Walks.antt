@@ -1,5 +1,6 @@
 -- What a contract sees of a walk that a caller keeps: the positions left.
-use Rattle.std.specs.Prelude.{ℕ, ◌≡◌, ◌-◌, ◌/◌, min, Bool, if◌then◌else◌, Option, Some, None, List, ◌++◌, length, take, drop, reverse, map, bit_and}
+use Rattle.std.specs.Prelude.{ℕ, ◌≡◌, ◌-◌, ◌/◌, min, Bool, if◌then◌else◌, Option, Some}
+use Rattle.std.specs.Prelude.{None, List, ◌++◌, length, take, drop, reverse, map, bit_and}
 use Rattle.std.specs.Int.{bit_not, w64, div_ceil}
 use Rattle.bitlanes.specs.Bits.{bit_without}
 use Rattle.bitwords.specs.Runs.{stretches, is_like}
@@ -41,7 +42,8 @@ given_run found start end = if found then Some (start, end) else None
 
 -- the positions of the words left, where those between the first and the last are joined by f with the other set's
 abbrev pub sieved : (ℕ → ℕ → ℕ) → Sieve → List ℕ
-sieved f sieve = held_items sieve.walk.front_at sieve.walk.front (beside f sieve.walk.words.now sieve.other.now) sieve.walk.back
+sieved f sieve =
+    held_items sieve.walk.front_at sieve.walk.front (beside f sieve.walk.words.now sieve.other.now) sieve.walk.back
 
 -- the positions left that the other set has
 abbrev pub shared_left : Sieve → List ℕ
@@ -60,13 +62,15 @@ abbrev pub split_left : Pair → List ℕ
 split_left walk = lacked_left walk.first ++ lacked_left walk.second
 
 -- A call wrote the first positions left, as many as are left or as there is room for, and left those behind them.
-pub record TakesFirst {S : Type 0} (left : S → List ℕ) (old : S) (before : List ℕ) (count : ℕ) (after : List ℕ) (new : S) : Type 0 where
+pub record TakesFirst {S : Type 0} (left : S → List ℕ) (old : S) (before : List ℕ) (count : ℕ) (after : List ℕ)
+    (new : S) : Type 0 where
   pub answer : count ≡ min (length before) (length (left old))
   pub written : after ≡ take count (left old) ++ drop count before
   pub rest : left new ≡ drop count (left old)
 
 -- The same from the end: the last position is written first.
-pub record TakesLast {S : Type 0} (left : S → List ℕ) (old : S) (before : List ℕ) (count : ℕ) (after : List ℕ) (new : S) : Type 0 where
+pub record TakesLast {S : Type 0} (left : S → List ℕ) (old : S) (before : List ℕ) (count : ℕ) (after : List ℕ)
+    (new : S) : Type 0 where
   pub answer : count ≡ min (length before) (length (left old))
   pub written : after ≡ take count (reverse (left old)) ++ drop count before
   pub rest : left new ≡ take (length (left old) - count) (left old)

@@ -10,7 +10,8 @@
 //! and the positions below it.
 #![tactic(auto)]
 
-ghost use Rattle.std.specs.Prelude.{◌≡◌, ◌≢◌, ◌↔◌, IsTrue, ◌<◌, ◌≤◌, ◌-◌, ◌^◌, ◌&&◌, ◌==◌, nat_lt, nat_le, unwrap_or, if◌then◌else◌};
+ghost use Rattle.std.specs.Prelude.{◌≡◌, ◌≢◌, ◌↔◌, IsTrue, ◌<◌, ◌≤◌, ◌-◌, ◌^◌, ◌&&◌};
+ghost use Rattle.std.specs.Prelude.{◌==◌, nat_lt, nat_le, unwrap_or, if◌then◌else◌};
 ghost use Rattle.std.specs.Prelude as prelude;
 ghost use Rattle.bitlanes.specs.Word.{ClearsBit, IsLowestBit};
 ghost use Rattle.fixedbitset.specs.Bits as model;

@@ -4,7 +4,8 @@
 //! where it is changed. Each row keeps as many words as a set of `columns` positions, one row behind the other.
 //! `bits_rows_clear` makes any words those of a table with no bit.
 
-ghost use Rattle.std.specs.Prelude.{◌≡◌, ◌<◌, ◌≤◌, ◌*◌, ◌^◌, ◌↔◌, ◌&&◌, ℕ, [], ◌==◌, nat_lt, true, false, not, if◌then◌else◌, length};
+ghost use Rattle.std.specs.Prelude.{◌≡◌, ◌<◌, ◌≤◌, ◌*◌, ◌^◌, ◌↔◌, ◌&&◌, ℕ, [], ◌==◌};
+ghost use Rattle.std.specs.Prelude.{nat_lt, true, false, not, if◌then◌else◌, length};
 ghost use Rattle.bitrows.specs.Paths.{HasEdge, IsConnected};
 ghost use Rattle.bitrows.specs.Stored.{IsTable, table_in};
 ghost use Rattle.bitrows.specs.Tables.{row_of, has, blank, with_row, set_at, HaveSameSize};

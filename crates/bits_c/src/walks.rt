@@ -9,7 +9,8 @@
 
 ghost use Rattle.std.specs.Prelude.{◌≡◌, [], false, if◌then◌else◌, length};
 ghost use Rattle.std.specs.Iterator.{YieldsFirst, YieldsLast};
-ghost use Rattle.bits_c.specs.Walks.{given, ones_left, zeroes_left, words_between, range_words_between};
+ghost use Rattle.bits_c.specs.Walks.{given, ones_left, zeroes_left};
+ghost use Rattle.bits_c.specs.Walks.{words_between, range_words_between};
 ghost use Rattle.fixedbitset.specs.Bits as model;
 ghost use Rattle.fixedbitset.specs.Ranges.{is_valid};
 ghost use Rattle.fixedbitset.specs.Walks.{ones_of, zeroes_of};

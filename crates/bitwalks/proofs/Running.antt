@@ -1,5 +1,7 @@
 -- What a call of a walk over stretches does to those left.
-use Rattle.std.proofs.Common.{◌≡◌, ◌≢◌, ◌%◌, ◌⊎◌, ℕ, ◌+◌, ◌-◌, ◌*◌, ◌/◌, ◌<◌, ◌≤◌, inl, inr, Bool, true, false, not, Option, Some, None, IfSome, IfNone, unwrap_or, List, [], ◌∷◌, ◌++◌, map, take, refl, sym, ap, ◌∙◌, arith}
+use Rattle.std.proofs.Common.{◌≡◌, ◌≢◌, ◌%◌, ◌⊎◌, ℕ, ◌+◌, ◌-◌, ◌*◌, ◌/◌, ◌<◌, ◌≤◌, inl, inr, Bool}
+use Rattle.std.proofs.Common.{true, false, not, Option, Some, None, IfSome, IfNone, unwrap_or}
+use Rattle.std.proofs.Common.{List, [], ◌∷◌, ◌++◌, map, take, refl, sym, ap, ◌∙◌, arith}
 use Rattle.std.proofs.lemmas.Bool.{cases_eq}
 use Rattle.std.proofs.lemmas.Bool.Decides.{nat_tests}
 use Rattle.std.proofs.lemmas.List.{get_or-take, map-append}
@@ -14,14 +16,16 @@ use Rattle.bitwords.specs.RunsFacts.{around, none_begin, ends_at, ends_last}
 -- the first words have the same positions
 pub has_bit-take : (k : ℕ) (ws : List ℕ) (p : ℕ) → p < 64 * k → has_bit (take k ws) p ≡ has_bit ws p
 unfolding has_bit
-has_bit-take k ws p below = let low : p / 64 < k = omega (arith, below) in ap (λ w. bit w (p % 64)) (get_or-take k ws (p / 64) 0 low)
+has_bit-take k ws p below =
+    let low : p / 64 < k = omega (arith, below) in ap (λ w. bit w (p % 64)) (get_or-take k ws (p / 64) 0 low)
 
 -- what is not like the others
 pub unlike : (are_set : Bool) (ws : List ℕ) (i : ℕ) → is_like (not are_set) ws i ≡ not (is_like are_set ws i)
 unlike are_set ws i = grind arith
 
 -- the end of a stretch, which goes up to n or to what does not pass
-ends : (t : ℕ → Bool) (n start end : ℕ) → start < end → end ≤ n → ((i : ℕ) → start ≤ i → i < end → t i ≡ true) → (end ≢ n → t end ≡ false)
+ends : (t : ℕ → Bool) (n start end : ℕ) → start < end → end ≤ n → ((i : ℕ) → start ≤ i → i < end → t i ≡ true)
+    → (end ≢ n → t end ≡ false)
     → end_from t n start ≡ end
 ends t n start end some within all fails =
     elim (cases_eq end n) [
@@ -36,7 +40,8 @@ pub record IsLast (t : ℕ → Bool) (low start last : ℕ) : Type 0 where
   pub first : begins t start ≡ true
   pub all : (i : ℕ) → start ≤ i → i ≤ last → t i ≡ true
 
-module _ {t u : ℕ → Bool} {n low high : ℕ} (other : (i : ℕ) → u i ≡ not (t i)) (is : IsBetween t n low high) (left : low ≢ high) where
+module _ {t u : ℕ → Bool} {n low high : ℕ} (other : (i : ℕ) → u i ≡ not (t i)) (is : IsBetween t n low high)
+    (left : low ≢ high) where
   -- where none is left
   pub nothing : NonePasses t low high → stretches t n low high ≡ []
   nothing none = ap (map (λ p. (p, end_from t n p))) (none_begin t n low high none)
@@ -52,12 +57,18 @@ module _ {t u : ℕ → Bool} {n low high : ℕ} (other : (i : ℕ) → u i ≡ 
 
     first_stretch : stretches t n low high ≡ (start, end) ∷ stretches t n end high
     first_stretch =
-        rw (around t n low start end high next.after after to first all, none_begin t n low start next.none, ends t n start end after (omega arith) all fails) refl
+        rw (
+          around t n low start end high next.after after to first all,
+          none_begin t n low start next.none,
+          ends t n start end after (omega arith) all fails,
+        ) refl
 
-  pub front : {start : ℕ} → IsNext t low high start → (o : Option ℕ) → IfSome o (IsNext u start high) → IfNone o (NonePasses u start high)
+  pub front : {start : ℕ} → IsNext t low high start → (o : Option ℕ) → IfSome o (IsNext u start high)
+      → IfNone o (NonePasses u start high)
       → stretches t n low high ≡ (start, unwrap_or o high) ∷ stretches t n (unwrap_or o high) high
   front next (Some end) found none =
-      first_stretch next end (grind (arith, other)) (omega arith) (λ i above below. grind (arith, other i, found.none i))
+      first_stretch next end (grind (arith, other)) (omega arith)
+      (λ i above below. grind (arith, other i, found.none i))
       (inr (grind (arith, other end)))
   front next None found none =
       first_stretch next high next.below (omega arith) (λ i above below. grind (arith, other i, none i)) (inl refl)
@@ -74,7 +85,12 @@ module _ {t u : ℕ → Bool} {n low high : ℕ} (other : (i : ℕ) → u i ≡ 
         → IsLast t low start last
     is_last start some before none =
         let all : (i : ℕ) → start ≤ i → i ≤ last → t i ≡ true = λ i above below. grind (arith, none i, other i) in
-        record { from = grind (arith, all low); some = some; first = grind (arith, nat_tests, all start, other (start - 1)); all = all }
+        record {
+          from = grind (arith, all low);
+          some = some;
+          first = grind (arith, nat_tests, all start, other (start - 1));
+          all = all;
+        }
 
     pub last_after : {gap : ℕ} → IsPrevious u last gap → IsLast t low (gap + 1) last
     last_after {gap} is_gap =
@@ -87,7 +103,8 @@ module _ {t u : ℕ → Bool} {n low high : ℕ} (other : (i : ℕ) → u i ≡ 
 
       pub last_stretch : stretches t n low high ≡ stretches t n low start ++ (start, last + 1) ∷ []
       last_stretch =
-          let all : (i : ℕ) → start ≤ i → i < last + 1 → t i ≡ true = λ i above below. is_last.all i above (omega arith) in
+          let all : (i : ℕ) → start ≤ i → i < last + 1
+          → t i ≡ true = λ i above below. is_last.all i above (omega arith) in
           rw (
             around t n low start (last + 1) high is_last.from (omega arith) (omega arith) is_last.first all,
             none_begin t n (last + 1) high (λ i above below. found.none i (omega arith) below),
@@ -110,17 +127,28 @@ nothing_there t n at = let e : at - at ≡ 0 = omega arith in rw e refl
 
 -- ---- steps
 
-pub steps_front : (t u : ℕ → Bool) (before between after low start high : ℕ) (given : ℕ × ℕ) (o : Option ℕ) → IsNext t low high start → IfSome o (IsNext u start high)
-    → between ≡ before + 1 + lane_steps (start / 64 - low / 64) → IfSome o (λ p. after ≡ between + 1 + lane_steps (p / 64 - start / 64))
+pub steps_front : (t u : ℕ → Bool) (before between after low start high : ℕ) (given : ℕ × ℕ) (o : Option ℕ)
+    → IsNext t low high start → IfSome o (IsNext u start high)
+    → between ≡ before + 1 + lane_steps (start / 64 - low / 64)
+    → IfSome o (λ p. after ≡ between + 1 + lane_steps (p / 64 - start / 64))
     → IfNone o (start < high → after ≡ between + 1 + lane_steps ((high - 1) / 64 - start / 64))
     → Passes (unwrap_or o high / 64 - low / 64) (Some given) before after
 steps_front t u before between after low start high given (Some p) next found one two none =
-    record { least = omega (arith, next.after, found.after, one, two); more = omega (arith, next.after, found.after, one, two); most = omega (arith, next.after, found.after, one, two) }
+    record {
+      least = omega (arith, next.after, found.after, one, two);
+      more = omega (arith, next.after, found.after, one, two);
+      most = omega (arith, next.after, found.after, one, two);
+    }
 steps_front t u before between after low start high given None next found one two none =
     let three = none next.below in
-    record { least = omega (arith, next.after, next.below, one, three); more = omega (arith, next.after, next.below, one, three); most = omega (arith, next.after, next.below, one, three) }
+    record {
+      least = omega (arith, next.after, next.below, one, three);
+      more = omega (arith, next.after, next.below, one, three);
+      most = omega (arith, next.after, next.below, one, three);
+    }
 
-pub steps_none : (before after low high : ℕ) → low ≤ high → low ≢ high → (low < high → after ≡ before + 1 + lane_steps ((high - 1) / 64 - low / 64))
+pub steps_none : (before after low high : ℕ) → low ≤ high → low ≢ high
+    → (low < high → after ≡ before + 1 + lane_steps ((high - 1) / 64 - low / 64))
     → Passes (high / 64 - low / 64) None before after
 steps_none before after low high order left cost =
     let some : low < high = omega (arith, order, left) in
@@ -128,7 +156,8 @@ steps_none before after low high order left cost =
     record { least = omega (arith, all, some); more = tt; most = omega (arith, all, some) }
 
 -- the steps down to the start of the last stretch, which has the place before it looked at where there is one
-pub steps_back : (before between after high last start : ℕ) (given : ℕ × ℕ) → last < high → start ≤ last → between ≡ before + 1 + lane_steps ((high - 1) / 64 - last / 64)
+pub steps_back : (before between after high last start : ℕ) (given : ℕ × ℕ) → last < high → start ≤ last
+    → between ≡ before + 1 + lane_steps ((high - 1) / 64 - last / 64)
     → after ≤ between + 1 + lane_steps ((last - 1) / 64 - (start - 1) / 64)
     → (0 < last → between + 1 + lane_steps ((last - 1) / 64 - (start - 1) / 64) ≤ after) → between ≤ after
     → Passes (high / 64 - start / 64) (Some given) before after
@@ -146,7 +175,12 @@ steps_back before between after high last start given below some one two three g
     }
 
 -- where the last one found stands before those that are left, none of these is
-pub steps_behind : (before after low high last : ℕ) → last < low → low ≤ last + 1 → low ≤ high → after ≡ before + 1 + lane_steps ((high - 1) / 64 - last / 64)
+pub steps_behind : (before after low high last : ℕ) → last < low → low ≤ last + 1 → low ≤ high
+    → after ≡ before + 1 + lane_steps ((high - 1) / 64 - last / 64)
     → Passes (high / 64 - low / 64) None before after
 steps_behind before after low high last behind upto order cost =
-    record { least = omega (arith, behind, upto, order, cost); more = tt; most = omega (arith, behind, upto, order, cost) }
+    record {
+      least = omega (arith, behind, upto, order, cost);
+      more = tt;
+      most = omega (arith, behind, upto, order, cost);
+    }

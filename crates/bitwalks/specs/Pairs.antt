@@ -5,7 +5,8 @@ use Rattle.bitwords.specs.Ascending.{ascending}
 use Rattle.bitwords.specs.Rows.{has_bit}
 use Rattle.bitwords.specs.Walk.{Walk, TakesFromFront, TakesFromBack, over_row}
 
--- ---- the walk over one row, sieved by another: the items left, how many items were looked up in the other row, and the source
+-- ---- the walk over one row, sieved by another: the items left, how many items were
+-- looked up in the other row, and the source
 
 pub record Sieved : Type 0 where
   pub items : List ℕ
@@ -76,11 +77,13 @@ joined_items walk = walk.first.items ++ walk.second.items
 
 -- a call gave the first of the items left; only items of the second row were looked up
 abbrev pub JoinsFirst : Joined → Option ℕ → Joined → Type 0
-JoinsFirst old result new = YieldsFirst joined_items old result new × (WalksFront old.first new.first × AsksFront old.second new.second)
+JoinsFirst old result new =
+    YieldsFirst joined_items old result new × (WalksFront old.first new.first × AsksFront old.second new.second)
 
 -- a call gave the last of the items left; only items of the second row were looked up
 abbrev pub JoinsLast : Joined → Option ℕ → Joined → Type 0
-JoinsLast old result new = YieldsLast joined_items old result new × (WalksBack old.first new.first × AsksBack old.second new.second)
+JoinsLast old result new =
+    YieldsLast joined_items old result new × (WalksBack old.first new.first × AsksBack old.second new.second)
 
 -- what one row has that another lacks, and then what the other has that the first lacks
 pub record Split : Type 0 where
@@ -92,8 +95,10 @@ split_items walk = walk.first.items ++ walk.second.items
 
 -- a call gave the first of the items left
 abbrev pub SplitsFirst : Split → Option ℕ → Split → Type 0
-SplitsFirst old result new = YieldsFirst split_items old result new × (AsksFront old.first new.first × AsksFront old.second new.second)
+SplitsFirst old result new =
+    YieldsFirst split_items old result new × (AsksFront old.first new.first × AsksFront old.second new.second)
 
 -- a call gave the last of the items left
 abbrev pub SplitsLast : Split → Option ℕ → Split → Type 0
-SplitsLast old result new = YieldsLast split_items old result new × (AsksBack old.first new.first × AsksBack old.second new.second)
+SplitsLast old result new =
+    YieldsLast split_items old result new × (AsksBack old.first new.first × AsksBack old.second new.second)

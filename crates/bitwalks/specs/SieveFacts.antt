@@ -1,5 +1,6 @@
 -- What a sieve lets through of the items of its source, for those who take the items one by one.
-use Rattle.std.proofs.Common.{◌≡◌, ℕ, Bool, true, false, filter, List, [], ◌∷◌, ◌++◌, length, Option, Some, None, sym, ap, ◌∙◌, arith, append-nil}
+use Rattle.std.proofs.Common.{◌≡◌, ℕ, Bool, true, false, filter, List, [], ◌∷◌, ◌++◌}
+use Rattle.std.proofs.Common.{length, Option, Some, None, sym, ap, ◌∙◌, arith, append-nil}
 use Rattle.std.specs.Iterator.{UpTo, at_most}
 use Rattle.std.specs.Option.{IfSome}
 use Rattle.std.proofs.lemmas.List.Elements.{filter-append}
@@ -21,10 +22,13 @@ module _ (test : ℕ → Bool) (source items : List ℕ) (same : filter test sou
   last_fails is fails = grind (arith, filter-append test rest (x ∷ []), append-nil (filter test rest))
 
 -- a source that gives no item leaves none
-pub nothing_left : (test : ℕ → Bool) (source rest items : List ℕ) → filter test source ≡ items → source ≡ [] → rest ≡ [] → (items ≡ []) × (filter test rest ≡ [])
+pub nothing_left : (test : ℕ → Bool) (source rest items : List ℕ) → filter test source ≡ items → source ≡ [] → rest ≡ []
+    → (items ≡ []) × (filter test rest ≡ [])
 nothing_left test source rest items same none also = (sym same ∙ ap (filter test) none, ap (filter test) also)
 
 -- a hint of the source is one of what passes
-pub hint_sieved : (r : Option ℕ) (test : ℕ → Bool) (source items : List ℕ) → filter test source ≡ items → IfSome r (UpTo (at_most (length source))) → IfSome r (UpTo (at_most (length items)))
+pub hint_sieved : (r : Option ℕ) (test : ℕ → Bool) (source items : List ℕ) → filter test source ≡ items
+    → IfSome r (UpTo (at_most (length source))) → IfSome r (UpTo (at_most (length items)))
 hint_sieved None test source items is upper = tt
-hint_sieved (Some x) test source items is upper = (tt, omega (arith, upper.1, length-filter test source, count_by-le-length test source, ap length is))
+hint_sieved (Some x) test source items is upper =
+    (tt, omega (arith, upper.1, length-filter test source, count_by-le-length test source, ap length is))

@@ -1,6 +1,7 @@
 //! Two walks in turn: from the front the first and then the second, from the back the second and then the first.
 
-ghost use Rattle.std.specs.Prelude.{◌≡◌, ℕ, ◌+◌, ◌*◌, ◌^◌, ◌<◌, ◌++◌, List, [], true, false, length, Some, IfSome};
+ghost use Rattle.std.specs.Prelude.{◌≡◌, ℕ, ◌+◌, ◌*◌, ◌^◌, ◌<◌, ◌++◌, List};
+ghost use Rattle.std.specs.Prelude.{[], true, false, length, Some, IfSome};
 ghost use Rattle.std.specs.Iterator.{YieldsFirst, YieldsLast, UpTo, at_most};
 ghost use Rattle.bitwalks.specs.Pairs.{WalksFront, WalksBack};
 ghost use Rattle.bitwalks.specs.PairsFacts.{walk_stays, walk_stays_back};

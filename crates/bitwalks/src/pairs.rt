@@ -11,7 +11,8 @@ ghost use Rattle.std.specs.Prelude.{◌≡◌, ◌+◌, ◌*◌, ◌^◌, ◌<�
 ghost use Rattle.std.specs.Iterator.{item_count, UpTo};
 ghost use Rattle.std.specs.Iterator.SizeHint.{IsWithinCount};
 ghost use Rattle.bitwords.specs.Walk.{over_row};
-ghost use Rattle.bitwalks.specs.Pairs.{sieve_over, joined_items, JoinsFirst, JoinsLast, split_items, SplitsFirst, SplitsLast};
+ghost use Rattle.bitwalks.specs.Pairs.{sieve_over, joined_items, JoinsFirst, JoinsLast};
+ghost use Rattle.bitwalks.specs.Pairs.{split_items, SplitsFirst, SplitsLast};
 
 use crate::in_turn::InTurn;
 use crate::sieve::{Lacked, Shared, Sieve};

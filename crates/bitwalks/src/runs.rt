@@ -5,7 +5,8 @@
 //! by its words and not by its positions. Proofs see the stretches left, the ends of where they are, and a count of steps
 //! that takes no bytes when the program runs.
 
-ghost use Rattle.std.specs.Prelude.{◌≡◌, ◌*◌, ◌^◌, ◌<◌, ◌≤◌, ◌-◌, ◌/◌, ◌+◌, not, length, IfSome, IfNone};
+ghost use Rattle.std.specs.Prelude.{◌≡◌, ◌*◌, ◌^◌, ◌<◌, ◌≤◌, ◌-◌, ◌/◌};
+ghost use Rattle.std.specs.Prelude.{◌+◌, not, length, IfSome, IfNone};
 ghost use Rattle.std.specs.Iterator.{item_count};
 ghost use Rattle.bitlanes.specs.Words.{lane_steps};
 ghost use Rattle.bitwords.specs.Neighbours.{IsNext, IsPrevious, NonePasses};

@@ -1,5 +1,6 @@
 -- The first multiple with room, found among all places with room.
-use Rattle.std.proofs.Common.{◌≡◌, ◌≢◌, ℕ, inl, inr, ◌+◌, ◌-◌, ◌*◌, ◌^◌, ◌<◌, ◌≤◌, ◌&&◌, ◌/◌, min, max, not, nat_le, Bool, true, false, Option, Some, None, MatchOption, subst, sym, ap, ◌∙◌, arith}
+use Rattle.std.proofs.Common.{◌≡◌, ◌≢◌, ℕ, inl, inr, ◌+◌, ◌-◌, ◌*◌, ◌^◌, ◌<◌, ◌≤◌, ◌&&◌, ◌/◌, min, max, not, nat_le}
+use Rattle.std.proofs.Common.{Bool, true, false, Option, Some, None, MatchOption, subst, sym, ap, ◌∙◌, arith}
 use Rattle.std.proofs.lemmas.Bool.{cases_lt, cases_eq, cases_Bool, lt-ltb, le-ltb, le-leb, true≢false}
 use Rattle.std.proofs.lemmas.Bool.Decides.{nat_tests}
 use Rattle.std.proofs.Math.Bool.{and-false}
@@ -32,9 +33,11 @@ module _ (taken : ℕ → Bool) (end count align from : ℕ) where
   none_multiple low high none i above below = (let e = none i above below in λ j. e j && has_room_in taken end count i)
 
   pub none_with_room : (low high : ℕ) → NonePasses (has_room_in taken end count) low high → NonePasses aligned low high
-  none_with_room low high none i above below = ap (λ b. is_multiple align i && b) (none i above below) ∙ and-false (is_multiple align i)
+  none_with_room low high none i above below =
+      ap (λ b. is_multiple align i && b) (none i above below) ∙ and-false (is_multiple align i)
 
-  pub none_joined : (low middle high : ℕ) → NonePasses aligned low middle → NonePasses aligned middle high → NonePasses aligned low high
+  pub none_joined : (low middle high : ℕ) → NonePasses aligned low middle → NonePasses aligned middle high
+      → NonePasses aligned low high
   none_joined low middle high before behind i above below = elim (cases_lt i middle) [
     | inl early ↦ before i above early
     | inr late ↦ behind i late below
@@ -44,7 +47,8 @@ module _ (taken : ℕ → Bool) (end count align from : ℕ) where
   unfolding first_aligned_room
   no_aligned_room none = first_is aligned from (end + 1 - from) None (λ i above below. none i above (omega arith))
 
-  pub aligned_room : (p : ℕ) → from ≤ p → is_multiple align p ≡ true → has_room_in taken end count p ≡ true → NonePasses aligned from p → Some p ≡ first_aligned_room taken end count align from
+  pub aligned_room : (p : ℕ) → from ≤ p → is_multiple align p ≡ true → has_room_in taken end count p ≡ true
+      → NonePasses aligned from p → Some p ≡ first_aligned_room taken end count align from
   unfolding first_aligned_room
   aligned_room p after multiple room none = first_is aligned from (end + 1 - from) (Some p) (record {
     after = after;
@@ -56,22 +60,35 @@ module _ (taken : ℕ → Bool) (end count align from : ℕ) where
 -- ---- what a search tells
 
 module _ (test : ℕ → Bool) (low high : ℕ) where
-  pub told_none : (found : Option ℕ) → MatchOption found (NonePasses test low high) (IsNext test low high) → found ≡ None → NonePasses test low high
+  pub told_none : (found : Option ℕ) → MatchOption found (NonePasses test low high) (IsNext test low high)
+      → found ≡ None → NonePasses test low high
   told_none found told is = subst (λ o. MatchOption o (NonePasses test low high) (IsNext test low high)) is told
 
-  pub told_next : (found : Option ℕ) (p : ℕ) → MatchOption found (NonePasses test low high) (IsNext test low high) → found ≡ Some p → IsNext test low high p
+  pub told_next : (found : Option ℕ) (p : ℕ) → MatchOption found (NonePasses test low high) (IsNext test low high)
+      → found ≡ Some p → IsNext test low high p
   told_next found p told is = subst (λ o. MatchOption o (NonePasses test low high) (IsNext test low high)) is told
 
 -- what a search for room tells
 pub room_tells : (taken : ℕ → Bool) (end count at : ℕ) (found : Option ℕ) → found ≡ first_room taken end count at
-    → MatchOption found (NonePasses (has_room_in taken end count) at (end + 1)) (IsNext (has_room_in taken end count) at (end + 1))
+    → MatchOption found (NonePasses (has_room_in taken end count) at (end + 1))
+    (IsNext (has_room_in taken end count) at (end + 1))
 unfolding first_room
-room_tells taken end count at found is = told found (first_tells (has_room_in taken end count) at (end + 1 - at) found is)
+room_tells taken end count at found is =
+    told found (first_tells (has_room_in taken end count) at (end + 1 - at) found is)
   where
-    told : (o : Option ℕ) → MatchOption o (NonePasses (has_room_in taken end count) at (at + (end + 1 - at))) (IsNext (has_room_in taken end count) at (at + (end + 1 - at)))
-        → MatchOption o (NonePasses (has_room_in taken end count) at (end + 1)) (IsNext (has_room_in taken end count) at (end + 1))
+    told : (o : Option ℕ)
+        → MatchOption o (NonePasses (has_room_in taken end count) at (at + (end + 1 - at)))
+        (IsNext (has_room_in taken end count) at (at + (end + 1 - at)))
+        → MatchOption o (NonePasses (has_room_in taken end count) at (end + 1))
+        (IsNext (has_room_in taken end count) at (end + 1))
     told None none = λ i above below. none i above (omega arith)
-    told (Some p) next = record { after = next.after; below = omega (arith, next.after, next.below); passes = next.passes; none = next.none }
+    told (Some p) next =
+        record {
+          after = next.after;
+          below = omega (arith, next.after, next.below);
+          passes = next.passes;
+          none = next.none;
+        }
 
 -- ---- the steps
 
@@ -103,17 +120,22 @@ module _ (taken : ℕ → Bool) (end count align from : ℕ) where
   unfolding has_room_in
   room_clear p q room above below = elim (cases_Bool (not (taken q))) [
     | inl free ↦ free
-    | inr set ↦ absurd (true≢false (sym room ∙ ap (λ b. nat_le (p + count) end && b) (pass-fails (λ x. not (taken x)) count p q above below set) ∙ and-false (nat_le (p + count) end)))
+    | inr set ↦
+        absurd (true≢false (sym room
+        ∙ ap (λ b. nat_le (p + count) end && b) (pass-fails (λ x. not (taken x)) count p q above below set)
+        ∙ and-false (nat_le (p + count) end)))
   ]
 
-  clear_room : (p : ℕ) → p + count ≤ end → ((q : ℕ) → p ≤ q → q < p + count → not (taken q) ≡ true) → has_room_in taken end count p ≡ true
+  clear_room : (p : ℕ) → p + count ≤ end → ((q : ℕ) → p ≤ q → q < p + count → not (taken q) ≡ true)
+      → has_room_in taken end count p ≡ true
   unfolding has_room_in
   clear_room p within clear =
       let fits : nat_le (p + count) end ≡ true = le-leb (p + count) end within in
       let free = pass-holds (λ x. not (taken x)) count p clear in
       λ j. fits j && free j
 
-  -- what so many searches took, where the last stretch found ends at `reach`, and the next search begins at the multiple `at`
+  -- what so many searches took, where the last stretch found ends at `reach`, and
+  -- the next search begins at the multiple `at`
   pub record IsSpent (before at after turns reach : ℕ) : Type 0 where
     pub multiple : is_multiple align at ≡ true
     pub behind : from ≤ at
@@ -143,20 +165,36 @@ module _ (taken : ℕ → Bool) (end count align from : ℕ) where
     few_at : at ≤ end → turns + 1 ≤ (end - from) / align + 1
     few_at order = elim (cases_lt 0 turns) [
       | inl some ↦
-          let most : turns ≤ (end - from) / align = le-div turns (end - from) align (spent.positive some) (omega (arith, spent.apart, order)) in
+          let most : turns ≤ (end - from) / align =
+          le-div turns (end - from) align (spent.positive some) (omega (arith, spent.apart, order)) in
           omega (arith, most)
       | inr none ↦ omega (arith, none)
     ]
 
-    pub spent_in_all : (new : ℕ) → new ≤ steps + lane_steps (range_words at end) → new ≤ before + aligned_steps align from end
+    pub spent_in_all : (new : ℕ) → new ≤ steps + lane_steps (range_words at end)
+        → new ≤ before + aligned_steps align from end
     spent_in_all new most = elim (cases_lt end at) [
-      | inl past ↦ omega (arith, most, no_turn at end (omega (arith, past)), spent.cost, spent.few, range_least from end, spent.within)
-      | inr order ↦ omega (arith, most, spent.cost, few_at order, turn_most at end, range_least from end, spent.within, order, spent.behind)
+      | inl past ↦ omega
+          (arith, most, no_turn at end (omega (arith, past)), spent.cost, spent.few, range_least from end, spent.within)
+      | inr order ↦
+          omega (
+            arith,
+            most,
+            spent.cost,
+            few_at order,
+            turn_most at end,
+            range_least from end,
+            spent.within,
+            order,
+            spent.behind,
+          )
     ]
 
-  module _ (before at steps turns reach p : ℕ) (spent : IsSpent before at steps turns reach) (found : IsNext (has_room_in taken end count) at (end + 1) p) where
+  module _ (before at steps turns reach p : ℕ) (spent : IsSpent before at steps turns reach)
+      (found : IsNext (has_room_in taken end count) at (end + 1) p) where
     -- the last search alone took so many
-    pub spent_last : (new : ℕ) → new ≡ steps + lane_steps (range_words at (p + count)) → before + lane_steps (range_words p (p + count)) ≤ new
+    pub spent_last : (new : ℕ) → new ≡ steps + lane_steps (range_words at (p + count))
+        → before + lane_steps (range_words p (p + count)) ≤ new
     spent_last new is = omega (arith, is, spent.grown, fewer_later at p (p + count) found.after)
 
     ends : p + count ≤ end
@@ -165,14 +203,16 @@ module _ (taken : ℕ → Bool) (end count align from : ℕ) where
     -- where the stretch begins within the last one, it begins at the multiple
     at_multiple : p < reach → p ≡ at
     at_multiple inside = elim (cases_lt at p) [
-      | inl early ↦ absurd (true≢false (sym (clear_room at (omega (arith, early, ends)) (λ q above below. elim (cases_lt q p) [
-        | inl before_p ↦ spent.clear q above (omega (arith, before_p, inside))
-        | inr from_p ↦ room_clear p q found.passes from_p (omega (arith, below, early))
-      ])) ∙ found.none at (omega arith) early))
+      | inl early ↦
+          absurd (true≢false (sym (clear_room at (omega (arith, early, ends)) (λ q above below. elim (cases_lt q p) [
+            | inl before_p ↦ spent.clear q above (omega (arith, before_p, inside))
+            | inr from_p ↦ room_clear p q found.passes from_p (omega (arith, below, early))
+          ])) ∙ found.none at (omega arith) early))
       | inr late ↦ omega (arith, late, found.after)
     ]
 
-    module _ (next new : ℕ) (multiple : IsNext (is_multiple align) p (2 ^ 64) next) (other : next ≢ p) (is : new ≡ steps + lane_steps (range_words at (p + count))) where
+    module _ (next new : ℕ) (multiple : IsNext (is_multiple align) p (2 ^ 64) next) (other : next ≢ p)
+        (is : new ≡ steps + lane_steps (range_words at (p + count))) where
       not_inside : reach ≤ p
       not_inside = elim (cases_lt p reach) [
         | inl inside ↦
@@ -183,7 +223,9 @@ module _ (taken : ℕ → Bool) (end count align from : ℕ) where
 
       positive : 0 < align
       positive = elim (cases_eq align 0) [
-        | inl zeros ↦ absurd (true≢false (sym multiple.passes ∙ ap (λ a. is_multiple a next) zeros ∙ none_of_zero next (omega (arith, multiple.after, other))))
+        | inl zeros ↦
+            absurd (true≢false (sym multiple.passes ∙ ap (λ a. is_multiple a next) zeros
+            ∙ none_of_zero next (omega (arith, multiple.after, other))))
         | inr some ↦ omega (arith, some)
       ]
 
@@ -194,8 +236,22 @@ module _ (taken : ℕ → Bool) (end count align from : ℕ) where
         within = omega (arith, ends);
         clear = λ q above below. room_clear p q found.passes (omega (arith, multiple.after, above)) below;
         positive = λ _. positive;
-        apart = (let far = multiples_apart align at next spent.multiple multiple.passes (omega (arith, found.after, multiple.after, other)) in omega (arith, far, spent.apart, spent.behind));
+        apart =
+            (let far = multiples_apart align at next spent.multiple multiple.passes
+            (omega (arith, found.after, multiple.after, other)) in omega (arith, far, spent.apart, spent.behind));
         few = few_at before at steps turns reach spent (omega (arith, found.after, ends));
         grown = omega (arith, spent.grown, is);
-        cost = omega (arith, spent.cost, is, turn_most at (p + count), not_inside, ends, found.after, multiple.after, other, spent.behind);
+        cost =
+            omega (
+              arith,
+              spent.cost,
+              is,
+              turn_most at (p + count),
+              not_inside,
+              ends,
+              found.after,
+              multiple.after,
+              other,
+              spent.behind,
+            );
       }

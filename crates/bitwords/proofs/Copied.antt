@@ -1,5 +1,7 @@
 -- Positions of a range that are written over with those of another row, part by part.
-use Rattle.std.proofs.Common.{◌≡◌, ◌≢◌, ℕ, ◌+◌, ◌-◌, ◌*◌, ◌/◌, ◌%◌, ◌^◌, ◌<◌, ◌≤◌, false, ◌&&◌, ◌||◌, not, nat_lt, List, length, take, drop, get_or, set, bit_and, bit_or, ap, ◌∙◌, arith, ⊎_elim, get_or-set_same, get_or-set_other, length-set, length-take-le, length-drop}
+use Rattle.std.proofs.Common.{◌≡◌, ◌≢◌, ℕ, ◌+◌, ◌-◌, ◌*◌, ◌/◌, ◌%◌, ◌^◌, ◌<◌, ◌≤◌, false, ◌&&◌, ◌||◌, not}
+use Rattle.std.proofs.Common.{nat_lt, List, length, take, drop, get_or, set, bit_and, bit_or, ap, ◌∙◌, arith}
+use Rattle.std.proofs.Common.{⊎_elim, get_or-set_same, get_or-set_other, length-set, length-take-le, length-drop}
 use Rattle.std.proofs.lemmas.Bool.{cases_eq}
 use Rattle.std.proofs.lemmas.Bool.Decides.{nat_tests}
 use borrow.Rule.Slice.PartMut.{put_mid}
@@ -14,7 +16,9 @@ use Rattle.bitwords.proofs.Shifted.{bit-window, bit-up}
 
 module _ (ws : List ℕ) where
   -- two ranges, one behind the other, the one before first
-  pub IsCopied-append : (from start middle end : ℕ) (old mid new : List ℕ) → start ≤ middle → middle ≤ end → IsCopied ws from start middle old mid → IsCopied ws (from + (middle - start)) middle end mid new → IsCopied ws from start end old new
+  pub IsCopied-append : (from start middle end : ℕ) (old mid new : List ℕ) → start ≤ middle → middle ≤ end
+      → IsCopied ws from start middle old mid → IsCopied ws (from + (middle - start)) middle end mid new
+      → IsCopied ws from start end old new
   IsCopied-append from start middle end old mid new p q first second = record {
     long = second.long ∙ first.long;
     copied = λ n above below. grind (arith, first, second);
@@ -23,7 +27,8 @@ module _ (ws : List ℕ) where
   }
 
   -- the whole words between the cuts have the positions between
-  pub IsCopied-between : (from start end low high : ℕ) (old new : List ℕ) → IsCut start end low high → IsCopied ws from (64 * (low / 64)) (64 * (high / 64)) old new → IsCopied ws from low high old new
+  pub IsCopied-between : (from start end low high : ℕ) (old new : List ℕ) → IsCut start end low high
+      → IsCopied ws from (64 * (low / 64)) (64 * (high / 64)) old new → IsCopied ws from low high old new
   IsCopied-between from start end low high old new cut done = record {
     long = done.long;
     copied = λ p above below. grind (arith, cut, done);
@@ -33,7 +38,9 @@ module _ (ws : List ℕ) where
 
 -- ---- one word, of which the bits of a mask are written
 
-module _ (ws old : List ℕ) (words : AreWords ws) (words_old : AreWords old) (from start end mask : ℕ) (inside : start / 64 < length old) (one_word : end ≤ 64 * (start / 64) + 64) (fits : mask < 2 ^ 64) (masked : (i : ℕ) → bit mask i ≡ (nat_lt i 64 && in_range start end (64 * (start / 64) + i))) where
+module _ (ws old : List ℕ) (words : AreWords ws) (words_old : AreWords old) (from start end mask : ℕ)
+    (inside : start / 64 < length old) (one_word : end ≤ 64 * (start / 64) + 64) (fits : mask < 2 ^ 64)
+    (masked : (i : ℕ) → bit mask i ≡ (nat_lt i 64 && in_range start end (64 * (start / 64) + i))) where
   abbrev k : ℕ
   k = start / 64
 
@@ -47,7 +54,8 @@ module _ (ws old : List ℕ) (words : AreWords ws) (words_old : AreWords old) (f
   new = set old k put
 
   -- a position of the word
-  has_bit-here : (p : ℕ) → p / 64 ≡ k → has_bit new p ≡ ((has_bit old p && not (in_range start end p)) || (bit moved (p % 64) && in_range start end p))
+  has_bit-here : (p : ℕ) → p / 64 ≡ k
+      → has_bit new p ≡ ((has_bit old p && not (in_range start end p)) || (bit moved (p % 64) && in_range start end p))
   unfolding has_bit
   has_bit-here p at =
       rw (at, get_or-set_same old k put 0 inside)
@@ -73,14 +81,20 @@ module _ (ws old : List ℕ) (words : AreWords ws) (words_old : AreWords old) (f
     long = length-set old k put;
     copied = λ p above below.
         has_bit-here p (omega arith)
-        ∙ grind (arith, nat_tests, bit-up (window ws from) (start % 64) (p % 64) (omega arith) (omega arith), bit-window ws words from (p % 64 - start % 64) (omega arith));
+        ∙ grind (
+          arith,
+          nat_tests,
+          bit-up (window ws from) (start % 64) (p % 64) (omega arith) (omega arith),
+          bit-window ws words from (p % 64 - start % 64) (omega arith),
+        );
     before = λ p h. outside p (grind (arith, nat_tests));
     behind = λ p h. outside p (grind (arith, nat_tests));
   }
 
 -- ---- whole words
 
-module _ (ws old part : List ℕ) (from first last : ℕ) (order : first ≤ last) (within : last ≤ length old) (done : IsJoined (λ x y. y) (take (last - first) (drop first old)) (λ p. has_bit ws (from + p)) part) where
+module _ (ws old part : List ℕ) (from first last : ℕ) (order : first ≤ last) (within : last ≤ length old)
+    (done : IsJoined (λ x y. y) (take (last - first) (drop first old)) (λ p. has_bit ws (from + p)) part) where
   abbrev count : ℕ
   count = last - first
 
@@ -92,8 +106,13 @@ module _ (ws old part : List ℕ) (from first last : ℕ) (order : first ≤ las
   IsCopied-words = record {
     long = length-put_row old part first count (omega arith) (done.long ∙ long_cut);
     copied = λ p above below.
-        ap (λ w. bit w (p % 64)) (put_row_within old part first count (omega arith) (done.long ∙ long_cut) (p / 64) (omega arith) (omega arith))
+        ap (λ w. bit w (p % 64)) (put_row_within old part first count (omega arith) (done.long ∙ long_cut) (p / 64)
+        (omega arith) (omega arith))
         ∙ grind (arith, done.bits (p - 64 * first) (let l = long_cut in omega arith));
-    before = λ p h. ap (λ w. bit w (p % 64)) (put_row_below old part first count (omega arith) (done.long ∙ long_cut) (p / 64) (omega arith));
-    behind = λ p h. ap (λ w. bit w (p % 64)) (put_row_behind old part first count (omega arith) (done.long ∙ long_cut) (p / 64) (omega arith));
+    before = λ p h.
+        ap (λ w. bit w (p % 64))
+        (put_row_below old part first count (omega arith) (done.long ∙ long_cut) (p / 64) (omega arith));
+    behind = λ p h.
+        ap (λ w. bit w (p % 64))
+        (put_row_behind old part first count (omega arith) (done.long ∙ long_cut) (p / 64) (omega arith));
   }

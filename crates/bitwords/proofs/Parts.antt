@@ -1,5 +1,6 @@
 -- The parts of a range that is cut at the edges of words.
-use Rattle.std.proofs.Common.{◌≡◌, ℕ, ◌+◌, ◌-◌, ◌*◌, ◌/◌, ◌%◌, ◌^◌, ◌<◌, ◌≤◌, ◌&&◌, ◌==◌, nat_lt, nat_le, ap, ◌∙◌, arith, ⊎_elim}
+use Rattle.std.proofs.Common.{◌≡◌, ℕ, ◌+◌, ◌-◌, ◌*◌, ◌/◌, ◌%◌, ◌^◌, ◌<◌, ◌≤◌}
+use Rattle.std.proofs.Common.{◌&&◌, ◌==◌, nat_lt, nat_le, ap, ◌∙◌, arith, ⊎_elim}
 use Rattle.std.proofs.lemmas.Bool.{cases_lt}
 use Rattle.std.proofs.lemmas.Bool.Decides.{nat_tests}
 use Rattle.std.proofs.lemmas.Nat.Bits.{bit_at_ones, bit_at_ones_above}
@@ -8,7 +9,9 @@ use Rattle.bitwords.specs.Cuts.{IsCut}
 use Rattle.bitwords.specs.Rows.{in_range}
 
 -- the bits from the place of the start on, as many as the range has
-pub masked : (start end mask : ℕ) → start < end → end ≤ 64 * (start / 64) + 64 → ((i : ℕ) → bit mask i ≡ (nat_le (start % 64) i && nat_lt i (start % 64 + (end - start)))) → (i : ℕ) → bit mask i ≡ (nat_lt i 64 && in_range start end (64 * (start / 64) + i))
+pub masked : (start end mask : ℕ) → start < end → end ≤ 64 * (start / 64) + 64
+    → ((i : ℕ) → bit mask i ≡ (nat_le (start % 64) i && nat_lt i (start % 64 + (end - start)))) → (i : ℕ)
+    → bit mask i ≡ (nat_lt i 64 && in_range start end (64 * (start / 64) + i))
 masked start end mask some one_word bits i = bits i ∙ grind (arith, nat_tests)
 
 -- a whole word has positions of the range alone

@@ -1,5 +1,6 @@
 -- Runs of bits, as a word is joined with itself moved down.
-use Rattle.std.proofs.Common.{◌≡◌, ℕ, zero, suc, ◌+◌, ◌-◌, ◌/◌, ◌%◌, ◌^◌, ◌<◌, ◌≤◌, ◌==◌, ◌&&◌, Bool, true, false, refl, sym, ap, ◌∙◌, arith, bit_and}
+use Rattle.std.proofs.Common.{◌≡◌, ℕ, zero, suc, ◌+◌, ◌-◌, ◌/◌, ◌%◌, ◌^◌, ◌<◌, ◌≤◌, ◌==◌}
+use Rattle.std.proofs.Common.{◌&&◌, Bool, true, false, refl, sym, ap, ◌∙◌, arith, bit_and}
 use Rattle.std.proofs.lemmas.Nat.Bits.{bit_at_above, bit_at-zero}
 use Rattle.std.proofs.lemmas.Nat.{shr-shr}
 use Rattle.bitlanes.specs.Bits.{bit}
@@ -26,10 +27,13 @@ pass-overlap t m s i le =
     let a : m ≡ s + r = omega arith in
     let b : m ≡ r + s = omega arith in
     let c : m + s ≡ s + (r + s) = omega arith in
-    let first : all_pass t m i ≡ (all_pass t s i && all_pass t r (i + s)) = ap (λ k. all_pass t k i) a ∙ pass-append t s r i in
-    let second : all_pass t m (i + s) ≡ (all_pass t r (i + s) && all_pass t s (i + s + r)) = ap (λ k. all_pass t k (i + s)) b ∙ pass-append t r s (i + s) in
+    let first : all_pass t m i ≡ (all_pass t s i && all_pass t r (i + s)) = ap (λ k. all_pass t k i) a
+    ∙ pass-append t s r i in
+    let second : all_pass t m (i + s) ≡ (all_pass t r (i + s) && all_pass t s (i + s + r)) =
+    ap (λ k. all_pass t k (i + s)) b ∙ pass-append t r s (i + s) in
     let whole : all_pass t (m + s) i ≡ (all_pass t s i && (all_pass t r (i + s) && all_pass t s (i + s + r))) =
-    ap (λ k. all_pass t k i) c ∙ pass-append t s (r + s) i ∙ ap (λ x. all_pass t s i && x) (pass-append t r s (i + s)) in
+    ap (λ k. all_pass t k i) c ∙ pass-append t s (r + s) i
+    ∙ ap (λ x. all_pass t s i && x) (pass-append t r s (i + s)) in
     rw (first, second, whole) (by_test (all_pass t s i) (all_pass t r (i + s)) (all_pass t s (i + s + r)))
   where
     by_test : (x y z : Bool) → ((x && y) && (y && z)) ≡ (x && (y && z))
@@ -39,12 +43,15 @@ pass-overlap t m s i le =
 
 -- a word moved down
 pub bit-down : (word s i : ℕ) → bit (word / 2 ^ s) i ≡ bit word (i + s)
-bit-down word s i = let e : s + i ≡ i + s = omega arith in ap (λ x. x % 2 == 1) (shr-shr word s i ∙ ap (λ k. word / 2 ^ k) e)
+bit-down word s i =
+    let e : s + i ≡ i + s = omega arith in ap (λ x. x % 2 == 1) (shr-shr word s i ∙ ap (λ k. word / 2 ^ k) e)
 
 -- one step of the doubling
-pub run-doubled : (word starts m s i : ℕ) → s ≤ m → ((i : ℕ) → bit starts i ≡ has_run word m i) → bit (bit_and starts (starts / 2 ^ s)) i ≡ has_run word (m + s) i
+pub run-doubled : (word starts m s i : ℕ) → s ≤ m → ((i : ℕ) → bit starts i ≡ has_run word m i)
+    → bit (bit_and starts (starts / 2 ^ s)) i ≡ has_run word (m + s) i
 run-doubled word starts m s i le is =
-    bit-and starts (starts / 2 ^ s) i ∙ ap (λ x. bit starts i && x) (bit-down starts s i) ∙ (let a = is i in let b = is (i + s) in λ j. a j && b j) ∙ pass-overlap (bit word) m s i le
+    bit-and starts (starts / 2 ^ s) i ∙ ap (λ x. bit starts i && x) (bit-down starts s i)
+    ∙ (let a = is i in let b = is (i + s) in λ j. a j && b j) ∙ pass-overlap (bit word) m s i le
 
 -- ---- runs, number by number
 
@@ -57,7 +64,8 @@ pass-holds t (suc k) i holds =
     λ j. here j && rest j
 
 -- two tests that agree, one of them moved
-pub pass-same : (t u : ℕ → Bool) (k i j : ℕ) → ((x : ℕ) → x < k → t (i + x) ≡ u (j + x)) → all_pass t k i ≡ all_pass u k j
+pub pass-same : (t u : ℕ → Bool) (k i j : ℕ) → ((x : ℕ) → x < k → t (i + x) ≡ u (j + x))
+    → all_pass t k i ≡ all_pass u k j
 pass-same t u zero i j same = refl
 pass-same t u (suc k) i j same =
     let a : i + 0 ≡ i = omega arith in

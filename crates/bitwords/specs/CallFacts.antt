@@ -32,13 +32,26 @@ module _ (walk : Walk) where
   takes_none = record { words = []; front = refl; counts = record { taken = omega arith; turns = omega arith } }
 
   pub takes_none_back : TakesFromBack 0 walk walk
-  takes_none_back = record { words = []; back = sym (append-nil walk.words); counts = record { taken = omega arith; turns = omega arith } }
+  takes_none_back =
+      record {
+        words = [];
+        back = sym (append-nil walk.words);
+        counts = record { taken = omega arith; turns = omega arith };
+      }
 
 -- a walk that yields the first, or the last, comes nearer its end
-pub progress_first : {S A : Type 0} (rest : S → List A) (s : S) (r : Option A) (t : S) → YieldsFirst rest s r t → MakesProgress (λ _. Unit {0}) (item_count rest) s r t
+pub progress_first : {S A : Type 0} (rest : S → List A) (s : S) (r : Option A) (t : S) → YieldsFirst rest s r t
+    → MakesProgress (λ _. Unit {0}) (item_count rest) s r t
 progress_first rest s None t gives = record { on = λ _. tt; keeps = tt; rests = λ _. tt }
-progress_first rest s (Some x) t gives = record { on = λ _. (tt, tt, omega (arith, ap length gives)); keeps = tt; rests = λ _. tt }
+progress_first rest s (Some x) t gives =
+    record { on = λ _. (tt, tt, omega (arith, ap length gives)); keeps = tt; rests = λ _. tt }
 
-pub progress_last : {S A : Type 0} (rest : S → List A) (s : S) (r : Option A) (t : S) → YieldsLast rest s r t → MakesProgress (λ _. Unit {0}) (item_count rest) s r t
+pub progress_last : {S A : Type 0} (rest : S → List A) (s : S) (r : Option A) (t : S) → YieldsLast rest s r t
+    → MakesProgress (λ _. Unit {0}) (item_count rest) s r t
 progress_last rest s None t gives = record { on = λ _. tt; keeps = tt; rests = λ _. tt }
-progress_last rest s (Some x) t gives = record { on = λ _. (tt, tt, omega (arith, ap length gives, length-append (rest t) (x ∷ []))); keeps = tt; rests = λ _. tt }
+progress_last rest s (Some x) t gives =
+    record {
+      on = λ _. (tt, tt, omega (arith, ap length gives, length-append (rest t) (x ∷ [])));
+      keeps = tt;
+      rests = λ _. tt;
+    }

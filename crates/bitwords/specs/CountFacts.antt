@@ -1,5 +1,6 @@
 -- How many numbers below a bound pass a test, for those who count positions.
-use Rattle.std.proofs.Common.{◌≡◌, ℕ, zero, suc, ◌+◌, ◌<◌, ◌≤◌, ◌-◌, Bool, true, false, cond, ◌&&◌, nat_lt, [], ◌∷◌, ◌++◌, count_by, refl, ap, ◌∙◌, arith}
+use Rattle.std.proofs.Common.{◌≡◌, ℕ, zero, suc, ◌+◌, ◌<◌, ◌≤◌, ◌-◌, Bool, true, false, cond}
+use Rattle.std.proofs.Common.{◌&&◌, nat_lt, [], ◌∷◌, ◌++◌, count_by, refl, ap, ◌∙◌, arith}
 use Rattle.std.specs.List.{range_with_len}
 use Rattle.std.proofs.lemmas.Bool.{le-leb, lt-ltb, and_from, false_from_ne_true, leb-true}
 use Rattle.std.proofs.lemmas.List.Sums.{sum_by-append}
@@ -15,7 +16,8 @@ indicator_le false = omega arith
 
 pub range-push : (a n : ℕ) → range_with_len a (suc n) ≡ range_with_len a n ++ (a + n) ∷ []
 range-push a zero = let e : a ≡ a + 0 = omega arith in ap (λ x. x ∷ []) e
-range-push a (suc n) = ap (λ xs. a ∷ xs) (range-push (a + 1) n) ∙ (let e : (a + 1) + n ≡ a + suc n = omega arith in ap (λ x. a ∷ (range_with_len (a + 1) n ++ x ∷ [])) e)
+range-push a (suc n) = ap (λ xs. a ∷ xs) (range-push (a + 1) n)
+    ∙ (let e : (a + 1) + n ≡ a + suc n = omega arith in ap (λ x. a ∷ (range_with_len (a + 1) n ++ x ∷ [])) e)
 
 pub count-zero : (c : ℕ → Bool) → count_below c 0 ≡ 0
 unfolding count_below
@@ -32,10 +34,18 @@ count-suc c n =
 -- tests that agree below the bound
 pub count-same : (c d : ℕ → Bool) (n : ℕ) → ((p : ℕ) → p < n → c p ≡ d p) → count_below c n ≡ count_below d n
 count-same c d zero same = omega (arith, count-zero c, count-zero d)
-count-same c d (suc n) same = omega (arith, count-suc c n, count-suc d n, count-same c d n (λ p h. same p (omega arith)), ap indicator (same n (omega arith)))
+count-same c d (suc n) same =
+    omega (
+      arith,
+      count-suc c n,
+      count-suc d n,
+      count-same c d n (λ p h. same p (omega arith)),
+      ap indicator (same n (omega arith)),
+    )
 
 pub count-append : (c : ℕ → Bool) (a b : ℕ) → count_below c (a + b) ≡ count_below c a + count_below (λ i. c (a + i)) b
-count-append c a zero = let e : a + 0 ≡ a = omega arith in omega (arith, ap (count_below c) e, count-zero (λ i. c (a + i)))
+count-append c a zero =
+    let e : a + 0 ≡ a = omega arith in omega (arith, ap (count_below c) e, count-zero (λ i. c (a + i)))
 count-append c a (suc b) =
     let e : a + suc b ≡ suc (a + b) = omega arith in
     omega (arith, ap (count_below c) e, count-suc c (a + b), count-append c a b, count-suc (λ i. c (a + i)) b)
@@ -43,7 +53,8 @@ count-append c a (suc b) =
 -- where none passes
 pub count-none : (c : ℕ → Bool) (n : ℕ) → ((p : ℕ) → p < n → c p ≡ false) → count_below c n ≡ 0
 count-none c zero none = count-zero c
-count-none c (suc n) none = omega (arith, count-suc c n, count-none c n (λ p h. none p (omega arith)), ap indicator (none n (omega arith)))
+count-none c (suc n) none =
+    omega (arith, count-suc c n, count-none c n (λ p h. none p (omega arith)), ap indicator (none n (omega arith)))
 
 -- no more pass than there are
 pub count-le : (c : ℕ → Bool) (n : ℕ) → count_below c n ≤ n
@@ -51,21 +62,33 @@ count-le c zero = omega (arith, count-zero c)
 count-le c (suc n) = omega (arith, count-suc c n, count-le c n, indicator_le (c n))
 
 pub count-mono : (c : ℕ → Bool) (m n : ℕ) → m ≤ n → count_below c m ≤ count_below c n
-count-mono c m n le = let e : n ≡ m + (n - m) = omega arith in omega (arith, ap (count_below c) e, count-append c m (n - m))
+count-mono c m n le =
+    let e : n ≡ m + (n - m) = omega arith in omega (arith, ap (count_below c) e, count-append c m (n - m))
 
 -- where none between m and n passes, as many pass below either
-pub count-shorter : (c : ℕ → Bool) (m n : ℕ) → m ≤ n → ((p : ℕ) → m ≤ p → p < n → c p ≡ false) → count_below c n ≡ count_below c m
+pub count-shorter : (c : ℕ → Bool) (m n : ℕ) → m ≤ n → ((p : ℕ) → m ≤ p → p < n → c p ≡ false)
+    → count_below c n ≡ count_below c m
 count-shorter c m n le none =
     let e : n ≡ m + (n - m) = omega arith in
-    omega (arith, ap (count_below c) e, count-append c m (n - m), count-none (λ i. c (m + i)) (n - m) (λ i h. none (m + i) (omega arith) (omega arith)))
+    omega (
+      arith,
+      ap (count_below c) e,
+      count-append c m (n - m),
+      count-none (λ i. c (m + i)) (n - m) (λ i h. none (m + i) (omega arith) (omega arith)),
+    )
 
 -- those of a range that pass
-pub count-in_range : (c : ℕ → Bool) (start end : ℕ) → start ≤ end → count_below (λ p. in_range start end p && c p) end + count_below c start ≡ count_below c end
+pub count-in_range : (c : ℕ → Bool) (start end : ℕ) → start ≤ end
+    → count_below (λ p. in_range start end p && c p) end + count_below c start ≡ count_below c end
 count-in_range c start end le =
     let inside : (i : ℕ) → i < end - start → (in_range start end (start + i) && c (start + i)) ≡ c (start + i) =
-    λ i h. ap (λ b. b && c (start + i)) (and_from _ _ (le-leb start (start + i) (omega arith)) (lt-ltb (start + i) end (omega arith))) in
+    λ i h.
+    ap (λ b. b && c (start + i))
+    (and_from _ _ (le-leb start (start + i) (omega arith)) (lt-ltb (start + i) end (omega arith))) in
     let outside : (p : ℕ) → p < start → (in_range start end p && c p) ≡ false =
-    λ p h. ap (λ b. (b && nat_lt p end) && c p) (false_from_ne_true _ (λ one. let l : start ≤ p = leb-true start p one in absurd (omega arith))) in
+    λ p h.
+    ap (λ b. (b && nat_lt p end) && c p)
+    (false_from_ne_true _ (λ one. let l : start ≤ p = leb-true start p one in absurd (omega arith))) in
     let e : end ≡ start + (end - start) = omega arith in
     omega (
       arith,

@@ -1,5 +1,6 @@
 -- Numbers that pass a test and follow each other, and the first place with room for so many.
-use Rattle.std.specs.Prelude.{ℕ, suc, zero, ◌+◌, ◌-◌, ◌*◌, ◌/◌, ◌%◌, ◌==◌, Bool, true, not, ◌&&◌, nat_le, Option, slice_get}
+use Rattle.std.specs.Prelude.{ℕ, suc, zero, ◌+◌, ◌-◌, ◌*◌, ◌/◌, ◌%◌, ◌==◌}
+use Rattle.std.specs.Prelude.{Bool, true, not, ◌&&◌, nat_le, Option, slice_get}
 use Rattle.bitlanes.specs.Bits.{bit}
 use Rattle.bitlanes.specs.Words.{lane_steps}
 use Rattle.bitwords.specs.Ascending.{ascending}
@@ -28,7 +29,8 @@ is_multiple align p = p % align == 0
 
 -- the least multiple of `align` at or past `from` with so much room
 unfoldable pub first_aligned_room : (ℕ → Bool) → (end count align from : ℕ) → Option ℕ
-first_aligned_room taken end count align from = slice_get (ascending (λ p. is_multiple align p && has_room_in taken end count p) from (end + 1 - from)) 0
+first_aligned_room taken end count align from =
+    slice_get (ascending (λ p. is_multiple align p && has_room_in taken end count p) from (end + 1 - from)) 0
 
 -- the steps of such a search at most: two for each lane of the range, and two for each multiple that may stand there
 abbrev pub aligned_steps : (align start end : ℕ) → ℕ

@@ -10,7 +10,8 @@ pass-fails t zero i r from to fails = absurd (omega arith)
 pass-fails t (suc k) i r from to fails =
     elim (cases_eq i r) [
       | inl here ↦ (let e : t i ≡ false = ap t here ∙ fails in λ j. e j && all_pass t k (i + 1))
-      | inr later ↦ ap (λ x. t i && x) (pass-fails t k (i + 1) r (omega (arith, later)) (omega arith) fails) ∙ and-false (t i)
+      | inr later ↦ ap (λ x. t i && x) (pass-fails t k (i + 1) r (omega (arith, later)) (omega arith) fails)
+          ∙ and-false (t i)
     ]
 
 -- where not all pass, one fails
@@ -18,6 +19,7 @@ pub pass-finds : (t : ℕ → Bool) (k i : ℕ) → all_pass t k i ≡ false →
 pass-finds t zero i fails = absurd (true≢false fails)
 pass-finds t (suc k) i fails =
     elim (cases_Bool (t i)) [
-      | inl passes ↦ (let rest = pass-finds t k (i + 1) (sym (λ j. passes j && all_pass t k (i + 1)) ∙ fails) in (rest.0, omega (arith, rest.1), omega (arith, rest.2), rest.3))
+      | inl passes ↦ (let rest = pass-finds t k (i + 1) (sym (λ j. passes j && all_pass t k (i + 1)) ∙ fails) in
+          (rest.0, omega (arith, rest.1), omega (arith, rest.2), rest.3))
       | inr here ↦ (i, omega arith, omega arith, here)
     ]

@@ -1,5 +1,6 @@
 -- A row of words as positions: position p stands at bit p mod 64 of word p / 64.
-use Rattle.std.specs.Prelude.{◌≡◌, ℕ, ◌+◌, ◌-◌, ◌*◌, ◌/◌, ◌%◌, ◌<◌, ◌≤◌, Bool, ◌&&◌, nat_lt, nat_le, List, length, slice_index, count_by}
+use Rattle.std.specs.Prelude.{◌≡◌, ℕ, ◌+◌, ◌-◌, ◌*◌, ◌/◌, ◌%◌, ◌<◌, ◌≤◌, Bool, ◌&&◌}
+use Rattle.std.specs.Prelude.{nat_lt, nat_le, List, length, slice_index, count_by}
 use Rattle.std.specs.List.{range_with_len}
 use Rattle.bitlanes.specs.Bits.{bit}
 
@@ -16,7 +17,8 @@ pub record IsJoined (f : Bool → Bool → Bool) (old : List ℕ) (other : ℕ �
   pub long : length new ≡ length old
   pub bits : (p : ℕ) → p < 64 * length old → has_bit new p ≡ f (has_bit old p) (other p)
 
--- as many words as before; the positions from start up to and without end are those of ws from `from` on, the others stay
+-- as many words as before; the positions from start up to and without end are
+-- those of ws from `from` on, the others stay
 pub record IsCopied (ws : List ℕ) (from start end : ℕ) (old new : List ℕ) : Type 0 where
   pub long : length new ≡ length old
   pub copied : (p : ℕ) → start ≤ p → p < end → has_bit new p ≡ has_bit ws (from + (p - start))

@@ -22,9 +22,11 @@ join_steps keep n m = lane_steps (min n m) + (if keep then 0 else lane_steps (n 
 
 -- to go through n and m words: over those that both have, and over the rest of each where it counts
 abbrev pub both_steps : Bool → Bool → ℕ → ℕ → ℕ
-both_steps keep take n m = lane_steps (min n m) + (if keep then lane_steps (n - m) else 0) + (if take then lane_steps (m - n) else 0)
+both_steps keep take n m =
+    lane_steps (min n m) + (if keep then lane_steps (n - m) else 0) + (if take then lane_steps (m - n) else 0)
 
--- to join n words with m others that are moved up: the first word, which may have fewer than 64 of them, and those behind it
+-- to join n words with m others that are moved up: the first word, which may have
+-- fewer than 64 of them, and those behind it
 abbrev pub join_up_steps : (n m by : ℕ) → ℕ
 join_up_steps n m by = min (min (by % 64) 1) (min (n - by / 64) m) + lane_steps (min (n - by / 64 - min (by % 64) 1) m)
 

@@ -18,11 +18,18 @@ between_ends words = drop 1 (take (length words - 1) words)
 
 -- the walk over the positions below `end` that a row of words has, before its first call
 abbrev pub over_row : List ℕ → ℕ → Walk
-over_row words end = record { items = ascending (has_bit words) 0 end; words = between_ends words; turns = 0; taken = 0 }
+over_row words end =
+    record { items = ascending (has_bit words) 0 end; words = between_ends words; turns = 0; taken = 0 }
 
 -- the walk over those from `low` up to and without `end`, each moved up by `at`
 abbrev pub within_row : List ℕ → (at low end : ℕ) → Walk
-within_row words at low end = record { items = ascending (λ p. has_bit words (p - at)) (at + low) (end - low); words = between_ends words; turns = 0; taken = 0 }
+within_row words at low end =
+    record {
+      items = ascending (λ p. has_bit words (p - at)) (at + low) (end - low);
+      words = between_ends words;
+      turns = 0;
+      taken = 0;
+    }
 
 -- the words that hold the positions from `start` up to and without `end`
 abbrev pub range_cut : (start end : ℕ) → List ℕ → List ℕ
@@ -30,7 +37,13 @@ range_cut start end words = take (div_ceil end 64 - start / 64) (drop (start / 6
 
 -- the walk over the positions from `start` up to and without `end` that a row of words has, before its first call
 abbrev pub range_row : List ℕ → (start end : ℕ) → Walk
-range_row words start end = record { items = ascending (has_bit words) start (end - start); words = between_ends (range_cut start end words); turns = 0; taken = 0 }
+range_row words start end =
+    record {
+      items = ascending (has_bit words) start (end - start);
+      words = between_ends (range_cut start end words);
+      turns = 0;
+      taken = 0;
+    }
 
 -- so many calls made one turn each, and one more for each of so many words that they took
 pub record Counts (calls words : ℕ) (old new : Walk) : Type 0 where

@@ -9,24 +9,30 @@ use Rattle.std.proofs.iter.runs.Sources.{from_front, from_back, as_is, as_is_bac
 use Rattle.bitwords.specs.Walk.{Walk, GivesFirst, GivesLast}
 
 -- an iterator each of whose calls gives the first of the items left, and one that has these left
-module _ {S : Type 0} (items : S → List ℕ) (steps : S → Option ℕ → S → Type 0) (gives : (s : S) (r : Option ℕ) (t : S) → steps s r t → YieldsFirst items s r t) (walk : S) (xs : List ℕ) (left : items walk ≡ xs) where
+module _ {S : Type 0} (items : S → List ℕ) (steps : S → Option ℕ → S → Type 0) (gives : (s : S) (r : Option ℕ) (t : S)
+    → steps s r t → YieldsFirst items s r t) (walk : S) (xs : List ℕ) (left : items walk ≡ xs) where
   -- its calls give the items that were left, in order
   pub runs_forwards : EachRunFrom steps walk (λ run. ItemsAre run xs)
   runs_forwards run seen here =
       as_is run xs (subst (λ ys. ItemsMapTo run (λ x. x) ys) (ap items here ∙ left)
-      (from_front steps (λ x. x) items (λ s t h. ap length (gives s None t h).0) (λ s x t h. gives s (Some x) t h) run seen))
+      (from_front steps (λ x. x) items (λ s t h. ap length (gives s None t h).0) (λ s x t h. gives s (Some x) t h)
+      run seen))
 
   -- they give this list: what the lemmas of std on chains take
   pub list_forwards : YieldsList steps (λ p. p) walk xs
-  list_forwards = subst (YieldsList steps (λ p. p) walk) left (YieldsList-from_shown steps (λ p. p) items (λ s t h. ap length (gives s None t h).0) (λ s x t h. gives s (Some x) t h) walk)
+  list_forwards = subst (YieldsList steps (λ p. p) walk) left
+      (YieldsList-from_shown steps (λ p. p) items (λ s t h. ap length (gives s None t h).0)
+      (λ s x t h. gives s (Some x) t h) walk)
 
 -- an iterator each of whose calls from the back gives the last of the items left
-module _ {S : Type 0} (items : S → List ℕ) (steps : S → Option ℕ → S → Type 0) (gives : (s : S) (r : Option ℕ) (t : S) → steps s r t → YieldsLast items s r t) (walk : S) (xs : List ℕ) (left : items walk ≡ xs) where
+module _ {S : Type 0} (items : S → List ℕ) (steps : S → Option ℕ → S → Type 0) (gives : (s : S) (r : Option ℕ) (t : S)
+    → steps s r t → YieldsLast items s r t) (walk : S) (xs : List ℕ) (left : items walk ≡ xs) where
   -- its calls from the back give the items that were left, in reverse
   pub runs_backwards : EachRunFrom steps walk (λ run. ItemsAreReversed run xs)
   runs_backwards run seen here =
       as_is_back run xs (subst (λ ys. ItemsMapToReversed run (λ x. x) ys) (ap items here ∙ left)
-      (from_back steps (λ x. x) items (λ s t h. ap length (gives s None t h).0) (λ s x t h. gives s (Some x) t h) run seen))
+      (from_back steps (λ x. x) items (λ s t h. ap length (gives s None t h).0) (λ s x t h. gives s (Some x) t h)
+      run seen))
 
 -- the same of the walks over one set
 module _ (walk : Walk) (xs : List ℕ) (left : walk.items ≡ xs) where

@@ -18,8 +18,8 @@ beside f [] others = []
 beside f (word ∷ words) [] = f word 0 ∷ beside f words []
 beside f (word ∷ words) (other ∷ others) = f word other ∷ beside f words others
 
--- the words at these positions have so many words between them, and end within a usize; a last word that is 0 and has no
--- word before it may stand anywhere from the first one on
+-- the words at these positions have so many words between them, and end within a usize; a last word that is 0 and has
+-- no word before it may stand anywhere from the first one on
 pub record IsSpaced (front_at back_at between back : ℕ) : Type 0 where
   pub apart : 0 < between + back → back_at ≡ front_at + 64 * (between + 1)
   pub order : front_at ≤ back_at
@@ -27,4 +27,5 @@ pub record IsSpaced (front_at back_at between back : ℕ) : Type 0 where
 
 -- the walk that holds these, before its first call
 abbrev pub held_walk : (front_at front : ℕ) → List ℕ → (back : ℕ) → Walk
-held_walk front_at front middle back = record { items = held_items front_at front middle back; words = middle; turns = 0; taken = 0 }
+held_walk front_at front middle back =
+    record { items = held_items front_at front middle back; words = middle; turns = 0; taken = 0 }

@@ -4,13 +4,15 @@
 //! a `Middle`, which says where they come from: a slice, a slice of inverted words, two slices joined, or a vector that the
 //! cursor owns.
 
-ghost use Rattle.std.specs.Prelude.{◌≡◌, ℕ, ◌+◌, ◌*◌, ◌^◌, ◌<◌, ◌≤◌, ◌∷◌, ◌++◌, [], List, length, map, Some, IfSome};
+ghost use Rattle.std.specs.Prelude.{◌≡◌, ℕ, ◌+◌, ◌*◌, ◌^◌, ◌<◌, ◌≤◌, ◌∷◌};
+ghost use Rattle.std.specs.Prelude.{◌++◌, [], List, length, map, Some, IfSome};
 ghost use Rattle.std.specs.Int.{bit_not, w64};
 ghost use Rattle.std.specs.Iterator.{YieldsFirst, YieldsLast, item_count, UpTo};
 ghost use Rattle.std.specs.Iterator.SizeHint.{IsWithinCount};
 ghost use Rattle.std.specs.Vec.Iter.{into_iter_items};
 ghost use Rattle.bitwords.specs.Rows.{has_bit};
-ghost use Rattle.bitwords.specs.Walk.{GivesFirst, GivesLast, between_ends, over_row, within_row, range_row};
+ghost use Rattle.bitwords.specs.Walk.{GivesFirst, GivesLast, between_ends};
+ghost use Rattle.bitwords.specs.Walk.{over_row, within_row, range_row};
 ghost use Rattle.bitwords.specs.WalkedWords.{beside, held_items, held_walk, IsSpaced};
 
 use bitlanes::counter::Steps;

@@ -3,12 +3,14 @@
 //! A step is one lane of four words, from the word of the position on where a search begins: each lane counts once, as its
 //! first word is looked at.
 
-ghost use Rattle.std.specs.Prelude.{◌≡◌, ◌≢◌, ℕ, ◌+◌, ◌-◌, ◌*◌, ◌^◌, ◌<◌, ◌≤◌, length, map, slice_index, IfSome, IfNone, MatchOption};
+ghost use Rattle.std.specs.Prelude.{◌≡◌, ◌≢◌, ℕ, ◌+◌, ◌-◌, ◌*◌, ◌^◌, ◌<◌, ◌≤◌, length};
+ghost use Rattle.std.specs.Prelude.{map, slice_index, IfSome, IfNone, MatchOption};
 ghost use Rattle.std.specs.Int.{bit_at};
 ghost use Rattle.bitlanes.specs.Bits.{bit};
 ghost use Rattle.bitlanes.specs.Word.{IsLowestBit};
 ghost use Rattle.bitlanes.specs.Words.{lane_steps};
-ghost use Rattle.bitwords.specs.Gaps.{has_run, is_multiple, first_room, first_aligned_room, aligned_steps};
+ghost use Rattle.bitwords.specs.Gaps.{has_run, is_multiple, first_room};
+ghost use Rattle.bitwords.specs.Gaps.{first_aligned_room, aligned_steps};
 ghost use Rattle.bitwords.specs.Neighbours.{NonePasses, IsNext};
 ghost use Rattle.bitwords.specs.Rows.{has_bit};
 ghost use Rattle.bitwords.specs.Steps.{range_words};

@@ -2,7 +2,9 @@
 //!
 //! The words that both rows have are joined by a kernel of `bitlanes`, by lanes of four; the rest of the longer row is
 //! cleared, counted or left, as the operation says.
-ghost use Rattle.std.specs.Prelude.{◌≡◌, ◌<◌, ◌≤◌, ◌+◌, ◌-◌, ◌*◌, ◌/◌, ◌^◌, ◌==◌, ◌&&◌, ◌||◌, not, IsTrue, IfSome, IfNone, true, false, length, min, max, drop, slice_get, slice_index, sum_by, if◌then◌else◌};
+ghost use Rattle.std.specs.Prelude.{◌≡◌, ◌<◌, ◌≤◌, ◌+◌, ◌-◌, ◌*◌, ◌/◌, ◌^◌, ◌==◌, ◌&&◌, ◌||◌};
+ghost use Rattle.std.specs.Prelude.{not, IsTrue, IfSome, IfNone, true, false, length, min};
+ghost use Rattle.std.specs.Prelude.{max, drop, slice_get, slice_index, sum_by, if◌then◌else◌};
 ghost use Rattle.std.specs.Int.RustNames.{count_ones};
 ghost use Rattle.std.specs.List.{list_all};
 ghost use Rattle.bitlanes.specs.Bits.{bit_without};

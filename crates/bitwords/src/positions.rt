@@ -1,5 +1,6 @@
 //! Single positions of a row of words, the first and the last of them, and those from one position on.
-ghost use Rattle.std.specs.Prelude.{◌≡◌, ◌↔◌, ℕ, ◌+◌, ◌-◌, ◌*◌, ◌/◌, ◌^◌, ◌<◌, ◌≤◌, ◌&&◌, nat_lt, length, slice_get, None, IfSome, IfNone, IsTrue, true, false};
+ghost use Rattle.std.specs.Prelude.{◌≡◌, ◌↔◌, ℕ, ◌+◌, ◌-◌, ◌*◌, ◌/◌, ◌^◌, ◌<◌, ◌≤◌, ◌&&◌, nat_lt};
+ghost use Rattle.std.specs.Prelude.{length, slice_get, None, IfSome, IfNone, IsTrue, true, false};
 ghost use Rattle.std.specs.List.{last_or};
 ghost use Rattle.bitlanes.specs.Words.{lane_steps};
 ghost use Rattle.bitwords.specs.Ascending.{ascending};

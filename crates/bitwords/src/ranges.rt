@@ -2,7 +2,8 @@
 //!
 //! A range is cut at the edges of words into three parts: positions of its first word, whole words, and positions of its
 //! last word. Each part may be empty. So no word but the first and the last is masked.
-ghost use Rattle.std.specs.Prelude.{◌≡◌, ℕ, ◌<◌, ◌≤◌, ◌+◌, ◌-◌, ◌*◌, ◌/◌, ◌^◌, length, ◌==◌, IsTrue, true, false, ◌&&◌, nat_lt};
+ghost use Rattle.std.specs.Prelude.{◌≡◌, ℕ, ◌<◌, ◌≤◌, ◌+◌, ◌-◌, ◌*◌, ◌/◌, ◌^◌};
+ghost use Rattle.std.specs.Prelude.{length, ◌==◌, IsTrue, true, false, ◌&&◌, nat_lt};
 ghost use Rattle.bitlanes.specs.Bits.{bit};
 ghost use Rattle.bitlanes.specs.Words.{lane_steps};
 ghost use Rattle.bitwords.specs.Cuts.{IsCut};

@@ -1,7 +1,8 @@
 //! Rows of words moved up or down by any number of positions.
 //!
 //! A position that is moved to none of the row falls away, and one that nothing is moved to is not set.
-ghost use Rattle.std.specs.Prelude.{◌≡◌, ◌<◌, ◌≤◌, ◌+◌, ◌-◌, ◌*◌, ◌/◌, ◌^◌, ◌&&◌, true, nat_le, length, min, if◌then◌else◌};
+ghost use Rattle.std.specs.Prelude.{◌≡◌, ◌<◌, ◌≤◌, ◌+◌, ◌-◌, ◌*◌, ◌/◌, ◌^◌, ◌&&◌};
+ghost use Rattle.std.specs.Prelude.{true, nat_le, length, min, if◌then◌else◌};
 ghost use Rattle.std.specs.Prelude as prelude;
 ghost use Rattle.bitlanes.specs.Shifts.{up_steps};
 ghost use Rattle.bitlanes.specs.Words.{lane_steps};

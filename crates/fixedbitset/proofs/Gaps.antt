@@ -1,5 +1,6 @@
 -- The first place with room among the bits of words, and among the positions of their value.
-use Rattle.std.proofs.Common.{◌≡◌, ℕ, suc, inl, inr, ◌⊎◌, ◌+◌, ◌-◌, ◌<◌, ◌≤◌, ◌&&◌, not, nat_le, nat_lt, Bool, true, false, List, slice_get, refl, sym, ap, ◌∙◌, arith}
+use Rattle.std.proofs.Common.{◌≡◌, ℕ, suc, inl, inr, ◌⊎◌, ◌+◌, ◌-◌, ◌<◌, ◌≤◌, ◌&&◌, not, nat_le}
+use Rattle.std.proofs.Common.{nat_lt, Bool, true, false, List, slice_get, refl, sym, ap, ◌∙◌, arith}
 use Rattle.std.proofs.lemmas.Bool.{cases_Bool, true≢false, false_from_ne_true, le-leb}
 use Rattle.std.proofs.lemmas.Bool.Decides.{leb_tells}
 use lib.Dec.{leb}
@@ -16,11 +17,13 @@ use Rattle.fixedbitset.specs.WordsFacts.{length-of_words, contains-of_words}
 
 module _ (n : ℕ) (ws : List ℕ) (count p : ℕ) where
   -- some position of the stretch is set exactly if not all are clear
-  any_set : p + count ≤ n → contains_any (of_words n ws) p (p + count) ≡ not (all_pass (λ q. not (has_bit ws q)) count p)
+  any_set : p + count ≤ n
+      → contains_any (of_words n ws) p (p + count) ≡ not (all_pass (λ q. not (has_bit ws q)) count p)
   any_set within = elim (cases_Bool (all_pass (λ q. not (has_bit ws q)) count p)) [
     | inl clear ↦ (let none = false_from_ne_true (contains_any (of_words n ws) p (p + count)) (λ some.
         let one = (contains_any-tells (of_words n ws) p (p + count)).0 some in
-        let set : has_bit ws one.0 ≡ true = first (has_bit ws one.0) (nat_lt one.0 n) (sym (contains-of_words n ws one.0) ∙ one.3) in
+        let set : has_bit ws one.0 ≡ true =
+        first (has_bit ws one.0) (nat_lt one.0 n) (sym (contains-of_words n ws one.0) ∙ one.3) in
         true≢false (sym clear ∙ pass-fails (λ q. not (has_bit ws q)) count p one.0 one.1 one.2 (ap not set))) in
         none ∙ sym (ap not clear))
     | inr blocked ↦ (
@@ -41,44 +44,58 @@ module _ (n : ℕ) (ws : List ℕ) (count p : ℕ) where
 
   same_room : has_room (of_words n ws) count p ≡ has_room_in (has_bit ws) n count p
   unfolding has_room has_room_in
-  same_room = ap (λ m. nat_le (p + count) m && not (contains_any (of_words n ws) p (p + count))) (length-of_words n ws) ∙ by_end (leb_tells (p + count) n)
+  same_room = ap (λ m. nat_le (p + count) m && not (contains_any (of_words n ws) p (p + count))) (length-of_words n ws)
+      ∙ by_end (leb_tells (p + count) n)
     where
       twice : (x : Bool) → not (not x) ≡ x
       twice true = refl
       twice false = refl
 
       by_end : ((leb (p + count) n ≡ true) × (p + count ≤ n)) ⊎ ((leb (p + count) n ≡ false) × (n < p + count))
-          → (nat_le (p + count) n && not (contains_any (of_words n ws) p (p + count))) ≡ (nat_le (p + count) n && all_pass (λ q. not (has_bit ws q)) count p)
-      by_end (inl (_, within)) = ap (λ x. nat_le (p + count) n && x) (ap not (any_set within) ∙ twice (all_pass (λ q. not (has_bit ws q)) count p))
-      by_end (inr (past, _)) = (λ j. past j && not (contains_any (of_words n ws) p (p + count))) ∙ sym (λ j. past j && all_pass (λ q. not (has_bit ws q)) count p)
+          → (nat_le (p + count) n && not (contains_any (of_words n ws) p (p + count)))
+          ≡ (nat_le (p + count) n && all_pass (λ q. not (has_bit ws q)) count p)
+      by_end (inl (_, within)) =
+          ap (λ x. nat_le (p + count) n && x)
+          (ap not (any_set within) ∙ twice (all_pass (λ q. not (has_bit ws q)) count p))
+      by_end (inr (past, _)) = (λ j. past j && not (contains_any (of_words n ws) p (p + count)))
+          ∙ sym (λ j. past j && all_pass (λ q. not (has_bit ws q)) count p)
 
 -- so the first one is the same
-pub same_gap : (n : ℕ) (ws : List ℕ) (count from : ℕ) → first_room (has_bit ws) n count from ≡ first_gap (of_words n ws) count from
+pub same_gap : (n : ℕ) (ws : List ℕ) (count from : ℕ)
+    → first_room (has_bit ws) n count from ≡ first_gap (of_words n ws) count from
 unfolding first_room first_gap
 same_gap n ws count from =
-    ap (λ m. slice_get (ascending (has_room_in (has_bit ws) n count) from (m + 1 - from)) 0) (sym (length-of_words n ws))
-    ∙ ap (λ xs. slice_get xs 0) (ascending-same (has_room_in (has_bit ws) n count) (has_room (of_words n ws) count) from ((of_words n ws).length + 1 - from) (λ q _ _. sym (same_room n ws count q)))
+    ap (λ m. slice_get (ascending (has_room_in (has_bit ws) n count) from (m + 1 - from)) 0)
+    (sym (length-of_words n ws))
+    ∙ ap (λ xs. slice_get xs 0) (ascending-same (has_room_in (has_bit ws) n count) (has_room (of_words n ws) count) from
+    ((of_words n ws).length + 1 - from) (λ q _ _. sym (same_room n ws count q)))
 
 -- an end at or below the length is the only one that tells
-room_below : (n : ℕ) (ws : List ℕ) (count end q : ℕ) → end ≤ n → has_room_in (has_bit ws) end count q ≡ (nat_le (q + count) end && has_room_in (has_bit ws) n count q)
+room_below : (n : ℕ) (ws : List ℕ) (count end q : ℕ) → end ≤ n
+    → has_room_in (has_bit ws) end count q ≡ (nat_le (q + count) end && has_room_in (has_bit ws) n count q)
 unfolding has_room_in
 room_below n ws count end q within = by_end (leb_tells (q + count) end)
   where
     free : Bool
     free = all_pass (λ x. not (has_bit ws x)) count q
 
-    by_end : ((leb (q + count) end ≡ true) × (q + count ≤ end)) ⊎ ((leb (q + count) end ≡ false) × (end < q + count)) → (nat_le (q + count) end && free) ≡ (nat_le (q + count) end && (nat_le (q + count) n && free))
+    by_end : ((leb (q + count) end ≡ true) × (q + count ≤ end)) ⊎ ((leb (q + count) end ≡ false) × (end < q + count))
+        → (nat_le (q + count) end && free) ≡ (nat_le (q + count) end && (nat_le (q + count) n && free))
     by_end (inl (_, fits)) =
         let below : nat_le (q + count) n ≡ true = le-leb (q + count) n (omega (arith, fits, within)) in
         λ j. nat_le (q + count) end && (sym below j && free)
     by_end (inr (past, _)) = (λ j. past j && free) ∙ sym (λ j. past j && (nat_le (q + count) n && free))
 
 -- so the first one at a multiple is the same
-pub same_aligned_gap : (n : ℕ) (ws : List ℕ) (count align start end : ℕ) → end ≤ n → first_aligned_room (has_bit ws) end count align start ≡ first_aligned_gap count align (of_words n ws) start end
+pub same_aligned_gap : (n : ℕ) (ws : List ℕ) (count align start end : ℕ) → end ≤ n
+    → first_aligned_room (has_bit ws) end count align start ≡ first_aligned_gap count align (of_words n ws) start end
 unfolding first_aligned_room first_aligned_gap
 same_aligned_gap n ws count align start end within =
-    ap (λ xs. slice_get xs 0) (ascending-same (λ q. is_multiple align q && has_room_in (has_bit ws) end count q) (λ q. is_multiple align q && (nat_le (q + count) end && has_room (of_words n ws) count q)) start (end + 1 - start) (λ q _ _.
-    ap (λ r. is_multiple align q && r) (room_below n ws count end q within ∙ ap (λ r. nat_le (q + count) end && r) (sym (same_room n ws count q)))))
+    ap (λ xs. slice_get xs 0) (ascending-same (λ q. is_multiple align q && has_room_in (has_bit ws) end count q)
+    (λ q. is_multiple align q && (nat_le (q + count) end && has_room (of_words n ws) count q)) start
+    (end + 1 - start) (λ q _ _.
+    ap (λ r. is_multiple align q && r)
+    (room_below n ws count end q within ∙ ap (λ r. nat_le (q + count) end && r) (sym (same_room n ws count q)))))
 
 pub equal_le : {a b : ℕ} → a ≡ b → b ≤ a
 equal_le e = omega (arith, e)

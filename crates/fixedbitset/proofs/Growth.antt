@@ -1,6 +1,8 @@
 -- Words are added, cut or written anew: what that does to the value.
-use Rattle.std.proofs.Common.{◌≡◌, ℕ, ◌-◌, ◌/◌, ◌%◌, ◌^◌, ◌<◌, ◌≤◌, List, ◌++◌, replicate, length, get_or, sym, ap, ◌∙◌, arith}
-use Rattle.std.proofs.lemmas.List.{append-nil, get_or-append_right, get_or_append_left, get_or_past, get_or-replicate, length-replicate, length-append}
+use Rattle.std.proofs.Common.{◌≡◌, ℕ, ◌-◌, ◌/◌, ◌%◌, ◌^◌, ◌<◌, ◌≤◌, List, ◌++◌}
+use Rattle.std.proofs.Common.{replicate, length, get_or, sym, ap, ◌∙◌, arith}
+use Rattle.std.proofs.lemmas.List.{append-nil, get_or-append_right, get_or_append_left}
+use Rattle.std.proofs.lemmas.List.{get_or_past, get_or-replicate, length-replicate, length-append}
 use Rattle.bitwords.specs.Rows.{has_bit}
 use Rattle.bitwords.specs.RowFacts.{bit-zero, has_bit-same}
 use Rattle.fixedbitset.specs.Bits.{Bits, contains, empty, grow, storage_words, of_words}
@@ -12,27 +14,45 @@ abbrev pub zeros : ℕ → List ℕ
 zeros j = replicate j 0
 
 get_or-none : (j i : ℕ) → get_or (zeros j) i 0 ≡ 0
-get_or-none j i = grind (arith, get_or-replicate {A = ℕ} j i 0 0, get_or_past (zeros j) i 0, length-replicate {A = ℕ} j 0)
+get_or-none j i =
+    grind (arith, get_or-replicate {A = ℕ} j i 0 0, get_or_past (zeros j) i 0, length-replicate {A = ℕ} j 0)
 
 -- zeros behind the words
 pub get_or-zeros : (ws : List ℕ) (j i : ℕ) → get_or (ws ++ zeros j) i 0 ≡ get_or ws i 0
-get_or-zeros ws j i = grind (arith, get_or_append_left ws (zeros j) 0 i, get_or-append_right ws (zeros j) (length ws) i 0, get_or-none j (i - length ws), get_or_past ws i 0)
+get_or-zeros ws j i =
+    grind (
+      arith,
+      get_or_append_left ws (zeros j) 0 i,
+      get_or-append_right ws (zeros j) (length ws) i 0,
+      get_or-none j (i - length ws),
+      get_or_past ws i 0,
+    )
 
 -- what `lengthen` leaves
 pub keeps_longer : (n m : ℕ) (ws : List ℕ) (v : Bits) (new : List ℕ) (len needed : ℕ) → of_words n ws ≡ v → IsClean n ws
-    → m < 2 ^ 64 → n < m → len ≡ length ws → needed ≡ storage_words m → new ≡ ws ++ replicate (needed - len) 0 → Keeps m new (grow v m)
+    → m < 2 ^ 64 → n < m → len ≡ length ws → needed ≡ storage_words m → new ≡ ws ++ replicate (needed - len) 0
+    → Keeps m new (grow v m)
 keeps_longer n m ws v new len needed view clean fits longer same_len same_needed items =
     keeps m new (grow v m) fits
-    (omega (arith, ap length items, length-append ws (zeros (needed - len)), length-replicate {A = ℕ} (needed - len) 0, clean.count))
+    (omega (
+      arith,
+      ap length items,
+      length-append ws (zeros (needed - len)),
+      length-replicate {A = ℕ} (needed - len) 0,
+      clean.count,
+    ))
     (omega (arith, length-grow v m, viewed_length n ws v view))
-    (λ p. rw items (has_bit-same _ ws (get_or-zeros ws (needed - len)) p ∙ has_bit-of n ws v view clean p ∙ sym (contains-grow v m p)))
+    (λ p. rw items (has_bit-same _ ws (get_or-zeros ws (needed - len)) p ∙ has_bit-of n ws v view clean p
+    ∙ sym (contains-grow v m p)))
 
 pub grow_same : (n m : ℕ) (ws : List ℕ) (v : Bits) → of_words n ws ≡ v → m ≤ n → v ≡ grow v m
-grow_same n m ws v view h = same_bits v (grow v m) (omega (arith, viewed_length n ws v view, length-grow v m)) (λ p. sym (contains-grow v m p))
+grow_same n m ws v view h =
+    same_bits v (grow v m) (omega (arith, viewed_length n ws v view, length-grow v m)) (λ p. sym (contains-grow v m p))
 
 -- as many words as there are
 pub none_added : (ws : List ℕ) (count len : ℕ) → count ≡ len → ws ≡ ws ++ replicate (count - len) 0
-none_added ws count len same = sym (ap (λ j. ws ++ zeros j) (let e : count - len ≡ 0 = omega arith in e) ∙ append-nil ws)
+none_added ws count len same =
+    sym (ap (λ j. ws ++ zeros j) (let e : count - len ≡ 0 = omega arith in e) ∙ append-nil ws)
 
 -- words that are all 0
 has_bit-none : (j n p : ℕ) → has_bit (zeros j) p ≡ contains (empty n) p

@@ -10,14 +10,17 @@ use Rattle.fixedbitset.specs.TwoSets.{is_subset, is_disjoint, intersection_count
 use Rattle.fixedbitset.proofs.JoinedCounts.{count_joined-size, none_left}
 
 -- a union changes a set exactly if the other is no subset of it, whether or not it has grown before
-union_gains : (u v w : Bits) → ((p : ℕ) → contains u p ≡ contains v p) → not (count_joined (changes (λ x y. x || y)) u w == 0) ≡ not (is_subset w v)
+union_gains : (u v w : Bits) → ((p : ℕ) → contains u p ≡ contains v p)
+    → not (count_joined (changes (λ x y. x || y)) u w == 0) ≡ not (is_subset w v)
 unfolding is_subset contains
 union_gains u v w same =
-    ap (λ k. not (k == 0)) (count_joined-size (changes (λ x y. x || y)) refl u w (set.difference w.positions v.positions)
+    ap (λ k. not (k == 0))
+    (count_joined-size (changes (λ x y. x || y)) refl u w (set.difference w.positions v.positions)
     (λ p. grind (arith, same p, set.contains-difference nat_cmp_total w.positions v.positions p)))
     ∙ ap not (none_left w.positions v.positions)
 
-pub union_grown_changes : (v w : Bits) (n : ℕ) → not (count_joined (changes (λ x y. x || y)) (grow v n) w == 0) ≡ not (is_subset w v)
+pub union_grown_changes : (v w : Bits) (n : ℕ)
+    → not (count_joined (changes (λ x y. x || y)) (grow v n) w == 0) ≡ not (is_subset w v)
 union_grown_changes v w n = union_gains (grow v n) v w (contains-grow v n)
 
 pub union_changes : (v w : Bits) → not (count_joined (changes (λ x y. x || y)) v w == 0) ≡ not (is_subset w v)
@@ -26,12 +29,15 @@ union_changes v w = union_gains v v w (λ p. refl)
 pub intersection_changes : (v w : Bits) → not (count_joined (changes (λ x y. x && y)) v w == 0) ≡ not (is_subset v w)
 unfolding is_subset contains
 intersection_changes v w =
-    ap (λ k. not (k == 0)) (count_joined-size (changes (λ x y. x && y)) refl v w (set.difference v.positions w.positions)
+    ap (λ k. not (k == 0))
+    (count_joined-size (changes (λ x y. x && y)) refl v w (set.difference v.positions w.positions)
     (λ p. grind (arith, set.contains-difference nat_cmp_total v.positions w.positions p)))
     ∙ ap not (none_left v.positions w.positions)
 
-pub difference_changes : (v w : Bits) → not (count_joined (changes (λ x y. x && not y)) v w == 0) ≡ not (is_disjoint v w)
+pub difference_changes : (v w : Bits)
+    → not (count_joined (changes (λ x y. x && not y)) v w == 0) ≡ not (is_disjoint v w)
 unfolding is_disjoint intersection_count contains
 difference_changes v w =
-    ap (λ k. not (k == 0)) (count_joined-size (changes (λ x y. x && not y)) refl v w (set.intersection v.positions w.positions)
+    ap (λ k. not (k == 0))
+    (count_joined-size (changes (λ x y. x && not y)) refl v w (set.intersection v.positions w.positions)
     (λ p. grind (arith, set.contains-intersection nat_cmp_total v.positions w.positions p)))

@@ -1,5 +1,6 @@
 -- The counts of two sets and of ranges, and the questions that a count of 0 answers.
-use Rattle.std.proofs.Common.{◌≡◌, ◌≢◌, ℕ, ◌+◌, ◌*◌, ◌/◌, ◌^◌, ◌<◌, ◌≤◌, max, Bool, true, false, not, ◌&&◌, ◌||◌, ◌==◌, List, length, take, refl, sym, ap, ◌∙◌, arith}
+use Rattle.std.proofs.Common.{◌≡◌, ◌≢◌, ℕ, ◌+◌, ◌*◌, ◌/◌, ◌^◌, ◌<◌, ◌≤◌, max, Bool, true, false}
+use Rattle.std.proofs.Common.{not, ◌&&◌, ◌||◌, ◌==◌, List, length, take, refl, sym, ap, ◌∙◌, arith}
 use Rattle.std.specs.Ordering.{nat_cmp}
 use Rattle.std.specs.Cmp.{nat_cmp_total}
 use Rattle.std.specs.FinSet as set
@@ -21,7 +22,8 @@ use Rattle.fixedbitset.specs.Order.{equal}
 use Rattle.fixedbitset.specs.OrderFacts.{equal_if_same, same_if_equal}
 use Rattle.fixedbitset.specs.Ranges.{count_ones, count_zeroes, contains_all, contains_any, is_valid}
 use Rattle.fixedbitset.specs.Stored.{IsClean, count_joined, range_set}
-use Rattle.fixedbitset.specs.TwoSets.{union_count, intersection_count, difference_count, symmetric_difference_count, is_disjoint, is_subset}
+use Rattle.fixedbitset.specs.TwoSets.{union_count, intersection_count, difference_count}
+use Rattle.fixedbitset.specs.TwoSets.{symmetric_difference_count, is_disjoint, is_subset}
 use Rattle.fixedbitset.specs.WordsFacts.{length-of_words}
 use Rattle.fixedbitset.proofs.Words.{contains-range_set, length-range_set, contains_word, valid_range}
 
@@ -34,18 +36,26 @@ module _ (t : Bool → Bool → Bool) (neither : t false false ≡ false) (v w :
   contains-passing : (p : ℕ) → set.contains kept p ≡ t (contains v p) (contains w p)
   unfolding contains
   contains-passing p =
-      grind (arith, neither, contains-kept (set.union v.positions w.positions) (λ q. t (contains v q) (contains w q)) p, set.contains-union nat_cmp_total v.positions w.positions p)
+      grind (
+        arith,
+        neither,
+        contains-kept (set.union v.positions w.positions) (λ q. t (contains v q) (contains w q)) p,
+        set.contains-union nat_cmp_total v.positions w.positions p,
+      )
 
   passing_below : (n : ℕ) → v.length ≤ n → w.length ≤ n → (p : ℕ) → set.contains kept p ≡ true → p < n
   passing_below n first second p one = grind (arith, neither, contains-passing p, contains-past v p, contains-past w p)
 
   -- as many numbers below a bound of both lengths pass
-  pub count_joined-below : (n : ℕ) (c : ℕ → Bool) → v.length ≤ n → w.length ≤ n → ((p : ℕ) → c p ≡ t (contains v p) (contains w p)) → count_joined t v w ≡ count_below c n
+  pub count_joined-below : (n : ℕ) (c : ℕ → Bool) → v.length ≤ n → w.length ≤ n
+      → ((p : ℕ) → c p ≡ t (contains v p) (contains w p)) → count_joined t v w ≡ count_below c n
   unfolding count_joined
-  count_joined-below n c first second is = len-below n kept (passing_below n first second) ∙ count-same _ _ n (λ p _. contains-passing p ∙ sym (is p))
+  count_joined-below n c first second is =
+      len-below n kept (passing_below n first second) ∙ count-same _ _ n (λ p _. contains-passing p ∙ sym (is p))
 
   -- the size of the set of exactly these positions
-  pub count_joined-size : (s : FinSet nat_cmp) → ((p : ℕ) → set.contains s p ≡ t (contains v p) (contains w p)) → count_joined t v w ≡ set.len s
+  pub count_joined-size : (s : FinSet nat_cmp) → ((p : ℕ) → set.contains s p ≡ t (contains v p) (contains w p))
+      → count_joined t v w ≡ set.len s
   unfolding count_joined
   count_joined-size s same = ap set.len (same_set kept s (λ p. contains-passing p ∙ sym (same p)))
 
@@ -63,7 +73,16 @@ unfolding has_bit
 shows_cut n k ws clean enough = record {
   fits = omega (arith, clean.fits, length-of_words n ws);
   room = omega (arith, clean.count, length-of_words n ws, length-take k ws);
-  bits = λ p. grind (arith, clean.count, clean.tail p, contains_word n ws p clean, length-take k ws, has_bit-past (take k ws) p, get_or-take k ws (p / 64) 0);
+  bits = λ p.
+      grind (
+        arith,
+        clean.count,
+        clean.tail p,
+        contains_word n ws p clean,
+        length-take k ws,
+        has_bit-past (take k ws) p,
+        get_or-take k ws (p / 64) 0,
+      );
 }
 
 -- all words of a set
@@ -73,11 +92,13 @@ shows n ws clean =
     rw all at (shows_cut n (length ws) ws clean (omega (arith, clean.count)))
 
 -- the count of two values is that of rows that show them, and a word holds it
-module _ (t : Bool → Bool → Bool) (neither : t false false ≡ false) (v w : Bits) (xs ys : List ℕ) (first : Shows v xs) (second : Shows w ys) where
+module _ (t : Bool → Bool → Bool) (neither : t false false ≡ false) (v w : Bits) (xs ys : List ℕ) (first : Shows v xs)
+    (second : Shows w ys) where
   pub count_rows : count_joined t v w ≡ count_below (bits_test t xs ys) (64 * max (length xs) (length ys))
   unfolding bits_test
   count_rows =
-      count_joined-below t neither v w (64 * max (length xs) (length ys)) (bits_test t xs ys) (omega (arith, first.room)) (omega (arith, second.room)) (λ p. cc (first.bits p, second.bits p))
+      count_joined-below t neither v w (64 * max (length xs) (length ys)) (bits_test t xs ys)
+      (omega (arith, first.room)) (omega (arith, second.room)) (λ p. cc (first.bits p, second.bits p))
 
   pub count_rows-fits : count_below (bits_test t xs ys) (64 * max (length xs) (length ys)) < 2 ^ 64
   count_rows-fits =
@@ -87,9 +108,12 @@ module _ (t : Bool → Bool → Bool) (neither : t false false ≡ false) (v w :
 
 -- ---- of a range and a row of words
 
-module _ {f : ℕ → ℕ → ℕ} {t : Bool → Bool → Bool} {keep take : Bool} (law : IsWordOp f t keep take) (drops : take ≡ false)
-    (n : ℕ) (ws : List ℕ) (clean : IsClean n ws) (start end : ℕ) (valid : is_valid (of_words n ws) start end ≡ true) where
-  pub count_range-is : count_joined t (range_set start end) (of_words n ws) + count_below (bit_test (t true) ws) start ≡ count_below (bit_test (t true) ws) end
+module _ {f : ℕ → ℕ → ℕ} {t : Bool → Bool → Bool} {keep take : Bool} (law : IsWordOp f t keep take)
+    (drops : take ≡ false)
+    (n : ℕ) (ws : List ℕ) (clean : IsClean n ws) (start end : ℕ)
+    (valid : is_valid (of_words n ws) start end ≡ true) where
+  pub count_range-is : count_joined t (range_set start end) (of_words n ws) + count_below (bit_test (t true) ws) start
+      ≡ count_below (bit_test (t true) ws) end
   unfolding bit_test
   count_range-is =
       let v : Bits = of_words n ws in
@@ -97,8 +121,16 @@ module _ {f : ℕ → ℕ → ℕ} {t : Bool → Bool → Bool} {keep take : Boo
       let d : ℕ → Bool = λ p. in_range start end p && t true (has_bit ws p) in
       omega (
         arith,
-        count_joined-below t law.of_neither (range_set start end) v v.length d (omega (arith, length-range_set start end, ends)) (omega arith)
-            (λ p. grind (arith, drops, contains_word n ws p clean, contains-range_set start end p, law.of_second (contains v p))),
+        count_joined-below t law.of_neither (range_set start end) v v.length d
+            (omega (arith, length-range_set start end, ends)) (omega arith)
+            (λ p.
+            grind (
+              arith,
+              drops,
+              contains_word n ws p clean,
+              contains-range_set start end p,
+              law.of_second (contains v p),
+            )),
         count-shorter d end v.length ends.1 (λ p past _. grind (arith, nat_tests)),
         count-in_range (λ p. t true (has_bit ws p)) start end ends.0,
       )
@@ -111,19 +143,23 @@ part_is_none part start end e = grind (arith, nat_tests)
 
 pub union_count_of : (v w : Bits) → count_joined (λ x y. x || y) v w ≡ union_count v w
 unfolding union_count contains
-union_count_of v w = count_joined-size (λ x y. x || y) refl v w _ (set.contains-union nat_cmp_total v.positions w.positions)
+union_count_of v w =
+    count_joined-size (λ x y. x || y) refl v w _ (set.contains-union nat_cmp_total v.positions w.positions)
 
 pub intersection_count_of : (v w : Bits) → count_joined (λ x y. x && y) v w ≡ intersection_count v w
 unfolding intersection_count contains
-intersection_count_of v w = count_joined-size (λ x y. x && y) refl v w _ (set.contains-intersection nat_cmp_total v.positions w.positions)
+intersection_count_of v w =
+    count_joined-size (λ x y. x && y) refl v w _ (set.contains-intersection nat_cmp_total v.positions w.positions)
 
 pub difference_count_of : (v w : Bits) → count_joined (λ x y. x && not y) v w ≡ difference_count v w
 unfolding difference_count contains
-difference_count_of v w = count_joined-size (λ x y. x && not y) refl v w _ (set.contains-difference nat_cmp_total v.positions w.positions)
+difference_count_of v w =
+    count_joined-size (λ x y. x && not y) refl v w _ (set.contains-difference nat_cmp_total v.positions w.positions)
 
 pub symmetric_difference_count_of : (v w : Bits) → count_joined either v w ≡ symmetric_difference_count v w
 unfolding symmetric_difference_count contains
-symmetric_difference_count_of v w = count_joined-size either refl v w _ (numbers.contains-symmetric_difference v.positions w.positions)
+symmetric_difference_count_of v w =
+    count_joined-size either refl v w _ (numbers.contains-symmetric_difference v.positions w.positions)
 
 pub disjoint_of : (v w : Bits) → (count_joined (λ x y. x && y) v w == 0) ≡ is_disjoint v w
 unfolding is_disjoint
@@ -150,11 +186,25 @@ same_range start end p = numbers.contains-numbers_between start end p ∙ sym (c
 module _ (v : Bits) (start end : ℕ) where
   pub count_ones_of : count_joined (λ x y. x && y) (range_set start end) v ≡ count_ones v start end
   unfolding count_ones contains
-  count_ones_of = count_joined-size _ refl (range_set start end) v _ (λ p. grind (arith, same_range start end p, set.contains-intersection nat_cmp_total (numbers_between start end) v.positions p))
+  count_ones_of =
+      count_joined-size _ refl (range_set start end) v _
+      (λ p.
+      grind (
+        arith,
+        same_range start end p,
+        set.contains-intersection nat_cmp_total (numbers_between start end) v.positions p,
+      ))
 
   pub count_zeroes_of : count_joined (λ x y. x && not y) (range_set start end) v ≡ count_zeroes v start end
   unfolding count_zeroes contains
-  count_zeroes_of = count_joined-size _ refl (range_set start end) v _ (λ p. grind (arith, same_range start end p, set.contains-difference nat_cmp_total (numbers_between start end) v.positions p))
+  count_zeroes_of =
+      count_joined-size _ refl (range_set start end) v _
+      (λ p.
+      grind (
+        arith,
+        same_range start end p,
+        set.contains-difference nat_cmp_total (numbers_between start end) v.positions p,
+      ))
 
   pub contains_any_of : not (count_joined (λ x y. x && y) (range_set start end) v == 0) ≡ contains_any v start end
   unfolding contains_any

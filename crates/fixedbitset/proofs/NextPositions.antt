@@ -1,7 +1,8 @@
 -- The position next to a given one, found in the words that a set keeps.
 use Rattle.std.specs.Prelude.{slice_get}
 use Rattle.std.specs.List.{last_or}
-use Rattle.std.proofs.Common.{◌≡◌, ℕ, ◌*◌, ◌<◌, Bool, true, not, ◌&&◌, nat_lt, nat_le, min, filter, List, length, Option, Some, None, IfSome, IfNone, sym, ap, ◌∙◌, arith}
+use Rattle.std.proofs.Common.{◌≡◌, ℕ, ◌*◌, ◌<◌, Bool, true, not, ◌&&◌, nat_lt, nat_le, min, filter}
+use Rattle.std.proofs.Common.{List, length, Option, Some, None, IfSome, IfNone, sym, ap, ◌∙◌, arith}
 use Rattle.std.proofs.lemmas.Bool.Decides.{nat_tests}
 use Rattle.bitwords.specs.Ascending.{ascending}
 use Rattle.bitwords.specs.AscendingFacts.{ascending-none, filter-ascending, first-ascending, last-ascending}
@@ -28,7 +29,8 @@ module _ (test : ℕ → Bool) (n : ℕ) where
       sym (ap (λ xs. slice_get xs 0) (filter-ascending test (nat_le from) 0 n
       ∙ ascending-none (λ i. test i && nat_le from i) 0 n (λ i above below. grind (arith, nat_tests, none i))))
 
-  previous : (below : ℕ) (found : Option ℕ) → IfSome found (IsPrevious test (min below n)) → IfNone found (NonePasses test 0 (min below n))
+  previous : (below : ℕ) (found : Option ℕ) → IfSome found (IsPrevious test (min below n))
+      → IfNone found (NonePasses test 0 (min below n))
       → found ≡ last_or None (filter (λ p. nat_lt p below) (ascending test 0 n))
   previous below (Some x) is none =
       sym (ap (last_or None) (filter-ascending test (λ p. nat_lt p below) 0 n)
@@ -36,7 +38,8 @@ module _ (test : ℕ → Bool) (n : ℕ) where
       (grind (arith, nat_tests, is.passes, is.below)) (λ i above within. grind (arith, nat_tests, is.none i above)))
   previous below None is none =
       sym (ap (last_or None) (filter-ascending test (λ p. nat_lt p below) 0 n
-      ∙ ascending-none (λ i. test i && nat_lt i below) 0 n (λ i above within. grind (arith, nat_tests, none i (omega arith)))))
+      ∙ ascending-none (λ i. test i && nat_lt i below) 0 n
+      (λ i above within. grind (arith, nat_tests, none i (omega arith)))))
 
 -- ---- in the words of a value
 
@@ -55,27 +58,36 @@ module _ (n : ℕ) (ws : List ℕ) (clean : IsClean n ws) where
   unfolding bit_test
   zeroes =
       let v = of_words n ws in
-      below-asc (complement v) _ n (sym (length-complement v ∙ length-of_words n ws)) (λ p below. grind (arith, nat_tests, contains_word n ws p clean, contains-complement v p, length-of_words n ws))
+      below-asc (complement v) _ n (sym (length-complement v ∙ length-of_words n ws))
+      (λ p below. grind (arith, nat_tests, contains_word n ws p clean, contains-complement v p, length-of_words n ws))
 
-  pub next_one_of : (from : ℕ) (found : Option ℕ) → IfSome found (IsNext sets from n) → IfNone found (NonePasses sets from n) → found ≡ next_one (of_words n ws) from
+  pub next_one_of : (from : ℕ) (found : Option ℕ) → IfSome found (IsNext sets from n)
+      → IfNone found (NonePasses sets from n) → found ≡ next_one (of_words n ws) from
   unfolding next_one
   next_one_of from found is none = next _ n from found is none ∙ ap (λ xs. slice_get (filter (nat_le from) xs) 0) ones
 
-  pub next_zero_of : (from : ℕ) (found : Option ℕ) → IfSome found (IsNext lacks from n) → IfNone found (NonePasses lacks from n) → found ≡ next_zero (of_words n ws) from
+  pub next_zero_of : (from : ℕ) (found : Option ℕ) → IfSome found (IsNext lacks from n)
+      → IfNone found (NonePasses lacks from n) → found ≡ next_zero (of_words n ws) from
   unfolding next_one next_zero
-  next_zero_of from found is none = next _ n from found is none ∙ ap (λ xs. slice_get (filter (nat_le from) xs) 0) zeroes
+  next_zero_of from found is none =
+      next _ n from found is none ∙ ap (λ xs. slice_get (filter (nat_le from) xs) 0) zeroes
 
-  pub previous_one_of : (below : ℕ) (found : Option ℕ) → IfSome found (IsPrevious sets (min below n)) → IfNone found (NonePasses sets 0 (min below n)) → found ≡ previous_one (of_words n ws) below
+  pub previous_one_of : (below : ℕ) (found : Option ℕ) → IfSome found (IsPrevious sets (min below n))
+      → IfNone found (NonePasses sets 0 (min below n)) → found ≡ previous_one (of_words n ws) below
   unfolding previous_one
-  previous_one_of below found is none = previous _ n below found is none ∙ ap (λ xs. last_or None (filter (λ p. nat_lt p below) xs)) ones
+  previous_one_of below found is none =
+      previous _ n below found is none ∙ ap (λ xs. last_or None (filter (λ p. nat_lt p below) xs)) ones
 
   pub previous_zero_of : (below : ℕ) (found : Option ℕ) → IfSome found (IsPrevious lacks (min below n))
       → IfNone found (NonePasses lacks 0 (min below n)) → found ≡ previous_zero (of_words n ws) below
   unfolding previous_one previous_zero
-  previous_zero_of below found is none = previous _ n below found is none ∙ ap (λ xs. last_or None (filter (λ p. nat_lt p below) xs)) zeroes
+  previous_zero_of below found is none =
+      previous _ n below found is none ∙ ap (λ xs. last_or None (filter (λ p. nat_lt p below) xs)) zeroes
 
   -- words of a set have no position past its length, so where none is found before it none is left in all of them
-  pub missed_one : {Steps : Type 0} (from : ℕ) (found : Option ℕ) → IfNone found (NonePasses sets from n) → (from < n → NonePasses sets from (64 * length ws) → Steps) → IfNone found (from < n → Steps)
+  pub missed_one : {Steps : Type 0} (from : ℕ) (found : Option ℕ) → IfNone found (NonePasses sets from n)
+      → (from < n → NonePasses sets from (64 * length ws) → Steps) → IfNone found (from < n → Steps)
   unfolding bit_test
   missed_one from (Some p) none cost = tt
-  missed_one from None none cost = λ some. cost some (λ i above below. grind (arith, nat_tests, none i above, clean.tail i))
+  missed_one from None none cost =
+      λ some. cost some (λ i above below. grind (arith, nat_tests, none i above, clean.tail i))

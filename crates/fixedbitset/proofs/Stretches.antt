@@ -11,10 +11,16 @@ use Rattle.fixedbitset.specs.WordsFacts.{has_bit-words}
 module _ (v : Bits) (ws : List ℕ) (is : ws ≡ words v) (n : ℕ) (long : n ≡ v.length) where
   pub runs_of : stretches (is_like true ws) n 0 n ≡ runs v
   unfolding runs
-  runs_of = rw (is, long) (stretches-same (is_like true (words v)) (contains v) v.length 0 v.length (omega arith) (λ i _. has_bit-words v i))
+  runs_of =
+      rw (
+        is,
+        long,
+      ) (stretches-same (is_like true (words v)) (contains v) v.length 0 v.length (omega arith)
+      (λ i _. has_bit-words v i))
 
   pub zero_runs_of : stretches (is_like false ws) n 0 n ≡ zero_runs v
   unfolding runs zero_runs
   zero_runs_of =
-      rw is (stretches-same (is_like false (words v)) (contains (complement v)) n 0 n (omega arith) (λ i below. grind (arith, nat_tests, long, has_bit-words v i, contains-complement v i))
+      rw is (stretches-same (is_like false (words v)) (contains (complement v)) n 0 n (omega arith)
+      (λ i below. grind (arith, nat_tests, long, has_bit-words v i, contains-complement v i))
       ∙ ap (λ m. stretches (contains (complement v)) m 0 m) (long ∙ sym (length-complement v)))

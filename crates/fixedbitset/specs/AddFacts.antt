@@ -1,5 +1,6 @@
 -- The length and the members of sets that positions were added to, for those who call a set.
-use Rattle.std.proofs.Common.{◌≡◌, ℕ, ◌+◌, ◌<◌, ◌≤◌, max, true, ◌||◌, ◌==◌, List, [], ◌∷◌, ◌++◌, Contains, eq-eqb, true≢false, refl, sym, ◌∙◌, arith}
+use Rattle.std.proofs.Common.{◌≡◌, ℕ, ◌+◌, ◌<◌, ◌≤◌, max, true, ◌||◌, ◌==◌, List, [], ◌∷◌}
+use Rattle.std.proofs.Common.{◌++◌, Contains, eq-eqb, true≢false, refl, sym, ◌∙◌, arith}
 use Rattle.std.specs.List.{list_any}
 use Rattle.std.specs.Cmp.{nat_cmp_total, unsigned_tied}
 use Rattle.std.specs.FinSet as set
@@ -7,7 +8,8 @@ use Rattle.std.proofs.lemmas.Bool.{or_right}
 use Rattle.std.proofs.lemmas.Bool.Decides.{nat_tests}
 use Rattle.std.proofs.lemmas.List.Folds.{list_any-append, list_any-from_Any}
 use Rattle.fixedbitset.specs.Bits.{Bits, contains, insert, grow, add, length_for, add_all}
-use Rattle.fixedbitset.specs.BitsFacts.{length-pair, contains-pair, contains_below, same_bits, length-insert, contains-insert, length-grow, contains-grow}
+use Rattle.fixedbitset.specs.BitsFacts.{length-pair, contains-pair, contains_below, same_bits}
+use Rattle.fixedbitset.specs.BitsFacts.{length-insert, contains-insert, length-grow, contains-grow}
 
 -- ---- one position
 
@@ -17,12 +19,14 @@ length-add v bit = length-pair _ _
 
 pub contains-add : (v : Bits) (bit p : ℕ) → contains (add v bit) p ≡ (p == bit || contains v p)
 unfolding add contains
-contains-add v bit p = contains-pair _ _ p ∙ rw (set.contains-insert nat_cmp_total, unsigned_tied) (grind (arith, nat_tests, contains_below v p))
+contains-add v bit p = contains-pair _ _ p
+    ∙ rw (set.contains-insert nat_cmp_total, unsigned_tied) (grind (arith, nat_tests, contains_below v p))
 
 -- below the length nothing grows
 pub add-insert : (v : Bits) (bit : ℕ) → bit < v.length → add v bit ≡ insert v bit
 add-insert v bit inside =
-    same_bits _ _ (omega (arith, length-add, length-insert)) (λ p. grind (arith, nat_tests, contains-add, contains-insert, contains_below v p))
+    same_bits _ _ (omega (arith, length-add, length-insert))
+    (λ p. grind (arith, nat_tests, contains-add, contains-insert, contains_below v p))
 
 -- growing to the position and setting it
 pub insert-grow : (v : Bits) (bit : ℕ) → insert (grow v (bit + 1)) bit ≡ add v bit
@@ -47,7 +51,8 @@ pub length-add_all : (v : Bits) (items : List ℕ) → (add_all v items).length 
 unfolding add_all
 length-add_all v items = length-pair _ _
 
-pub contains-add_all : (v : Bits) (items : List ℕ) (p : ℕ) → contains (add_all v items) p ≡ (contains v p || list_any (λ item. item == p) items)
+pub contains-add_all : (v : Bits) (items : List ℕ) (p : ℕ)
+    → contains (add_all v items) p ≡ (contains v p || list_any (λ item. item == p) items)
 unfolding add_all contains
 contains-add_all v items p =
     contains-pair _ _ p
@@ -60,7 +65,8 @@ contains-item v items p (k, inside, is) =
     contains-add_all v items p
     ∙ or_right (contains v p) _ (list_any-from_Any (λ item. item == p) items (k, p, inside, is, eq-eqb p p refl))
 
-pub length_for-last : (n : ℕ) (items : List ℕ) (item : ℕ) → length_for n (items ++ item ∷ []) ≡ max (length_for n items) (item + 1)
+pub length_for-last : (n : ℕ) (items : List ℕ) (item : ℕ)
+    → length_for n (items ++ item ∷ []) ≡ max (length_for n items) (item + 1)
 unfolding length_for
 length_for-last n [] item = omega arith
 length_for-last n (x ∷ items) item = omega (arith, length_for-last n items item)
@@ -77,4 +83,14 @@ add_all-last v items item =
     (λ p. grind (arith, nat_tests, contains-add_all, contains-add, list_any-append (λ x. x == p) items (item ∷ [])))
 
 -- what a caller needs of positions that are added
-pub ruleset additions = (length-add, contains-add, add-insert, insert-grow, length-add_all, contains-add_all, contains-item, add_all-nil, add_all-last)
+pub ruleset additions = (
+  length-add,
+  contains-add,
+  add-insert,
+  insert-grow,
+  length-add_all,
+  contains-add_all,
+  contains-item,
+  add_all-nil,
+  add_all-last,
+)

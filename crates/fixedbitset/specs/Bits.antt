@@ -1,5 +1,6 @@
 -- The value of a set of bits: a length and a set of positions below it, its words, and what each call makes of it.
-use Rattle.std.specs.Prelude.{ℕ, ◌+◌, ◌-◌, ◌*◌, ◌^◌, max, Bool, not, ◌&&◌, ◌==◌, nat_lt, nat_le, IsTrue, if◌then◌else◌, Option, List, [], ◌∷◌, map, filter, sum_by, slice_get, slice_set}
+use Rattle.std.specs.Prelude.{ℕ, ◌+◌, ◌-◌, ◌*◌, ◌^◌, max, Bool, not, ◌&&◌, ◌==◌, nat_lt, nat_le, IsTrue}
+use Rattle.std.specs.Prelude.{if◌then◌else◌, Option, List, [], ◌∷◌, map, filter, sum_by, slice_get, slice_set}
 use Rattle.std.specs.declared.option.Option.TheVariants.{None}
 use Rattle.std.specs.Ordering.{nat_cmp}
 use Rattle.std.specs.List.{range_with_len, last_or}
@@ -97,7 +98,8 @@ maximum v = last_or None (asc v)
 
 -- the sum of 2 ^ (p - start) over the positions p with start ≤ p < start + width
 unfoldable pub number_at : Bits → ℕ → ℕ → ℕ
-number_at v start width = sum_by (λ p. 2 ^ (p - start)) (filter (λ p. nat_le start p && nat_lt p (start + width)) (asc v))
+number_at v start width =
+    sum_by (λ p. 2 ^ (p - start)) (filter (λ p. nat_le start p && nat_lt p (start + width)) (asc v))
 
 -- word k: the sum of 2 ^ (p - 64 k) over the positions p with 64 k ≤ p < 64 k + 64
 abbrev pub word : Bits → ℕ → ℕ

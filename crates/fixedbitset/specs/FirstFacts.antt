@@ -19,7 +19,8 @@ is_none (x ∷ xs) e = cc
 -- ---- over the positions that are set
 
 -- the first item is set, and no position that is set is less
-pub first_item : (v : Bits) (p : ℕ) (others : List ℕ) → asc v ≡ p ∷ others → IsTrue (contains v p) × ((q : ℕ) → IsTrue (contains v q) → p ≤ q)
+pub first_item : (v : Bits) (p : ℕ) (others : List ℕ) → asc v ≡ p ∷ others
+    → IsTrue (contains v p) × ((q : ℕ) → IsTrue (contains v q) → p ≤ q)
 unfolding asc
 first_item v p others same =
     let next = (step_of (contains v) 0 v.length p others same).0 in
@@ -33,7 +34,8 @@ no_item v same q = false_from_ne_true _ (λ one. let h = rw same at (item_of v q
 -- ---- the least position
 
 -- it is set, and no position that is set is less
-pub minimum_least : (v : Bits) (p : ℕ) → minimum v ≡ Some p → IsTrue (contains v p) × ((q : ℕ) → IsTrue (contains v q) → p ≤ q)
+pub minimum_least : (v : Bits) (p : ℕ) → minimum v ≡ Some p
+    → IsTrue (contains v p) × ((q : ℕ) → IsTrue (contains v q) → p ≤ q)
 unfolding minimum
 minimum_least v p e = let found = begins (asc v) p e in first_item v p found.0 found.1
 
@@ -49,8 +51,11 @@ pub first_zero : (v : Bits) (p : ℕ) (others : List ℕ) → asc (complement v)
     → (p < v.length) × (contains v p ≡ false) × ((q : ℕ) → q < v.length → contains v q ≡ false → p ≤ q)
 first_zero v p others same =
     let first = first_item (complement v) p others same in
-    let zero = contains-complement v in
-    (grind (arith, nat_tests, zero p, first.0), grind (arith, zero p, first.0), λ q below clear. first.1 q (grind (arith, nat_tests, zero q)))
+    let zero = contains-complement v in (
+      grind (arith, nat_tests, zero p, first.0),
+      grind (arith, zero p, first.0),
+      λ q below clear. first.1 q (grind (arith, nat_tests, zero q)),
+    )
 
 -- where there is no item, each position below the length is set
 pub no_zero : (v : Bits) → asc (complement v) ≡ [] → (q : ℕ) → q < v.length → IsTrue (contains v q)

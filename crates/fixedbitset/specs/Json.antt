@@ -7,7 +7,8 @@ use Rattle.bitjson.specs.Form.{form, object_of, ◌>>=◌}
 use Rattle.bitjson.specs.declared.fault.JsonFault.{JsonFault}
 use Rattle.fixedbitset.specs.Bits.{Bits, having, number_at, words_needed}
 
--- length n, and the positions p below it for which bit p mod 8 of byte p / 8 is set (past the last byte `slice_index` is 0)
+-- length n, and the positions p below it for which bit p mod 8 of byte p / 8 is
+-- set (past the last byte `slice_index` is 0)
 unfoldable pub of_bytes : ℕ → List ℕ → Bits
 of_bytes n bs = having n (λ p. bit (slice_index bs (p / 8)) (p % 8))
 
@@ -33,4 +34,7 @@ written v = object_of v.length (bytes v)
 
 -- its text without spaces
 unfoldable pub json_text : Bits → List ℕ
-json_text v = codes "{\"data\":[" ++ (join_with_byte 44 (map decimal (bytes v)) ++ (codes "],\"length\":" ++ (decimal v.length ++ codes "}")))
+json_text v =
+    codes
+    "{\"data\":["
+    ++ (join_with_byte 44 (map decimal (bytes v)) ++ (codes "],\"length\":" ++ (decimal v.length ++ codes "}")))

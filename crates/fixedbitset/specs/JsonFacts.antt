@@ -1,5 +1,6 @@
 -- What is written of a set is in the form and means that set, and its text, for those who read and write sets.
-use Rattle.std.proofs.Common.{decimal, true, append_assoc, ◌≡◌, ℕ, ◌+◌, ◌*◌, ◌/◌, ◌%◌, ◌<◌, false, List, [], ◌∷◌, ◌++◌, map, get_or, Ok, refl, ap, ◌∙◌, arith}
+use Rattle.std.proofs.Common.{decimal, true, append_assoc, ◌≡◌, ℕ, ◌+◌, ◌*◌, ◌/◌, ◌%◌, ◌<◌}
+use Rattle.std.proofs.Common.{false, List, [], ◌∷◌, ◌++◌, map, get_or, Ok, refl, ap, ◌∙◌, arith}
 use Rattle.std.specs.List.{join_with_byte}
 use Rattle.std.proofs.lemmas.Bool.Decides.{nat_tests}
 use Rattle.std.proofs.lemmas.List.{get_or_past}
@@ -24,7 +25,13 @@ get_or-bytes v j h = get_or-map-range_with_len (byte v) 0 (8 * words_needed v.le
 pub bytes-lt : (v : Bits) (j : ℕ) → get_or (bytes v) j 0 < 256
 unfolding bytes
 bytes-lt v j =
-    grind (arith, get_or-bytes v j, number_at-lt v (8 * j) 8, get_or_past (bytes v) j 0, length-map-range_with_len (byte v) 0 (8 * words_needed v.length))
+    grind (
+      arith,
+      get_or-bytes v j,
+      number_at-lt v (8 * j) 8,
+      get_or_past (bytes v) j 0,
+      length-map-range_with_len (byte v) 0 (8 * words_needed v.length),
+    )
 
 -- the bytes of a value mean that value
 pub of_bytes-bytes : (v : Bits) → of_bytes v.length (bytes v) ≡ v
@@ -32,7 +39,8 @@ unfolding of_bytes
 of_bytes-bytes v = same_bits (of_bytes v.length (bytes v)) v (length-having _ _) (λ p.
     let at : 8 * (p / 8) + p % 8 ≡ p = omega arith in
     contains-having v.length _ p
-    ∙ grind (arith, nat_tests, at, get_or-bytes v (p / 8), bit_at-number_at v (8 * (p / 8)) 8 (p % 8), contains_below v p))
+    ∙ grind
+    (arith, nat_tests, at, get_or-bytes v (p / 8), bit_at-number_at v (8 * (p / 8)) 8 (p % 8), contains_below v p))
 
 -- ---- what is written
 
@@ -53,7 +61,8 @@ has_float-written v = has_float-object_of v.length (bytes v)
 
 -- ---- its text
 
-later_text : (b : ℕ) (bs : List ℕ) → items_text true (items_of (numbers (b ∷ bs))) ≡ 44 ∷ (join_with_byte 44 (map decimal (b ∷ bs)) ++ 93 ∷ [])
+later_text : (b : ℕ) (bs : List ℕ)
+    → items_text true (items_of (numbers (b ∷ bs))) ≡ 44 ∷ (join_with_byte 44 (map decimal (b ∷ bs)) ++ 93 ∷ [])
 later_text b [] = refl
 later_text b (c ∷ bs) = rw (later_text c bs, append_assoc)
 

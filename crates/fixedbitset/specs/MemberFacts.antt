@@ -9,8 +9,10 @@ use Rattle.fixedbitset.specs.BitsFacts.{contains_below, same_bits, contains-empt
 use Rattle.fixedbitset.specs.Numbers.{numbers_below, contains-numbers_below}
 use Rattle.fixedbitset.specs.Ranges.{insert_range, remove_range, toggle_range}
 use Rattle.fixedbitset.specs.RangesFacts.{contains-insert_range, contains-remove_range, contains-toggle_range}
-use Rattle.fixedbitset.specs.TwoSets.{union, intersection, difference, bitand, is_subset, is_disjoint, intersection_count}
-use Rattle.fixedbitset.specs.TwoSetsFacts.{contains-union, contains-intersection, contains-difference, contains-bitand, is_subset-tells}
+use Rattle.fixedbitset.specs.TwoSets.{union, intersection, difference, bitand}
+use Rattle.fixedbitset.specs.TwoSets.{is_subset, is_disjoint, intersection_count}
+use Rattle.fixedbitset.specs.TwoSetsFacts.{contains-union, contains-intersection}
+use Rattle.fixedbitset.specs.TwoSetsFacts.{contains-difference, contains-bitand, is_subset-tells}
 use Rattle.fixedbitset.specs.WalkFacts.{contains_item, item_of}
 
 -- ---- single positions
@@ -19,7 +21,8 @@ pub in_empty : (n p : ℕ) → ¬ (IsTrue (contains (empty n) p))
 in_empty n p one = grind (arith, contains-empty)
 
 -- where the position may be set, it and those before are
-pub in_insert : (v : Bits) (bit p : ℕ) → bit < v.length → IsTrue (contains (insert v bit) p) ↔ ((p ≡ bit) ⊎ IsTrue (contains v p))
+pub in_insert : (v : Bits) (bit p : ℕ) → bit < v.length
+    → IsTrue (contains (insert v bit) p) ↔ ((p ≡ bit) ⊎ IsTrue (contains v p))
 in_insert v bit p below = grind (arith, nat_tests, contains-insert, contains_below)
 
 pub in_remove : (v : Bits) (bit p : ℕ) → IsTrue (contains (remove v bit) p) ↔ ((p ≢ bit) × IsTrue (contains v p))
@@ -40,7 +43,8 @@ in_remove_range v start end p = grind (arith, nat_tests, contains-remove_range)
 -- where the range ends with the set or before: those that were, but for the range, and those of the range that were not
 pub in_toggle_range : (v : Bits) (start end p : ℕ) → end ≤ v.length
     → IsTrue (contains (toggle_range v start end) p)
-    ↔ ((IsTrue (contains v p) × (¬ ((start ≤ p) × (p < end)))) ⊎ (((start ≤ p) × (p < end)) × (¬ (IsTrue (contains v p)))))
+    ↔ ((IsTrue (contains v p) × (¬ ((start ≤ p) × (p < end))))
+    ⊎ (((start ≤ p) × (p < end)) × (¬ (IsTrue (contains v p)))))
 in_toggle_range v start end p fits = grind (arith, nat_tests, contains-toggle_range, contains_below)
 
 -- ---- two sets
@@ -48,18 +52,22 @@ in_toggle_range v start end p fits = grind (arith, nat_tests, contains-toggle_ra
 pub in_union : (v w : Bits) (p : ℕ) → IsTrue (contains (union v w) p) ↔ (IsTrue (contains v p) ⊎ IsTrue (contains w p))
 in_union v w p = grind (arith, contains-union)
 
-pub in_intersection : (v w : Bits) (p : ℕ) → IsTrue (contains (intersection v w) p) ↔ (IsTrue (contains v p) × IsTrue (contains w p))
+pub in_intersection : (v w : Bits) (p : ℕ) → IsTrue (contains (intersection v w) p)
+    ↔ (IsTrue (contains v p) × IsTrue (contains w p))
 in_intersection v w p = grind (arith, contains-intersection)
 
-pub in_bitand : (v w : Bits) (p : ℕ) → IsTrue (contains (bitand v w) p) ↔ (IsTrue (contains v p) × IsTrue (contains w p))
+pub in_bitand : (v w : Bits) (p : ℕ)
+    → IsTrue (contains (bitand v w) p) ↔ (IsTrue (contains v p) × IsTrue (contains w p))
 in_bitand v w p = grind (arith, contains-bitand)
 
-pub in_difference : (v w : Bits) (p : ℕ) → IsTrue (contains (difference v w) p) ↔ (IsTrue (contains v p) × (¬ (IsTrue (contains w p))))
+pub in_difference : (v w : Bits) (p : ℕ)
+    → IsTrue (contains (difference v w) p) ↔ (IsTrue (contains v p) × (¬ (IsTrue (contains w p))))
 in_difference v w p = grind (arith, contains-difference)
 
 -- sets of one length are equal if each is a subset of the other
 pub same_subsets : (v w : Bits) → v.length ≡ w.length → IsTrue (is_subset v w) → IsTrue (is_subset w v) → v ≡ w
-same_subsets v w long to from = same_bits v w long (λ p. same_truth _ _ ((is_subset-tells v w).0 to p) ((is_subset-tells w v).0 from p))
+same_subsets v w long to from =
+    same_bits v w long (λ p. same_truth _ _ ((is_subset-tells v w).0 to p) ((is_subset-tells w v).0 from p))
 
 -- sets that are not disjoint have a position in common
 pub common : (v w : Bits) → is_disjoint v w ≡ false → (p : ℕ) × IsTrue (contains v p) × IsTrue (contains w p)
@@ -85,9 +93,24 @@ is_clear-tells v = none_len v.positions
 pub is_full-tells : (v : Bits) → IsTrue (is_full v) ↔ ((p : ℕ) → p < v.length → IsTrue (contains v p))
 unfolding is_full contains
 is_full-tells v = (
-  λ all p below. set.is_subset-contains nat_cmp_total (numbers_below v.length) v.positions all p (grind (arith, nat_tests, contains-numbers_below)),
-  λ all. set.contains-is_subset nat_cmp_total _ _ (λ p one. let low = all p in grind (arith, nat_tests, contains-numbers_below)),
+  λ all p below. set.is_subset-contains nat_cmp_total (numbers_below v.length) v.positions all p
+      (grind (arith, nat_tests, contains-numbers_below)),
+  λ all. set.contains-is_subset nat_cmp_total _ _ (λ p one. let low = all p in
+      grind (arith, nat_tests, contains-numbers_below)),
 )
 
 -- what a caller needs of the positions that a change or a join leaves; those of ranges are named one by one
-pub ruleset members = (in_empty, in_insert, in_remove, in_union, in_intersection, in_bitand, in_difference, same_subsets, common, in_asc, is_clear-tells, is_full-tells)
+pub ruleset members = (
+  in_empty,
+  in_insert,
+  in_remove,
+  in_union,
+  in_intersection,
+  in_bitand,
+  in_difference,
+  same_subsets,
+  common,
+  in_asc,
+  is_clear-tells,
+  is_full-tells,
+)

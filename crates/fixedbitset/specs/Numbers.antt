@@ -26,9 +26,12 @@ symmetric_difference s t = set.union (set.difference s t) (set.difference t s)
 pub contains-numbers_below : (n q : ℕ) → set.contains (numbers_below n) q ≡ nat_lt q n
 unfolding numbers_below
 contains-numbers_below zero q = set.contains-empty nat_cmp q ∙ grind (arith, nat_tests)
-contains-numbers_below (suc n) q = set.contains-insert nat_cmp_total (numbers_below n) n q ∙ rw (unsigned_tied, contains-numbers_below n q) (grind (arith, nat_tests))
+contains-numbers_below (suc n) q = set.contains-insert nat_cmp_total (numbers_below n) n q
+    ∙ rw (unsigned_tied, contains-numbers_below n q) (grind (arith, nat_tests))
 
 -- what is kept of a set below n is below n
-pub kept_below : (n : ℕ) (s : FinSet nat_cmp) → IsTrue (set.is_subset (set.intersection s (numbers_below n)) (numbers_below n))
+pub kept_below : (n : ℕ) (s : FinSet nat_cmp)
+    → IsTrue (set.is_subset (set.intersection s (numbers_below n)) (numbers_below n))
 kept_below n s =
-    set.contains-is_subset nat_cmp_total _ _ (λ q one. (and_parts _ _ (sym (set.contains-intersection nat_cmp_total s (numbers_below n) q) ∙ one)).1)
+    set.contains-is_subset nat_cmp_total _ _
+    (λ q one. (and_parts _ _ (sym (set.contains-intersection nat_cmp_total s (numbers_below n) q) ∙ one)).1)

@@ -1,9 +1,12 @@
 -- Equality and the order of values, for those who call `==` or `cmp`, or a map whose keys are sets.
-use Rattle.std.proofs.Common.{Ordering, Less, Equal, Greater, nat_cmp, is_eq, Some, get_or-take, pow-suc, ◌≡◌, ℕ, zero, suc, ◌+◌, ◌-◌, ◌*◌, ◌/◌, ◌%◌, ◌^◌, ◌<◌, ◌≤◌, inl, inr, ⊎_elim, true, List, [], ◌∷◌, length, get_or, take, ◌==◌, IsTrue, ◌↔◌, refl, sym, ◌∙◌, ap, arith}
+use Rattle.std.proofs.Common.{Ordering, Less, Equal, Greater, nat_cmp, is_eq, Some, get_or-take, pow-suc, ◌≡◌}
+use Rattle.std.proofs.Common.{ℕ, zero, suc, ◌+◌, ◌-◌, ◌*◌, ◌/◌, ◌%◌, ◌^◌, ◌<◌, ◌≤◌, inl, inr, ⊎_elim, true}
+use Rattle.std.proofs.Common.{List, [], ◌∷◌, length, get_or, take, ◌==◌, IsTrue, ◌↔◌, refl, sym, ◌∙◌, ap, arith}
 use Rattle.std.specs.Ordering.{ordering_then, ordering_reverse, MatchOrdering}
 use Rattle.std.specs.Int.{bit_at}
 use Rattle.std.specs.Cmp.{IsEquivalence, IsTotalOrder, IsPartialOrder, on_equiv, on_total, on_po}
-use Rattle.std.specs.Cmp.Lexicographic.{slice_cmp, same_text, texts_ties, texts_po, bytes_decides, nat_list_eq_equiv, nat_list_cmp_total}
+use Rattle.std.specs.Cmp.Lexicographic.{slice_cmp, same_text, texts_ties, texts_po}
+use Rattle.std.specs.Cmp.Lexicographic.{bytes_decides, nat_list_eq_equiv, nat_list_cmp_total}
 use Rattle.std.proofs.lemmas.Bool.{cases_lt}
 use Rattle.std.proofs.lemmas.Bool.Decides.{nat_tests}
 use Rattle.std.proofs.lemmas.Cmp.{ranked}
@@ -36,17 +39,23 @@ top_bit (suc w) x y fits h =
       record {
         clear = bit_at-suc x t.0 ∙ t.2.clear;
         one = bit_at-suc y t.0 ∙ t.2.one;
-        above = λ j up. later_bit x j (omega arith) ∙ t.2.above (j - 1) (omega arith) ∙ sym (later_bit y j (omega arith));
+        above =
+            λ j up. later_bit x j (omega arith) ∙ t.2.above (j - 1) (omega arith) ∙ sym (later_bit y j (omega arith));
       },
     ))
     (λ (ge : y / 2 ≤ x / 2).
     let same : x / 2 ≡ y / 2 = omega arith in
-    let lowest : (bit_at x 0 ≡ 0) × (bit_at y 0 ≡ 1) = (bit_at_lowest x ∙ omega arith, bit_at_lowest y ∙ omega arith) in
-    (0, omega arith, record { clear = lowest.0; one = lowest.1; above = λ j up. cc (later_bit x j up, later_bit y j up) }))
+    let lowest : (bit_at x 0 ≡ 0)
+    × (bit_at y 0 ≡ 1) = (bit_at_lowest x ∙ omega arith, bit_at_lowest y ∙ omega arith) in (
+      0,
+      omega arith,
+      record { clear = lowest.0; one = lowest.1; above = λ j up. cc (later_bit x j up, later_bit y j up) },
+    ))
     (cases_lt (x / 2) (y / 2))
 
 -- where the first list comes first there is a first item that is less
-first_less : (xs ys : List ℕ) → length xs ≡ length ys → slice_cmp nat_cmp xs ys ≡ Less → (k : ℕ) × (get_or xs k 0 < get_or ys k 0) × (take k xs ≡ take k ys)
+first_less : (xs ys : List ℕ) → length xs ≡ length ys → slice_cmp nat_cmp xs ys ≡ Less
+    → (k : ℕ) × (get_or xs k 0 < get_or ys k 0) × (take k xs ≡ take k ys)
 first_less [] [] e h = cc
 first_less [] (y ∷ ys) e h = absurd (omega arith)
 first_less (x ∷ xs) [] e h = absurd (omega arith)
@@ -65,16 +74,19 @@ contains-word v k i low = sym (has_bit-words v (64 * k + i)) ∙ has_bit-at (wor
 
 same_position : (v w : Bits) (k i p : ℕ) → i < 64 → 64 * k + i ≡ p
     → bit_at (get_or (words v) k 0) i ≡ bit_at (get_or (words w) k 0) i → contains v p ≡ contains w p
-same_position v w k i p low at e = rw (← at) (contains-word v k i low ∙ ap (λ b. b == 1) e ∙ sym (contains-word w k i low))
+same_position v w k i p low at e =
+    rw (← at) (contains-word v k i low ∙ ap (λ b. b == 1) e ∙ sym (contains-word w k i low))
 
 -- where the words before word k are the same, so are their positions
 agree_before : (v w : Bits) (k p : ℕ) → take k (words v) ≡ take k (words w) → p / 64 < k → contains v p ≡ contains w p
 agree_before v w k p agree j =
-    let same = sym (get_or-take k (words v) (p / 64) 0 j) ∙ ap (λ ws. get_or ws (p / 64) 0) agree ∙ get_or-take k (words w) (p / 64) 0 j in
+    let same = sym (get_or-take k (words v) (p / 64) 0 j) ∙ ap (λ ws. get_or ws (p / 64) 0) agree
+    ∙ get_or-take k (words w) (p / 64) 0 j in
     same_position v w (p / 64) (p % 64) p (omega arith) (omega arith) (ap (λ x. bit_at x (p % 64)) same)
 
 -- where the first words that differ are word k, and w's is greater, w leads
-leads_at : (v w : Bits) (k : ℕ) → get_or (words v) k 0 < get_or (words w) k 0 → take k (words v) ≡ take k (words w) → Leads w v
+leads_at : (v w : Bits) (k : ℕ) → get_or (words v) k 0 < get_or (words w) k 0 → take k (words v) ≡ take k (words w)
+    → Leads w v
 leads_at v w k less agree =
     let t = top_bit 64 (get_or (words v) k 0) (get_or (words w) k 0) (are_words w k) less in
     let i = t.0 in
@@ -86,12 +98,14 @@ leads_at v w k less agree =
           ⊎_elim
           (λ (earlier : p / 64 < (64 * k + i) / 64). agree_before v w k p agree (omega arith))
           (λ (up : (p / 64 ≡ (64 * k + i) / 64) × (64 * k + i < p)).
-          same_position v w k (p - 64 * k) p (omega (arith, up)) (omega (arith, up)) (t.2.above (p - 64 * k) (omega (arith, up)))),
+          same_position v w k (p - 64 * k) p (omega (arith, up)) (omega (arith, up))
+          (t.2.above (p - 64 * k) (omega (arith, up)))),
     )
 
 -- of two values of one length, that whose words come later leads
 leads_by_words : (v w : Bits) → v.length ≡ w.length → slice_cmp nat_cmp (words v) (words w) ≡ Less → Leads w v
-leads_by_words v w e h = let f = first_less (words v) (words w) (omega (arith, length-words v, length-words w)) h in leads_at v w f.0 f.1 f.2
+leads_by_words v w e h =
+    let f = first_less (words v) (words w) (omega (arith, length-words v, length-words w)) h in leads_at v w f.0 f.1 f.2
 
 equal_words : (xs ys : List ℕ) → slice_cmp nat_cmp xs ys ≡ Equal → xs ≡ ys
 equal_words xs ys e = same_text xs ys (sym (texts_ties xs ys ∙ ap is_eq e))
@@ -123,15 +137,21 @@ same_if_tied v w e = same_if_equal v w (compare_ties v w ∙ ap is_eq e)
 pub ordered : (v w : Bits) (o : Ordering) → o ≡ compare v w → MatchOrdering o (IsBelow v w) (v ≡ w) (IsBelow w v)
 unfolding compare key
 ordered v w o e =
-    rw e (go (nat_cmp v.length w.length) (slice_cmp nat_cmp (words v) (words w)) (ranked v.length w.length (nat_cmp v.length w.length) refl) refl)
+    rw e (go (nat_cmp v.length w.length) (slice_cmp nat_cmp (words v) (words w))
+    (ranked v.length w.length (nat_cmp v.length w.length) refl) refl)
   where
     go : (s o : Ordering) → MatchOrdering s (v.length < w.length) (v.length ≡ w.length) (w.length < v.length)
-        → slice_cmp nat_cmp (words v) (words w) ≡ o → MatchOrdering (ordering_then s o) (IsBelow v w) (v ≡ w) (IsBelow w v)
+        → slice_cmp nat_cmp (words v) (words w) ≡ o
+        → MatchOrdering (ordering_then s o) (IsBelow v w) (v ≡ w) (IsBelow w v)
     go Less o lt e = inl lt
     go Greater o gt e = inl gt
     go Equal Less long e = inr (long, leads_by_words v w long e)
     go Equal Equal long e = cc (of_words-words v, of_words-words w, equal_words (words v) (words w) e)
-    go Equal Greater long e = inr (sym long, leads_by_words w v (sym long) (nat_list_cmp_total.antisymm (words w) (words v) ∙ ap ordering_reverse e))
+    go Equal Greater long e =
+        inr (
+          sym long,
+          leads_by_words w v (sym long) (nat_list_cmp_total.antisymm (words w) (words v) ∙ ap ordering_reverse e),
+        )
 
 -- ---- the laws that the traits ask for
 

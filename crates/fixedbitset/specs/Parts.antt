@@ -21,7 +21,8 @@ slice v start end = having (end - start) (λ p. contains v (start + p))
 
 -- v, with the positions of w from start up to and without end written over those from `at` on
 unfoldable pub copy_range : Bits → Bits → (start end at : ℕ) → Bits
-copy_range v w start end at = having v.length (λ p. if in_range at (at + (end - start)) p then contains w (start + (p - at)) else contains v p)
+copy_range v w start end at =
+    having v.length (λ p. if in_range at (at + (end - start)) p then contains w (start + (p - at)) else contains v p)
 
 -- the positions of v, and behind them those of w; the lengths are added
 unfoldable pub append : Bits → Bits → Bits

@@ -4,13 +4,15 @@ use Rattle.bitwords.specs.Rows.{in_range}
 use Rattle.fixedbitset.specs.Bits.{Bits, contains}
 use Rattle.fixedbitset.specs.BitsFacts.{length-pair, contains-pair}
 use Rattle.fixedbitset.specs.WordsFacts.{length-having, contains-having}
-use Rattle.fixedbitset.specs.Parts.{shift_up, shift_down, union_with_shifted, slice, copy_range, append, truncate, resize}
+use Rattle.fixedbitset.specs.Parts.{shift_up, shift_down, union_with_shifted}
+use Rattle.fixedbitset.specs.Parts.{slice, copy_range, append, truncate, resize}
 
 pub length-shift_up : (v : Bits) (by : ℕ) → (shift_up v by).length ≡ v.length
 unfolding shift_up
 length-shift_up v by = length-having _ _
 
-pub contains-shift_up : (v : Bits) (by p : ℕ) → contains (shift_up v by) p ≡ ((nat_le by p && contains v (p - by)) && nat_lt p v.length)
+pub contains-shift_up : (v : Bits) (by p : ℕ)
+    → contains (shift_up v by) p ≡ ((nat_le by p && contains v (p - by)) && nat_lt p v.length)
 unfolding shift_up
 contains-shift_up v by p = contains-having _ _ p
 
@@ -18,7 +20,8 @@ pub length-shift_down : (v : Bits) (by : ℕ) → (shift_down v by).length ≡ v
 unfolding shift_down
 length-shift_down v by = length-having _ _
 
-pub contains-shift_down : (v : Bits) (by p : ℕ) → contains (shift_down v by) p ≡ (contains v (p + by) && nat_lt p v.length)
+pub contains-shift_down : (v : Bits) (by p : ℕ)
+    → contains (shift_down v by) p ≡ (contains v (p + by) && nat_lt p v.length)
 unfolding shift_down
 contains-shift_down v by p = contains-having _ _ p
 
@@ -26,7 +29,8 @@ pub length-union_with_shifted : (v w : Bits) (by : ℕ) → (union_with_shifted 
 unfolding union_with_shifted
 length-union_with_shifted v w by = length-having _ _
 
-pub contains-union_with_shifted : (v w : Bits) (by p : ℕ) → contains (union_with_shifted v w by) p ≡ ((contains v p || (nat_le by p && contains w (p - by))) && nat_lt p v.length)
+pub contains-union_with_shifted : (v w : Bits) (by p : ℕ) → contains (union_with_shifted v w by) p
+    ≡ ((contains v p || (nat_le by p && contains w (p - by))) && nat_lt p v.length)
 unfolding union_with_shifted
 contains-union_with_shifted v w by p = contains-having _ _ p
 
@@ -34,7 +38,8 @@ pub length-slice : (v : Bits) (start end : ℕ) → (slice v start end).length �
 unfolding slice
 length-slice v start end = length-having _ _
 
-pub contains-slice : (v : Bits) (start end p : ℕ) → contains (slice v start end) p ≡ (contains v (start + p) && nat_lt p (end - start))
+pub contains-slice : (v : Bits) (start end p : ℕ)
+    → contains (slice v start end) p ≡ (contains v (start + p) && nat_lt p (end - start))
 unfolding slice
 contains-slice v start end p = contains-having _ _ p
 
@@ -42,7 +47,10 @@ pub length-copy_range : (v w : Bits) (start end at : ℕ) → (copy_range v w st
 unfolding copy_range
 length-copy_range v w start end at = length-having _ _
 
-pub contains-copy_range : (v w : Bits) (start end at p : ℕ) → contains (copy_range v w start end at) p ≡ ((if in_range at (at + (end - start)) p then contains w (start + (p - at)) else contains v p) && nat_lt p v.length)
+pub contains-copy_range : (v w : Bits) (start end at p : ℕ)
+    → contains (copy_range v w start end at) p
+    ≡ ((if in_range at (at + (end - start)) p then contains w (start + (p - at)) else contains v p)
+    && nat_lt p v.length)
 unfolding copy_range
 contains-copy_range v w start end at p = contains-having _ _ p
 
@@ -50,7 +58,9 @@ pub length-append : (v w : Bits) → (append v w).length ≡ v.length + w.length
 unfolding append
 length-append v w = length-having _ _
 
-pub contains-append : (v w : Bits) (p : ℕ) → contains (append v w) p ≡ ((contains v p || (nat_le v.length p && contains w (p - v.length))) && nat_lt p (v.length + w.length))
+pub contains-append : (v w : Bits) (p : ℕ)
+    → contains (append v w) p
+    ≡ ((contains v p || (nat_le v.length p && contains w (p - v.length))) && nat_lt p (v.length + w.length))
 unfolding append
 contains-append v w p = contains-having _ _ p
 
@@ -66,6 +76,7 @@ pub length-resize : (v : Bits) (n : ℕ) (enabled : Bool) → (resize v n enable
 unfolding resize
 length-resize v n enabled = length-having _ _
 
-pub contains-resize : (v : Bits) (n : ℕ) (enabled : Bool) (p : ℕ) → contains (resize v n enabled) p ≡ ((contains v p || (enabled && nat_le v.length p)) && nat_lt p n)
+pub contains-resize : (v : Bits) (n : ℕ) (enabled : Bool) (p : ℕ)
+    → contains (resize v n enabled) p ≡ ((contains v p || (enabled && nat_le v.length p)) && nat_lt p n)
 unfolding resize
 contains-resize v n enabled p = contains-having _ _ p

@@ -1,4 +1,5 @@
--- The stretches of a value: positions that follow each other without a gap, as start and end. The end is the first behind.
+-- The stretches of a value: positions that follow each other without a gap, as
+-- start and end. The end is the first behind.
 use Rattle.std.specs.Prelude.{ℕ, ◌+◌, ◌-◌, Bool, not, ◌&&◌, nat_le, Option, List, slice_get}
 use Rattle.bitwords.specs.Ascending.{ascending}
 use Rattle.bitwords.specs.Gaps.{is_multiple}
@@ -17,7 +18,8 @@ first_gap v count from = slice_get (ascending (has_room v count) from (v.length 
 -- the least multiple of `align` at or past `start` with `count` such positions below `end`
 unfoldable pub first_aligned_gap : (count align : ℕ) → Bits → (start end : ℕ) → Option ℕ
 first_aligned_gap count align v start end =
-    slice_get (ascending (λ p. is_multiple align p && (nat_le (p + count) end && has_room v count p)) start (end + 1 - start)) 0
+    slice_get (ascending (λ p. is_multiple align p && (nat_le (p + count) end && has_room v count p)) start
+    (end + 1 - start)) 0
 
 -- of positions that are set, in ascending order
 unfoldable pub runs : Bits → List (ℕ × ℕ)

@@ -1,5 +1,7 @@
 -- What the walks over the positions give, for those who call them.
-use Rattle.std.proofs.Common.{IsTrue, ◌↔◌, ◌≡◌, ℕ, zero, suc, ◌+◌, ◌-◌, ◌<◌, ◌≤◌, Bool, true, false, cond, List, ◌∷◌, [], length, Contains, true≢false, refl, ◌⊎◌, ⊎_elim, inl, inr, arith, get_or, sym, ap, subst}
+use Rattle.std.proofs.Common.{IsTrue, ◌↔◌, ◌≡◌, ℕ, zero, suc, ◌+◌, ◌-◌, ◌<◌, ◌≤◌, Bool, true}
+use Rattle.std.proofs.Common.{false, cond, List, ◌∷◌, [], length, Contains, true≢false, refl}
+use Rattle.std.proofs.Common.{◌⊎◌, ⊎_elim, inl, inr, arith, get_or, sym, ap, subst}
 use Rattle.std.specs.List.{range_with_len}
 use Rattle.std.proofs.lemmas.Bool.{cases_Bool}
 use Rattle.std.proofs.lemmas.Bool.Decides.{nat_tests}
@@ -19,7 +21,8 @@ length-asc v = length-ascending (contains v) 0 v.length
 -- each item is a position of the set
 pub contains_item : (v : Bits) (k d : ℕ) → k < length (asc v) → contains v (get_or (asc v) k d) ≡ true
 unfolding asc
-contains_item v k d within = All-get_or (λ p. contains v p ≡ true) (asc v) k d within (filter_passes (contains v) (range_with_len 0 v.length))
+contains_item v k d within =
+    All-get_or (λ p. contains v p ≡ true) (asc v) k d within (filter_passes (contains v) (range_with_len 0 v.length))
 
 -- and below the length
 pub item_below : (v : Bits) (k d : ℕ) → k < length (asc v) → get_or (asc v) k d < v.length
@@ -28,16 +31,22 @@ item_below v k d within = contains_below v _ (contains_item v k d within)
 -- ---- each position is an item
 
 -- one number in front or none: it is that number, or one of the others
-one_more : (b : Bool) (x p : ℕ) (xs : List ℕ) → Contains (cond b (x ∷ xs) xs) p ↔ (((b ≡ true) × (x ≡ p)) ⊎ Contains xs p)
-one_more false x p xs = (λ member. inr member, λ other. ⊎_elim (λ here. absurd (true≢false (sym here.0))) (λ member. member) other)
-one_more true x p xs = (first_or_later, λ other. ⊎_elim (λ here. (0, omega arith, here.1)) (λ later. (suc later.0, omega (arith, later.1), later.2)) other)
+one_more : (b : Bool) (x p : ℕ) (xs : List ℕ)
+    → Contains (cond b (x ∷ xs) xs) p ↔ (((b ≡ true) × (x ≡ p)) ⊎ Contains xs p)
+one_more false x p xs =
+    (λ member. inr member, λ other. ⊎_elim (λ here. absurd (true≢false (sym here.0))) (λ member. member) other)
+one_more true x p xs = (
+  first_or_later,
+  λ other. ⊎_elim (λ here. (0, omega arith, here.1)) (λ later. (suc later.0, omega (arith, later.1), later.2)) other,
+)
   where
     first_or_later : Contains (x ∷ xs) p → ((true ≡ true) × (x ≡ p)) ⊎ Contains xs p
     first_or_later (zero, within, is) = inl (refl, is)
     first_or_later (suc k, within, is) = inr (k, omega arith, is)
 
 -- the items of an ascending list are those of its numbers that pass
-pub in_ascending : (test : ℕ → Bool) (low n p : ℕ) → Contains (ascending test low n) p ↔ ((test p ≡ true) × (low ≤ p) × (p < low + n))
+pub in_ascending : (test : ℕ → Bool) (low n p : ℕ)
+    → Contains (ascending test low n) p ↔ ((test p ≡ true) × (low ≤ p) × (p < low + n))
 in_ascending test low zero p = (λ member. absurd (omega (arith, member.1)), λ h. absurd (omega (arith, h)))
 in_ascending test low (suc n) p =
     let more = one_more (test low) low p (ascending test (low + 1) n) in
@@ -62,7 +71,8 @@ pub all_left : (v : Bits) (P : ℕ → Type 0) → AreDone v P (asc v)
 all_left v P = record { each = λ p one. inl (item_of v p one) }
 
 -- an item is taken: P may come to hold of more positions, and of this one it does
-pub one_done : (v : Bits) (P Q : ℕ → Type 0) (t : ℕ) (rest : List ℕ) → AreDone v P (t ∷ rest) → ((p : ℕ) → P p → Q p) → Q t → AreDone v Q rest
+pub one_done : (v : Bits) (P Q : ℕ → Type 0) (t : ℕ) (rest : List ℕ) → AreDone v P (t ∷ rest) → ((p : ℕ) → P p → Q p)
+    → Q t → AreDone v Q rest
 one_done v P Q t rest done keeps here = record {
   each = λ p one.
       ⊎_elim
@@ -73,7 +83,8 @@ one_done v P Q t rest done keeps here = record {
 
 -- where none is left, P holds of all
 pub all_done : (v : Bits) (P : ℕ → Type 0) → AreDone v P [] → (p : ℕ) → IsTrue (contains v p) → P p
-all_done v P done p one = ⊎_elim (λ (none : Contains [] p). absurd (omega (arith, none.1))) (λ (holds : P p). holds) (done.each p one)
+all_done v P done p one =
+    ⊎_elim (λ (none : Contains [] p). absurd (omega (arith, none.1))) (λ (holds : P p). holds) (done.each p one)
 
 -- what is left of a walk: the members from `low` on
 abbrev pub left_from : Bits → ℕ → List ℕ
@@ -98,7 +109,12 @@ step_of test low (suc n) t rest same =
     let next = step.0 in
     let none = next.none in
     let many : low + 1 + n ≡ low + suc n = omega arith in (
-      record { after = omega arith; below = omega arith; passes = next.passes; none = λ i from before. let later = none i in grind arith },
+      record {
+        after = omega arith;
+        below = omega arith;
+        passes = next.passes;
+        none = λ i from before. let later = none i in grind arith;
+      },
       rw (← many) step.1,
     ))
     (cases_Bool (test low))
@@ -112,14 +128,19 @@ in_left v low p =
 
 -- an item is a member, none is between, and what is left are the members behind it
 pub walk_step : (v : Bits) (low t : ℕ) (rest : List ℕ) → left_from v low ≡ t ∷ rest
-    → IsTrue (contains v t) × (low ≤ t) × (rest ≡ left_from v (t + 1)) × ((p : ℕ) → Contains rest p ↔ (IsTrue (contains v p) × (t < p)))
+    → IsTrue (contains v t) × (low ≤ t) × (rest ≡ left_from v (t + 1))
+    × ((p : ℕ) → Contains rest p ↔ (IsTrue (contains v p) × (t < p)))
 walk_step v low t rest same =
     let step = step_of (contains v) low (v.length - low) t rest same in
     let next = step.0 in
     let many : low + (v.length - low) - (t + 1) ≡ v.length - (t + 1) = omega arith in
     let left : rest ≡ left_from v (t + 1) = rw (← many) step.1 in
-    let members = in_left v (t + 1) in
-    (next.passes, next.after, left, λ p. rw left (λ member. grind (arith, (members p).0 member), λ both. (members p).1 (grind arith)))
+    let members = in_left v (t + 1) in (
+      next.passes,
+      next.after,
+      left,
+      λ p. rw left (λ member. grind (arith, (members p).0 member), λ both. (members p).1 (grind arith)),
+    )
 
 -- ---- the walk over the zeros
 
@@ -128,11 +149,14 @@ pub zero_below : (v : Bits) (k d : ℕ) → k < length (asc (complement v)) → 
 zero_below v k d within = omega (arith, item_below (complement v) k d within, length-complement v)
 
 -- and not set
-pub clear_item : (v : Bits) (k d : ℕ) → k < length (asc (complement v)) → contains v (get_or (asc (complement v)) k d) ≡ false
-clear_item v k d within = grind (arith, contains-complement v (get_or (asc (complement v)) k d), contains_item (complement v) k d within)
+pub clear_item : (v : Bits) (k d : ℕ) → k < length (asc (complement v))
+    → contains v (get_or (asc (complement v)) k d) ≡ false
+clear_item v k d within =
+    grind (arith, contains-complement v (get_or (asc (complement v)) k d), contains_item (complement v) k d within)
 
 -- each such position is an item
-pub zero_item_of : (v : Bits) (p : ℕ) → p < v.length → contains v p ≡ false → (k : ℕ) × (k < length (asc (complement v))) × (get_or (asc (complement v)) k p ≡ p)
+pub zero_item_of : (v : Bits) (p : ℕ) → p < v.length → contains v p ≡ false
+    → (k : ℕ) × (k < length (asc (complement v))) × (get_or (asc (complement v)) k p ≡ p)
 zero_item_of v p below clear = item_of (complement v) p (grind (arith, nat_tests, contains-complement))
 
 -- what a caller needs of it

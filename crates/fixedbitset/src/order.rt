@@ -6,7 +6,8 @@ ghost use Rattle.std.specs.Prelude.{◌≡◌, ◌↔◌, IsTrue, Some, refl};
 ghost use Rattle.std.specs.Ordering.{MatchOrdering};
 ghost use Rattle.std.specs.Cmp.{partial_equiv_from_equiv};
 ghost use Rattle.fixedbitset.specs.Order.{equal, compare, fed_by, IsBelow};
-ghost use Rattle.fixedbitset.specs.OrderFacts.{equal_laws, compare_partial, compare_total, compare_ties, fed_alike};
+ghost use Rattle.fixedbitset.specs.OrderFacts.{equal_laws, compare_partial};
+ghost use Rattle.fixedbitset.specs.OrderFacts.{compare_total, compare_ties, fed_alike};
 
 use crate::set::FixedBitSet;
 use bitlanes::Steps;

@@ -9,7 +9,8 @@
 
 ghost use Rattle.std.specs.Prelude.{◌≡◌, ◌^◌, ◌<◌, ◌++◌, length};
 ghost use Rattle.std.specs.Iterator.Runs.{EachRunFrom, ItemsAre, ItemsAreReversed};
-ghost use Rattle.bitwalks.specs.Pairs.{SievesFirst, SievesLast, joined_items, JoinsFirst, JoinsLast, split_items, SplitsFirst, SplitsLast};
+ghost use Rattle.bitwalks.specs.Pairs.{SievesFirst, SievesLast, joined_items, JoinsFirst};
+ghost use Rattle.bitwalks.specs.Pairs.{JoinsLast, split_items, SplitsFirst, SplitsLast};
 ghost use Rattle.fixedbitset.specs.Bits as model;
 ghost use Rattle.fixedbitset.specs.TwoSets as sets;
 ghost use Rattle.fixedbitset.specs.Walks.{begun};

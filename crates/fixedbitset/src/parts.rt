@@ -3,7 +3,8 @@
 //!
 //! `Err` comes only where more words are needed than there are and memory for them was refused. The set is then as it was.
 
-ghost use Rattle.std.specs.Prelude.{◌≡◌, ◌<◌, ◌≤◌, ◌+◌, ◌-◌, ◌^◌, ◌&&◌, nat_lt, take, vec_len, IsTrue, IsOk, IfOk, OnOk, OnErr};
+ghost use Rattle.std.specs.Prelude.{◌≡◌, ◌<◌, ◌≤◌, ◌+◌, ◌-◌, ◌^◌, ◌&&◌, nat_lt};
+ghost use Rattle.std.specs.Prelude.{take, vec_len, IsTrue, IsOk, IfOk, OnOk, OnErr};
 ghost use Rattle.bitwords.specs.Rows.{IsJoined};
 ghost use Rattle.fixedbitset.specs.Bits as model;
 ghost use Rattle.fixedbitset.specs.Json.{of_bytes, bytes};

@@ -1,6 +1,7 @@
 //! The set itself: making one, growing it, its length and its words.
 
-ghost use Rattle.std.specs.Prelude.{◌≡◌, ◌<◌, ◌≤◌, ◌+◌, ◌-◌, ◌*◌, ◌^◌, ◌++◌, min, drop, length, replicate, vec_len, IsOk, IfOk, OnOk, OnErr};
+ghost use Rattle.std.specs.Prelude.{◌≡◌, ◌<◌, ◌≤◌, ◌+◌, ◌-◌, ◌*◌, ◌^◌, ◌++◌, min, drop};
+ghost use Rattle.std.specs.Prelude.{length, replicate, vec_len, IsOk, IfOk, OnOk, OnErr};
 ghost use Rattle.std.specs.Vec.{vec_capacity};
 ghost use Rattle.bitlanes.specs.Words.{lane_steps};
 ghost use Rattle.fixedbitset.specs.Bits as model;
@@ -114,7 +115,8 @@ impl FixedBitSet {
     ) -> Result<Self, AllocError>
         requires { (it : I.IntoIter) → I.into_iter_gives blocks it → I.IntoIter.can_next it }
         ensures { IfOk result (λ set. (it : I.IntoIter) × I.into_iter_gives blocks it
-            × FirstItems I.IntoIter.next_gives it (model.words_needed bits) (λ words. set ≡ model.of_words bits words)) }
+            × FirstItems I.IntoIter.next_gives it (model.words_needed bits)
+            (λ words. set ≡ model.of_words bits words)) }
     {
         let items = blocks.into_iter();
         let mut words = vec![in alloc; 0; storage_words(bits)]?;

@@ -1,5 +1,5 @@
--- The equations of a data-flow analysis over the nodes and edges of a graph, their solutions, the least of these, and the
--- paths that facts take. Nodes are the numbers below the length of `gens`.
+-- The equations of a data-flow analysis over the nodes and edges of a graph, their solutions, the least of these, and
+-- the paths that facts take. Nodes are the numbers below the length of `gens`.
 use Rattle.std.specs.Prelude.{◌≡◌, ℕ, ◌<◌, ◌↔◌, ◌⊎◌, IsTrue, List, length, slice_index_or, All, Contains}
 use Rattle.fixedbitset.specs.Bits.{Bits, contains, empty}
 
@@ -60,7 +60,8 @@ IsLeast edges gens kills ins outs =
 -- fact p comes out of node v: v generates it, or it comes along an edge and v does not kill it
 pub data ComesOut (edges : Edges) (gens kills : Sets) (p : ℕ) : ℕ → Type 0 where
   generated : (v : ℕ) → Has gens v p → ComesOut edges gens kills p v
-  along : (u v : ℕ) → ComesOut edges gens kills p u → Contains edges (u, v) → ¬ (Has kills v p) → ComesOut edges gens kills p v
+  along : (u v : ℕ) → ComesOut edges gens kills p u → Contains edges (u, v) → ¬ (Has kills v p)
+      → ComesOut edges gens kills p v
 
 -- the facts of Out(v) are those that come out of v
 abbrev pub ArePaths : Edges → Sets → Sets → Sets → Type 0

@@ -1,10 +1,12 @@
 //! Rounds over all edges, until nothing goes along one. Nothing here takes memory.
 
-ghost use Rattle.std.specs.Prelude.{◌≡◌, ◌+◌, ◌*◌, ◌<◌, ◌≤◌, IsTrue, IfOk, not, length, true, false, if◌then◌else◌};
+ghost use Rattle.std.specs.Prelude.{◌≡◌, ◌+◌, ◌*◌, ◌<◌, ◌≤◌, IsTrue, IfOk};
+ghost use Rattle.std.specs.Prelude.{not, length, true, false, if◌then◌else◌};
 ghost use Rattle.fixedbitset.specs.Bits as model;
 ghost use Rattle.fixedbitset.specs.TwoSets.{union, difference, is_subset};
 ghost use Rattle.flow.specs.Flow.{Sets, AreBelow};
-ghost use Rattle.flow.specs.Turns.{Fits, IsReached, IsPassed, AreSettled, AreSettledBut, all, total, facts_of, ins_after, outs_after};
+ghost use Rattle.flow.specs.Turns.{Fits, IsReached, IsPassed, AreSettled, AreSettledBut};
+ghost use Rattle.flow.specs.Turns.{all, total, facts_of, ins_after, outs_after};
 
 use fixedbitset::{FixedBitSet, Steps};
 use std::alloc::{AllocError, Global};
@@ -46,7 +48,8 @@ pub(crate) fn settle(
     requires next { room.old.next ≡ model.empty (length ins.old) }
     ensures fits { Fits (facts_of kills.now) kills.now ins.new outs.new }
     ensures reached { (gens : Sets) → length gens ≡ length ins.old
-        → IsReached edges.now gens kills.now ins.old outs.old → IsReached edges.now gens kills.now ins.new outs.new }
+        → IsReached edges.now gens kills.now ins.old outs.old
+        → IsReached edges.now gens kills.now ins.new outs.new }
     ensures settled { AreSettled edges.now ins.new outs.new }
     ensures once { rounds.old < rounds.new }
     ensures bound { rounds.new ≤ rounds.old + (length ins.old * facts_of kills.now + 1) }
@@ -80,7 +83,8 @@ fn turn(
     ensures next_nodes { room.new.next.length ≡ length ins.old }
     ensures next { AreSettledBut room.new.next edges.now ins.new outs.new }
     ensures reached { (gens : Sets) → length gens ≡ length ins.old
-        → IsReached edges.now gens kills.now ins.old outs.old → IsReached edges.now gens kills.now ins.new outs.new }
+        → IsReached edges.now gens kills.now ins.old outs.old
+        → IsReached edges.now gens kills.now ins.new outs.new }
     ensures settled { result ≡ false → AreSettled edges.now ins.new outs.new }
     ensures grows { result ≡ true
         → total (facts_of kills.now) ins.old < total (facts_of kills.now) ins.new }

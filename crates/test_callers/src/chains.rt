@@ -1,6 +1,9 @@
 //! Chains of an iterator's methods over the set positions.
 
-ghost use Rattle.std.specs.Prelude.{◌≡◌, ℕ, ◌^◌, ◌<◌, ◌≤◌, ◌%◌, ◌+◌, ◌*◌, ◌==◌, ◌++◌, nat_lt, nat_le, true, false, length, sum, sum_by, count_by, take, drop, take_while, fold, find, position, slice_get, slice_index, EachIndex, OnOk, IfOk, IfSome, IfNone, None, IsTrue};
+ghost use Rattle.std.specs.Prelude.{◌≡◌, ℕ, ◌^◌, ◌<◌, ◌≤◌, ◌%◌, ◌+◌, ◌*◌, ◌==◌, ◌++◌, nat_lt};
+ghost use Rattle.std.specs.Prelude.{nat_le, true, false, length, sum, sum_by, count_by, take, drop};
+ghost use Rattle.std.specs.Prelude.{take_while, fold, find, position, slice_get, slice_index};
+ghost use Rattle.std.specs.Prelude.{EachIndex, OnOk, IfOk, IfSome, IfNone, None, IsTrue};
 ghost use Rattle.std.specs.Bool.{OnTrue, OnFalse};
 ghost use Rattle.std.specs.List.{list_any, list_all, zip, enumerate_from, last_or};
 ghost use Rattle.fixedbitset.specs.Bits as model;
@@ -126,8 +129,10 @@ pub fn all_below(set: &FixedBitSet, end: usize) -> bool
 /// Whether each position is in the other set.
 #[tactic(auto, using(fixedbitset::specs::WalkFacts::items))]
 pub fn all_in(set: &FixedBitSet, other: &FixedBitSet) -> bool
-    ensures yes { OnTrue result ((p : ℕ) → IsTrue (model.contains set.now p) → IsTrue (model.contains other.now p)) }
-    ensures no { OnFalse result ((p : ℕ) × IsTrue (model.contains set.now p) × (model.contains other.now p ≡ false)) }
+    ensures yes { OnTrue result ((p : ℕ) → IsTrue (model.contains set.now p)
+        → IsTrue (model.contains other.now p)) }
+    ensures no { OnFalse result
+        ((p : ℕ) × IsTrue (model.contains set.now p) × (model.contains other.now p ≡ false)) }
 {
     set.ones().all(|position| other.contains(position))
 }
@@ -159,14 +164,17 @@ pub fn after_few(alloc: Global, set: &FixedBitSet, few: usize) -> Result<Vec<usi
 pub fn stepped(alloc: Global, set: &FixedBitSet, step: usize) -> Result<Vec<usize>, AllocError>
     requires { 0 < step }
     ensures all { IfOk result (λ list. length (model.asc set.now) ≤ length list.items * step) }
-    ensures items { IfOk result (λ list. EachIndex list.items (λ k. slice_index list.items k ≡ slice_index (model.asc set.now) (k * step))) }
+    ensures items { IfOk result (λ list.
+        EachIndex list.items
+        (λ k. slice_index list.items k ≡ slice_index (model.asc set.now) (k * step))) }
 {
     set.ones().step_by(step).collect(alloc)
 }
 
 /// Those below `end`, until one is not.
 pub fn taken_below(alloc: Global, set: &FixedBitSet, end: usize) -> Result<Vec<usize>, AllocError>
-    ensures { IfOk result (λ list. list.items ≡ take_while (λ p. nat_lt p end) (model.asc set.now)) }
+    ensures { IfOk result
+        (λ list. list.items ≡ take_while (λ p. nat_lt p end) (model.asc set.now)) }
 {
     set.ones()
         .take_while(|position| *position < end)

@@ -62,8 +62,10 @@ pub fn called(
 #[tactic(auto, using(crate::proofs::CallsLemmas::calls, crate::proofs::CallsLemmas::counts))]
 pub fn call_all(walk: &mut Ones<'_>, ends: &[bool])
     ensures items { walk.new.items ≡ left_after ends.now walk.old.items }
-    ensures turns { walk.new.turns + walk.old.taken ≡ walk.old.turns + length ends.now + walk.new.taken }
-    ensures taken { walk.new.taken + length walk.new.words ≡ walk.old.taken + length walk.old.words }
+    ensures turns { walk.new.turns + walk.old.taken ≡ walk.old.turns + length ends.now
+        + walk.new.taken }
+    ensures taken { walk.new.taken + length walk.new.words
+        ≡ walk.old.taken + length walk.old.words }
 {
     for front in ends {
         let _ = if *front {

@@ -1,6 +1,8 @@
 //! `for` and `while let` over the set positions.
 
-ghost use Rattle.std.specs.Prelude.{◌≡◌, ℕ, ◌+◌, ◌^◌, ◌<◌, ◌≤◌, nat_le, nat_lt, length, sum, fold, find, slice_index, slice_set, true, false, [], IfOk, IfSome, IfNone, MatchOption, IsTrue};
+ghost use Rattle.std.specs.Prelude.{◌≡◌, ℕ, ◌+◌, ◌^◌, ◌<◌, ◌≤◌, nat_le, nat_lt, length};
+ghost use Rattle.std.specs.Prelude.{sum, fold, find, slice_index, slice_set, true, false};
+ghost use Rattle.std.specs.Prelude.{[], IfOk, IfSome, IfNone, MatchOption, IsTrue};
 ghost use Rattle.std.specs.Bool.{OnFalse};
 ghost use Rattle.std.specs.List.{list_all};
 ghost use Rattle.fixedbitset.specs.Bits as model;
@@ -60,7 +62,8 @@ pub fn some_from(set: &FixedBitSet, low: usize) -> Option<usize>
 /// Whether each position is in the other set.
 #[tactic(auto, using(fixedbitset::specs::WalkFacts::items))]
 pub fn each_is_in(set: &FixedBitSet, other: &FixedBitSet) -> bool
-    ensures no { OnFalse result ((p : ℕ) × IsTrue (model.contains set.now p) × (model.contains other.now p ≡ false)) }
+    ensures no { OnFalse result
+        ((p : ℕ) × IsTrue (model.contains set.now p) × (model.contains other.now p ≡ false)) }
 {
     for position in set.ones() {
         if !other.contains(position) {
@@ -75,7 +78,8 @@ pub fn each_is_in(set: &FixedBitSet, other: &FixedBitSet) -> bool
 pub fn all_are_in(set: &FixedBitSet, other: &FixedBitSet) -> bool
     ensures yes { IsTrue result
         → (p : ℕ) → IsTrue (model.contains set.now p) → IsTrue (model.contains other.now p) }
-    ensures no { OnFalse result ((p : ℕ) × IsTrue (model.contains set.now p) × (model.contains other.now p ≡ false)) }
+    ensures no { OnFalse result
+        ((p : ℕ) × IsTrue (model.contains set.now p) × (model.contains other.now p ≡ false)) }
 {
     for position in set.ones() {
         if !other.contains(position) {
@@ -170,7 +174,8 @@ pub fn first_of_calls_from(set: &FixedBitSet, low: usize) -> Option<usize>
 /// Some position that is not in the other set, if there is one.
 #[tactic(auto, using(fixedbitset::specs::WalkFacts::items))]
 pub fn some_lacked(set: &FixedBitSet, other: &FixedBitSet) -> Option<usize>
-    ensures { IfSome result (λ p. IsTrue (model.contains set.now p) × (model.contains other.now p ≡ false)) }
+    ensures { IfSome result
+        (λ p. IsTrue (model.contains set.now p) × (model.contains other.now p ≡ false)) }
 {
     let mut walk = set.ones();
     while let Some(position) = walk.next() {

@@ -1,6 +1,7 @@
 //! The positions below the length that are not set: the free slots of an allocator.
 
-ghost use Rattle.std.specs.Prelude.{◌≡◌, ℕ, ◌<◌, ◌≤◌, nat_le, length, reverse, find, true, false, IfOk, IfSome, IfNone};
+ghost use Rattle.std.specs.Prelude.{◌≡◌, ℕ, ◌<◌, ◌≤◌, nat_le, length, reverse};
+ghost use Rattle.std.specs.Prelude.{find, true, false, IfOk, IfSome, IfNone};
 ghost use Rattle.test_callers.specs.Calls.{first_of};
 ghost use Rattle.fixedbitset.specs.Bits as model;
 

@@ -7,7 +7,8 @@
 
 ghost use Rattle.std.specs.Prelude.{◌≡◌, ◌<◌, ◌↔◌, ℕ, min, length, IsTrue, IfOk, MatchOption};
 ghost use Rattle.fixedbitset.specs.Bits.{contains};
-ghost use Rattle.use_access.specs.Policies.{Has, HaveSameSize, IsGranted, IsRevoked, IsLeastMissing};
+ghost use Rattle.use_access.specs.Policies.{Has, HaveSameSize, IsGranted};
+ghost use Rattle.use_access.specs.Policies.{IsRevoked, IsLeastMissing};
 
 use fixedbitset::FixedBitSet;
 use std::alloc::{AllocError, Global};

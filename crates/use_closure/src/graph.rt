@@ -6,7 +6,8 @@
 //! What [`closure`] promises: its answer has exactly the pairs of nodes that some path of one or more edges joins, in
 //! ascending order.
 
-ghost use Rattle.std.specs.Prelude.{◌≡◌, ◌∷◌, [], ◌↔◌, ℕ, MatchOption, Contains, IfOk, IfErr, OnOk, IsTrue, length};
+ghost use Rattle.std.specs.Prelude.{◌≡◌, ◌∷◌, [], ◌↔◌, ℕ, MatchOption, Contains};
+ghost use Rattle.std.specs.Prelude.{IfOk, IfErr, OnOk, IsTrue, length};
 ghost use Rattle.std.specs.List.{AllPairs};
 ghost use Rattle.use_text.specs.Faults.{AreAll, IsFaultOfRow};
 ghost use Rattle.bitrows.specs.Tables.{has};

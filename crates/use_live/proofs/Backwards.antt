@@ -36,10 +36,12 @@ module _ (next : Edges) (uses defines : Sets) where
   live_exactly x s = (live x s, comes_out x s)
 
 -- a problem stays one with its edges the other way round
-pub turned_problem : (facts : ℕ) (edges : Edges) (gens kills : Sets) → IsProblem facts edges gens kills → IsProblem facts (turned edges) gens kills
+pub turned_problem : (facts : ℕ) (edges : Edges) (gens kills : Sets) → IsProblem facts edges gens kills
+    → IsProblem facts (turned edges) gens kills
 turned_problem facts edges gens kills problem = record {
   equally_many = problem.equally_many;
   gens_length = problem.gens_length;
   kills_length = problem.kills_length;
-  edges_below = All-map (λ edge. (edge.0 < length gens) × (edge.1 < length gens)) turn edges (λ k d within. let ends = problem.edges_below k d within in (ends.1, ends.0));
+  edges_below = All-map (λ edge. (edge.0 < length gens) × (edge.1 < length gens)) turn edges
+      (λ k d within. let ends = problem.edges_below k d within in (ends.1, ends.0));
 }

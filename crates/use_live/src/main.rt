@@ -6,7 +6,8 @@
 //! answered but one sentence on standard error with the number of that line, from 1 on, and the status is 1.
 #![tactic(auto)]
 
-ghost use Rattle.std.specs.Prelude.{◌≡◌, ℕ, ◌+◌, ◌<◌, ◌≤◌, ◌⊎◌, ◌↔◌, MatchOption, IfOk, IfSome, IsTrue, All, Contains};
+ghost use Rattle.std.specs.Prelude.{◌≡◌, ℕ, ◌+◌, ◌<◌, ◌≤◌, ◌⊎◌, ◌↔◌, MatchOption};
+ghost use Rattle.std.specs.Prelude.{IfOk, IfSome, IsTrue, All, Contains};
 ghost use Rattle.fixedbitset.specs.Bits.{contains};
 ghost use Rattle.flow.specs.Flow.{IsProblem};
 ghost use Rattle.use_live.specs.Lines.{AreLetters, AreVariables};

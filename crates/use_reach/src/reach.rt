@@ -8,7 +8,8 @@
 
 ghost use Rattle.std.specs.Prelude.{◌≡◌, ◌+◌, ◌<◌, ◌≤◌, ◌↔◌, ℕ, IsTrue, IfOk, length};
 ghost use Rattle.fixedbitset.specs.Bits.{contains};
-ghost use Rattle.use_reach.specs.Reach.{IsGraph, AreNodes, IsReachable, size, edges_from, edge_count};
+ghost use Rattle.use_reach.specs.Reach.{IsGraph, AreNodes, IsReachable};
+ghost use Rattle.use_reach.specs.Reach.{size, edges_from, edge_count};
 
 use fixedbitset::{FixedBitSet, Steps};
 use std::alloc::{AllocError, Global};

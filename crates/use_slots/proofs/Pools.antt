@@ -1,5 +1,6 @@
 -- Which slots are taken and which are free, before and after one is taken or given back.
-use Rattle.std.proofs.Common.{◌≡◌, ◌≢◌, ◌∙◌, ℕ, ◌+◌, ◌≤◌, inl, inr, Option, Some, None, List, [], ◌∷◌, refl, sym, subst, arith}
+use Rattle.std.proofs.Common.{◌≡◌, ◌≢◌, ◌∙◌, ℕ, ◌+◌, ◌≤◌, inl, inr, Option, Some}
+use Rattle.std.proofs.Common.{None, List, [], ◌∷◌, refl, sym, subst, arith}
 use Rattle.std.specs.Prelude.{MatchOption, unwrap_or}
 use Rattle.std.proofs.lemmas.Bool.{true≢false, false_from_ne_true}
 use Rattle.fixedbitset.specs.Bits.{Bits, insert, remove, asc, complement}
@@ -11,7 +12,8 @@ use Rattle.fixedbitset.specs.SizeFacts.{count_zeroes-full}
 use Rattle.fixedbitset.specs.FirstFacts.{first_zero, no_zero}
 use Rattle.fixedbitset.specs.Runs.{first_gap}
 use Rattle.bitlaws.specs.RunLaws.{RoomTells, GapIsLeast}
-use Rattle.use_slots.specs.Pool.{IsTaken, IsFree, IsLeastFree, AreAllTaken, IsTakenStretch, IsLeastStretch, HasNoStretch, free_count}
+use Rattle.use_slots.specs.Pool.{IsTaken, IsFree, IsLeastFree, AreAllTaken}
+use Rattle.use_slots.specs.Pool.{IsTakenStretch, IsLeastStretch, HasNoStretch, free_count}
 
 -- ---- the first item of the walk over the free slots
 
@@ -38,7 +40,10 @@ module _ (v : Bits) (first second : ℕ) (is_first : IsFree v first) (is_second 
   two_apart same = is_second.1 (subst (IsTaken (insert v first)) same taken_first)
 
   pub two_free : IsFree v second
-  two_free = (let e = length-insert v first in let h = is_second.0 in omega arith, λ taken. is_second.1 ((in_insert v first second is_first.0).1 (inr taken)))
+  two_free = (
+    let e = length-insert v first in let h = is_second.0 in omega arith,
+    λ taken. is_second.1 ((in_insert v first second is_first.0).1 (inr taken)),
+  )
 
   pub first_stays : (w : Bits) → w ≡ insert (insert v first) second → IsTaken w first
   first_stays w same = rw same ((in_insert (insert v first) second first is_second.0).1 (inr taken_first))
@@ -58,10 +63,12 @@ module _ (room : RoomTells) (least : GapIsLeast) (v : Bits) (count from : ℕ) w
       (found.0, (room v count start).0 found.1, λ other after free. found.2 other after ((room v count other).1 free))
 
   pub no_stretch : None ≡ first_gap v count from → HasNoStretch v count from
-  no_stretch is = let none = rw (sym is) at (least v count from) in λ start after free. none start after ((room v count start).1 free)
+  no_stretch is = let none = rw (sym is) at (least v count from) in
+      λ start after free. none start after ((room v count start).1 free)
 
 -- each slot of it is taken then
-pub stretch_taken : (v w : Bits) (count from start : ℕ) → IsLeastStretch v count from start → w ≡ insert_range v start (start + count) → IsTakenStretch w count start
+pub stretch_taken : (v w : Bits) (count from start : ℕ) → IsLeastStretch v count from start
+    → w ≡ insert_range v start (start + count) → IsTakenStretch w count start
 stretch_taken v w count from start least left =
     let fits : start + count ≤ v.length = least.1.0 in
     rw left (
@@ -77,6 +84,7 @@ free_again v slot taken = (
   λ still. ((in_remove v slot slot).0 still).0 refl,
 )
 
-pub lowered : (v : Bits) (slot : ℕ) (taken : Option ℕ) → IsTaken v slot → MatchOption taken (AreAllTaken (remove v slot)) (λ s. IsLeastFree (remove v slot) s) → unwrap_or taken slot ≤ slot
+pub lowered : (v : Bits) (slot : ℕ) (taken : Option ℕ) → IsTaken v slot
+    → MatchOption taken (AreAllTaken (remove v slot)) (λ s. IsLeastFree (remove v slot) s) → unwrap_or taken slot ≤ slot
 lowered v slot None was all = omega arith
 lowered v slot (Some s) was least = least.1 slot (free_again v slot was)

@@ -6,11 +6,13 @@
 //! alone or in a stretch, was given back in between. Contracts see it as a length, how many slots there are, and the set of
 //! those that are taken (`specs/Pool.antt`).
 
-ghost use Rattle.std.specs.Prelude.{◌≡◌, ◌≢◌, ◌+◌, ◌<◌, ◌≤◌, ◌↔◌, ℕ, List, [], ◌∷◌, ◌++◌, Contains, IsTrue, IfOk, IfNone, IfSome, MatchOption};
+ghost use Rattle.std.specs.Prelude.{◌≡◌, ◌≢◌, ◌+◌, ◌<◌, ◌≤◌, ◌↔◌, ℕ, List, [], ◌∷◌, ◌++◌};
+ghost use Rattle.std.specs.Prelude.{Contains, IsTrue, IfOk, IfNone, IfSome, MatchOption};
 ghost use Rattle.fixedbitset.specs.Bits as model;
 ghost use Rattle.fixedbitset.specs.Bits.{Bits};
 ghost use Rattle.fixedbitset.specs.Ranges as ranges;
-ghost use Rattle.use_slots.specs.Pool.{IsTaken, IsFree, IsLeastFree, IsAnswer, IsLeft, free_count, taken_count};
+ghost use Rattle.use_slots.specs.Pool.{IsTaken, IsFree, IsLeastFree, IsAnswer};
+ghost use Rattle.use_slots.specs.Pool.{IsLeft, free_count, taken_count};
 ghost use Rattle.use_slots.specs.Pool.{IsTakenStretch, IsStretchAnswer, IsStretchLeft};
 ghost use Rattle.use_slots.specs.Runs.{Call, Runs, Takes, GivesBack};
 

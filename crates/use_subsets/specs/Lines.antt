@@ -7,4 +7,5 @@ IsBetween states letters edge = (edge.0 < states) × (edge.1 < letters) × (edge
 
 -- three numbers: a state, a letter and a state
 abbrev pub IsEdge : ℕ → ℕ → List ℕ → Type 0
-IsEdge states letters numbers = (length numbers ≡ 3) × IsBetween states letters (slice_index numbers 0, slice_index numbers 1, slice_index numbers 2)
+IsEdge states letters numbers = (length numbers ≡ 3)
+    × IsBetween states letters (slice_index numbers 0, slice_index numbers 1, slice_index numbers 2)

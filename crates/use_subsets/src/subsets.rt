@@ -5,7 +5,9 @@
 //! letters lead along edges from a start state to an accepting state (`specs/Automata.antt`).
 
 ghost use Rattle.std.specs.Prelude.{◌≡◌, ◌<◌, ◌≤◌, ◌↔◌, ℕ, List, IfOk, length, Ok, None};
-ghost use Rattle.use_subsets.specs.Automata.{IsNfa, IsOver, IsAccepted, IsSetOf, IsDfa, IsAcceptedBy, AreDistinct, NeedsMore, IfMade, at, end_of};
+ghost use Rattle.use_subsets.specs.Automata.{IsNfa, IsOver, IsAccepted, IsSetOf};
+ghost use Rattle.use_subsets.specs.Automata.{IsDfa, IsAcceptedBy, AreDistinct};
+ghost use Rattle.use_subsets.specs.Automata.{NeedsMore, IfMade, at, end_of};
 ghost use Rattle.use_subsets.specs.Subsets.{IsStep, IsNumbered};
 
 use crate::automata::{Dfa, Nfa};

@@ -37,4 +37,5 @@ abbrev pub IsFaultOfRow : (List ℕ → Type 0) → List Row → Fault → Type 
 IsFaultOfRow P rows Memory = ⊤
 IsFaultOfRow P rows Input = ⊥
 IsFaultOfRow P rows (Line number _) =
-    (before : List Row) × (row : Row) × IsFirstOther (λ (r : Row). P r.numbers.items) rows before row × (number ≡ row.line)
+    (before : List Row) × (row : Row)
+    × IsFirstOther (λ (r : Row). P r.numbers.items) rows before row × (number ≡ row.line)

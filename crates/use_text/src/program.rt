@@ -1,6 +1,7 @@
 //! How a program reads its input and how it ends.
 
-ghost use Rattle.std.specs.Prelude.{◌≡◌, ◌≤◌, length, IsErr, IfErr, IfOk, IsOkAnd, OnErr, IfSome, string_bytes};
+ghost use Rattle.std.specs.Prelude.{◌≡◌, ◌≤◌, length, IsErr, IfErr, IfOk};
+ghost use Rattle.std.specs.Prelude.{IsOkAnd, OnErr, IfSome, string_bytes};
 ghost use Rattle.std.specs.Str.{IsUtf8};
 ghost use Rattle.std.specs.Str.Lossy.{utf8_valid_len};
 ghost use Rattle.std.specs.Process.{exit_status};

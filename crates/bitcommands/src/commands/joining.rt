@@ -118,9 +118,11 @@ pub(super) fn join(
 ) -> Result<(), AllocError>
     requires first { target < length sets.old }
     requires second { other < length sets.old }
-    ensures ok { OnOk result (sets.new ≡ slice_set sets.old target (combination joint (at sets.old target) (at sets.old other))) }
+    ensures ok { OnOk result (sets.new
+        ≡ slice_set sets.old target (combination joint (at sets.old target) (at sets.old other))) }
     ensures err { OnErr result (sets.new ≡ sets.old) }
-    ensures lacks { OnErr result (IsTrue (joint_may_lack_memory joint (at sets.old target) (at sets.old other))) }
+    ensures lacks { OnErr result
+        (IsTrue (joint_may_lack_memory joint (at sets.old target) (at sets.old other))) }
 {
     if target == other {
         with_itself(&mut sets[target], &joint);

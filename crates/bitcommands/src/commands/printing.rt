@@ -3,7 +3,8 @@ ghost use Rattle.std.specs.Prelude.{◌≡◌, ◌++◌, ◌≤◌, false, drop,
 ghost use Rattle.std.specs.Fmt.{decimal};
 ghost use Rattle.serde_json.specs.View.{view};
 ghost use Rattle.serde_json.specs.Written.{has_float, compact_text};
-ghost use Rattle.bitcommands.specs.Texts.{flag_text, spaced_text, words_text, order_text, PutsValue};
+ghost use Rattle.bitcommands.specs.Texts.{flag_text, spaced_text};
+ghost use Rattle.bitcommands.specs.Texts.{words_text, order_text, PutsValue};
 ghost use Rattle.bitcommands.specs.Outcomes.{number_text};
 
 use fixedbitset::Block;
@@ -39,7 +40,8 @@ pub(super) fn order_name(order: Ordering) -> &'static str
 
 // A text that is read as the value. Where memory is refused the output is as it was.
 pub(super) fn push_value(value: &Value, output: &mut Vec<u8>) -> Result<(), AllocError>
-    ensures ok { OnOk result (has_float (view value.now) ≡ false → output.new.items ≡ output.old.items ++ compact_text (view value.now)) }
+    ensures ok { OnOk result (has_float (view value.now) ≡ false
+        → output.new.items ≡ output.old.items ++ compact_text (view value.now)) }
     ensures value { OnOk result (PutsValue output.old.items output.new.items (view value.now)) }
     ensures err { OnErr result (output.new.items ≡ output.old.items) }
 {
@@ -53,7 +55,8 @@ pub(super) fn push_numbered(
     number: Option<usize>,
     output: &mut Vec<u8>,
 ) -> Result<(), AllocError>
-    ensures ok { OnOk result (output.new.items ≡ output.old.items ++ (text.now ++ number_text number)) }
+    ensures ok { OnOk result
+        (output.new.items ≡ output.old.items ++ (text.now ++ number_text number)) }
     ensures err { OnErr result (output.new.items ≡ output.old.items) }
 {
     let start = output.len();
@@ -133,7 +136,8 @@ pub(super) fn push_words(words: &[Block], output: &mut Vec<u8>) -> Result<(), Al
 
 // One text for each, one space between two of them. Where memory is refused the output is as it was.
 pub(super) fn push_parts<P: Part>(parts: &[P], output: &mut Vec<u8>) -> Result<(), AllocError>
-    ensures ok { OnOk result (output.new.items ≡ output.old.items ++ spaced_text P.text_of parts.now) }
+    ensures ok { OnOk result
+        (output.new.items ≡ output.old.items ++ spaced_text P.text_of parts.now) }
     ensures err { OnErr result (output.new.items ≡ output.old.items) }
 {
     let before = output.len();

@@ -6,7 +6,8 @@ ghost use Rattle.serde_json.specs.Data.{string};
 ghost use Rattle.serde_json.specs.Find.{is_float};
 ghost use Rattle.serde_json.specs.View.{view, number_view, items_view, members_view};
 ghost use Rattle.serde_json.specs.Written.{has_float, items_have_float, members_have_float};
-ghost use Rattle.serde_json.specs.Written.{number_text, compact_text, comma_if, items_text, members_text};
+ghost use Rattle.serde_json.specs.Written.{number_text, compact_text};
+ghost use Rattle.serde_json.specs.Written.{comma_if, items_text, members_text};
 
 use serde_json::{Map, Number, Value};
 use std::fmt;

@@ -4,9 +4,11 @@
 //! `bound` says so, and `cost` how many it takes. What `grow` writes is not counted, nor what is cleared behind the length in
 //! the last lane.
 
-ghost use Rattle.std.specs.Prelude.{◌≡◌, ◌<◌, ◌≤◌, ◌+◌, ◌-◌, ◌/◌, ◌^◌, min, true, false, if◌then◌else◌, IsTrue, IsOk, IfOk, OnOk, OnErr};
+ghost use Rattle.std.specs.Prelude.{◌≡◌, ◌<◌, ◌≤◌, ◌+◌, ◌-◌, ◌/◌, ◌^◌, min, true, false};
+ghost use Rattle.std.specs.Prelude.{if◌then◌else◌, IsTrue, IsOk, IfOk, OnOk, OnErr};
 ghost use Rattle.bitlanes.specs.Words.{lane_steps};
-ghost use Rattle.bitwords.specs.Steps.{join_steps, join_up_steps, move_up_steps, range_words, search_steps};
+ghost use Rattle.bitwords.specs.Steps.{join_steps, join_up_steps, move_up_steps};
+ghost use Rattle.bitwords.specs.Steps.{range_words, search_steps};
 ghost use Rattle.fixedbitset.specs.Bits as model;
 ghost use Rattle.fixedbitset.specs.Parts as parts;
 ghost use Rattle.fixedbitset.specs.Ranges as ranges;

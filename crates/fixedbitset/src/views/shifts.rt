@@ -3,7 +3,8 @@
 //! A call takes at most one step for each lane that it writes, and one or two more for the words at the ends: `bound` says so,
 //! and `cost` how many it takes. The lanes past the words that the length needs are counted, though they are not moved.
 
-ghost use Rattle.std.specs.Prelude.{◌≡◌, ◌≤◌, ◌<◌, ◌+◌, ◌-◌, ◌/◌, ◌&&◌, nat_le, min, true, false, if◌then◌else◌};
+ghost use Rattle.std.specs.Prelude.{◌≡◌, ◌≤◌, ◌<◌, ◌+◌, ◌-◌, ◌/◌, ◌&&◌};
+ghost use Rattle.std.specs.Prelude.{nat_le, min, true, false, if◌then◌else◌};
 ghost use Rattle.std.specs.Prelude as prelude;
 ghost use Rattle.bitlanes.specs.Shifts.{up_steps};
 ghost use Rattle.bitlanes.specs.Words.{lane_steps};

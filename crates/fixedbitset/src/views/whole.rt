@@ -4,7 +4,8 @@
 //! where these are cleared or counted. A comparison takes at most as many, since it stops at the first lane that decides;
 //! where it answers `true` exactly as many, and where it answers `false` one at least.
 
-ghost use Rattle.std.specs.Prelude.{◌≡◌, ◌≢◌, ◌<◌, ◌≤◌, ◌+◌, ◌/◌, ◌==◌, IsTrue, IfSome, IfNone, true, false};
+ghost use Rattle.std.specs.Prelude.{◌≡◌, ◌≢◌, ◌<◌, ◌≤◌, ◌+◌, ◌/◌, ◌==◌};
+ghost use Rattle.std.specs.Prelude.{IsTrue, IfSome, IfNone, true, false};
 ghost use Rattle.std.specs.declared.cmp.Ordering.TheVariants.{Equal};
 ghost use Rattle.bitlanes.specs.Words.{lane_steps};
 ghost use Rattle.bitwords.specs.Steps.{join_steps, both_steps};

@@ -15,14 +15,19 @@ loop-row-preserved c =
     record {
       roles = size.0 ∙ before.roles;
       rights = size.1 ∙ before.rights;
-      grants = grants_more rows i row c.loop-row-test.true c.row-item.is c.loop-row.policy c.grant.new.self c.in-Some.role c.in-Some.right told.1 c.grant.ensures.granted before.grants;
-      each = row_more (IsGrant c.args.roles c.args.rights) rows i row c.loop-row-test.true c.row-item.is before.each told.0;
+      grants = grants_more rows i row c.loop-row-test.true c.row-item.is c.loop-row.policy c.grant.new.self
+          c.in-Some.role c.in-Some.right told.1 c.grant.ensures.granted before.grants;
+      each = row_more (IsGrant c.args.roles c.args.rights) rows i row c.loop-row-test.true c.row-item.is
+          before.each told.0;
     }
 
 pub returns-clause-each : goal.returns-clause-each
-returns-clause-each c = each_row (IsGrant c.args.roles c.args.rights) c.args.rows.now c.loop-row.row-index c.loop-row-test.false c.loop-row.invariant.each
+returns-clause-each c =
+    each_row (IsGrant c.args.roles c.args.rights) c.args.rows.now c.loop-row.row-index c.loop-row-test.false
+    c.loop-row.invariant.each
 
 pub returns-in_default-clause-fault : goal.returns-in_default-clause-fault
 returns-in_default-clause-fault c =
-    other_row (IsGrant c.args.roles c.args.rights) c.args.rows.now c.loop-row.row-index c.row-item.result c.loop-row-test.true c.row-item.is c.loop-row.invariant.each
+    other_row (IsGrant c.args.roles c.args.rights) c.args.rows.now c.loop-row.row-index c.row-item.result
+    c.loop-row-test.true c.row-item.is c.loop-row.invariant.each
     (rw c.in_default.is at (rw c.deref.ensures.value at c.grant_of.ensures))

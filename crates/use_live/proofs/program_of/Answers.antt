@@ -5,7 +5,9 @@ use Rattle.fixedbitset.specs.Bits.{Bits}
 use Rattle.use_live.proofs.program_of.Goals as goal
 
 pub loop-to-preserved : goal.loop-to-preserved
-loop-to-preserved c = rw c.in_ok-push.ensures.items (All-push (λ (edge : ℕ × ℕ). edge.0 < c.len-from.result + 1) c.loop-to.next.items _ c.loop-to.invariant (omega arith))
+loop-to-preserved c =
+    rw c.in_ok-push.ensures.items (All-push
+    (λ (edge : ℕ × ℕ). edge.0 < c.len-from.result + 1) c.loop-to.next.items _ c.loop-to.invariant (omega arith))
 
 pub loop-line-preserved : goal.loop-line-preserved
 loop-line-preserved c =
@@ -21,8 +23,10 @@ loop-line-preserved c =
       can_next = before.can_next;
       is_finite = before.is_finite;
       many = rw (c.in_ok-push-2.ensures.items, c.in_ok-push-3.ensures.items) (omega arith);
-      uses = rw c.in_ok-push-2.ensures.items (All-push (λ (set : Bits). set.length ≡ 26) uses _ before.uses statement.1);
-      defines = rw c.in_ok-push-3.ensures.items (All-push (λ (set : Bits). set.length ≡ 26) defines _ before.defines statement.0);
+      uses =
+          rw c.in_ok-push-2.ensures.items (All-push (λ (set : Bits). set.length ≡ 26) uses _ before.uses statement.1);
+      defines = rw c.in_ok-push-3.ensures.items
+          (All-push (λ (set : Bits). set.length ≡ 26) defines _ before.defines statement.0);
       from = rw c.in_ok-push-2.ensures.items (λ k d within. let below = c.loop-to.invariant k d within in omega arith);
     }
 
@@ -32,12 +36,18 @@ loop-from-preserved c =
     let below = c.if-to-len.false in
     let long = c.len.ensures ∙ c.loop-line.uses.ok.0 in
     rw (take_more edges c.loop-from.from-index (0, 0) c.loop-from-test.true)
-    (All-push (λ (edge : ℕ × ℕ). edge.1 < length c.loop-line.uses.items) (take c.loop-from.from-index edges) _ c.loop-from.invariant (omega arith))
+    (All-push (λ (edge : ℕ × ℕ).
+    edge.1 < length c.loop-line.uses.items) (take c.loop-from.from-index edges) _ c.loop-from.invariant (omega arith))
 
 pub returns : goal.returns
 returns c =
     let end = c.loop-line.invariant in
-    let all = subst (All (λ (edge : ℕ × ℕ). edge.1 < length c.loop-line.uses.items)) (take_all c.loop-from.from-index c.deref-from-items.result.now c.loop-from-test.false ∙ c.deref-from-items.ensures.value) c.loop-from.invariant in
+    let all =
+    subst
+    (All (λ (edge : ℕ × ℕ).
+    edge.1 < length c.loop-line.uses.items))
+    (take_all c.loop-from.from-index c.deref-from-items.result.now c.loop-from-test.false
+    ∙ c.deref-from-items.ensures.value) c.loop-from.invariant in
     record {
       equally_many = end.many;
       gens_length = end.uses;

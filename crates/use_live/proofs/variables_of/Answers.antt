@@ -25,6 +25,7 @@ loop-byte-preserved c =
       }
       | in-97-to-122 w ↦ record {
         letters = All-push IsLetter _ _ before.letters (inr (search rules));
-        variables = rw (w.set-is, w.insert.ensures, w.from.ensures) (letter_more _ _ _ (search rules) (search rules) before.variables);
+        variables = rw (w.set-is, w.insert.ensures, w.from.ensures)
+            (letter_more _ _ _ (search rules) (search rules) before.variables);
       }
     ])

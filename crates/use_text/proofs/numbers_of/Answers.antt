@@ -1,4 +1,5 @@
-use Rattle.std.proofs.Common.{◌∙◌, ℕ, ◌<◌, not, true, false, List, [], length, get_or, map, take, Bor, sym, ap, subst, arith}
+use Rattle.std.proofs.Common.{◌∙◌, ℕ, ◌<◌, not, true, false, List, [], length}
+use Rattle.std.proofs.Common.{get_or, map, take, Bor, sym, ap, subst, arith}
 use Rattle.std.specs.Option.{SomeIff}
 use Rattle.std.proofs.lemmas.List.{append-nil}
 use Rattle.use_text.specs.Rows.{IsNumber, value}
@@ -19,10 +20,18 @@ loop-word-preserved c =
     let inside : i < length items = c.loop-word-test.true in
     elim c.if-not-is_empty.branch [
       | then-not-is_empty+in-Some+in_ok-push w ↦
-          rw (kept_more items i none inside true (ap not (sym c.is_empty.ensures ∙ w.if-not-is_empty.true)), w.numbers-is, w.in_ok-push.ensures.items)
+          rw (
+            kept_more items i none inside true (ap not (sym c.is_empty.ensures ∙ w.if-not-is_empty.true)),
+            w.numbers-is,
+            w.in_ok-push.ensures.items,
+          )
           (read_more _ _ (get_or items i none).now _ w.in-Some.ensures.0 w.in-Some.ensures.1 c.loop-word.invariant)
       | else-not-is_empty w ↦
-          rw (kept_more items i none inside false (ap not (sym c.is_empty.ensures ∙ w.if-not-is_empty.false)), append-nil (kept (take i (map (λ x. x.now) items))), w.numbers-is) c.loop-word.invariant
+          rw (
+            kept_more items i none inside false (ap not (sym c.is_empty.ensures ∙ w.if-not-is_empty.false)),
+            append-nil (kept (take i (map (λ x. x.now) items))),
+            w.numbers-is,
+          ) c.loop-word.invariant
     ]
 
 pub returns-in_default : goal.returns-in_default
@@ -30,10 +39,13 @@ returns-in_default c =
     let items : List (Bor (List ℕ)) = c.deref-word-items.result.now in
     let i : ℕ = c.loop-word.word-index in
     let word : List ℕ = (get_or items i none).now in
-    not_a_row items i none c.loop-word-test.true c.args.line.now (ap (map (λ x. x.now)) c.deref-word-items.ensures.value ∙ c.in_ok-words.ensures) (ap not (sym c.is_empty.ensures ∙ c.if-not-is_empty.true))
+    not_a_row items i none c.loop-word-test.true c.args.line.now (ap (map (λ x. x.now)) c.deref-word-items.ensures.value
+    ∙ c.in_ok-words.ensures) (ap not (sym c.is_empty.ensures ∙ c.if-not-is_empty.true))
     (subst (λ found. SomeIff found (IsNumber word) (value word)) c.in_default.is c.number.ensures)
 
 pub returns : goal.returns
 returns c =
-    let read = all_read c.deref-word-items.result.now c.loop-word.word-index c.args.line.now c.loop-word.numbers.items c.loop-word-test.false (ap (map (λ x. x.now)) c.deref-word-items.ensures.value ∙ c.in_ok-words.ensures) c.loop-word.invariant in
+    let read = all_read c.deref-word-items.result.now c.loop-word.word-index c.args.line.now c.loop-word.numbers.items
+    c.loop-word-test.false (ap (map (λ x. x.now)) c.deref-word-items.ensures.value ∙ c.in_ok-words.ensures)
+    c.loop-word.invariant in
     (read.each, read.values)

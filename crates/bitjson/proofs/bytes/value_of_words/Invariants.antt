@@ -7,4 +7,5 @@ use Rattle.bitjson.proofs.bytes.value_of_words.Given as goal
 
 -- an item for each byte so far
 abbrev pub invariant-loop-index : goal.invariant-loop-index
-invariant-loop-index l = map view l.data.items ≡ map (λ j. number (unsigned (byte_of l.words j))) (range_with_len 0 l.index)
+invariant-loop-index l =
+    map view l.data.items ≡ map (λ j. number (unsigned (byte_of l.words j))) (range_with_len 0 l.index)

@@ -5,4 +5,5 @@ use Rattle.bitjson.specs.Form.{bytes, bytes_from}
 use Rattle.bitjson.proofs.form.items_of.Given as goal
 
 abbrev pub invariant-loop-index : goal.invariant-loop-index
-invariant-loop-index l = result_err (bytes_from l.index (items_view (drop l.index l.items))) ≡ result_err (bytes (view l.list))
+invariant-loop-index l =
+    result_err (bytes_from l.index (items_view (drop l.index l.items))) ≡ result_err (bytes (view l.list))

@@ -10,7 +10,15 @@ overflow_add-eights g c =
     let long : at + 32 - at ≡ 32 = omega arith in
     let all = zip2 f c.args.a.now c.args.b.now in
     let ones = rw (long, ones_cut f at 32 c.args.a.now c.args.b.now) at c.add_eight-carries.ensures.ones in
-    record { fits = omega (arith, ones, c.requires.fits, sum_eight_le count_ones c.loop-block.block c.args.blocks all (omega arith)) }
+    record {
+      fits =
+          omega (
+            arith,
+            ones,
+            c.requires.fits,
+            sum_eight_le count_ones c.loop-block.block c.args.blocks all (omega arith),
+          );
+    }
 
 pub loop-block-preserved : goal.loop-block-preserved
 loop-block-preserved g c =
@@ -19,7 +27,14 @@ loop-block-preserved g c =
     let long : at + 32 - at ≡ 32 = omega arith in
     let ones = rw (long, ones_cut f at 32 c.args.a.now c.args.b.now) at c.add_eight-carries.ensures.ones in
     record {
-      ones = omega (arith, ones, c.ones_in-eights.ensures, c.loop-block.invariant.ones, sum_eight count_ones c.loop-block.block (zip2 f c.args.a.now c.args.b.now));
+      ones =
+          omega (
+            arith,
+            ones,
+            c.ones_in-eights.ensures,
+            c.loop-block.invariant.ones,
+            sum_eight count_ones c.loop-block.block (zip2 f c.args.a.now c.args.b.now),
+          );
       cost = omega arith;
     }
 

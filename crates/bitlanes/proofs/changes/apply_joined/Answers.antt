@@ -27,8 +27,12 @@ loop-at-preserved g c =
     let long_b : length b ≡ m = length-take-le m c.args.b.now (omega (arith, c.min-words.ensures, c.min.ensures)) in
     let long_src : length src ≡ m = omega (arith, length_joined t a b, long_a, long_b) in
     record {
-      words = rw (c.change_by_lane.ensures.words, c.lane_at-joined.ensures, before.words) (kept_next f 4 at old src (omega (arith, long, c.loop-at-test.true)) (omega (arith, long_src, c.loop-at-test.true)));
-      changed = cc (changed_lane f old src at _ _ before.words (rw c.lane_at-joined.ensures at c.change_by_lane.ensures.changed));
+      words = rw (c.change_by_lane.ensures.words, c.lane_at-joined.ensures, before.words)
+          (kept_next f 4 at old src (omega (arith, long, c.loop-at-test.true))
+          (omega (arith, long_src, c.loop-at-test.true)));
+      changed =
+          cc (changed_lane f old src at _ _ before.words
+          (rw c.lane_at-joined.ensures at c.change_by_lane.ensures.changed));
       within = omega (arith, c.loop-at-test.true);
       cost = omega (arith, c.tick.ensures, before.cost);
     }
@@ -44,14 +48,18 @@ returns-clause-words g c =
     let b : List ℕ = take m c.args.b.now in
     let all : List ℕ = zip2 t c.args.a.now c.args.b.now in
     let cut = take-zip2 t m c.args.a.now c.args.b.now in
-    let common : m ≡ min (length c.args.dst.now) (length all) = omega (arith, c.min-words.ensures, c.min.ensures, length_joined t c.args.a.now c.args.b.now) in
+    let common : m ≡ min (length c.args.dst.now) (length all) =
+    omega (arith, c.min-words.ensures, c.min.ensures, length_joined t c.args.a.now c.args.b.now) in
     let long_a : length a ≡ m = length-take-le m c.args.a.now (omega (arith, c.min-words.ensures, c.min.ensures)) in
     let long_b : length b ≡ m = length-take-le m c.args.b.now (omega (arith, c.min-words.ensures, c.min.ensures)) in
     elim c.if-rest-gt0.branch [
       | then-rest-gt0 w ↦
-          let taken = take_filled at (m - at) (zip2 t a b) (omega (arith, length_joined t a b, long_a, long_b, before.within)) in
-          rw (w.dst-is, w.change_by_part.ensures.words, w.joined_part_at-joined.ensures, taken, before.words) (rw cut at (kept_rest f m at c.args.dst.now all common before.within))
-      | else-rest-gt0 w ↦ rw (w.dst-is, before.words) (rw cut at (kept_whole f m at c.args.dst.now all common (omega (arith, before.within, w.if-rest-gt0.false))))
+          let taken = take_filled at (m - at) (zip2 t a b)
+          (omega (arith, length_joined t a b, long_a, long_b, before.within)) in
+          rw (w.dst-is, w.change_by_part.ensures.words, w.joined_part_at-joined.ensures, taken, before.words)
+          (rw cut at (kept_rest f m at c.args.dst.now all common before.within))
+      | else-rest-gt0 w ↦ rw (w.dst-is, before.words)
+          (rw cut at (kept_whole f m at c.args.dst.now all common (omega (arith, before.within, w.if-rest-gt0.false))))
     ]
 
 pub returns-clause-changed : goal.returns-clause-changed
@@ -66,20 +74,26 @@ returns-clause-changed g c =
     let b : List ℕ = take m c.args.b.now in
     let src : List ℕ = zip2 t a b in
     let all : List ℕ = zip2 t c.args.a.now c.args.b.now in
-    let common : m ≡ min (length c.args.dst.now) (length all) = omega (arith, c.min-words.ensures, c.min.ensures, length_joined t c.args.a.now c.args.b.now) in
+    let common : m ≡ min (length c.args.dst.now) (length all) =
+    omega (arith, c.min-words.ensures, c.min.ensures, length_joined t c.args.a.now c.args.b.now) in
     let long : length old ≡ m = length-take-le m c.args.dst.now (omega (arith, c.min-words.ensures)) in
     let long_a : length a ≡ m = length-take-le m c.args.a.now (omega (arith, c.min-words.ensures, c.min.ensures)) in
     let long_b : length b ≡ m = length-take-le m c.args.b.now (omega (arith, c.min-words.ensures, c.min.ensures)) in
     let long_src : length src ≡ m = omega (arith, length_joined t a b, long_a, long_b) in
-    let same = rw (take-zip2 t m c.args.a.now c.args.b.now) at (cut_joined (changed_bits f) m c.args.dst.now all common) in
+    let same =
+    rw (take-zip2 t m c.args.a.now c.args.b.now) at (cut_joined (changed_bits f) m c.args.dst.now all common) in
     let cut = ap (list_all (λ (word : ℕ). word == 0)) same in
     ap not (c.is_zero.ensures ∙ elim c.if-rest-gt0.branch [
       | then-rest-gt0 w ↦
           let part = rw w.joined_part_at-joined.ensures at w.change_by_part.ensures.changed in
-          let changed = filled_joined (changed_bits f) (nothing_joined (laws_of_changes g.met.O.WordOp.laws)) at (m - at) c.loop-at.dst src (omega arith) (omega (arith, long_src, before.within)) in
+          let changed = filled_joined (changed_bits f)
+          (nothing_joined (laws_of_changes g.met.O.WordOp.laws)) at (m - at) c.loop-at.dst src (omega arith)
+          (omega (arith, long_src, before.within)) in
           rw (w.changed-is, w.gathered-changed-then-rest-gt0.ensures, before.changed)
-          (changed_part f old src at _ _ before.words (m - at) (omega (arith, long, long_src, before.within)) (part ∙ changed) ∙ cut)
+          (changed_part f old src at _ _ before.words (m - at) (omega (arith, long, long_src, before.within))
+          (part ∙ changed) ∙ cut)
       | else-rest-gt0 w ↦
           rw (w.changed-is, before.changed)
-          (all_joined (changed_bits f) (λ (word : ℕ). word == 0) at old src (omega (arith, long, long_src, before.within, w.if-rest-gt0.false)) ∙ cut)
+          (all_joined (changed_bits f) (λ (word : ℕ).
+          word == 0) at old src (omega (arith, long, long_src, before.within, w.if-rest-gt0.false)) ∙ cut)
     ])

@@ -12,4 +12,5 @@ returns-clause-words g c =
 
 pub returns-clause-changed : goal.returns-clause-changed
 returns-clause-changed g c =
-    rw (c.lane-joined.ensures, c.part_at-old.ensures) (against_joined g.O.WordOp.joined (filled c.args.at c.args.rest c.args.dst.now) c.args.lane)
+    rw (c.lane-joined.ensures, c.part_at-old.ensures)
+    (against_joined g.O.WordOp.joined (filled c.args.at c.args.rest c.args.dst.now) c.args.lane)

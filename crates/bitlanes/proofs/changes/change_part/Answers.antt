@@ -8,4 +8,5 @@ pub returns-clause-changed : goal.returns-clause-changed
 returns-clause-changed g c =
     let f = changed_bits g.O.WordOp.joined in
     (rw c.part_at.ensures at c.change_by_part.ensures.changed)
-    ∙ filled_joined f (nothing_joined (laws_of_changes g.met.O.WordOp.laws)) c.args.at c.args.rest c.args.dst.now c.args.src.now c.requires.in_dst c.requires.in_src
+    ∙ filled_joined f (nothing_joined (laws_of_changes g.met.O.WordOp.laws)) c.args.at c.args.rest c.args.dst.now
+    c.args.src.now c.requires.in_dst c.requires.in_src

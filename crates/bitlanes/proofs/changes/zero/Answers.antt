@@ -23,8 +23,14 @@ returns-clause-words c =
     let long : ℕ = length c.args.dst.now in
     let at = c.loop-at.at in
     elim c.if-rest-gt0.branch [
-      | then-rest-gt0 w ↦ rw (w.dst-is, w.put_part.ensures) (zeros_written at (long - at) long c.loop-at.dst (omega (arith, c.loop-at.invariant.within)) (omega arith) (omega arith) c.loop-at.invariant.words)
-      | else-rest-gt0 w ↦ rw w.dst-is (zeros_in_lanes at long c.loop-at.dst (omega (arith, c.loop-at.invariant.within, w.if-rest-gt0.false)) (omega arith) c.loop-at.invariant.words)
+      | then-rest-gt0 w ↦ rw (
+        w.dst-is,
+        w.put_part.ensures,
+      ) (zeros_written at (long - at) long c.loop-at.dst (omega (arith, c.loop-at.invariant.within)) (omega arith)
+          (omega arith) c.loop-at.invariant.words)
+      | else-rest-gt0 w ↦
+          rw w.dst-is (zeros_in_lanes at long c.loop-at.dst
+          (omega (arith, c.loop-at.invariant.within, w.if-rest-gt0.false)) (omega arith) c.loop-at.invariant.words)
     ]
 
 pub returns-clause-changed : goal.returns-clause-changed
@@ -33,6 +39,13 @@ returns-clause-changed c =
     let at = c.loop-at.at in
     let before = c.loop-at.invariant in
     ap not (c.is_zero.ensures ∙ elim c.if-rest-gt0.branch [
-      | then-rest-gt0 w ↦ rw (w.changed-is, w.gathered-changed-then-rest-gt0.ensures, w.part_at.ensures, before.changed, before.rest) (all_with_part at (length old - at) old (omega (arith, before.within)))
-      | else-rest-gt0 w ↦ rw (w.changed-is, before.changed) (ap (list_all (λ (word : ℕ). word == 0)) (take_all at old (omega (arith, w.if-rest-gt0.false))))
+      | then-rest-gt0 w ↦ rw (
+        w.changed-is,
+        w.gathered-changed-then-rest-gt0.ensures,
+        w.part_at.ensures,
+        before.changed,
+        before.rest,
+      ) (all_with_part at (length old - at) old (omega (arith, before.within)))
+      | else-rest-gt0 w ↦ rw (w.changed-is, before.changed)
+          (ap (list_all (λ (word : ℕ). word == 0)) (take_all at old (omega (arith, w.if-rest-gt0.false))))
     ])

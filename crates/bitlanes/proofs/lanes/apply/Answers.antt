@@ -16,7 +16,8 @@ loop-at-preserved g c =
     record {
       words =
           rw (c.join_lane.ensures, before.words)
-          (kept_next g.O.WordOp.joined 4 c.loop-at.at (take m c.args.dst.now) (take m c.args.src.now) (omega (arith, long, c.loop-at-test.true)) (omega (arith, long_other, c.loop-at-test.true)));
+          (kept_next g.O.WordOp.joined 4 c.loop-at.at (take m c.args.dst.now) (take m c.args.src.now)
+          (omega (arith, long, c.loop-at-test.true)) (omega (arith, long_other, c.loop-at-test.true)));
       within = omega (arith, c.loop-at-test.true);
       cost = omega (arith, c.tick.ensures, before.cost);
     }
@@ -24,9 +25,14 @@ loop-at-preserved g c =
 pub returns-then-rest-gt0-clause-words : goal.returns-then-rest-gt0-clause-words
 returns-then-rest-gt0-clause-words g c =
     let before = c.loop-at.invariant in
-    rw (c.join_part.ensures, before.words) (kept_rest g.O.WordOp.joined c.min-words.result c.loop-at.at c.args.dst.now c.args.src.now c.min-words.ensures before.within)
+    rw (
+      c.join_part.ensures,
+      before.words,
+    ) (kept_rest g.O.WordOp.joined c.min-words.result c.loop-at.at c.args.dst.now c.args.src.now c.min-words.ensures
+    before.within)
 
 pub returns-else-rest-gt0-clause-words : goal.returns-else-rest-gt0-clause-words
 returns-else-rest-gt0-clause-words g c =
     let before = c.loop-at.invariant in
-    rw before.words (kept_whole g.O.WordOp.joined c.min-words.result c.loop-at.at c.args.dst.now c.args.src.now c.min-words.ensures (omega (arith, before.within, c.if-rest-gt0.false)))
+    rw before.words (kept_whole g.O.WordOp.joined c.min-words.result c.loop-at.at c.args.dst.now c.args.src.now
+    c.min-words.ensures (omega (arith, before.within, c.if-rest-gt0.false)))

@@ -15,7 +15,11 @@ pub returns-then-not-is_zero-clause-zero : goal.returns-then-not-is_zero-clause-
 returns-then-not-is_zero-clause-zero g c =
     let f = g.O.WordOp.joined in
     let cut = cut_joined f c.min-common.result c.args.a.now c.args.b.now c.min-common.ensures in
-    grind (arith, rw cut at c.lane_at.ensures, fails_within (λ (word : ℕ). word == 0) c.loop-at.at 4 (zip2 f c.args.a.now c.args.b.now))
+    grind (
+      arith,
+      rw cut at c.lane_at.ensures,
+      fails_within (λ (word : ℕ). word == 0) c.loop-at.at 4 (zip2 f c.args.a.now c.args.b.now),
+    )
 
 pub returns-then-rest-gt0-clause-zero : goal.returns-then-rest-gt0-clause-zero
 returns-then-rest-gt0-clause-zero g c =
@@ -23,5 +27,7 @@ returns-then-rest-gt0-clause-zero g c =
     let w = c.min-common.result in
     let all : List ℕ = zip2 f c.args.a.now c.args.b.now in
     let cut = cut_joined f w c.args.a.now c.args.b.now c.min-common.ensures in
-    let long : c.loop-at.at + (w - c.loop-at.at) ≡ length all = omega (arith, length_joined f c.args.a.now c.args.b.now, c.min-common.ensures, c.loop-at.invariant.within) in
-    rw (c.is_zero-then-rest-gt0.ensures, c.joined_part_at.ensures, cut) (all_part c.loop-at.at (w - c.loop-at.at) all long (rw cut at c.loop-at.invariant.zero))
+    let long : c.loop-at.at + (w - c.loop-at.at) ≡ length all =
+    omega (arith, length_joined f c.args.a.now c.args.b.now, c.min-common.ensures, c.loop-at.invariant.within) in
+    rw (c.is_zero-then-rest-gt0.ensures, c.joined_part_at.ensures, cut)
+    (all_part c.loop-at.at (w - c.loop-at.at) all long (rw cut at c.loop-at.invariant.zero))

@@ -9,4 +9,8 @@ pub returns-then-not-is_zero-clause-stops : goal.returns-then-not-is_zero-clause
 returns-then-not-is_zero-clause-stops g c = λ _. omega (arith, c.tick.ensures, c.loop-at.invariant.cost)
 
 pub returns-then-not-is_zero-clause-zero : goal.returns-then-not-is_zero-clause-zero
-returns-then-not-is_zero-clause-zero g c = grind (arith, fails_within (λ (word : ℕ). word == 0) c.loop-at.at 4 (map (g.O.WordOp.joined c.args.mask) c.args.words.now))
+returns-then-not-is_zero-clause-zero g c =
+    grind (
+      arith,
+      fails_within (λ (word : ℕ). word == 0) c.loop-at.at 4 (map (g.O.WordOp.joined c.args.mask) c.args.words.now),
+    )

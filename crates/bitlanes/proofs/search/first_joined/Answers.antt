@@ -8,7 +8,12 @@ use Rattle.bitlanes.proofs.search.first_joined.Goals as goal
 pub returns-clause-none : goal.returns-clause-none
 returns-clause-none g c i _ =
     let joined = zip2 g.O.WordOp.joined c.args.a.now c.args.b.now in
-    grind (arith, c.loop-at.invariant.zeros i, get_or_past joined i 0, length_joined g.O.WordOp.joined c.args.a.now c.args.b.now)
+    grind (
+      arith,
+      c.loop-at.invariant.zeros i,
+      get_or_past joined i 0,
+      length_joined g.O.WordOp.joined c.args.a.now c.args.b.now,
+    )
 
 pub loop-at-preserved : goal.loop-at-preserved
 loop-at-preserved g c = record { zeros = λ i below. grind (arith, c.loop-at.invariant.zeros i); cost = grind arith }

@@ -3,7 +3,8 @@ use Rattle.std.proofs.lemmas.Grind.{common_steps}
 use Rattle.bitlanes.proofs.search.next_one.Goals as goal
 
 pub loop-at-preserved : goal.loop-at-preserved
-loop-at-preserved g c = record { zeros = λ i from below. grind (arith, common_steps, c.loop-at.invariant.zeros i); cost = grind arith }
+loop-at-preserved g c =
+    record { zeros = λ i from below. grind (arith, common_steps, c.loop-at.invariant.zeros i); cost = grind arith }
 
 pub returns-then-word-ne0-clause-cost : goal.returns-then-word-ne0-clause-cost
 returns-then-word-ne0-clause-cost g c = grind arith

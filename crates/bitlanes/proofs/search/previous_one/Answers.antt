@@ -9,7 +9,12 @@ loop-end-preserved g c =
     let masked = map (g.O.WordOp.joined c.args.mask) c.args.words.now in
     record {
       within = omega (arith, before.within);
-      zeros = λ i from below. grind (arith, before.zeros i, zero_in_stretch (c.loop-end.end - 16) 16 masked (sym c.are_zero_at.ensures ∙ c.if-are_zero_at.true) i);
+      zeros = λ i from below.
+          grind (
+            arith,
+            before.zeros i,
+            zero_in_stretch (c.loop-end.end - 16) 16 masked (sym c.are_zero_at.ensures ∙ c.if-are_zero_at.true) i,
+          );
       cost = omega (arith, before.cost, before.within, c.tick_four.ensures);
     }
 
@@ -30,7 +35,8 @@ loop-end-2-preserved g c = record {
 }
 
 pub loop-at-preserved : goal.loop-at-preserved
-loop-at-preserved g c = record { zeros = λ i from below. grind (arith, common_steps, c.loop-at.invariant.zeros i); cost = grind arith }
+loop-at-preserved g c =
+    record { zeros = λ i from below. grind (arith, common_steps, c.loop-at.invariant.zeros i); cost = grind arith }
 
 pub returns-then-word-ne0-clause-found : goal.returns-then-word-ne0-clause-found
 returns-then-word-ne0-clause-found g c = grind (arith, common_steps)

@@ -13,7 +13,9 @@ loop-lane-preserved c =
     let lane : (k : ℕ) → k < 4 → get_or c.window_lane-moved.result k 0 ≡ moved (at + k) = λ k h.
     grind (arith, c.window_lane-moved.ensures.words k h, are.above (first + at + k), are.above (first + at + k + 1)) in
     record {
-      are = joined_behind (omega arith) (omega arith) are (lane_joined at _ c.window_lane-moved.result _ c.window_lane-moved.ensures.long (omega arith) (omega arith) lane c.join_lane.ensures);
+      are = joined_behind (omega arith) (omega arith) are
+          (lane_joined at _ c.window_lane-moved.result _ c.window_lane-moved.ensures.long (omega arith) (omega arith)
+          lane c.join_lane.ensures);
       cost = omega (arith, c.tick.ensures, c.loop-lane.invariant.cost);
     }
 
@@ -24,8 +26,10 @@ loop-at-preserved c =
     let first : ℕ = c.args.by / 64 in
     let moved : ℕ → ℕ = λ k. window c.args.words.now (c.args.by + 64 * k) in
     let are = c.loop-at.invariant.are in
-    let word : c.window_word.result ≡ moved at = grind (arith, c.window_word.ensures, are.above (first + at), are.above (first + at + 1)) in
+    let word : c.window_word.result ≡ moved at =
+    grind (arith, c.window_word.ensures, are.above (first + at), are.above (first + at + 1)) in
     record {
-      are = joined_behind (omega arith) (omega arith) are (word_joined at _ c.window_word.result c.window_word.result (omega arith) (omega arith) word refl);
+      are = joined_behind (omega arith) (omega arith) are
+          (word_joined at _ c.window_word.result c.window_word.result (omega arith) (omega arith) word refl);
       cost = search rules;
     }

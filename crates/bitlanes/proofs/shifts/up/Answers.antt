@@ -14,9 +14,16 @@ loop-lane-preserved g c =
     let moved : ℕ → ℕ = λ k. window old (64 * k - c.args.by) in
     let are = c.loop-lane.invariant.are in
     let lane : (k : ℕ) → k < 4 → get_or c.window_lane-moved.result k 0 ≡ moved (at + k) = λ k h.
-    grind (arith, c.window_lane-moved.ensures.words k h, are.below (at - first + k) (omega arith), are.below (at - first + k + 1) (omega arith)) in
+    grind (
+      arith,
+      c.window_lane-moved.ensures.words k h,
+      are.below (at - first + k) (omega arith),
+      are.below (at - first + k + 1) (omega arith),
+    ) in
     record {
-      are = joined_before (omega arith) (omega arith) are (lane_joined _ _ c.window_lane-moved.result _ c.window_lane-moved.ensures.long (omega arith) (omega arith) lane (rw same at c.join_lane.ensures));
+      are = joined_before (omega arith) (omega arith) are
+          (lane_joined _ _ c.window_lane-moved.result _ c.window_lane-moved.ensures.long (omega arith) (omega arith)
+          lane (rw same at c.join_lane.ensures));
       cost = omega (arith, c.tick.ensures, c.loop-lane.invariant.cost);
     }
 
@@ -28,9 +35,16 @@ loop-at-preserved g c =
     let at : ℕ = c.loop-at.at - 1 in
     let moved : ℕ → ℕ = λ k. window old (64 * k - c.args.by) in
     let are = c.loop-at.invariant.are in
-    let word : c.window_word.result ≡ moved at = grind (arith, c.window_word.ensures, are.below (at - first) (omega arith), are.below (at - first + 1) (omega arith)) in
+    let word : c.window_word.result ≡ moved at =
+    grind (
+      arith,
+      c.window_word.ensures,
+      are.below (at - first) (omega arith),
+      are.below (at - first + 1) (omega arith),
+    ) in
     record {
-      are = joined_before (omega arith) (omega arith) are (word_joined at _ c.word.result c.window_word.result (omega arith) (omega arith) word c.word.ensures);
+      are = joined_before (omega arith) (omega arith) are
+          (word_joined at _ c.word.result c.window_word.result (omega arith) (omega arith) word c.word.ensures);
       order = omega arith;
     }
 

@@ -5,12 +5,14 @@ use Rattle.bitlanes.proofs.shifts.up.Given as goal
 
 abbrev pub invariant-loop-lane : goal.invariant-loop-lane
 invariant-loop-lane g l = record {
-  are : AreJoined g.O.WordOp.joined (λ k. window l.fn.words (64 * k - l.fn.by)) l.fn.words (length l.fn.words - 4 * l.lane) (length l.fn.words) l.words;
+  are : AreJoined g.O.WordOp.joined (λ k. window l.fn.words (64 * k - l.fn.by)) l.fn.words
+      (length l.fn.words - 4 * l.lane) (length l.fn.words) l.words;
   cost : l.steps ≡ l.fn.steps + l.lane;
 }
 
 abbrev pub invariant-loop-at : goal.invariant-loop-at
 invariant-loop-at g l = record {
-  are : AreJoined g.O.WordOp.joined (λ k. window l.fn.words (64 * k - l.fn.by)) l.fn.words l.at (length l.fn.words) l.words;
+  are : AreJoined g.O.WordOp.joined (λ k. window l.fn.words (64 * k - l.fn.by)) l.fn.words l.at
+      (length l.fn.words) l.words;
   order : l.first ≤ l.at;
 }

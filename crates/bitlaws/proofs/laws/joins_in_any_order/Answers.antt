@@ -10,7 +10,8 @@ returns c = record {
   symmetric_difference_commutes = λ v w. same_bits _ _ (simp lengths (omega arith)) (λ p. simp members (grind arith));
   bitand_commutes = λ v w. same_bits _ _ (simp lengths (omega arith)) (λ p. simp members (grind arith));
   union_associates = λ u v w. same_bits _ _ (simp lengths (omega arith)) (λ p. simp members (grind arith));
-  symmetric_difference_associates = λ u v w. same_bits _ _ (simp lengths (omega arith)) (λ p. simp members (grind arith));
+  symmetric_difference_associates =
+      λ u v w. same_bits _ _ (simp lengths (omega arith)) (λ p. simp members (grind arith));
   intersection_associates = λ u v w. same_bits _ _ (simp lengths) (λ p. simp members (grind arith));
   bitand_associates = λ u v w. same_bits _ _ (simp lengths (omega arith)) (λ p. simp members (grind arith));
   union_idempotent = union-same;

@@ -1,4 +1,5 @@
-use Rattle.std.proofs.Common.{◌≡◌, ◌↔◌, ℕ, zero, suc, ◌+◌, ◌<◌, ◌≤◌, List, [], ◌∷◌, Some, Ok, Err, true, nat_lt, refl, sym, ap, subst, arith}
+use Rattle.std.proofs.Common.{◌≡◌, ◌↔◌, ℕ, zero, suc, ◌+◌, ◌<◌, ◌≤◌, List, [], ◌∷◌}
+use Rattle.std.proofs.Common.{Some, Ok, Err, true, nat_lt, refl, sym, ap, subst, arith}
 use Rattle.std.specs.Prelude.{Result}
 use Rattle.std.specs.List.{list_all}
 use Rattle.std.proofs.lemmas.Bool.Decides.{nat_tests}
@@ -49,15 +50,18 @@ before e ds k b one more (suc j) low = more j (omega arith)
 items_fault : (i : ℕ) (ds : Items) (k : ℕ) → (bytes_from i ds ≡ Err (fault.Item (i + k))) ↔ IsFirstNoByte ds k
 items_fault i no_items k = grind arith
 items_fault i (item e ds) zero =
-    let late = items_late (i + 1) ds in
-    (λ is. (e, refl, grind (arith, byte_tells, late), λ j low. absurd (omega arith)), λ h. grind (arith, byte_tells, h.2))
+    let late = items_late (i + 1) ds in (
+      λ is. (e, refl, grind (arith, byte_tells, late), λ j low. absurd (omega arith)),
+      λ h. grind (arith, byte_tells, h.2),
+    )
 items_fault i (item e ds) (suc k) =
     let later = items_fault (i + 1) ds k in (
       λ is.
           let one : (b : ℕ) × (byte e ≡ Some b) = grind arith in
           let rest = later.0 (grind arith) in
           (rest.0, rest.1, rest.2, before e ds k one.0 one.1 rest.3),
-      λ h. let one = h.3 0 (omega arith) in grind (arith, byte_tells, later.1 (h.0, h.1, h.2, λ j low. h.3 (suc j) (omega arith))),
+      λ h. let one = h.3 0 (omega arith) in
+          grind (arith, byte_tells, later.1 (h.0, h.1, h.2, λ j low. h.3 (suc j) (omega arith))),
     )
 
 -- what an answer says of a value, and that `form` answers all of which this holds
@@ -75,9 +79,11 @@ answers d (Err f) h = grind (arith, nat_tests)
 tells_items : (d : Data) (n : ℕ) (ds : Items) (r : Result (List ℕ) JsonFault)
     → HasParts d (number (unsigned n)) (array ds) → bytes_from 0 ds ≡ r → Tells d (r >>= λ bs. Ok (n, bs))
 tells_items d n ds (Ok bs) has is = let read = (items_ok 0 ds bs).0 is in (rw read.0 at has, read.1)
-tells_items d n ds (Err f) has is = let late = items_late 0 ds f is in rw late.1 (n, ds, has, (items_fault 0 ds late.0).0 (grind arith))
+tells_items d n ds (Err f) has is =
+    let late = items_late 0 ds f is in rw late.1 (n, ds, has, (items_fault 0 ds late.0).0 (grind arith))
 
-tells_parts : (d l x : Data) → HasParts d l x → Tells d (or_fault (whole l) fault.Length >>= λ n. bytes x >>= λ bs. Ok (n, bs))
+tells_parts : (d l x : Data) → HasParts d l x
+    → Tells d (or_fault (whole l) fault.Length >>= λ n. bytes x >>= λ bs. Ok (n, bs))
 unfolding bytes
 tells_parts d (number (unsigned n)) (array ds) has = tells_items d n ds (bytes_from 0 ds) has refl
 tells_parts d (number (unsigned n)) x has = (n, x, has, grind arith)
@@ -99,8 +105,10 @@ module _ {A : Type 0} (of : ℕ → List ℕ → A) where
   reads : ReadsForm (λ d. form d >>= λ f. Ok (of f.0 f.1)) of
   unfolding form
   reads d =
-      let given = known d (form d) (tells d (parts d) refl) in
-      (λ x. (given.0 x, λ h. rw (answers d (Ok (h.0, h.1)) h.2) (sym (ap Ok h.3))), λ f. (given.1 f, λ h. rw (answers d (Err f) h)))
+      let given = known d (form d) (tells d (parts d) refl) in (
+        λ x. (given.0 x, λ h. rw (answers d (Ok (h.0, h.1)) h.2) (sym (ap Ok h.3))),
+        λ f. (given.1 f, λ h. rw (answers d (Err f) h)),
+      )
 
 pub returns : goal.returns
 returns c = (reads of_bytes, reads (λ n bs. n))

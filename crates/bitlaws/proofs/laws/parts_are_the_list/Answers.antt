@@ -1,5 +1,6 @@
 use Rattle.bitwords.specs.Walk.{GivesFirst, GivesLast}
-use Rattle.bitwalks.specs.Pairs.{SievesFirst, SievesLast, joined_items, JoinsFirst, JoinsLast, split_items, SplitsFirst, SplitsLast}
+use Rattle.bitwalks.specs.Pairs.{SievesFirst, SievesLast, joined_items, JoinsFirst}
+use Rattle.bitwalks.specs.Pairs.{JoinsLast, split_items, SplitsFirst, SplitsLast}
 use Rattle.bitlaws.proofs.OfWalks.{parts}
 use Rattle.bitlaws.proofs.laws.parts_are_the_list.Goals as goal
 

@@ -10,7 +10,8 @@ loop-args-smaller c = fewer_words c.loop-args.args c.number.new.self _ c.in-Ok.e
 pub loop-args-preserved : goal.loop-args-preserved
 loop-args-preserved c =
     let pushed : c.push.new.self.items ≡ _ = grind (arith, common_steps) in
-    rw pushed (numbers_more _ c.loop-args.list.items c.loop-args.args c.number.new.self _ c.loop-args.invariant c.in-Ok.ensures)
+    rw pushed (numbers_more _ c.loop-args.list.items c.loop-args.args c.number.new.self _ c.loop-args.invariant
+    c.in-Ok.ensures)
 
 pub returns : goal.returns
 returns c = numbers_end _ c.loop-args.list.items c.loop-args.args c.loop-args.invariant (grind (arith, nat_tests))

@@ -6,7 +6,10 @@ use Rattle.bitlines.proofs.program.output_of.Goals as goal
 pub loop-sets-preserved : goal.loop-sets-preserved
 loop-sets-preserved c output rest =
     let line = c.in_ok-answer_line.ensures in
-    rw (line.1, append_assoc) (c.loop-sets.invariant (line.0 ++ output) (rw c.first_line.ensures.lines (line.2 _ output rest)))
+    rw (
+      line.1,
+      append_assoc,
+    ) (c.loop-sets.invariant (line.0 ++ output) (rw c.first_line.ensures.lines (line.2 _ output rest)))
 
 pub returns : goal.returns
 returns c =

@@ -12,7 +12,8 @@ loop-byte-init c = record { so_far = number_start c.args.word.now (grind (arith,
 pub returns-in_err-value : goal.returns-in_err-value
 returns-in_err-value c =
     let none : c.from_residual.result ≡ None = grind (arith, common_steps) in
-    none ∙ number_refused _ c.loop-byte.value c.args.word.now c.loop-byte.byte-index c.loop-byte.invariant.so_far (omega arith) (rw c.in_err-value.was at c.with_digit.ensures)
+    none ∙ number_refused _ c.loop-byte.value c.args.word.now c.loop-byte.byte-index c.loop-byte.invariant.so_far
+    (omega arith) (rw c.in_err-value.was at c.with_digit.ensures)
 
 pub loop-byte-preserved : goal.loop-byte-preserved
 loop-byte-preserved c =
@@ -25,4 +26,6 @@ loop-byte-preserved c =
     }
 
 pub returns : goal.returns
-returns c = number_end _ _ c.args.word.now c.loop-byte.byte-index c.loop-byte.invariant.so_far (omega arith) c.loop-byte.invariant.fits
+returns c =
+    number_end _ _ c.args.word.now c.loop-byte.byte-index c.loop-byte.invariant.so_far (omega arith)
+    c.loop-byte.invariant.fits

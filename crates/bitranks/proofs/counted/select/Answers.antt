@@ -5,7 +5,8 @@ use Rattle.bitranks.proofs.Counting.{kept_select, kept_entries, kept_words}
 use Rattle.bitranks.proofs.counted.select.Goals as goal
 
 pub returns-clause-value : goal.returns-clause-value
-returns-clause-value c = cc (kept_select _ _ _ c.ranks.invariant c.args.index c.select.result c.select.ensures.value, c.ranks.view_is)
+returns-clause-value c =
+    cc (kept_select _ _ _ c.ranks.invariant c.args.index c.select.result c.select.ensures.value, c.ranks.view_is)
 
 pub returns-clause-cost : goal.returns-clause-cost
 returns-clause-cost c =

@@ -8,8 +8,10 @@ loop-high-preserved-then-directory-middle c = record {
   within = omega arith;
   below = omega arith;
   above = c.loop-high.invariant.above;
-  cost = λ n long. halved n c.args.steps.now c.loop-high.steps _ (c.loop-high.high - c.loop-high.low) _ (omega arith) (c.loop-high.invariant.cost n long) (omega arith) (omega arith);
-  least = λ n le. halved_least n c.args.steps.now c.loop-high.steps _ (c.loop-high.high - c.loop-high.low) _ (omega arith) (c.loop-high.invariant.least n le) (omega arith) (omega arith);
+  cost = λ n long. halved n c.args.steps.now c.loop-high.steps _ (c.loop-high.high - c.loop-high.low) _ (omega arith)
+      (c.loop-high.invariant.cost n long) (omega arith) (omega arith);
+  least = λ n le. halved_least n c.args.steps.now c.loop-high.steps _ (c.loop-high.high - c.loop-high.low) _
+      (omega arith) (c.loop-high.invariant.least n le) (omega arith) (omega arith);
   grows = omega (arith, c.loop-high.invariant.grows);
 }
 
@@ -19,8 +21,10 @@ loop-high-preserved c = record {
   within = omega arith;
   below = c.loop-high.invariant.below;
   above = λ _. omega arith;
-  cost = λ n long. halved n c.args.steps.now c.loop-high.steps _ (c.loop-high.high - c.loop-high.low) _ (omega arith) (c.loop-high.invariant.cost n long) (omega arith) (omega arith);
-  least = λ n le. halved_least n c.args.steps.now c.loop-high.steps _ (c.loop-high.high - c.loop-high.low) _ (omega arith) (c.loop-high.invariant.least n le) (omega arith) (omega arith);
+  cost = λ n long. halved n c.args.steps.now c.loop-high.steps _ (c.loop-high.high - c.loop-high.low) _ (omega arith)
+      (c.loop-high.invariant.cost n long) (omega arith) (omega arith);
+  least = λ n le. halved_least n c.args.steps.now c.loop-high.steps _ (c.loop-high.high - c.loop-high.low) _
+      (omega arith) (c.loop-high.invariant.least n le) (omega arith) (omega arith);
   grows = omega (arith, c.loop-high.invariant.grows);
 }
 
@@ -30,7 +34,8 @@ loop-high-init c = record {
   within = omega arith;
   below = c.requires.first;
   above = λ more. absurd (omega (arith, more));
-  cost = λ n long. let e : c.args.steps.now + n - c.args.steps.now ≡ n = omega arith in record { within = omega arith; left = rw e (omega (arith, long)) };
+  cost = λ n long. let e : c.args.steps.now + n - c.args.steps.now ≡ n = omega arith in
+      record { within = omega arith; left = rw e (omega (arith, long)) };
   least = λ n le. let e : c.args.steps.now + n - c.args.steps.now ≡ n = omega arith in rw e (omega (arith, le));
   grows = omega arith;
 }
@@ -38,6 +43,7 @@ loop-high-init c = record {
 pub returns-clause-cost : goal.returns-clause-cost
 returns-clause-cost c = record {
   grows = c.loop-high.invariant.grows;
-  least = λ n le. all_taken n c.args.steps.now c.loop-high.steps (c.loop-high.high - c.loop-high.low) (c.loop-high.invariant.least n le) (omega arith);
+  least = λ n le. all_taken n c.args.steps.now c.loop-high.steps (c.loop-high.high - c.loop-high.low)
+      (c.loop-high.invariant.least n le) (omega arith);
   most = λ n long. (c.loop-high.invariant.cost n long).within;
 }

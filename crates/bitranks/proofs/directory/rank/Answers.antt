@@ -14,7 +14,13 @@ returns-then-is_empty-clause-count c =
 pub overflow_add-total : goal.overflow_add-total
 overflow_add-total c =
     let ws = c.args.words.now in
-    omega (arith, c.loop-k.invariant.count, word-count ws (λ k. search rules) c.loop-k.k, count-le (has_bit ws) (64 * (c.loop-k.k + 1)), c.min-at.ensures)
+    omega (
+      arith,
+      c.loop-k.invariant.count,
+      word-count ws (λ k. search rules) c.loop-k.k,
+      count-le (has_bit ws) (64 * (c.loop-k.k + 1)),
+      c.min-at.ensures,
+    )
 
 pub loop-k-preserved : goal.loop-k-preserved
 loop-k-preserved c = grind (arith, c.loop-k.invariant.count, word-count c.args.words.now (λ k. search rules) c.loop-k.k)
@@ -22,11 +28,15 @@ loop-k-preserved c = grind (arith, c.loop-k.invariant.count, word-count c.args.w
 pub overflow_add-result : goal.overflow_add-result
 overflow_add-result c =
     let ws = c.args.words.now in
-    let all = count-upto ws (λ k. search rules) c.min-at.result c.args.position c.min-below.result c.ones_below.result c.loop-k.total c.loop-k.k
-    c.loop-k.invariant.count (omega arith) c.min-at.ensures (not_zero _ (search rules)) c.min-below.ensures c.ones_below.ensures in
+    let all = count-upto ws (λ k. search rules) c.min-at.result c.args.position c.min-below.result c.ones_below.result
+    c.loop-k.total c.loop-k.k
+    c.loop-k.invariant.count (omega arith) c.min-at.ensures (not_zero _ (search rules)) c.min-below.ensures
+    c.ones_below.ensures in
     omega (arith, all, count-le (has_bit ws) c.args.position)
 
 pub returns-clause-count : goal.returns-clause-count
 returns-clause-count c =
-    count-upto c.args.words.now (λ k. search rules) c.min-at.result c.args.position c.min-below.result c.ones_below.result c.loop-k.total c.loop-k.k
-    c.loop-k.invariant.count (omega arith) c.min-at.ensures (not_zero _ (search rules)) c.min-below.ensures c.ones_below.ensures
+    count-upto c.args.words.now (λ k. search rules) c.min-at.result c.args.position c.min-below.result
+    c.ones_below.result c.loop-k.total c.loop-k.k
+    c.loop-k.invariant.count (omega arith) c.min-at.ensures (not_zero _ (search rules)) c.min-below.ensures
+    c.ones_below.ensures

@@ -7,4 +7,8 @@ returns g c =
     let first = c.fill-count.ensures in
     let parts = c.split_at_mut-room.ensures in
     let second = c.fill.ensures in
-    rw (first.rest, second.rest) (both_takes _ _ _ _ _ _ _ _ first.answer (sym parts.value ∙ first.written) parts.front_len second.answer second.written)
+    rw (
+      first.rest,
+      second.rest,
+    ) (both_takes _ _ _ _ _ _ _ _ first.answer (sym parts.value ∙ first.written) parts.front_len second.answer
+    second.written)

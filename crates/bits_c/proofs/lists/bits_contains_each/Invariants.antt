@@ -5,4 +5,5 @@ use Rattle.bits_c.proofs.lists.bits_contains_each.Given as goal
 
 -- the answers for the positions that came are written
 abbrev pub invariant-loop-index : goal.invariant-loop-index
-invariant-loop-index l = l.answers ≡ map (contains (value l.set)) (take l.index l.positions) ++ drop l.index l.fn.answers
+invariant-loop-index l =
+    l.answers ≡ map (contains (value l.set)) (take l.index l.positions) ++ drop l.index l.fn.answers

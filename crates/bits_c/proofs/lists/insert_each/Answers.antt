@@ -15,7 +15,14 @@ loop-position-preserved c =
     let index = c.loop-position.position-index in
     let item = get_or items index 0 in
     let old = of_words c.args.length c.args.words.now in
-    let below : item < c.args.length = All-get_or (λ p. p < c.args.length) items index 0 c.loop-position-test.true c.requires.below in
+    let below : item < c.args.length = All-get_or (λ p. p < c.args.length) items index 0 c.loop-position-test.true
+    c.requires.below in
     let within : item < (of_words c.args.length c.loop-position.words).length = rw length-of_words below in
-    let more = ap (λ (v : Bits). add v item) c.loop-position.invariant.value ∙ sym (add_all-last old (take index items) item) ∙ ap (add_all old) (sym (take_more items index 0 c.loop-position-test.true)) in
-    record { value = grind (arith, add-insert (of_words c.args.length c.loop-position.words) item within, more); clean = search rules }
+    let more =
+    ap (λ (v : Bits).
+    add v item) c.loop-position.invariant.value ∙ sym (add_all-last old (take index items) item)
+    ∙ ap (add_all old) (sym (take_more items index 0 c.loop-position-test.true)) in
+    record {
+      value = grind (arith, add-insert (of_words c.args.length c.loop-position.words) item within, more);
+      clean = search rules;
+    }

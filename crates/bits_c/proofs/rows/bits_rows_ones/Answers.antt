@@ -4,4 +4,5 @@ use Rattle.bits_c.proofs.Between.{words_left}
 use Rattle.bits_c.proofs.rows.bits_rows_ones.Goals as goal
 
 pub returns-then-row-rows-clause-words : goal.returns-then-row-rows-clause-words
-returns-then-row-rows-clause-words c = words_left _ _ _ (c.of.ensures.words ∙ c.ones.ensures.words) ∙ ap words_between c.row.ensures.length
+returns-then-row-rows-clause-words c =
+    words_left _ _ _ (c.of.ensures.words ∙ c.ones.ensures.words) ∙ ap words_between c.row.ensures.length

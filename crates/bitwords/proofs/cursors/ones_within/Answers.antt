@@ -5,4 +5,5 @@ use Rattle.bitwords.proofs.cursors.ones_within.Goals as goal
 pub returns : goal.returns
 returns c =
     within-range c.args.words.now _ c.args.start c.args.end _
-    (ap (λ last. take (last - c.args.start / 64) (drop (c.args.start / 64) c.args.words.now)) c.div_ceil.ensures) refl c.within.result c.within.ensures
+    (ap (λ last. take (last - c.args.start / 64) (drop (c.args.start / 64) c.args.words.now)) c.div_ceil.ensures) refl
+    c.within.result c.within.ensures

@@ -8,7 +8,8 @@ use Rattle.bitwords.proofs.gaps.first_aligned.Given as goal
 abbrev pub invariant-loop-found : goal.invariant-loop-found
 invariant-loop-found l = record {
   none : NonePasses (aligned (has_bit l.words) l.end l.count l.align l.from) l.from l.at;
-  spent : (turns : ℕ) × (reach : ℕ) × IsSpent (has_bit l.words) l.end l.count l.align l.from l.fn.steps l.at l.steps turns reach;
+  spent : (turns : ℕ) × (reach : ℕ)
+      × IsSpent (has_bit l.words) l.end l.count l.align l.from l.fn.steps l.at l.steps turns reach;
 }
 
 abbrev pub decreases-loop-found : goal.decreases-loop-found

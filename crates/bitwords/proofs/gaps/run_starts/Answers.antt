@@ -6,7 +6,8 @@ pub loop-have-preserved : goal.loop-have-preserved
 loop-have-preserved c = record {
   some = omega arith;
   within = omega (arith, c.min-more.ensures);
-  runs = λ i. run-doubled c.args.word c.loop-have.starts c.loop-have.have c.min-more.result i (omega (arith, c.min-more.ensures)) c.loop-have.invariant.runs;
+  runs = λ i. run-doubled c.args.word c.loop-have.starts c.loop-have.have c.min-more.result i
+      (omega (arith, c.min-more.ensures)) c.loop-have.invariant.runs;
 }
 
 pub returns-then-count-gt-BITS : goal.returns-then-count-gt-BITS

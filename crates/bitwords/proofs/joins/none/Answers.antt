@@ -8,4 +8,5 @@ pub returns-clause-none : goal.returns-clause-none
 returns-clause-none g c =
     c.none_words.ensures.zero
     ∙ all-ones (zip_longest g.O.WordOp.joined g.O.WordOp.KEEP g.O.WordOp.TAKE c.args.a.now c.args.b.now)
-    ∙ ap (λ n. n == 0) (longest-ones g.met.O.WordOp.laws c.args.a.now c.args.b.now (λ k. search rules) (λ k. search rules))
+    ∙ ap (λ n. n == 0)
+    (longest-ones g.met.O.WordOp.laws c.args.a.now c.args.b.now (λ k. search rules) (λ k. search rules))

@@ -1,4 +1,6 @@
-use Rattle.std.proofs.Common.{◌≡◌, ◌+◌, ◌-◌, ◌/◌, ◌^◌, ◌≤◌, ℕ, List, set, bit_and, get_or, length, replicate, rules, refl, sym, ap, ◌∙◌, ◌==◌, arith, inl, inr, ⊎_elim, get_or-set_same, get_or-set_other, length-set}
+use Rattle.std.proofs.Common.{◌≡◌, ◌+◌, ◌-◌, ◌/◌, ◌^◌, ◌≤◌, ℕ, List, set, bit_and, get_or}
+use Rattle.std.proofs.Common.{length, replicate, rules, refl, sym, ap, ◌∙◌, ◌==◌, arith, inl}
+use Rattle.std.proofs.Common.{inr, ⊎_elim, get_or-set_same, get_or-set_other, length-set}
 use Rattle.std.proofs.lemmas.Bool.{cases_order, le-ltb, lt-ltb}
 use Rattle.std.proofs.lemmas.Bool.Decides.{nat_tests}
 use Rattle.std.proofs.lemmas.Grind.{common_steps}
@@ -18,7 +20,8 @@ returns-then-at-words c =
     let inside : at + 1 ≤ length row = omega arith in
     let are : c.zero.new.dst ≡ replicate (length row - (at + 1)) 0 = search rules in
     let before = get_or-cut_row_below row c.zero.new.dst (at + 1) inside are in
-    IsJoined_words laws_of_and old (λ k. search rules) _ _ (length-cut_row row c.zero.new.dst (at + 1) inside are ∙ same) (λ k within. ⊎_elim
+    IsJoined_words laws_of_and old (λ k. search rules) _ _ (length-cut_row row c.zero.new.dst (at + 1) inside are
+    ∙ same) (λ k within. ⊎_elim
     (λ (here : k ≡ at). rw here (inl (record {
       word = c.ones_below.result;
       fits = c.ones_below.type_inv;
@@ -29,9 +32,14 @@ returns-then-at-words c =
     (λ lt. inl (record {
       word = 2 ^ 64 - 1;
       fits = omega arith;
-      joined = before k (omega (arith, lt)) ∙ get_or-set_other old at k put 0 (omega (arith, lt)) ∙ grind (arith, common_steps);
+      joined = before k (omega (arith, lt)) ∙ get_or-set_other old at k put 0 (omega (arith, lt))
+          ∙ grind (arith, common_steps);
       bits = λ i h. ap (λ n. n == 1) (bit_at_ones 64 i h) ∙ sym (lt-ltb _ _ (omega (arith, lt)));
     }))
-    (λ gt. inr (record { none = λ i h. le-ltb _ _ (omega (arith, gt)); left = inr (refl, get_or-cut_row_from row c.zero.new.dst (at + 1) inside are k (omega (arith, gt)) (omega arith)) }))
+    (λ gt.
+    inr (record {
+      none = λ i h. le-ltb _ _ (omega (arith, gt));
+      left = inr (refl, get_or-cut_row_from row c.zero.new.dst (at + 1) inside are k (omega (arith, gt)) (omega arith));
+    }))
     other)
     (cases_order k at))

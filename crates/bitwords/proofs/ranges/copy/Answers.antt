@@ -10,9 +10,11 @@ returns-clause-bits c =
     let start : ℕ = c.args.start in
     let low : ℕ = c.cut-low.result.0 in
     let high : ℕ = c.cut-low.result.1 in
-    let middle = IsCopied-between ws (from + (low - start)) start c.args.end low high _ _ cut c.copy_whole.ensures.bits in
+    let middle = IsCopied-between ws (from + (low - start)) start c.args.end low high _ _ cut
+    c.copy_whole.ensures.bits in
     let upto = IsCopied-append ws from start low high _ _ _ cut.first cut.middle c.copy_part.ensures.bits middle in
-    IsCopied-append ws from start high c.args.end _ _ _ (omega (arith, cut.first, cut.middle)) cut.last upto c.copy_part-2.ensures.bits
+    IsCopied-append ws from start high c.args.end _ _ _ (omega (arith, cut.first, cut.middle)) cut.last upto
+    c.copy_part-2.ensures.bits
 
 pub returns-clause-cost : goal.returns-clause-cost
 returns-clause-cost c = grind arith

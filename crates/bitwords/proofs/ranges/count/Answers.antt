@@ -7,17 +7,34 @@ use Rattle.bitwords.proofs.ranges.count.Goals as goal
 pub overflow_add-result : goal.overflow_add-result
 overflow_add-result g c =
     let bits : ℕ → Bool = bit_test (g.O.WordOp.truth true) c.args.words.now in
-    omega (arith, c.count_part-first.ensures.count, count-between _ _ _ _ c.cut-low.ensures bits c.count_whole-middle.result c.count_whole-middle.ensures.count, count-le bits c.cut-low.result.1, c.cut-low.ensures.last)
+    omega (
+      arith,
+      c.count_part-first.ensures.count,
+      count-between _ _ _ _ c.cut-low.ensures bits c.count_whole-middle.result c.count_whole-middle.ensures.count,
+      count-le bits c.cut-low.result.1,
+      c.cut-low.ensures.last,
+    )
 
 pub overflow_add-result-2 : goal.overflow_add-result-2
 overflow_add-result-2 g c =
     let bits : ℕ → Bool = bit_test (g.O.WordOp.truth true) c.args.words.now in
-    omega (arith, c.count_part-first.ensures.count, count-between _ _ _ _ c.cut-low.ensures bits c.count_whole-middle.result c.count_whole-middle.ensures.count, c.count_part-last.ensures.count, count-le bits c.args.end)
+    omega (
+      arith,
+      c.count_part-first.ensures.count,
+      count-between _ _ _ _ c.cut-low.ensures bits c.count_whole-middle.result c.count_whole-middle.ensures.count,
+      c.count_part-last.ensures.count,
+      count-le bits c.args.end,
+    )
 
 pub returns-clause-count : goal.returns-clause-count
 returns-clause-count g c =
     let bits : ℕ → Bool = bit_test (g.O.WordOp.truth true) c.args.words.now in
-    omega (arith, c.count_part-first.ensures.count, count-between _ _ _ _ c.cut-low.ensures bits c.count_whole-middle.result c.count_whole-middle.ensures.count, c.count_part-last.ensures.count)
+    omega (
+      arith,
+      c.count_part-first.ensures.count,
+      count-between _ _ _ _ c.cut-low.ensures bits c.count_whole-middle.result c.count_whole-middle.ensures.count,
+      c.count_part-last.ensures.count,
+    )
 
 pub returns-clause-cost : goal.returns-clause-cost
 returns-clause-cost g c = grind arith

@@ -12,8 +12,11 @@ returns-else-none_whole-clause-none g c =
     let bits : ℕ → Bool = bit_test (g.O.WordOp.truth true) c.args.words.now in
     let cut = c.cut-low.ensures in
     c.if-none_whole.false ∙ elim c.if-none_part.branch [
-      | then-none_part w ↦ grows_within bits c.args.start c.cut-low.result.0 c.cut-low.result.1 c.args.end cut.first cut.middle cut.last (sym (same-between _ _ _ _ cut bits) ∙ sym w.none_whole.ensures.none ∙ sym w.value-is ∙ c.if-none_whole.false)
-      | else-none_part w ↦ grows_within bits c.args.start c.args.start c.cut-low.result.0 c.args.end (omega arith) cut.first (omega (arith, cut.middle, cut.last)) (sym c.none_part.ensures.none ∙ w.if-none_part.false)
+      | then-none_part w ↦ grows_within bits c.args.start c.cut-low.result.0 c.cut-low.result.1 c.args.end cut.first
+          cut.middle cut.last (sym (same-between _ _ _ _ cut bits) ∙ sym w.none_whole.ensures.none ∙ sym w.value-is
+          ∙ c.if-none_whole.false)
+      | else-none_part w ↦ grows_within bits c.args.start c.args.start c.cut-low.result.0 c.args.end (omega arith)
+          cut.first (omega (arith, cut.middle, cut.last)) (sym c.none_part.ensures.none ∙ w.if-none_part.false)
     ]
 
 pub returns-then-none_whole-clause-none : goal.returns-then-none_whole-clause-none
@@ -21,7 +24,9 @@ returns-then-none_whole-clause-none g c =
     let bits : ℕ → Bool = bit_test (g.O.WordOp.truth true) c.args.words.now in
     c.none_part-then-none_whole.ensures.none ∙ elim c.if-none_part.branch [
       | then-none_part w ↦
-          stays_upto (count_below bits c.args.start) (count_below bits c.cut-low.result.0) (count_below bits c.cut-low.result.1) (count_below bits c.args.end)
-          (sym w.if-none_part.true ∙ c.none_part.ensures.none) (sym c.if-none_whole.true ∙ w.value-is ∙ w.none_whole.ensures.none ∙ same-between _ _ _ _ c.cut-low.ensures bits)
+          stays_upto (count_below bits c.args.start) (count_below bits c.cut-low.result.0)
+          (count_below bits c.cut-low.result.1) (count_below bits c.args.end)
+          (sym w.if-none_part.true ∙ c.none_part.ensures.none) (sym c.if-none_whole.true ∙ w.value-is
+          ∙ w.none_whole.ensures.none ∙ same-between _ _ _ _ c.cut-low.ensures bits)
       | else-none_part w ↦ absurd (true≢false (sym c.if-none_whole.true ∙ w.value-is ∙ w.if-none_part.false))
     ]

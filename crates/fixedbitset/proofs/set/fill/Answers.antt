@@ -22,15 +22,21 @@ loop-at-preserved g c =
           ap (λ ws. set ws c.in-Some.at c.in-Some.block) (before.words ∙ ap (λ k. blocks ++ drop k old) (sym count))
           ∙ ap (λ k. set (blocks ++ drop (length blocks) old) k c.in-Some.block) (step.1 ∙ before.count ∙ sym count)
           ∙ overwritten blocks old c.in-Some.block (omega (arith, count, step.0.1, before.room, c.requires.within))
-          ∙ (let front = sym (map-append (λ (x : ℕ × ℕ). x.1) seen (item ∷ [])) in let rest : suc (length blocks) ≡ length (seen ++ item ∷ []) = omega (arith, count, long) in λ i. front i ++ drop (rest i) old);
+          ∙ (let front =
+          sym
+          (map-append (λ (x : ℕ × ℕ).
+          x.1) seen (item ∷ [])) in let rest : suc (length blocks) ≡ length (seen ++ item ∷ []) =
+          omega (arith, count, long) in λ i. front i ++ drop (rest i) old);
     }
 
 -- the run of the source that stands behind the items taken
 pub returns : goal.returns
 returns g c =
     let loop = c.loop-at in
-    let whole = exit_by (enumerate_steps (take_steps g.I.Iterator.next_gives)) (loop.yielded, loop.yielded_by) c.next.new.self c.in-None.ensures.steps in
-    let numbered = c.enumerate-at-items.ensures.runs whole.0 whole.0.seen (whole.1 ∙ c.into_iter-at-iterator.ensures.into_iter_gives) in
+    let whole = exit_by (enumerate_steps (take_steps g.I.Iterator.next_gives)) (loop.yielded, loop.yielded_by)
+    c.next.new.self c.in-None.ensures.steps in
+    let numbered = c.enumerate-at-items.ensures.runs whole.0 whole.0.seen
+    (whole.1 ∙ c.into_iter-at-iterator.ensures.into_iter_gives) in
     let items = numbered.1 in
     let taken = c.take.ensures.runs items.0 items.0.seen items.1 in
     let source = taken.1 in
@@ -41,6 +47,8 @@ returns g c =
       (
         omega (arith, taken.0, same.0, source.0.long),
         λ short. source.2.1 (items.2.1 ∙ whole.2) (omega (arith, same.0, source.0.long)),
-        rw are (loop.invariant.words ∙ ap (λ k. map (λ x. x.1) loop.yielded ++ drop k c.args.words.now) (sym (length-map loop.yielded (λ x. x.1)))),
+        rw are (loop.invariant.words
+            ∙ ap (λ k. map (λ x. x.1) loop.yielded ++ drop k c.args.words.now)
+            (sym (length-map loop.yielded (λ x. x.1)))),
       ),
     )

@@ -10,7 +10,10 @@ turns-init c =
     search (rules, arith, nodes, pending_first)
 
 pub returns-then-not-turn-clause-bound : goal.returns-then-not-turn-clause-bound
-returns-then-not-turn-clause-bound c = rw (← c.turns.auto.ins) (omega (arith, total_all (facts_of c.args.kills.now) c.turns.ins))
+returns-then-not-turn-clause-bound c =
+    rw (← c.turns.auto.ins) (omega (arith, total_all (facts_of c.args.kills.now) c.turns.ins))
 
 pub turns-smaller : goal.turns-smaller
-turns-smaller c = rw (← c.turn.auto.ins) (omega (arith, total_all (facts_of c.args.kills.now) c.turn.new.ins, c.turn.ensures.grows c.if-not-turn.false))
+turns-smaller c =
+    rw (← c.turn.auto.ins)
+    (omega (arith, total_all (facts_of c.args.kills.now) c.turn.new.ins, c.turn.ensures.grows c.if-not-turn.false))

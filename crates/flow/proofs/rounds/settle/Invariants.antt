@@ -10,7 +10,8 @@ invariant-turns l = record {
   nodes : l.room.due.length ≡ length l.fn.ins;
   next : l.room.next ≡ empty (length l.fn.ins);
   due : AreSettledBut l.room.due l.edges l.ins l.outs;
-  reached : (gens : Sets) → length gens ≡ length l.fn.ins → IsReached l.edges gens l.kills l.fn.ins l.fn.outs → IsReached l.edges gens l.kills l.ins l.outs;
+  reached : (gens : Sets) → length gens ≡ length l.fn.ins → IsReached l.edges gens l.kills l.fn.ins l.fn.outs
+      → IsReached l.edges gens l.kills l.ins l.outs;
   from : l.fn.rounds ≤ l.rounds;
   bound : l.rounds ≤ l.fn.rounds + total (facts_of l.kills) l.ins;
 }

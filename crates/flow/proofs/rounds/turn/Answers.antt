@@ -14,15 +14,25 @@ loop-from-preserved c =
     let within : i < length c.args.edges.now = omega arith in
     elim c.if-pass.branch [
       | then-pass w ↦
-          rw (w.if-pass.ensures.ins, w.if-pass.ensures.outs, w.room-is, w.insert.ensures, w.insert-then-pass.ensures, w.changed-is)
-          (turned_passed _ _ _ _ _ i _ _ _ _ c.loop-from.changed (0, 0) within before c.requires.below (w.if-pass.ensures.more refl))
+          rw (
+            w.if-pass.ensures.ins,
+            w.if-pass.ensures.outs,
+            w.room-is,
+            w.insert.ensures,
+            w.insert-then-pass.ensures,
+            w.changed-is,
+          )
+          (turned_passed _ _ _ _ _ i _ _ _ _ c.loop-from.changed (0, 0) within before c.requires.below
+          (w.if-pass.ensures.more refl))
       | else-pass w ↦
           rw (w.if-pass.ensures.ins, w.if-pass.ensures.outs, w.room-is, w.changed-is)
           (turned_kept _ _ _ _ _ i _ _ _ _ c.loop-from.changed (0, 0) within before (w.if-pass.ensures.none refl))
     ]
 
 pub returns-clause-next : goal.returns-clause-next
-returns-clause-next c = turned_next _ _ _ _ _ c.loop-from.from-index _ _ _ _ c.loop-from.changed (omega arith) c.loop-from.invariant
+returns-clause-next c =
+    turned_next _ _ _ _ _ c.loop-from.from-index _ _ _ _ c.loop-from.changed (omega arith) c.loop-from.invariant
 
 pub returns-clause-settled : goal.returns-clause-settled
-returns-clause-settled c = turned_end _ _ _ _ _ c.loop-from.from-index _ _ _ _ c.loop-from.changed (omega arith) c.loop-from.invariant
+returns-clause-settled c =
+    turned_end _ _ _ _ _ c.loop-from.from-index _ _ _ _ c.loop-from.changed (omega arith) c.loop-from.invariant

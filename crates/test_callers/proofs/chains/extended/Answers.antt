@@ -5,4 +5,6 @@ use Rattle.fixedbitset.specs.Bits as model
 use Rattle.test_callers.proofs.chains.extended.Goals as goal
 
 pub returns : goal.returns
-returns c = let h = items_from_extend c.extend.result c.extend.ensures.ran (walk_list _ (model.asc c.args.set.now) (cc)) in search rules
+returns c =
+    let h = items_from_extend c.extend.result c.extend.ensures.ran (walk_list _ (model.asc c.args.set.now) (cc)) in
+    search rules

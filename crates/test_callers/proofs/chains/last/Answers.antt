@@ -10,5 +10,6 @@ pub returns : goal.returns
 returns c =
     let ran = c.last.ensures.ran in
     let end = ran.1 in
-    let all : map (λ p. p) ran.0 ≡ model.asc c.args.set.now = items_from_drains ran.0 (end.1.0, end.1.1, λ _. (end.0, end.1.2)) (walk_list _ _ c.ones.ensures.items) in
+    let all : map (λ p. p) ran.0 ≡ model.asc c.args.set.now =
+    items_from_drains ran.0 (end.1.0, end.1.1, λ _. (end.0, end.1.2)) (walk_list _ _ c.ones.ensures.items) in
     ran.2 ∙ ap (last_or None) (sym (map-id ran.0) ∙ all)

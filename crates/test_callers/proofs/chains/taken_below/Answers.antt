@@ -8,4 +8,5 @@ use Rattle.test_callers.proofs.chains.taken_below.Goals as goal
 pub returns : goal.returns
 returns c =
     items_from_collect _ c.collect.ensures.ran (
-    YieldsList-from_take_while _ (λ p. nat_lt p c.args.end) (walk_list _ (model.asc c.args.set.now) (cc)) c.take_while.ensures.closure c.take_while.ensures.done (λ x b q k. search (rules, tests)))
+    YieldsList-from_take_while _ (λ p. nat_lt p c.args.end) (walk_list _ (model.asc c.args.set.now) (cc))
+    c.take_while.ensures.closure c.take_while.ensures.done (λ x b q k. search (rules, tests)))

@@ -11,7 +11,8 @@ decreases-loop-node l = count_zeroes l.visited 0 l.visited.length + vec_len l.to
 
 abbrev pub invariant-loop-to : goal.invariant-loop-to
 invariant-loop-to l = record {
-  fewer : count_zeroes l.visited 0 l.visited.length + vec_len l.todo ≤ count_zeroes l.initial.visited 0 l.initial.visited.length + vec_len l.initial.todo;
+  fewer : count_zeroes l.visited 0 l.visited.length + vec_len l.todo
+      ≤ count_zeroes l.initial.visited 0 l.initial.visited.length + vec_len l.initial.todo;
   nodes : l.visited.length ≡ length l.edges;
   start : contains l.visited l.start ≡ true;
 }

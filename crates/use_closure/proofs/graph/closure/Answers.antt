@@ -17,9 +17,12 @@ returns-clause-joined c =
     λ a b.
     let listed = in_pairs new (length new.rows) a b in
     let closed = c.close.ensures.closed a b in (
-      λ there. connected_through (paths.HasEdge t) (HasEdge rows) (λ x y edge. (c.in_ok-table.ensures.edges x y).0 edge) a b (closed.0 (listed.0 (subst (λ (l : List (ℕ × ℕ)). Contains l (a, b)) items there)).1),
+      λ there. connected_through (paths.HasEdge t) (HasEdge rows) (λ x y edge. (c.in_ok-table.ensures.edges x y).0 edge)
+          a b (closed.0 (listed.0 (subst (λ (l : List (ℕ × ℕ)). Contains l (a, b)) items there)).1),
       λ path.
-          let one = closed.1 (connected_through (HasEdge rows) (paths.HasEdge t) (λ x y edge. (c.in_ok-table.ensures.edges x y).1 edge) a b path) in
+          let one =
+          closed.1 (connected_through (HasEdge rows) (paths.HasEdge t)
+          (λ x y edge. (c.in_ok-table.ensures.edges x y).1 edge) a b path) in
           subst (λ (l : List (ℕ × ℕ)). Contains l (a, b)) (sym items) (listed.1 (has_row new a b one, one)),
     )
 

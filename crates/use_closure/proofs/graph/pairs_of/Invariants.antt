@@ -6,4 +6,5 @@ abbrev pub invariant-loop-row : goal.invariant-loop-row
 invariant-loop-row l = l.pairs.items ≡ pairs_in l.table l.row
 
 abbrev pub invariant-loop-column : goal.invariant-loop-column
-invariant-loop-column l = l.pairs.items ++ map (λ column. (l.row, column)) l.column-iterator.items ≡ pairs_in l.table (l.row + 1)
+invariant-loop-column l =
+    l.pairs.items ++ map (λ column. (l.row, column)) l.column-iterator.items ≡ pairs_in l.table (l.row + 1)

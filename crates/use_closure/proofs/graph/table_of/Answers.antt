@@ -1,4 +1,5 @@
-use Rattle.std.proofs.Common.{◌≡◌, ◌∙◌, ◌<◌, ◌↔◌, inl, inr, ℕ, true, List, IsTrue, length, sym, ap, subst, arith, ⊎_elim}
+use Rattle.std.proofs.Common.{◌≡◌, ◌∙◌, ◌<◌, ◌↔◌, inl, inr, ℕ, true, List}
+use Rattle.std.proofs.Common.{IsTrue, length, sym, ap, subst, arith, ⊎_elim}
 use Rattle.std.specs.Prelude.{All, slice_index}
 use Rattle.std.proofs.lemmas.Bool.{true≢false}
 use Rattle.std.proofs.lemmas.List.{take_all, length-replicate}
@@ -27,7 +28,8 @@ loop-row-init c =
 
 pub returns-in_default-clause-fault : goal.returns-in_default-clause-fault
 returns-in_default-clause-fault c =
-    other_row (IsEdge c.args.nodes) c.args.rows.now c.loop-row.row-index c.row-item.result c.loop-row-test.true c.row-item.is c.loop-row.invariant.each
+    other_row (IsEdge c.args.nodes) c.args.rows.now c.loop-row.row-index c.row-item.result c.loop-row-test.true
+    c.row-item.is c.loop-row.invariant.each
     (rw c.in_default.is at (rw c.deref.ensures.value at c.edge_of.ensures))
 
 pub loop-row-preserved : goal.loop-row-preserved
@@ -49,19 +51,29 @@ loop-row-preserved c =
     record {
       rows = ap (λ (u : Table). length u.rows) value ∙ length-with_row t from _ ∙ before.rows;
       columns = ap (λ (u : Table). u.columns) value ∙ before.columns;
-      sized = subst (λ (u : Table). All (λ (v : Bits). v.length ≡ u.columns) u.rows) (sym value) (sized-set_at t from to true within before.sized);
+      sized =
+          subst (λ (u : Table).
+          All (λ (v : Bits).
+          v.length ≡ u.columns) u.rows) (sym value) (sized-set_at t from to true within before.sized);
       edges = λ a b.
           let bits = in_set t from to within below before.sized a b in
           let lines = edges_more rows i row c.loop-row-test.true c.row-item.is from to told.1 a b in (
-            λ one. lines.1 (⊎_elim (λ old. inl ((before.edges a b).0 old)) (λ new. inr new) (bits.0 (subst (λ (u : Table). IsTrue (has u a b)) value one))),
-            λ there. subst (λ (u : Table). IsTrue (has u a b)) (sym value) (bits.1 (⊎_elim (λ old. inl ((before.edges a b).1 old)) (λ new. inr new) (lines.0 there))),
+            λ one.
+                lines.1 (⊎_elim (λ old. inl ((before.edges a b).0 old)) (λ new. inr new)
+                (bits.0 (subst (λ (u : Table). IsTrue (has u a b)) value one))),
+            λ there.
+                subst (λ (u : Table).
+                IsTrue (has u a b)) (sym value)
+                (bits.1 (⊎_elim (λ old. inl ((before.edges a b).1 old)) (λ new. inr new) (lines.0 there))),
           );
       each = row_more (IsEdge n) rows i row c.loop-row-test.true c.row-item.is before.each told.0;
     }
 
 pub returns-clause-edges : goal.returns-clause-edges
 returns-clause-edges c =
-    subst (λ rows. (a b : ℕ) → IsTrue (has c.loop-row.table a b) ↔ HasEdge rows a b) (take_all c.loop-row.row-index c.args.rows.now c.loop-row-test.false) c.loop-row.invariant.edges
+    subst (λ rows. (a b : ℕ) → IsTrue (has c.loop-row.table a b) ↔ HasEdge rows a b)
+    (take_all c.loop-row.row-index c.args.rows.now c.loop-row-test.false) c.loop-row.invariant.edges
 
 pub returns-clause-each : goal.returns-clause-each
-returns-clause-each c = each_row (IsEdge c.args.nodes) c.args.rows.now c.loop-row.row-index c.loop-row-test.false c.loop-row.invariant.each
+returns-clause-each c =
+    each_row (IsEdge c.args.nodes) c.args.rows.now c.loop-row.row-index c.loop-row-test.false c.loop-row.invariant.each

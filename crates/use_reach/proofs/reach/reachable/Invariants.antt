@@ -21,6 +21,7 @@ abbrev pub invariant-loop-next : goal.invariant-loop-next
 invariant-loop-next l = record {
   walking : Walking l.graph l.start l.reached (l.node ∷ l.to_do.items);
   taken : l.turns + length l.to_do.items ≡ l.fn.turns + size l.reached;
-  looked : l.looks + sum_by (degree l.graph) l.to_do.items + length l.next-items ≡ l.fn.looks + edges_from l.reached 0 l.graph + l.next-index;
+  looked : l.looks + sum_by (degree l.graph) l.to_do.items + length l.next-items
+      ≡ l.fn.looks + edges_from l.reached 0 l.graph + l.next-index;
   passed : All (λ b. IsTrue (contains l.reached b)) (take l.next-index l.next-items);
 }

@@ -10,7 +10,8 @@ use Rattle.use_subsets.proofs.Runs.{end_within, end_set, useful, accepted_told, 
 use Rattle.use_subsets.proofs.subsets.determinize.Goals as goal
 
 pub returns-then-limit-eq0-clause-too_many : goal.returns-then-limit-eq0-clause-too_many
-returns-then-limit-eq0-clause-too_many c = λ _. let none = c.if-limit-eq0.true in needs_more c.args.nfa.now _ _ c.args.limit (part_first c.args.nfa.now c.requires) (omega arith)
+returns-then-limit-eq0-clause-too_many c = λ _. let none = c.if-limit-eq0.true in
+    needs_more c.args.nfa.now _ _ c.args.limit (part_first c.args.nfa.now c.requires) (omega arith)
 
 pub loop-letter-init : goal.loop-letter-init
 loop-letter-init c =
@@ -24,7 +25,10 @@ loop-letter-init c =
     record {
       part = before.part;
       place = omega arith;
-      flags = rw c.in_ok-push.ensures.items (flags_more sets accepting c.states.accepting.items c.is_disjoint.result before.flags (c.is_disjoint.ensures ∙ ap (λ set. is_disjoint set accepting) (read ∙ ap (at sets) (sym before.many))));
+      flags =
+          rw c.in_ok-push.ensures.items (flags_more sets accepting c.states.accepting.items c.is_disjoint.result
+          before.flags
+          (c.is_disjoint.ensures ∙ ap (λ set. is_disjoint set accepting) (read ∙ ap (at sets) (sym before.many))));
       many = rw c.in_ok-push.ensures.items (omega arith);
       within = within;
       limit = before.limit;
@@ -35,9 +39,13 @@ returns-then-len-limit-clause-too_many c = λ _.
     let nfa = c.args.nfa.now in
     let old : List Bits = c.loop-letter.sets.items in
     let before = c.loop-letter.invariant in
-    let step = subst (λ set. IsStep nfa.states nfa.edges.items set c.loop-letter.letter c.in_ok-set.set) (get_or_read old c.states.state c.index-in-loop-letter.result.now before.within c.index-in-loop-letter.ensures (empty 0)) c.in_ok-set.ensures in
+    let step = subst (λ set. IsStep nfa.states nfa.edges.items set c.loop-letter.letter c.in_ok-set.set)
+    (get_or_read old c.states.state c.index-in-loop-letter.result.now before.within c.index-in-loop-letter.ensures
+    (empty 0)) c.in_ok-set.ensures in
     needs_more nfa _ _ c.args.limit
-    (part_numbered nfa old c.number_of.new.sets.items c.loop-letter.next.items c.states.state c.loop-letter.letter c.in_ok-set.set c.in_ok-number_of.field-0 before.part before.within c.loop-letter-test.true before.place step c.in_ok-number_of.ensures)
+    (part_numbered nfa old c.number_of.new.sets.items c.loop-letter.next.items c.states.state c.loop-letter.letter
+    c.in_ok-set.set c.in_ok-number_of.field-0 before.part before.within c.loop-letter-test.true before.place step
+    c.in_ok-number_of.ensures)
     (omega arith)
 
 pub loop-letter-preserved : goal.loop-letter-preserved
@@ -47,16 +55,23 @@ loop-letter-preserved c =
     let before = c.loop-letter.invariant in
     let within = before.within in
     let flagged = before.many in
-    let step = subst (λ set. IsStep nfa.states nfa.edges.items set c.loop-letter.letter c.in_ok-set.set) (get_or_read old c.states.state c.index-in-loop-letter.result.now before.within c.index-in-loop-letter.ensures (empty 0)) c.in_ok-set.ensures in
+    let step = subst (λ set. IsStep nfa.states nfa.edges.items set c.loop-letter.letter c.in_ok-set.set)
+    (get_or_read old c.states.state c.index-in-loop-letter.result.now before.within c.index-in-loop-letter.ensures
+    (empty 0)) c.in_ok-set.ensures in
     let numbered = c.in_ok-number_of.ensures in
-    let more = sets_more nfa old c.number_of.new.sets.items c.loop-letter.next.items c.states.state c.loop-letter.letter c.in_ok-set.set c.in_ok-number_of.field-0 before.part before.within c.loop-letter-test.true before.place step numbered in
+    let more = sets_more nfa old c.number_of.new.sets.items c.loop-letter.next.items c.states.state c.loop-letter.letter
+    c.in_ok-set.set c.in_ok-number_of.field-0 before.part before.within c.loop-letter-test.true before.place step
+    numbered in
     let place = before.place in
     let many = length_push c.loop-letter.next.items c.in_ok-number_of.field-0 in
     record {
       part = rw c.in_ok-push-2.ensures.items
-          (part_numbered nfa old c.number_of.new.sets.items c.loop-letter.next.items c.states.state c.loop-letter.letter c.in_ok-set.set c.in_ok-number_of.field-0 before.part before.within c.loop-letter-test.true before.place step numbered);
+          (part_numbered nfa old c.number_of.new.sets.items c.loop-letter.next.items c.states.state c.loop-letter.letter
+          c.in_ok-set.set c.in_ok-number_of.field-0 before.part before.within c.loop-letter-test.true before.place step
+          numbered);
       place = rw c.in_ok-push-2.ensures.items (omega arith);
-      flags = flags_kept old c.number_of.new.sets.items nfa.accepting c.push.new.self.items c.in_ok-set.set c.in_ok-number_of.field-0 before.flags (omega arith) numbered;
+      flags = flags_kept old c.number_of.new.sets.items nfa.accepting c.push.new.self.items c.in_ok-set.set
+          c.in_ok-number_of.field-0 before.flags (omega arith) numbered;
       many = before.many;
       within = omega arith;
       limit = omega arith;
@@ -87,7 +102,8 @@ returns-clause-accepts c word over =
     let at_end = end_from nfa.letters next 0 word in
     let inside = end_within nfa sets next end.part full word over in
     let many = end.many in
-    accepted_told nfa word (at sets at_end) _ (end_set nfa sets next end.part full word over) (end.flags.tell at_end (omega arith))
+    accepted_told nfa word (at sets at_end) _ (end_set nfa sets next end.part full word over)
+    (end.flags.tell at_end (omega arith))
 
 pub returns-clause-sets : goal.returns-clause-sets
 returns-clause-sets c word over =

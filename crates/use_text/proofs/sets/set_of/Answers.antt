@@ -10,6 +10,10 @@ loop-position-preserved c =
     let i = c.loop-position.position-index in
     let before = c.loop-position.invariant in
     record {
-      below = rw (take_more positions i 0 c.loop-position-test.true) (All-push (λ p. p < c.args.length) (take i positions) (get_or positions i 0) before.below c.if-position-length.false);
-      set = rw c.insert.ensures (members_more c.args.length positions i c.loop-position.set c.loop-position-test.true c.if-position-length.false before.set);
+      below = rw (take_more positions i 0 c.loop-position-test.true)
+          (All-push (λ p. p < c.args.length) (take i positions) (get_or positions i 0) before.below
+          c.if-position-length.false);
+      set =
+          rw c.insert.ensures (members_more c.args.length positions i c.loop-position.set c.loop-position-test.true
+          c.if-position-length.false before.set);
     }

@@ -5,7 +5,11 @@ use Rattle.bitcommands.proofs.commands.calling.call_each.Goals as goal
 
 pub loop-end-preserved : goal.loop-end-preserved
 loop-end-preserved g c = record {
-  so_far = rw (c.push.ensures.items, c.unwrap.ensures) (calls_more _ _ _ _ _ _ _ _ c.loop-end.invariant.so_far c.loop-end-test.true c.call-item.ensures.item c.call-item.ensures.left);
+  so_far = rw (
+    c.push.ensures.items,
+    c.unwrap.ensures,
+  ) (calls_more _ _ _ _ _ _ _ _ c.loop-end.invariant.so_far c.loop-end-test.true c.call-item.ensures.item
+      c.call-item.ensures.left);
   len = grind (arith, common_steps);
   room = omega arith;
 }

@@ -10,7 +10,8 @@ pub returns-in-DifferenceCount : goal.returns-in-DifferenceCount
 returns-in-DifferenceCount c = rw c.in-DifferenceCount.is (c.difference_count.ensures c.args.limit)
 
 pub returns-in-SymmetricDifferenceCount : goal.returns-in-SymmetricDifferenceCount
-returns-in-SymmetricDifferenceCount c = rw c.in-SymmetricDifferenceCount.is (c.symmetric_difference_count.ensures c.args.limit)
+returns-in-SymmetricDifferenceCount c =
+    rw c.in-SymmetricDifferenceCount.is (c.symmetric_difference_count.ensures c.args.limit)
 
 pub returns-in-IsDisjoint : goal.returns-in-IsDisjoint
 returns-in-IsDisjoint c = rw c.in-IsDisjoint.is (c.is_disjoint.ensures c.args.limit)

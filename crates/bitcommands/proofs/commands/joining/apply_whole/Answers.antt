@@ -13,7 +13,8 @@ pub returns-in-UnionWith : goal.returns-in-UnionWith
 returns-in-UnionWith c = rw c.in-UnionWith.is (c.union_with.ensures c.args.limit)
 
 pub returns-in-SymmetricDifferenceWith : goal.returns-in-SymmetricDifferenceWith
-returns-in-SymmetricDifferenceWith c = rw c.in-SymmetricDifferenceWith.is (c.symmetric_difference_with.ensures c.args.limit)
+returns-in-SymmetricDifferenceWith c =
+    rw c.in-SymmetricDifferenceWith.is (c.symmetric_difference_with.ensures c.args.limit)
 
 pub returns-in-IntersectWith : goal.returns-in-IntersectWith
 returns-in-IntersectWith c = rw c.in-IntersectWith.is (c.intersect_with.ensures c.args.limit)

@@ -11,5 +11,7 @@ pub returns : goal.returns
 returns c =
     IfOk-weaker c.with_capacity_and_blocks.result _ _
     (λ set made.
-    first_blocks c.args.bits set made.2 (YieldsList-at made.1 (YieldsList-from_map _ (λ x. x) (YieldsList-from_slice c.args.blocks.now (cc)) c.map-words.ensures.closure (λ x r q k. search (rules, tests))))
+    first_blocks c.args.bits set
+    made.2 (YieldsList-at made.1 (YieldsList-from_map _ (λ x. x) (YieldsList-from_slice c.args.blocks.now (cc))
+    c.map-words.ensures.closure (λ x r q k. search (rules, tests))))
     ∙ ap (of_words c.args.bits) (map-id c.args.blocks.now)) c.with_capacity_and_blocks.ensures

@@ -5,7 +5,15 @@ use Rattle.bitcommands.proofs.Items.{spaced_text-cons}
 use Rattle.bitcommands.proofs.commands.printing.push_spaced.Goals as goal
 
 pub returns-clause-ok : goal.returns-clause-ok
-returns-clause-ok g c = rw (c.in-Some.ensures.cases.0, spaced_text-cons, c.loop-part.invariant, take_all c.loop-part.part-index c.in-Some.rest.now (omega arith), c.in_ok-push_to.ensures.ok, append_assoc) refl
+returns-clause-ok g c =
+    rw (
+      c.in-Some.ensures.cases.0,
+      spaced_text-cons,
+      c.loop-part.invariant,
+      take_all c.loop-part.part-index c.in-Some.rest.now (omega arith),
+      c.in_ok-push_to.ensures.ok,
+      append_assoc,
+    ) refl
 
 pub loop-part-preserved : goal.loop-part-preserved
 loop-part-preserved g c = grind (arith, common_steps)

@@ -5,4 +5,5 @@ use Rattle.bitcommands.proofs.commands.printing.push_spaced.Given as goal
 
 -- behind the first text those so far stand, each with the space before it
 abbrev pub invariant-loop-part : goal.invariant-loop-part
-invariant-loop-part g l = l.output.items ≡ l.initial.output.items ++ flat_map (spaced g.P.Part.text_of) (take l.part-index l.rest)
+invariant-loop-part g l =
+    l.output.items ≡ l.initial.output.items ++ flat_map (spaced g.P.Part.text_of) (take l.part-index l.rest)

@@ -7,7 +7,9 @@ use Rattle.bitcommands.proofs.commands.replies.write_parts.Goals as goal
 pub returns : goal.returns
 returns g c = λ plain ok.
     let first = c.in_ok-write_to.ensures plain refl in
-    put_two _ _ _ _ _ _ _ first (c.loop-part.invariant first.plain) (rw (c.in-Some.ensures.cases.0, spaced_text-cons, take_all c.loop-part.part-index c.in-Some.rest.now (omega arith)) refl)
+    put_two _ _ _ _ _ _ _ first (c.loop-part.invariant first.plain)
+    (rw (c.in-Some.ensures.cases.0, spaced_text-cons, take_all c.loop-part.part-index c.in-Some.rest.now (omega arith))
+    refl)
 
 pub loop-part-preserved : goal.loop-part-preserved
 loop-part-preserved g c = grind (arith, common_steps)

@@ -11,7 +11,8 @@ invariant-write_items-loop-item g l =
     let all = items_view l.item-items in
     let left = items_view (drop l.item-index l.item-items) in
     items_have_float all ≡ false → IsPlainFormatter l.initial.f
-    → (items_have_float left ≡ false) × HasBegun g.W.Write.write_str_gives l.initial.f (items_text l.later left) (items_text false all) l.f
+    → (items_have_float left ≡ false)
+    × HasBegun g.W.Write.write_str_gives l.initial.f (items_text l.later left) (items_text false all) l.f
 
 -- the members left likewise
 abbrev pub invariant-write_members-loop-key : goal.invariant-write_members-loop-key
@@ -19,4 +20,5 @@ invariant-write_members-loop-key g l =
     let all = members_view l.members.entries in
     let left = members_view l.key-iterator in
     members_have_float all ≡ false → IsPlainFormatter l.initial.f
-    → (members_have_float left ≡ false) × HasBegun g.W.Write.write_str_gives l.initial.f (members_text l.later left) (members_text false all) l.f
+    → (members_have_float left ≡ false)
+    × HasBegun g.W.Write.write_str_gives l.initial.f (members_text l.later left) (members_text false all) l.f

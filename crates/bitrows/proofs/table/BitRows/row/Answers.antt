@@ -7,7 +7,8 @@ use Rattle.bitrows.proofs.table.BitRows.row.Goals as goal
 
 -- the words that the columns need are those of the row
 used : (c : goal.After-over) → c.as_slice.result.now ≡ words (row_of c.args.self.now c.args.row)
-used c = c.as_slice.ensures.value ∙ ap words (c.row.ensures.value ∙ ap (λ t. row_of t c.args.row) c.as_rows.ensures.table)
+used c =
+    c.as_slice.ensures.value ∙ ap words (c.row.ensures.value ∙ ap (λ t. row_of t c.args.row) c.as_rows.ensures.table)
 
 pub returns-clause-items : goal.returns-clause-items
 returns-clause-items c = rw (c.over.ensures, used c) (words-asc _)

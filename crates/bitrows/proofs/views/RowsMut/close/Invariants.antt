@@ -15,5 +15,8 @@ abbrev pub invariant-loop-row : goal.invariant-loop-row
 invariant-loop-row l = record {
   same : Becomes l.fn.self l.self (held l.self);
   bits : IsPassed (has (held l.fn.self)) l.through l.row (held l.self);
-  joins : l.joins ≡ l.fn.joins + (joins_before (has (held l.fn.self)) l.fn.self.rows l.through + joins_in (has (held l.fn.self)) l.through l.row);
+  joins : l.joins
+      ≡ l.fn.joins
+      + (joins_before (has (held l.fn.self)) l.fn.self.rows l.through + joins_in (has (held l.fn.self))
+      l.through l.row);
 }

@@ -6,7 +6,13 @@ use Rattle.bitrows.proofs.RowWords.{are_rows-put, table_of-put, get_or-table, ro
 use Rattle.bitrows.proofs.views.RowsMut.union_rows.Goals as goal
 
 pub returns-then-from-into-clause-table : goal.returns-then-from-into-clause-table
-returns-then-from-into-clause-table c = record { table = rw c.if-from-into.true (row_kept (held c.args.self.now) c.args.into); rows = refl; columns = refl; same = refl }
+returns-then-from-into-clause-table c =
+    record {
+      table = rw c.if-from-into.true (row_kept (held c.args.self.now) c.args.into);
+      rows = refl;
+      columns = refl;
+      same = refl;
+    }
 
 pub returns-then-from-into-clause-changed : goal.returns-then-from-into-clause-changed
 returns-then-from-into-clause-changed c = rw c.if-from-into.true (none_came (row_of (held c.args.self.now) c.args.into))
@@ -20,10 +26,13 @@ returns-clause-table c =
     record {
       table = rw (
         done.words,
-        table_of-put _ _ _ c.args.self.now.words.now c.args.into done.row c.args.self.now.clean c.requires.into done.clean,
+        table_of-put _ _ _ c.args.self.now.words.now c.args.into done.row c.args.self.now.clean c.requires.into
+            done.clean,
         done.value,
-        get_or-table c.args.self.now.columns _ c.args.self.now.rows c.args.self.now.words.now c.args.into (empty 0) c.requires.into,
-        get_or-table c.args.self.now.columns _ c.args.self.now.rows c.args.self.now.words.now c.args.from (empty 0) c.requires.from,
+        get_or-table c.args.self.now.columns _ c.args.self.now.rows c.args.self.now.words.now c.args.into (empty 0)
+            c.requires.into,
+        get_or-table c.args.self.now.columns _ c.args.self.now.rows c.args.self.now.words.now c.args.from (empty 0)
+            c.requires.from,
       ) refl;
       rows = refl;
       columns = refl;
@@ -33,8 +42,10 @@ returns-clause-table c =
 pub returns-clause-changed : goal.returns-clause-changed
 returns-clause-changed c =
     rw (
-      get_or-table c.args.self.now.columns _ c.args.self.now.rows c.args.self.now.words.now c.args.into (empty 0) c.requires.into,
-      get_or-table c.args.self.now.columns _ c.args.self.now.rows c.args.self.now.words.now c.args.from (empty 0) c.requires.from,
+      get_or-table c.args.self.now.columns _ c.args.self.now.rows c.args.self.now.words.now c.args.into (empty 0)
+          c.requires.into,
+      get_or-table c.args.self.now.columns _ c.args.self.now.rows c.args.self.now.words.now c.args.from (empty 0)
+          c.requires.from,
     ) (rw c.storage_words-wide.ensures at c.join_rows.ensures).answer
 
 pub invariant_of-self : goal.invariant_of-self

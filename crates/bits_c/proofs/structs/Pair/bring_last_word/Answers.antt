@@ -19,7 +19,8 @@ returns-clause-split c =
     let first = c.args.self.now.first in
     let walk = first.walk in
     let apart = walk.spaced.apart (omega (arith, c.if-first-eq0.false)) in
-    back_apart walk.front_at (walk.back_at - 64) walk.back (walk.front ∷ beside bit_without walk.words.now first.other.now)
+    back_apart walk.front_at (walk.back_at - 64) walk.back
+    (walk.front ∷ beside bit_without walk.words.now first.other.now)
     (omega (arith, apart, length-beside bit_without walk.words.now first.other.now))
     ∙ sym (append-nil (lacked_left first))
     ∙ ap (λ xs. lacked_left first ++ xs) (sym c.requires)

@@ -11,7 +11,8 @@ returns-clause-joined c =
     let item = c.take_first-item in
     let walk = item.new.self.walk in
     subst (λ all. YieldsFirst (λ all. all) (lacked_left c.args.self.now.second) item.result all)
-    (sym (front_apart walk.front_at walk.front (beside bit_without walk.words.now item.new.self.other.now ++ walk.back ∷ []))) item.ensures
+    (sym (front_apart walk.front_at walk.front
+    (beside bit_without walk.words.now item.new.self.other.now ++ walk.back ∷ []))) item.ensures
 
 pub returns-clause-split : goal.returns-clause-split
 returns-clause-split c = returns-clause-joined c

@@ -3,4 +3,6 @@ use Rattle.bitwords.specs.BesideFacts.{length-beside}
 use Rattle.bits_c.proofs.structs.Sieve.cursor.Goals as goal
 
 pub of_held-requires : goal.of_held-requires
-of_held-requires g c = rw (length-beside g.O.WordOp.joined c.of.result.plain.words.now c.of.result.other.now, c.of.ensures.words) (search rules)
+of_held-requires g c =
+    rw (length-beside g.O.WordOp.joined c.of.result.plain.words.now c.of.result.other.now, c.of.ensures.words)
+    (search rules)

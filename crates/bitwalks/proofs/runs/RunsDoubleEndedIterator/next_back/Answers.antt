@@ -4,24 +4,36 @@ use Rattle.bitlanes.specs.Words.{lane_steps}
 use Rattle.bitwords.specs.CallFacts.{progress_last}
 use Rattle.bitwords.specs.Neighbours.{NonePasses}
 use Rattle.bitwords.specs.Runs.{is_like, Passes}
-use Rattle.bitwalks.proofs.Running.{unlike, nothing, nothing_there, IsLast, is_last, last_after, last_stretch, between_start, steps_back, steps_behind, steps_none, low_is_zero, low_is_behind}
+use Rattle.bitwalks.proofs.Running.{unlike, nothing, nothing_there, IsLast, is_last, last_after, last_stretch}
+use Rattle.bitwalks.proofs.Running.{between_start, steps_back, steps_behind, steps_none, low_is_zero, low_is_behind}
 use Rattle.bitwalks.proofs.runs.RunsDoubleEndedIterator.next_back.Goals as goal
-use Rattle.bitwalks.proofs.runs.RunsDoubleEndedIterator.next_back.Goals.{in-Some-gap, in-None, in_default-via-in-Some+else-last-self, in_default-via-in_default}
+use Rattle.bitwalks.proofs.runs.RunsDoubleEndedIterator.next_back.Goals.{in-Some-gap, in-None}
+use Rattle.bitwalks.proofs.runs.RunsDoubleEndedIterator.next_back.Goals.{in_default-via-in-Some+else-last-self}
+use Rattle.bitwalks.proofs.runs.RunsDoubleEndedIterator.next_back.Goals.{in_default-via-in_default}
 
 -- the last stretch, and what the call that looked for its start took
 last : (c : goal.After-way_told-in-Some-2)
     → IsLast (is_like c.self.inside.are_set c.self.inside.words.now) c.self.inside.low c.match-gap.self c.in-Some.last
-    × (c.previous_like-gap.new.steps ≤ c.previous_like-found.new.steps + 1 + lane_steps ((c.in-Some.last - 1) / 64 - (c.match-gap.self - 1) / 64))
-    × (0 < c.in-Some.last → c.previous_like-found.new.steps + 1 + lane_steps ((c.in-Some.last - 1) / 64 - (c.match-gap.self - 1) / 64) ≤ c.previous_like-gap.new.steps)
+    × (c.previous_like-gap.new.steps ≤ c.previous_like-found.new.steps + 1
+    + lane_steps ((c.in-Some.last - 1) / 64 - (c.match-gap.self - 1) / 64))
+    × (0 < c.in-Some.last
+    → c.previous_like-found.new.steps + 1 + lane_steps ((c.in-Some.last - 1) / 64 - (c.match-gap.self - 1) / 64)
+    ≤ c.previous_like-gap.new.steps)
     × (c.previous_like-found.new.steps ≤ c.previous_like-gap.new.steps)
 last c =
     let found = c.in-Some.ensures.found in
     elim c.match-gap.branch [
       | in-Some-gap w ↦
           let gap = w.in-Some-gap.ensures in
-          rw w.self-is (last_after (unlike _ _) c.self.invariant.0 c.if-self.false found c.if-last-self.true gap.found, omega (arith, gap.cost), (λ some. omega (arith, gap.cost)), omega (arith, gap.cost))
+          rw w.self-is (
+            last_after (unlike _ _) c.self.invariant.0 c.if-self.false found c.if-last-self.true gap.found,
+            omega (arith, gap.cost),
+            (λ some. omega (arith, gap.cost)),
+            omega (arith, gap.cost),
+          )
       | in-None w ↦
-          let whole = is_last (unlike _ _) c.self.invariant.0 c.if-self.false found c.if-last-self.true 0 (omega arith) (inl refl) w.in-None.ensures.none in
+          let whole = is_last (unlike _ _) c.self.invariant.0 c.if-self.false found c.if-last-self.true 0 (omega arith)
+          (inl refl) w.in-None.ensures.none in
           let missed = w.in-None.ensures.missed in
           let none = c.previous_like-gap.ensures.empty in
           rw w.self-is (
@@ -40,7 +52,8 @@ last c =
 
 pub invariant_of-self : goal.invariant_of-self
 invariant_of-self c =
-    let left = between_start (unlike _ _) c.self.invariant.0 c.if-self.false c.in-Some.ensures.found c.if-last-self.true (last c).0 in
+    let left = between_start (unlike _ _) c.self.invariant.0 c.if-self.false c.in-Some.ensures.found c.if-last-self.true
+    (last c).0 in
     (left, c.self.invariant.1, c.self.invariant.2)
 
 pub returns-after-gap-clause-steps : goal.returns-after-gap-clause-steps
@@ -48,11 +61,13 @@ returns-after-gap-clause-steps c =
     let view = c.self.view_is in
     let found = c.in-Some.ensures.found in
     let items = last_stretch (unlike _ _) c.self.invariant.0 c.if-self.false found c.if-last-self.true (last c).0 in
-    let steps = steps_back _ _ _ _ _ _ _ found.below (last c).0.some c.in-Some.ensures.cost (last c).1 (last c).2 (last c).3 in
+    let steps = steps_back _ _ _ _ _ _ _ found.below (last c).0.some c.in-Some.ensures.cost (last c).1 (last c).2
+    (last c).3 in
     (sym (ap (λ walk. walk.items) view) ∙ items, ap (λ walk. walk.low) view, rw (sym view) steps)
 
 pub returns-after-gap-clause-goes : goal.returns-after-gap-clause-goes
-returns-after-gap-clause-goes c = progress_last (λ walk. walk.items) c.args.self.now _ _ (returns-after-gap-clause-steps c).0
+returns-after-gap-clause-goes c =
+    progress_last (λ walk. walk.items) c.args.self.now _ _ (returns-after-gap-clause-steps c).0
 
 -- where none is left, none passes, and what the call took
 no_last : (c : goal.After-self-in_default-1)
@@ -68,13 +83,20 @@ no_last c =
             steps_behind _ _ _ _ _ before behind c.self.invariant.0.order w.in-Some.ensures.cost,
           )
       | in_default-via-in_default w ↦
-          let zero = low_is_zero (unlike _ _) c.self.invariant.0 c.if-self.false w.in_default.ensures.none in
-          (λ i above below. w.in_default.ensures.none i (omega arith) below, steps_none _ _ _ _ c.self.invariant.0.order c.if-self.false (λ some. omega (arith, zero, w.in_default.ensures.missed (omega (arith, some)))))
+          let zero = low_is_zero (unlike _ _) c.self.invariant.0 c.if-self.false w.in_default.ensures.none in (
+            λ i above below. w.in_default.ensures.none i (omega arith) below,
+            steps_none _ _ _ _ c.self.invariant.0.order c.if-self.false
+                (λ some. omega (arith, zero, w.in_default.ensures.missed (omega (arith, some)))),
+          )
     ]
 
 pub returns-in_default-clause-steps : goal.returns-in_default-clause-steps
 returns-in_default-clause-steps c =
     let view = c.self.view_is in
     let inside = c.self.inside in
-    let none = sym (ap (λ walk. walk.items) view) ∙ nothing (unlike _ _) c.self.invariant.0 c.if-self.false (no_last c).0 in
-    ((none, nothing_there (is_like inside.are_set inside.words.now) inside.end inside.low), ap (λ walk. walk.low) view, rw (sym view) (no_last c).1)
+    let none = sym (ap (λ walk. walk.items) view)
+    ∙ nothing (unlike _ _) c.self.invariant.0 c.if-self.false (no_last c).0 in (
+      (none, nothing_there (is_like inside.are_set inside.words.now) inside.end inside.low),
+      ap (λ walk. walk.low) view,
+      rw (sym view) (no_last c).1,
+    )

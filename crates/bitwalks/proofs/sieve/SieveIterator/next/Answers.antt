@@ -9,8 +9,10 @@ returns-then-passes-clause-steps g c =
     let call = c.in-Some.ensures.steps in
     let passes = ap g.C.Choice.passes (sym c.is_set.ensures) ∙ sym c.passes.ensures ∙ c.if-passes.true in
     let fewer = ap length call.0 in
-    let takes = takes_front before.calls 1 _ _ _ before.takes call.1 in
-    (first_passes _ _ _ before.same _ _ call.0 passes, record { calls = before.calls + 1; asks = omega (arith, before.asked, before.each, fewer); takes = takes })
+    let takes = takes_front before.calls 1 _ _ _ before.takes call.1 in (
+      first_passes _ _ _ before.same _ _ call.0 passes,
+      record { calls = before.calls + 1; asks = omega (arith, before.asked, before.each, fewer); takes = takes },
+    )
 
 pub loop-position-preserved : goal.loop-position-preserved
 loop-position-preserved g c =
@@ -32,5 +34,7 @@ returns-clause-steps g c =
     let call = c.in_default.ensures.steps in
     let none = ap length call.0.0 in
     let also = ap length call.0.1 in
-    let takes = takes_front before.calls 1 _ _ _ before.takes call.1 in
-    (nothing_left _ _ _ _ before.same call.0.0 call.0.1, record { calls = before.calls + 1; asks = omega (arith, before.asked, before.each, none, also); takes = takes })
+    let takes = takes_front before.calls 1 _ _ _ before.takes call.1 in (
+      nothing_left _ _ _ _ before.same call.0.0 call.0.1,
+      record { calls = before.calls + 1; asks = omega (arith, before.asked, before.each, none, also); takes = takes },
+    )

@@ -3,4 +3,8 @@ use Rattle.bitwords.specs.BesideFacts.{beside-push}
 use Rattle.bitwords.proofs.cursors.BesideMiddle.take_last.Goals as goal
 
 pub returns : goal.returns
-returns g c = grind (arith, beside-push g.O.WordOp.joined c.take_last.new.self.words.now c.in_ok-word.word c.args.self.now.other.now)
+returns g c =
+    grind (
+      arith,
+      beside-push g.O.WordOp.joined c.take_last.new.self.words.now c.in_ok-word.word c.args.self.now.other.now,
+    )

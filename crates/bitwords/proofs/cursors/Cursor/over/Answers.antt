@@ -11,6 +11,8 @@ returns g c =
     let words = g.M.Middle.words c.args.words in
     let made = c.placed.ensures in
     let items : c.placed.result.items ≡ ascending (has_bit words) 0 (64 * length words) =
-    ap (λ walk. walk.items) made ∙ ones_from-same 0 _ words (length-row _ _ ends.front ends.back c.ends_of-ends.ensures.middle) c.ends_of-ends.ensures.bits ∙ ones_from-row words in
+    ap (λ walk. walk.items) made
+    ∙ ones_from-same 0 _ words (length-row _ _ ends.front ends.back c.ends_of-ends.ensures.middle)
+    c.ends_of-ends.ensures.bits ∙ ones_from-row words in
     let middle = ap (λ walk. walk.words) made ∙ c.ends_of-ends.ensures.middle in
     λ i. record { items = items i; words = middle i; turns = (made i).turns; taken = (made i).taken }

@@ -6,12 +6,18 @@ use Rattle.bitwords.proofs.cursors.CursorDoubleEndedIterator.next_back.Goals as 
 pub returns-then-self-ne0-clause-steps : goal.returns-then-self-ne0-clause-steps
 returns-then-self-ne0-clause-steps g c =
     let before = c.loop-self.invariant in (
-      left_highest _ _ _ _ _ before.same _ _ _ (before.spaced.apart (omega (arith, c.if-self-ne0.true))) c.take_highest_bit.ensures.highest c.take_highest_bit.ensures.clears,
-      record { words = before.words; back = before.back; counts = record { taken = before.taken; turns = omega (arith, before.turns) } },
+      left_highest _ _ _ _ _ before.same _ _ _ (before.spaced.apart (omega (arith, c.if-self-ne0.true)))
+          c.take_highest_bit.ensures.highest c.take_highest_bit.ensures.clears,
+      record {
+        words = before.words;
+        back = before.back;
+        counts = record { taken = before.taken; turns = omega (arith, before.turns) };
+      },
     )
 
 pub returns-then-self-ne0-clause-goes : goal.returns-then-self-ne0-clause-goes
-returns-then-self-ne0-clause-goes g c = progress_last (λ walk. walk.items) _ (Some _) _ (returns-then-self-ne0-clause-steps g c).0
+returns-then-self-ne0-clause-goes g c =
+    progress_last (λ walk. walk.items) _ (Some _) _ (returns-then-self-ne0-clause-steps g c).0
 
 pub loop-self-preserved : goal.loop-self-preserved
 loop-self-preserved g c =
@@ -22,7 +28,12 @@ loop-self-preserved g c =
     let fewer = length-append rest (word ∷ []) in
     let apart = before.spaced.apart (omega (arith, ap length split, fewer)) in
     record {
-      spaced = record { apart = λ _. omega (arith, ap length split, fewer, apart); order = omega (arith, ap length split, fewer, apart); fits = omega (arith, before.spaced.fits) };
+      spaced =
+          record {
+            apart = λ _. omega (arith, ap length split, fewer, apart);
+            order = omega (arith, ap length split, fewer, apart);
+            fits = omega (arith, before.spaced.fits);
+          };
       same = left_before _ _ _ _ _ before.same _ _ c.if-self-ne0.false split;
       words = word ∷ before.words;
       back = before.back ∙ ap (λ xs. xs ++ before.words) split ∙ append_assoc rest (word ∷ []) before.words;
@@ -37,7 +48,11 @@ returns-then-self-eq0-clause-steps g c =
     let same = left_kept _ _ _ _ _ _ none.0 none.1 before.same in
     let nothing = left_nothing _ _ _ _ _ same c.if-self-eq0.true none.1 c.if-self-ne0.false in (
       (nothing, same ∙ nothing),
-      record { words = before.words; back = before.back ∙ ap (λ xs. xs ++ before.words) (none.0 ∙ sym none.1); counts = record { taken = before.taken; turns = omega (arith, before.turns) } },
+      record {
+        words = before.words;
+        back = before.back ∙ ap (λ xs. xs ++ before.words) (none.0 ∙ sym none.1);
+        counts = record { taken = before.taken; turns = omega (arith, before.turns) };
+      },
     )
 
 pub returns-in-None-clause-steps : goal.returns-in-None-clause-steps
@@ -45,8 +60,13 @@ returns-in-None-clause-steps g c =
     let before = c.loop-self.invariant in
     let none = c.in-None.ensures in
     let same = left_kept _ _ _ _ _ _ none.0 none.1 before.same in (
-      left_highest_of_front _ _ _ _ _ same _ _ c.if-self-ne0.false none.1 c.take_highest_bit-in-None.ensures.highest c.take_highest_bit-in-None.ensures.clears,
-      record { words = before.words; back = before.back ∙ ap (λ xs. xs ++ before.words) (none.0 ∙ sym none.1); counts = record { taken = before.taken; turns = omega (arith, before.turns) } },
+      left_highest_of_front _ _ _ _ _ same _ _ c.if-self-ne0.false none.1 c.take_highest_bit-in-None.ensures.highest
+          c.take_highest_bit-in-None.ensures.clears,
+      record {
+        words = before.words;
+        back = before.back ∙ ap (λ xs. xs ++ before.words) (none.0 ∙ sym none.1);
+        counts = record { taken = before.taken; turns = omega (arith, before.turns) };
+      },
     )
 
 pub returns-in-None-clause-goes : goal.returns-in-None-clause-goes

@@ -7,11 +7,16 @@ pub returns-then-self-ne0-clause-steps : goal.returns-then-self-ne0-clause-steps
 returns-then-self-ne0-clause-steps g c =
     let before = c.loop-self.invariant in (
       left_lowest _ _ _ _ _ before.same _ _ c.take_lowest_bit.ensures.lowest c.take_lowest_bit.ensures.clears,
-      record { words = before.words; front = before.front; counts = record { taken = before.taken; turns = omega (arith, before.turns) } },
+      record {
+        words = before.words;
+        front = before.front;
+        counts = record { taken = before.taken; turns = omega (arith, before.turns) };
+      },
     )
 
 pub returns-then-self-ne0-clause-goes : goal.returns-then-self-ne0-clause-goes
-returns-then-self-ne0-clause-goes g c = progress_first (λ walk. walk.items) _ (Some _) _ (returns-then-self-ne0-clause-steps g c).0
+returns-then-self-ne0-clause-goes g c =
+    progress_first (λ walk. walk.items) _ (Some _) _ (returns-then-self-ne0-clause-steps g c).0
 
 pub loop-self-preserved : goal.loop-self-preserved
 loop-self-preserved g c =
@@ -20,7 +25,12 @@ loop-self-preserved g c =
     let word = c.in-Some.word in
     let apart = before.spaced.apart (omega (arith, ap length split)) in
     record {
-      spaced = record { apart = λ _. omega (arith, ap length split, apart); order = omega (arith, ap length split, apart); fits = before.spaced.fits };
+      spaced =
+          record {
+            apart = λ _. omega (arith, ap length split, apart);
+            order = omega (arith, ap length split, apart);
+            fits = before.spaced.fits;
+          };
       same = left_next _ _ _ _ _ before.same _ _ c.if-self-ne0.false split;
       words = before.words ++ word ∷ [];
       front = before.front ∙ ap (λ xs. before.words ++ xs) split ∙ sym (append_assoc before.words (word ∷ []) _);
@@ -35,7 +45,11 @@ returns-then-self-eq0-clause-steps g c =
     let same = left_kept _ _ _ _ _ _ none.0 none.1 before.same in
     let nothing = left_nothing _ _ _ _ _ same c.if-self-ne0.false none.1 c.if-self-eq0.true in (
       (nothing, same ∙ nothing),
-      record { words = before.words; front = before.front ∙ ap (λ xs. before.words ++ xs) (none.0 ∙ sym none.1); counts = record { taken = before.taken; turns = omega (arith, before.turns) } },
+      record {
+        words = before.words;
+        front = before.front ∙ ap (λ xs. before.words ++ xs) (none.0 ∙ sym none.1);
+        counts = record { taken = before.taken; turns = omega (arith, before.turns) };
+      },
     )
 
 pub returns-in-None-clause-steps : goal.returns-in-None-clause-steps
@@ -43,9 +57,14 @@ returns-in-None-clause-steps g c =
     let before = c.loop-self.invariant in
     let none = c.in-None.ensures in
     let same = left_kept _ _ _ _ _ _ none.0 none.1 before.same in (
-      left_lowest_of_back _ _ _ _ _ same _ _ _ c.if-self-ne0.false none.1 (omega (arith, ap length none.0, before.spaced.apart (omega (arith, c.if-self-eq0.false))))
+      left_lowest_of_back _ _ _ _ _ same _ _ _ c.if-self-ne0.false none.1
+          (omega (arith, ap length none.0, before.spaced.apart (omega (arith, c.if-self-eq0.false))))
           c.take_lowest_bit-in-None.ensures.lowest c.take_lowest_bit-in-None.ensures.clears,
-      record { words = before.words; front = before.front ∙ ap (λ xs. before.words ++ xs) (none.0 ∙ sym none.1); counts = record { taken = before.taken; turns = omega (arith, before.turns) } },
+      record {
+        words = before.words;
+        front = before.front ∙ ap (λ xs. before.words ++ xs) (none.0 ∙ sym none.1);
+        counts = record { taken = before.taken; turns = omega (arith, before.turns) };
+      },
     )
 
 pub returns-in-None-clause-goes : goal.returns-in-None-clause-goes
@@ -54,4 +73,8 @@ returns-in-None-clause-goes g c = progress_first (λ walk. walk.items) _ (Some _
 pub invariant_of-self-in-None : goal.invariant_of-self-in-None
 invariant_of-self-in-None g c =
     let before = c.loop-self.invariant.spaced in
-    record { apart = λ some. omega (arith, some, ap length c.in-None.ensures.1); order = omega arith; fits = before.fits }
+    record {
+      apart = λ some. omega (arith, some, ap length c.in-None.ensures.1);
+      order = omega arith;
+      fits = before.fits;
+    }

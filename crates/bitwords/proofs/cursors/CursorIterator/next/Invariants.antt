@@ -5,8 +5,10 @@ use Rattle.bitwords.proofs.cursors.CursorIterator.next.Given as goal
 -- the end words and the middle have the items that were left, and each word taken made a turn
 abbrev pub invariant-loop-self : goal.invariant-loop-self
 invariant-loop-self g l = record {
-  spaced : IsSpaced l.self-inside.front_at l.self-inside.back_at (length (g.M.Middle.words l.self-inside.middle)) l.self-inside.back;
-  same : ones_from l.self-inside.front_at (l.self-inside.front ∷ (g.M.Middle.words l.self-inside.middle ++ l.self-inside.back ∷ [])) ≡ l.fn.self.items;
+  spaced : IsSpaced l.self-inside.front_at l.self-inside.back_at (length (g.M.Middle.words l.self-inside.middle))
+      l.self-inside.back;
+  same : ones_from l.self-inside.front_at
+      (l.self-inside.front ∷ (g.M.Middle.words l.self-inside.middle ++ l.self-inside.back ∷ [])) ≡ l.fn.self.items;
   words : List ℕ;
   front : l.fn.self.words ≡ words ++ g.M.Middle.words l.self-inside.middle;
   taken : l.self-inside.taken ≡ l.fn.self.taken + length words;

@@ -6,4 +6,8 @@ pub returns-clause-upper : goal.returns-clause-upper
 returns-clause-upper g c =
     let s = c.self.inside in
     hint c.checked_mul.result _ _ c.checked_mul.ensures
-    (omega (arith, length-left s.front_at s.front (g.M.Middle.words s.middle) s.back, ap (λ walk. length walk.items) c.self.view_is))
+    (omega (
+      arith,
+      length-left s.front_at s.front (g.M.Middle.words s.middle) s.back,
+      ap (λ walk. length walk.items) c.self.view_is,
+    ))

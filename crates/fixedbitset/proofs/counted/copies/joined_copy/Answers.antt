@@ -6,13 +6,15 @@ pub invariant_of-result : goal.invariant_of-result
 invariant_of-result g c =
     let done = rw (c.as_slice.ensures.value, c.as_slice-2.ensures.value) at c.in_ok-words.ensures.bits in
     let shorter = rw (← viewed_length _ _ _ c.set.view_is, ← viewed_length _ _ _ c.other.view_is) at c.requires in
-    (keeps_pair _ _ _ _ _ c.set.view_is c.set.invariant _ _ c.other.view_is c.other.invariant done g.met.O.WordOp.laws shorter).clean
+    (keeps_pair _ _ _ _ _ c.set.view_is c.set.invariant _ _ c.other.view_is c.other.invariant done g.met.O.WordOp.laws
+    shorter).clean
 
 pub returns-clause-value : goal.returns-clause-value
 returns-clause-value g c =
     let done = rw (c.as_slice.ensures.value, c.as_slice-2.ensures.value) at c.in_ok-words.ensures.bits in
     let shorter = rw (← viewed_length _ _ _ c.set.view_is, ← viewed_length _ _ _ c.other.view_is) at c.requires in
-    (keeps_pair _ _ _ _ _ c.set.view_is c.set.invariant _ _ c.other.view_is c.other.invariant done g.met.O.WordOp.laws shorter).value
+    (keeps_pair _ _ _ _ _ c.set.view_is c.set.invariant _ _ c.other.view_is c.other.invariant done g.met.O.WordOp.laws
+    shorter).value
 
 pub returns-clause-cost : goal.returns-clause-cost
 returns-clause-cost g c =
@@ -21,7 +23,12 @@ returns-clause-cost g c =
     rw (← first, ← second) c.joined.ensures.cost
 
 pub returns-clause-exact_if_ok : goal.returns-clause-exact_if_ok
-returns-clause-exact_if_ok g c = cc (c.in_ok-words.ensures.exact_if_ok, viewed_count _ _ _ c.set.view_is c.set.invariant, viewed_count _ _ _ c.other.view_is c.other.invariant)
+returns-clause-exact_if_ok g c =
+    cc (
+      c.in_ok-words.ensures.exact_if_ok,
+      viewed_count _ _ _ c.set.view_is c.set.invariant,
+      viewed_count _ _ _ c.other.view_is c.other.invariant,
+    )
 
 pub returns-in_err-words-clause-cost : goal.returns-in_err-words-clause-cost
 returns-in_err-words-clause-cost g c =

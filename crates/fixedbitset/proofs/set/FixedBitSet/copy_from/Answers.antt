@@ -6,11 +6,21 @@ pub returns-in_err-resize-clause-succeeds : goal.returns-in_err-resize-clause-su
 returns-in_err-resize-clause-succeeds c = λ needs.
     let own = viewed_count _ _ _ c.self.view_is c.self.invariant in
     let needed = viewed_count _ _ _ c.source.view_is c.source.invariant in
-    absurd (omega (arith, own, needed, needs, c.len.ensures, c.self.inside.words.ok, c.source.inside.words.ok, c.in_err-resize.ensures.full))
+    absurd (omega (
+      arith,
+      own,
+      needed,
+      needs,
+      c.len.ensures,
+      c.self.inside.words.ok,
+      c.source.inside.words.ok,
+      c.in_err-resize.ensures.full,
+    ))
 
 pub returns-clause-cost : goal.returns-clause-cost
 returns-clause-cost c =
-    let needed = c.len-2.ensures ∙ c.source.inside.words.ok.0 ∙ viewed_count _ _ _ c.source.view_is c.source.invariant in
+    let needed = c.len-2.ensures ∙ c.source.inside.words.ok.0
+    ∙ viewed_count _ _ _ c.source.view_is c.source.invariant in
     rw (← needed) c.tick_lanes.ensures
 
 pub invariant_of-self-2 : goal.invariant_of-self-2

@@ -14,13 +14,16 @@ pub returns-clause-items : goal.returns-clause-items
 returns-clause-items c = lacked_items c.args.self.now c.args.other.now _ (walk c)
 
 pub returns-clause-fits : goal.returns-clause-fits
-returns-clause-fits c = fits_items (difference c.args.self.now c.args.other.now) _ (returns-clause-items c) (rw length-difference c.used_words-words.ensures.fits)
+returns-clause-fits c =
+    fits_items (difference c.args.self.now c.args.other.now) _ (returns-clause-items c)
+    (rw length-difference c.used_words-words.ensures.fits)
 
 pub returns-clause-runs : goal.returns-clause-runs
 returns-clause-runs c = runs_forwards (λ sieved. sieved.items) SievesFirst (λ s r t h. h.0) _ _ (returns-clause-items c)
 
 pub returns-clause-runs_back : goal.returns-clause-runs_back
-returns-clause-runs_back c = runs_backwards (λ sieved. sieved.items) SievesLast (λ s r t h. h.0) _ _ (returns-clause-items c)
+returns-clause-runs_back c =
+    runs_backwards (λ sieved. sieved.items) SievesLast (λ s r t h. h.0) _ _ (returns-clause-items c)
 
 pub returns-clause-source : goal.returns-clause-source
 returns-clause-source c = sieve_source c.args.self.now c.args.other.now _ not (walk c)

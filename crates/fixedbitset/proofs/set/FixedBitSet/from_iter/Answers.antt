@@ -3,10 +3,20 @@ use Rattle.fixedbitset.proofs.set.FixedBitSet.from_iter.Goals as goal
 
 pub returns-in_err-extend : goal.returns-in_err-extend
 returns-in_err-extend g c =
-    let (it, becomes, run) = c.in_err-extend.ensures in
-    (it, c.extend.new.self, becomes, record { taken = run.taken; positions = run.positions; added = cc; next = search rules }, search rules)
+    let (it, becomes, run) = c.in_err-extend.ensures in (
+      it,
+      c.extend.new.self,
+      becomes,
+      record { taken = run.taken; positions = run.positions; added = cc; next = search rules },
+      search rules,
+    )
 
 pub returns : goal.returns
 returns g c =
-    let (it, becomes, run) = c.in_ok-extend.ensures in
-    (it, c.extend.new.self, becomes, record { taken = run.taken; positions = run.positions; added = cc; next = run.next }, refl)
+    let (it, becomes, run) = c.in_ok-extend.ensures in (
+      it,
+      c.extend.new.self,
+      becomes,
+      record { taken = run.taken; positions = run.positions; added = cc; next = run.next },
+      refl,
+    )

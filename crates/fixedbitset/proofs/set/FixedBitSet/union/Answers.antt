@@ -20,7 +20,13 @@ returns-clause-items c =
 
 pub returns-clause-fits : goal.returns-clause-fits
 returns-clause-fits c =
-    omega (arith, ap length (returns-clause-items c), length-union_items c.args.self.now c.args.other.now, c.used_words-words.ensures.fits, c.used_words-others.ensures.fits)
+    omega (
+      arith,
+      ap length (returns-clause-items c),
+      length-union_items c.args.self.now c.args.other.now,
+      c.used_words-words.ensures.fits,
+      c.used_words-others.ensures.fits,
+    )
 
 pub returns-clause-runs : goal.returns-clause-runs
 returns-clause-runs c = runs_forwards joined_items JoinsFirst (λ s r t h. h.0) _ _ (returns-clause-items c)

@@ -13,7 +13,8 @@ invariant_of-result g c =
     let needed : words.len ≡ storage_words c.args.bits = c.in_ok-words.ensures.len ∙ c.storage_words.ensures in
     let filled = with_items_is words c.fill.new.words long in
     let done = rw (c.deref_mut-2.ensures.value, filled) at c.clear_from.ensures in
-    rw (with_items_is (with_items words c.fill.new.words) c.clear_from.new.words (done.long ∙ long)) (keeps_cut _ c.ranges.bits.fits _ _ (long ∙ needed) done).clean
+    rw (with_items_is (with_items words c.fill.new.words) c.clear_from.new.words (done.long ∙ long))
+    (keeps_cut _ c.ranges.bits.fits _ _ (long ∙ needed) done).clean
 
 pub returns : goal.returns
 returns g c =

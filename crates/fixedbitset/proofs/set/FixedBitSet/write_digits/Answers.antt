@@ -2,12 +2,14 @@ use Rattle.std.proofs.Common.{◌≡◌, ◌+◌, ◌-◌, ◌*◌, ◌<◌, get
 use Rattle.std.proofs.Output.{has_written_styled_append, has_written_styled_of_eq}
 use Rattle.fixedbitset.specs.Bits.{word, words, words_needed}
 use Rattle.fixedbitset.specs.WordsFacts.{get_or-words, length-words}
-use Rattle.fixedbitset.proofs.Texts.{AreDigits, characters, digits_are_text, characters_of_word, characters-append, text_is}
+use Rattle.fixedbitset.proofs.Texts.{AreDigits, characters, digits_are_text}
+use Rattle.fixedbitset.proofs.Texts.{characters_of_word, characters-append, text_is}
 use Rattle.fixedbitset.proofs.set.FixedBitSet.write_digits.Goals as goal
 
 pub from_utf8_unchecked-requires : goal.from_utf8_unchecked-requires
 from_utf8_unchecked-requires g c =
-    let d : AreDigits (get_or c.as_slice-word-items.result.now c.loop-word.word-index 0) c.put_digits.new.digits = record { count = c.put_digits.array_long; bits = c.put_digits.ensures } in
+    let d : AreDigits (get_or c.as_slice-word-items.result.now c.loop-word.word-index 0) c.put_digits.new.digits =
+    record { count = c.put_digits.array_long; bits = c.put_digits.ensures } in
     digits_are_text _ _ d c.min-count.result (omega arith)
 
 pub loop-word-preserved : goal.loop-word-preserved
@@ -18,9 +20,12 @@ loop-word-preserved g c =
     let same : c.as_slice-word-items.result.now ≡ words v = c.as_slice-word-items.ensures in
     let long : length c.as_slice-word-items.result.now ≡ words_needed v.length = ap length same ∙ length-words v in
     let inside : k < words_needed v.length = omega arith in
-    let read : get_or c.as_slice-word-items.result.now k 0 ≡ word v k = ap (λ ws. get_or ws k 0) same ∙ get_or-words v k inside in
-    let digits : AreDigits (word v k) c.put_digits.new.digits = record { count = c.put_digits.array_long; bits = rw read at c.put_digits.ensures } in
-    let text : c.from_utf8_unchecked.result.now ≡ characters v (64 * k) count = c.from_utf8_unchecked.ensures ∙ characters_of_word v k count _ (omega arith) digits in
+    let read : get_or c.as_slice-word-items.result.now k 0 ≡ word v k = ap (λ ws. get_or ws k 0) same
+    ∙ get_or-words v k inside in
+    let digits : AreDigits (word v k) c.put_digits.new.digits =
+    record { count = c.put_digits.array_long; bits = rw read at c.put_digits.ensures } in
+    let text : c.from_utf8_unchecked.result.now ≡ characters v (64 * k) count = c.from_utf8_unchecked.ensures
+    ∙ characters_of_word v k count _ (omega arith) digits in
     let before : v.length - c.loop-word.left ≡ 64 * k = omega arith in
     let after : 64 * k + count ≡ v.length - (c.loop-word.left - count) = omega arith in
     record {
@@ -35,6 +40,7 @@ loop-word-preserved g c =
 pub returns : goal.returns
 returns g c = λ flush _.
     let v = c.args.self.now in
-    let long : length c.as_slice-word-items.result.now ≡ words_needed v.length = ap length c.as_slice-word-items.ensures ∙ length-words v in
+    let long : length c.as_slice-word-items.result.now ≡ words_needed v.length = ap length c.as_slice-word-items.ensures
+    ∙ length-words v in
     let done : v.length - c.loop-word.left ≡ v.length = omega arith in
     has_written_styled_of_eq _ _ _ _ _ (text_is v _ done) (c.loop-word.invariant.written flush)

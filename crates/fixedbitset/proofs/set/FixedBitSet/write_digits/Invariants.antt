@@ -7,5 +7,6 @@ use Rattle.fixedbitset.proofs.set.FixedBitSet.write_digits.Given as goal
 abbrev pub invariant-loop-word : goal.invariant-loop-word
 invariant-loop-word g l = record {
   left : l.left ≡ l.fn.self.length - 64 * l.word-index;
-  written : IsFlush l.initial.f → HasWrittenStyled g.W.Write.write_str_gives l.initial.f (characters l.fn.self 0 (l.fn.self.length - l.left)) l.f;
+  written : IsFlush l.initial.f
+      → HasWrittenStyled g.W.Write.write_str_gives l.initial.f (characters l.fn.self 0 (l.fn.self.length - l.left)) l.f;
 }

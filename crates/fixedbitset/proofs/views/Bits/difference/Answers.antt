@@ -15,7 +15,13 @@ use Rattle.fixedbitset.proofs.views.Bits.difference.Goals as goal
 
 pub over-requires : goal.over-requires
 over-requires c =
-    omega (arith, c.args.self.clean.fits, c.as_slice-words.ensures.count, ap length c.of.ensures.words, length-beside bit_without c.of.result.plain.words.now c.of.result.other.now)
+    omega (
+      arith,
+      c.args.self.clean.fits,
+      c.as_slice-words.ensures.count,
+      ap length c.of.ensures.words,
+      length-beside bit_without c.of.result.plain.words.now c.of.result.other.now,
+    )
 
 pub returns-clause-items : goal.returns-clause-items
 returns-clause-items c =
@@ -23,8 +29,15 @@ returns-clause-items c =
     let w : Bits = of_words c.args.other.length c.args.other.words.now in
     let has = has_bit-of c.args.other.length c.args.other.words.now _ refl c.args.other.clean in
     let other : AreWords c.args.other.words.now = rw c.all-other.ensures.same at c.all-other.ensures.words in
-    rw (c.over.ensures, c.of.ensures.words, c.of.ensures.other, c.as_slice-words.ensures.value, c.all-other.ensures.same)
-    (asc-beside laws_of_without refl v w (difference v w) (contains-difference v w) _ c.args.other.words.now (are_words v) other (λ p _. has_bit-words v p) has
+    rw (
+      c.over.ensures,
+      c.of.ensures.words,
+      c.of.ensures.other,
+      c.as_slice-words.ensures.value,
+      c.all-other.ensures.same,
+    )
+    (asc-beside laws_of_without refl v w (difference v w) (contains-difference v w) _ c.args.other.words.now
+    (are_words v) other (λ p _. has_bit-words v p) has
     (λ p past. contains-past (difference v w) p (omega (arith, past, length-words v, length-difference v w))))
 
 pub returns-clause-words : goal.returns-clause-words
@@ -33,6 +46,13 @@ returns-clause-words c =
     let w : Bits = of_words c.args.other.length c.args.other.words.now in
     let has = has_bit-of c.args.other.length c.args.other.words.now _ refl c.args.other.clean in
     let other : AreWords c.args.other.words.now = rw c.all-other.ensures.same at c.all-other.ensures.words in
-    rw (c.over.ensures, c.of.ensures.words, c.of.ensures.other, c.as_slice-words.ensures.value, c.all-other.ensures.same)
-    (ap between_ends (beside-words laws_of_without refl v w (difference v w) (contains-difference v w) _ c.args.other.words.now (are_words v) other
+    rw (
+      c.over.ensures,
+      c.of.ensures.words,
+      c.of.ensures.other,
+      c.as_slice-words.ensures.value,
+      c.all-other.ensures.same,
+    )
+    (ap between_ends (beside-words laws_of_without refl v w (difference v w) (contains-difference v w) _
+    c.args.other.words.now (are_words v) other
     (length-words v ∙ ap words_needed (sym (length-difference v w))) (λ p _. has_bit-words v p) has))

@@ -6,9 +6,13 @@ use Rattle.fixedbitset.proofs.views.Bits.is_equal.Goals as goal
 
 pub returns-then-self-other-clause-answer : goal.returns-then-self-other-clause-answer
 returns-then-self-other-clause-answer c =
-    c.none.ensures.none ∙ equal_of _ _ (length-of_words c.args.self.length c.args.self.words.now ∙ c.if-self-other.true ∙ sym (length-of_words c.args.other.length c.args.other.words.now))
+    c.none.ensures.none
+    ∙ equal_of _ _ (length-of_words c.args.self.length c.args.self.words.now ∙ c.if-self-other.true
+    ∙ sym (length-of_words c.args.other.length c.args.other.words.now))
 
 pub returns-else-self-other-clause-answer : goal.returns-else-self-other-clause-answer
 returns-else-self-other-clause-answer c =
     ne_eqb _ _ c.if-self-other.false
-    ∙ sym (other_length _ _ (λ e. c.if-self-other.false (sym (length-of_words c.args.self.length c.args.self.words.now) ∙ e ∙ length-of_words c.args.other.length c.args.other.words.now)))
+    ∙ sym (other_length _ _ (λ e.
+    c.if-self-other.false (sym (length-of_words c.args.self.length c.args.self.words.now) ∙ e
+    ∙ length-of_words c.args.other.length c.args.other.words.now)))

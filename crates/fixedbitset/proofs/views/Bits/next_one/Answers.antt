@@ -4,4 +4,5 @@ use Rattle.fixedbitset.proofs.views.Bits.next_one.Goals as goal
 
 pub returns-clause-missed : goal.returns-clause-missed
 returns-clause-missed c =
-    missed_one c.args.self.length c.args.self.words.now c.args.self.clean c.args.from c.next.result c.next.ensures.none (λ some none. omega (arith, c.next.ensures.row some none, c.args.self.clean.count))
+    missed_one c.args.self.length c.args.self.words.now c.args.self.clean c.args.from c.next.result c.next.ensures.none
+    (λ some none. omega (arith, c.next.ensures.row some none, c.args.self.clean.count))

@@ -6,7 +6,13 @@ use Rattle.fixedbitset.proofs.Positions.{ones-within}
 use Rattle.fixedbitset.proofs.views.Bits.ones_in.Goals as goal
 
 pub ones_within-requires-clause-within : goal.ones_within-requires-clause-within
-ones_within-requires-clause-within c = omega (arith, valid_range (of_words c.args.self.length c.args.self.words.now) _ _ c.requires, length-of_words, c.as_slice.ensures.count)
+ones_within-requires-clause-within c =
+    omega (
+      arith,
+      valid_range (of_words c.args.self.length c.args.self.words.now) _ _ c.requires,
+      length-of_words,
+      c.as_slice.ensures.count,
+    )
 
 pub returns-clause-items : goal.returns-clause-items
 returns-clause-items c = rw (c.ones_within.ensures, c.as_slice.ensures.value) (ones-within _ _ _ c.requires)

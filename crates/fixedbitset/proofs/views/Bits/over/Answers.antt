@@ -2,4 +2,5 @@ use Rattle.std.proofs.Common.{rules}
 use Rattle.fixedbitset.proofs.views.Bits.over.Goals as goal
 
 pub invariant_of-result : goal.invariant_of-result
-invariant_of-result c = record { clean = record { fits = c.ranges.length.fits; count = search rules; tail = search rules } }
+invariant_of-result c =
+    record { clean = record { fits = c.ranges.length.fits; count = search rules; tail = search rules } }

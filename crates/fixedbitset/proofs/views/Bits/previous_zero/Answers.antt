@@ -3,4 +3,5 @@ use Rattle.fixedbitset.proofs.views.Bits.previous_zero.Goals as goal
 
 pub returns-clause-previous : goal.returns-clause-previous
 returns-clause-previous c =
-    previous_zero_of c.args.self.length c.args.self.words.now c.args.self.clean c.args.below c.previous.result (rw c.min.ensures at c.previous.ensures.found) (rw c.min.ensures at c.previous.ensures.none)
+    previous_zero_of c.args.self.length c.args.self.words.now c.args.self.clean c.args.below c.previous.result
+    (rw c.min.ensures at c.previous.ensures.found) (rw c.min.ensures at c.previous.ensures.none)

@@ -6,10 +6,22 @@ use Rattle.fixedbitset.proofs.views.BitsMut.assign_bytes.Goals as goal
 
 pub invariant_of-self : goal.invariant_of-self
 invariant_of-self c =
-    let made = c.fill_words.ensures ∙ ap (λ n. map (word_of c.args.source.now) (range_with_len 0 n)) c.args.self.now.clean.count in
-    record { clean = (keeps_made c.args.source.now (λ j. search rules) _ c.args.self.now.clean.fits _ _ made c.clear_from.ensures).clean }
+    let made = c.fill_words.ensures
+    ∙ ap (λ n. map (word_of c.args.source.now) (range_with_len 0 n)) c.args.self.now.clean.count in
+    record {
+      clean =
+          (keeps_made c.args.source.now (λ j. search rules) _ c.args.self.now.clean.fits _ _ made
+          c.clear_from.ensures).clean;
+    }
 
 pub returns : goal.returns
 returns c =
-    let made = c.fill_words.ensures ∙ ap (λ n. map (word_of c.args.source.now) (range_with_len 0 n)) c.args.self.now.clean.count in
-    record { value = (keeps_made c.args.source.now (λ j. search rules) _ c.args.self.now.clean.fits _ _ made c.clear_from.ensures).value; length = refl; same = refl }
+    let made = c.fill_words.ensures
+    ∙ ap (λ n. map (word_of c.args.source.now) (range_with_len 0 n)) c.args.self.now.clean.count in
+    record {
+      value =
+          (keeps_made c.args.source.now (λ j. search rules) _ c.args.self.now.clean.fits _ _ made
+          c.clear_from.ensures).value;
+      length = refl;
+      same = refl;
+    }

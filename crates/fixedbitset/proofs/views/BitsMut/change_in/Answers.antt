@@ -10,7 +10,19 @@ pub change-requires-clause-within : goal.change-requires-clause-within
 change-requires-clause-within g c = reaches _ _ _ refl c.args.self.now.clean _ _ c.requires.valid
 
 pub invariant_of-self : goal.invariant_of-self
-invariant_of-self g c = record { clean = (keeps_range _ _ _ c.args.self.now.clean _ _ c.requires.valid c.change.ensures.bits g.met.O.WordOp.laws).clean }
+invariant_of-self g c =
+    record {
+      clean =
+          (keeps_range _ _ _ c.args.self.now.clean _ _ c.requires.valid c.change.ensures.bits
+          g.met.O.WordOp.laws).clean;
+    }
 
 pub returns-clause-value : goal.returns-clause-value
-returns-clause-value g c = record { value = (keeps_range _ _ _ c.args.self.now.clean _ _ c.requires.valid c.change.ensures.bits g.met.O.WordOp.laws).value; length = refl; same = refl }
+returns-clause-value g c =
+    record {
+      value =
+          (keeps_range _ _ _ c.args.self.now.clean _ _ c.requires.valid c.change.ensures.bits
+          g.met.O.WordOp.laws).value;
+      length = refl;
+      same = refl;
+    }

@@ -6,4 +6,5 @@ pub invariant_of-self : goal.invariant_of-self
 invariant_of-self c = record { clean = (zeroed _ _ _ c.args.self.now.clean c.zero.ensures.words).clean }
 
 pub returns-clause-value : goal.returns-clause-value
-returns-clause-value c = record { value = (zeroed _ _ _ c.args.self.now.clean c.zero.ensures.words).value; length = refl; same = refl }
+returns-clause-value c =
+    record { value = (zeroed _ _ _ c.args.self.now.clean c.zero.ensures.words).value; length = refl; same = refl }

@@ -5,4 +5,8 @@ use Rattle.fixedbitset.proofs.views.BitsMut.union_with_own_shift.Goals as goal
 pub returns-then-by-gt0-clause-value : goal.returns-then-by-gt0-clause-value
 returns-then-by-gt0-clause-value c =
     let became = c.join_own.ensures.value in
-    record { value = became.value ∙ having_with_own _ _ c.args.self.now.clean c.args.by; length = became.length; same = became.same }
+    record {
+      value = became.value ∙ having_with_own _ _ c.args.self.now.clean c.args.by;
+      length = became.length;
+      same = became.same;
+    }

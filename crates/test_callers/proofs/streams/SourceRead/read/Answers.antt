@@ -11,6 +11,7 @@ first_set (b ∷ bytes) byte lt = refl
 pub returns-clause-bytes : goal.returns-clause-bytes
 returns-clause-bytes c =
     let room : 0 < length c.args.buffer.now = grind (arith, nat_tests) in (
-      c.in-Some.ensures.cases.0 ∙ ap (λ given. given ++ c.in-Some.rest.now) (sym (first_set c.args.buffer.now c.in-Some.first.now room)),
+      c.in-Some.ensures.cases.0
+          ∙ ap (λ given. given ++ c.in-Some.rest.now) (sym (first_set c.args.buffer.now c.in-Some.first.now room)),
       λ none. absurd (omega arith),
     )

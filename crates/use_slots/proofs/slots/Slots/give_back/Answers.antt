@@ -13,4 +13,5 @@ remove-requires c =
 
 pub returns-clause-left : goal.returns-clause-left
 returns-clause-left c =
-    ap free_count (c.remove.ensures ∙ ap (λ v. remove v c.args.slot) c.self.view_is) ∙ count_zeroes-remove c.args.self.now c.args.slot c.requires
+    ap free_count (c.remove.ensures ∙ ap (λ v. remove v c.args.slot) c.self.view_is)
+    ∙ count_zeroes-remove c.args.self.now c.args.slot c.requires
