@@ -13,11 +13,12 @@ use bitlanes::Block;
 use serde_json::{Value, json};
 use std::alloc::{AllocError, Global};
 
-/// The first `count` words that the items are the bytes of: eight items for each word, the lowest byte first. A byte is 0
-/// where there is no item, and where the item is no whole number from 0 to 255.
+/// The first `count` words that the items are the bytes of: eight items for each word,
+/// the lowest byte first. A byte is 0 where there is no item, and where the item is no
+/// whole number from 0 to 255.
 ///
-/// It looks at no more than `8 * count` items, each once, and takes the memory of the words at once. `Err` comes only where
-/// that was refused.
+/// It looks at no more than `8 * count` items, each once, and takes the memory of the words at
+/// once. `Err` comes only where that was refused.
 ///
 /// ```
 /// let value = Value::from_str(alloc, "[1,2]")?;
@@ -44,11 +45,11 @@ pub fn words_of_items(
     Ok(words)
 }
 
-/// The object whose `length` is `bits` and whose `data` is the list of the bytes of the words: eight for each word, the
-/// lowest byte first.
+/// The object whose `length` is `bits` and whose `data` is the list of the bytes of the words:
+/// eight for each word, the lowest byte first.
 ///
-/// It makes one item for each byte, and takes the memory of the items at once. `Err` comes only where memory for them or for
-/// the object was refused.
+/// It makes one item for each byte, and takes the memory of the items at once. `Err` comes only
+/// where memory for them or for the object was refused.
 ///
 /// ```
 /// let text = bytes::value_of_words(alloc, 10, &[513])?.to_string(alloc)?;
@@ -69,11 +70,11 @@ pub fn value_of_words(alloc: Global, bits: usize, words: &[Block]) -> Result<Val
     Ok(value)
 }
 
-/// The first `count` words that `source` are the bytes of: eight for each word, the lowest byte first. Past its end a byte is
-/// 0.
+/// The first `count` words that `source` are the bytes of: eight for each word, the lowest byte
+/// first. Past its end a byte is 0.
 ///
-/// It looks at no more than `8 * count` bytes, each once, and takes the memory of the words at once. `Err` comes only where
-/// that was refused.
+/// It looks at no more than `8 * count` bytes, each once, and takes the memory of the words at
+/// once. `Err` comes only where that was refused.
 ///
 /// ```
 /// let words = bytes::words_of_bytes(alloc, &[1, 2], 2)?;

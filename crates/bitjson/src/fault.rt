@@ -4,7 +4,8 @@ ghost use Rattle.std.specs.Prelude.{◌≡◌};
 
 use std::alloc::AllocError;
 
-/// Why a value is not in the form, or gives nothing although it is. It is the first of these that holds, in this order.
+/// Why a value is not in the form, or gives nothing although it is. It is the first of these
+/// that holds, in this order.
 ///
 /// ```
 /// assert_eq!(rt; JsonFault::from(AllocError), JsonFault::Memory);
@@ -25,7 +26,8 @@ pub enum JsonFault {
     Length,
     /// The data are not a list.
     Data,
-    /// The item of the data at this index, from 0, is the first that is not a whole number from 0 to 255.
+    /// The item of the data at this index, from 0, is the first that is not a
+    /// whole number from 0 to 255.
     Item(usize),
     /// The value is in the form, and memory was refused.
     Memory,

@@ -9,8 +9,9 @@ ghost use Rattle.bitjson.specs.declared.fault.JsonFault.TheVariants.{Memory};
 use crate::fault::JsonFault;
 use serde_json::Value;
 
-/// The length and the items of a value in the form: an object with exactly the keys `length` and `data`, or a list of these
-/// two in this order. The length is a whole number of 64 bits, and each item one from 0 to 255.
+/// The length and the items of a value in the form: an object with exactly the keys `length` and
+/// `data`, or a list of these two in this order. The length is a whole number of 64 bits, and each
+/// item one from 0 to 255.
 ///
 /// The items are lent from the value. Each item is looked at once, and no memory is taken.
 ///

@@ -1,8 +1,10 @@
-//! The ones of a long row of joined words, by carries: lanes are added bit by bit, and only every eighth lane is counted.
+//! The ones of a long row of joined words, by carries: lanes are added bit by bit, and only every
+//! eighth lane is counted.
 //!
-//! Three lanes added bit by bit make a lane of sums and a lane of carries, and a carry stands for two ones. So two lanes
-//! and a sum make a new sum and a lane of twos, four lanes make a lane of fours, and eight lanes a lane of eights. Of
-//! eight lanes only the lane of eights is counted. The ones, twos and fours that are left are counted once, at the end.
+//! Three lanes added bit by bit make a lane of sums and a lane of carries, and a carry stands for
+//! two ones. So two lanes and a sum make a new sum and a lane of twos, four lanes make a lane of
+//! fours, and eight lanes a lane of eights. Of eight lanes only the lane of eights is counted. The
+//! ones, twos and fours that are left are counted once, at the end.
 ghost use Rattle.std.specs.Prelude.{◌≡◌, ◌+◌, ◌*◌, ◌^◌, ◌<◌, ◌≤◌, length};
 ghost use Rattle.bitlanes.specs.Ones.{ones_of, ones_at, ones_up_to};
 
@@ -41,7 +43,8 @@ pub(crate) fn count_eights<O: WordOp>(
     8 * eights + sums.count()
 }
 
-// Lanes added bit by bit: of ones, of twos and of fours. A caller sees how many ones they stand for.
+// Lanes added bit by bit: of ones, of twos and of fours. A caller sees how
+// many ones they stand for.
 #[derive(Drop)]
 struct Sums {
     ones: u64x4,

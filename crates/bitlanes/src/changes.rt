@@ -13,8 +13,8 @@ use crate::ops::WordOp;
 use crate::{Block, Steps};
 use std::simd::prelude::*;
 
-/// Joins each word of `dst` with the word of `src` at its place, by `O`, and answers whether a bit of `dst` changed. Words
-/// of `dst` past the end of `src` stay.
+/// Joins each word of `dst` with the word of `src` at its place, by `O`, and answers whether a bit
+/// of `dst` changed. Words of `dst` past the end of `src` stay.
 ///
 /// It takes exactly `m / 4` steps, rounded up, `m` being the number of words of the shorter slice.
 ///
@@ -48,8 +48,9 @@ pub fn apply<O: WordOp>(dst: &mut [Block], src: &[Block], steps: &mut Steps) -> 
     !is_zero(changed)
 }
 
-/// Joins each word of `dst` by `O` with the words of `a` and `b` at its place, which are joined by `T` first, and answers
-/// whether a bit of `dst` changed. Words of `dst` past the end of `a` or of `b` stay.
+/// Joins each word of `dst` by `O` with the words of `a` and `b` at its place, which are
+/// joined by `T` first, and answers whether a bit of `dst` changed. Words of `dst` past the
+/// end of `a` or of `b` stay.
 ///
 /// It takes exactly `m / 4` steps, rounded up, `m` being the number of words of the shortest slice.
 ///
@@ -136,7 +137,8 @@ fn gathered(before: u64x4, lane: u64x4) -> u64x4
     before | lane
 }
 
-// Joins the four words of `dst` from `at` on with those of `src`, and answers the bits that changed.
+// Joins the four words of `dst` from `at` on with those of `src`, and answers
+// the bits that changed.
 #[inline(always)]
 fn change_lane<O: WordOp>(dst: &mut [Block], src: &[Block], at: usize) -> u64x4
     requires in_dst { at + 4 ≤ length dst.old }
@@ -163,7 +165,8 @@ fn change_by_lane<O: WordOp>(dst: &mut [Block], at: usize, lane: u64x4) -> u64x4
     old ^ new
 }
 
-// Joins the last one to three words of `dst`, from `at` on, with those of `src`, and answers the bits that changed.
+// Joins the last one to three words of `dst`, from `at` on, with those of `src`, and answers
+// the bits that changed.
 #[inline(always)]
 fn change_part<O: WordOp>(dst: &mut [Block], src: &[Block], at: usize, rest: usize) -> u64x4
     requires some { 0 < rest }
@@ -177,8 +180,8 @@ fn change_part<O: WordOp>(dst: &mut [Block], src: &[Block], at: usize, rest: usi
     change_by_part::<O>(dst, at, rest, part_at(src, at, rest))
 }
 
-// Joins the last one to three words of `dst`, from `at` on, with the first of a lane, and answers the bits that changed
-// where these words are filled with zeros.
+// Joins the last one to three words of `dst`, from `at` on, with the first of a lane, and answers
+// the bits that changed where these words are filled with zeros.
 #[inline(always)]
 fn change_by_part<O: WordOp>(dst: &mut [Block], at: usize, rest: usize, lane: u64x4) -> u64x4
     requires some { 0 < rest }

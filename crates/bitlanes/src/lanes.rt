@@ -1,9 +1,10 @@
 //! The kernels: loops over the words of one slice or of two, by lanes of four words.
 //!
-//! A step is one lane in one turn of a kernel, and is counted by one tick. Where the number of words is no multiple of
-//! four, the one to three words that are left are a lane of their own, filled with zeros, of which only these words are
-//! written back. So `m` words take `m / 4` steps, rounded up. A count of a short row goes word by word, and ticks at the
-//! first word of each lane. The kernels and the searches of module `search` are the only loops of calls on whole sets.
+//! A step is one lane in one turn of a kernel, and is counted by one tick. Where the number of
+//! words is no multiple of four, the one to three words that are left are a lane of their own,
+//! filled with zeros, of which only these words are written back. So `m` words take `m / 4` steps,
+//! rounded up. A count of a short row goes word by word, and ticks at the first word of each lane.
+//! The kernels and the searches of module `search` are the only loops of calls on whole sets.
 //!
 //! Of two slices a kernel reads as many words as the shorter one has.
 ghost use Rattle.std.specs.Prelude.{◌≡◌, ◌+◌, ◌-◌, ◌*◌, ◌^◌, ◌<◌, ◌≤◌, ◌==◌, length, min};
@@ -22,10 +23,12 @@ use std::simd::prelude::*;
 /// How many words a lane has.
 pub const LANE: usize = 4;
 
-// From how many words on a count goes by carries. A shorter row is counted word by word, which is as quick there.
+// From how many words on a count goes by carries. A shorter row is counted word by word,
+// which is as quick there.
 const LONG: usize = 512;
 
-/// Joins each word of `dst` with the word of `src` at its place, by `O`. Words of `dst` past the end of `src` stay.
+/// Joins each word of `dst` with the word of `src` at its place, by `O`. Words of `dst` past
+/// the end of `src` stay.
 ///
 /// It takes exactly `m / 4` steps, rounded up, `m` being the number of words of the shorter slice.
 ///
@@ -57,8 +60,8 @@ pub fn apply<O: WordOp>(dst: &mut [Block], src: &[Block], steps: &mut Steps)
 
 /// How many bits are set in the words of `a` joined with those of `b` by `O`, as far as both go.
 ///
-/// It asks that this number fits `usize`, and takes exactly `m / 4` steps, rounded up, `m` being the number of words of
-/// the shorter slice.
+/// It asks that this number fits `usize`, and takes exactly `m / 4` steps, rounded up, `m` being
+/// the number of words of the shorter slice.
 ///
 /// ```
 /// let count = lanes::count::<And>(&[7, 1, 1, 1, 255], &[2, 0, 1, 1, 15], &mut Steps::new());
@@ -80,8 +83,9 @@ pub fn count<O: WordOp>(a: &[Block], b: &[Block], steps: &mut Steps) -> usize
 
 /// Whether no bit is set in the words of `a` joined with those of `b` by `O`, as far as both go.
 ///
-/// It stops at the first lane with a bit, so it takes at most `m / 4` steps, rounded up, `m` being the number of words
-/// of the shorter slice; where it answers `true` it takes exactly as many, and where it answers `false` at least one.
+/// It stops at the first lane with a bit, so it takes at most `m / 4` steps, rounded up, `m` being
+/// the number of words of the shorter slice; where it answers `true` it takes exactly as many, and
+/// where it answers `false` at least one.
 ///
 /// ```
 /// assert!(rt; lanes::none::<And>(&[1, 2], &[2, 1, 255], &mut Steps::new()));
@@ -140,7 +144,8 @@ pub fn zero(dst: &mut [Block], steps: &mut Steps)
 
 /// How many bits are set in the words.
 ///
-/// It asks that this number fits `usize`, and takes exactly `m / 4` steps, rounded up, `m` being the number of words.
+/// It asks that this number fits `usize`, and takes exactly `m / 4` steps, rounded up, `m`
+/// being the number of words.
 ///
 /// ```
 /// let count = lanes::count_one(&[7, 0, 1 << 63], &mut Steps::new());
@@ -158,8 +163,9 @@ pub fn count_one(a: &[Block], steps: &mut Steps) -> usize
 
 /// Whether no bit is set in the words.
 ///
-/// It stops at the first lane with a bit, so it takes at most `m / 4` steps, rounded up, `m` being the number of words;
-/// where it answers `true` it takes exactly as many, and where it answers `false` at least one.
+/// It stops at the first lane with a bit, so it takes at most `m / 4` steps, rounded up, `m`
+/// being the number of words; where it answers `true` it takes exactly as many, and where it
+/// answers `false` at least one.
 ///
 /// ```
 /// assert!(rt; lanes::none_one(&[0; 9], &mut Steps::new()));
@@ -192,8 +198,9 @@ pub fn none_one(a: &[Block], steps: &mut Steps) -> bool
 
 /// Whether no bit is set in the word `mask` joined with each word of `words` by `O`.
 ///
-/// It stops at the first lane with a bit, so it takes at most `m / 4` steps, rounded up, `m` being the number of words;
-/// where it answers `true` it takes exactly as many, and where it answers `false` at least one.
+/// It stops at the first lane with a bit, so it takes at most `m / 4` steps, rounded up, `m`
+/// being the number of words; where it answers `true` it takes exactly as many, and where it
+/// answers `false` at least one.
 ///
 /// ```
 /// assert!(rt; lanes::none_masked::<And>(4, &[3, 8, 1], &mut Steps::new()));
@@ -265,8 +272,8 @@ pub(crate) fn word_at<O: WordOp>(a: &[Block], b: &[Block], at: usize) -> Block
     O::word(a[at], b[at])
 }
 
-// How many bits are set in the joined words, `total` being those of the first `lanes` lanes. It goes word by word, and
-// takes a step at the first word of each lane.
+// How many bits are set in the joined words, `total` being those of the first `lanes` lanes. It
+// goes word by word, and takes a step at the first word of each lane.
 #[inline(always)]
 #[tactic(auto, using(crate::proofs::Counting::sum_more, crate::proofs::Counting::sum_more_le))]
 fn count_from<O: WordOp>(
@@ -295,8 +302,8 @@ fn count_from<O: WordOp>(
     total
 }
 
-// `count`, for long rows: by carries, eight lanes a turn, and then the words left. It is a call of its own, so that
-// short rows save no registers for it.
+// `count`, for long rows: by carries, eight lanes a turn, and then the words left. It is a call of
+// its own, so that short rows save no registers for it.
 #[cold]
 #[inline(never)]
 fn count_long<O: WordOp>(a: &[Block], b: &[Block], steps: &mut Steps) -> usize
@@ -328,8 +335,8 @@ pub(crate) fn is_zero(lane: u64x4) -> bool
     lane.reduce_or() == 0
 }
 
-// The last one to three words, from `at` on, and zeros. They are read by tests, for a copy of as many words as are left
-// would be a call of `memcpy`.
+// The last one to three words, from `at` on, and zeros. They are read by tests, for a copy of as
+// many words as are left would be a call of `memcpy`.
 #[inline(always)]
 pub(crate) fn part_at(words: &[Block], at: usize, rest: usize) -> u64x4
     requires some { 0 < rest }
@@ -386,8 +393,8 @@ pub(crate) fn joined_part_at<O: WordOp>(a: &[Block], b: &[Block], at: usize, res
     O::lane(part_at(a, at, rest), part_at(b, at, rest))
 }
 
-// The mask joined with each of the last one to three words, from `at` on, and zeros. Past the words the mask is 0 too,
-// for a mask joined with 0 need not be 0.
+// The mask joined with each of the last one to three words, from `at` on, and zeros. Past the words
+// the mask is 0 too, for a mask joined with 0 need not be 0.
 #[inline(always)]
 fn masked_part_at<O: WordOp>(mask: Block, words: &[Block], at: usize, rest: usize) -> u64x4
     requires some { 0 < rest }

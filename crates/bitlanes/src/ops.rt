@@ -40,7 +40,8 @@ pub trait WordOp {
     fn word(a: Block, b: Block) -> Block
         ensures { result ≡ joined a b };
 
-    /// Joins two lanes of four words, each word of the left one with that of the right one at its place.
+    /// Joins two lanes of four words, each word of the left one with that of the
+    /// right one at its place.
     fn lane(left: u64x4, right: u64x4) -> u64x4
         ensures { result ≡ zip2 joined left right };
 

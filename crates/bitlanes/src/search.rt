@@ -1,8 +1,10 @@
-//! Searches for a word that is not 0, by sixteen words, then by lanes of four, and then by single words.
+//! Searches for a word that is not 0, by sixteen words, then by lanes of four,
+//! and then by single words.
 //!
-//! Each word is joined with one mask first, so the same loops find a word that has a bit and a word that lacks one. A
-//! step is one lane of four words from the place on where the search begins: each lane counts once, up to the one that
-//! has the word, though the last sixteen words may be looked at again. The search of two rows goes by lanes alone.
+//! Each word is joined with one mask first, so the same loops find a word that has a bit and a word
+//! that lacks one. A step is one lane of four words from the place on where the search begins: each
+//! lane counts once, up to the one that has the word, though the last sixteen words may be looked
+//! at again. The search of two rows goes by lanes alone.
 ghost use Rattle.std.specs.Prelude.{◌≡◌, ℕ, ◌+◌, ◌-◌, ◌*◌, ◌<◌, ◌≤◌, ◌==◌, false};
 ghost use Rattle.std.specs.Prelude.{length, map, min, slice_index, IfSome, IfNone};
 ghost use Rattle.std.specs.List.{list_all};
@@ -22,8 +24,8 @@ const FOUR: usize = 4 * LANE;
 
 /// The place of the first word that is not 0, or `None` where each word is 0.
 ///
-/// It looks at sixteen words at a time while as many are left behind them. Then it looks at four at a time up to those
-/// that have the word, and then at single words, which are four at most.
+/// It looks at sixteen words at a time while as many are left behind them. Then it looks at four at
+/// a time up to those that have the word, and then at single words, which are four at most.
 ///
 /// ```
 /// let mut steps = Steps::new();
@@ -42,8 +44,9 @@ pub fn first_one(words: &[Block], steps: &mut Steps) -> Option<usize>
 
 /// The place of the last word that is not 0, or `None` where each word is 0.
 ///
-/// It looks at sixteen words at a time from the end on while as many are left before them. Then it looks at four at a
-/// time down to those that have the word, and then at single words, which are four at most.
+/// It looks at sixteen words at a time from the end on while as many are left before them.
+/// Then it looks at four at a time down to those that have the word, and then at single words,
+/// which are four at most.
 ///
 /// ```
 /// let mut steps = Steps::new();
@@ -61,8 +64,8 @@ pub fn last_one(words: &[Block], steps: &mut Steps) -> Option<usize>
     previous_one::<And>(Block::MAX, words, words.len(), steps)
 }
 
-/// The place of the first word, from place `from` on, that is not 0 when `mask` is joined with it by `O`; `None` where
-/// there is none. The place may be the end of the words, and not past it.
+/// The place of the first word, from place `from` on, that is not 0 when `mask` is joined with it
+/// by `O`; `None` where there is none. The place may be the end of the words, and not past it.
 ///
 /// ```
 /// let words = [7, 0, 0, 1];
@@ -97,12 +100,12 @@ pub fn next_one<O: WordOp>(
     None
 }
 
-/// The place, a multiple of four words behind `from`, up to which each word is 0 when `mask` is joined with it by `O`, and
-/// from which on one of the next four is not, or fewer than four are left. The place `from` may be the end of the words,
-/// and not past it.
+/// The place, a multiple of four words behind `from`, up to which each word is 0 when `mask` is
+/// joined with it by `O`, and from which on one of the next four is not, or fewer than four are
+/// left. The place `from` may be the end of the words, and not past it.
 ///
-/// It looks at sixteen words at a time while as many are left behind them, and then at four at a time. The four at the
-/// place that it answers are looked at and take no step yet.
+/// It looks at sixteen words at a time while as many are left behind them, and then at four at a
+/// time. The four at the place that it answers are looked at and take no step yet.
 ///
 /// ```
 /// let mut steps = Steps::new();
@@ -134,8 +137,8 @@ pub fn skip_zeros<O: WordOp>(mask: Block, words: &[Block], from: usize, steps: &
     start
 }
 
-/// The place of the last word, below place `below`, that is not 0 when `mask` is joined with it by `O`; `None` where
-/// there is none. The place may be the end of the words, and not past it.
+/// The place of the last word, below place `below`, that is not 0 when `mask` is joined with it by
+/// `O`; `None` where there is none. The place may be the end of the words, and not past it.
 ///
 /// ```
 /// let words = [1, 0, 0, 7];
@@ -178,8 +181,8 @@ pub fn previous_one<O: WordOp>(
     None
 }
 
-/// The place of the first word of `a` that is not 0 when the word of `b` at its place is joined with it by `O`, as far as
-/// both go; `None` where there is none.
+/// The place of the first word of `a` that is not 0 when the word of `b` at its place is joined
+/// with it by `O`, as far as both go; `None` where there is none.
 ///
 /// ```
 /// let mut steps = Steps::new();

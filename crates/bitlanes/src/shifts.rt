@@ -1,7 +1,8 @@
 //! The kernels that move the bits of a row up or down, by any number of bits.
 //!
-//! A moved word is made of two words that follow each other, so each lane is made of two loads that lie one word apart. A
-//! step is one lane of four words that are written, as in module `lanes`, and the last lane may have fewer.
+//! A moved word is made of two words that follow each other, so each lane is made of two loads that
+//! lie one word apart. A step is one lane of four words that are written, as in module `lanes`, and
+//! the last lane may have fewer.
 ghost use Rattle.std.specs.Prelude.{◌≡◌, ℕ, ◌+◌, ◌-◌, ◌*◌, ◌/◌, ◌%◌, ◌^◌};
 ghost use Rattle.std.specs.Prelude.{◌<◌, ◌≤◌, length, min, slice_index};
 ghost use Rattle.std.specs.Int.{div_ceil};
@@ -15,8 +16,8 @@ use crate::word::BITS;
 use crate::{Block, Steps};
 use std::simd::prelude::*;
 
-/// Joins each word of `dst` by `O` with the 64 bits of `src` at its place, where `src` is taken from bit `from` on. Words
-/// of `dst` for which `src` has no bit left stay.
+/// Joins each word of `dst` by `O` with the 64 bits of `src` at its place, where `src` is taken
+/// from bit `from` on. Words of `dst` for which `src` has no bit left stay.
 ///
 /// It takes exactly `m / 4` steps, rounded up, `m` being the number of words that are joined.
 ///
@@ -56,8 +57,8 @@ pub fn join_down<O: WordOp>(dst: &mut [Block], src: &[Block], from: usize, steps
     }
 }
 
-/// Writes over each word of the row with the 64 bits that stand `by` places above it. Words that have no bit of the row
-/// above them stay.
+/// Writes over each word of the row with the 64 bits that stand `by` places above it. Words that
+/// have no bit of the row above them stay.
 ///
 /// It takes exactly `m / 4` steps, rounded up, `m` being the number of words that are written.
 ///
@@ -91,11 +92,12 @@ pub fn down(words: &mut [Block], by: usize, steps: &mut Steps)
     }
 }
 
-/// Joins each word of the row by `O` with the 64 bits of the row that stand `by` places below it. Words that have no bit of
-/// the row below them stay. `by` may not be 0.
+/// Joins each word of the row by `O` with the 64 bits of the row that stand `by` places below it.
+/// Words that have no bit of the row below them stay. `by` may not be 0.
 ///
-/// It goes from the last word to the first, so each is read before it is written. It takes exactly `m / 4` steps, rounded
-/// up, `m` being the number of words that have 64 bits below them, and one more for the word that has fewer.
+/// It goes from the last word to the first, so each is read before it is written. It takes exactly
+/// `m / 4` steps, rounded up, `m` being the number of words that have 64 bits below them, and one
+/// more for the word that has fewer.
 ///
 /// ```
 /// let mut words = [37, 0, 2];

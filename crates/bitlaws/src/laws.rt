@@ -28,8 +28,8 @@ ghost use Rattle.fixedbitset.specs.TwoSets.{union, symmetric_difference, interse
 ghost use Rattle.bitwalks.specs.Pairs.{SievesFirst, SievesLast, joined_items, JoinsFirst};
 ghost use Rattle.bitwalks.specs.Pairs.{JoinsLast, split_items, SplitsFirst, SplitsLast};
 
-/// The ascending list of a set's positions is strictly ascending and has them all and no other, and every list that is
-/// so is this one.
+/// The ascending list of a set's positions is strictly ascending and has them all and no other, and
+/// every list that is so is this one.
 ///
 /// ```
 /// let set = FixedBitSet::from_iter(alloc, [64, 3, 9])?;
@@ -53,8 +53,8 @@ pub fn words_read_back()
     ensures { WordsReadBack }
 {}
 
-/// The stretches that `runs` and `zero_runs` walk over are the set. Each position of a stretch is set, or clear; none
-/// between two stretches is, and at least one position lies between them.
+/// The stretches that `runs` and `zero_runs` walk over are the set. Each position of a stretch is
+/// set, or clear; none between two stretches is, and at least one position lies between them.
 ///
 /// ```
 /// let set = FixedBitSet::from_iter(alloc, [3, 4, 9])?;
@@ -66,8 +66,8 @@ pub fn runs_are_the_set()
     ensures zeroes { ZeroRunsAreTheOthers }
 {}
 
-/// `first_gap` answers the least number with room, and none exactly where no number has room. There is room where the
-/// positions are below the length and none of them is set.
+/// `first_gap` answers the least number with room, and none exactly where no number has room. There
+/// is room where the positions are below the length and none of them is set.
 ///
 /// ```
 /// let set = FixedBitSet::from_iter(alloc, [3, 4, 9])?;
@@ -79,8 +79,8 @@ pub fn first_gap_is_least()
     ensures least { GapIsLeast }
 {}
 
-/// Which JSON values are in the form, and which fault the others have. It is the first of these that applies, in the order
-/// of `JsonFault`.
+/// Which JSON values are in the form, and which fault the others have. It is the first of these
+/// that applies, in the order of `JsonFault`.
 ///
 /// ```
 /// let value = Value::from_str(alloc, "{\"length\":-1,\"data\":[256]}")?;
@@ -104,8 +104,9 @@ pub fn reads_back()
     ensures { WrittenReadsBack }
 {}
 
-/// The text of what is written of a set as JSON, without spaces and byte for byte. All its numbers are whole and it nests
-/// twice: with these two facts `to_string` of `serde_json` writes this very text, and it is read as what was written.
+/// The text of what is written of a set as JSON, without spaces and byte for byte. All its numbers
+/// are whole and it nests twice: with these two facts `to_string` of `serde_json` writes this very
+/// text, and it is read as what was written.
 ///
 /// ```
 /// let set = FixedBitSet::from_iter(alloc, [2, 9])?;
@@ -132,8 +133,8 @@ pub fn none_and_all()
     ensures full { FullHasAll }
 {}
 
-/// Setting a position that was not set makes one more, and clearing one that was set makes one fewer. Setting one that is
-/// set, and clearing one that is not, changes nothing.
+/// Setting a position that was not set makes one more, and clearing one that was set makes one
+/// fewer. Setting one that is set, and clearing one that is not, changes nothing.
 ///
 /// ```
 /// let mut set = FixedBitSet::with_capacity(alloc, 70)?;
@@ -149,8 +150,9 @@ pub fn one_more_or_fewer()
     ensures remove_again { RemoveKeeps }
 {}
 
-/// The words that hold a position of a range are those from the word of its start up to that of its last position, and
-/// their number is `range_words`, the steps of a change or a count of that range.
+/// The words that hold a position of a range are those from the word of its start up to
+/// that of its last position, and their number is `range_words`, the steps of a change or
+/// a count of that range.
 ///
 /// ```
 /// let mut set = FixedBitSet::with_capacity(alloc, 200)?;
@@ -164,7 +166,8 @@ pub fn words_of_range()
     ensures number { NumberOfRangeWords }
 {}
 
-/// A change or a count of a range takes at most `(end - start) / 64 + 2` steps, and a search no more than these.
+/// A change or a count of a range takes at most `(end - start) / 64 + 2` steps, and a
+/// search no more than these.
 ///
 /// ```
 /// let mut set = FixedBitSet::with_capacity(alloc, 200)?;
@@ -192,7 +195,8 @@ pub fn toggling_twice()
     ensures { TogglingTwice }
 {}
 
-/// Of the positions of a range those that are set and those that are not add up to the length of the range.
+/// Of the positions of a range those that are set and those that are not add up to
+/// the length of the range.
 ///
 /// ```
 /// let mut set = FixedBitSet::with_capacity(alloc, 70)?;
@@ -234,7 +238,8 @@ pub fn counts_add_up()
     ensures { CountsAddUp }
 {}
 
-/// The positions of exactly one of two sets are those that the second lacks and those that the first lacks.
+/// The positions of exactly one of two sets are those that the second lacks and
+/// those that the first lacks.
 ///
 /// ```
 /// let set = FixedBitSet::from_iter(alloc, [1, 3])?;
@@ -247,7 +252,8 @@ pub fn symmetric_difference_count_is_a_sum()
     ensures { SymmetricDifferenceIsSum }
 {}
 
-/// Each of two sets is a subset of the other exactly if they have the same positions, whatever their lengths.
+/// Each of two sets is a subset of the other exactly if they have the same positions,
+/// whatever their lengths.
 ///
 /// ```
 /// let set = FixedBitSet::from_iter(alloc, [1, 3])?;
@@ -274,9 +280,9 @@ pub fn tests_of_two_sets()
     ensures disjoint { IsDisjointTells }
 {}
 
-/// With `m` words that both lengths need and `t` that only the longer needs, a call over two sets takes at most
-/// `m / 4 + 3` steps for the first and `t / 4 + 3` for the second. Over as many words, `m` each, a join, a count or a test
-/// that nothing stops takes exactly `m / 4`, rounded up.
+/// With `m` words that both lengths need and `t` that only the longer needs, a call over two sets
+/// takes at most `m / 4 + 3` steps for the first and `t / 4 + 3` for the second. Over as many
+/// words, `m` each, a join, a count or a test that nothing stops takes exactly `m / 4`, rounded up.
 ///
 /// ```
 /// let mut set = FixedBitSet::with_capacity(alloc, 448)?;
@@ -293,8 +299,9 @@ pub fn steps_of_two_sets()
     ensures equal { StepsOfEqual }
 {}
 
-/// Whatever calls were made of a walk from its two ends: the items that came from the front, then those left, then those
-/// that came from the back, reversed, are the items that it had. It holds of each walk over one set and over two.
+/// Whatever calls were made of a walk from its two ends: the items that came from the front, then
+/// those left, then those that came from the back, reversed, are the items that it had. It holds of
+/// each walk over one set and over two.
 ///
 /// ```
 /// let set = FixedBitSet::from_iter(alloc, [3, 9, 64, 70])?;
@@ -310,9 +317,10 @@ pub fn parts_are_the_list()
     ensures of_split { PartsAreTheList split_items SplitsFirst SplitsLast }
 {}
 
-/// What calls of a walk cost, in any order from its two ends. Calls of a walk over one set make exactly one turn each, and
-/// one more for each word that they take, each word once at most. A walk over two sets looks up each item that a source
-/// gave exactly once; `c` calls of it make its sources take at most `2 c` turns, one for each item and one for each word.
+/// What calls of a walk cost, in any order from its two ends. Calls of a walk over one set make
+/// exactly one turn each, and one more for each word that they take, each word once at most. A walk
+/// over two sets looks up each item that a source gave exactly once; `c` calls of it make its
+/// sources take at most `2 c` turns, one for each item and one for each word.
 ///
 /// ```
 /// let set = FixedBitSet::from_iter(alloc, [3, 70])?;
@@ -327,9 +335,9 @@ pub fn turns_of_calls()
     ensures of_split { SplitsOnce }
 {}
 
-/// Joins of sets of any lengths: which set stands first plays no part, nor which two of three sets are joined first, and a
-/// set joined with itself is that set. `intersection` keeps the length of its first set, so it is `bitand` only where that
-/// is the shorter one.
+/// Joins of sets of any lengths: which set stands first plays no part, nor which two of three sets
+/// are joined first, and a set joined with itself is that set. `intersection` keeps the length of
+/// its first set, so it is `bitand` only where that is the shorter one.
 ///
 /// ```
 /// let set = FixedBitSet::from_iter(alloc, [3, 64])?;
@@ -352,8 +360,8 @@ pub fn joins_in_any_order()
     ensures is_bitand { IntersectionIsBitand }
 {}
 
-/// Union and intersection of sets of any lengths: what one adds the other takes away, and each goes into the two sides of
-/// the other.
+/// Union and intersection of sets of any lengths: what one adds the other takes away, and each goes
+/// into the two sides of the other.
 ///
 /// ```
 /// let mut set = FixedBitSet::from_iter(alloc, [3, 64])?;
@@ -370,8 +378,8 @@ pub fn joins_of_joins()
     ensures union_distributes { Distributes union intersection }
 {}
 
-/// Subsets are ordered, and two sets of one length are equal if each is a subset of the other. The union is the least set
-/// that has both, and the intersection the greatest that both have.
+/// Subsets are ordered, and two sets of one length are equal if each is a subset of the other. The
+/// union is the least set that has both, and the intersection the greatest that both have.
 ///
 /// ```
 /// let set = FixedBitSet::from_iter(alloc, [3, 64])?;
@@ -388,9 +396,9 @@ pub fn subsets_are_ordered()
     ensures intersection_is_greatest { IntersectionIsGreatest }
 {}
 
-/// The complement of a set has the positions below its length that are not set. Twice it is the set. De Morgan's laws hold
-/// of two sets of one length, and the difference is what is in the first set and in the complement of a second that is no
-/// shorter.
+/// The complement of a set has the positions below its length that are not set. Twice it is the
+/// set. De Morgan's laws hold of two sets of one length, and the difference is what is in the first
+/// set and in the complement of a second that is no shorter.
 ///
 /// ```
 /// let set = FixedBitSet::from_iter(alloc, [3, 5])?;
@@ -404,7 +412,8 @@ pub fn complements()
     ensures difference { DifferenceByComplement }
 {}
 
-/// `==` is true exactly if lengths and positions are the same, and `cmp` answers by them which of two sets comes first.
+/// `==` is true exactly if lengths and positions are the same, and `cmp` answers by them which
+/// of two sets comes first.
 ///
 /// ```
 /// let set = FixedBitSet::from_iter(alloc, [3, 64])?;

@@ -1,7 +1,9 @@
-//! Laws of a set that lies in pieces, as on several servers. Each function does nothing, and its contract is a law.
+//! Laws of a set that lies in pieces, as on several servers. Each function does nothing, and
+//! its contract is a law.
 //!
-//! Cuts are positions in ascending order. The pieces are the slices from 0 to the first cut, from each cut to the next,
-//! and from the last one to the length. Between two equal cuts lies an empty piece.
+//! Cuts are positions in ascending order. The pieces are the slices from 0 to the first
+//! cut, from each cut to the next, and from the last one to the length. Between two equal
+//! cuts lies an empty piece.
 
 ghost use Rattle.std.specs.Prelude.{true};
 ghost use Rattle.fixedbitset.specs.Bits.{empty, insert, remove, toggle, is_clear};
@@ -15,7 +17,8 @@ ghost use Rattle.bitlaws.specs.PieceLaws.{InOnePiece, MembersByPieces, ChangesBy
 ghost use Rattle.bitlaws.specs.PieceLaws.{AscendingByPieces, MinimumByPieces};
 ghost use Rattle.bitlaws.specs.PieceLaws.{MaximumByPieces, MissingIsEmpty, WithNothing};
 
-/// The pieces of a set, appended in order, are that set. And any sets are the pieces of what they make when appended.
+/// The pieces of a set, appended in order, are that set. And any sets are the pieces of what
+/// they make when appended.
 ///
 /// ```
 /// let set = FixedBitSet::from_iter(alloc, [3, 64])?;
@@ -31,7 +34,8 @@ pub fn pieces_are_the_set()
     ensures any { AnySetsArePieces }
 {}
 
-/// Two sets of any lengths are joined piece by piece: the pieces of the joined set are the pieces of the two, joined.
+/// Two sets of any lengths are joined piece by piece: the pieces of the joined set are the
+/// pieces of the two, joined.
 ///
 /// ```
 /// let set = FixedBitSet::from_iter(alloc, [3, 64])?;
@@ -48,7 +52,8 @@ pub fn joins_by_pieces()
     ensures symmetric_difference { JoinsByPieces symmetric_difference }
 {}
 
-/// Counts are sums over the pieces: how many positions are set, and the counts over two sets of any lengths.
+/// Counts are sums over the pieces: how many positions are set, and the counts over
+/// two sets of any lengths.
 ///
 /// ```
 /// let set = FixedBitSet::from_iter(alloc, [3, 9, 64])?;
@@ -65,8 +70,8 @@ pub fn counts_by_pieces()
     ensures symmetric_difference { CountsByPieces symmetric_difference_count }
 {}
 
-/// A set is a subset of another one exactly if each of its pieces is a subset of the other's piece. They are disjoint
-/// exactly if the two pieces are at each place. Their lengths may be any.
+/// A set is a subset of another one exactly if each of its pieces is a subset of the other's piece.
+/// They are disjoint exactly if the two pieces are at each place. Their lengths may be any.
 ///
 /// ```
 /// let set = FixedBitSet::from_iter(alloc, [3, 64])?;
@@ -81,7 +86,8 @@ pub fn tests_by_pieces()
     ensures disjoint { TestsByPieces is_disjoint }
 {}
 
-/// A position lies in one piece. It is in the set exactly if, less the start of that piece, it is in that piece.
+/// A position lies in one piece. It is in the set exactly if, less the start of that
+/// piece, it is in that piece.
 ///
 /// ```
 /// let set = FixedBitSet::from_iter(alloc, [3, 64])?;
@@ -95,7 +101,8 @@ pub fn members_by_pieces()
     ensures same { MembersByPieces }
 {}
 
-/// A change of one position is made in the piece in which it lies, less the start of that piece. The other pieces stay.
+/// A change of one position is made in the piece in which it lies, less the start of that piece.
+/// The other pieces stay.
 ///
 /// ```
 /// let mut set = FixedBitSet::with_capacity(alloc, 65)?;
@@ -112,8 +119,9 @@ pub fn changes_by_pieces()
     ensures toggle { ChangesByPieces toggle }
 {}
 
-/// The positions in ascending order are those of the pieces in order, each moved up by the start of its piece. So
-/// `minimum` is that of the first piece that has one, and `maximum` that of the last piece that has one.
+/// The positions in ascending order are those of the pieces in order, each moved up by the start
+/// of its piece. So `minimum` is that of the first piece that has one, and `maximum` that of the
+/// last piece that has one.
 ///
 /// ```
 /// let set = FixedBitSet::from_iter(alloc, [49, 64])?;
@@ -128,8 +136,8 @@ pub fn order_by_pieces()
     ensures maximum { MaximumByPieces }
 {}
 
-/// A piece in which no position is set is the empty set of its length, so it need not be kept. With it joins, counts and
-/// questions answer what the other piece alone tells.
+/// A piece in which no position is set is the empty set of its length, so it need not be kept. With
+/// it joins, counts and questions answer what the other piece alone tells.
 ///
 /// ```
 /// let set = FixedBitSet::from_iter(alloc, [3, 64])?;

@@ -5,8 +5,8 @@ ghost use Rattle.bitlines.specs.GrammarLaws.{LinesMean};
 ghost use Rattle.bitlines.specs.OutputLaws.{OneOutput, OneLineEach};
 ghost use Rattle.bitlines.specs.StepLaws.{OnlyTargetChanges, RefusedChangesNothing};
 
-/// Two outputs of one input, neither with a line that says that memory was refused, are equal: but for memory, what the
-/// program writes is a function of what it reads.
+/// Two outputs of one input, neither with a line that says that memory was refused, are equal: but
+/// for memory, what the program writes is a function of what it reads.
 ///
 /// ```
 /// let (mut first, mut second) = (Vec::new(alloc), Vec::new(alloc));
@@ -19,8 +19,9 @@ pub fn one_output()
     ensures { OneOutput }
 {}
 
-/// The lines of an output are the texts of the replies, in the order of the input's lines and as many. So a reply has no
-/// line end in it, and line `n` of the output replies to line `n` of the input.
+/// The lines of an output are the texts of the replies, in the order of the input's lines
+/// and as many. So a reply has no line end in it, and line `n` of the output replies to
+/// line `n` of the input.
 ///
 /// ```
 /// let mut output = Vec::new(alloc);
@@ -32,8 +33,9 @@ pub fn one_line_each()
     ensures { OneLineEach }
 {}
 
-/// The line that a command is written as stands for that command. Its numbers must fit a `usize`, a list of ends must have
-/// an end, and the compact text of its JSON value must be read as that value.
+/// The line that a command is written as stands for that command. Its numbers must fit a
+/// `usize`, a list of ends must have an end, and the compact text of its JSON value must
+/// be read as that value.
 ///
 /// ```
 /// let command = lines::parse_line(alloc, b"put 0 64")?;
@@ -44,8 +46,8 @@ pub fn lines_read_back()
     ensures { LinesReadBack }
 {}
 
-/// A line is read as a command exactly if it means that command, which is said without a parser: the command's name, and
-/// after one space each a spelling of each of its arguments.
+/// A line is read as a command exactly if it means that command, which is said without a parser:
+/// the command's name, and after one space each a spelling of each of its arguments.
 ///
 /// ```
 /// let command = lines::parse_line(alloc, b"put 0 0064")?;
@@ -56,7 +58,8 @@ pub fn lines_mean()
     ensures { LinesMean }
 {}
 
-/// A command leaves each set as it was but the one that its first number names, and there are as many sets as before.
+/// A command leaves each set as it was but the one that its first number names, and there are
+/// as many sets as before.
 ///
 /// ```
 /// let mut sets = [FixedBitSet::with_capacity(alloc, 70)?, FixedBitSet::from_iter(alloc, [3])?];
@@ -69,8 +72,8 @@ pub fn only_target_changes()
     ensures { OnlyTargetChanges }
 {}
 
-/// A refused command leaves every set as it was, unless it is `extend`, which keeps the items before the one that it is
-/// refused for.
+/// A refused command leaves every set as it was, unless it is `extend`, which keeps the items
+/// before the one that it is refused for.
 ///
 /// ```
 /// let mut sets = [FixedBitSet::from_iter(alloc, [3])?];

@@ -21,13 +21,14 @@ use crate::words::Words;
 use bitcommands::commands::{Change, Command, Compare, End, Look, Make, Ranged, Span, Walk, Whole};
 use std::alloc::Global;
 
-/// The command that a line stands for: a command word and its arguments, with exactly one space between two of them
-/// and none at the ends (`docs/COMMANDS.md`). The JSON of `from_value` is all the rest of the line, with whatever spaces it
-/// has. The line is given without its line end.
+/// The command that a line stands for: a command word and its arguments, with exactly one space
+/// between two of them and none at the ends (`docs/COMMANDS.md`). The JSON of `from_value` is all
+/// the rest of the line, with whatever spaces it has. The line is given without its line end.
 ///
-/// `NotACommand` comes only where the line stands for none, and `Memory` only where the first word is that of a command
-/// with a list or with JSON: `with_capacity_and_blocks`, `from_iter`, `from_value`, `extend`, or a walk, which is `ones`,
-/// `into_ones`, `zeroes`, `union`, `intersection`, `difference` or `symmetric_difference`. Any other line takes no memory.
+/// `NotACommand` comes only where the line stands for none, and `Memory` only where the first word
+/// is that of a command with a list or with JSON: `with_capacity_and_blocks`, `from_iter`,
+/// `from_value`, `extend`, or a walk, which is `ones`, `into_ones`, `zeroes`, `union`,
+/// `intersection`, `difference` or `symmetric_difference`. Any other line takes no memory.
 ///
 /// ```
 /// let command = lines::parse_line(alloc, b"insert 0 64")?;

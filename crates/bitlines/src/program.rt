@@ -32,8 +32,8 @@ pub enum RunFault {
     /// A read answered an error. Nothing was written.
     #[error("read failed")]
     Read,
-    /// A write or the flush answered an error, or a write took none of the bytes left. What went out is a beginning of
-    /// the output.
+    /// A write or the flush answered an error, or a write took none of the bytes left. What went
+    /// out is a beginning of the output.
     #[error("write failed")]
     Write,
     /// Memory was refused. Nothing was written.
@@ -41,11 +41,11 @@ pub enum RunFault {
     Memory,
 }
 
-/// Reads all bytes, carries out their lines over sixteen sets of length 0 with the limit 1,000,000, and writes one line
-/// for each. The reader has to end.
+/// Reads all bytes, carries out their lines over sixteen sets of length 0 with the limit 1,000,000,
+/// and writes one line for each. The reader has to end.
 ///
-/// It builds the whole output before it writes the first byte, and flushes behind the last one. No failed read or write
-/// is tried again. It is linear in input and output, which it keeps whole.
+/// It builds the whole output before it writes the first byte, and flushes behind the last one. No
+/// failed read or write is tried again. It is linear in input and output, which it keeps whole.
 ///
 /// ```
 /// let mut input = "grow 0 9\nlen 0\nlen\n".as_bytes();

@@ -115,8 +115,8 @@ pub(crate) fn find(text: &[u8], byte: u8) -> Option<usize>
     text.iter().position(|b| *b == byte)
 }
 
-/// Whether the word is this text. The first bytes are compared before all are, so a caller with many texts is compiled to a
-/// jump by that byte.
+/// Whether the word is this text. The first bytes are compared before all are, so a caller with
+/// many texts is compiled to a jump by that byte.
 #[inline(always)]
 pub(crate) fn is<const N: usize>(word: &[u8], text: &[u8; N]) -> bool
     ensures { result ≡ is word.now text.now }
@@ -152,8 +152,8 @@ fn json(alloc: Global, text: &[u8]) -> Result<Value, LineFault>
     }
 }
 
-/// The first word of a text as a number, and the text behind the space after it, if there is one. Each byte is looked at
-/// once.
+/// The first word of a text as a number, and the text behind the space after it, if there is one.
+/// Each byte is looked at once.
 #[inline]
 fn first_number(text: &[u8]) -> Result<(usize, Option<&[u8]>), LineFault>
     ensures { Reads false (λ x. (x.0, words_left x.1)) result (number_at (words text.now)) }

@@ -15,8 +15,8 @@ use bitlanes::word::BITS;
 use fixedbitset::FixedBitSet;
 use std::alloc::{AllocError, Global};
 
-/// [`Ranks::of`], with the steps that it takes: exactly one for each word of the set but those of the last entry of the
-/// directory, and none where memory was refused.
+/// [`Ranks::of`], with the steps that it takes: exactly one for each word of the set but those of
+/// the last entry of the directory, and none where memory was refused.
 ///
 /// ```
 /// let set = FixedBitSet::from_iter(alloc, [3, 64, 70])?;
@@ -46,7 +46,8 @@ pub fn of<'a>(
     })
 }
 
-/// [`Ranks::rank`], with the steps that it takes: exactly one for each word that it looks at, eight at most.
+/// [`Ranks::rank`], with the steps that it takes: exactly one for each word that it
+/// looks at, eight at most.
 ///
 /// ```
 /// let set = FixedBitSet::from_iter(alloc, [3, 64, 70])?;
@@ -63,8 +64,9 @@ pub fn rank(ranks: &Ranks, position: usize, steps: &mut Steps) -> usize
     directory::rank(ranks.words, &ranks.directory, position, steps)
 }
 
-/// [`Ranks::select`], with the steps that it takes: one for each time that the directory is halved, and one for each word of
-/// an entry that it looks at then. So these are eight at most, and `n` more for a directory of at most `2 ^ n` entries.
+/// [`Ranks::select`], with the steps that it takes: one for each time that the directory is halved,
+/// and one for each word of an entry that it looks at then. So these are eight at most, and `n`
+/// more for a directory of at most `2 ^ n` entries.
 ///
 /// ```
 /// let set = FixedBitSet::from_iter(alloc, [3, 64, 70])?;

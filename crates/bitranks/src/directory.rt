@@ -1,7 +1,8 @@
 //! Rank and select over words that someone keeps, with a directory of them beside.
 //!
-//! Position `p` stands at bit `p % 64` of word `p / 64`. Entry `k` of the directory is how many bits are set in the words
-//! before word `8 * k`, so it takes one word of memory for eight words of the row.
+//! Position `p` stands at bit `p % 64` of word `p / 64`. Entry `k` of the directory is how
+//! many bits are set in the words before word `8 * k`, so it takes one word of memory for
+//! eight words of the row.
 ghost use Rattle.std.specs.Prelude.{◌≡◌, ℕ, ◌+◌, ◌-◌, ◌*◌, ◌/◌, ◌^◌, ◌<◌, ◌≤◌};
 ghost use Rattle.std.specs.Prelude.{length, slice_get, slice_index, IfSome, IfNone};
 ghost use Rattle.std.specs.Int.RustNames.{count_ones};
@@ -22,7 +23,8 @@ pub const WORDS: usize = 8;
 // How many positions an entry stands for.
 const POSITIONS: usize = WORDS * BITS;
 
-/// How many entries the directory of a row of so many words has: one for each eight words, rounded up.
+/// How many entries the directory of a row of so many words has: one for each
+/// eight words, rounded up.
 ///
 /// ```
 /// assert_eq!(rt; directory::entries(0), 0);
@@ -36,10 +38,11 @@ pub fn entries(words_count: usize) -> usize
     words_count.div_ceil(WORDS)
 }
 
-/// Writes the directory of the words over what was in it. It has to have as many entries as `entries` says.
+/// Writes the directory of the words over what was in it. It has to have as many
+/// entries as `entries` says.
 ///
-/// It takes exactly one step for a word, and none for those of the last entry. The number of positions of the row, 64 for each
-/// word, may be at most 2 ^ 64.
+/// It takes exactly one step for a word, and none for those of the last entry. The number of
+/// positions of the row, 64 for each word, may be at most 2 ^ 64.
 ///
 /// ```
 /// let mut counts = [0; 2];
@@ -64,10 +67,11 @@ pub fn fill(words: &[Block], directory: &mut [usize], steps: &mut Steps)
     }
 }
 
-/// How many positions below this one are set. The position may be any number: past the end of the words all are below it.
+/// How many positions below this one are set. The position may be any number: past the end of the
+/// words all are below it.
 ///
-/// It looks at one entry of the directory, and takes one step for each word that it looks at: those of the entry up to the
-/// word of the position, or up to the last word.
+/// It looks at one entry of the directory, and takes one step for each word that it looks at: those
+/// of the entry up to the word of the position, or up to the last word.
 ///
 /// ```
 /// let (words, mut counts) = ([9, 2], [0]);
@@ -98,13 +102,14 @@ pub fn rank(words: &[Block], directory: &[usize], position: usize, steps: &mut S
     total + (words[at] & ones_below(below)).count_ones() as usize
 }
 
-/// The position that is set and has exactly `index` positions that are set below it: the first has index 0. `None` where
-/// no more than `index` positions are set.
+/// The position that is set and has exactly `index` positions that are set below it: the first has
+/// index 0. `None` where no more than `index` positions are set.
 ///
-/// It halves the directory until one entry is left, and looks then at the words of that entry up to the one that has the
-/// position, or where there is none at all words of the last entry. With a directory of at most `2 ^ n` entries these are
-/// `n + 8` steps at most. The last word is searched by halves, six times, which is not counted. The number of positions
-/// of the row, 64 for each word, may be at most 2 ^ 64.
+/// It halves the directory until one entry is left, and looks then at the words of that entry up to
+/// the one that has the position, or where there is none at all words of the last entry. With a
+/// directory of at most `2 ^ n` entries these are `n + 8` steps at most. The last word is searched
+/// by halves, six times, which is not counted. The number of positions of the row, 64 for each
+/// word, may be at most 2 ^ 64.
 ///
 /// ```
 /// let (words, mut counts) = ([9, 2], [0]);
@@ -162,7 +167,8 @@ fn last_within(directory: &[usize], index: usize, steps: &mut Steps) -> usize
     low
 }
 
-// The position of the words from `first` on with `index` positions of them before it, if a word before `end` has it.
+// The position of the words from `first` on with `index` positions of them before it, if a
+// word before `end` has it.
 #[inline(always)]
 fn select_in(
     words: &[Block],

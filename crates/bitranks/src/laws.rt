@@ -3,8 +3,8 @@
 ghost use Rattle.bitranks.specs.RankLaws.{RankOfSelect, SelectOfRank};
 ghost use Rattle.bitranks.specs.RankLaws.{SelectEnds, RankGrows, RankIsSize};
 
-/// As many positions stand below the one that `select` answers as its index says, and none is answered exactly where the
-/// set has no more positions than that.
+/// As many positions stand below the one that `select` answers as its index says, and none is
+/// answered exactly where the set has no more positions than that.
 ///
 /// ```
 /// let set = FixedBitSet::from_iter(alloc, [3, 64])?;
@@ -18,7 +18,8 @@ pub fn rank_of_select()
     ensures none { SelectEnds }
 {}
 
-/// The position of the set with as many positions below it as a position of the set is that position.
+/// The position of the set with as many positions below it as a position of
+/// the set is that position.
 ///
 /// ```
 /// let set = FixedBitSet::from_iter(alloc, [3, 64])?;

@@ -11,8 +11,8 @@ use std::marker::Model;
 
 /// A set that is lent, with a directory that answers `rank` and `select`.
 ///
-/// Contracts see it as the set. The directory takes one word of memory for eight words of the set, rounded up. While it
-/// lives the set cannot change.
+/// Contracts see it as the set. The directory takes one word of memory for eight words of the set,
+/// rounded up. While it lives the set cannot change.
 #[derive(Drop)]
 pub struct Ranks<'a> {
     pub(crate) set: &'a FixedBitSet,
@@ -65,7 +65,8 @@ impl<'a> Ranks<'a> {
         self.set
     }
 
-    /// How many positions below this one are set. The position may be any number; past the length all are below it.
+    /// How many positions below this one are set. The position may be any number; past the
+    /// length all are below it.
     ///
     /// It looks at one entry of the directory and at eight words of the set at most.
     ///
@@ -83,10 +84,11 @@ impl<'a> Ranks<'a> {
         counted::rank(self, position, &mut Steps::new())
     }
 
-    /// The position with so many positions of the set below it: the first has index 0. `None` where the set has no more
-    /// positions than that.
+    /// The position with so many positions of the set below it: the first has index 0. `None` where
+    /// the set has no more positions than that.
     ///
-    /// It looks at one entry of the directory for each time that it can be halved, and at eight words of the set at most.
+    /// It looks at one entry of the directory for each time that it can be halved, and at eight
+    /// words of the set at most.
     ///
     /// ```
     /// let set = FixedBitSet::from_iter(alloc, [3, 64, 70])?;

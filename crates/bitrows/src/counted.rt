@@ -8,8 +8,8 @@ use crate::table::BitRows;
 use crate::views::RowsMut;
 use bitlanes::Steps;
 
-/// [`BitRows::close`], with the joins of two rows that it makes: one for each pair of nodes `a` and `k` with a path from
-/// `a` to `k` whose nodes between its ends are all below `k`.
+/// [`BitRows::close`], with the joins of two rows that it makes: one for each pair of nodes `a` and
+/// `k` with a path from `a` to `k` whose nodes between its ends are all below `k`.
 ///
 /// ```
 /// let mut table = BitRows::new(alloc, 2, 2)?;

@@ -20,9 +20,9 @@ use std::marker::Model;
 
 /// A table of bits: so many rows of so many columns.
 ///
-/// The rows stand in one row of words. Each keeps the words that its columns need, and up to three more, so that they make
-/// whole lanes of four. Two tables are the same value exactly if their numbers of columns, their numbers of rows and their
-/// bits are.
+/// The rows stand in one row of words. Each keeps the words that its columns need, and up to three
+/// more, so that they make whole lanes of four. Two tables are the same value exactly if their
+/// numbers of columns, their numbers of rows and their bits are.
 #[derive(Debug, Drop)]
 pub struct BitRows {
     pub(crate) words: Vec<Block>,
@@ -44,10 +44,11 @@ impl Model for BitRows {
 }
 
 impl BitRows {
-    /// A table of `rows` rows and `columns` columns, with no bit. It writes each word once: a row has `columns / 64` words,
-    /// rounded up to whole lanes of four.
+    /// A table of `rows` rows and `columns` columns, with no bit. It writes each word once: a row
+    /// has `columns / 64` words, rounded up to whole lanes of four.
     ///
-    /// `Err` comes only where memory for the words was refused. So it is where there would be more than `usize::MAX` words.
+    /// `Err` comes only where memory for the words was refused. So it is where there would be more
+    /// than `usize::MAX` words.
     ///
     /// ```
     /// let table = BitRows::new(alloc, 3, 70)?;
@@ -115,7 +116,8 @@ impl BitRows {
         }
     }
 
-    /// Whether the row has a bit at the column: `false` past the columns. The row has to be one of the table's.
+    /// Whether the row has a bit at the column: `false` past the columns. The row has to
+    /// be one of the table's.
     ///
     /// ```
     /// let mut table = BitRows::new(alloc, 3, 70)?;
@@ -131,8 +133,8 @@ impl BitRows {
         self.as_rows().get(row, column)
     }
 
-    /// Sets the bit of the row at the column, or clears it where `enabled` is false. The table has to have both. It writes
-    /// one word.
+    /// Sets the bit of the row at the column, or clears it where `enabled` is false. The table has
+    /// to have both. It writes one word.
     ///
     /// ```
     /// let mut table = BitRows::new(alloc, 3, 70)?;
@@ -157,8 +159,9 @@ impl BitRows {
         .set(row, column, enabled);
     }
 
-    /// Row `into` takes in the bits of row `from`, and the other rows stay. It answers whether a bit came in. The table has
-    /// to have both rows; where they are one, nothing changes. It reads each word of the two rows once.
+    /// Row `into` takes in the bits of row `from`, and the other rows stay. It answers whether a
+    /// bit came in. The table has to have both rows; where they are one, nothing changes. It reads
+    /// each word of the two rows once.
     ///
     /// ```
     /// let mut table = BitRows::new(alloc, 3, 70)?;
@@ -184,8 +187,9 @@ impl BitRows {
         .union_rows(from, into)
     }
 
-    /// The columns at which the row has a bit, in ascending order. The row has to be one of the table's. It takes no memory,
-    /// and reads the first and the last word that the columns need; those between are not yet taken.
+    /// The columns at which the row has a bit, in ascending order. The row has to be one of the
+    /// table's. It takes no memory, and reads the first and the last word that the columns need;
+    /// those between are not yet taken.
     ///
     /// ```
     /// let mut table = BitRows::new(alloc, 3, 70)?;
@@ -208,11 +212,13 @@ impl BitRows {
         Ones::over(self.as_rows().row(row).as_slice())
     }
 
-    /// The transitive closure of the graph that has an edge from each row to each column at which the row has a bit:
-    /// afterwards row `a` has a bit at column `b` exactly if some path of one or more edges led from `a` to `b`.
+    /// The transitive closure of the graph that has an edge from each row to each column at which
+    /// the row has a bit: afterwards row `a` has a bit at column `b` exactly if some path of one or
+    /// more edges led from `a` to `b`.
     ///
-    /// Nothing leads on from a column that is no row. It takes no memory. With `n` rows it looks at `n * n` bits, and joins
-    /// two rows for each bit that it finds set, at most `n * n` times ([`counted::close`](crate::counted::close)).
+    /// Nothing leads on from a column that is no row. It takes no memory. With `n` rows it looks at
+    /// `n * n` bits, and joins two rows for each bit that it finds set, at most `n * n` times
+    /// ([`counted::close`](crate::counted::close)).
     ///
     /// ```
     /// let mut table = BitRows::new(alloc, 3, 3)?;

@@ -1,5 +1,5 @@
-//! The program `bits`: reads lines of commands from standard input, and writes one reply a line to standard output.
-//! It looks at no arguments. Everything that matters is in the library `bitlines`.
+//! The program `bits`: reads lines of commands from standard input, and writes one reply a line to
+//! standard output. It looks at no arguments. Everything that matters is in the library `bitlines`.
 #![tactic(auto)]
 
 use bitlines::program::{run_text, status};

@@ -17,7 +17,8 @@ pub extern "C" fn bits_bytes(length: usize) -> usize
     8 * bits_blocks(length)
 }
 
-/// Leaves the positions that the bytes say. Bytes that are missing count as 0, and bits past the length are dropped.
+/// Leaves the positions that the bytes say. Bytes that are missing count as 0, and bits past
+/// the length are dropped.
 #[unsafe(no_mangle)]
 pub extern "C" fn bits_from_bytes(set: &mut BitsMut<'_>, bytes: &[u8])
     ensures { held set.new ≡ json.of_bytes set.old.length bytes.now }
@@ -25,7 +26,8 @@ pub extern "C" fn bits_from_bytes(set: &mut BitsMut<'_>, bytes: &[u8])
     set.assign_bytes(bytes);
 }
 
-/// Writes the bytes of the set, and answers whether there are as many as `bits_bytes` says; else nothing is changed.
+/// Writes the bytes of the set, and answers whether there are as many as `bits_bytes` says;
+/// else nothing is changed.
 #[unsafe(no_mangle)]
 pub extern "C" fn bits_to_bytes(set: &Bits<'_>, bytes: &mut [u8]) -> bool
     ensures answer { result ≡ (length bytes.old == 8 * words_needed set.now.length) }
@@ -39,8 +41,8 @@ pub extern "C" fn bits_to_bytes(set: &Bits<'_>, bytes: &mut [u8]) -> bool
     }
 }
 
-/// Reverses the bits of each byte. So bytes that have the first of eight positions in the uppermost bit become those that
-/// have it in the lowest, and the other way round.
+/// Reverses the bits of each byte. So bytes that have the first of eight positions in the uppermost
+/// bit become those that have it in the lowest, and the other way round.
 #[unsafe(no_mangle)]
 pub extern "C" fn bits_reverse_each_byte(bytes: &mut [u8])
     ensures { bytes.new ≡ map (reverse_bits w8) bytes.old }

@@ -1,5 +1,5 @@
-//! Sets written over words that may hold anything: a copy, and two sets joined, of any two lengths. Each word is written
-//! once. The words that are written may not be those of the other sets.
+//! Sets written over words that may hold anything: a copy, and two sets joined, of any two lengths.
+//! Each word is written once. The words that are written may not be those of the other sets.
 
 ghost use Rattle.std.specs.Prelude.{◌≡◌, ◌==◌, ◌&&◌, max, min, true, false, length};
 ghost use Rattle.bits_c.specs.Sets.{written};
@@ -13,8 +13,8 @@ use crate::bits_words;
 use crate::structs::Room;
 use fixedbitset::views::Bits;
 
-/// Makes the words those of the set's positions that are below the length of the room, and answers whether it did: where
-/// there are `bits_words` of this length. Else nothing is changed.
+/// Makes the words those of the set's positions that are below the length of the room, and answers
+/// whether it did: where there are `bits_words` of this length. Else nothing is changed.
 #[unsafe(no_mangle)]
 pub extern "C" fn bits_copy(to: &mut Room<'_>, set: &Bits<'_>) -> bool
     ensures answer { result ≡ (length to.old.words.now == storage_words to.old.length) }
@@ -32,8 +32,8 @@ pub extern "C" fn bits_copy(to: &mut Room<'_>, set: &Bits<'_>) -> bool
     }
 }
 
-/// Makes the words those of the positions of either set, and answers whether it did: where the room has the greater of their
-/// lengths, and `bits_words` of it. Else nothing is changed.
+/// Makes the words those of the positions of either set, and answers whether it did: where the room
+/// has the greater of their lengths, and `bits_words` of it. Else nothing is changed.
 #[unsafe(no_mangle)]
 pub extern "C" fn bits_union_of(to: &mut Room<'_>, set: &Bits<'_>, other: &Bits<'_>) -> bool
     ensures answer { result ≡ (length to.old.words.now == storage_words to.old.length
@@ -52,8 +52,8 @@ pub extern "C" fn bits_union_of(to: &mut Room<'_>, set: &Bits<'_>, other: &Bits<
     }
 }
 
-/// Makes the words those of the positions of exactly one set, and answers whether it did: where the room has the greater of
-/// their lengths, and `bits_words` of it. Else nothing is changed.
+/// Makes the words those of the positions of exactly one set, and answers whether it did: where the
+/// room has the greater of their lengths, and `bits_words` of it. Else nothing is changed.
 #[unsafe(no_mangle)]
 pub extern "C" fn bits_symmetric_difference_of(
     to: &mut Room<'_>,
@@ -76,8 +76,8 @@ pub extern "C" fn bits_symmetric_difference_of(
     }
 }
 
-/// Makes the words those of the positions of both sets, and answers whether it did: where the room has the smaller of their
-/// lengths, and `bits_words` of it. Else nothing is changed.
+/// Makes the words those of the positions of both sets, and answers whether it did: where the room
+/// has the smaller of their lengths, and `bits_words` of it. Else nothing is changed.
 #[unsafe(no_mangle)]
 pub extern "C" fn bits_intersection_of(to: &mut Room<'_>, set: &Bits<'_>, other: &Bits<'_>) -> bool
     ensures answer { result ≡ (length to.old.words.now == storage_words to.old.length
@@ -96,8 +96,9 @@ pub extern "C" fn bits_intersection_of(to: &mut Room<'_>, set: &Bits<'_>, other:
     }
 }
 
-/// Makes the words those of the positions of the first set that the second lacks, and answers whether it did: where the room
-/// has the length of the first, and `bits_words` of it. Else nothing is changed.
+/// Makes the words those of the positions of the first set that the second lacks, and
+/// answers whether it did: where the room has the length of the first, and `bits_words` of
+/// it. Else nothing is changed.
 #[unsafe(no_mangle)]
 pub extern "C" fn bits_difference_of(to: &mut Room<'_>, set: &Bits<'_>, other: &Bits<'_>) -> bool
     ensures answer { result ≡ (length to.old.words.now == storage_words to.old.length

@@ -1,7 +1,7 @@
 //! Positions of a walk by the handful: a call gives as many as there is room for, or as are left.
 //!
-//! Such a call leaves the walk where as many calls for one position leave it, and both may be mixed. Places that it has
-//! no position for stay as they are.
+//! Such a call leaves the walk where as many calls for one position leave it, and both may be
+//! mixed. Places that it has no position for stay as they are.
 
 ghost use Rattle.std.specs.Prelude.{◌≡◌, ◌++◌, ℕ, List, reverse};
 ghost use Rattle.std.specs.Iterator.{YieldsFirst, YieldsLast};
@@ -152,8 +152,8 @@ fn fill_both_back<A: Giver + Drop, B: Giver + Drop>(
     (count, back.giver, front.giver)
 }
 
-/// Writes the first positions left to `positions`, from its front on and in ascending order: as many as there is room
-/// for, or as are left. It answers how many.
+/// Writes the first positions left to `positions`, from its front on and in ascending order: as
+/// many as there is room for, or as are left. It answers how many.
 #[unsafe(no_mangle)]
 pub extern "C" fn bits_ones_take(walk: &mut Ones<'_>, positions: &mut [usize]) -> usize
     ensures { TakesFirst ones_left walk.old positions.old result positions.new walk.new }
@@ -164,8 +164,8 @@ pub extern "C" fn bits_ones_take(walk: &mut Ones<'_>, positions: &mut [usize]) -
     count
 }
 
-/// Writes the last positions left to `positions`, from its front on and in descending order: as many as there is room
-/// for, or as are left. It answers how many.
+/// Writes the last positions left to `positions`, from its front on and in descending order: as
+/// many as there is room for, or as are left. It answers how many.
 #[unsafe(no_mangle)]
 pub extern "C" fn bits_ones_take_back(walk: &mut Ones<'_>, positions: &mut [usize]) -> usize
     ensures { TakesLast ones_left walk.old positions.old result positions.new walk.new }
@@ -175,8 +175,8 @@ pub extern "C" fn bits_ones_take_back(walk: &mut Ones<'_>, positions: &mut [usiz
     count
 }
 
-/// Writes the first positions left to `positions`, from its front on and in ascending order: as many as there is room
-/// for, or as are left. It answers how many.
+/// Writes the first positions left to `positions`, from its front on and in ascending order: as
+/// many as there is room for, or as are left. It answers how many.
 #[unsafe(no_mangle)]
 pub extern "C" fn bits_zeroes_take(walk: &mut Zeroes<'_>, positions: &mut [usize]) -> usize
     ensures { TakesFirst zeroes_left walk.old positions.old result positions.new walk.new }
@@ -187,8 +187,8 @@ pub extern "C" fn bits_zeroes_take(walk: &mut Zeroes<'_>, positions: &mut [usize
     count
 }
 
-/// Writes the last positions left to `positions`, from its front on and in descending order: as many as there is room
-/// for, or as are left. It answers how many.
+/// Writes the last positions left to `positions`, from its front on and in descending order: as
+/// many as there is room for, or as are left. It answers how many.
 #[unsafe(no_mangle)]
 pub extern "C" fn bits_zeroes_take_back(walk: &mut Zeroes<'_>, positions: &mut [usize]) -> usize
     ensures { TakesLast zeroes_left walk.old positions.old result positions.new walk.new }
@@ -198,8 +198,8 @@ pub extern "C" fn bits_zeroes_take_back(walk: &mut Zeroes<'_>, positions: &mut [
     count
 }
 
-/// Writes the first positions left to `positions`, from its front on and in ascending order: as many as there is room
-/// for, or as are left. It answers how many.
+/// Writes the first positions left to `positions`, from its front on and in ascending order: as
+/// many as there is room for, or as are left. It answers how many.
 #[unsafe(no_mangle)]
 pub extern "C" fn bits_intersection_take(walk: &mut Sieve<'_>, positions: &mut [usize]) -> usize
     ensures { TakesFirst shared_left walk.old positions.old result positions.new walk.new }
@@ -210,8 +210,8 @@ pub extern "C" fn bits_intersection_take(walk: &mut Sieve<'_>, positions: &mut [
     count
 }
 
-/// Writes the last positions left to `positions`, from its front on and in descending order: as many as there is room
-/// for, or as are left. It answers how many.
+/// Writes the last positions left to `positions`, from its front on and in descending order: as
+/// many as there is room for, or as are left. It answers how many.
 #[unsafe(no_mangle)]
 pub extern "C" fn bits_intersection_take_back(
     walk: &mut Sieve<'_>,
@@ -224,8 +224,8 @@ pub extern "C" fn bits_intersection_take_back(
     count
 }
 
-/// Writes the first positions left to `positions`, from its front on and in ascending order: as many as there is room
-/// for, or as are left. It answers how many.
+/// Writes the first positions left to `positions`, from its front on and in ascending order: as
+/// many as there is room for, or as are left. It answers how many.
 #[unsafe(no_mangle)]
 pub extern "C" fn bits_difference_take(walk: &mut Sieve<'_>, positions: &mut [usize]) -> usize
     ensures { TakesFirst lacked_left walk.old positions.old result positions.new walk.new }
@@ -236,8 +236,8 @@ pub extern "C" fn bits_difference_take(walk: &mut Sieve<'_>, positions: &mut [us
     count
 }
 
-/// Writes the last positions left to `positions`, from its front on and in descending order: as many as there is room
-/// for, or as are left. It answers how many.
+/// Writes the last positions left to `positions`, from its front on and in descending order: as
+/// many as there is room for, or as are left. It answers how many.
 #[unsafe(no_mangle)]
 pub extern "C" fn bits_difference_take_back(walk: &mut Sieve<'_>, positions: &mut [usize]) -> usize
     ensures { TakesLast lacked_left walk.old positions.old result positions.new walk.new }
@@ -247,8 +247,8 @@ pub extern "C" fn bits_difference_take_back(walk: &mut Sieve<'_>, positions: &mu
     count
 }
 
-/// Writes the first positions left to `positions`, from its front on and in the order of the walk: as many as there is
-/// room for, or as are left. It answers how many.
+/// Writes the first positions left to `positions`, from its front on and in the order of the walk:
+/// as many as there is room for, or as are left. It answers how many.
 #[unsafe(no_mangle)]
 pub extern "C" fn bits_union_take(walk: &mut Pair<'_>, positions: &mut [usize]) -> usize
     ensures { TakesFirst joined_left walk.old positions.old result positions.new walk.new }
@@ -261,8 +261,8 @@ pub extern "C" fn bits_union_take(walk: &mut Pair<'_>, positions: &mut [usize]) 
     count
 }
 
-/// Writes the last positions left to `positions`, from its front on and against the order of the walk: as many as there is
-/// room for, or as are left. It answers how many.
+/// Writes the last positions left to `positions`, from its front on and against the order of the
+/// walk: as many as there is room for, or as are left. It answers how many.
 #[unsafe(no_mangle)]
 pub extern "C" fn bits_union_take_back(walk: &mut Pair<'_>, positions: &mut [usize]) -> usize
     ensures { TakesLast joined_left walk.old positions.old result positions.new walk.new }
@@ -275,8 +275,8 @@ pub extern "C" fn bits_union_take_back(walk: &mut Pair<'_>, positions: &mut [usi
     count
 }
 
-/// Writes the first positions left to `positions`, from its front on and in the order of the walk: as many as there is
-/// room for, or as are left. It answers how many.
+/// Writes the first positions left to `positions`, from its front on and in the order of the walk:
+/// as many as there is room for, or as are left. It answers how many.
 #[unsafe(no_mangle)]
 pub extern "C" fn bits_symmetric_difference_take(
     walk: &mut Pair<'_>,
@@ -292,8 +292,8 @@ pub extern "C" fn bits_symmetric_difference_take(
     count
 }
 
-/// Writes the last positions left to `positions`, from its front on and against the order of the walk: as many as there is
-/// room for, or as are left. It answers how many.
+/// Writes the last positions left to `positions`, from its front on and against the order of the
+/// walk: as many as there is room for, or as are left. It answers how many.
 #[unsafe(no_mangle)]
 pub extern "C" fn bits_symmetric_difference_take_back(
     walk: &mut Pair<'_>,

@@ -1,13 +1,14 @@
 //! A set of bits under C names: the words and the length stand in a struct of the caller's.
 //!
-//! A set is the struct `bits` of `front/c/bits.h`: here `fixedbitset::Bits` where it is read, and `fixedbitset::BitsMut`
-//! where it is changed. The caller owns its words, and keeps them as the ghost field of both says: as many whole lanes of
-//! four as the length needs, and no bit past the length. Each call leaves them so, and `bits_settle` makes any words so. No
-//! call asks anything else: it tests the numbers that it is given, and its answer says what came of it. No call takes
+//! A set is the struct `bits` of `front/c/bits.h`: here `fixedbitset::Bits` where it is read, and
+//! `fixedbitset::BitsMut` where it is changed. The caller owns its words, and keeps them as the
+//! ghost field of both says: as many whole lanes of four as the length needs, and no bit past the
+//! length. Each call leaves them so, and `bits_settle` makes any words so. No call asks anything
+//! else: it tests the numbers that it is given, and its answer says what came of it. No call takes
 //! memory or waits, and none but the begin of a walk keeps a pointer.
 //!
-//! Each call is that of the two types with its name, and looks at as many words. A clause sees a set as its value, a length
-//! and the positions below it.
+//! Each call is that of the two types with its name, and looks at as many words. A clause sees a
+//! set as its value, a length and the positions below it.
 #![tactic(auto)]
 
 ghost use Rattle.std.specs.Prelude.{◌≡◌, ◌≢◌, ◌↔◌, IsTrue, ◌<◌, ◌≤◌, ◌-◌, ◌^◌, ◌&&◌};
@@ -59,8 +60,9 @@ pub extern "C" fn bits_blocks(length: usize) -> usize
     length.div_ceil(BITS)
 }
 
-/// Makes any words those of a set of `length` positions: of the positions that they have those below `kept` stay. It
-/// answers whether it did: where there are `bits_words(length)` words and `kept` is not past the length.
+/// Makes any words those of a set of `length` positions: of the positions that they have those
+/// below `kept` stay. It answers whether it did: where there are `bits_words(length)` words and
+/// `kept` is not past the length.
 #[unsafe(no_mangle)]
 pub extern "C" fn bits_settle(words: &mut [Block], length: usize, kept: usize) -> bool
     ensures answer { result
@@ -78,8 +80,8 @@ pub extern "C" fn bits_settle(words: &mut [Block], length: usize, kept: usize) -
     }
 }
 
-/// Whether the words are those of a set of `length` positions as they stand: `bits_words(length)` words, and no bit past
-/// the length.
+/// Whether the words are those of a set of `length` positions as they stand: `bits_words(length)`
+/// words, and no bit past the length.
 #[unsafe(no_mangle)]
 pub extern "C" fn bits_is_clean(words: &[Block], length: usize) -> bool
     ensures { IsTrue result ↔ IsClean length words.now }
@@ -125,8 +127,8 @@ pub extern "C" fn bits_remove(set: &mut BitsMut<'_>, bit: usize) -> bool
     }
 }
 
-/// Sets the position if it is clear and clears it if it is set, and answers whether it is below the length; else
-/// nothing is changed.
+/// Sets the position if it is clear and clears it if it is set, and answers whether it is below the
+/// length; else nothing is changed.
 #[unsafe(no_mangle)]
 pub extern "C" fn bits_toggle(set: &mut BitsMut<'_>, bit: usize) -> bool
     ensures answer { result ≡ nat_lt bit set.old.length }
@@ -141,8 +143,8 @@ pub extern "C" fn bits_toggle(set: &mut BitsMut<'_>, bit: usize) -> bool
     }
 }
 
-/// Sets the position, or clears it where `enabled` is false, and answers whether it is below the length; else nothing is
-/// changed.
+/// Sets the position, or clears it where `enabled` is false, and answers whether it is below the
+/// length; else nothing is changed.
 #[unsafe(no_mangle)]
 pub extern "C" fn bits_set(set: &mut BitsMut<'_>, bit: usize, enabled: bool) -> bool
     ensures answer { result ≡ nat_lt bit set.old.length }
@@ -157,8 +159,8 @@ pub extern "C" fn bits_set(set: &mut BitsMut<'_>, bit: usize, enabled: bool) -> 
     }
 }
 
-/// Sets the position, and answers whether it was set before. At or past the length nothing is changed, and the answer is
-/// `false`.
+/// Sets the position, and answers whether it was set before. At or past the length nothing is
+/// changed, and the answer is `false`.
 #[tactic(auto, using(crate::proofs::Sets::none_past))]
 #[unsafe(no_mangle)]
 pub extern "C" fn bits_put(set: &mut BitsMut<'_>, bit: usize) -> bool
@@ -173,8 +175,8 @@ pub extern "C" fn bits_put(set: &mut BitsMut<'_>, bit: usize) -> bool
     }
 }
 
-/// Clears the position, and answers whether it was set before. At or past the length nothing is changed, and the answer is
-/// `false`.
+/// Clears the position, and answers whether it was set before. At or past the length nothing is
+/// changed, and the answer is `false`.
 #[tactic(auto, using(crate::proofs::Sets::none_past))]
 #[unsafe(no_mangle)]
 pub extern "C" fn bits_take(set: &mut BitsMut<'_>, bit: usize) -> bool
@@ -189,8 +191,8 @@ pub extern "C" fn bits_take(set: &mut BitsMut<'_>, bit: usize) -> bool
     }
 }
 
-/// Makes word `index` the given one, without its bits past the length. It answers whether the length needs a word of this
-/// index; else nothing is changed.
+/// Makes word `index` the given one, without its bits past the length. It answers whether the
+/// length needs a word of this index; else nothing is changed.
 #[unsafe(no_mangle)]
 pub extern "C" fn bits_set_block(set: &mut BitsMut<'_>, index: usize, block: Block) -> bool
     ensures answer { result ≡ nat_lt index (model.words_needed set.old.length) }

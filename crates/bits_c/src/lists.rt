@@ -11,8 +11,8 @@ ghost use Rattle.fixedbitset.specs.Views.{value, held};
 use bitlanes::Block;
 use fixedbitset::views::{Bits, BitsMut};
 
-// Sets each position of the list. It takes the words apart from the set: of a set behind a pointer, each turn would look
-// anew where they lie.
+// Sets each position of the list. It takes the words apart from the set: of a set behind a pointer,
+// each turn would look anew where they lie.
 #[inline(always)]
 fn insert_each(words: &mut [Block], length: usize, positions: &[usize])
     requires lent { IsClean length words.old }
@@ -27,7 +27,8 @@ fn insert_each(words: &mut [Block], length: usize, positions: &[usize])
     }
 }
 
-/// Sets each position of the list, and answers whether all of them are below the length; else nothing is changed.
+/// Sets each position of the list, and answers whether all of them are below the length;
+/// else nothing is changed.
 #[unsafe(no_mangle)]
 pub extern "C" fn bits_insert_all(set: &mut BitsMut<'_>, positions: &[usize]) -> bool
     ensures answer { IsTrue result ↔ All (λ p. p < set.old.length) positions.now }
@@ -43,8 +44,8 @@ pub extern "C" fn bits_insert_all(set: &mut BitsMut<'_>, positions: &[usize]) ->
     }
 }
 
-/// Writes for each position of the list whether it is set: `false` at or past the length. It answers whether there are as
-/// many places as positions; else nothing is written.
+/// Writes for each position of the list whether it is set: `false` at or past the length. It
+/// answers whether there are as many places as positions; else nothing is written.
 #[unsafe(no_mangle)]
 pub extern "C" fn bits_contains_each(
     set: &Bits<'_>,

@@ -36,8 +36,8 @@ pub extern "C" fn bits_first_gap(set: &Bits<'_>, count: usize, from: usize) -> u
         .unwrap_or(NONE)
 }
 
-/// The least multiple of `align` in the range with `count` clear positions from there on, all in the range, or `NONE`; `NONE`
-/// too where the range is not valid.
+/// The least multiple of `align` in the range with `count` clear positions from there on, all in
+/// the range, or `NONE`; `NONE` too where the range is not valid.
 #[unsafe(no_mangle)]
 pub extern "C" fn bits_first_aligned_gap(
     set: &Bits<'_>,

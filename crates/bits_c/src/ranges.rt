@@ -1,5 +1,5 @@
-//! Ranges of positions, from `start` up to and without `end`. A range is valid where its start is not past its end, and
-//! its end not past the length.
+//! Ranges of positions, from `start` up to and without `end`. A range is valid where its start is
+//! not past its end, and its end not past the length.
 
 ghost use Rattle.std.specs.Prelude.{◌≡◌, ◌&&◌, if◌then◌else◌};
 ghost use Rattle.fixedbitset.specs.Ranges as model;
@@ -47,8 +47,8 @@ pub extern "C" fn bits_remove_range(set: &mut BitsMut<'_>, start: usize, end: us
     }
 }
 
-/// Sets each position of the range that is clear and clears each that is set, and answers whether it is valid; else
-/// nothing is changed.
+/// Sets each position of the range that is clear and clears each that is set, and answers whether
+/// it is valid; else nothing is changed.
 #[unsafe(no_mangle)]
 pub extern "C" fn bits_toggle_range(set: &mut BitsMut<'_>, start: usize, end: usize) -> bool
     ensures answer { result ≡ is_valid (held set.old) start end }

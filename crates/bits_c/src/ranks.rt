@@ -1,8 +1,8 @@
-//! How many positions stand below a given one, and which is the k-th: by a directory of the set's words, which the caller
-//! keeps beside them.
+//! How many positions stand below a given one, and which is the k-th: by a directory of the set's
+//! words, which the caller keeps beside them.
 //!
-//! One call writes the directory, and the struct that the others take. While that is used, neither the words nor the
-//! directory may change.
+//! One call writes the directory, and the struct that the others take. While that is used, neither
+//! the words nor the directory may change.
 
 ghost use Rattle.std.specs.Prelude.{◌≡◌, ◌==◌, true, false, unwrap_or, if◌then◌else◌, length};
 ghost use Rattle.bitranks.specs.Ranks as model;
@@ -17,7 +17,8 @@ use bitlanes::Steps;
 use bitranks::directory;
 use fixedbitset::views::Bits;
 
-/// How many entries the directory of a set of so many positions has: one for each eight words, rounded up.
+/// How many entries the directory of a set of so many positions has: one for each
+/// eight words, rounded up.
 #[unsafe(no_mangle)]
 pub extern "C" fn bits_ranks_entries(length: usize) -> usize
     ensures { result ≡ model.entries (storage_words length) }
@@ -25,8 +26,9 @@ pub extern "C" fn bits_ranks_entries(length: usize) -> usize
     directory::entries(bits_words(length))
 }
 
-// Writes the directory of the set's words where it has as many entries as they need, and answers whether it has. It stands
-// apart since its `&mut` ends with it: of one that goes into the ranks no clause says how a call leaves it.
+// Writes the directory of the set's words where it has as many entries as they need, and answers
+// whether it has. It stands apart since its `&mut` ends with it: of one that goes into the ranks no
+// clause says how a call leaves it.
 #[tactic(auto, using(crate::proofs::Ranked::all_fit))]
 #[inline(always)]
 fn write_directory(set: &Bits<'_>, directory: &mut [usize]) -> bool
@@ -43,8 +45,9 @@ fn write_directory(set: &Bits<'_>, directory: &mut [usize]) -> bool
     }
 }
 
-/// Writes the directory of the set's words, and the whole struct `ranks` from any before. It answers whether the directory
-/// has as many entries as `bits_ranks_entries` says; else the ranks are those of the set of length 0, and the directory stays.
+/// Writes the directory of the set's words, and the whole struct `ranks` from any before. It
+/// answers whether the directory has as many entries as `bits_ranks_entries` says; else the ranks
+/// are those of the set of length 0, and the directory stays.
 #[tactic(auto, using(crate::proofs::Ranked::all_fit, crate::proofs::Ranked::nothing_clean, crate::proofs::Ranked::nothing_kept, crate::proofs::Ranked::nothing_ranked))]
 #[unsafe(no_mangle)]
 pub extern "C" fn bits_ranks_fill<'a>(

@@ -1,8 +1,9 @@
 //! Tables of bits: rows of one length, in words of the caller's.
 //!
-//! A table is the struct `bits_rows` of `front/c/bits.h`: here `bitrows::Rows` where it is read, and `bitrows::RowsMut`
-//! where it is changed. Each row keeps as many words as a set of `columns` positions, one row behind the other.
-//! `bits_rows_clear` makes any words those of a table with no bit.
+//! A table is the struct `bits_rows` of `front/c/bits.h`: here `bitrows::Rows` where it is
+//! read, and `bitrows::RowsMut` where it is changed. Each row keeps as many words as a set
+//! of `columns` positions, one row behind the other. `bits_rows_clear` makes any words those
+//! of a table with no bit.
 
 ghost use Rattle.std.specs.Prelude.{◌≡◌, ◌<◌, ◌≤◌, ◌*◌, ◌^◌, ◌↔◌, ◌&&◌, ℕ, [], ◌==◌};
 ghost use Rattle.std.specs.Prelude.{nat_lt, true, false, not, if◌then◌else◌, length};
@@ -20,7 +21,8 @@ use bitlanes::{Block, Steps};
 use bitrows::{Rows, RowsMut};
 use bitwords::cursors::{Cursor, Plain};
 
-/// How many words a table of so many rows and columns has, or `NONE` where they are more than there are numbers.
+/// How many words a table of so many rows and columns has, or `NONE` where they are more
+/// than there are numbers.
 #[unsafe(no_mangle)]
 pub extern "C" fn bits_rows_words(rows: usize, columns: usize) -> usize
     ensures words { rows * storage_words columns < 2 ^ 64
@@ -30,8 +32,8 @@ pub extern "C" fn bits_rows_words(rows: usize, columns: usize) -> usize
     rows.checked_mul(bits_words(columns)).unwrap_or(NONE)
 }
 
-/// Makes any words those of a table of so many rows and columns, with no bit. It answers whether there are as many as
-/// `bits_rows_words` says; else nothing is changed.
+/// Makes any words those of a table of so many rows and columns, with no bit. It answers whether
+/// there are as many as `bits_rows_words` says; else nothing is changed.
 #[unsafe(no_mangle)]
 pub extern "C" fn bits_rows_clear(words: &mut [Block], rows: usize, columns: usize) -> bool
     ensures answer { result ≡ (length words.old == rows * storage_words columns) }
@@ -60,8 +62,8 @@ pub extern "C" fn bits_rows_get(rows: &Rows<'_>, row: usize, column: usize) -> b
     }
 }
 
-/// Sets the bit of the row at the column, or clears it where `enabled` is false, and answers whether the table has both; else
-/// nothing is changed.
+/// Sets the bit of the row at the column, or clears it where `enabled` is false, and answers
+/// whether the table has both; else nothing is changed.
 #[unsafe(no_mangle)]
 pub extern "C" fn bits_rows_set(
     rows: &mut RowsMut<'_>,
@@ -81,8 +83,9 @@ pub extern "C" fn bits_rows_set(
     }
 }
 
-/// Row `into` takes in the bits of row `from`, and the answer is whether the table has both; else nothing is changed. It
-/// writes to `changed` whether a bit came in; where the table has not both, nothing.
+/// Row `into` takes in the bits of row `from`, and the answer is whether the table has both;
+/// else nothing is changed. It writes to `changed` whether a bit came in; where the table
+/// has not both, nothing.
 #[unsafe(no_mangle)]
 pub extern "C" fn bits_rows_union(
     rows: &mut RowsMut<'_>,
@@ -107,8 +110,8 @@ pub extern "C" fn bits_rows_union(
     }
 }
 
-/// Begins the walk over the columns at which the row has a bit, in ascending order, and answers whether the table has the
-/// row; else the walk gives none.
+/// Begins the walk over the columns at which the row has a bit, in ascending order, and answers
+/// whether the table has the row; else the walk gives none.
 #[unsafe(no_mangle)]
 pub extern "C" fn bits_rows_ones<'a>(walk: &mut Ones<'a>, rows: &Rows<'a>, row: usize) -> bool
     ensures answer { result ≡ nat_lt row rows.now.rows }
@@ -126,8 +129,9 @@ pub extern "C" fn bits_rows_ones<'a>(walk: &mut Ones<'a>, rows: &Rows<'a>, row: 
     }
 }
 
-/// The transitive closure of the graph that has an edge from each row to each column at which the row has a bit: afterwards
-/// row `a` has a bit at column `b` exactly if some path of one or more edges led from `a` to `b`. The table keeps its size.
+/// The transitive closure of the graph that has an edge from each row to each column at which the
+/// row has a bit: afterwards row `a` has a bit at column `b` exactly if some path of one or more
+/// edges led from `a` to `b`. The table keeps its size.
 #[unsafe(no_mangle)]
 pub extern "C" fn bits_rows_close(rows: &mut RowsMut<'_>)
     ensures size { HaveSameSize (held rows.old) (held rows.new) }

@@ -1,8 +1,10 @@
-//! Walks over the stretches of positions that follow each other without a gap, kept in a struct of the caller's.
+//! Walks over the stretches of positions that follow each other without a gap, kept in a
+//! struct of the caller's.
 //!
-//! A stretch has the positions from its start up to and without its end. Each call gives one stretch, from either end, and
-//! answers whether it did; a call that gives none leaves what `start` and `end` point to. A walk looks for stretches from
-//! `low` up to and without `high`, which is at first the length, and so at no word behind those that the length needs.
+//! A stretch has the positions from its start up to and without its end. Each call gives one
+//! stretch, from either end, and answers whether it did; a call that gives none leaves what `start`
+//! and `end` point to. A walk looks for stretches from `low` up to and without `high`, which is at
+//! first the length, and so at no word behind those that the length needs.
 
 ghost use Rattle.std.specs.Prelude.{◌≡◌, false};
 ghost use Rattle.std.specs.Iterator.{YieldsFirst, YieldsLast};
@@ -72,7 +74,8 @@ pub extern "C" fn bits_runs<'a>(walk: &mut Runs<'a>, set: &Bits<'a>)
     *walk = Runs::of(set.runs());
 }
 
-/// Begins the walk over the stretches of positions below the length that are not set, in ascending order.
+/// Begins the walk over the stretches of positions below the length that are not
+/// set, in ascending order.
 #[unsafe(no_mangle)]
 pub extern "C" fn bits_zero_runs<'a>(walk: &mut Runs<'a>, set: &Bits<'a>)
     ensures left { stretches_left walk.new ≡ stretches.zero_runs (value set.now) }

@@ -1,5 +1,5 @@
-//! Positions moved up or down by any number, sets joined with moved ones, and parts. The words of a set that is changed may
-//! not be those of the other.
+//! Positions moved up or down by any number, sets joined with moved ones, and parts. The words of a
+//! set that is changed may not be those of the other.
 
 ghost use Rattle.std.specs.Prelude.{◌≡◌, ◌+◌, ◌-◌, ◌&&◌, ◌==◌, nat_le, if◌then◌else◌};
 ghost use Rattle.fixedbitset.specs.Parts as parts;
@@ -24,7 +24,8 @@ pub extern "C" fn bits_shift_down(set: &mut BitsMut<'_>, by: usize)
     set.shift_down(by, &mut Steps::new());
 }
 
-/// Takes in each position of the second set moved up by `by`, as far as it is below the length then.
+/// Takes in each position of the second set moved up by `by`, as far as it is
+/// below the length then.
 #[unsafe(no_mangle)]
 pub extern "C" fn bits_union_with_shifted(set: &mut BitsMut<'_>, other: &Bits<'_>, by: usize)
     ensures { held set.new ≡ parts.union_with_shifted (held set.old) (value other.now) by }
@@ -32,7 +33,8 @@ pub extern "C" fn bits_union_with_shifted(set: &mut BitsMut<'_>, other: &Bits<'_
     set.union_with_shifted(*other, by, &mut Steps::new());
 }
 
-/// Takes in each position of the set itself moved up by `by`, as far as it is below the length then.
+/// Takes in each position of the set itself moved up by `by`, as far as it is
+/// below the length then.
 #[unsafe(no_mangle)]
 pub extern "C" fn bits_union_with_own_shift(set: &mut BitsMut<'_>, by: usize)
     ensures { held set.new ≡ parts.union_with_shifted (held set.old) (held set.old) by }
@@ -40,8 +42,8 @@ pub extern "C" fn bits_union_with_own_shift(set: &mut BitsMut<'_>, by: usize)
     set.union_with_own_shift(by, &mut Steps::new());
 }
 
-/// Makes `part` the positions of the range, less its start, and answers whether it did: where the range is one of the set
-/// and `part` has its length. Else nothing is changed.
+/// Makes `part` the positions of the range, less its start, and answers whether it did: where the
+/// range is one of the set and `part` has its length. Else nothing is changed.
 #[unsafe(no_mangle)]
 pub extern "C" fn bits_slice(
     part: &mut BitsMut<'_>,
@@ -62,8 +64,9 @@ pub extern "C" fn bits_slice(
     }
 }
 
-/// Writes the positions of the range of the second set over those of the first from `at` on, and answers whether it did:
-/// where the range is one of the second set, and from `at` on ends within the first. Else nothing is changed.
+/// Writes the positions of the range of the second set over those of the first from `at` on, and
+/// answers whether it did: where the range is one of the second set, and from `at` on ends within
+/// the first. Else nothing is changed.
 #[unsafe(no_mangle)]
 pub extern "C" fn bits_copy_range(
     set: &mut BitsMut<'_>,

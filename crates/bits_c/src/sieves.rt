@@ -1,8 +1,9 @@
-//! Walks over the positions of a set that another one has, or lacks. Their calls are those of `walks`.
+//! Walks over the positions of a set that another one has, or lacks. Their
+//! calls are those of `walks`.
 //!
-//! The positions of a word are looked up in the other set at once, when the walk takes the word. So a call costs by the
-//! words that it takes and the positions that it gives. The intersection goes over the words that both lengths need, and
-//! the difference over those that the first one needs.
+//! The positions of a word are looked up in the other set at once, when the walk takes the word. So
+//! a call costs by the words that it takes and the positions that it gives. The intersection goes
+//! over the words that both lengths need, and the difference over those that the first one needs.
 
 ghost use Rattle.std.specs.Prelude.{◌≡◌, false, length, min};
 ghost use Rattle.std.specs.Iterator.{YieldsFirst, YieldsLast};

@@ -1,5 +1,5 @@
-//! The structs that a caller keeps, but for the sets and the tables. `front/c/bits.h` declares them as `bits`, `bits_walk`,
-//! `bits_run_walk`, `bits_sieve`, `bits_pair` and `bits_ranks`.
+//! The structs that a caller keeps, but for the sets and the tables. `front/c/bits.h` declares them
+//! as `bits`, `bits_walk`, `bits_run_walk`, `bits_sieve`, `bits_pair` and `bits_ranks`.
 //!
 //! They stand in a file of their own, since the definitions of `specs/` name them.
 
@@ -19,8 +19,8 @@ pub struct Room<'a> {
     pub length: usize,
 }
 
-/// A walk over the positions that are set: the first and the last word of those left, without the bits that were given,
-/// the positions of their bits 0, and the words between them.
+/// A walk over the positions that are set: the first and the last word of those left, without the
+/// bits that were given, the positions of their bits 0, and the words between them.
 #[repr(C)]
 #[derive(Drop)]
 pub struct Ones<'a> {
@@ -32,7 +32,8 @@ pub struct Ones<'a> {
     pub ghost spaced: { IsSpaced front_at back_at (length words.now) back },
 }
 
-/// A walk over the positions that are not set. Its first and its last word are inverted, and those between are not.
+/// A walk over the positions that are not set. Its first and its last word are inverted, and
+/// those between are not.
 #[repr(C)]
 #[derive(Drop)]
 pub struct Zeroes<'a> {
@@ -44,8 +45,8 @@ pub struct Zeroes<'a> {
     pub ghost spaced: { IsSpaced front_at back_at (length words.now) back },
 }
 
-/// A walk over stretches: whether they are of positions that are set, how many positions there are, where the stretches
-/// left are, and the words.
+/// A walk over stretches: whether they are of positions that are set, how many positions there are,
+/// where the stretches left are, and the words.
 #[repr(C)]
 #[derive(Drop)]
 pub struct Runs<'a> {
@@ -59,8 +60,9 @@ pub struct Runs<'a> {
     pub ghost fits: { 64 * length words.now ≤ 2 ^ 64 },
 }
 
-/// A walk over the positions of one set that another one has, or over those that it lacks. Its first and its last word
-/// have no other bits. Each of the words between is joined with the word at its place of `other` when it is taken.
+/// A walk over the positions of one set that another one has, or over those that it lacks. Its
+/// first and its last word have no other bits. Each of the words between is joined with the word at
+/// its place of `other` when it is taken.
 #[repr(C)]
 #[derive(Drop)]
 pub struct Sieve<'a> {
@@ -68,7 +70,8 @@ pub struct Sieve<'a> {
     pub other: &'a [Block],
 }
 
-/// Two such walks, one behind the other. In a union the first takes the words of its set as they are.
+/// Two such walks, one behind the other. In a union the first takes the words
+/// of its set as they are.
 #[repr(C)]
 #[derive(Drop)]
 pub struct Pair<'a> {
@@ -76,7 +79,8 @@ pub struct Pair<'a> {
     pub second: Sieve<'a>,
 }
 
-/// A set that is lent with a directory of its words: the words, the length in bits, and the directory.
+/// A set that is lent with a directory of its words: the words, the length in
+/// bits, and the directory.
 #[repr(C)]
 #[derive(Drop)]
 pub struct Ranks<'a> {

@@ -1,11 +1,12 @@
 //! Walks over the positions of a set, kept in a struct of the caller's.
 //!
-//! A walk is begun by one call, which writes the whole struct from any walk before. Each further call gives one position,
-//! from either end, and answers whether it did: once none is left, no call gives one. A call that gives none leaves what
-//! `position` points to. While a walk is used, the words that it walks over may not change.
+//! A walk is begun by one call, which writes the whole struct from any walk before. Each further
+//! call gives one position, from either end, and answers whether it did: once none is left, no call
+//! gives one. A call that gives none leaves what `position` points to. While a walk is used, the
+//! words that it walks over may not change.
 //!
-//! A walk goes over the words that the length needs, and over no words behind them. It holds the first and the last of
-//! them, and `words` are those between that no call has taken yet.
+//! A walk goes over the words that the length needs, and over no words behind them. It holds the
+//! first and the last of them, and `words` are those between that no call has taken yet.
 
 ghost use Rattle.std.specs.Prelude.{◌≡◌, [], false, if◌then◌else◌, length};
 ghost use Rattle.std.specs.Iterator.{YieldsFirst, YieldsLast};
@@ -148,8 +149,8 @@ pub extern "C" fn bits_ones_next_back(walk: &mut Ones<'_>, position: &mut usize)
     hand_out(walk.take_last(), position)
 }
 
-/// Begins the walk over the positions of the range that are set, in ascending order, and answers whether the range is
-/// valid; else the walk gives none.
+/// Begins the walk over the positions of the range that are set, in ascending order, and answers
+/// whether the range is valid; else the walk gives none.
 #[unsafe(no_mangle)]
 pub extern "C" fn bits_ones_in<'a>(
     walk: &mut Ones<'a>,
@@ -172,8 +173,8 @@ pub extern "C" fn bits_ones_in<'a>(
     }
 }
 
-/// Begins the walk over the positions of the range that are not set, in ascending order, and answers whether the range is
-/// valid; else the walk gives none.
+/// Begins the walk over the positions of the range that are not set, in ascending order, and
+/// answers whether the range is valid; else the walk gives none.
 #[unsafe(no_mangle)]
 pub extern "C" fn bits_zeroes_in<'a>(
     walk: &mut Zeroes<'a>,

@@ -1,4 +1,5 @@
-//! Two whole sets, of any two lengths. The words of a set that is changed may not be those of the other.
+//! Two whole sets, of any two lengths. The words of a set that is changed may not
+//! be those of the other.
 
 ghost use Rattle.std.specs.Prelude.{◌≡◌, nat_le, not, unwrap_or, if◌then◌else◌};
 ghost use Rattle.bits_c.specs.Sets.{sign};
@@ -12,8 +13,8 @@ use bitlanes::Steps;
 use fixedbitset::views::{Bits, BitsMut};
 use std::cmp::Ordering;
 
-/// Leaves the positions of either set, and answers whether the second is no longer than the first; else nothing is
-/// changed.
+/// Leaves the positions of either set, and answers whether the second is no longer than the first;
+/// else nothing is changed.
 #[unsafe(no_mangle)]
 pub extern "C" fn bits_union_with(set: &mut BitsMut<'_>, other: &Bits<'_>) -> bool
     ensures answer { result ≡ nat_le other.now.length set.old.length }
@@ -28,8 +29,8 @@ pub extern "C" fn bits_union_with(set: &mut BitsMut<'_>, other: &Bits<'_>) -> bo
     }
 }
 
-/// Leaves the positions of exactly one of the sets, and answers whether the second is no longer than the first; else
-/// nothing is changed.
+/// Leaves the positions of exactly one of the sets, and answers whether the second is no longer
+/// than the first; else nothing is changed.
 #[unsafe(no_mangle)]
 pub extern "C" fn bits_symmetric_difference_with(set: &mut BitsMut<'_>, other: &Bits<'_>) -> bool
     ensures answer { result ≡ nat_le other.now.length set.old.length }
@@ -60,8 +61,8 @@ pub extern "C" fn bits_difference_with(set: &mut BitsMut<'_>, other: &Bits<'_>)
     set.difference_with(*other, &mut Steps::new());
 }
 
-/// As `bits_union_with`, and answers at `changed` whether a position came in. Where the second is longer, nothing is
-/// written there.
+/// As `bits_union_with`, and answers at `changed` whether a position came in. Where the second is
+/// longer, nothing is written there.
 #[unsafe(no_mangle)]
 pub extern "C" fn bits_union_with_change(
     set: &mut BitsMut<'_>,
@@ -91,7 +92,8 @@ pub extern "C" fn bits_intersect_with_change(set: &mut BitsMut<'_>, other: &Bits
     set.intersect_with_change(*other, &mut Steps::new())
 }
 
-/// Leaves the positions of the first set that the second lacks, and the length, and answers whether a position went.
+/// Leaves the positions of the first set that the second lacks, and the length, and answers
+/// whether a position went.
 #[unsafe(no_mangle)]
 pub extern "C" fn bits_difference_with_change(set: &mut BitsMut<'_>, other: &Bits<'_>) -> bool
     ensures value { held set.new ≡ sets.difference (held set.old) (value other.now) }
@@ -100,9 +102,9 @@ pub extern "C" fn bits_difference_with_change(set: &mut BitsMut<'_>, other: &Bit
     set.difference_with_change(*other, &mut Steps::new())
 }
 
-/// Takes in the positions of `gens` that `kills` lacks, and answers whether `gens` is no longer than the first; else
-/// nothing is changed. At `changed` it answers whether a position came in; where `gens` is longer, nothing is written
-/// there.
+/// Takes in the positions of `gens` that `kills` lacks, and answers whether `gens` is no longer
+/// than the first; else nothing is changed. At `changed` it answers whether a position came in;
+/// where `gens` is longer, nothing is written there.
 #[unsafe(no_mangle)]
 pub extern "C" fn bits_union_with_difference(
     set: &mut BitsMut<'_>,
@@ -190,8 +192,8 @@ pub extern "C" fn bits_equal(set: &Bits<'_>, other: &Bits<'_>) -> bool
     set.is_equal(*other, &mut Steps::new())
 }
 
-/// Which set comes first, in the order of `FixedBitSet`: -1 where the first does, 1 where the second does, and 0 where
-/// the two are equal.
+/// Which set comes first, in the order of `FixedBitSet`: -1 where the first does, 1 where the
+/// second does, and 0 where the two are equal.
 #[unsafe(no_mangle)]
 pub extern "C" fn bits_compare(set: &Bits<'_>, other: &Bits<'_>) -> isize
     ensures { result ≡ sign (order.compare (value set.now) (value other.now)) }

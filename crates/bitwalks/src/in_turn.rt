@@ -1,4 +1,5 @@
-//! Two walks in turn: from the front the first and then the second, from the back the second and then the first.
+//! Two walks in turn: from the front the first and then the second, from the back the
+//! second and then the first.
 
 ghost use Rattle.std.specs.Prelude.{◌≡◌, ℕ, ◌+◌, ◌*◌, ◌^◌, ◌<◌, ◌++◌, List};
 ghost use Rattle.std.specs.Prelude.{[], true, false, length, Some, IfSome};
@@ -79,7 +80,8 @@ impl<M: Middle + Drop> Part for Cursor<M> {
 pub struct InTurn<A: Part + Drop, B: Part + Drop> {
     first: A,
     second: B,
-    // Whether the first walk may still have items: once it gave none, no call from the front asks it again.
+    // Whether the first walk may still have items: once it gave none, no call from
+    // the front asks it again.
     first_left: bool,
 }
 
@@ -113,8 +115,8 @@ impl<A: Part + Drop, B: Part + Drop> InTurn<A, B> {
         }
     }
 
-    /// The first item that the first walk has left, and once it has none, the first of the second. A first walk that
-    /// gave none is not asked again.
+    /// The first item that the first walk has left, and once it has none, the first of the second.
+    /// A first walk that gave none is not asked again.
     #[inline]
     pub fn take_first(&mut self) -> Option<usize>
         ensures gives { YieldsFirst
@@ -134,8 +136,8 @@ impl<A: Part + Drop, B: Part + Drop> InTurn<A, B> {
         self.second.take_first()
     }
 
-    /// The last item that the second walk has left, and where it has none, the last of the first. A first walk that gave
-    /// none from the front is not asked again.
+    /// The last item that the second walk has left, and where it has none, the last of the first. A
+    /// first walk that gave none from the front is not asked again.
     #[inline]
     pub fn take_last(&mut self) -> Option<usize>
         ensures gives { YieldsLast
@@ -155,7 +157,8 @@ impl<A: Part + Drop, B: Part + Drop> InTurn<A, B> {
         }
     }
 
-    /// The sum of what both have, which is not below the number of items left, where it is a `usize`.
+    /// The sum of what both have, which is not below the number of items left,
+    /// where it is a `usize`.
     #[inline]
     pub fn most(&self) -> Option<usize>
         ensures upper { IfSome result

@@ -1,4 +1,5 @@
-//! Walks over the positions of rows of words: over one row, and over two. No walk here knows a set or its length.
+//! Walks over the positions of rows of words: over one row, and over two. No walk here
+//! knows a set or its length.
 #![tactic(auto)]
 
 mod in_turn;

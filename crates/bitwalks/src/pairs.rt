@@ -1,11 +1,13 @@
 //! Walks over two rows of words, of any two lengths.
 //!
-//! `Intersection` and `Difference` walk over the first row and look each of its items up in the other. `Union` walks over
-//! the first row, and then over the second without the first; `SymmetricDifference` over both differences in turn. So the
-//! items of the two last need not ascend as a whole. No walk takes memory.
+//! `Intersection` and `Difference` walk over the first row and look each of its items up in the
+//! other. `Union` walks over the first row, and then over the second without the first;
+//! `SymmetricDifference` over both differences in turn. So the items of the two last need not
+//! ascend as a whole. No walk takes memory.
 //!
-//! Proofs see the items left, how many items of a source were looked up (`asked`), and each source as a walk of its own,
-//! with its turns and its words not yet taken. The counts take no bytes when the program runs.
+//! Proofs see the items left, how many items of a source were looked up (`asked`), and each
+//! source as a walk of its own, with its turns and its words not yet taken. The counts take no
+//! bytes when the program runs.
 
 ghost use Rattle.std.specs.Prelude.{◌≡◌, ◌+◌, ◌*◌, ◌^◌, ◌<◌, ◌≤◌, not, length, Some, IfSome};
 ghost use Rattle.std.specs.Iterator.{item_count, UpTo};
@@ -21,7 +23,8 @@ use bitlanes::word::Block;
 use std::iter::FusedIterator;
 use std::marker::Model;
 
-/// The positions that two rows have in common, in ascending order. A set makes it by `intersection`.
+/// The positions that two rows have in common, in ascending order. A set
+/// makes it by `intersection`.
 ///
 /// ```
 /// let set = FixedBitSet::from_iter(alloc, [1, 3, 64])?;
@@ -32,7 +35,8 @@ use std::marker::Model;
 /// ```
 pub type Intersection<'a> = Sieve<'a, Shared>;
 
-/// The positions of a row that another one lacks, in ascending order. A set makes it by `difference`.
+/// The positions of a row that another one lacks, in ascending order. A set
+/// makes it by `difference`.
 ///
 /// ```
 /// let set = FixedBitSet::from_iter(alloc, [1, 3, 200])?;
@@ -43,7 +47,8 @@ pub type Intersection<'a> = Sieve<'a, Shared>;
 /// ```
 pub type Difference<'a> = Sieve<'a, Lacked>;
 
-/// The positions of a row, and then those of another one that the first lacks. A set makes it by `union`.
+/// The positions of a row, and then those of another one that the first lacks. A
+/// set makes it by `union`.
 ///
 /// ```
 /// let set = FixedBitSet::from_iter(alloc, [9, 200])?;
@@ -71,8 +76,8 @@ impl<'a> Drop for Union<'a> {
     }
 }
 
-/// The positions of a row that another one lacks, and then those of the other that the first lacks. A set makes it by
-/// `symmetric_difference`.
+/// The positions of a row that another one lacks, and then those of the other that the first lacks.
+/// A set makes it by `symmetric_difference`.
 ///
 /// ```
 /// let set = FixedBitSet::from_iter(alloc, [9, 200])?;
@@ -130,14 +135,15 @@ impl<'a> Iterator for Union<'a> {
 
     ghost remaining = { item_count joined_items };
 
-    /// The first position left, or `None` where none is, and then for good. Each item that a source gives is looked up
-    /// once; a source is called once for each, and once more at most.
+    /// The first position left, or `None` where none is, and then for good. Each item that a source
+    /// gives is looked up once; a source is called once for each, and once more at most.
     #[inline]
     fn next(&mut self) -> Option<usize> {
         self.parts.take_first()
     }
 
-    /// At least 0, and at most the sum of what both parts have. The latter is `None` where it is no `usize`.
+    /// At least 0, and at most the sum of what both parts have. The latter is `None`
+    /// where it is no `usize`.
     #[inline]
     fn size_hint(&self) -> (usize, Option<usize>)
         ensures zero { result.0 ≡ 0 }
@@ -195,14 +201,15 @@ impl<'a> Iterator for SymmetricDifference<'a> {
 
     ghost remaining = { item_count split_items };
 
-    /// The first position left, or `None` where none is, and then for good. Each item that a source gives is looked up
-    /// once; a source is called once for each, and once more at most.
+    /// The first position left, or `None` where none is, and then for good. Each item that a source
+    /// gives is looked up once; a source is called once for each, and once more at most.
     #[inline]
     fn next(&mut self) -> Option<usize> {
         self.sides.take_first()
     }
 
-    /// At least 0, and at most the sum of what both parts have. The latter is `None` where it is no `usize`.
+    /// At least 0, and at most the sum of what both parts have. The latter is `None`
+    /// where it is no `usize`.
     #[inline]
     fn size_hint(&self) -> (usize, Option<usize>)
         ensures zero { result.0 ≡ 0 }

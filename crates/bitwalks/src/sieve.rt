@@ -132,8 +132,8 @@ impl<'a, C: Choice> Iterator for Sieve<'a, C> {
 
     ghost remaining = { item_count (λ sieved. sieved.items) };
 
-    /// The first position left, or `None` where none is, and then for good. Each item that the source gives is looked up
-    /// once; the source is called once for each, and once more at most.
+    /// The first position left, or `None` where none is, and then for good. Each item that the
+    /// source gives is looked up once; the source is called once for each, and once more at most.
     #[inline]
     fn next(&mut self) -> Option<usize> {
         while let Some(position) = self.source.next() {
@@ -145,8 +145,8 @@ impl<'a, C: Choice> Iterator for Sieve<'a, C> {
         None
     }
 
-    /// At least 0, and at most 64 for each word that the source holds or has not yet taken. The latter is `None` where it
-    /// is no `usize`.
+    /// At least 0, and at most 64 for each word that the source holds or has not yet taken. The
+    /// latter is `None` where it is no `usize`.
     #[tactic(auto, using(crate::specs::SieveFacts::hint_sieved))]
     #[inline]
     fn size_hint(&self) -> (usize, Option<usize>)

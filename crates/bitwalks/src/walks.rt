@@ -1,11 +1,12 @@
-//! The positions of a row of words one by one, in ascending order: those that are set, and those that are not.
+//! The positions of a row of words one by one, in ascending order: those that are set,
+//! and those that are not.
 //!
-//! Each walk stands on the one cursor of `bitwords`. It makes one turn a call, and one more for each word that it takes.
-//! Proofs see the items left, the words that no call has taken yet, and the counts of turns and of words taken; the
-//! counts take no bytes when the program runs.
+//! Each walk stands on the one cursor of `bitwords`. It makes one turn a call, and one more for
+//! each word that it takes. Proofs see the items left, the words that no call has taken yet, and
+//! the counts of turns and of words taken; the counts take no bytes when the program runs.
 //!
-//! `Drop` is written by hand and not derived: a walk that is dropped is then one call, and the proof of a loop with a
-//! `return` keeps what it knows of the items.
+//! `Drop` is written by hand and not derived: a walk that is dropped is then one call, and the
+//! proof of a loop with a `return` keeps what it knows of the items.
 
 ghost use Rattle.std.specs.Prelude.{◌≡◌, ◌≢◌, ◌+◌, ◌*◌, ◌^◌, ◌<◌, ◌≤◌, map, length, Some, IfSome};
 ghost use Rattle.std.specs.Int.{bit_not, w64};
@@ -89,7 +90,8 @@ impl Drop for IntoOnes {
     }
 }
 
-/// The positions below a length that are not set, in ascending order. A set makes it by `zeroes`, and by `zeroes_in`.
+/// The positions below a length that are not set, in ascending order. A set makes it by
+/// `zeroes`, and by `zeroes_in`.
 ///
 /// It borrows the words and takes no memory. Proofs see the words with each bit inverted.
 ///
@@ -122,7 +124,8 @@ impl<'a> Drop for Zeroes<'a> {
 }
 
 impl<'a> Ones<'a> {
-    /// The positions set in the words. It reads the first and the last word; those between are not yet taken.
+    /// The positions set in the words. It reads the first and the last word; those
+    /// between are not yet taken.
     ///
     /// ```
     /// let words = [8, 0, 1];
@@ -139,8 +142,8 @@ impl<'a> Ones<'a> {
         }
     }
 
-    /// The positions set in the words, from `start` up to and without `end`. It reads the first and the last of the words
-    /// that hold a position of the range; those between are not yet taken.
+    /// The positions set in the words, from `start` up to and without `end`. It reads the first and
+    /// the last of the words that hold a position of the range; those between are not yet taken.
     ///
     /// ```
     /// let words = [8, 0, 7];
@@ -159,8 +162,8 @@ impl<'a> Ones<'a> {
         }
     }
 
-    /// The index of the lowest bit of the word that is set, which it clears. The word may not be 0; upstream's
-    /// subtraction overflows there.
+    /// The index of the lowest bit of the word that is set, which it clears. The word may not be 0;
+    /// upstream's subtraction overflows there.
     ///
     /// ```
     /// let mut bits = 12;
@@ -178,7 +181,8 @@ impl<'a> Ones<'a> {
 }
 
 impl IntoOnes {
-    /// The positions set in the words. It reads the first and the last word; those between are not yet taken.
+    /// The positions set in the words. It reads the first and the last word; those
+    /// between are not yet taken.
     ///
     /// ```
     /// let words = [8, 0, 1].to_vec(alloc)?;
@@ -220,15 +224,15 @@ impl<'a> Iterator for Ones<'a> {
 
     ghost remaining = { item_count (λ walk. walk.items) };
 
-    /// The least position left, or `None` where none is, and then for good. It makes one turn, and one more for each
-    /// word that it takes.
+    /// The least position left, or `None` where none is, and then for good. It makes one turn, and
+    /// one more for each word that it takes.
     #[inline]
     fn next(&mut self) -> Option<usize> {
         self.ones.next()
     }
 
-    /// At least 0, and at most 64 for each word not yet taken and for each of the two that the walk holds. The latter
-    /// is `None` where it is no `usize`.
+    /// At least 0, and at most 64 for each word not yet taken and for each of the two that the walk
+    /// holds. The latter is `None` where it is no `usize`.
     #[inline]
     fn size_hint(&self) -> (usize, Option<usize>)
         ensures zero { result.0 ≡ 0 }
@@ -244,8 +248,8 @@ impl<'a> Iterator for Ones<'a> {
 impl<'a> DoubleEndedIterator for Ones<'a> {
     ghost next_back_gives = { GivesLast };
 
-    /// The greatest position left, or `None` where none is, and then for good. It makes one turn, and one more for each
-    /// word that it takes.
+    /// The greatest position left, or `None` where none is, and then for good. It makes one turn,
+    /// and one more for each word that it takes.
     #[inline]
     fn next_back(&mut self) -> Option<usize> {
         self.ones.next_back()
@@ -293,8 +297,9 @@ impl DoubleEndedIterator for IntoOnes {
 impl FusedIterator for IntoOnes {}
 
 impl<'a> Zeroes<'a> {
-    /// The positions not set in the words, from `start` up to and without `end`. It reads the first and the last of the
-    /// words that hold a position of the range; those between are not yet taken.
+    /// The positions not set in the words, from `start` up to and without `end`. It reads
+    /// the first and the last of the words that hold a position of the range; those
+    /// between are not yet taken.
     ///
     /// ```
     /// let words = [Block::MAX, 5];
@@ -321,8 +326,8 @@ impl<'a> Iterator for Zeroes<'a> {
 
     ghost remaining = { item_count (λ walk. walk.items) };
 
-    /// The least position left, or `None` where none is, and then for good. It makes one turn, and one more for each
-    /// word that it takes.
+    /// The least position left, or `None` where none is, and then for good. It makes one turn, and
+    /// one more for each word that it takes.
     #[inline]
     fn next(&mut self) -> Option<usize> {
         self.zeroes.next()
@@ -344,8 +349,8 @@ impl<'a> Iterator for Zeroes<'a> {
 impl<'a> DoubleEndedIterator for Zeroes<'a> {
     ghost next_back_gives = { GivesLast };
 
-    /// The greatest position left, or `None` where none is, and then for good. It makes one turn, and one more for each
-    /// word that it takes.
+    /// The greatest position left, or `None` where none is, and then for good. It makes one turn,
+    /// and one more for each word that it takes.
     #[inline]
     fn next_back(&mut self) -> Option<usize> {
         self.zeroes.next_back()

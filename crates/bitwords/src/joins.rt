@@ -1,7 +1,8 @@
-//! Two rows of words, of any two lengths: joins, counts and tests. Past its words a row has no position.
+//! Two rows of words, of any two lengths: joins, counts and tests. Past its words
+//! a row has no position.
 //!
-//! The words that both rows have are joined by a kernel of `bitlanes`, by lanes of four; the rest of the longer row is
-//! cleared, counted or left, as the operation says.
+//! The words that both rows have are joined by a kernel of `bitlanes`, by lanes of four; the rest
+//! of the longer row is cleared, counted or left, as the operation says.
 ghost use Rattle.std.specs.Prelude.{◌≡◌, ◌<◌, ◌≤◌, ◌+◌, ◌-◌, ◌*◌, ◌/◌, ◌^◌, ◌==◌, ◌&&◌, ◌||◌};
 ghost use Rattle.std.specs.Prelude.{not, IsTrue, IfSome, IfNone, true, false, length, min};
 ghost use Rattle.std.specs.Prelude.{max, drop, slice_get, slice_index, sum_by, if◌then◌else◌};
@@ -22,8 +23,8 @@ use bitlanes::{Block, Steps, changes, lanes};
 
 /// Joins each position of `words` with that of `other` by `O`.
 ///
-/// With `m` words that both have and `t` that only `words` has it takes exactly `m / 4` steps, rounded up, and `t / 4`,
-/// rounded up, more where the rest is cleared.
+/// With `m` words that both have and `t` that only `words` has it takes exactly `m / 4` steps,
+/// rounded up, and `t / 4`, rounded up, more where the rest is cleared.
 ///
 /// ```
 /// let mut words = [11, 3, 1];
@@ -42,8 +43,8 @@ pub fn join<O: WordOp>(words: &mut [Block], other: &[Block], steps: &mut Steps)
     }
 }
 
-/// Joins each position of `words` with that of `other` by `O`, and answers whether one changed. Where the operation takes
-/// positions that only `other` has, `other` may not be longer.
+/// Joins each position of `words` with that of `other` by `O`, and answers whether one changed.
+/// Where the operation takes positions that only `other` has, `other` may not be longer.
 ///
 /// It takes exactly the steps of [`join`]: each word is read once.
 ///
@@ -69,10 +70,11 @@ pub fn join_with_change<O: WordOp>(words: &mut [Block], other: &[Block], steps: 
     joined
 }
 
-/// Writes each position of `words`, joined with that of `other` by `O`, over the words `to`, which are as many as `words`.
+/// Writes each position of `words`, joined with that of `other` by `O`, over the words `to`, which
+/// are as many as `words`.
 ///
-/// With `m` words that both have and `t` that only `words` has it takes exactly `m / 4` steps, rounded up, and `t / 4`,
-/// rounded up, more: each word is read once and written once.
+/// With `m` words that both have and `t` that only `words` has it takes exactly `m / 4` steps,
+/// rounded up, and `t / 4`, rounded up, more: each word is read once and written once.
 ///
 /// ```
 /// let mut to = [7; 3];
@@ -97,11 +99,11 @@ pub fn join_to<O: WordOp>(to: &mut [Block], words: &[Block], other: &[Block], st
     }
 }
 
-/// Takes in the positions of `gens` that `kills` lacks, and answers whether one came in. `gens` may not be longer than
-/// `words`.
+/// Takes in the positions of `gens` that `kills` lacks, and answers whether one came in. `gens` may
+/// not be longer than `words`.
 ///
-/// With `m` words that `gens` and `kills` have and `t` that only `gens` has it takes exactly `m / 4` steps, rounded up,
-/// and `t / 4`, rounded up, more: each word is read once.
+/// With `m` words that `gens` and `kills` have and `t` that only `gens` has it takes exactly `m /
+/// 4` steps, rounded up, and `t / 4`, rounded up, more: each word is read once.
 ///
 /// ```
 /// let mut words = [1, 0, 8];
@@ -134,8 +136,8 @@ pub fn union_with_difference(
 
 /// How many positions are set in `a` joined with `b` by `O`. It asks that this number fits `usize`.
 ///
-/// With `m` words that both have and `t` that only the longer has it takes exactly `m / 4` steps, rounded up, and
-/// `t / 4`, rounded up, more where these count.
+/// With `m` words that both have and `t` that only the longer has it takes exactly `m / 4` steps,
+/// rounded up, and `t / 4`, rounded up, more where these count.
 ///
 /// ```
 /// let count = joins::count::<Xor>(&[11, 3], &[9], &mut Steps::new());
@@ -154,8 +156,8 @@ pub fn count<O: WordOp>(a: &[Block], b: &[Block], steps: &mut Steps) -> usize
 
 /// Whether `count` is 0, whether or not it fits `usize`.
 ///
-/// It stops at the first lane that decides, so it takes at most the steps of `count`; where it answers `true` it takes
-/// exactly as many, and where it answers `false` at least one.
+/// It stops at the first lane that decides, so it takes at most the steps of `count`; where it
+/// answers `true` it takes exactly as many, and where it answers `false` at least one.
 ///
 /// ```
 /// assert!(rt; joins::none::<AndNot>(&[2], &[3, 1], &mut Steps::new()));
@@ -175,9 +177,10 @@ pub fn none<O: WordOp>(a: &[Block], b: &[Block], steps: &mut Steps) -> bool
 
 /// The first position of `a` that `b` lacks, or `None` where it has each of them.
 ///
-/// It looks at four words of each row at a time up to those that have the position. It takes exactly the steps of
-/// [`count`] by `AndNot` over the words of `a` up to the one that has it, or over all of `a` where it answers `None`. The
-/// number of positions of `a`, 64 for each word, may be at most 2 ^ 64.
+/// It looks at four words of each row at a time up to those that have the position. It takes
+/// exactly the steps of [`count`] by `AndNot` over the words of `a` up to the one that has it,
+/// or over all of `a` where it answers `None`. The number of positions of `a`, 64 for each word,
+/// may be at most 2 ^ 64.
 ///
 /// ```
 /// assert_eq!(rt; joins::first_of_difference(&[7, 6], &[7, 2, 1], &mut Steps::new()), Some(66));
@@ -230,7 +233,8 @@ fn count_words<O: WordOp>(a: &[Block], b: &[Block], steps: &mut Steps) -> usize
     }
 }
 
-// `count_words`, for rows of unlike lengths. It is a call of its own, so that rows of one length have no tests of it.
+// `count_words`, for rows of unlike lengths. It is a call of its own, so that rows of one
+// length have no tests of it.
 #[cold]
 #[inline(never)]
 #[tactic(auto, using(crate::proofs::TwoRows::sum_longest))]

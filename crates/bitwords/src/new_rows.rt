@@ -10,14 +10,15 @@ use bitlanes::ops::WordOp;
 use bitlanes::{Block, Steps, lanes};
 use std::alloc::{AllocError, Global};
 
-// From how many words on a new row is written as it is joined. A shorter one is copied and then joined, which is quicker
-// while all three rows lie in the first cache.
+// From how many words on a new row is written as it is joined. A shorter one is copied and then
+// joined, which is quicker while all three rows lie in the first cache.
 const LONG: usize = 2048;
 
 /// A new row, as long as `words`: each position of `words`, joined with that of `other` by `O`.
 ///
-/// `Err` comes only where memory for the row was refused. It takes the steps of [`join`](crate::joins::join), and where
-/// memory was refused at most as many; what is copied before or behind the join is not counted.
+/// `Err` comes only where memory for the row was refused. It takes the steps of
+/// [`join`](crate::joins::join), and where memory was refused at most as many; what is copied
+/// before or behind the join is not counted.
 ///
 /// ```
 /// let new = new_rows::joined::<And>(alloc, &[11, 3, 1], &[9, 6], &mut Steps::new())?;
@@ -45,8 +46,8 @@ pub fn joined<O: WordOp>(
     Ok(new)
 }
 
-// `joined`, for long rows: each word is written as it is joined. It is a call of its own, so that short rows save no
-// registers for it.
+// `joined`, for long rows: each word is written as it is joined. It is a call of its own, so that
+// short rows save no registers for it.
 #[cold]
 #[inline(never)]
 fn joined_long<O: WordOp>(
@@ -69,8 +70,9 @@ fn joined_long<O: WordOp>(
     Ok(new)
 }
 
-// Writes the words joined as far as both rows go, and then the rest of `words`. The first eight are copied and then
-// joined: into an empty row `extend` writes one word by itself, and all that it writes behind it would be unaligned.
+// Writes the words joined as far as both rows go, and then the rest of `words`. The first eight are
+// copied and then joined: into an empty row `extend` writes one word by itself, and all that it
+// writes behind it would be unaligned.
 #[inline(always)]
 fn write_joined<O: WordOp>(
     to: &mut Vec<Block>,
@@ -94,8 +96,8 @@ fn write_joined<O: WordOp>(
     to.extend_from_slice(&words[other.len().min(words.len())..])
 }
 
-// Writes the joined words behind those of `to`, as far as both rows go. `extend` has the loop, so the steps are counted
-// beside it.
+// Writes the joined words behind those of `to`, as far as both rows go. `extend` has the loop, so
+// the steps are counted beside it.
 #[inline(always)]
 fn append_joined<O: WordOp>(
     to: &mut Vec<Block>,

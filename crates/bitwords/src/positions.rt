@@ -1,4 +1,5 @@
-//! Single positions of a row of words, the first and the last of them, and those from one position on.
+//! Single positions of a row of words, the first and the last of them, and
+//! those from one position on.
 ghost use Rattle.std.specs.Prelude.{◌≡◌, ◌↔◌, ℕ, ◌+◌, ◌-◌, ◌*◌, ◌/◌, ◌^◌, ◌<◌, ◌≤◌, ◌&&◌, nat_lt};
 ghost use Rattle.std.specs.Prelude.{length, slice_get, None, IfSome, IfNone, IsTrue, true, false};
 ghost use Rattle.std.specs.List.{last_or};
@@ -31,8 +32,8 @@ pub fn contains(words: &[Block], position: usize) -> bool
 
 /// The first position that is set, or `None` where none is.
 ///
-/// It takes one step for each lane of four words from the first on, up to the one that has this position. The number of
-/// positions of the row, 64 for each word, may be at most 2 ^ 64.
+/// It takes one step for each lane of four words from the first on, up to the one that has this
+/// position. The number of positions of the row, 64 for each word, may be at most 2 ^ 64.
 ///
 /// ```
 /// let mut steps = Steps::new();
@@ -54,8 +55,8 @@ pub fn first(words: &[Block], steps: &mut Steps) -> Option<usize>
 
 /// The last position that is set, or `None` where none is.
 ///
-/// It takes one step for each lane of four words from the last on, down to the one that has this position. The number of
-/// positions of the row, 64 for each word, may be at most 2 ^ 64.
+/// It takes one step for each lane of four words from the last on, down to the one that has this
+/// position. The number of positions of the row, 64 for each word, may be at most 2 ^ 64.
 ///
 /// ```
 /// let mut steps = Steps::new();
@@ -76,12 +77,14 @@ pub fn last(words: &[Block], steps: &mut Steps) -> Option<usize>
     Some(BITS * at + highest_bit(words[at]))
 }
 
-/// The least position, at or past `from` and below `end`, whose bit is set when a bit that is set is joined with it by
-/// `O`: with `And` a position of the row, with `AndNot` one that the row lacks. `None` where there is none.
+/// The least position, at or past `from` and below `end`, whose bit is set when a bit that is set
+/// is joined with it by `O`: with `And` a position of the row, with `AndNot` one that the row
+/// lacks. `None` where there is none.
 ///
-/// It takes one step for the word of `from`, and one for each lane of four words behind it up to the one that has the
-/// position. Where there is none it takes these up to the word of `end` at least, and up to the end of the words at most.
-/// No step is taken where `from` is not below `end`. The end may not be past the words.
+/// It takes one step for the word of `from`, and one for each lane of four words behind it up to
+/// the one that has the position. Where there is none it takes these up to the word of `end` at
+/// least, and up to the end of the words at most. No step is taken where `from` is not below `end`.
+/// The end may not be past the words.
 ///
 /// ```
 /// let mut steps = Steps::new();
@@ -114,12 +117,13 @@ pub fn next<O: WordOp>(words: &[Block], from: usize, end: usize, steps: &mut Ste
     if position < end { Some(position) } else { None }
 }
 
-/// The greatest position below `below` whose bit is set when a bit that is set is joined with it by `O`: with `And` a
-/// position of the row, with `AndNot` one that the row lacks. `None` where there is none.
+/// The greatest position below `below` whose bit is set when a bit that is set is joined
+/// with it by `O`: with `And` a position of the row, with `AndNot` one that the row lacks.
+/// `None` where there is none.
 ///
-/// It takes one step for the word of the position before `below`, and one for each lane of four words before it down to
-/// the one that has the position, or down to the first word where there is none. No step is taken where `below` is 0. It
-/// may not be past the end of the words.
+/// It takes one step for the word of the position before `below`, and one for each lane of four
+/// words before it down to the one that has the position, or down to the first word where there is
+/// none. No step is taken where `below` is 0. It may not be past the end of the words.
 ///
 /// ```
 /// let mut steps = Steps::new();
@@ -155,8 +159,8 @@ pub fn previous<O: WordOp>(words: &[Block], below: usize, steps: &mut Steps) -> 
 
 /// Whether no position of the row from `start` on is set.
 ///
-/// It looks at the word of `start`, and at four words at a time behind it up to the first that has a position. The number of
-/// positions of the row, 64 for each word, may be at most 2 ^ 64.
+/// It looks at the word of `start`, and at four words at a time behind it up to the first that has
+/// a position. The number of positions of the row, 64 for each word, may be at most 2 ^ 64.
 ///
 /// ```
 /// assert!(rt; positions::none_from(&[9, 2, 0], 66));
@@ -171,7 +175,8 @@ pub fn none_from(words: &[Block], start: usize) -> bool
     start / BITS >= words.len() || next_in_row::<And>(words, start, &mut Steps::new()).is_none()
 }
 
-/// Clears each position of the row from `start` on. It writes the word of `start` and those behind it.
+/// Clears each position of the row from `start` on. It writes the word of
+/// `start` and those behind it.
 ///
 /// ```
 /// let mut words = [Block::MAX; 3];

@@ -1,6 +1,7 @@
 //! Rows of words moved up or down by any number of positions.
 //!
-//! A position that is moved to none of the row falls away, and one that nothing is moved to is not set.
+//! A position that is moved to none of the row falls away, and one that nothing
+//! is moved to is not set.
 ghost use Rattle.std.specs.Prelude.{◌≡◌, ◌<◌, ◌≤◌, ◌+◌, ◌-◌, ◌*◌, ◌/◌, ◌^◌, ◌&&◌};
 ghost use Rattle.std.specs.Prelude.{true, nat_le, length, min, if◌then◌else◌};
 ghost use Rattle.std.specs.Prelude as prelude;
@@ -15,8 +16,8 @@ use bitlanes::{Block, Steps, lanes, shifts};
 
 /// Joins each position of `words` by `O` with the position of `other` that stands `from` above it.
 ///
-/// With `m` words that are joined and `t` words behind them it takes exactly `m / 4` steps, rounded up, and `t / 4`,
-/// rounded up, more where the rest is cleared.
+/// With `m` words that are joined and `t` words behind them it takes exactly `m / 4` steps, rounded
+/// up, and `t / 4`, rounded up, more where the rest is cleared.
 ///
 /// ```
 /// let mut words = [1, 0];
@@ -36,10 +37,11 @@ pub fn join_down<O: WordOp>(words: &mut [Block], other: &[Block], from: usize, s
     }
 }
 
-/// Joins each position of `words` by `O` with the position of `other` that stands `by` below it, if there is one.
+/// Joins each position of `words` by `O` with the position of `other` that stands `by`
+/// below it, if there is one.
 ///
-/// It takes exactly `m / 4` steps, rounded up, `m` being the number of words that have 64 positions below them, and one more
-/// for the word that has fewer.
+/// It takes exactly `m / 4` steps, rounded up, `m` being the number of words that have 64 positions
+/// below them, and one more for the word that has fewer.
 ///
 /// ```
 /// let mut words = [1, 0, 0];
@@ -70,8 +72,8 @@ pub fn join_up<O: WordOp>(words: &mut [Block], other: &[Block], by: usize, steps
 
 /// Moves each position of the row down by `by`. Those below `by` fall away.
 ///
-/// With `m` words that are written and `t` words behind them it takes exactly `m / 4` steps, rounded up, and `t / 4`,
-/// rounded up, more.
+/// With `m` words that are written and `t` words behind them it takes exactly `m / 4` steps,
+/// rounded up, and `t / 4`, rounded up, more.
 ///
 /// ```
 /// let mut words = [7, 1];
@@ -89,10 +91,12 @@ pub fn down(words: &mut [Block], by: usize, steps: &mut Steps)
     lanes::zero(&mut words[kept..], steps);
 }
 
-/// Joins each position of the row by `O` with the position that stood `by` below it, if there was one. `by` may not be 0.
+/// Joins each position of the row by `O` with the position that stood `by` below it, if there was
+/// one. `by` may not be 0.
 ///
-/// With `m` words that have 64 positions below them it takes exactly `m / 4` steps, rounded up, and one more for the word
-/// that has fewer; and where the words before them are cleared, one for each lane of these.
+/// With `m` words that have 64 positions below them it takes exactly `m / 4` steps, rounded up,
+/// and one more for the word that has fewer; and where the words before them are cleared, one
+/// for each lane of these.
 ///
 /// ```
 /// let mut words = [7, 1];

@@ -1,8 +1,9 @@
 //! Single positions. No call looks at more than one word, and none takes memory.
 //!
-//! A position that is changed has to be below the length: test it by `len()`. Upstream panics past it. The calls whose
-//! names end in `_unchecked` ask the same of each position that they are given; they are `unsafe` upstream, where nobody
-//! tests it. Here the prover asks it of the caller, so that they are safe, and do what the calls without the ending do.
+//! A position that is changed has to be below the length: test it by `len()`. Upstream panics past
+//! it. The calls whose names end in `_unchecked` ask the same of each position that they are given;
+//! they are `unsafe` upstream, where nobody tests it. Here the prover asks it of the caller, so
+//! that they are safe, and do what the calls without the ending do.
 
 ghost use Rattle.std.specs.Prelude.{◌≡◌, ◌<◌};
 ghost use Rattle.fixedbitset.specs.Bits as model;
@@ -153,7 +154,8 @@ impl FixedBitSet {
         BitsMut { words, length }.put(bit)
     }
 
-    /// Clears the position, which has to be below the length, and answers whether it was set before.
+    /// Clears the position, which has to be below the length, and answers
+    /// whether it was set before.
     ///
     /// Upstream has no such call; it is the counterpart of [`put`](Self::put).
     ///
@@ -248,8 +250,8 @@ impl FixedBitSet {
         }
     }
 
-    /// Makes position `to` what position `from` is. `to` has to be below the length; `from` need not be, and past the
-    /// length it is clear, so that `to` is cleared.
+    /// Makes position `to` what position `from` is. `to` has to be below the length; `from` need
+    /// not be, and past the length it is clear, so that `to` is cleared.
     ///
     /// ```
     /// let mut set = FixedBitSet::with_capacity(alloc, 70)?;

@@ -1,5 +1,6 @@
-//! Changes, ranges, and counts and tests of two sets, with a counter of steps: each is the call of that name of the set, with
-//! one argument more. The other questions are counted by a view of the set ([`as_bits`](crate::FixedBitSet::as_bits)).
+//! Changes, ranges, and counts and tests of two sets, with a counter of steps: each is the call of
+//! that name of the set, with one argument more. The other questions are counted by a view of the
+//! set ([`as_bits`](crate::FixedBitSet::as_bits)).
 
 mod changes;
 mod copies;

@@ -15,13 +15,14 @@ use serde_json::Value;
 use std::alloc::{AllocError, Global};
 
 impl FixedBitSet {
-    /// The set as a JSON value: an object with the keys `length`, which is `len()`, and `data`, a list of bytes.
+    /// The set as a JSON value: an object with the keys `length`, which is `len()`, and
+    /// `data`, a list of bytes.
     ///
-    /// Position `p` is bit `p % 8` of byte `p / 8`. There are eight bytes for each word of `as_slice`, so those at the end
-    /// may be 0. `from_value` makes the same set of it.
+    /// Position `p` is bit `p % 8` of byte `p / 8`. There are eight bytes for each word of
+    /// `as_slice`, so those at the end may be 0. `from_value` makes the same set of it.
     ///
-    /// It makes one item for each byte, and asks for their memory once. `Err` comes only where memory for them or for the
-    /// object was refused.
+    /// It makes one item for each byte, and asks for their memory once. `Err` comes only where
+    /// memory for them or for the object was refused.
     ///
     /// Upstream has the trait `Serialize` of `serde` in place of this call.
     ///
@@ -38,8 +39,8 @@ impl FixedBitSet {
 
     /// The length of the set that `from_value` makes of a value, or the first fault of the value.
     ///
-    /// So a caller can look at the length before memory is asked for. It looks at each item of the data once, takes no
-    /// memory, and never answers `JsonFault::Memory`.
+    /// So a caller can look at the length before memory is asked for. It looks at each item of the
+    /// data once, takes no memory, and never answers `JsonFault::Memory`.
     ///
     /// Upstream has no such call.
     ///
@@ -57,16 +58,16 @@ impl FixedBitSet {
         Ok(length)
     }
 
-    /// The set that a value in the form means. The form is an object with exactly the keys `length` and `data`, or a list of
-    /// these two in this order. `length` is a whole number from 0 to 2 ^ 64 - 1, and `data` a list of whole numbers from 0 to
-    /// 255.
+    /// The set that a value in the form means. The form is an object with exactly the keys `length`
+    /// and `data`, or a list of these two in this order. `length` is a whole number from 0 to 2 ^
+    /// 64 - 1, and `data` a list of whole numbers from 0 to 255.
     ///
-    /// Position `p` is set where it is below the length and bit `p % 8` of byte `p / 8` is set. So bytes that are missing
-    /// count as 0, and bits past the length are dropped.
+    /// Position `p` is set where it is below the length and bit `p % 8` of byte `p / 8` is set. So
+    /// bytes that are missing count as 0, and bits past the length are dropped.
     ///
-    /// `Err` says the first fault of the value, or that the value is in the form and memory was refused. No memory is asked
-    /// for before the value is known to be in the form. It looks at each item of the data at most twice, and writes each word
-    /// of the set once.
+    /// `Err` says the first fault of the value, or that the value is in the form and memory was
+    /// refused. No memory is asked for before the value is known to be in the form. It looks at
+    /// each item of the data at most twice, and writes each word of the set once.
     ///
     /// Upstream has the trait `Deserialize` of `serde` in place of this call.
     ///

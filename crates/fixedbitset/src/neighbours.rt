@@ -1,7 +1,8 @@
 //! The positions of a set next to a given one. Upstream has no such calls.
 //!
-//! Any number may be asked for, at or past the length too; a range has to be valid. No call takes memory. Each looks at the word
-//! of the number, and then at sixteen words at a time, or four, up to those that have the position.
+//! Any number may be asked for, at or past the length too; a range has to be valid. No call takes
+//! memory. Each looks at the word of the number, and then at sixteen words at a time, or four, up
+//! to those that have the position.
 
 ghost use Rattle.std.specs.Prelude.{◌≡◌, IsTrue};
 ghost use Rattle.fixedbitset.specs.Neighbours as neighbours;
@@ -28,7 +29,8 @@ impl FixedBitSet {
         self.as_bits().next_one(from, &mut Steps::new())
     }
 
-    /// The least position at or past `from` and below the length that is not set, or `None` where there is none.
+    /// The least position at or past `from` and below the length that is not set, or
+    /// `None` where there is none.
     ///
     /// ```
     /// let mut set = FixedBitSet::with_capacity(alloc, 200)?;
@@ -43,10 +45,11 @@ impl FixedBitSet {
         self.as_bits().next_zero(from, &mut Steps::new())
     }
 
-    /// The least number at or past `from` with `count` clear positions from there on, all below the length, or `None` where
-    /// there is none. With a `count` of 0 that is `from`, up to the length.
+    /// The least number at or past `from` with `count` clear positions from there on, all below the
+    /// length, or `None` where there is none. With a `count` of 0 that is `from`, up to the length.
     ///
-    /// It goes from one stretch of clear positions to the next, so it takes a search or two for each.
+    /// It goes from one stretch of clear positions to the next, so it takes a
+    /// search or two for each.
     ///
     /// ```
     /// let mut set = FixedBitSet::from_iter(alloc, [3, 6, 90])?;
@@ -61,12 +64,14 @@ impl FixedBitSet {
         self.as_bits().first_gap(count, from, &mut Steps::new())
     }
 
-    /// The least multiple of `align` in the range with `count` clear positions from there on, all in the range, or `None`
-    /// where there is none. With a `count` of 0 that may be the end of the range. The only multiple of 0 is 0. The range must
-    /// be valid, as that of [`count_ones`](Self::count_ones).
+    /// The least multiple of `align` in the range with `count` clear positions from there on, all
+    /// in the range, or `None` where there is none. With a `count` of 0 that may be the end of the
+    /// range. The only multiple of 0 is 0. The range must be valid, as that of
+    /// [`count_ones`](Self::count_ones).
     ///
-    /// It looks for a stretch, and where that begins at no multiple, again from the next multiple on. So it takes at most two
-    /// steps for each lane of four words of the range, and two for each multiple that may stand in it.
+    /// It looks for a stretch, and where that begins at no multiple, again from the next multiple
+    /// on. So it takes at most two steps for each lane of four words of the range, and two for each
+    /// multiple that may stand in it.
     ///
     /// ```
     /// let mut set = FixedBitSet::from_iter(alloc, [3, 6, 90])?;
@@ -106,7 +111,8 @@ impl FixedBitSet {
         self.as_bits().previous_one(below, &mut Steps::new())
     }
 
-    /// The greatest position below `below` and below the length that is not set, or `None` where there is none.
+    /// The greatest position below `below` and below the length that is not set, or
+    /// `None` where there is none.
     ///
     /// ```
     /// let mut set = FixedBitSet::with_capacity(alloc, 200)?;

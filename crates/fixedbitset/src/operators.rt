@@ -12,8 +12,8 @@ static TRUE: bool = true;
 
 static FALSE: bool = false;
 
-/// `set &= other` is `set.intersect_with(&other)`: the length stays, and the positions that both have. It takes no
-/// memory.
+/// `set &= other` is `set.intersect_with(&other)`: the length stays, and the positions that both
+/// have. It takes no memory.
 ///
 /// ```
 /// let mut set = FixedBitSet::from_iter(alloc, [1, 3, 64])?;
@@ -29,8 +29,8 @@ impl BitAndAssign for FixedBitSet {
     }
 }
 
-/// `set &= &other` is `set.intersect_with(&other)`: the length stays, and the positions that both have. It takes no
-/// memory.
+/// `set &= &other` is `set.intersect_with(&other)`: the length stays, and the positions that both
+/// have. It takes no memory.
 ///
 /// ```
 /// let mut set = FixedBitSet::from_iter(alloc, [3, 5])?;

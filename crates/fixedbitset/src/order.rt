@@ -1,6 +1,7 @@
 //! Equality, the order and the hash of sets, so that sets are keys of maps and are sorted.
 //!
-//! All of them look at the length and then at the words. Sets with the same positions and different lengths are not equal.
+//! All of them look at the length and then at the words. Sets with the same positions and different
+//! lengths are not equal.
 
 ghost use Rattle.std.specs.Prelude.{◌≡◌, ◌↔◌, IsTrue, Some, refl};
 ghost use Rattle.std.specs.Ordering.{MatchOrdering};
@@ -21,8 +22,8 @@ impl PartialEq for FixedBitSet {
 
     /// Whether the two are the same value: the same length and the same positions.
     ///
-    /// It compares the lengths, and at equal lengths the words, four at a time, up to the first that differ: at most
-    /// `len() / 64` pairs, rounded up.
+    /// It compares the lengths, and at equal lengths the words, four at a time, up to the first
+    /// that differ: at most `len() / 64` pairs, rounded up.
     ///
     /// ```
     /// let set = FixedBitSet::from_iter(alloc, [3])?;
@@ -73,12 +74,13 @@ impl Ord for FixedBitSet {
 
     ghost matches_eq = { compare_ties };
 
-    /// The order: the shorter set is less. Of two sets of one length, look at the first 64 positions, the next 64, and
-    /// so on. In the first such stretch in which they differ, the greatest position that one has and the other lacks
-    /// decides: the set that has it is greater.
+    /// The order: the shorter set is less. Of two sets of one length, look at the first 64
+    /// positions, the next 64, and so on. In the first such stretch in which they differ, the
+    /// greatest position that one has and the other lacks decides: the set that has it is greater.
     ///
-    /// It compares the lengths, and at equal lengths the words as numbers, up to the first pair that differs: at most
-    /// `len() / 64` pairs, rounded up. Upstream orders by the length and then by its words as numbers, which is the same.
+    /// It compares the lengths, and at equal lengths the words as numbers, up to the first pair
+    /// that differs: at most `len() / 64` pairs, rounded up. Upstream orders by the length and then
+    /// by its words as numbers, which is the same.
     ///
     /// ```
     /// let set = FixedBitSet::from_iter(alloc, [4, 69])?;
@@ -103,8 +105,8 @@ impl Hash for FixedBitSet {
 
     ghost respects_eq = { fed_alike };
 
-    /// Feeds the hasher the length and then the words, of which there are `len() / 64`, rounded up. So equal sets feed it
-    /// the same.
+    /// Feeds the hasher the length and then the words, of which there are `len() / 64`, rounded up.
+    /// So equal sets feed it the same.
     ///
     /// ```
     /// let mut seen = HashSet::new(alloc);

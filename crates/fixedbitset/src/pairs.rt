@@ -1,11 +1,13 @@
 //! Walks over two sets of any two lengths.
 //!
-//! `intersection` and `difference` walk over the first set and look each of its items up in the other. `union` walks over
-//! the first set, and then over the second without the first; `symmetric_difference` over both differences in turn. So
-//! the items of the two last need not ascend as a whole. No walk takes memory.
+//! `intersection` and `difference` walk over the first set and look each of its items up in the
+//! other. `union` walks over the first set, and then over the second without the first;
+//! `symmetric_difference` over both differences in turn. So the items of the two last need not
+//! ascend as a whole. No walk takes memory.
 //!
-//! The walks themselves are types of `bitwalks`. Proofs see the items left, how many items of a source were looked up
-//! (`asked`), and each source as a walk of its own, with its turns and its words not yet taken.
+//! The walks themselves are types of `bitwalks`. Proofs see the items left, how many items of a
+//! source were looked up (`asked`), and each source as a walk of its own, with its turns and
+//! its words not yet taken.
 
 ghost use Rattle.std.specs.Prelude.{◌≡◌, ◌^◌, ◌<◌, ◌++◌, length};
 ghost use Rattle.std.specs.Iterator.Runs.{EachRunFrom, ItemsAre, ItemsAreReversed};
@@ -19,8 +21,8 @@ use crate::set::FixedBitSet;
 use bitwalks::pairs::{Difference, Intersection, SymmetricDifference, Union};
 
 impl FixedBitSet {
-    /// The positions that both sets have, in ascending order. It walks over this set, and looks each of its positions up in
-    /// the other.
+    /// The positions that both sets have, in ascending order. It walks over this set, and looks
+    /// each of its positions up in the other.
     ///
     /// ```
     /// let set = FixedBitSet::from_iter(alloc, [1, 3, 64])?;
@@ -44,8 +46,8 @@ impl FixedBitSet {
         Intersection::over(words, others)
     }
 
-    /// The positions of this set that the other lacks, in ascending order. It walks over this set, and looks each of its
-    /// positions up in the other.
+    /// The positions of this set that the other lacks, in ascending order. It walks over this set,
+    /// and looks each of its positions up in the other.
     ///
     /// ```
     /// let set = FixedBitSet::from_iter(alloc, [1, 3, 200])?;
@@ -69,8 +71,8 @@ impl FixedBitSet {
         Difference::over(words, others)
     }
 
-    /// The positions of this set, and then those of the other that this one lacks, each part in ascending order. Only
-    /// positions of the other set are looked up.
+    /// The positions of this set, and then those of the other that this one lacks, each part in
+    /// ascending order. Only positions of the other set are looked up.
     ///
     /// ```
     /// let set = FixedBitSet::from_iter(alloc, [9, 200])?;
@@ -98,8 +100,8 @@ impl FixedBitSet {
         Union::over(words, others)
     }
 
-    /// The positions of this set that the other lacks, and then those of the other that this one lacks, each part in
-    /// ascending order.
+    /// The positions of this set that the other lacks, and then those of the other that this one
+    /// lacks, each part in ascending order.
     ///
     /// ```
     /// let set = FixedBitSet::from_iter(alloc, [9, 200])?;

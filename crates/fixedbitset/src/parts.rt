@@ -1,7 +1,8 @@
-//! Parts of a set, and sets put together: positions of a range as a set of their own or written over those of another set,
-//! one set behind another, and other lengths.
+//! Parts of a set, and sets put together: positions of a range as a set of their own or written
+//! over those of another set, one set behind another, and other lengths.
 //!
-//! `Err` comes only where more words are needed than there are and memory for them was refused. The set is then as it was.
+//! `Err` comes only where more words are needed than there are and memory for them was refused. The
+//! set is then as it was.
 
 ghost use Rattle.std.specs.Prelude.{◌≡◌, ◌<◌, ◌≤◌, ◌+◌, ◌-◌, ◌^◌, ◌&&◌, nat_lt};
 ghost use Rattle.std.specs.Prelude.{take, vec_len, IsTrue, IsOk, IfOk, OnOk, OnErr};
@@ -23,7 +24,8 @@ use std::alloc::{AllocError, Global};
 impl FixedBitSet {
     /// A set of the length of the range: its positions that this set has, less its start.
     ///
-    /// The range has to be valid (`range_is_valid`). It writes each word of the new set twice. Upstream has no such call.
+    /// The range has to be valid (`range_is_valid`). It writes each word of the new set twice.
+    /// Upstream has no such call.
     ///
     /// ```
     /// let set = FixedBitSet::from_iter(alloc, [1, 63, 65, 69])?;
@@ -43,10 +45,12 @@ impl FixedBitSet {
         counted::slice(self, alloc, range, &mut Steps::new())
     }
 
-    /// Writes the positions of the range of `other` over those of this set from `at` on. All others stay.
+    /// Writes the positions of the range of `other` over those of this set from
+    /// `at` on. All others stay.
     ///
-    /// The range has to be valid in `other` (`range_is_valid`), and to end within this set where it begins at `at`. It
-    /// writes each word that has one of these positions once, and takes no memory. Upstream has no such call.
+    /// The range has to be valid in `other` (`range_is_valid`), and to end within this set where it
+    /// begins at `at`. It writes each word that has one of these positions once, and takes no
+    /// memory. Upstream has no such call.
     ///
     /// ```
     /// let mut set = FixedBitSet::from_iter(alloc, [0, 2, 65, 69])?;
@@ -66,9 +70,11 @@ impl FixedBitSet {
         counted::copy_range(self, other, range, at, &mut Steps::new());
     }
 
-    /// Puts the positions of `other` behind those of this set: the lengths are added, which has to give a length.
+    /// Puts the positions of `other` behind those of this set: the lengths are added,
+    /// which has to give a length.
     ///
-    /// A call that needs no more words is never refused. It reads each word of `other` once. Upstream has no such call.
+    /// A call that needs no more words is never refused. It reads each word of `other` once.
+    /// Upstream has no such call.
     ///
     /// ```
     /// let mut set = FixedBitSet::with_capacity(alloc, 4)?;
@@ -87,7 +93,8 @@ impl FixedBitSet {
         counted::append(self, other, &mut Steps::new())
     }
 
-    /// Makes the length the lesser of itself and `bits`. The positions that are not below it fall away.
+    /// Makes the length the lesser of itself and `bits`. The positions that are
+    /// not below it fall away.
     ///
     /// It writes one word, and those up to a whole lane. Memory is kept. Upstream has no such call.
     ///
@@ -107,8 +114,8 @@ impl FixedBitSet {
         }
     }
 
-    /// Makes the length `bits`. Where it was greater, the positions that are not below `bits` fall away; where it was
-    /// less, each new position is set or not, as `enabled` says.
+    /// Makes the length `bits`. Where it was greater, the positions that are not below `bits` fall
+    /// away; where it was less, each new position is set or not, as `enabled` says.
     ///
     /// A call that needs no more words is never refused. Upstream has no such call.
     ///
@@ -128,8 +135,8 @@ impl FixedBitSet {
         counted::resize(self, bits, enabled, &mut Steps::new())
     }
 
-    /// A set of `bits` positions, set as bytes say: position `p` is set where bit `p % 8` of byte `p / 8` is. Bytes that are
-    /// missing count as 0, and bits past the length are dropped.
+    /// A set of `bits` positions, set as bytes say: position `p` is set where bit `p % 8` of byte
+    /// `p / 8` is. Bytes that are missing count as 0, and bits past the length are dropped.
     ///
     /// It looks at each byte at most once, and writes each word once. Upstream has no such call.
     ///
@@ -149,8 +156,9 @@ impl FixedBitSet {
         })
     }
 
-    /// The bytes of the set, as [`to_value`](Self::to_value) writes them: position `p` is bit `p % 8` of byte `p / 8`. There
-    /// are eight for each word of `as_slice`, so those at the end may be 0.
+    /// The bytes of the set, as [`to_value`](Self::to_value) writes them: position `p`
+    /// is bit `p % 8` of byte `p / 8`. There are eight for each word of `as_slice`, so
+    /// those at the end may be 0.
     ///
     /// It writes each byte once. Upstream has no such call.
     ///

@@ -1,6 +1,8 @@
-//! Questions about one whole set: whether it has no position or all, and the first and the last that it has.
+//! Questions about one whole set: whether it has no position or all, and the first
+//! and the last that it has.
 //!
-//! No call takes memory. Each stops at the first word that decides, from the end at which it begins.
+//! No call takes memory. Each stops at the first word that decides, from the
+//! end at which it begins.
 
 ghost use Rattle.std.specs.Prelude.{◌≡◌, ◌==◌};
 ghost use Rattle.fixedbitset.specs.Bits as model;
@@ -9,7 +11,8 @@ use crate::set::FixedBitSet;
 use bitlanes::Steps;
 
 impl FixedBitSet {
-    /// Whether the length is 0. A set of another length is not empty, even where no position is set: see `is_clear`.
+    /// Whether the length is 0. A set of another length is not empty, even where no position
+    /// is set: see `is_clear`.
     ///
     /// ```
     /// assert!(rt; FixedBitSet::new(alloc).is_empty());
@@ -23,8 +26,8 @@ impl FixedBitSet {
         self.len() == 0
     }
 
-    /// Whether no position is set; so `true` at length 0. It looks at sixteen words at a time and then at four, up to those
-    /// that have one.
+    /// Whether no position is set; so `true` at length 0. It looks at sixteen words at a time and
+    /// then at four, up to those that have one.
     ///
     /// ```
     /// let mut set = FixedBitSet::with_capacity(alloc, 70)?;
@@ -39,8 +42,8 @@ impl FixedBitSet {
         self.as_bits().is_clear(&mut Steps::new())
     }
 
-    /// The first position that is set, or `None` where none is. It looks at four words at a time from the first on, up to
-    /// the one that has this position.
+    /// The first position that is set, or `None` where none is. It looks at four words at a time
+    /// from the first on, up to the one that has this position.
     ///
     /// ```
     /// let mut set = FixedBitSet::with_capacity(alloc, 200)?;
@@ -55,8 +58,8 @@ impl FixedBitSet {
         self.as_bits().minimum(&mut Steps::new())
     }
 
-    /// The last position that is set, or `None` where none is. It looks at four words at a time from the last on, down to
-    /// the one that has this position.
+    /// The last position that is set, or `None` where none is. It looks at four words at a time
+    /// from the last on, down to the one that has this position.
     ///
     /// ```
     /// let mut set = FixedBitSet::with_capacity(alloc, 200)?;

@@ -1,13 +1,15 @@
 //! Ranges of positions.
 //!
-//! A range is any `IndexRange<usize>`: `..`, `start..`, `..end`, `start..end`, `start..=last`, `..=last`, or a type of the
-//! caller's own. It means the positions from its start up to and without its end; an absent start stands for 0, and an
-//! absent end for `len()`. The end of an inclusive range is the position behind its last one.
+//! A range is any `IndexRange<usize>`: `..`, `start..`, `..end`, `start..end`, `start..=last`,
+//! `..=last`, or a type of the caller's own. It means the positions from its start up to and
+//! without its end; an absent start stands for 0, and an absent end for `len()`. The end of an
+//! inclusive range is the position behind its last one.
 //!
-//! For each call but `range_is_valid` the range must be valid: its start not past its end, and its end not past
-//! `len()`; `range_is_valid` is the test. Upstream panics on others. No call takes memory, and each looks once at
-//! each word that holds a position of the range, at most `(end - start) / 64 + 2` words; the two tests stop at the
-//! first word that decides. Module `counted` has the same calls with a counter.
+//! For each call but `range_is_valid` the range must be valid: its start not past its end, and its
+//! end not past `len()`; `range_is_valid` is the test. Upstream panics on others. No call takes
+//! memory, and each looks once at each word that holds a position of the range, at most `(end -
+//! start) / 64 + 2` words; the two tests stop at the first word that decides. Module `counted` has
+//! the same calls with a counter.
 
 ghost use Rattle.std.specs.Prelude.{◌≡◌, IsTrue};
 ghost use Rattle.fixedbitset.specs.Ranges as ranges;
@@ -18,7 +20,8 @@ use crate::set::FixedBitSet;
 use bitlanes::{IndexRange, Steps};
 
 impl FixedBitSet {
-    /// Whether the range is valid for this set: its start is not past its end, and its end not past `len()`.
+    /// Whether the range is valid for this set: its start is not past its end, and
+    /// its end not past `len()`.
     ///
     /// Every range may be asked, and no word is looked at.
     ///
@@ -72,8 +75,8 @@ impl FixedBitSet {
         counted::count_zeroes(self, range, &mut Steps::new())
     }
 
-    /// Sets the positions of the range, or clears them where `enabled` is false; the others stay. The range must be
-    /// valid.
+    /// Sets the positions of the range, or clears them where `enabled` is false; the others stay.
+    /// The range must be valid.
     ///
     /// ```
     /// let mut set = FixedBitSet::with_capacity(alloc, 70)?;
@@ -112,8 +115,8 @@ impl FixedBitSet {
 
     /// Clears the positions of the range; the others stay. The range must be valid.
     ///
-    /// `remove_range(..)` clears the whole set. The documentation of upstream says that it makes all ones; its code
-    /// clears, as this call does.
+    /// `remove_range(..)` clears the whole set. The documentation of upstream says that it makes
+    /// all ones; its code clears, as this call does.
     ///
     /// ```
     /// let mut set = FixedBitSet::with_capacity(alloc, 70)?;
@@ -129,8 +132,8 @@ impl FixedBitSet {
         counted::remove_range(self, range, &mut Steps::new());
     }
 
-    /// Sets each position of the range that is clear, and clears each that is set; the others stay. The range must be
-    /// valid.
+    /// Sets each position of the range that is clear, and clears each that is set; the others stay.
+    /// The range must be valid.
     ///
     /// ```
     /// let mut set = FixedBitSet::with_capacity(alloc, 70)?;
@@ -146,7 +149,8 @@ impl FixedBitSet {
         counted::toggle_range(self, range, &mut Steps::new());
     }
 
-    /// Whether each position of the range is set; of an empty range `true`. The range must be valid.
+    /// Whether each position of the range is set; of an empty range `true`.
+    /// The range must be valid.
     ///
     /// ```
     /// let mut set = FixedBitSet::with_capacity(alloc, 200)?;
@@ -163,7 +167,8 @@ impl FixedBitSet {
         counted::contains_all_in_range(self, range, &mut Steps::new())
     }
 
-    /// Whether some position of the range is set; of an empty range `false`. The range must be valid.
+    /// Whether some position of the range is set; of an empty range `false`.
+    /// The range must be valid.
     ///
     /// ```
     /// let mut set = FixedBitSet::with_capacity(alloc, 200)?;

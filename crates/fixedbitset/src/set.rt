@@ -15,13 +15,15 @@ use bitwords::positions;
 use std::alloc::{AllocError, Global};
 use std::marker::Model;
 
-// From how many words on a set is copied by one call of `memcpy`. A shorter one is copied by a loop, with no call.
+// From how many words on a set is copied by one call of `memcpy`. A shorter one is copied
+// by a loop, with no call.
 const LONG: usize = 64;
 
 /// A set of bits: a length in bits, and a set of positions below it.
 ///
-/// It keeps the words that the length needs, and up to three more, so that they make whole lanes of four. Bits past the
-/// length are always zero. Two sets are the same value exactly if their lengths and their positions are.
+/// It keeps the words that the length needs, and up to three more, so that they make whole lanes of
+/// four. Bits past the length are always zero. Two sets are the same value exactly if their lengths
+/// and their positions are.
 #[derive(Debug, Drop)]
 pub struct FixedBitSet {
     pub(crate) words: Vec<Block>,
@@ -62,8 +64,8 @@ impl FixedBitSet {
         }
     }
 
-    /// A set of `bits` positions, none of them set. It writes `bits / 64` words, rounded up, and those up to a whole lane
-    /// of four.
+    /// A set of `bits` positions, none of them set. It writes `bits / 64` words, rounded up, and
+    /// those up to a whole lane of four.
     ///
     /// `Err` comes only where memory for the words was refused; upstream aborts there.
     ///
@@ -95,13 +97,14 @@ impl FixedBitSet {
         Self::new(alloc)
     }
 
-    /// A set of `bits` positions, whose words are the first items of `blocks`. Words that no item comes for are 0.
+    /// A set of `bits` positions, whose words are the first items of `blocks`. Words that
+    /// no item comes for are 0.
     ///
-    /// It takes no more items than there are words, which are `bits / 64`, rounded up. So `blocks` need not end. Bits past
-    /// the length are cleared; upstream keeps those of its last word.
+    /// It takes no more items than there are words, which are `bits / 64`, rounded up. So `blocks`
+    /// need not end. Bits past the length are cleared; upstream keeps those of its last word.
     ///
-    /// `Err` comes only where memory for the words was refused; no item is taken then. It writes each word as 0, then the
-    /// items, and then the last word.
+    /// `Err` comes only where memory for the words was refused; no item is taken then. It writes
+    /// each word as 0, then the items, and then the last word.
     ///
     /// ```
     /// let set = FixedBitSet::with_capacity_and_blocks(alloc, 67, [1, 255])?;
@@ -128,11 +131,12 @@ impl FixedBitSet {
         })
     }
 
-    /// Makes the length the greater of itself and `bits`. The new positions are not set; a set never shrinks.
+    /// Makes the length the greater of itself and `bits`. The new positions are not
+    /// set; a set never shrinks.
     ///
-    /// `Err` comes only where more words are needed than the old length has and memory for them was refused. The set
-    /// is then as it was. A call that needs no more words is never refused. It writes the new words alone, and where
-    /// memory has to move also the old ones.
+    /// `Err` comes only where more words are needed than the old length has and memory for them was
+    /// refused. The set is then as it was. A call that needs no more words is never refused. It
+    /// writes the new words alone, and where memory has to move also the old ones.
     ///
     /// ```
     /// let mut set = FixedBitSet::with_capacity_and_blocks(alloc, 2, [3])?;
@@ -155,10 +159,12 @@ impl FixedBitSet {
         Ok(())
     }
 
-    /// Copies `source` into this set, which takes its length and its positions. It uses the words that are there.
+    /// Copies `source` into this set, which takes its length and its positions. It uses
+    /// the words that are there.
     ///
-    /// `Err` comes only where `source` has more words than the old set has and memory for them was refused. The set is
-    /// then as it was. It writes the words that are added, and then as many as `source` has.
+    /// `Err` comes only where `source` has more words than the old set has and memory for
+    /// them was refused. The set is then as it was. It writes the words that are added, and
+    /// then as many as `source` has.
     ///
     /// Upstream aborts where memory is refused.
     ///
@@ -218,8 +224,8 @@ impl FixedBitSet {
 
     /// Makes word `index` the given one. Bits past the length are dropped. It writes one word.
     ///
-    /// The word has to be one of those that `as_slice` has. Upstream has no such call: there a caller writes into
-    /// `as_mut_slice`, and bits past the length stay.
+    /// The word has to be one of those that `as_slice` has. Upstream has no such call: there a
+    /// caller writes into `as_mut_slice`, and bits past the length stay.
     ///
     /// ```
     /// let mut set = FixedBitSet::with_capacity(alloc, 70)?;
@@ -268,7 +274,8 @@ impl FixedBitSet {
         self.length
     }
 
-    /// The words, `len() / 64` rounded up: position `p` is bit `p % 64` of word `p / 64`, and bits past the length are 0.
+    /// The words, `len() / 64` rounded up: position `p` is bit `p % 64` of word `p / 64`, and bits
+    /// past the length are 0.
     ///
     /// It is lent from the set and takes no memory.
     ///
@@ -356,7 +363,8 @@ fn lengthen(words: &mut Vec<Block>, count: usize) -> Result<(), AllocError>
     add_words(words, count)
 }
 
-// The same where words are added. It is never inlined, so that `grow` is short where nothing has to grow.
+// The same where words are added. It is never inlined, so that `grow` is short
+// where nothing has to grow.
 #[inline(never)]
 fn add_words(words: &mut Vec<Block>, count: usize) -> Result<(), AllocError>
     requires { vec_len words.old ≤ count }

@@ -1,4 +1,5 @@
-//! Shifts: each position moved up or down by a number. The length stays, and what has no place below it falls away.
+//! Shifts: each position moved up or down by a number. The length stays, and what has no
+//! place below it falls away.
 
 ghost use Rattle.std.specs.Prelude.{◌≡◌};
 ghost use Rattle.fixedbitset.specs.Parts as parts;
@@ -8,7 +9,8 @@ use crate::set::FixedBitSet;
 use bitlanes::Steps;
 
 impl FixedBitSet {
-    /// Moves each position up by `by`, any number. Those that are not below the length then fall away.
+    /// Moves each position up by `by`, any number. Those that are not below the
+    /// length then fall away.
     ///
     /// It reads and writes each word at most once, and takes no memory. Upstream has no such call.
     ///
@@ -41,10 +43,11 @@ impl FixedBitSet {
         counted::shift_down(self, by, &mut Steps::new());
     }
 
-    /// Takes in each position of `other` moved up by `by`, any number, as far as it is below the length then.
+    /// Takes in each position of `other` moved up by `by`, any number, as far as it is
+    /// below the length then.
     ///
-    /// The length stays. It reads each word of `other` at most once, and takes no memory and makes no copy. Upstream has
-    /// no such call.
+    /// The length stays. It reads each word of `other` at most once, and takes no memory and makes
+    /// no copy. Upstream has no such call.
     ///
     /// ```
     /// let mut set = FixedBitSet::from_iter(alloc, [0, 69])?;
@@ -58,10 +61,12 @@ impl FixedBitSet {
         counted::union_with_shifted(self, other, by, &mut Steps::new());
     }
 
-    /// Takes in each position of this set moved up by `by`, any number, as far as it is below the length then.
+    /// Takes in each position of this set moved up by `by`, any number, as far as it is
+    /// below the length then.
     ///
-    /// So where the set has the sums that some numbers make, it then has those that these numbers and `by` make. It
-    /// reads and writes each word at most once, and takes no memory and makes no copy. Upstream has no such call.
+    /// So where the set has the sums that some numbers make, it then has those that these numbers
+    /// and `by` make. It reads and writes each word at most once, and takes no memory and makes no
+    /// copy. Upstream has no such call.
     ///
     /// ```
     /// let mut set = FixedBitSet::with_capacity(alloc, 100)?;

@@ -1,4 +1,5 @@
-//! The text of a set: one character for each position, from position 0 on, `1` where it is set and `0` where not.
+//! The text of a set: one character for each position, from position 0 on, `1` where it is
+//! set and `0` where not.
 
 ghost use Rattle.std.specs.Prelude.{◌≡◌, ℕ, ◌+◌, ◌<◌, Some, get_or};
 ghost use Rattle.std.specs.Int.{bit_at};
@@ -27,11 +28,13 @@ impl Display for FixedBitSet {
 }
 
 impl Binary for FixedBitSet {
-    /// Writes `len()` characters, that of position 0 first: `1` where the position is set, and `0` where not. So a set of
-    /// length 0 is the empty text. `{:#}` puts `0b` in front; width and fill change nothing.
+    /// Writes `len()` characters, that of position 0 first: `1` where the position is set, and
+    /// `0` where not. So a set of length 0 is the empty text. `{:#}` puts `0b` in front; width
+    /// and fill change nothing.
     ///
-    /// It gives the writer the characters of one word at a time: `len() / 64` calls, rounded up, and one more for `0b`.
-    /// `Err` comes only from the writer, which then has what was written before.
+    /// It gives the writer the characters of one word at a time: `len() / 64` calls,
+    /// rounded up, and one more for `0b`. `Err` comes only from the writer, which then has
+    /// what was written before.
     ///
     /// ```
     /// let set = FixedBitSet::with_capacity_and_blocks(alloc, 4, [2])?;

@@ -1,8 +1,8 @@
 //! Two whole sets, of any two lengths.
 //!
-//! A lane is four words, and a set of `n` positions has `n / 256` lanes, rounded up. The lanes that both sets have are
-//! joined; the rest of the longer set is copied, cleared or left, as the operation says. Module `counted` has the same
-//! calls with a counter.
+//! A lane is four words, and a set of `n` positions has `n / 256` lanes, rounded up. The lanes that
+//! both sets have are joined; the rest of the longer set is copied, cleared or left, as the
+//! operation says. Module `counted` has the same calls with a counter.
 
 ghost use Rattle.std.specs.Prelude.{◌≡◌, ◌≤◌, IsOk, IfOk, OnOk, OnErr, not};
 ghost use Rattle.fixedbitset.specs.Bits as model;
@@ -16,9 +16,10 @@ use std::alloc::AllocError;
 impl FixedBitSet {
     /// Leaves the greater of the two lengths, and the positions of either set.
     ///
-    /// `Err` comes only where `other` has more words than this set and memory for them was refused; this set is then as
-    /// it was. Where `other` needs no more words, the call takes no memory and is never refused. It takes one step for
-    /// each lane of `other`; new words are written once before.
+    /// `Err` comes only where `other` has more words than this set and memory for them was
+    /// refused; this set is then as it was. Where `other` needs no more words, the call takes
+    /// no memory and is never refused. It takes one step for each lane of `other`; new words
+    /// are written once before.
     ///
     /// ```
     /// let mut set = FixedBitSet::from_iter(alloc, [1, 3])?;
@@ -58,7 +59,8 @@ impl FixedBitSet {
 
     /// Leaves this set's length, and the positions of both sets. It takes no memory.
     ///
-    /// It takes one step for each lane that both have, and one for each that only this set has, to clear it.
+    /// It takes one step for each lane that both have, and one for each that only
+    /// this set has, to clear it.
     ///
     /// ```
     /// let mut set = FixedBitSet::from_iter(alloc, [1, 3, 64])?;
@@ -89,8 +91,9 @@ impl FixedBitSet {
         counted::difference_with(self, other, &mut Steps::new());
     }
 
-    /// [`union_with`](Self::union_with), with the answer whether a position came in: whether `other` has one that this set
-    /// lacked. The length may become greater even where none came in; two calls of [`len`](Self::len) tell that.
+    /// [`union_with`](Self::union_with), with the answer whether a position came in: whether
+    /// `other` has one that this set lacked. The length may become greater even where none came in;
+    /// two calls of [`len`](Self::len) tell that.
     ///
     /// ```
     /// let mut set = FixedBitSet::from_iter(alloc, [1, 3])?;
@@ -109,8 +112,8 @@ impl FixedBitSet {
         counted::union_with_change(self, other, &mut Steps::new())
     }
 
-    /// [`intersect_with`](Self::intersect_with), with the answer whether a position went: whether `other` lacked one of
-    /// this set. It takes no memory.
+    /// [`intersect_with`](Self::intersect_with), with the answer whether a position went: whether
+    /// `other` lacked one of this set. It takes no memory.
     ///
     /// ```
     /// let mut set = FixedBitSet::from_iter(alloc, [1, 3, 64])?;
@@ -125,8 +128,8 @@ impl FixedBitSet {
         counted::intersect_with_change(self, other, &mut Steps::new())
     }
 
-    /// [`difference_with`](Self::difference_with), with the answer whether a position went: whether both sets had one. It
-    /// takes no memory.
+    /// [`difference_with`](Self::difference_with), with the answer whether a position went: whether
+    /// both sets had one. It takes no memory.
     ///
     /// ```
     /// let mut set = FixedBitSet::from_iter(alloc, [1, 3, 64])?;
@@ -141,12 +144,13 @@ impl FixedBitSet {
         counted::difference_with_change(self, other, &mut Steps::new())
     }
 
-    /// Takes in the positions of `gens` that `kills` lacks, and answers whether one came in: whether this set lacked one of
-    /// them. The length is then the greater one of this set and of `gens`.
+    /// Takes in the positions of `gens` that `kills` lacks, and answers whether one came
+    /// in: whether this set lacked one of them. The length is then the greater one of
+    /// this set and of `gens`.
     ///
-    /// Memory and errors are those of [`union_with`](Self::union_with) with `gens`; the length of `kills` does not matter.
-    /// It takes one step for each lane of `gens`: it reads each word once, and makes no set between. Upstream has no such
-    /// call.
+    /// Memory and errors are those of [`union_with`](Self::union_with) with `gens`; the length of
+    /// `kills` does not matter. It takes one step for each lane of `gens`: it reads each word once,
+    /// and makes no set between. Upstream has no such call.
     ///
     /// ```
     /// let mut set = FixedBitSet::from_iter(alloc, [1, 3])?;
@@ -167,7 +171,8 @@ impl FixedBitSet {
         counted::union_with_difference(self, gens, kills, &mut Steps::new())
     }
 
-    /// The same as [`union_with`](Self::union_with). Upstream's operator `|=` is this call, as it may be refused memory.
+    /// The same as [`union_with`](Self::union_with). Upstream's operator `|=` is this call, as it
+    /// may be refused memory.
     ///
     /// ```
     /// let mut set = FixedBitSet::from_iter(alloc, [1, 3])?;
@@ -183,8 +188,8 @@ impl FixedBitSet {
         self.union_with(other)
     }
 
-    /// The same as [`symmetric_difference_with`](Self::symmetric_difference_with). Upstream's operator `^=` is this
-    /// call, as it may be refused memory.
+    /// The same as [`symmetric_difference_with`](Self::symmetric_difference_with). Upstream's
+    /// operator `^=` is this call, as it may be refused memory.
     ///
     /// ```
     /// let mut set = FixedBitSet::from_iter(alloc, [1, 3])?;
@@ -202,8 +207,9 @@ impl FixedBitSet {
 
     /// A new set of the smaller of the two lengths, with the positions of both sets.
     ///
-    /// `Err` comes only where memory for its words was refused. It writes the shorter set's words, joined with the
-    /// other's: a long set in one pass, a short one in two. Upstream's operator `&` is this call.
+    /// `Err` comes only where memory for its words was refused. It writes the shorter set's
+    /// words, joined with the other's: a long set in one pass, a short one in two. Upstream's
+    /// operator `&` is this call.
     ///
     /// ```
     /// let set = FixedBitSet::from_iter(alloc, [1, 3, 64])?;
@@ -220,8 +226,9 @@ impl FixedBitSet {
 
     /// A new set of the greater of the two lengths, with the positions of either set.
     ///
-    /// `Err` comes only where memory for its words was refused. It writes the longer set's words, joined with the
-    /// other's: a long set in one pass, a short one in two. Upstream's operator `|` is this call.
+    /// `Err` comes only where memory for its words was refused. It writes the longer set's
+    /// words, joined with the other's: a long set in one pass, a short one in two. Upstream's
+    /// operator `|` is this call.
     ///
     /// ```
     /// let set = FixedBitSet::from_iter(alloc, [1, 3, 64])?;
@@ -238,8 +245,9 @@ impl FixedBitSet {
 
     /// A new set of the greater of the two lengths, with the positions of exactly one of the sets.
     ///
-    /// `Err` comes only where memory for its words was refused. It writes the longer set's words, joined with the
-    /// other's: a long set in one pass, a short one in two. Upstream's operator `^` is this call.
+    /// `Err` comes only where memory for its words was refused. It writes the longer set's
+    /// words, joined with the other's: a long set in one pass, a short one in two. Upstream's
+    /// operator `^` is this call.
     ///
     /// ```
     /// let set = FixedBitSet::from_iter(alloc, [1, 3, 64])?;
@@ -286,8 +294,8 @@ impl FixedBitSet {
         counted::intersection_count(self, other, &mut Steps::new())
     }
 
-    /// How many positions of this set `other` lacks. Upstream leaves out those in the words of this set past the last
-    /// word of `other`, against its documentation.
+    /// How many positions of this set `other` lacks. Upstream leaves out those in the words of this
+    /// set past the last word of `other`, against its documentation.
     ///
     /// It takes one step for each lane of this set.
     ///
@@ -322,7 +330,8 @@ impl FixedBitSet {
 
     /// Whether no position is in both sets. The lengths are not compared.
     ///
-    /// It stops at the first lane with a position of both, and takes at most one step for each lane that both have.
+    /// It stops at the first lane with a position of both, and takes at most one step for
+    /// each lane that both have.
     ///
     /// ```
     /// let set = FixedBitSet::from_iter(alloc, [1, 64])?;
@@ -338,8 +347,8 @@ impl FixedBitSet {
 
     /// Whether `other` has each position of this set. The lengths are not compared.
     ///
-    /// It stops at the first lane with a position that `other` lacks, and takes at most one step for each lane of this
-    /// set.
+    /// It stops at the first lane with a position that `other` lacks, and takes at most one step
+    /// for each lane of this set.
     ///
     /// ```
     /// let mut set = FixedBitSet::with_capacity(alloc, 200)?;
@@ -368,10 +377,12 @@ impl FixedBitSet {
         other.is_subset(self)
     }
 
-    /// The least position of `other` that this set lacks, or `None` where it lacks none: where `other` is a subset of it.
-    /// The lengths are not compared, and it takes no memory. Upstream has no such call.
+    /// The least position of `other` that this set lacks, or `None` where it lacks none: where
+    /// `other` is a subset of it. The lengths are not compared, and it takes no memory.
+    /// Upstream has no such call.
     ///
-    /// It stops at the first lane with such a position, and takes at most one step for each lane of `other`.
+    /// It stops at the first lane with such a position, and takes at most one step
+    /// for each lane of `other`.
     ///
     /// ```
     /// let set = FixedBitSet::from_iter(alloc, [1, 3])?;

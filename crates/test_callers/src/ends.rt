@@ -57,8 +57,8 @@ pub fn called(
     Ok(list)
 }
 
-/// Calls a walk from these ends in turn, and lets the answers go. The calls make one turn each, and one more for each
-/// word that they take; no word is taken twice.
+/// Calls a walk from these ends in turn, and lets the answers go. The calls make one turn each, and
+/// one more for each word that they take; no word is taken twice.
 #[tactic(auto, using(crate::proofs::CallsLemmas::calls, crate::proofs::CallsLemmas::counts))]
 pub fn call_all(walk: &mut Ones<'_>, ends: &[bool])
     ensures items { walk.new.items ≡ left_after ends.now walk.old.items }

@@ -1,5 +1,6 @@
-//! Code as a user writes it, each function proved by public contracts alone: loops and chains over the positions of a set,
-//! calls on sets and their steps, and ranges, iterators, readers and writers of the caller's own. The crates in `tests/` run them.
+//! Code as a user writes it, each function proved by public contracts alone: loops and chains over
+//! the positions of a set, calls on sets and their steps, and ranges, iterators, readers and
+//! writers of the caller's own. The crates in `tests/` run them.
 #![tactic(auto)]
 
 pub mod chains;

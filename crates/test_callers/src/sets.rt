@@ -21,7 +21,8 @@ pub fn start(alloc: Global, nodes: usize) -> Result<FixedBitSet, AllocError>
     Ok(visited)
 }
 
-/// Takes the slots from `first` to `last`, both of them too, and answers whether there are such slots.
+/// Takes the slots from `first` to `last`, both of them too, and answers
+/// whether there are such slots.
 #[tactic(auto, using(bitlanes::specs::RangeFacts::behind_next))]
 pub fn take(slots: &mut FixedBitSet, first: usize, last: usize) -> bool
     ensures taken { result ≡ true → slots.new ≡ ranges.insert_range slots.old first (last + 1) }

@@ -1,5 +1,5 @@
-//! Functions whose contracts say how many steps the calls in them take. Steps are counted by proofs alone, and there is
-//! nothing to see of them when the functions run.
+//! Functions whose contracts say how many steps the calls in them take. Steps are counted by proofs
+//! alone, and there is nothing to see of them when the functions run.
 
 ghost use Rattle.std.specs.Prelude.{◌≡◌, ◌+◌, ◌<◌, ◌≤◌, ◌^◌, length, sum_by, bit_and};
 ghost use Rattle.std.specs.Int.RustNames.{count_ones};

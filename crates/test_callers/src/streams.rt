@@ -1,5 +1,6 @@
-//! A reader that gives one byte a call and a writer that takes one byte a call. One call of the two may fail. Both count
-//! their calls in one place, so that a test sees how often they were called, and in which order.
+//! A reader that gives one byte a call and a writer that takes one byte a call. One call of the
+//! two may fail. Both count their calls in one place, so that a test sees how often they were
+//! called, and in which order.
 
 ghost use Rattle.std.specs.Prelude.{IfOk};
 ghost use Rattle.bitlines.specs.Output.{IsOutput};

@@ -1,4 +1,5 @@
-//! The examples in the docs of `fixedbitset::counted::copies`. tools/docs/make_examples writes this file.
+//! The examples in the docs of `fixedbitset::counted::copies`.
+//! tools/docs/make_examples writes this file.
 
 use crate::calls::{cleared, equal, ok, set_of};
 use fixedbitset::{Steps, counted};

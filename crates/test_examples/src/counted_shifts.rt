@@ -1,4 +1,5 @@
-//! The examples in the docs of `fixedbitset::counted::shifts`. tools/docs/make_examples writes this file.
+//! The examples in the docs of `fixedbitset::counted::shifts`.
+//! tools/docs/make_examples writes this file.
 
 use crate::calls::{cleared, equal, known, known_equal, ok, set_of};
 use fixedbitset::{Steps, counted};

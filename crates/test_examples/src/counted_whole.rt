@@ -1,4 +1,5 @@
-//! The examples in the docs of `fixedbitset::counted::whole`. tools/docs/make_examples writes this file.
+//! The examples in the docs of `fixedbitset::counted::whole`.
+//! tools/docs/make_examples writes this file.
 
 use crate::calls::{equal, holds, ok, set_of};
 use fixedbitset::{Steps, counted};

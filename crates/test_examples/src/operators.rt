@@ -1,4 +1,5 @@
-//! The examples in the docs of `fixedbitset::operators`. tools/docs/make_examples writes this file.
+//! The examples in the docs of `fixedbitset::operators`.
+//! tools/docs/make_examples writes this file.
 
 use crate::calls::{equal, holds, known_equal, set_of};
 

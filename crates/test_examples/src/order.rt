@@ -1,4 +1,5 @@
-//! The examples in the docs of `fixedbitset::order`. tools/docs/make_examples writes this file.
+//! The examples in the docs of `fixedbitset::order`.
+//! tools/docs/make_examples writes this file.
 
 use crate::calls::{cleared, equal, holds, ok, set_of};
 use std::cmp::Ordering;

@@ -1,4 +1,5 @@
-//! The examples in the docs of `flow::problem`. tools/docs/make_examples writes this file.
+//! The examples in the docs of `flow::problem`.
+//! tools/docs/make_examples writes this file.
 
 use crate::calls::{cleared, known, set_of};
 

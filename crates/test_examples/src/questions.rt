@@ -1,4 +1,5 @@
-//! The examples in the docs of `fixedbitset::questions`. tools/docs/make_examples writes this file.
+//! The examples in the docs of `fixedbitset::questions`.
+//! tools/docs/make_examples writes this file.
 
 use crate::calls::{cleared, equal, holds};
 use fixedbitset::FixedBitSet;

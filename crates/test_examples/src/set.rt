@@ -1,4 +1,5 @@
-//! The examples in the docs of `fixedbitset::set`. tools/docs/make_examples writes this file.
+//! The examples in the docs of `fixedbitset::set`.
+//! tools/docs/make_examples writes this file.
 
 use crate::calls::{cleared, equal, holds, known_equal, ok, set_of};
 use fixedbitset::{Block, FixedBitSet};

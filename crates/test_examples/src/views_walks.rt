@@ -1,4 +1,5 @@
-//! The examples in the docs of `fixedbitset::views::walks`. tools/docs/make_examples writes this file.
+//! The examples in the docs of `fixedbitset::views::walks`.
+//! tools/docs/make_examples writes this file.
 
 use crate::calls::gives;
 use fixedbitset::{BitsMut, Block};

@@ -1,4 +1,5 @@
-//! The examples in the docs of `fixedbitset::views::whole`. tools/docs/make_examples writes this file.
+//! The examples in the docs of `fixedbitset::views::whole`.
+//! tools/docs/make_examples writes this file.
 
 use crate::calls::{equal, holds};
 use fixedbitset::{BitsMut, Steps};

@@ -1,4 +1,5 @@
-//! The examples in the docs of `fixedbitset::walks`. tools/docs/make_examples writes this file.
+//! The examples in the docs of `fixedbitset::walks`.
+//! tools/docs/make_examples writes this file.
 
 use crate::calls::{cleared, equal, gives, ok, set_of};
 

@@ -1,4 +1,5 @@
-//! The examples in the docs of `bitrows::counted`. tools/docs/make_examples writes this file.
+//! The examples in the docs of `bitrows::counted`.
+//! tools/docs/make_examples writes this file.
 
 use crate::calls::{gives, ok};
 use bitrows::{BitRows, counted};

@@ -1,4 +1,5 @@
-//! The examples in the docs of `bitwords::cursors`. tools/docs/make_examples writes this file.
+//! The examples in the docs of `bitwords::cursors`.
+//! tools/docs/make_examples writes this file.
 
 use crate::calls::{equal, gives, ok};
 use bitlanes::ops::{And, AndNot};

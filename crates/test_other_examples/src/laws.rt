@@ -1,4 +1,5 @@
-//! The examples in the docs of `bitlines::laws`. tools/docs/make_examples writes this file.
+//! The examples in the docs of `bitlines::laws`.
+//! tools/docs/make_examples writes this file.
 
 use crate::calls::{cleared, equal, gives, holds, ok, set_of};
 use bitcommands::commands;

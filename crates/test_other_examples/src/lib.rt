@@ -1,4 +1,5 @@
-//! The examples in the docs of the public calls of the crates below a set and of those above it, as tests.
+//! The examples in the docs of the public calls of the crates below a set and of those above it,
+//! as tests.
 //! tools/docs/make_examples writes each file of this crate.
 #![tactic(auto)]
 

@@ -1,4 +1,5 @@
-//! The examples in the docs of `bitlines::lines`. tools/docs/make_examples writes this file.
+//! The examples in the docs of `bitlines::lines`.
+//! tools/docs/make_examples writes this file.
 
 use crate::calls::{holds, ok};
 use bitcommands::commands::{Change, Command};

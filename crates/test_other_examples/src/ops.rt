@@ -1,4 +1,5 @@
-//! The examples in the docs of `bitlanes::ops`. tools/docs/make_examples writes this file.
+//! The examples in the docs of `bitlanes::ops`.
+//! tools/docs/make_examples writes this file.
 
 use crate::calls::{equal, holds};
 use bitlanes::ops::{And, AndNot, Or, Second, WordOp, Xor};

@@ -1,4 +1,5 @@
-//! The examples in the docs of `bitwalks::runs`. tools/docs/make_examples writes this file.
+//! The examples in the docs of `bitwalks::runs`.
+//! tools/docs/make_examples writes this file.
 
 use crate::calls::{equal, gives, set_of};
 use bitwalks::Runs;

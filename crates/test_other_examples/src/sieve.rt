@@ -1,4 +1,5 @@
-//! The examples in the docs of `bitwalks::sieve`. tools/docs/make_examples writes this file.
+//! The examples in the docs of `bitwalks::sieve`.
+//! tools/docs/make_examples writes this file.
 
 use crate::calls::{equal, gives, holds};
 use bitwalks::sieve::Choice;

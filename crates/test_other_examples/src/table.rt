@@ -1,4 +1,5 @@
-//! The examples in the docs of `bitrows::table`. tools/docs/make_examples writes this file.
+//! The examples in the docs of `bitrows::table`.
+//! tools/docs/make_examples writes this file.
 
 use crate::calls::{equal, gives, holds, ok};
 use bitrows::BitRows;

@@ -1,4 +1,5 @@
-//! The examples in the docs of `bitrows::views::reads`. tools/docs/make_examples writes this file.
+//! The examples in the docs of `bitrows::views::reads`.
+//! tools/docs/make_examples writes this file.
 
 use crate::calls::{gives, holds};
 use bitrows::RowsMut;

@@ -1,4 +1,5 @@
-//! The examples in the docs of `bitwalks::walks`. tools/docs/make_examples writes this file.
+//! The examples in the docs of `bitwalks::walks`.
+//! tools/docs/make_examples writes this file.
 
 use crate::calls::{equal, gives, ok, set_of};
 use bitwalks::{IntoOnes, Ones, Zeroes};

@@ -6,7 +6,8 @@ ghost use Rattle.fixedbitset.specs.TwoSets.{intersection_count};
 
 use fixedbitset::{Bits, Block, Steps};
 
-/// How many positions two rows of words share, or `None` where one of them is not the words of a set.
+/// How many positions two rows of words share, or `None` where one of them is not the words of a
+/// set.
 pub fn shared(words: &[Block], other: &[Block], length: usize) -> Option<usize>
     ensures { IfSome result (λ count. count
         ≡ intersection_count (of_words length words.now) (of_words length other.now)) }

@@ -1,5 +1,5 @@
-//! What the tests share: an assertion, the answer of a call that succeeds, and the sets that examples begin with. Each is
-//! proved here once, and then costs a test one call.
+//! What the tests share: an assertion, the answer of a call that succeeds, and the sets that
+//! examples begin with. Each is proved here once, and then costs a test one call.
 
 ghost use Rattle.std.specs.Prelude.{◌≡◌, IsTrue, Ok};
 ghost use Rattle.std.specs.Iterator.{IsFinite};
@@ -10,7 +10,8 @@ use std::alloc::Global;
 use std::fmt::Debug;
 use std::process::Abort;
 
-/// The assertion that this holds. What a test then builds on is `known`: a fact that none needs costs each proof time.
+/// The assertion that this holds. What a test then builds on is `known`: a fact that none needs
+/// costs each proof time.
 pub fn holds(rt: &impl Abort, condition: bool) {
     assert!(*rt; condition);
 }

@@ -1,4 +1,5 @@
-//! The examples in the docs of `bitranks::directory`. tools/docs/make_examples writes this file.
+//! The examples in the docs of `bitranks::directory`.
+//! tools/docs/make_examples writes this file.
 
 use crate::calls::equal;
 use bitranks::directory;

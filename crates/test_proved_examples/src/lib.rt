@@ -1,4 +1,5 @@
-//! The examples in the docs of the laws of sets, and of ranks with their laws, as tests, and the blocks of the documents.
+//! The examples in the docs of the laws of sets, and of ranks with their laws, as tests, and the
+//! blocks of the documents.
 //! tools/docs/make_examples writes each file of this crate.
 #![tactic(auto)]
 

@@ -1,4 +1,5 @@
-//! The examples in the docs of `bitlaws::pieces`. tools/docs/make_examples writes this file.
+//! The examples in the docs of `bitlaws::pieces`.
+//! tools/docs/make_examples writes this file.
 
 use crate::calls::{cleared, gives, holds, known, known_equal, ok, set_of};
 use bitlaws::pieces;

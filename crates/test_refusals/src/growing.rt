@@ -73,7 +73,8 @@ fn is_grown(set: &FixedBitSet, call: Growing) -> bool {
     }
 }
 
-/// Makes the call, and looks at what it leaves. With `forgets` a refused `grow` loses its positions.
+/// Makes the call, and looks at what it leaves. With `forgets` a refused
+/// `grow` loses its positions.
 pub fn grown(starts: &mut Starts, call: Growing, forgets: bool) -> Result<bool, Fault> {
     let mut set = starts.take_short()?;
     let made = match call {

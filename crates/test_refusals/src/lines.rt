@@ -1,5 +1,5 @@
-//! The commands that take no memory, as lines: each is read, carried out over two short sets, and its reply put behind an
-//! output that has room for it.
+//! The commands that take no memory, as lines: each is read, carried out over two short sets, and
+//! its reply put behind an output that has room for it.
 
 use crate::outcome::Fault;
 use crate::starts::{LONG, Starts};
@@ -8,8 +8,9 @@ use bitlines::lines::{LineFault, parse_line};
 use bitlines::program::{RunFault, status};
 use std::alloc::{AllocError, Global};
 
-/// At least one line of each command that is never refused memory, with its reply, and lines that are no commands. The
-/// last lines are of commands that may be refused it, where the set has words enough.
+/// At least one line of each command that is never refused memory, with its reply, and
+/// lines that are no commands. The last lines are of commands that may be refused it, where
+/// the set has words enough.
 pub const REPLIES: &[(&str, &str); 61] = &[
     ("len 0", "10"),
     ("is_empty 0", "false"),

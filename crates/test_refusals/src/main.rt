@@ -1,11 +1,14 @@
-//! The program `test_refusals`: makes each call that may be refused memory, and each call that takes none, and checks what
-//! it answers and what it leaves. The script `tools/memory/sweep` runs it with requests for memory refused.
+//! The program `test_refusals`: makes each call that may be refused memory, and each call that
+//! takes none, and checks what it answers and what it leaves. The script `tools/memory/sweep` runs it
+//! with requests for memory refused.
 //!
-//! All sets are made before the first call. It writes a line for each call that was refused memory, one for each that did
-//! wrong, and at the end how many it made. It ends with status 0 where each call did right, refused or not, and with 1
-//! otherwise; with 3 where memory for the sets was refused, and then it makes no call.
+//! All sets are made before the first call. It writes a line for each call that was refused memory,
+//! one for each that did wrong, and at the end how many it made. It ends with status 0 where each
+//! call did right, refused or not, and with 1 otherwise; with 3 where memory for the sets was
+//! refused, and then it makes no call.
 //!
-//! Where its input has a byte, a refused `grow` is made to lose the positions of its set, which is wrong.
+//! Where its input has a byte, a refused `grow` is made to lose the positions of
+//! its set, which is wrong.
 #![tactic(auto)]
 
 mod growing;

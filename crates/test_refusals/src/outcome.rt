@@ -62,8 +62,8 @@ impl Tally {
         }
     }
 
-    /// Counts a call, and writes a line where it was refused memory or did wrong. `Ok(true)` is a call that did what it
-    /// does with ample memory.
+    /// Counts a call, and writes a line where it was refused memory or did wrong. `Ok(true)` is a
+    /// call that did what it does with ample memory.
     pub fn count(
         &mut self,
         rt: &impl Print,

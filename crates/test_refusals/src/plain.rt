@@ -1,5 +1,5 @@
-//! The calls on sets that take no memory, in groups. Each answers whether all calls of the group did what they do with
-//! ample memory.
+//! The calls on sets that take no memory, in groups. Each answers whether all calls of the group
+//! did what they do with ample memory.
 
 use crate::growing::Asked;
 use crate::outcome::Fault;
@@ -457,7 +457,8 @@ fn order(short: &FixedBitSet, long: &FixedBitSet) -> bool {
         && hash_of(long) != hash_of(short)
 }
 
-// What needs no more words than the set has. An item that is no position stops `extend` without a request.
+// What needs no more words than the set has. An item that is no position stops
+// `extend` without a request.
 fn growth_in_place(starts: &mut Starts) -> Result<bool, Fault> {
     let has_grown = grows_in_place(&mut starts.take_short()?)?;
     let has_stopped = stops(&mut starts.take_short()?);

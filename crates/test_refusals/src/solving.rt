@@ -20,7 +20,8 @@ pub struct Problem {
     outs: &'static [&'static [usize]],
 }
 
-/// Facts along a loop of two nodes; a loop with no fact; an edge from a node to itself, twice; no facts; and no nodes.
+/// Facts along a loop of two nodes; a loop with no fact; an edge from a node to itself, twice;
+/// no facts; and no nodes.
 pub const PROBLEMS: &[(&str, Problem); 5] = &[
     (
         "solve of four nodes",

@@ -27,7 +27,8 @@ pub const WALKS: &[(&str, Walk); 8] = &[
     ("last_positive_bit_and_unset", Walk::LastBit),
 ];
 
-// Whether the walk gives two items, the first from the front and the last from the back, and then no more.
+// Whether the walk gives two items, the first from the front and the last from the
+// back, and then no more.
 fn gives_two<I: DoubleEndedIterator<Item = usize>>(mut walk: I, first: usize, last: usize) -> bool
     requires front { (state : I) → I.can_next state }
     requires back { (state : I) → I.can_next_back state }

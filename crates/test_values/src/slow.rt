@@ -56,7 +56,8 @@ fn has_positions(set: &FixedBitSet, flags: &[bool]) -> bool
     true
 }
 
-// Whether no position from this one on is set, as far as the word after the next goes, and the greatest not either.
+// Whether no position from this one on is set, as far as the word after the next goes, and
+// the greatest not either.
 fn has_none_past(set: &FixedBitSet, length: usize) -> bool {
     for position in length..length.saturating_add(65) {
         if set.contains(position) {

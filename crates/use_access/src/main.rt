@@ -1,14 +1,15 @@
 //! Reads two policies from standard input, and answers by their intersection who may do what.
 //!
-//! The first line is how many roles and how many rights there are, at most 10,000 of each. Four parts follow, each with an
-//! empty line before it: what the first policy grants, what the second one grants, what is denied although both grant it,
-//! and the questions. A line of the first three is a role and a right that there are. A question is a role and the rights
-//! asked for. The answer is `yes`, or `no` and the least of the rights asked for that the role lacks. It is `no` alone where
-//! there is no such role or right.
+//! The first line is how many roles and how many rights there are, at most 10,000 of each. Four
+//! parts follow, each with an empty line before it: what the first policy grants, what the second
+//! one grants, what is denied although both grant it, and the questions. A line of the first three
+//! is a role and a right that there are. A question is a role and the rights asked for. The answer
+//! is `yes`, or `no` and the least of the rights asked for that the role lacks. It is `no` alone
+//! where there is no such role or right.
 //!
-//! Each policy has exactly the grants of its lines, and exactly the lines of the third part are denied. Where some line is
-//! not as said here, nothing is answered but one sentence on standard error with the number of that line, and the status
-//! is 1.
+//! Each policy has exactly the grants of its lines, and exactly the lines of the third part are
+//! denied. Where some line is not as said here, nothing is answered but one sentence on standard
+//! error with the number of that line, and the status is 1.
 #![tactic(auto)]
 
 ghost use Rattle.std.specs.Prelude.{◌≡◌, ◌∷◌, [], MatchOption, IfOk, IfErr, OnOk, length};
@@ -49,7 +50,8 @@ fn answers(alloc: Global, text: &str) -> Result<String, Fault> {
     answers_of(alloc, &both, questions)
 }
 
-// The policy that gives exactly what these rows grant. The fault has the first row that is no grant.
+// The policy that gives exactly what these rows grant. The fault has the
+// first row that is no grant.
 fn policy_of(alloc: Global, roles: usize, rights: usize, rows: &[Row]) -> Result<Policy, Fault>
     ensures roles { IfOk result (λ policy. length policy.roles ≡ roles) }
     ensures rights { IfOk result (λ policy. policy.rights ≡ rights) }
@@ -118,7 +120,8 @@ fn sizes_of(row: &Row) -> Result<(usize, usize), Fault> {
     }
 }
 
-// The rows of both policies, of the denials and of the questions. An empty row stands before each of these parts.
+// The rows of both policies, of the denials and of the questions. An empty row stands
+// before each of these parts.
 fn parts_of(rows: &[Row], line: usize) -> Result<(&[Row], &[Row], &[Row], &[Row]), Fault> {
     let mut parts = rows.splitn(5, |row| row.numbers.is_empty());
     if let Some([row, ..]) = parts.next() {

@@ -1,9 +1,10 @@
 //! Policies: which rights each role has.
 //!
-//! What they promise: a role is allowed what is asked exactly where the rights asked for are a subset of its own, and else
-//! `missing` tells the least of them that it lacks; `grant` and `revoke` change one right of one role and nothing else; and by `both` a role has a right exactly where two policies give
-//! it. Roles and rights are numbers. Contracts see a policy as how many rights there are and, for each role, the set of
-//! those that it has (`specs/Policies.antt`).
+//! What they promise: a role is allowed what is asked exactly where the rights asked for are a
+//! subset of its own, and else `missing` tells the least of them that it lacks; `grant` and
+//! `revoke` change one right of one role and nothing else; and by `both` a role has a right exactly
+//! where two policies give it. Roles and rights are numbers. Contracts see a policy as how many
+//! rights there are and, for each role, the set of those that it has (`specs/Policies.antt`).
 
 ghost use Rattle.std.specs.Prelude.{◌≡◌, ◌<◌, ◌↔◌, ℕ, min, length, IsTrue, IfOk, MatchOption};
 ghost use Rattle.fixedbitset.specs.Bits.{contains};

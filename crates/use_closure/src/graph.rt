@@ -1,10 +1,10 @@
 //! The closure of a graph whose edges are the rows of a text.
 //!
-//! Nodes are the numbers below a given one, and a row is an edge: the node that it leads from, and the node that it leads
-//! to (`specs/Edges.antt`).
+//! Nodes are the numbers below a given one, and a row is an edge: the node that it leads from, and
+//! the node that it leads to (`specs/Edges.antt`).
 //!
-//! What [`closure`] promises: its answer has exactly the pairs of nodes that some path of one or more edges joins, in
-//! ascending order.
+//! What [`closure`] promises: its answer has exactly the pairs of nodes that some path of one or
+//! more edges joins, in ascending order.
 
 ghost use Rattle.std.specs.Prelude.{◌≡◌, ◌∷◌, [], ◌↔◌, ℕ, MatchOption, Contains};
 ghost use Rattle.std.specs.Prelude.{IfOk, IfErr, OnOk, IsTrue, length};

@@ -1,8 +1,10 @@
-//! Reads a graph from standard input, and prints the pairs of nodes that a path of one or more edges joins, one pair a line.
+//! Reads a graph from standard input, and prints the pairs of nodes that a path of one or more
+//! edges joins, one pair a line.
 //!
-//! The first line is how many nodes there are, at most 10,000. Each other line is an edge: the node that it leads from, and
-//! the node that it leads to. The pairs come in ascending order. Where some line is not as said here, or names a node that
-//! there is not, nothing is answered but one sentence on standard error with the number of that line, and the status is 1.
+//! The first line is how many nodes there are, at most 10,000. Each other line is an edge: the node
+//! that it leads from, and the node that it leads to. The pairs come in ascending order. Where some
+//! line is not as said here, or names a node that there is not, nothing is answered but one
+//! sentence on standard error with the number of that line, and the status is 1.
 #![tactic(auto)]
 
 use graph::closure;

@@ -1,9 +1,11 @@
-//! The program `use_live`: reads a small program from standard input, one statement a line, and prints for each
-//! statement, by its number from 0 on, the variables that are live before it. It looks at no arguments.
+//! The program `use_live`: reads a small program from standard input, one statement a line, and
+//! prints for each statement, by its number from 0 on, the variables that are live before it. It
+//! looks at no arguments.
 //!
-//! Variables are the letters a to z. A line says what its statement defines, what it uses, and the numbers of those that
-//! may come next, as `x = y z -> 2 3`. Where some line is no such line, or names a statement that there is not, nothing is
-//! answered but one sentence on standard error with the number of that line, from 1 on, and the status is 1.
+//! Variables are the letters a to z. A line says what its statement defines, what it uses, and the
+//! numbers of those that may come next, as `x = y z -> 2 3`. Where some line is no such line, or
+//! names a statement that there is not, nothing is answered but one sentence on standard error with
+//! the number of that line, from 1 on, and the status is 1.
 #![tactic(auto)]
 
 ghost use Rattle.std.specs.Prelude.{◌≡◌, ℕ, ◌+◌, ◌<◌, ◌≤◌, ◌⊎◌, ◌↔◌, MatchOption};
@@ -70,8 +72,8 @@ fn answers(alloc: Global, text: &str) -> Result<String, Fault> {
     Ok(answers)
 }
 
-// The program of these lines. The fault has the first line that is no statement, or else the first with a next statement
-// that there is not.
+// The program of these lines. The fault has the first line that is no statement, or else the first
+// with a next statement that there is not.
 fn program_of(alloc: Global, text: &str) -> Result<Program, Fault>
     ensures { IfOk result (λ program.
         IsProblem 26 program.next.items program.uses.items program.defines.items) }
@@ -127,7 +129,8 @@ fn statement_of(alloc: Global, line: &str) -> Result<Option<Statement>, AllocErr
     }))
 }
 
-// The set of the variables that a text names. `None` comes exactly where it has more than their letters and spaces.
+// The set of the variables that a text names. `None` comes exactly where it has more than
+// their letters and spaces.
 fn variables_of(alloc: Global, text: &str) -> Result<Option<FixedBitSet>, AllocError>
     ensures { IfOk result (λ read. MatchOption read (¬ (AreLetters text.now))
         (λ set. AreLetters text.now × AreVariables text.now set)) }

@@ -1,8 +1,10 @@
-//! Reads a graph from standard input, and prints the nodes that a walk from its start reaches, one a line.
+//! Reads a graph from standard input, and prints the nodes that a walk from its
+//! start reaches, one a line.
 //!
-//! The first line is the start. The next is the row of node 0: the nodes that an edge from it leads to; and so on, a row
-//! for each node. Where some line is not as said here, or names a node that there is not, nothing is answered but one
-//! sentence on standard error with the number of that line, and the status is 1.
+//! The first line is the start. The next is the row of node 0: the nodes that an edge from it leads
+//! to; and so on, a row for each node. Where some line is not as said here, or names a node that
+//! there is not, nothing is answered but one sentence on standard error with the number of that
+//! line, and the status is 1.
 #![tactic(auto)]
 
 ghost use Rattle.std.specs.Prelude.{◌≡◌, IfOk, IfErr, map, length};

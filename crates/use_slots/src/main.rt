@@ -1,17 +1,20 @@
-//! Takes slots and gives them back, as lines of standard input say, and prints an answer for each of them.
+//! Takes slots and gives them back, as lines of standard input say, and prints an
+//! answer for each of them.
 //!
-//! The first line is how many slots there are, at most 1,000,000. A line without a number takes a slot, and the answer is
-//! the slot or `full`. A line with a number gives that slot back, and the answer is `ok`, or `free` where it was not taken.
-//! A line of two numbers takes a stretch: as many slots as the first says, one behind the other, from the least start at or
-//! past the second where all of them are free. The answer is that start, or `full`. A third number is the end: where the
-//! stretch goes past it, nothing is taken, and the answer is `full`. Each slot of a stretch is given back by a line of its
-//! own.
+//! The first line is how many slots there are, at most 1,000,000. A line without a number takes a
+//! slot, and the answer is the slot or `full`. A line with a number gives that slot back, and the
+//! answer is `ok`, or `free` where it was not taken. A line of two numbers takes a stretch: as many
+//! slots as the first says, one behind the other, from the least start at or past the second where
+//! all of them are free. The answer is that start, or `full`. A third number is the end: where the
+//! stretch goes past it, nothing is taken, and the answer is `full`. Each slot of a stretch is
+//! given back by a line of its own.
 //!
-//! At the end what is in the slots moves to the front, the least slot first, with a line like `5 to 0` for each that moves.
-//! The last line is how many slots are free then, and the two least of them where there are two, as in `4 free: 5 6`.
+//! At the end what is in the slots moves to the front, the least slot first, with a line like `5 to
+//! 0` for each that moves. The last line is how many slots are free then, and the two least of them
+//! where there are two, as in `4 free: 5 6`.
 //!
-//! Where some line is not as said here, nothing is answered but one sentence on standard error with the number of that
-//! line, and the status is 1.
+//! Where some line is not as said here, nothing is answered but one sentence on standard error with
+//! the number of that line, and the status is 1.
 #![tactic(auto)]
 
 ghost use Rattle.std.specs.Prelude.{◌+◌, ◌≤◌, OnOk, IfErr, IfSome};
@@ -56,7 +59,8 @@ fn answers(alloc: Global, text: &str) -> Result<String, Fault> {
     Ok(answers)
 }
 
-// Carries out the command of each row, and answers a line for each. The fault has the first row that is no command.
+// Carries out the command of each row, and answers a line for each. The fault has the first
+// row that is no command.
 fn carry_out(alloc: Global, slots: &mut Slots, rows: &[Row]) -> Result<String, Fault>
     ensures each { OnOk result (AreAll IsCommand rows.now) }
     ensures fault { IfErr result (IsFaultOfRow IsCommand rows.now) }

@@ -1,10 +1,11 @@
 //! An allocator of slots: which of so many slots are taken.
 //!
-//! What it promises: `take` takes the least free slot, and answers `None` exactly where all are taken; `give_back` makes that
-//! slot free and no other; `take_stretch` takes so many slots one behind the other from the least start where all of them
-//! are free, and answers `None` exactly where there is no such start; and in every run of calls a slot that was taken twice,
-//! alone or in a stretch, was given back in between. Contracts see it as a length, how many slots there are, and the set of
-//! those that are taken (`specs/Pool.antt`).
+//! What it promises: `take` takes the least free slot, and answers `None` exactly where all are
+//! taken; `give_back` makes that slot free and no other; `take_stretch` takes so many slots one
+//! behind the other from the least start where all of them are free, and answers `None` exactly
+//! where there is no such start; and in every run of calls a slot that was taken twice, alone or in
+//! a stretch, was given back in between. Contracts see it as a length, how many slots there are,
+//! and the set of those that are taken (`specs/Pool.antt`).
 
 ghost use Rattle.std.specs.Prelude.{◌≡◌, ◌≢◌, ◌+◌, ◌<◌, ◌≤◌, ◌↔◌, ℕ, List, [], ◌∷◌, ◌++◌};
 ghost use Rattle.std.specs.Prelude.{Contains, IsTrue, IfOk, IfNone, IfSome, MatchOption};
@@ -70,8 +71,9 @@ impl Slots {
         self.taken.remove(slot);
     }
 
-    /// Takes `count` slots one behind the other, from the least start at or past `from` where all of them are free, and
-    /// answers that start. `None` comes exactly where there is no such start, and then nothing changes.
+    /// Takes `count` slots one behind the other, from the least start at or past `from` where all
+    /// of them are free, and answers that start. `None` comes exactly where there is no such start,
+    /// and then nothing changes.
     pub fn take_stretch(&mut self, count: usize, from: usize) -> Option<usize>
         ensures stretch { IsStretchAnswer self.old count from result }
         ensures after { IsStretchLeft self.old count result self.new }
@@ -109,7 +111,8 @@ impl Slots {
         self.taken.count_zeroes(..)
     }
 
-    /// Moves what is in a slot to the front: gives the slot back and takes the least free one, which is not past it.
+    /// Moves what is in a slot to the front: gives the slot back and takes the least free
+    /// one, which is not past it.
     pub fn lower(&mut self, slot: usize) -> usize
         requires { IsTaken self.old slot }
         ensures least { IsLeastFree (model.remove self.old slot) result }
@@ -121,7 +124,8 @@ impl Slots {
     }
 }
 
-/// Takes the least free slot and then the least one that is left, or none where fewer than two are free.
+/// Takes the least free slot and then the least one that is left, or none where
+/// fewer than two are free.
 #[tactic(auto, using(crate::proofs::Pools::two_taken))]
 pub fn take_two(slots: &mut Slots) -> Option<(usize, usize)>
     ensures few { IfNone result ((free_count slots.old < 2) × (slots.new ≡ slots.old)) }
@@ -141,8 +145,9 @@ pub fn take_two(slots: &mut Slots) -> Option<(usize, usize)>
     Some((first, second))
 }
 
-/// In every run of calls a slot that two of them take, alone or in a stretch, was given back in between. It does nothing:
-/// its contract is a law of what the calls that take and give back ensure.
+/// In every run of calls a slot that two of them take, alone or in a stretch, was
+/// given back in between. It does nothing: its contract is a law of what the calls
+/// that take and give back ensure.
 pub fn never_twice()
     ensures { (old new : Bits) (slot : ℕ) (first second : Call) (between : List Call)
         → Takes first slot → Takes second slot

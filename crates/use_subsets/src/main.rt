@@ -1,17 +1,19 @@
-//! Reads a nondeterministic automaton from standard input, makes it deterministic, and prints it and which words it accepts.
+//! Reads a nondeterministic automaton from standard input, makes it deterministic, and prints it
+//! and which words it accepts.
 //!
-//! The first line is how many states and how many letters there are, at most 1,000 and at most 100. A third number may
-//! follow: how many states the deterministic automaton may have, at most 1,000. Without it they are 1,000. The second line
-//! is the start states, and the third the accepting states. Then come the edges, each as a state, a letter and a state, and
-//! an empty line. Each further line is a word.
+//! The first line is how many states and how many letters there are, at most 1,000 and at most 100.
+//! A third number may follow: how many states the deterministic automaton may have, at most 1,000.
+//! Without it they are 1,000. The second line is the start states, and the third the accepting
+//! states. Then come the edges, each as a state, a letter and a state, and an empty line. Each
+//! further line is a word.
 //!
-//! The first line of the answer is how many states the deterministic automaton has. A line for each of them follows, as
-//! `0 2 -> 0 1`: the set of states that it is, and the state after it by each letter. The others are `yes` or `no`, one a
-//! word.
+//! The first line of the answer is how many states the deterministic automaton has. A line for each
+//! of them follows, as `0 2 -> 0 1`: the set of states that it is, and the state after it by each
+//! letter. The others are `yes` or `no`, one a word.
 //!
-//! The automaton has exactly the states and edges of its lines. Where some line is not as said here, nothing is answered
-//! but one sentence on standard error with the number of that line, and the status is 1. An automaton that would have too
-//! many states is a fault of its first line.
+//! The automaton has exactly the states and edges of its lines. Where some line is not as said
+//! here, nothing is answered but one sentence on standard error with the number of that line, and
+//! the status is 1. An automaton that would have too many states is a fault of its first line.
 #![tactic(auto)]
 
 ghost use Rattle.std.specs.Prelude.{◌≡◌, [], ◌∷◌, MatchOption, IfOk, IfErr, All, map};
@@ -107,7 +109,8 @@ fn sizes_of(row: &Row) -> Result<(usize, usize, usize), Fault> {
     }
 }
 
-// How many states there are, and a line for each: the set that it is, and the state after it by each letter.
+// How many states there are, and a line for each: the set that it is, and the state
+// after it by each letter.
 fn write_states(answers: &mut String, dfa: &Dfa) -> Result<(), AllocError> {
     writeln!(answers, "{}", dfa.sets.len())?;
     let mut next = dfa.next.iter();

@@ -1,8 +1,9 @@
 //! The subset construction.
 //!
-//! What [`determinize`] promises: the deterministic automaton accepts exactly the words that the nondeterministic one
-//! accepts, and its states are exactly the sets of states that some word reaches, each once. A word is accepted if its
-//! letters lead along edges from a start state to an accepting state (`specs/Automata.antt`).
+//! What [`determinize`] promises: the deterministic automaton accepts exactly the words that the
+//! nondeterministic one accepts, and its states are exactly the sets of states that some word
+//! reaches, each once. A word is accepted if its letters lead along edges from a start state to an
+//! accepting state (`specs/Automata.antt`).
 
 ghost use Rattle.std.specs.Prelude.{◌≡◌, ◌<◌, ◌≤◌, ◌↔◌, ℕ, List, IfOk, length, Ok, None};
 ghost use Rattle.use_subsets.specs.Automata.{IsNfa, IsOver, IsAccepted, IsSetOf};
@@ -14,11 +15,12 @@ use crate::automata::{Dfa, Nfa};
 use fixedbitset::FixedBitSet;
 use std::alloc::{AllocError, Global};
 
-/// The deterministic automaton that accepts the words that `nfa` accepts. Its states are the sets of states that some
-/// word reaches, each of them once, and the first is the set of the start states.
+/// The deterministic automaton that accepts the words that `nfa` accepts. Its states are
+/// the sets of states that some word reaches, each of them once, and the first is the
+/// set of the start states.
 ///
-/// It asks what [`Nfa::is_valid`] tests. `None` comes only where there are more than `limit` such sets; `Err` only where
-/// memory was refused.
+/// It asks what [`Nfa::is_valid`] tests. `None` comes only where there are more than `limit` such
+/// sets; `Err` only where memory was refused.
 pub fn determinize(alloc: Global, nfa: &Nfa, limit: usize) -> Result<Option<Dfa>, AllocError>
     requires { IsNfa nfa.now }
     ensures dfa { IfMade result (λ dfa. IsDfa dfa) }

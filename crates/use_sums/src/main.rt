@@ -1,9 +1,9 @@
 //! Prints which totals up to a limit the parts of a list of numbers have.
 //!
-//! The first line is the limit, at most 10,000,000. The numbers of all other lines are the list. A part takes some of them,
-//! each at most once. The answer is one line with the totals, 0 of the empty part among them, in ascending order. Where
-//! some line is not as said here, nothing is answered but one sentence on standard error with the number of that line, and
-//! the status is 1.
+//! The first line is the limit, at most 10,000,000. The numbers of all other lines are the list. A
+//! part takes some of them, each at most once. The answer is one line with the totals, 0 of the
+//! empty part among them, in ascending order. Where some line is not as said here, nothing is
+//! answered but one sentence on standard error with the number of that line, and the status is 1.
 #![tactic(auto)]
 
 ghost use Rattle.std.specs.Prelude.{◌≡◌, IfOk};

@@ -1,7 +1,7 @@
 //! Which totals the parts of a list of numbers have: the subset-sum problem.
 //!
-//! A part takes some of the numbers, each at most once, and its total is their sum (`specs/Sums.antt`). The empty part has
-//! the total 0.
+//! A part takes some of the numbers, each at most once, and its total is their sum
+//! (`specs/Sums.antt`). The empty part has the total 0.
 
 ghost use Rattle.std.specs.Prelude.{◌≡◌, ◌+◌, ◌-◌, ◌^◌, ◌<◌, ◌≤◌, ◌↔◌, ℕ, IsTrue, IfOk};
 ghost use Rattle.fixedbitset.specs.Bits.{contains};
@@ -12,8 +12,8 @@ use std::alloc::{AllocError, Global};
 
 /// The totals up to `limit` that some part of the numbers has, as a set of one more position.
 ///
-/// A number may be any, and may come more than once. It reads and writes each word of the set at most once for each number.
-/// `Err` comes only where memory for the set was refused.
+/// A number may be any, and may come more than once. It reads and writes each word of the set at
+/// most once for each number. `Err` comes only where memory for the set was refused.
 #[tactic(auto, using(fixedbitset::specs::BitsFacts::facts))]
 pub fn totals(alloc: Global, numbers: &[usize], limit: usize) -> Result<FixedBitSet, AllocError>
     requires { limit < 2 ^ 64 - 1 }

@@ -1,9 +1,10 @@
-//! Rows of numbers in a text, sets of such numbers, and how a program reads its input and ends: what the programs `use_..`
-//! share.
+//! Rows of numbers in a text, sets of such numbers, and how a program reads its input and ends:
+//! what the programs `use_..` share.
 //!
-//! Each line of the text is a row. Its words stand between spaces, and each of them has to be a number: one or more
-//! decimal digits and nothing else, of a value below 2 ^ 64 (`specs/Rows.antt`). A line without words is a row without
-//! numbers. Where some line is not as it should be, there is a fault with the number of the first such line.
+//! Each line of the text is a row. Its words stand between spaces, and each of them has to be a
+//! number: one or more decimal digits and nothing else, of a value below 2 ^ 64
+//! (`specs/Rows.antt`). A line without words is a row without numbers. Where some line is not as it
+//! should be, there is a fault with the number of the first such line.
 #![tactic(auto)]
 
 ghost use Rattle.std.specs.Prelude.{◌≡◌, ◌+◌, ◌==◌, ℕ, IfOk, IfErr, OnOk};
@@ -62,7 +63,8 @@ impl<T: Drop> From<AllocFailed<T>> for Fault {
     }
 }
 
-/// The numbers of each line, with the number of the line. It looks at each byte a fixed number of times.
+/// The numbers of each line, with the number of the line. It looks at each byte a
+/// fixed number of times.
 ///
 /// The fault is that memory was refused, or it has the first line that is not a row of numbers.
 pub fn rows(alloc: Global, text: &str) -> Result<Vec<Row>, Fault>

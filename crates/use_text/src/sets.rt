@@ -6,7 +6,8 @@ ghost use Rattle.use_text.specs.Sets.{AreBelow, IsSetOf};
 use fixedbitset::FixedBitSet;
 use std::alloc::{AllocError, Global};
 
-/// The set of this length that has these positions and no other. `None` comes exactly where some is not below the length.
+/// The set of this length that has these positions and no other. `None` comes exactly where some
+/// is not below the length.
 #[tactic(auto, using(crate::proofs::Members::no_members))]
 pub fn set_of(
     alloc: Global,

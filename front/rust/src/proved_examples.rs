@@ -2,7 +2,7 @@
 #![allow(clippy::all, unused_imports, unused_mut)]
 
 #[test]
-fn bitjson_fills_10() {
+fn bitjson_fills_11() {
     use crate::proved::bitlanes::ops::*;
     use crate::proved::bitlanes::{word, Block, Steps};
     use crate::proved::bitwords::cursors::*;
@@ -17,7 +17,7 @@ fn bitjson_fills_10() {
 }
 
 #[test]
-fn bitjson_fills_26() {
+fn bitjson_fills_28() {
     use crate::proved::bitlanes::ops::*;
     use crate::proved::bitlanes::{word, Block, Steps};
     use crate::proved::bitwords::cursors::*;
@@ -48,7 +48,7 @@ fn bitlanes_changes_16() {
 }
 
 #[test]
-fn bitlanes_changes_46() {
+fn bitlanes_changes_47() {
     use crate::proved::bitlanes::ops::*;
     use crate::proved::bitlanes::{word, Block, Steps};
     use crate::proved::bitwords::cursors::*;
@@ -65,7 +65,7 @@ fn bitlanes_changes_46() {
 }
 
 #[test]
-fn bitlanes_changes_83() {
+fn bitlanes_changes_84() {
     use crate::proved::bitlanes::ops::*;
     use crate::proved::bitlanes::{word, Block, Steps};
     use crate::proved::bitwords::cursors::*;
@@ -81,7 +81,7 @@ fn bitlanes_changes_83() {
 }
 
 #[test]
-fn bitlanes_counter_25() {
+fn bitlanes_counter_26() {
     use crate::proved::bitlanes::ops::*;
     use crate::proved::bitlanes::{word, Block, Steps};
     use crate::proved::bitwords::cursors::*;
@@ -96,7 +96,7 @@ fn bitlanes_counter_25() {
 }
 
 #[test]
-fn bitlanes_counter_39() {
+fn bitlanes_counter_40() {
     use crate::proved::bitlanes::ops::*;
     use crate::proved::bitlanes::{word, Block, Steps};
     use crate::proved::bitwords::cursors::*;
@@ -112,7 +112,7 @@ fn bitlanes_counter_39() {
 }
 
 #[test]
-fn bitlanes_counter_54() {
+fn bitlanes_counter_55() {
     use crate::proved::bitlanes::ops::*;
     use crate::proved::bitlanes::{word, Block, Steps};
     use crate::proved::bitwords::cursors::*;
@@ -127,7 +127,7 @@ fn bitlanes_counter_54() {
 }
 
 #[test]
-fn bitlanes_lanes_26() {
+fn bitlanes_lanes_29() {
     use crate::proved::bitlanes::ops::*;
     use crate::proved::bitlanes::{word, Block, Steps};
     use crate::proved::bitwords::cursors::*;
@@ -142,7 +142,7 @@ fn bitlanes_lanes_26() {
 }
 
 #[test]
-fn bitlanes_lanes_53() {
+fn bitlanes_lanes_56() {
     use crate::proved::bitlanes::ops::*;
     use crate::proved::bitlanes::{word, Block, Steps};
     use crate::proved::bitwords::cursors::*;
@@ -156,7 +156,7 @@ fn bitlanes_lanes_53() {
 }
 
 #[test]
-fn bitlanes_lanes_72() {
+fn bitlanes_lanes_76() {
     use crate::proved::bitlanes::ops::*;
     use crate::proved::bitlanes::{word, Block, Steps};
     use crate::proved::bitwords::cursors::*;
@@ -170,7 +170,7 @@ fn bitlanes_lanes_72() {
 }
 
 #[test]
-fn bitlanes_lanes_100() {
+fn bitlanes_lanes_104() {
     use crate::proved::bitlanes::ops::*;
     use crate::proved::bitlanes::{word, Block, Steps};
     use crate::proved::bitwords::cursors::*;
@@ -185,7 +185,7 @@ fn bitlanes_lanes_100() {
 }
 
 #[test]
-fn bitlanes_lanes_120() {
+fn bitlanes_lanes_125() {
     use crate::proved::bitlanes::ops::*;
     use crate::proved::bitlanes::{word, Block, Steps};
     use crate::proved::bitwords::cursors::*;
@@ -199,7 +199,7 @@ fn bitlanes_lanes_120() {
 }
 
 #[test]
-fn bitlanes_lanes_134() {
+fn bitlanes_lanes_140() {
     use crate::proved::bitlanes::ops::*;
     use crate::proved::bitlanes::{word, Block, Steps};
     use crate::proved::bitwords::cursors::*;
@@ -213,7 +213,7 @@ fn bitlanes_lanes_134() {
 }
 
 #[test]
-fn bitlanes_lanes_162() {
+fn bitlanes_lanes_169() {
     use crate::proved::bitlanes::ops::*;
     use crate::proved::bitlanes::{word, Block, Steps};
     use crate::proved::bitwords::cursors::*;
@@ -242,7 +242,7 @@ fn bitlanes_ops_11() {
 }
 
 #[test]
-fn bitlanes_ops_32() {
+fn bitlanes_ops_33() {
     use crate::proved::bitlanes::ops::*;
     use crate::proved::bitlanes::{word, Block, Steps};
     use crate::proved::bitwords::cursors::*;
@@ -256,7 +256,7 @@ fn bitlanes_ops_32() {
 }
 
 #[test]
-fn bitlanes_ops_57() {
+fn bitlanes_ops_58() {
     use crate::proved::bitlanes::ops::*;
     use crate::proved::bitlanes::{word, Block, Steps};
     use crate::proved::bitwords::cursors::*;
@@ -270,7 +270,7 @@ fn bitlanes_ops_57() {
 }
 
 #[test]
-fn bitlanes_ops_82() {
+fn bitlanes_ops_83() {
     use crate::proved::bitlanes::ops::*;
     use crate::proved::bitlanes::{word, Block, Steps};
     use crate::proved::bitwords::cursors::*;
@@ -284,7 +284,7 @@ fn bitlanes_ops_82() {
 }
 
 #[test]
-fn bitlanes_ops_107() {
+fn bitlanes_ops_108() {
     use crate::proved::bitlanes::ops::*;
     use crate::proved::bitlanes::{word, Block, Steps};
     use crate::proved::bitwords::cursors::*;
@@ -298,7 +298,7 @@ fn bitlanes_ops_107() {
 }
 
 #[test]
-fn bitlanes_ops_132() {
+fn bitlanes_ops_133() {
     use crate::proved::bitlanes::ops::*;
     use crate::proved::bitlanes::{word, Block, Steps};
     use crate::proved::bitwords::cursors::*;
@@ -312,7 +312,7 @@ fn bitlanes_ops_132() {
 }
 
 #[test]
-fn bitlanes_search_21() {
+fn bitlanes_search_23() {
     use crate::proved::bitlanes::ops::*;
     use crate::proved::bitlanes::{word, Block, Steps};
     use crate::proved::bitwords::cursors::*;
@@ -327,7 +327,7 @@ fn bitlanes_search_21() {
 }
 
 #[test]
-fn bitlanes_search_36() {
+fn bitlanes_search_39() {
     use crate::proved::bitlanes::ops::*;
     use crate::proved::bitlanes::{word, Block, Steps};
     use crate::proved::bitwords::cursors::*;
@@ -342,7 +342,7 @@ fn bitlanes_search_36() {
 }
 
 #[test]
-fn bitlanes_search_49() {
+fn bitlanes_search_52() {
     use crate::proved::bitlanes::ops::*;
     use crate::proved::bitlanes::{word, Block, Steps};
     use crate::proved::bitwords::cursors::*;
@@ -359,7 +359,7 @@ fn bitlanes_search_49() {
 }
 
 #[test]
-fn bitlanes_search_82() {
+fn bitlanes_search_85() {
     use crate::proved::bitlanes::ops::*;
     use crate::proved::bitlanes::{word, Block, Steps};
     use crate::proved::bitwords::cursors::*;
@@ -375,7 +375,7 @@ fn bitlanes_search_82() {
 }
 
 #[test]
-fn bitlanes_search_105() {
+fn bitlanes_search_108() {
     use crate::proved::bitlanes::ops::*;
     use crate::proved::bitlanes::{word, Block, Steps};
     use crate::proved::bitwords::cursors::*;
@@ -392,7 +392,7 @@ fn bitlanes_search_105() {
 }
 
 #[test]
-fn bitlanes_search_142() {
+fn bitlanes_search_145() {
     use crate::proved::bitlanes::ops::*;
     use crate::proved::bitlanes::{word, Block, Steps};
     use crate::proved::bitwords::cursors::*;
@@ -407,7 +407,7 @@ fn bitlanes_search_142() {
 }
 
 #[test]
-fn bitlanes_shifts_18() {
+fn bitlanes_shifts_19() {
     use crate::proved::bitlanes::ops::*;
     use crate::proved::bitlanes::{word, Block, Steps};
     use crate::proved::bitwords::cursors::*;
@@ -422,7 +422,7 @@ fn bitlanes_shifts_18() {
 }
 
 #[test]
-fn bitlanes_shifts_51() {
+fn bitlanes_shifts_52() {
     use crate::proved::bitlanes::ops::*;
     use crate::proved::bitlanes::{word, Block, Steps};
     use crate::proved::bitwords::cursors::*;
@@ -437,7 +437,7 @@ fn bitlanes_shifts_51() {
 }
 
 #[test]
-fn bitlanes_shifts_81() {
+fn bitlanes_shifts_83() {
     use crate::proved::bitlanes::ops::*;
     use crate::proved::bitlanes::{word, Block, Steps};
     use crate::proved::bitwords::cursors::*;
@@ -452,7 +452,7 @@ fn bitlanes_shifts_81() {
 }
 
 #[test]
-fn bitlanes_shifts_115() {
+fn bitlanes_shifts_117() {
     use crate::proved::bitlanes::ops::*;
     use crate::proved::bitlanes::{word, Block, Steps};
     use crate::proved::bitwords::cursors::*;
@@ -508,7 +508,7 @@ fn bitlanes_word_34() {
 }
 
 #[test]
-fn bitlanes_word_45() {
+fn bitlanes_word_46() {
     use crate::proved::bitlanes::ops::*;
     use crate::proved::bitlanes::{word, Block, Steps};
     use crate::proved::bitwords::cursors::*;
@@ -522,7 +522,7 @@ fn bitlanes_word_45() {
 }
 
 #[test]
-fn bitlanes_word_56() {
+fn bitlanes_word_57() {
     use crate::proved::bitlanes::ops::*;
     use crate::proved::bitlanes::{word, Block, Steps};
     use crate::proved::bitwords::cursors::*;
@@ -537,7 +537,7 @@ fn bitlanes_word_56() {
 }
 
 #[test]
-fn bitlanes_word_70() {
+fn bitlanes_word_71() {
     use crate::proved::bitlanes::ops::*;
     use crate::proved::bitlanes::{word, Block, Steps};
     use crate::proved::bitwords::cursors::*;
@@ -552,7 +552,7 @@ fn bitlanes_word_70() {
 }
 
 #[test]
-fn bitlanes_word_84() {
+fn bitlanes_word_85() {
     use crate::proved::bitlanes::ops::*;
     use crate::proved::bitlanes::{word, Block, Steps};
     use crate::proved::bitwords::cursors::*;
@@ -566,7 +566,7 @@ fn bitlanes_word_84() {
 }
 
 #[test]
-fn bitlanes_word_101() {
+fn bitlanes_word_103() {
     use crate::proved::bitlanes::ops::*;
     use crate::proved::bitlanes::{word, Block, Steps};
     use crate::proved::bitwords::cursors::*;
@@ -581,7 +581,7 @@ fn bitlanes_word_101() {
 }
 
 #[test]
-fn bitranks_directory_20() {
+fn bitranks_directory_22() {
     use crate::proved::bitlanes::ops::*;
     use crate::proved::bitlanes::{word, Block, Steps};
     use crate::proved::bitwords::cursors::*;
@@ -596,7 +596,7 @@ fn bitranks_directory_20() {
 }
 
 #[test]
-fn bitranks_directory_35() {
+fn bitranks_directory_38() {
     use crate::proved::bitlanes::ops::*;
     use crate::proved::bitlanes::{word, Block, Steps};
     use crate::proved::bitwords::cursors::*;
@@ -611,7 +611,7 @@ fn bitranks_directory_35() {
 }
 
 #[test]
-fn bitranks_directory_57() {
+fn bitranks_directory_61() {
     use crate::proved::bitlanes::ops::*;
     use crate::proved::bitlanes::{word, Block, Steps};
     use crate::proved::bitwords::cursors::*;
@@ -627,7 +627,7 @@ fn bitranks_directory_57() {
 }
 
 #[test]
-fn bitranks_directory_89() {
+fn bitranks_directory_94() {
     use crate::proved::bitlanes::ops::*;
     use crate::proved::bitlanes::{word, Block, Steps};
     use crate::proved::bitwords::cursors::*;
@@ -643,7 +643,7 @@ fn bitranks_directory_89() {
 }
 
 #[test]
-fn bitrows_views_changes_14() {
+fn bitrows_views_changes_16() {
     use crate::proved::bitlanes::ops::*;
     use crate::proved::bitlanes::{word, Block, Steps};
     use crate::proved::bitwords::cursors::*;
@@ -658,7 +658,7 @@ fn bitrows_views_changes_14() {
 }
 
 #[test]
-fn bitrows_views_changes_31() {
+fn bitrows_views_changes_33() {
     use crate::proved::bitlanes::ops::*;
     use crate::proved::bitlanes::{word, Block, Steps};
     use crate::proved::bitwords::cursors::*;
@@ -673,7 +673,7 @@ fn bitrows_views_changes_31() {
 }
 
 #[test]
-fn bitrows_views_changes_48() {
+fn bitrows_views_changes_50() {
     use crate::proved::bitlanes::ops::*;
     use crate::proved::bitlanes::{word, Block, Steps};
     use crate::proved::bitwords::cursors::*;
@@ -689,7 +689,7 @@ fn bitrows_views_changes_48() {
 }
 
 #[test]
-fn bitrows_views_changes_65() {
+fn bitrows_views_changes_68() {
     use crate::proved::bitlanes::ops::*;
     use crate::proved::bitlanes::{word, Block, Steps};
     use crate::proved::bitwords::cursors::*;
@@ -706,7 +706,7 @@ fn bitrows_views_changes_65() {
 }
 
 #[test]
-fn bitrows_views_changes_85() {
+fn bitrows_views_changes_88() {
     use crate::proved::bitlanes::ops::*;
     use crate::proved::bitlanes::{word, Block, Steps};
     use crate::proved::bitwords::cursors::*;
@@ -740,7 +740,7 @@ fn bitrows_views_reads_11() {
 }
 
 #[test]
-fn bitrows_views_reads_29() {
+fn bitrows_views_reads_30() {
     use crate::proved::bitlanes::ops::*;
     use crate::proved::bitlanes::{word, Block, Steps};
     use crate::proved::bitwords::cursors::*;
@@ -877,7 +877,7 @@ fn bitwords_cursors_115() {
 }
 
 #[test]
-fn bitwords_cursors_228() {
+fn bitwords_cursors_231() {
     use crate::proved::bitlanes::ops::*;
     use crate::proved::bitlanes::{word, Block, Steps};
     use crate::proved::bitwords::cursors::*;
@@ -891,7 +891,7 @@ fn bitwords_cursors_228() {
 }
 
 #[test]
-fn bitwords_cursors_242() {
+fn bitwords_cursors_245() {
     use crate::proved::bitlanes::ops::*;
     use crate::proved::bitlanes::{word, Block, Steps};
     use crate::proved::bitwords::cursors::*;
@@ -905,7 +905,7 @@ fn bitwords_cursors_242() {
 }
 
 #[test]
-fn bitwords_cursors_258() {
+fn bitwords_cursors_261() {
     use crate::proved::bitlanes::ops::*;
     use crate::proved::bitlanes::{word, Block, Steps};
     use crate::proved::bitwords::cursors::*;
@@ -920,7 +920,7 @@ fn bitwords_cursors_258() {
 }
 
 #[test]
-fn bitwords_cursors_285() {
+fn bitwords_cursors_288() {
     use crate::proved::bitlanes::ops::*;
     use crate::proved::bitlanes::{word, Block, Steps};
     use crate::proved::bitwords::cursors::*;
@@ -935,7 +935,7 @@ fn bitwords_cursors_285() {
 }
 
 #[test]
-fn bitwords_cursors_394() {
+fn bitwords_cursors_399() {
     use crate::proved::bitlanes::ops::*;
     use crate::proved::bitlanes::{word, Block, Steps};
     use crate::proved::bitwords::cursors::*;
@@ -949,7 +949,7 @@ fn bitwords_cursors_394() {
 }
 
 #[test]
-fn bitwords_cursors_409() {
+fn bitwords_cursors_414() {
     use crate::proved::bitlanes::ops::*;
     use crate::proved::bitlanes::{word, Block, Steps};
     use crate::proved::bitwords::cursors::*;
@@ -963,7 +963,7 @@ fn bitwords_cursors_409() {
 }
 
 #[test]
-fn bitwords_gaps_21() {
+fn bitwords_gaps_22() {
     use crate::proved::bitlanes::ops::*;
     use crate::proved::bitlanes::{word, Block, Steps};
     use crate::proved::bitwords::cursors::*;
@@ -979,7 +979,7 @@ fn bitwords_gaps_21() {
 }
 
 #[test]
-fn bitwords_gaps_50() {
+fn bitwords_gaps_53() {
     use crate::proved::bitlanes::ops::*;
     use crate::proved::bitlanes::{word, Block, Steps};
     use crate::proved::bitwords::cursors::*;
@@ -995,7 +995,7 @@ fn bitwords_gaps_50() {
 }
 
 #[test]
-fn bitwords_joins_17() {
+fn bitwords_joins_18() {
     use crate::proved::bitlanes::ops::*;
     use crate::proved::bitlanes::{word, Block, Steps};
     use crate::proved::bitwords::cursors::*;
@@ -1010,7 +1010,7 @@ fn bitwords_joins_17() {
 }
 
 #[test]
-fn bitwords_joins_36() {
+fn bitwords_joins_37() {
     use crate::proved::bitlanes::ops::*;
     use crate::proved::bitlanes::{word, Block, Steps};
     use crate::proved::bitwords::cursors::*;
@@ -1025,7 +1025,7 @@ fn bitwords_joins_36() {
 }
 
 #[test]
-fn bitwords_joins_57() {
+fn bitwords_joins_59() {
     use crate::proved::bitlanes::ops::*;
     use crate::proved::bitlanes::{word, Block, Steps};
     use crate::proved::bitwords::cursors::*;
@@ -1040,7 +1040,7 @@ fn bitwords_joins_57() {
 }
 
 #[test]
-fn bitwords_joins_81() {
+fn bitwords_joins_83() {
     use crate::proved::bitlanes::ops::*;
     use crate::proved::bitlanes::{word, Block, Steps};
     use crate::proved::bitwords::cursors::*;
@@ -1057,7 +1057,7 @@ fn bitwords_joins_81() {
 }
 
 #[test]
-fn bitwords_joins_106() {
+fn bitwords_joins_108() {
     use crate::proved::bitlanes::ops::*;
     use crate::proved::bitlanes::{word, Block, Steps};
     use crate::proved::bitwords::cursors::*;
@@ -1071,7 +1071,7 @@ fn bitwords_joins_106() {
 }
 
 #[test]
-fn bitwords_joins_120() {
+fn bitwords_joins_122() {
     use crate::proved::bitlanes::ops::*;
     use crate::proved::bitlanes::{word, Block, Steps};
     use crate::proved::bitwords::cursors::*;
@@ -1085,7 +1085,7 @@ fn bitwords_joins_120() {
 }
 
 #[test]
-fn bitwords_joins_135() {
+fn bitwords_joins_138() {
     use crate::proved::bitlanes::ops::*;
     use crate::proved::bitlanes::{word, Block, Steps};
     use crate::proved::bitwords::cursors::*;
@@ -1100,7 +1100,7 @@ fn bitwords_joins_135() {
 }
 
 #[test]
-fn bitwords_positions_11() {
+fn bitwords_positions_12() {
     use crate::proved::bitlanes::ops::*;
     use crate::proved::bitlanes::{word, Block, Steps};
     use crate::proved::bitwords::cursors::*;
@@ -1115,7 +1115,7 @@ fn bitwords_positions_11() {
 }
 
 #[test]
-fn bitwords_positions_29() {
+fn bitwords_positions_30() {
     use crate::proved::bitlanes::ops::*;
     use crate::proved::bitlanes::{word, Block, Steps};
     use crate::proved::bitwords::cursors::*;
@@ -1130,7 +1130,7 @@ fn bitwords_positions_29() {
 }
 
 #[test]
-fn bitwords_positions_45() {
+fn bitwords_positions_46() {
     use crate::proved::bitlanes::ops::*;
     use crate::proved::bitlanes::{word, Block, Steps};
     use crate::proved::bitwords::cursors::*;
@@ -1145,7 +1145,7 @@ fn bitwords_positions_45() {
 }
 
 #[test]
-fn bitwords_positions_63() {
+fn bitwords_positions_66() {
     use crate::proved::bitlanes::ops::*;
     use crate::proved::bitlanes::{word, Block, Steps};
     use crate::proved::bitwords::cursors::*;
@@ -1162,7 +1162,7 @@ fn bitwords_positions_63() {
 }
 
 #[test]
-fn bitwords_positions_86() {
+fn bitwords_positions_90() {
     use crate::proved::bitlanes::ops::*;
     use crate::proved::bitlanes::{word, Block, Steps};
     use crate::proved::bitwords::cursors::*;
@@ -1179,7 +1179,7 @@ fn bitwords_positions_86() {
 }
 
 #[test]
-fn bitwords_positions_111() {
+fn bitwords_positions_115() {
     use crate::proved::bitlanes::ops::*;
     use crate::proved::bitlanes::{word, Block, Steps};
     use crate::proved::bitwords::cursors::*;
@@ -1194,7 +1194,7 @@ fn bitwords_positions_111() {
 }
 
 #[test]
-fn bitwords_positions_123() {
+fn bitwords_positions_128() {
     use crate::proved::bitlanes::ops::*;
     use crate::proved::bitlanes::{word, Block, Steps};
     use crate::proved::bitwords::cursors::*;
@@ -1209,7 +1209,7 @@ fn bitwords_positions_123() {
 }
 
 #[test]
-fn bitwords_ranges_17() {
+fn bitwords_ranges_18() {
     use crate::proved::bitlanes::ops::*;
     use crate::proved::bitlanes::{word, Block, Steps};
     use crate::proved::bitwords::cursors::*;
@@ -1224,7 +1224,7 @@ fn bitwords_ranges_17() {
 }
 
 #[test]
-fn bitwords_ranges_35() {
+fn bitwords_ranges_37() {
     use crate::proved::bitlanes::ops::*;
     use crate::proved::bitlanes::{word, Block, Steps};
     use crate::proved::bitwords::cursors::*;
@@ -1238,7 +1238,7 @@ fn bitwords_ranges_35() {
 }
 
 #[test]
-fn bitwords_ranges_54() {
+fn bitwords_ranges_57() {
     use crate::proved::bitlanes::ops::*;
     use crate::proved::bitlanes::{word, Block, Steps};
     use crate::proved::bitwords::cursors::*;
@@ -1252,7 +1252,7 @@ fn bitwords_ranges_54() {
 }
 
 #[test]
-fn bitwords_ranges_71() {
+fn bitwords_ranges_75() {
     use crate::proved::bitlanes::ops::*;
     use crate::proved::bitlanes::{word, Block, Steps};
     use crate::proved::bitwords::cursors::*;
@@ -1267,7 +1267,7 @@ fn bitwords_ranges_71() {
 }
 
 #[test]
-fn bitwords_shifts_15() {
+fn bitwords_shifts_16() {
     use crate::proved::bitlanes::ops::*;
     use crate::proved::bitlanes::{word, Block, Steps};
     use crate::proved::bitwords::cursors::*;
@@ -1282,7 +1282,7 @@ fn bitwords_shifts_15() {
 }
 
 #[test]
-fn bitwords_shifts_34() {
+fn bitwords_shifts_36() {
     use crate::proved::bitlanes::ops::*;
     use crate::proved::bitlanes::{word, Block, Steps};
     use crate::proved::bitwords::cursors::*;
@@ -1297,7 +1297,7 @@ fn bitwords_shifts_34() {
 }
 
 #[test]
-fn bitwords_shifts_60() {
+fn bitwords_shifts_62() {
     use crate::proved::bitlanes::ops::*;
     use crate::proved::bitlanes::{word, Block, Steps};
     use crate::proved::bitwords::cursors::*;
@@ -1312,7 +1312,7 @@ fn bitwords_shifts_60() {
 }
 
 #[test]
-fn bitwords_shifts_77() {
+fn bitwords_shifts_81() {
     use crate::proved::bitlanes::ops::*;
     use crate::proved::bitlanes::{word, Block, Steps};
     use crate::proved::bitwords::cursors::*;
@@ -1428,7 +1428,7 @@ fn fixedbitset_views_changes_56() {
 }
 
 #[test]
-fn fixedbitset_views_copies_13() {
+fn fixedbitset_views_copies_14() {
     use crate::proved::bitlanes::ops::*;
     use crate::proved::bitlanes::{word, Block, Steps};
     use crate::proved::bitwords::cursors::*;
@@ -1444,7 +1444,7 @@ fn fixedbitset_views_copies_13() {
 }
 
 #[test]
-fn fixedbitset_views_copies_27() {
+fn fixedbitset_views_copies_28() {
     use crate::proved::bitlanes::ops::*;
     use crate::proved::bitlanes::{word, Block, Steps};
     use crate::proved::bitwords::cursors::*;
@@ -1461,7 +1461,7 @@ fn fixedbitset_views_copies_27() {
 }
 
 #[test]
-fn fixedbitset_views_copies_45() {
+fn fixedbitset_views_copies_47() {
     use crate::proved::bitlanes::ops::*;
     use crate::proved::bitlanes::{word, Block, Steps};
     use crate::proved::bitwords::cursors::*;
@@ -1478,7 +1478,7 @@ fn fixedbitset_views_copies_45() {
 }
 
 #[test]
-fn fixedbitset_views_copies_63() {
+fn fixedbitset_views_copies_65() {
     use crate::proved::bitlanes::ops::*;
     use crate::proved::bitlanes::{word, Block, Steps};
     use crate::proved::bitwords::cursors::*;
@@ -1495,7 +1495,7 @@ fn fixedbitset_views_copies_63() {
 }
 
 #[test]
-fn fixedbitset_views_copies_81() {
+fn fixedbitset_views_copies_84() {
     use crate::proved::bitlanes::ops::*;
     use crate::proved::bitlanes::{word, Block, Steps};
     use crate::proved::bitwords::cursors::*;
@@ -1512,7 +1512,7 @@ fn fixedbitset_views_copies_81() {
 }
 
 #[test]
-fn fixedbitset_views_gaps_14() {
+fn fixedbitset_views_gaps_16() {
     use crate::proved::bitlanes::ops::*;
     use crate::proved::bitlanes::{word, Block, Steps};
     use crate::proved::bitwords::cursors::*;
@@ -1528,7 +1528,7 @@ fn fixedbitset_views_gaps_14() {
 }
 
 #[test]
-fn fixedbitset_views_gaps_31() {
+fn fixedbitset_views_gaps_34() {
     use crate::proved::bitlanes::ops::*;
     use crate::proved::bitlanes::{word, Block, Steps};
     use crate::proved::bitwords::cursors::*;
@@ -1545,7 +1545,7 @@ fn fixedbitset_views_gaps_31() {
 }
 
 #[test]
-fn fixedbitset_views_neighbours_14() {
+fn fixedbitset_views_neighbours_15() {
     use crate::proved::bitlanes::ops::*;
     use crate::proved::bitlanes::{word, Block, Steps};
     use crate::proved::bitwords::cursors::*;
@@ -1562,7 +1562,7 @@ fn fixedbitset_views_neighbours_14() {
 }
 
 #[test]
-fn fixedbitset_views_neighbours_28() {
+fn fixedbitset_views_neighbours_30() {
     use crate::proved::bitlanes::ops::*;
     use crate::proved::bitlanes::{word, Block, Steps};
     use crate::proved::bitwords::cursors::*;
@@ -1578,7 +1578,7 @@ fn fixedbitset_views_neighbours_28() {
 }
 
 #[test]
-fn fixedbitset_views_neighbours_41() {
+fn fixedbitset_views_neighbours_43() {
     use crate::proved::bitlanes::ops::*;
     use crate::proved::bitlanes::{word, Block, Steps};
     use crate::proved::bitwords::cursors::*;
@@ -1595,7 +1595,7 @@ fn fixedbitset_views_neighbours_41() {
 }
 
 #[test]
-fn fixedbitset_views_neighbours_55() {
+fn fixedbitset_views_neighbours_58() {
     use crate::proved::bitlanes::ops::*;
     use crate::proved::bitlanes::{word, Block, Steps};
     use crate::proved::bitwords::cursors::*;
@@ -1672,7 +1672,7 @@ fn fixedbitset_views_positions_72() {
 }
 
 #[test]
-fn fixedbitset_views_positions_86() {
+fn fixedbitset_views_positions_87() {
     use crate::proved::bitlanes::ops::*;
     use crate::proved::bitlanes::{word, Block, Steps};
     use crate::proved::bitwords::cursors::*;
@@ -1687,7 +1687,7 @@ fn fixedbitset_views_positions_86() {
 }
 
 #[test]
-fn fixedbitset_views_positions_100() {
+fn fixedbitset_views_positions_102() {
     use crate::proved::bitlanes::ops::*;
     use crate::proved::bitlanes::{word, Block, Steps};
     use crate::proved::bitwords::cursors::*;
@@ -1702,7 +1702,7 @@ fn fixedbitset_views_positions_100() {
 }
 
 #[test]
-fn fixedbitset_views_positions_118() {
+fn fixedbitset_views_positions_121() {
     use crate::proved::bitlanes::ops::*;
     use crate::proved::bitlanes::{word, Block, Steps};
     use crate::proved::bitwords::cursors::*;
@@ -1717,7 +1717,7 @@ fn fixedbitset_views_positions_118() {
 }
 
 #[test]
-fn fixedbitset_views_positions_131() {
+fn fixedbitset_views_positions_134() {
     use crate::proved::bitlanes::ops::*;
     use crate::proved::bitlanes::{word, Block, Steps};
     use crate::proved::bitwords::cursors::*;
@@ -1732,7 +1732,7 @@ fn fixedbitset_views_positions_131() {
 }
 
 #[test]
-fn fixedbitset_views_positions_146() {
+fn fixedbitset_views_positions_149() {
     use crate::proved::bitlanes::ops::*;
     use crate::proved::bitlanes::{word, Block, Steps};
     use crate::proved::bitwords::cursors::*;
@@ -1748,7 +1748,7 @@ fn fixedbitset_views_positions_146() {
 }
 
 #[test]
-fn fixedbitset_views_positions_159() {
+fn fixedbitset_views_positions_162() {
     use crate::proved::bitlanes::ops::*;
     use crate::proved::bitlanes::{word, Block, Steps};
     use crate::proved::bitwords::cursors::*;
@@ -1764,7 +1764,7 @@ fn fixedbitset_views_positions_159() {
 }
 
 #[test]
-fn fixedbitset_views_positions_172() {
+fn fixedbitset_views_positions_175() {
     use crate::proved::bitlanes::ops::*;
     use crate::proved::bitlanes::{word, Block, Steps};
     use crate::proved::bitwords::cursors::*;
@@ -1780,7 +1780,7 @@ fn fixedbitset_views_positions_172() {
 }
 
 #[test]
-fn fixedbitset_views_positions_185() {
+fn fixedbitset_views_positions_188() {
     use crate::proved::bitlanes::ops::*;
     use crate::proved::bitlanes::{word, Block, Steps};
     use crate::proved::bitwords::cursors::*;
@@ -1796,7 +1796,7 @@ fn fixedbitset_views_positions_185() {
 }
 
 #[test]
-fn fixedbitset_views_positions_200() {
+fn fixedbitset_views_positions_204() {
     use crate::proved::bitlanes::ops::*;
     use crate::proved::bitlanes::{word, Block, Steps};
     use crate::proved::bitwords::cursors::*;
@@ -1813,7 +1813,7 @@ fn fixedbitset_views_positions_200() {
 }
 
 #[test]
-fn fixedbitset_views_positions_216() {
+fn fixedbitset_views_positions_220() {
     use crate::proved::bitlanes::ops::*;
     use crate::proved::bitlanes::{word, Block, Steps};
     use crate::proved::bitwords::cursors::*;
@@ -1829,7 +1829,7 @@ fn fixedbitset_views_positions_216() {
 }
 
 #[test]
-fn fixedbitset_views_positions_233() {
+fn fixedbitset_views_positions_238() {
     use crate::proved::bitlanes::ops::*;
     use crate::proved::bitlanes::{word, Block, Steps};
     use crate::proved::bitwords::cursors::*;
@@ -1845,7 +1845,7 @@ fn fixedbitset_views_positions_233() {
 }
 
 #[test]
-fn fixedbitset_views_positions_247() {
+fn fixedbitset_views_positions_252() {
     use crate::proved::bitlanes::ops::*;
     use crate::proved::bitlanes::{word, Block, Steps};
     use crate::proved::bitwords::cursors::*;
@@ -1861,7 +1861,7 @@ fn fixedbitset_views_positions_247() {
 }
 
 #[test]
-fn fixedbitset_views_positions_262() {
+fn fixedbitset_views_positions_267() {
     use crate::proved::bitlanes::ops::*;
     use crate::proved::bitlanes::{word, Block, Steps};
     use crate::proved::bitwords::cursors::*;
@@ -1875,7 +1875,7 @@ fn fixedbitset_views_positions_262() {
 }
 
 #[test]
-fn fixedbitset_views_ranges_16() {
+fn fixedbitset_views_ranges_18() {
     use crate::proved::bitlanes::ops::*;
     use crate::proved::bitlanes::{word, Block, Steps};
     use crate::proved::bitwords::cursors::*;
@@ -1891,7 +1891,7 @@ fn fixedbitset_views_ranges_16() {
 }
 
 #[test]
-fn fixedbitset_views_ranges_29() {
+fn fixedbitset_views_ranges_31() {
     use crate::proved::bitlanes::ops::*;
     use crate::proved::bitlanes::{word, Block, Steps};
     use crate::proved::bitwords::cursors::*;
@@ -1907,7 +1907,7 @@ fn fixedbitset_views_ranges_29() {
 }
 
 #[test]
-fn fixedbitset_views_ranges_42() {
+fn fixedbitset_views_ranges_44() {
     use crate::proved::bitlanes::ops::*;
     use crate::proved::bitlanes::{word, Block, Steps};
     use crate::proved::bitwords::cursors::*;
@@ -1923,7 +1923,7 @@ fn fixedbitset_views_ranges_42() {
 }
 
 #[test]
-fn fixedbitset_views_ranges_63() {
+fn fixedbitset_views_ranges_66() {
     use crate::proved::bitlanes::ops::*;
     use crate::proved::bitlanes::{word, Block, Steps};
     use crate::proved::bitwords::cursors::*;
@@ -1939,7 +1939,7 @@ fn fixedbitset_views_ranges_63() {
 }
 
 #[test]
-fn fixedbitset_views_ranges_76() {
+fn fixedbitset_views_ranges_79() {
     use crate::proved::bitlanes::ops::*;
     use crate::proved::bitlanes::{word, Block, Steps};
     use crate::proved::bitwords::cursors::*;
@@ -1954,7 +1954,7 @@ fn fixedbitset_views_ranges_76() {
 }
 
 #[test]
-fn fixedbitset_views_ranges_88() {
+fn fixedbitset_views_ranges_91() {
     use crate::proved::bitlanes::ops::*;
     use crate::proved::bitlanes::{word, Block, Steps};
     use crate::proved::bitwords::cursors::*;
@@ -1969,7 +1969,7 @@ fn fixedbitset_views_ranges_88() {
 }
 
 #[test]
-fn fixedbitset_views_ranges_100() {
+fn fixedbitset_views_ranges_103() {
     use crate::proved::bitlanes::ops::*;
     use crate::proved::bitlanes::{word, Block, Steps};
     use crate::proved::bitwords::cursors::*;
@@ -1984,7 +1984,7 @@ fn fixedbitset_views_ranges_100() {
 }
 
 #[test]
-fn fixedbitset_views_ranges_112() {
+fn fixedbitset_views_ranges_115() {
     use crate::proved::bitlanes::ops::*;
     use crate::proved::bitlanes::{word, Block, Steps};
     use crate::proved::bitwords::cursors::*;
@@ -1999,7 +1999,7 @@ fn fixedbitset_views_ranges_112() {
 }
 
 #[test]
-fn fixedbitset_views_ranges_124() {
+fn fixedbitset_views_ranges_127() {
     use crate::proved::bitlanes::ops::*;
     use crate::proved::bitlanes::{word, Block, Steps};
     use crate::proved::bitwords::cursors::*;
@@ -2014,7 +2014,7 @@ fn fixedbitset_views_ranges_124() {
 }
 
 #[test]
-fn fixedbitset_views_shifts_17() {
+fn fixedbitset_views_shifts_18() {
     use crate::proved::bitlanes::ops::*;
     use crate::proved::bitlanes::{word, Block, Steps};
     use crate::proved::bitwords::cursors::*;
@@ -2031,7 +2031,7 @@ fn fixedbitset_views_shifts_17() {
 }
 
 #[test]
-fn fixedbitset_views_shifts_33() {
+fn fixedbitset_views_shifts_34() {
     use crate::proved::bitlanes::ops::*;
     use crate::proved::bitlanes::{word, Block, Steps};
     use crate::proved::bitwords::cursors::*;
@@ -2047,7 +2047,7 @@ fn fixedbitset_views_shifts_33() {
 }
 
 #[test]
-fn fixedbitset_views_shifts_48() {
+fn fixedbitset_views_shifts_50() {
     use crate::proved::bitlanes::ops::*;
     use crate::proved::bitlanes::{word, Block, Steps};
     use crate::proved::bitwords::cursors::*;
@@ -2064,7 +2064,7 @@ fn fixedbitset_views_shifts_48() {
 }
 
 #[test]
-fn fixedbitset_views_shifts_66() {
+fn fixedbitset_views_shifts_69() {
     use crate::proved::bitlanes::ops::*;
     use crate::proved::bitlanes::{word, Block, Steps};
     use crate::proved::bitwords::cursors::*;
@@ -2081,7 +2081,7 @@ fn fixedbitset_views_shifts_66() {
 }
 
 #[test]
-fn fixedbitset_views_shifts_87() {
+fn fixedbitset_views_shifts_90() {
     use crate::proved::bitlanes::ops::*;
     use crate::proved::bitlanes::{word, Block, Steps};
     use crate::proved::bitwords::cursors::*;
@@ -2098,7 +2098,7 @@ fn fixedbitset_views_shifts_87() {
 }
 
 #[test]
-fn fixedbitset_views_shifts_125() {
+fn fixedbitset_views_shifts_130() {
     use crate::proved::bitlanes::ops::*;
     use crate::proved::bitlanes::{word, Block, Steps};
     use crate::proved::bitwords::cursors::*;
@@ -2129,7 +2129,7 @@ fn fixedbitset_views_walks_16() {
 }
 
 #[test]
-fn fixedbitset_views_walks_29() {
+fn fixedbitset_views_walks_30() {
     use crate::proved::bitlanes::ops::*;
     use crate::proved::bitlanes::{word, Block, Steps};
     use crate::proved::bitwords::cursors::*;
@@ -2145,7 +2145,7 @@ fn fixedbitset_views_walks_29() {
 }
 
 #[test]
-fn fixedbitset_views_walks_45() {
+fn fixedbitset_views_walks_46() {
     use crate::proved::bitlanes::ops::*;
     use crate::proved::bitlanes::{word, Block, Steps};
     use crate::proved::bitwords::cursors::*;
@@ -2161,7 +2161,7 @@ fn fixedbitset_views_walks_45() {
 }
 
 #[test]
-fn fixedbitset_views_walks_60() {
+fn fixedbitset_views_walks_61() {
     use crate::proved::bitlanes::ops::*;
     use crate::proved::bitlanes::{word, Block, Steps};
     use crate::proved::bitwords::cursors::*;
@@ -2176,7 +2176,7 @@ fn fixedbitset_views_walks_60() {
 }
 
 #[test]
-fn fixedbitset_views_walks_72() {
+fn fixedbitset_views_walks_73() {
     use crate::proved::bitlanes::ops::*;
     use crate::proved::bitlanes::{word, Block, Steps};
     use crate::proved::bitwords::cursors::*;
@@ -2191,7 +2191,7 @@ fn fixedbitset_views_walks_72() {
 }
 
 #[test]
-fn fixedbitset_views_walks_84() {
+fn fixedbitset_views_walks_86() {
     use crate::proved::bitlanes::ops::*;
     use crate::proved::bitlanes::{word, Block, Steps};
     use crate::proved::bitwords::cursors::*;
@@ -2206,7 +2206,7 @@ fn fixedbitset_views_walks_84() {
 }
 
 #[test]
-fn fixedbitset_views_walks_96() {
+fn fixedbitset_views_walks_99() {
     use crate::proved::bitlanes::ops::*;
     use crate::proved::bitlanes::{word, Block, Steps};
     use crate::proved::bitwords::cursors::*;
@@ -2221,7 +2221,7 @@ fn fixedbitset_views_walks_96() {
 }
 
 #[test]
-fn fixedbitset_views_walks_108() {
+fn fixedbitset_views_walks_112() {
     use crate::proved::bitlanes::ops::*;
     use crate::proved::bitlanes::{word, Block, Steps};
     use crate::proved::bitwords::cursors::*;
@@ -2236,7 +2236,7 @@ fn fixedbitset_views_walks_108() {
 }
 
 #[test]
-fn fixedbitset_views_whole_19() {
+fn fixedbitset_views_whole_20() {
     use crate::proved::bitlanes::ops::*;
     use crate::proved::bitlanes::{word, Block, Steps};
     use crate::proved::bitwords::cursors::*;
@@ -2253,7 +2253,7 @@ fn fixedbitset_views_whole_19() {
 }
 
 #[test]
-fn fixedbitset_views_whole_33() {
+fn fixedbitset_views_whole_34() {
     use crate::proved::bitlanes::ops::*;
     use crate::proved::bitlanes::{word, Block, Steps};
     use crate::proved::bitwords::cursors::*;
@@ -2270,7 +2270,7 @@ fn fixedbitset_views_whole_33() {
 }
 
 #[test]
-fn fixedbitset_views_whole_47() {
+fn fixedbitset_views_whole_48() {
     use crate::proved::bitlanes::ops::*;
     use crate::proved::bitlanes::{word, Block, Steps};
     use crate::proved::bitwords::cursors::*;
@@ -2287,7 +2287,7 @@ fn fixedbitset_views_whole_47() {
 }
 
 #[test]
-fn fixedbitset_views_whole_61() {
+fn fixedbitset_views_whole_62() {
     use crate::proved::bitlanes::ops::*;
     use crate::proved::bitlanes::{word, Block, Steps};
     use crate::proved::bitwords::cursors::*;
@@ -2304,7 +2304,7 @@ fn fixedbitset_views_whole_61() {
 }
 
 #[test]
-fn fixedbitset_views_whole_83() {
+fn fixedbitset_views_whole_84() {
     use crate::proved::bitlanes::ops::*;
     use crate::proved::bitlanes::{word, Block, Steps};
     use crate::proved::bitwords::cursors::*;
@@ -2320,7 +2320,7 @@ fn fixedbitset_views_whole_83() {
 }
 
 #[test]
-fn fixedbitset_views_whole_96() {
+fn fixedbitset_views_whole_97() {
     use crate::proved::bitlanes::ops::*;
     use crate::proved::bitlanes::{word, Block, Steps};
     use crate::proved::bitwords::cursors::*;
@@ -2336,7 +2336,7 @@ fn fixedbitset_views_whole_96() {
 }
 
 #[test]
-fn fixedbitset_views_whole_109() {
+fn fixedbitset_views_whole_110() {
     use crate::proved::bitlanes::ops::*;
     use crate::proved::bitlanes::{word, Block, Steps};
     use crate::proved::bitwords::cursors::*;
@@ -2352,7 +2352,7 @@ fn fixedbitset_views_whole_109() {
 }
 
 #[test]
-fn fixedbitset_views_whole_122() {
+fn fixedbitset_views_whole_123() {
     use crate::proved::bitlanes::ops::*;
     use crate::proved::bitlanes::{word, Block, Steps};
     use crate::proved::bitwords::cursors::*;
@@ -2369,7 +2369,7 @@ fn fixedbitset_views_whole_122() {
 }
 
 #[test]
-fn fixedbitset_views_whole_136() {
+fn fixedbitset_views_whole_137() {
     use crate::proved::bitlanes::ops::*;
     use crate::proved::bitlanes::{word, Block, Steps};
     use crate::proved::bitwords::cursors::*;
@@ -2385,7 +2385,7 @@ fn fixedbitset_views_whole_136() {
 }
 
 #[test]
-fn fixedbitset_views_whole_149() {
+fn fixedbitset_views_whole_150() {
     use crate::proved::bitlanes::ops::*;
     use crate::proved::bitlanes::{word, Block, Steps};
     use crate::proved::bitwords::cursors::*;
@@ -2401,7 +2401,7 @@ fn fixedbitset_views_whole_149() {
 }
 
 #[test]
-fn fixedbitset_views_whole_164() {
+fn fixedbitset_views_whole_165() {
     use crate::proved::bitlanes::ops::*;
     use crate::proved::bitlanes::{word, Block, Steps};
     use crate::proved::bitwords::cursors::*;
@@ -2418,7 +2418,7 @@ fn fixedbitset_views_whole_164() {
 }
 
 #[test]
-fn fixedbitset_views_whole_178() {
+fn fixedbitset_views_whole_179() {
     use crate::proved::bitlanes::ops::*;
     use crate::proved::bitlanes::{word, Block, Steps};
     use crate::proved::bitwords::cursors::*;
@@ -2434,7 +2434,7 @@ fn fixedbitset_views_whole_178() {
 }
 
 #[test]
-fn fixedbitset_views_whole_194() {
+fn fixedbitset_views_whole_195() {
     use crate::proved::bitlanes::ops::*;
     use crate::proved::bitlanes::{word, Block, Steps};
     use crate::proved::bitwords::cursors::*;

@@ -49,7 +49,8 @@ pub(super) fn push_value(value: &Value, output: &mut Vec<u8>) -> Result<(), Allo
     output.extend_from_slice(text.as_slice())
 }
 
-// The text, and the number behind it, if there is one. Where memory is refused the output is as it was.
+// The text, and the number behind it, if there is one. Where memory is refused
+// the output is as it was.
 pub(super) fn push_numbered(
     text: &str,
     number: Option<usize>,
@@ -123,7 +124,8 @@ impl Part for Block {
     }
 }
 
-// The words, one space between two of them, or `-` where there are none. Where memory is refused the output is as it was.
+// The words, one space between two of them, or `-` where there are none. Where memory is refused
+// the output is as it was.
 pub(super) fn push_words(words: &[Block], output: &mut Vec<u8>) -> Result<(), AllocError>
     ensures ok { OnOk result (output.new.items ≡ output.old.items ++ words_text words.now) }
     ensures err { OnErr result (output.new.items ≡ output.old.items) }
@@ -134,7 +136,8 @@ pub(super) fn push_words(words: &[Block], output: &mut Vec<u8>) -> Result<(), Al
     push_parts(words, output)
 }
 
-// One text for each, one space between two of them. Where memory is refused the output is as it was.
+// One text for each, one space between two of them. Where memory is refused
+// the output is as it was.
 pub(super) fn push_parts<P: Part>(parts: &[P], output: &mut Vec<u8>) -> Result<(), AllocError>
     ensures ok { OnOk result
         (output.new.items ≡ output.old.items ++ spaced_text P.text_of parts.now) }
@@ -174,8 +177,8 @@ pub(super) fn push_number(number: usize, output: &mut Vec<u8>) -> Result<(), All
     output.extend_from_slice(&digits[start..])
 }
 
-// Writes the digits at the end of the buffer, and answers where they start. Two digits a turn halve the divisions that
-// wait for one another.
+// Writes the digits at the end of the buffer, and answers where they start. Two digits a turn halve
+// the divisions that wait for one another.
 #[inline]
 fn write_digits(number: usize, digits: &mut [u8; DIGITS]) -> usize
     ensures inside { result ≤ 20 }

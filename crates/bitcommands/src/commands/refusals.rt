@@ -17,8 +17,8 @@ use serde_json::Value;
 use std::alloc::AllocError;
 use std::fmt;
 
-/// Why a command was not carried out. No set has changed then, but by `extend`: of its items those stand that were taken
-/// in before the refusal.
+/// Why a command was not carried out. No set has changed then, but by `extend`: of its items those
+/// stand that were taken in before the refusal.
 ///
 /// ```
 /// let refusal = Refusal::from(ExtendFault::Position);

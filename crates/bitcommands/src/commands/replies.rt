@@ -48,8 +48,9 @@ impl Reply {
 
     /// Puts the text that `Display` prints behind the output, without a formatter.
     ///
-    /// The text of a JSON value is read back as the value, unless it nests deeper than 127. A value with no number that has
-    /// a fraction or an exponent has but one text, and that has no spaces. A value that `apply` answers is such a one.
+    /// The text of a JSON value is read back as the value, unless it nests deeper than 127. A value
+    /// with no number that has a fraction or an exponent has but one text, and that has no spaces.
+    /// A value that `apply` answers is such a one.
     ///
     /// `Err` comes only where memory for the text was refused. The output is then as it was.
     ///

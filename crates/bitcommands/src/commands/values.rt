@@ -1,4 +1,5 @@
-//! JSON values, written through a formatter without memory. The library's own `Display` promises no text.
+//! JSON values, written through a formatter without memory. The library's own
+//! `Display` promises no text.
 ghost use Rattle.std.specs.Prelude.{◌≡◌, false};
 ghost use Rattle.std.specs.Fmt.{WritesOnOk};
 ghost use Rattle.bitcommands.specs.Quoting.{in_quotes};

@@ -1,5 +1,5 @@
-//! The changes by other sets that answer whether a position changed, with a counter of steps. Each change by one set takes
-//! the steps of the call without the answer.
+//! The changes by other sets that answer whether a position changed, with a counter of steps. Each
+//! change by one set takes the steps of the call without the answer.
 
 ghost use Rattle.std.specs.Prelude.{◌≡◌, ◌<◌, ◌≤◌, ◌+◌, IsOk, IfOk, OnOk, OnErr, not, true, false};
 ghost use Rattle.bitlanes.specs.Words.{lane_steps};

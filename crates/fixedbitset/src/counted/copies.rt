@@ -1,7 +1,8 @@
 //! New sets and copies, with a counter of steps.
 //!
-//! Counted are the lanes that are joined, or copied over a set that is there. What a new set is filled with before, the
-//! rest of the longer set behind, and what is added to a set that grows are not counted.
+//! Counted are the lanes that are joined, or copied over a set that is there. What a new set
+//! is filled with before, the rest of the longer set behind, and what is added to a set that
+//! grows are not counted.
 
 ghost use Rattle.std.specs.Prelude.{◌≡◌, ◌≤◌, ◌+◌, IsOk, IfOk, OnOk, OnErr, true, false};
 ghost use Rattle.bitlanes.specs.Words.{lane_steps};

@@ -1,9 +1,10 @@
 //! Ranges of positions, with a counter of steps.
 //!
-//! A change or a count takes exactly one step for each word that holds a position of the range: so none for an empty
-//! range, and never more than `(end - start) / 64 + 2`. A test takes no more: one step for each lane of four of the words
-//! that are wholly in the range, and one for each other word that holds a position of it. It stops at the first that
-//! decides, which takes one step at least, and takes exactly as many where none does.
+//! A change or a count takes exactly one step for each word that holds a position of the range: so
+//! none for an empty range, and never more than `(end - start) / 64 + 2`. A test takes no more: one
+//! step for each lane of four of the words that are wholly in the range, and one for each other
+//! word that holds a position of it. It stops at the first that decides, which takes one step at
+//! least, and takes exactly as many where none does.
 
 ghost use Rattle.std.specs.Prelude.{◌≡◌, ◌<◌, ◌≤◌, ◌+◌, IsTrue, false, not};
 ghost use Rattle.bitwords.specs.Steps.{range_words, search_steps};

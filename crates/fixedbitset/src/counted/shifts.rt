@@ -1,8 +1,8 @@
 //! Shifts and parts, with a counter of steps.
 //!
-//! A call takes at most one step for each lane of four words that it writes, and one or two more for the words at the ends:
-//! `bound` says so, and `cost` how many it takes. What `grow` writes is not counted, nor what is cleared behind the length in
-//! the last lane.
+//! A call takes at most one step for each lane of four words that it writes, and one or two more
+//! for the words at the ends: `bound` says so, and `cost` how many it takes. What `grow` writes is
+//! not counted, nor what is cleared behind the length in the last lane.
 
 ghost use Rattle.std.specs.Prelude.{◌≡◌, ◌<◌, ◌≤◌, ◌+◌, ◌-◌, ◌/◌, ◌^◌, min, true, false};
 ghost use Rattle.std.specs.Prelude.{if◌then◌else◌, IsTrue, IsOk, IfOk, OnOk, OnErr};
@@ -98,7 +98,8 @@ pub fn union_with_own_shift(set: &mut FixedBitSet, by: usize, steps: &mut Steps)
     BitsMut { words, length }.union_with_own_shift(by, steps);
 }
 
-/// [`FixedBitSet::slice`], with the steps that it takes. That the new words are written as zeros first is not counted.
+/// [`FixedBitSet::slice`], with the steps that it takes. That the new words are written as
+/// zeros first is not counted.
 ///
 /// ```
 /// let set = FixedBitSet::from_iter(alloc, [1, 63, 65, 69])?;
@@ -136,8 +137,8 @@ pub fn slice<R: IndexRange<usize> + Drop>(
 
 /// [`FixedBitSet::copy_range`], with the steps that it takes.
 ///
-/// It takes exactly one step for each lane of four of the words that it writes whole, the last of which may have fewer, and
-/// one for each other word that it writes.
+/// It takes exactly one step for each lane of four of the words that it writes whole, the last of
+/// which may have fewer, and one for each other word that it writes.
 ///
 /// ```
 /// let mut set = FixedBitSet::from_iter(alloc, [0, 2, 65, 69])?;
@@ -200,7 +201,8 @@ pub fn append(
     Ok(())
 }
 
-/// [`FixedBitSet::resize`], with the steps that it takes: one for each word that holds a position that is new and set.
+/// [`FixedBitSet::resize`], with the steps that it takes: one for each word that holds a
+/// position that is new and set.
 ///
 /// ```
 /// let mut set = FixedBitSet::from_iter(alloc, [1, 3])?;

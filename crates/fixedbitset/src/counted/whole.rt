@@ -1,9 +1,10 @@
 //! Whole sets, with a counter of steps.
 //!
-//! A step is one lane of four words in one turn of a kernel. A set of `n` positions has `n / 256` lanes, rounded up. A
-//! change or a count takes exactly one step for each lane that both sets have, and one for each that only one of them has,
-//! where these are cleared or counted. A comparison takes at most as many, since it stops at the first lane that decides;
-//! where it answers `true` exactly as many, and where it answers `false` one at least. `first_lacking` takes exactly those
+//! A step is one lane of four words in one turn of a kernel. A set of `n` positions has `n / 256`
+//! lanes, rounded up. A change or a count takes exactly one step for each lane that both sets have,
+//! and one for each that only one of them has, where these are cleared or counted. A comparison
+//! takes at most as many, since it stops at the first lane that decides; where it answers `true`
+//! exactly as many, and where it answers `false` one at least. `first_lacking` takes exactly those
 //! up to the lane of the position, or all where there is none. What `grow` writes is not counted.
 
 ghost use Rattle.std.specs.Prelude.{◌≡◌, ◌≢◌, ◌<◌, ◌≤◌, ◌↔◌, ◌+◌, ◌/◌, IsTrue};
@@ -269,8 +270,8 @@ pub fn is_subset(set: &FixedBitSet, other: &FixedBitSet, steps: &mut Steps) -> b
     set.as_bits().is_subset(other.as_bits(), steps)
 }
 
-// Joins the longer set `other` to `set`, which grows before. It is a call of its own, so that a set which is as long
-// saves nothing for it.
+// Joins the longer set `other` to `set`, which grows before. It is a call of its own, so that a set
+// which is as long saves nothing for it.
 #[cold]
 #[inline(never)]
 #[tactic(auto, using(crate::proofs::JoinedValues::grown_over, crate::proofs::JoinedValues::grown_length, crate::proofs::Words::given_back, crate::proofs::Words::viewed_length))]

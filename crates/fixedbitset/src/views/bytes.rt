@@ -11,8 +11,8 @@ use bitjson::fills::{fill_bytes, fill_words};
 use bitwords::positions;
 
 impl BitsMut<'_> {
-    /// Leaves the positions that bytes say: position `p` is set where bit `p % 8` of byte `p / 8` is. Bytes that are missing
-    /// count as 0, and bits past the length are dropped.
+    /// Leaves the positions that bytes say: position `p` is set where bit `p % 8` of byte `p / 8`
+    /// is. Bytes that are missing count as 0, and bits past the length are dropped.
     ///
     /// It looks at each byte at most once, and writes over each word.
     ///
@@ -32,8 +32,8 @@ impl BitsMut<'_> {
 }
 
 impl Bits<'_> {
-    /// Writes the bytes of the set: position `p` is bit `p % 8` of byte `p / 8`. There have to be eight for each word that the
-    /// length needs. It writes each byte once.
+    /// Writes the bytes of the set: position `p` is bit `p % 8` of byte `p / 8`. There have to be
+    /// eight for each word that the length needs. It writes each byte once.
     ///
     /// ```
     /// let (mut words, mut data) = ([516, 0, 0, 0], [7; 8]);

@@ -1,5 +1,5 @@
-//! Two whole sets joined, with the answer whether a position of the first one changed. Each takes the steps of the call without
-//! the answer.
+//! Two whole sets joined, with the answer whether a position of the first one changed. Each takes
+//! the steps of the call without the answer.
 
 ghost use Rattle.std.specs.Prelude.{◌≡◌, ◌≤◌, ◌+◌, ◌==◌, ◌||◌, not, true, false};
 ghost use Rattle.bitlanes.specs.Changes.{changes};
@@ -79,8 +79,8 @@ impl BitsMut<'_> {
         self.join_with_change::<AndNot>(other, steps)
     }
 
-    /// Takes in the positions of the second set that the third lacks, and answers whether one came in. The second may not be
-    /// longer than the first.
+    /// Takes in the positions of the second set that the third lacks, and answers whether one came
+    /// in. The second may not be longer than the first.
     ///
     /// ```
     /// let (mut words, mut gens, mut kills) = ([1, 0, 0, 0], [7, 0, 0, 0], [4, 1, 0, 0]);
@@ -108,7 +108,8 @@ impl BitsMut<'_> {
         self.join_difference(gens, kills, steps)
     }
 
-    // Joins the second set, but for the positions of the third, to the first, and answers whether a position changed.
+    // Joins the second set, but for the positions of the third, to the first, and answers
+    // whether a position changed.
     #[inline(always)]
     pub(crate) fn join_difference(
         &mut self,

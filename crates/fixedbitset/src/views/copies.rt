@@ -1,5 +1,5 @@
-//! Sets written over words that stand for nothing yet: copies, and two sets joined. Each word is written once, and there have to
-//! be as many words as a set of the length keeps.
+//! Sets written over words that stand for nothing yet: copies, and two sets joined. Each word is
+//! written once, and there have to be as many words as a set of the length keeps.
 
 ghost use Rattle.std.specs.Prelude.{◌≡◌, ◌≤◌, max, min, true, false};
 ghost use Rattle.std.specs.Prelude as prelude;
@@ -15,7 +15,8 @@ use bitlanes::{Block, Steps};
 use bitwords::{joins, positions};
 
 impl Bits<'_> {
-    /// Makes the words those of a set of `length` positions, with the positions of this set that are below the length.
+    /// Makes the words those of a set of `length` positions, with the positions of this set
+    /// that are below the length.
     ///
     /// ```
     /// let (mut to, mut words) = ([7; 4], [9, 34, 0, 0]);
@@ -57,7 +58,8 @@ impl Bits<'_> {
         }
     }
 
-    /// Makes the words those of a set of the greater length, with the positions of exactly one of the sets.
+    /// Makes the words those of a set of the greater length, with the positions of
+    /// exactly one of the sets.
     ///
     /// ```
     /// let (mut to, mut words, mut other) = ([7; 4], [9, 1, 0, 0], [3, 0, 0, 0]);
@@ -105,7 +107,8 @@ impl Bits<'_> {
         }
     }
 
-    /// Makes the words those of a set of this one's length, with its positions that the second lacks.
+    /// Makes the words those of a set of this one's length, with its positions
+    /// that the second lacks.
     ///
     /// ```
     /// let (mut to, mut words, mut other) = ([7; 4], [9, 1, 0, 0], [3, 0, 0, 0]);

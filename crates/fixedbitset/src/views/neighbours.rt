@@ -1,6 +1,7 @@
 //! The positions of a set next to a given one.
 //!
-//! A step is one lane of four words, but for the first word that is looked at, which is a step by itself.
+//! A step is one lane of four words, but for the first word that is looked at,
+//! which is a step by itself.
 
 ghost use Rattle.std.specs.Prelude.{◌≡◌, ◌+◌, ◌-◌, ◌/◌, ◌<◌, ◌≤◌, min, IfSome, IfNone};
 ghost use Rattle.bitlanes.specs.Words.{lane_steps};
@@ -38,7 +39,8 @@ impl Bits<'_> {
         positions::next::<And>(self.words, from, self.length, steps)
     }
 
-    /// The least position at or past `from` and below the length that is not set, or `None` where there is none.
+    /// The least position at or past `from` and below the length that is not set, or
+    /// `None` where there is none.
     ///
     /// ```
     /// let mut words = [9, 63, 0, 0];
@@ -84,7 +86,8 @@ impl Bits<'_> {
         positions::previous::<And>(self.words, below.min(self.length), steps)
     }
 
-    /// The greatest position below `below` and below the length that is not set, or `None` where there is none.
+    /// The greatest position below `below` and below the length that is not set, or
+    /// `None` where there is none.
     ///
     /// ```
     /// let mut words = [9, 63, 0, 0];

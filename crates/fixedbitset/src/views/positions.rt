@@ -15,9 +15,9 @@ use bitlanes::{Steps, lanes};
 use bitwords::positions;
 
 impl<'a> Bits<'a> {
-    /// The words as a set of `length` positions, or `None` where they are not those of one as they stand: as many whole lanes
-    /// as the length needs, and no bit past it. So words from elsewhere can be refused, where `settle` would clear what does
-    /// not fit.
+    /// The words as a set of `length` positions, or `None` where they are not those of one as they
+    /// stand: as many whole lanes as the length needs, and no bit past it. So words from elsewhere
+    /// can be refused, where `settle` would clear what does not fit.
     ///
     /// It looks at the word of the length and at those behind it, which are at most one lane.
     ///
@@ -38,8 +38,8 @@ impl<'a> Bits<'a> {
         }
     }
 
-    /// The words that the length needs, without those behind them that make up a whole lane: those that
-    /// [`as_slice`](crate::FixedBitSet::as_slice) lends. The walks go over these.
+    /// The words that the length needs, without those behind them that make up a whole lane: those
+    /// that [`as_slice`](crate::FixedBitSet::as_slice) lends. The walks go over these.
     ///
     /// ```
     /// let mut words = [9, 2, 0, 0];
@@ -108,7 +108,8 @@ impl<'a> Bits<'a> {
 
     /// The first position that is set, or `None` where none is.
     ///
-    /// It takes one step for each lane from the first on up to the one that has the position, or for all of them.
+    /// It takes one step for each lane from the first on up to the one that has the
+    /// position, or for all of them.
     ///
     /// ```
     /// let mut words = [0, 6, 0, 0];
@@ -128,7 +129,8 @@ impl<'a> Bits<'a> {
 
     /// The last position that is set, or `None` where none is.
     ///
-    /// It takes one step for each lane from the last on down to the one that has the position, or for all of them.
+    /// It takes one step for each lane from the last on down to the one that has the
+    /// position, or for all of them.
     ///
     /// ```
     /// let mut words = [9, Block::MAX, 0, 0];
@@ -149,11 +151,12 @@ impl<'a> Bits<'a> {
 }
 
 impl<'a> BitsMut<'a> {
-    /// Makes any words those of a set of `length` positions: of the positions that they have those below `kept` stay.
+    /// Makes any words those of a set of `length` positions: of the positions that they have
+    /// those below `kept` stay.
     ///
-    /// So with `kept` 0 no position is set, with `kept` the length none below it is lost, and with the length of before the
-    /// set has grown. There have to be as many words as a set of this length keeps. It writes the word of `kept` and those
-    /// behind it.
+    /// So with `kept` 0 no position is set, with `kept` the length none below it is lost, and with
+    /// the length of before the set has grown. There have to be as many words as a set of this
+    /// length keeps. It writes the word of `kept` and those behind it.
     ///
     /// ```
     /// let mut words = [8, Block::MAX, 1, 0];
@@ -260,7 +263,8 @@ impl<'a> BitsMut<'a> {
         was_set
     }
 
-    /// Clears the position, which has to be below the length, and answers whether it was set before.
+    /// Clears the position, which has to be below the length, and answers
+    /// whether it was set before.
     ///
     /// ```
     /// let mut words = [9, 0, 0, 0];
@@ -301,7 +305,8 @@ impl<'a> BitsMut<'a> {
         }
     }
 
-    /// Makes word `index` the given one. Bits past the length are dropped. The word has to be one that the length needs.
+    /// Makes word `index` the given one. Bits past the length are dropped. The word has to be one
+    /// that the length needs.
     ///
     /// ```
     /// let mut words = [9, 0, 0, 0];
@@ -335,8 +340,8 @@ impl<'a> BitsMut<'a> {
     }
 }
 
-/// How many words a set of so many positions keeps: those that the length needs, and up to three more, so that they make
-/// whole lanes of four.
+/// How many words a set of so many positions keeps: those that the length needs, and up to three
+/// more, so that they make whole lanes of four.
 ///
 /// ```
 /// assert_eq!(rt; views::storage_words(70), 4);

@@ -1,9 +1,11 @@
-//! Ranges of positions, from `start` up to and without `end`. But for `range_is_valid` the range has to be valid.
+//! Ranges of positions, from `start` up to and without `end`. But for `range_is_valid` the
+//! range has to be valid.
 //!
-//! A change or a count takes exactly one step for each word that holds a position of the range: so none for an empty
-//! range, and never more than `(end - start) / 64 + 2`. A test takes no more: one step for each lane of four of the words
-//! that are wholly in the range, and one for each other word that holds a position of it. It stops at the first that
-//! decides, which takes one step at least, and takes exactly as many where none does.
+//! A change or a count takes exactly one step for each word that holds a position of the range: so
+//! none for an empty range, and never more than `(end - start) / 64 + 2`. A test takes no more: one
+//! step for each lane of four of the words that are wholly in the range, and one for each other
+//! word that holds a position of it. It stops at the first that decides, which takes one step at
+//! least, and takes exactly as many where none does.
 
 ghost use Rattle.std.specs.Prelude.{◌≡◌, ◌<◌, ◌≤◌, ◌+◌, ◌==◌, IsTrue, not, true, false};
 ghost use Rattle.bitwords.specs.Steps.{range_words, search_steps};
@@ -86,7 +88,8 @@ impl BitsMut<'_> {
 }
 
 impl Bits<'_> {
-    /// Whether the range is valid: its start is not past its end, and its end not past the length. Every range may be asked.
+    /// Whether the range is valid: its start is not past its end, and its end not past the length.
+    /// Every range may be asked.
     ///
     /// ```
     /// let mut words = [9, 0, 0, 0];

@@ -1,7 +1,8 @@
 //! Positions moved up or down, sets joined with moved ones, and parts.
 //!
-//! A call takes at most one step for each lane that it writes, and one or two more for the words at the ends: `bound` says so,
-//! and `cost` how many it takes. The lanes past the words that the length needs are counted, though they are not moved.
+//! A call takes at most one step for each lane that it writes, and one or two more for the words at
+//! the ends: `bound` says so, and `cost` how many it takes. The lanes past the words that the
+//! length needs are counted, though they are not moved.
 
 ghost use Rattle.std.specs.Prelude.{◌≡◌, ◌≤◌, ◌<◌, ◌+◌, ◌-◌, ◌/◌, ◌&&◌};
 ghost use Rattle.std.specs.Prelude.{nat_le, min, true, false, if◌then◌else◌};
@@ -65,7 +66,8 @@ impl BitsMut<'_> {
         shifts::down(&mut self.words[..used], by, steps);
     }
 
-    /// Takes in each position of the second set moved up by `by`, as far as it is below the length then.
+    /// Takes in each position of the second set moved up by `by`, as far as it is
+    /// below the length then.
     ///
     /// ```
     /// let (mut words, mut other) = ([9, 0, 0, 0], [7, 0, 0, 0]);
@@ -88,7 +90,8 @@ impl BitsMut<'_> {
         positions::clear_from(words, length);
     }
 
-    /// Takes in each position of the set itself moved up by `by`, as far as it is below the length then.
+    /// Takes in each position of the set itself moved up by `by`, as far as it is
+    /// below the length then.
     ///
     /// So where the set has the sums of some numbers, it then has those of these numbers and `by`.
     ///
@@ -113,12 +116,12 @@ impl BitsMut<'_> {
         }
     }
 
-    /// Writes the positions of the other set from `start` up to and without `end` over those of the set from `at` on. All
-    /// others stay.
+    /// Writes the positions of the other set from `start` up to and without `end` over those of the
+    /// set from `at` on. All others stay.
     ///
-    /// The range may not begin behind its end, nor end past the other length. From `at` on it has to end within the length.
-    /// It takes exactly one step for each lane of the words that it writes whole, the last of which may have fewer, and one
-    /// for each other word that it writes.
+    /// The range may not begin behind its end, nor end past the other length. From `at` on it has
+    /// to end within the length. It takes exactly one step for each lane of the words that it
+    /// writes whole, the last of which may have fewer, and one for each other word that it writes.
     ///
     /// ```
     /// let (mut words, mut other) = ([5, 34, 0, 0], [2 | 1 << 63, 2, 0, 0]);
@@ -147,7 +150,8 @@ impl BitsMut<'_> {
         ranges::copy(self.words, at, behind, other.words, start, steps);
     }
 
-    // Joins each position by `O` with the one that stood `by` below it, and cuts the words at the length.
+    // Joins each position by `O` with the one that stood `by` below it, and cuts
+    // the words at the length.
     #[inline(always)]
     fn join_own<O: WordOp>(&mut self, by: usize, steps: &mut Steps)
         requires some { 0 < by }
@@ -167,10 +171,11 @@ impl BitsMut<'_> {
 }
 
 impl Bits<'_> {
-    /// Writes the positions of the range, less its start, over the words, which are then those of a set of its length.
+    /// Writes the positions of the range, less its start, over the words, which are then those
+    /// of a set of its length.
     ///
-    /// The range may not begin behind its end, nor end past the length. There have to be as many words as a set of the
-    /// range's length keeps.
+    /// The range may not begin behind its end, nor end past the length. There have to be as many
+    /// words as a set of the range's length keeps.
     ///
     /// ```
     /// let (mut words, mut to) = ([9, 8, 0, 0], [0; 4]);
@@ -194,8 +199,8 @@ impl Bits<'_> {
     }
 }
 
-// Counts the lanes that are not moved as they hold words past the length alone, which stay 0. It does nothing when the
-// program runs.
+// Counts the lanes that are not moved as they hold words past the length alone, which stay 0. It
+// does nothing when the program runs.
 #[inline(always)]
 fn tick_unmoved(words: usize, used: usize, first: usize, steps: &mut Steps)
     ensures { steps.new ≡ steps.old + (lane_steps (words - first) - lane_steps (used - first)) }

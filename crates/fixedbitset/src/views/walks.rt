@@ -1,7 +1,7 @@
 //! Walks over the positions of a set, and over those that it lacks.
 //!
-//! A walk goes over the words that the length needs, and not over those behind them that make up a whole lane. It has read
-//! the first and the last of them, and those between are not yet taken.
+//! A walk goes over the words that the length needs, and not over those behind them that make up a
+//! whole lane. It has read the first and the last of them, and those between are not yet taken.
 
 ghost use Rattle.std.specs.Prelude.{◌≡◌, IsTrue, map};
 ghost use Rattle.std.specs.Int.{bit_not, w64};
@@ -37,7 +37,8 @@ impl<'a> Bits<'a> {
         Cursor::over(Plain { words })
     }
 
-    /// The positions that both sets have, in ascending order. It looks at no word that only one of them has.
+    /// The positions that both sets have, in ascending order. It looks at no word
+    /// that only one of them has.
     ///
     /// ```
     /// let (mut words, mut other) = ([9, 2, 0, 0], [1, 2, 0, 0]);
@@ -112,7 +113,8 @@ impl<'a> Bits<'a> {
         Runs::below(self.as_slice(), true, self.length)
     }
 
-    /// The stretches of positions below the length that are not set, as start and end, in ascending order.
+    /// The stretches of positions below the length that are not set, as start and
+    /// end, in ascending order.
     ///
     /// ```
     /// let mut words = [Block::MAX, 1, 0, 0];
@@ -130,7 +132,8 @@ impl<'a> Bits<'a> {
         Runs::below(self.as_slice(), false, self.length)
     }
 
-    /// The positions that are set, from `start` up to and without `end`, in ascending order. The range has to be valid.
+    /// The positions that are set, from `start` up to and without `end`, in ascending order. The
+    /// range has to be valid.
     ///
     /// ```
     /// let mut words = [9, 2, 0, 0];
@@ -146,7 +149,8 @@ impl<'a> Bits<'a> {
         ones_within(self.as_slice(), start, end)
     }
 
-    /// The positions that are not set, from `start` up to and without `end`, in ascending order. The range has to be valid.
+    /// The positions that are not set, from `start` up to and without `end`, in ascending order.
+    /// The range has to be valid.
     ///
     /// ```
     /// let mut words = [Block::MAX - 8, 60, 0, 0];
@@ -163,7 +167,8 @@ impl<'a> Bits<'a> {
     }
 }
 
-// The words as they stand. A clause of a slice says that each is below 2 ^ 64, and a field of a struct has none to say it.
+// The words as they stand. A clause of a slice says that each is below 2 ^ 64, and a field of a
+// struct has none to say it.
 #[inline(always)]
 fn all<'a>(lent: &'a [Block]) -> &'a [Block]
     ensures same { result.now ≡ lent.now }

@@ -3,7 +3,8 @@
 
 use crate::proved::bitlanes::Block;
 
-/// Writes over the words those that `source` are the bytes of, as [`words_of_bytes`](crate::proved::bitjson::bytes::words_of_bytes) makes them.
+/// Writes over the words those that `source` are the bytes of, as
+/// [`words_of_bytes`](crate::proved::bitjson::bytes::words_of_bytes) makes them.
 ///
 /// It looks at no more than eight bytes for a word, each once, and takes no memory.
 ///
@@ -18,8 +19,9 @@ pub fn fill_words(source: &[u8], words: &mut [Block]) {
     }
 }
 
-/// Writes the bytes of the words over those of `made`, as [`bytes_of_words`](crate::proved::bitjson::bytes::bytes_of_words) makes them. There have to be eight bytes for
-/// each word.
+/// Writes the bytes of the words over those of `made`, as
+/// [`bytes_of_words`](crate::proved::bitjson::bytes::bytes_of_words) makes them. There have to be
+/// eight bytes for each word.
 ///
 /// It takes no memory.
 ///

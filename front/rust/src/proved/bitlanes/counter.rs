@@ -13,7 +13,8 @@ enum Tally {
 
 /// How many steps were taken: a whole number with no greatest. It takes no bytes.
 ///
-/// A step is one lane of four words that a kernel of `lanes` goes over, or one word that another loop does.
+/// A step is one lane of four words that a kernel of `lanes` goes over, or one word
+/// that another loop does.
 #[derive(Clone)]
 pub struct Steps {
     tally: Snapshot<Tally>,
@@ -48,8 +49,8 @@ impl Steps {
         self.tally = Snapshot::of(&Tally::Next(before));
     }
 
-    /// Counts `words / 4` steps more, rounded up: for a call of std that goes over so many words, and that no kernel is.
-    /// It does nothing when the program runs.
+    /// Counts `words / 4` steps more, rounded up: for a call of std that goes over so many words,
+    /// and that no kernel is. It does nothing when the program runs.
     ///
     /// ```text
     /// let mut steps = Steps::new();

@@ -23,7 +23,8 @@ pub trait WordOp {
     /// Joins two words.
     fn word(a: Block, b: Block) -> Block;
 
-    /// Joins two lanes of four words, each word of the left one with that of the right one at its place.
+    /// Joins two lanes of four words, each word of the left one with that of the
+    /// right one at its place.
     fn lane(left: u64x4, right: u64x4) -> u64x4;
 }
 

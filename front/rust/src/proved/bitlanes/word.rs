@@ -40,7 +40,8 @@ pub fn clear_bit(word: Block, bit: usize) -> Block {
     word & !(1 << bit)
 }
 
-/// The word with its lowest bit that is set clear, and each other bit as it was. The word may not be 0.
+/// The word with its lowest bit that is set clear, and each other bit as it was.
+/// The word may not be 0.
 ///
 /// ```text
 /// assert_eq!(word::clear_lowest_bit(12), 8);
@@ -94,7 +95,8 @@ pub fn ones_below(count: usize) -> Block {
     }
 }
 
-/// The word whose bits from `low` up to and without `high` are set, and no other. Neither may be past 64.
+/// The word whose bits from `low` up to and without `high` are set, and no other.
+/// Neither may be past 64.
 ///
 /// Where `high` is `low` or less, no bit is set.
 ///

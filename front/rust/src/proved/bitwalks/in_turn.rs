@@ -1,5 +1,6 @@
 // Made by front/erase from crates/bitwalks/src/in_turn.rt: change that, and not this.
-//! Two walks in turn: from the front the first and then the second, from the back the second and then the first.
+//! Two walks in turn: from the front the first and then the second, from the back the
+//! second and then the first.
 
 use crate::proved::bitwords::cursors::{Cursor, Middle};
 
@@ -37,7 +38,8 @@ impl<M: Middle> Part for Cursor<M> {
 pub struct InTurn<A: Part, B: Part> {
     first: A,
     second: B,
-    // Whether the first walk may still have items: once it gave none, no call from the front asks it again.
+    // Whether the first walk may still have items: once it gave none, no call from
+    // the front asks it again.
     first_left: bool,
 }
 
@@ -52,8 +54,8 @@ impl<A: Part, B: Part> InTurn<A, B> {
         }
     }
 
-    /// The first item that the first walk has left, and once it has none, the first of the second. A first walk that
-    /// gave none is not asked again.
+    /// The first item that the first walk has left, and once it has none, the first of the second.
+    /// A first walk that gave none is not asked again.
     #[inline]
     pub fn take_first(&mut self) -> Option<usize> {
         // A loop of one turn at most, so that the compiler keeps the caller's numbers in registers.
@@ -66,8 +68,8 @@ impl<A: Part, B: Part> InTurn<A, B> {
         self.second.take_first()
     }
 
-    /// The last item that the second walk has left, and where it has none, the last of the first. A first walk that gave
-    /// none from the front is not asked again.
+    /// The last item that the second walk has left, and where it has none, the last of the first. A
+    /// first walk that gave none from the front is not asked again.
     #[inline]
     pub fn take_last(&mut self) -> Option<usize> {
         if let Some(position) = self.second.take_last() {
@@ -80,7 +82,8 @@ impl<A: Part, B: Part> InTurn<A, B> {
         }
     }
 
-    /// The sum of what both have, which is not below the number of items left, where it is a `usize`.
+    /// The sum of what both have, which is not below the number of items left,
+    /// where it is a `usize`.
     #[inline]
     pub fn most(&self) -> Option<usize> {
         self.first.most()?.checked_add(self.second.most()?)

@@ -1,10 +1,10 @@
 // Made by front/erase from crates/bitwalks/src/runs.rt: change that, and not this.
-//! The stretches of positions that follow each other without a gap, as start and end: those that are set, and those that
-//! are not.
+//! The stretches of positions that follow each other without a gap, as start and end: those that
+//! are set, and those that are not.
 //!
-//! A call looks for the next position that is like the others or unlike them, sixteen words at a time. So a stretch costs
-//! by its words and not by its positions. Proofs see the stretches left, the ends of where they are, and a count of steps
-//! that takes no bytes when the program runs.
+//! A call looks for the next position that is like the others or unlike them, sixteen words at a
+//! time. So a stretch costs by its words and not by its positions. Proofs see the stretches left,
+//! the ends of where they are, and a count of steps that takes no bytes when the program runs.
 
 use crate::proved::bitlanes::Steps;
 use crate::proved::bitlanes::ops::{And, AndNot};
@@ -12,8 +12,8 @@ use crate::proved::bitlanes::word::{BITS, Block};
 use crate::proved::bitwords::positions::{next, previous};
 use core::iter::FusedIterator;
 
-/// The stretches of positions that are set, or of those that are not, in ascending order. A set makes it by `runs` and by
-/// `zero_runs`.
+/// The stretches of positions that are set, or of those that are not, in ascending order. A set
+/// makes it by `runs` and by `zero_runs`.
 ///
 /// It borrows the words and takes no memory.
 ///
@@ -36,8 +36,8 @@ pub struct Runs<'a> {
     steps: Steps,
 }
 
-/// What a walk over stretches holds, for a caller that keeps its fields and no walk: the words, whether its positions are
-/// set, how many positions there are, and where the stretches left are.
+/// What a walk over stretches holds, for a caller that keeps its fields and no walk: the words,
+/// whether its positions are set, how many positions there are, and where the stretches left are.
 #[derive(Clone)]
 pub struct HeldRuns<'a> {
     pub words: &'a [Block],
@@ -48,8 +48,8 @@ pub struct HeldRuns<'a> {
 }
 
 impl<'a> Runs<'a> {
-    /// The stretches of the positions below `end` that are set in the words, or of those that are not. `end` may not be
-    /// past the words.
+    /// The stretches of the positions below `end` that are set in the words, or of those that are
+    /// not. `end` may not be past the words.
     ///
     /// ```text
     /// let words = [12, 1];
@@ -138,8 +138,9 @@ fn previous_like(words: &[Block], are_set: bool, below: usize, steps: &mut Steps
 impl<'a> Iterator for Runs<'a> {
     type Item = (usize, usize);
 
-    /// The first stretch left, or `None` where none is, and then for good. It takes one step for each four words that it goes
-    /// over, one to four more where it gives a stretch, and none to four more where it gives none.
+    /// The first stretch left, or `None` where none is, and then for good. It takes one step for
+    /// each four words that it goes over, one to four more where it gives a stretch, and none to
+    /// four more where it gives none.
     #[inline]
     fn next(&mut self) -> Option<(usize, usize)> {
         if self.low == self.high {
@@ -157,8 +158,9 @@ impl<'a> Iterator for Runs<'a> {
 }
 
 impl<'a> DoubleEndedIterator for Runs<'a> {
-    /// The last stretch left, or `None` where none is, and then for good. It takes one step for each four words that it goes
-    /// over, one to four more where it gives a stretch, and none to four more where it gives none.
+    /// The last stretch left, or `None` where none is, and then for good. It takes one step for
+    /// each four words that it goes over, one to four more where it gives a stretch, and none to
+    /// four more where it gives none.
     #[inline]
     fn next_back(&mut self) -> Option<(usize, usize)> {
         if self.low == self.high {

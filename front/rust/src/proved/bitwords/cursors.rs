@@ -1,9 +1,9 @@
 // Made by front/erase from crates/bitwords/src/cursors.rt: change that, and not this.
 //! A cursor over the positions that are set in a row of words, in ascending order, from both ends.
 //!
-//! It holds the first and the last word of those left, without the bits that were given. The words between them stand in
-//! a `Middle`, which says where they come from: a slice, a slice of inverted words, two slices joined, or a vector that the
-//! cursor owns.
+//! It holds the first and the last word of those left, without the bits that were given. The words
+//! between them stand in a `Middle`, which says where they come from: a slice, a slice of inverted
+//! words, two slices joined, or a vector that the cursor owns.
 
 use crate::proved::bitlanes::counter::Steps;
 use crate::proved::bitlanes::ops::WordOp;
@@ -93,8 +93,8 @@ impl<'a> Middle for Inverted<'a> {
     }
 }
 
-/// Words of a slice, each joined by `O` with the word at its place of another slice. Past the end of that it is joined
-/// with 0.
+/// Words of a slice, each joined by `O` with the word at its place of another slice. Past the end
+/// of that it is joined with 0.
 ///
 /// So the positions of a word are looked up in the other slice at once, when the word is taken.
 ///
@@ -187,8 +187,9 @@ fn ends_of<M: Middle>(mut words: M) -> Ends<M> {
     }
 }
 
-/// What a cursor holds, for a caller that keeps its fields and no cursor: the first and the last word of those left
-/// without the bits that were given, the positions of their bits 0, and the words between them.
+/// What a cursor holds, for a caller that keeps its fields and no cursor: the first and the
+/// last word of those left without the bits that were given, the positions of their bits 0, and
+/// the words between them.
 #[derive(Clone)]
 pub struct Held<M> {
     pub front: Block,
@@ -200,7 +201,8 @@ pub struct Held<M> {
 
 /// The positions set in a row of words, in ascending order, from both ends.
 ///
-/// A call makes one turn, and one more for each word that it takes. The two counts take no bytes when the program runs.
+/// A call makes one turn, and one more for each word that it takes. The two counts take no bytes
+/// when the program runs.
 ///
 /// ```text
 /// let words = [8, 0, 1].to_vec(alloc)?;
@@ -223,7 +225,8 @@ pub struct Cursor<M: Middle> {
 }
 
 impl<M: Middle> Cursor<M> {
-    /// The positions set in the words. The first and the last word are read; those between are not yet taken.
+    /// The positions set in the words. The first and the last word are read; those
+    /// between are not yet taken.
     ///
     /// ```text
     /// let cursor = Cursor::over(Plain { words: &[9, 0, 1] });
@@ -236,8 +239,8 @@ impl<M: Middle> Cursor<M> {
         Cursor::placed(ends, 0, back_at)
     }
 
-    /// Those of the positions from `low` up to and without `end`, each moved up by `at`. `low` lies in the first word, and
-    /// `end` in the last one or at its end.
+    /// Those of the positions from `low` up to and without `end`, each moved up by `at`. `low` lies
+    /// in the first word, and `end` in the last one or at its end.
     ///
     /// ```text
     /// let cursor = Cursor::within(Plain { words: &[9, 255] }, 640, 1, 66);
@@ -307,7 +310,8 @@ impl<M: Middle> Cursor<M> {
         }
     }
 
-    // The words stand at these positions, the ones between the first and the last one behind the other.
+    // The words stand at these positions, the ones between the first and the
+    // last one behind the other.
     #[inline(always)]
     fn placed(ends: Ends<M>, front_at: usize, back_at: usize) -> Cursor<M> {
         Cursor {
@@ -344,7 +348,8 @@ impl<M: Middle> Iterator for Cursor<M> {
                         return None;
                     }
                     let position = self.back_at + take_lowest_bit(&mut self.back);
-                    // The last word comes to the front: its other bits are then given as those of every word.
+                    // The last word comes to the front: its other bits are then given
+                    // as those of every word.
                     self.front = self.back;
                     self.front_at = self.back_at;
                     self.back = 0;
@@ -354,8 +359,8 @@ impl<M: Middle> Iterator for Cursor<M> {
         }
     }
 
-    /// At least 0, and at most 64 for each word not yet taken and for each of the two that the cursor holds. The latter
-    /// is `None` where it is no `usize`.
+    /// At least 0, and at most 64 for each word not yet taken and for each of the two that the
+    /// cursor holds. The latter is `None` where it is no `usize`.
     #[inline]
     fn size_hint(&self) -> (usize, Option<usize>) {
         (0, (self.middle.left() + 2).checked_mul(BITS))
@@ -388,8 +393,8 @@ impl<M: Middle> DoubleEndedIterator for Cursor<M> {
     }
 }
 
-/// The positions of the row that are set, from `start` up to and without `end`. No other word than those that hold a
-/// position of the range is looked at.
+/// The positions of the row that are set, from `start` up to and without `end`. No other word than
+/// those that hold a position of the range is looked at.
 ///
 /// ```text
 /// let cursor = cursors::ones_within(&[9, 0, 7], 3, 130);
@@ -403,8 +408,8 @@ pub fn ones_within<'a>(words: &'a [Block], start: usize, end: usize) -> Cursor<P
     Cursor::within(Plain { words }, at, start - at, end - at)
 }
 
-/// The positions of the row that are not set, from `start` up to and without `end`. No other word than those that hold a
-/// position of the range is looked at.
+/// The positions of the row that are not set, from `start` up to and without `end`. No other word
+/// than those that hold a position of the range is looked at.
 ///
 /// ```text
 /// let cursor = cursors::zeroes_within(&[Block::MAX, 5], 60, 68);

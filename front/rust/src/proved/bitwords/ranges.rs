@@ -1,8 +1,9 @@
 // Made by front/erase from crates/bitwords/src/ranges.rt: change that, and not this.
 //! A range of positions of one row: changes, counts and tests, and a copy from another row.
 //!
-//! A range is cut at the edges of words into three parts: positions of its first word, whole words, and positions of its
-//! last word. Each part may be empty. So no word but the first and the last is masked.
+//! A range is cut at the edges of words into three parts: positions of its first word, whole
+//! words, and positions of its last word. Each part may be empty. So no word but the first
+//! and the last is masked.
 
 use crate::proved::bitwords::shifts::join_down;
 use crate::proved::bitlanes::ops::{Second, WordOp};
@@ -28,7 +29,8 @@ pub fn change<O: WordOp>(words: &mut [Block], start: usize, end: usize, steps: &
     change_whole::<O>(words, low / BITS, high / BITS, steps);
 }
 
-/// How many positions of the range, each as one that is set joined by `O` with its bit in the words, are set then.
+/// How many positions of the range, each as one that is set joined by `O` with its bit in
+/// the words, are set then.
 ///
 /// It takes exactly one step for each word that holds a position of the range.
 ///
@@ -47,9 +49,10 @@ pub fn count<O: WordOp>(words: &[Block], start: usize, end: usize, steps: &mut S
 
 /// Whether `count` is 0.
 ///
-/// It stops at the first lane or word that decides, so it takes at most `search_steps`: one step for each lane of four of
-/// the words that are wholly in the range, the last of which may have fewer, and one for each other word that holds a
-/// position of it. Where it answers `true` it takes exactly as many, and where it answers `false` at least one.
+/// It stops at the first lane or word that decides, so it takes at most `search_steps`: one step
+/// for each lane of four of the words that are wholly in the range, the last of which may have
+/// fewer, and one for each other word that holds a position of it. Where it answers `true` it takes
+/// exactly as many, and where it answers `false` at least one.
 ///
 /// ```text
 /// assert!(ranges::none::<And>(&[0, 8], 0, 67, &mut Steps::new()));
@@ -65,8 +68,9 @@ pub fn none<O: WordOp>(words: &[Block], start: usize, end: usize, steps: &mut St
 
 /// Writes the positions of `other` from `from` on over those of the range; the others stay.
 ///
-/// It takes exactly `search_steps`: one step for each lane of four of the words that are wholly in the range, the last of
-/// which may have fewer, and one for each other word that holds a position of it.
+/// It takes exactly `search_steps`: one step for each lane of four of the words that are
+/// wholly in the range, the last of which may have fewer, and one for each other word that
+/// holds a position of it.
 ///
 /// ```text
 /// let mut words = [9, 9];
@@ -95,7 +99,8 @@ pub fn copy(
     copy_part(words, high, end, other, from + (high - start), steps);
 }
 
-// Where the whole words of the range begin and where they end. If it has none, both are the same place.
+// Where the whole words of the range begin and where they end. If it has none,
+// both are the same place.
 #[inline(always)]
 fn cut(start: usize, end: usize) -> (usize, usize) {
     let low = start + (end - start).min((BITS - start % BITS) % BITS);
@@ -171,7 +176,8 @@ fn none_part<O: WordOp>(words: &[Block], start: usize, end: usize, steps: &mut S
 // `none`, for the words from `first` up to and without `last`.
 #[inline(always)]
 fn none_whole<O: WordOp>(words: &[Block], first: usize, last: usize, steps: &mut Steps) -> bool {
-    // A single word is tested by itself: as a lane with zeros it would go through a vector register.
+    // A single word is tested by itself: as a lane with zeros it would go
+    // through a vector register.
     if last - first == 1 {
         steps.tick();
         return O::word(Block::MAX, words[first]) == 0;

@@ -1,7 +1,8 @@
 // Made by front/erase from crates/fixedbitset/src/lib.rt: change that, and not this.
 //! A set of bits with a length: the crate `fixedbitset` of Rust, written anew and proved.
 //!
-//! A set is seen by every contract as its length in bits and the set of positions below it that are set
-//! (`specs/Bits.antt`). It is kept in words of 64 bits: position `p` is bit `p % 64` of word `p / 64`.
+//! A set is seen by every contract as its length in bits and the set of positions below it
+//! that are set (`specs/Bits.antt`). It is kept in words of 64 bits: position `p` is bit `p
+//! % 64` of word `p / 64`.
 pub mod views;
 pub use self::views::{Bits, BitsMut};

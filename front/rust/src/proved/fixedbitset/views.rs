@@ -1,12 +1,14 @@
 // Made by front/erase from crates/fixedbitset/src/views.rt: change that, and not this.
 //! A set over words that someone else keeps: `Bits` to be read, and `BitsMut` to be changed.
 //!
-//! They are to a `FixedBitSet` what slices are to a `Vec`, and have each of its calls that takes no memory. The words are
-//! those of a set of the length: whole lanes of four words, as many as the length needs, and no bit past it (`IsClean`).
-//! `Bits::over` looks whether words are such, and `BitsMut::settle` makes any words so. Positions and ranges are those of the
-//! calls of `FixedBitSet` with the same names, which hand over to these.
+//! They are to a `FixedBitSet` what slices are to a `Vec`, and have each of its calls that takes no
+//! memory. The words are those of a set of the length: whole lanes of four words, as many as the
+//! length needs, and no bit past it (`IsClean`). `Bits::over` looks whether words are such, and
+//! `BitsMut::settle` makes any words so. Positions and ranges are those of the calls of
+//! `FixedBitSet` with the same names, which hand over to these.
 //!
-//! A step is one lane of four words in one turn of a kernel. A set of `n` positions has `n / 256` lanes, rounded up.
+//! A step is one lane of four words in one turn of a kernel. A set of `n` positions has `n /
+//! 256` lanes, rounded up.
 
 mod bytes;
 mod changes;

@@ -8,8 +8,10 @@ use crate::proved::fixedbitset::views::storage_words;
 use crate::proved::fixedbitset::{Bits, BitsMut};
 
 impl<'a> RowsMut<'a> {
-    /// Makes any words those of a table of so many rows and columns, with no bit. There have to be as many words as it keeps:
-    /// for each row as many as [`storage_words`](fixedbitset::views::storage_words) of the columns. It writes each word once.
+    /// Makes any words those of a table of so many rows and columns, with no bit.
+    /// There have to be as many words as it keeps: for each row as many as
+    /// [`storage_words`](fixedbitset::views::storage_words) of the columns. It
+    /// writes each word once.
     ///
     /// ```text
     /// let mut words = [7; 8];
@@ -42,8 +44,8 @@ impl<'a> RowsMut<'a> {
         }
     }
 
-    /// Sets the bit of the row at the column, or clears it where `enabled` is false. The table has to have both. It writes one
-    /// word.
+    /// Sets the bit of the row at the column, or clears it where `enabled` is false. The table has
+    /// to have both. It writes one word.
     ///
     /// ```text
     /// let mut words = [7; 8];
@@ -59,8 +61,9 @@ impl<'a> RowsMut<'a> {
         set_in(&mut self.words[start..end], self.columns, column, enabled);
     }
 
-    /// Row `into` takes in the bits of row `from`, and the other rows stay. It answers whether a bit came in. The table has to
-    /// have both rows; where they are one, nothing changes. It reads each word of the two rows once.
+    /// Row `into` takes in the bits of row `from`, and the other rows stay. It answers whether a
+    /// bit came in. The table has to have both rows; where they are one, nothing changes. It reads
+    /// each word of the two rows once.
     ///
     /// ```text
     /// let mut words = [7; 8];
@@ -78,9 +81,9 @@ impl<'a> RowsMut<'a> {
         join_rows(self.words, self.rows, wide, self.columns, from, into)
     }
 
-    /// The transitive closure of the graph that has an edge from each row to each column at which the row has a bit, with the
-    /// joins of two rows that it makes: one for each pair of nodes `a` and `k` with a path from `a` to `k` whose nodes between
-    /// its ends are all below `k`.
+    /// The transitive closure of the graph that has an edge from each row to each column at which
+    /// the row has a bit, with the joins of two rows that it makes: one for each pair of nodes `a`
+    /// and `k` with a path from `a` to `k` whose nodes between its ends are all below `k`.
     ///
     /// ```text
     /// let mut words = [7; 12];

@@ -24,7 +24,8 @@ impl<'a> Rows<'a> {
         }
     }
 
-    /// Whether the row has a bit at the column: `false` past the columns. The row has to be one of the table's.
+    /// Whether the row has a bit at the column: `false` past the columns. The row has to
+    /// be one of the table's.
     ///
     /// ```text
     /// let mut words = [7; 8];

@@ -1,6 +1,6 @@
 // Made by front/erase from crates/fixedbitset/src/views/copies.rt: change that, and not this.
-//! Sets written over words that stand for nothing yet: copies, and two sets joined. Each word is written once, and there have to
-//! be as many words as a set of the length keeps.
+//! Sets written over words that stand for nothing yet: copies, and two sets joined. Each word is
+//! written once, and there have to be as many words as a set of the length keeps.
 
 use crate::proved::fixedbitset::views::Bits;
 use crate::proved::bitlanes::ops::{And, AndNot, Or, Second, WordOp, Xor};
@@ -8,7 +8,8 @@ use crate::proved::bitlanes::{Block, Steps};
 use crate::proved::bitwords::{joins, positions};
 
 impl Bits<'_> {
-    /// Makes the words those of a set of `length` positions, with the positions of this set that are below the length.
+    /// Makes the words those of a set of `length` positions, with the positions of this set
+    /// that are below the length.
     ///
     /// ```text
     /// let (mut to, mut words) = ([7; 4], [9, 34, 0, 0]);
@@ -40,7 +41,8 @@ impl Bits<'_> {
         }
     }
 
-    /// Makes the words those of a set of the greater length, with the positions of exactly one of the sets.
+    /// Makes the words those of a set of the greater length, with the positions of
+    /// exactly one of the sets.
     ///
     /// ```text
     /// let (mut to, mut words, mut other) = ([7; 4], [9, 1, 0, 0], [3, 0, 0, 0]);
@@ -76,7 +78,8 @@ impl Bits<'_> {
         }
     }
 
-    /// Makes the words those of a set of this one's length, with its positions that the second lacks.
+    /// Makes the words those of a set of this one's length, with its positions
+    /// that the second lacks.
     ///
     /// ```text
     /// let (mut to, mut words, mut other) = ([7; 4], [9, 1, 0, 0], [3, 0, 0, 0]);

@@ -6,10 +6,12 @@ use crate::proved::bitlanes::Steps;
 use crate::proved::bitwords::gaps;
 
 impl Bits<'_> {
-    /// The least number at or past `from` with `count` clear positions from there on, or `None` where there is none.
+    /// The least number at or past `from` with `count` clear positions from there on, or
+    /// `None` where there is none.
     ///
-    /// It takes one step for each lane from that of `from` up to the end of the gap. Where there is none they are at least those
-    /// up to the last place with room for one, and at most those up to the length.
+    /// It takes one step for each lane from that of `from` up to the end of the gap. Where
+    /// there is none they are at least those up to the last place with room for one, and at
+    /// most those up to the length.
     ///
     /// ```text
     /// let mut words = [9, 2, 0, 0];
@@ -22,11 +24,12 @@ impl Bits<'_> {
         gaps::first(self.words, from, self.length, count, steps)
     }
 
-    /// The least multiple of `align` from `start` on with `count` clear positions from there on, all below `end`, or `None` where
-    /// there is none. The only multiple of 0 is 0. The range has to be valid.
+    /// The least multiple of `align` from `start` on with `count` clear positions from there
+    /// on, all below `end`, or `None` where there is none. The only multiple of 0 is 0. The
+    /// range has to be valid.
     ///
-    /// It takes at most two steps for each lane of the range, and two for each multiple that may stand in it. Where there is such
-    /// a gap they are at least those of its own lanes.
+    /// It takes at most two steps for each lane of the range, and two for each multiple that may
+    /// stand in it. Where there is such a gap they are at least those of its own lanes.
     ///
     /// ```text
     /// let mut words = [9, 2, 0, 0];

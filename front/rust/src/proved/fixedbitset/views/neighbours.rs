@@ -1,7 +1,8 @@
 // Made by front/erase from crates/fixedbitset/src/views/neighbours.rt: change that, and not this.
 //! The positions of a set next to a given one.
 //!
-//! A step is one lane of four words, but for the first word that is looked at, which is a step by itself.
+//! A step is one lane of four words, but for the first word that is looked at,
+//! which is a step by itself.
 
 use crate::proved::fixedbitset::views::Bits;
 use crate::proved::bitlanes::Steps;
@@ -23,7 +24,8 @@ impl Bits<'_> {
         positions::next::<And>(self.words, from, self.length, steps)
     }
 
-    /// The least position at or past `from` and below the length that is not set, or `None` where there is none.
+    /// The least position at or past `from` and below the length that is not set, or
+    /// `None` where there is none.
     ///
     /// ```text
     /// let mut words = [9, 63, 0, 0];
@@ -50,7 +52,8 @@ impl Bits<'_> {
         positions::previous::<And>(self.words, below.min(self.length), steps)
     }
 
-    /// The greatest position below `below` and below the length that is not set, or `None` where there is none.
+    /// The greatest position below `below` and below the length that is not set, or
+    /// `None` where there is none.
     ///
     /// ```text
     /// let mut words = [9, 63, 0, 0];

@@ -7,9 +7,9 @@ use crate::proved::bitlanes::{Steps, lanes};
 use crate::proved::bitwords::positions;
 
 impl<'a> Bits<'a> {
-    /// The words as a set of `length` positions, or `None` where they are not those of one as they stand: as many whole lanes
-    /// as the length needs, and no bit past it. So words from elsewhere can be refused, where `settle` would clear what does
-    /// not fit.
+    /// The words as a set of `length` positions, or `None` where they are not those of one as they
+    /// stand: as many whole lanes as the length needs, and no bit past it. So words from elsewhere
+    /// can be refused, where `settle` would clear what does not fit.
     ///
     /// It looks at the word of the length and at those behind it, which are at most one lane.
     ///
@@ -27,8 +27,8 @@ impl<'a> Bits<'a> {
         }
     }
 
-    /// The words that the length needs, without those behind them that make up a whole lane: those that
-    /// [`as_slice`](crate::proved::fixedbitset::FixedBitSet::as_slice) lends. The walks go over these.
+    /// The words that the length needs, without those behind them that make up a whole lane: those
+    /// that [`as_slice`](crate::proved::fixedbitset::FixedBitSet::as_slice) lends. The walks go over these.
     ///
     /// ```text
     /// let mut words = [9, 2, 0, 0];
@@ -81,7 +81,8 @@ impl<'a> Bits<'a> {
 
     /// The first position that is set, or `None` where none is.
     ///
-    /// It takes one step for each lane from the first on up to the one that has the position, or for all of them.
+    /// It takes one step for each lane from the first on up to the one that has the
+    /// position, or for all of them.
     ///
     /// ```text
     /// let mut words = [0, 6, 0, 0];
@@ -95,7 +96,8 @@ impl<'a> Bits<'a> {
 
     /// The last position that is set, or `None` where none is.
     ///
-    /// It takes one step for each lane from the last on down to the one that has the position, or for all of them.
+    /// It takes one step for each lane from the last on down to the one that has the
+    /// position, or for all of them.
     ///
     /// ```text
     /// let mut words = [9, Block::MAX, 0, 0];
@@ -109,11 +111,12 @@ impl<'a> Bits<'a> {
 }
 
 impl<'a> BitsMut<'a> {
-    /// Makes any words those of a set of `length` positions: of the positions that they have those below `kept` stay.
+    /// Makes any words those of a set of `length` positions: of the positions that they have
+    /// those below `kept` stay.
     ///
-    /// So with `kept` 0 no position is set, with `kept` the length none below it is lost, and with the length of before the
-    /// set has grown. There have to be as many words as a set of this length keeps. It writes the word of `kept` and those
-    /// behind it.
+    /// So with `kept` 0 no position is set, with `kept` the length none below it is lost, and with
+    /// the length of before the set has grown. There have to be as many words as a set of this
+    /// length keeps. It writes the word of `kept` and those behind it.
     ///
     /// ```text
     /// let mut words = [8, Block::MAX, 1, 0];
@@ -195,7 +198,8 @@ impl<'a> BitsMut<'a> {
         was_set
     }
 
-    /// Clears the position, which has to be below the length, and answers whether it was set before.
+    /// Clears the position, which has to be below the length, and answers
+    /// whether it was set before.
     ///
     /// ```text
     /// let mut words = [9, 0, 0, 0];
@@ -228,7 +232,8 @@ impl<'a> BitsMut<'a> {
         }
     }
 
-    /// Makes word `index` the given one. Bits past the length are dropped. The word has to be one that the length needs.
+    /// Makes word `index` the given one. Bits past the length are dropped. The word has to be one
+    /// that the length needs.
     ///
     /// ```text
     /// let mut words = [9, 0, 0, 0];
@@ -256,8 +261,8 @@ impl<'a> BitsMut<'a> {
     }
 }
 
-/// How many words a set of so many positions keeps: those that the length needs, and up to three more, so that they make
-/// whole lanes of four.
+/// How many words a set of so many positions keeps: those that the length needs, and up to three
+/// more, so that they make whole lanes of four.
 ///
 /// ```text
 /// assert_eq!(views::storage_words(70), 4);

@@ -1,8 +1,9 @@
 // Made by front/erase from crates/fixedbitset/src/views/shifts.rt: change that, and not this.
 //! Positions moved up or down, sets joined with moved ones, and parts.
 //!
-//! A call takes at most one step for each lane that it writes, and one or two more for the words at the ends: `bound` says so,
-//! and `cost` how many it takes. The lanes past the words that the length needs are counted, though they are not moved.
+//! A call takes at most one step for each lane that it writes, and one or two more for the words at
+//! the ends: `bound` says so, and `cost` how many it takes. The lanes past the words that the
+//! length needs are counted, though they are not moved.
 
 use crate::proved::fixedbitset::views::{Bits, BitsMut};
 use crate::proved::bitlanes::lanes::LANE;
@@ -43,7 +44,8 @@ impl BitsMut<'_> {
         shifts::down(&mut self.words[..used], by, steps);
     }
 
-    /// Takes in each position of the second set moved up by `by`, as far as it is below the length then.
+    /// Takes in each position of the second set moved up by `by`, as far as it is
+    /// below the length then.
     ///
     /// ```text
     /// let (mut words, mut other) = ([9, 0, 0, 0], [7, 0, 0, 0]);
@@ -59,7 +61,8 @@ impl BitsMut<'_> {
         positions::clear_from(words, length);
     }
 
-    /// Takes in each position of the set itself moved up by `by`, as far as it is below the length then.
+    /// Takes in each position of the set itself moved up by `by`, as far as it is
+    /// below the length then.
     ///
     /// So where the set has the sums of some numbers, it then has those of these numbers and `by`.
     ///
@@ -77,12 +80,12 @@ impl BitsMut<'_> {
         }
     }
 
-    /// Writes the positions of the other set from `start` up to and without `end` over those of the set from `at` on. All
-    /// others stay.
+    /// Writes the positions of the other set from `start` up to and without `end` over those of the
+    /// set from `at` on. All others stay.
     ///
-    /// The range may not begin behind its end, nor end past the other length. From `at` on it has to end within the length.
-    /// It takes exactly one step for each lane of the words that it writes whole, the last of which may have fewer, and one
-    /// for each other word that it writes.
+    /// The range may not begin behind its end, nor end past the other length. From `at` on it has
+    /// to end within the length. It takes exactly one step for each lane of the words that it
+    /// writes whole, the last of which may have fewer, and one for each other word that it writes.
     ///
     /// ```text
     /// let (mut words, mut other) = ([5, 34, 0, 0], [2 | 1 << 63, 2, 0, 0]);
@@ -104,7 +107,8 @@ impl BitsMut<'_> {
         ranges::copy(self.words, at, behind, other.words, start, steps);
     }
 
-    // Joins each position by `O` with the one that stood `by` below it, and cuts the words at the length.
+    // Joins each position by `O` with the one that stood `by` below it, and cuts
+    // the words at the length.
     #[inline(always)]
     fn join_own<O: WordOp>(&mut self, by: usize, steps: &mut Steps) {
         let length = self.length;
@@ -117,10 +121,11 @@ impl BitsMut<'_> {
 }
 
 impl Bits<'_> {
-    /// Writes the positions of the range, less its start, over the words, which are then those of a set of its length.
+    /// Writes the positions of the range, less its start, over the words, which are then those
+    /// of a set of its length.
     ///
-    /// The range may not begin behind its end, nor end past the length. There have to be as many words as a set of the
-    /// range's length keeps.
+    /// The range may not begin behind its end, nor end past the length. There have to be as many
+    /// words as a set of the range's length keeps.
     ///
     /// ```text
     /// let (mut words, mut to) = ([9, 8, 0, 0], [0; 4]);
@@ -135,8 +140,8 @@ impl Bits<'_> {
     }
 }
 
-// Counts the lanes that are not moved as they hold words past the length alone, which stay 0. It does nothing when the
-// program runs.
+// Counts the lanes that are not moved as they hold words past the length alone, which stay 0. It
+// does nothing when the program runs.
 #[inline(always)]
 fn tick_unmoved(words: usize, used: usize, first: usize, steps: &mut Steps) {
     let lanes = words.saturating_sub(first).div_ceil(LANE);

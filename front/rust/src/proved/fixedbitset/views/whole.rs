@@ -1,9 +1,10 @@
 // Made by front/erase from crates/fixedbitset/src/views/whole.rt: change that, and not this.
 //! Two whole sets, of any two lengths.
 //!
-//! A change or a count takes exactly one step for each lane that both sets have, and one for each that only one of them has,
-//! where these are cleared or counted. A comparison takes at most as many, since it stops at the first lane that decides;
-//! where it answers `true` exactly as many, and where it answers `false` one at least.
+//! A change or a count takes exactly one step for each lane that both sets have, and one for each
+//! that only one of them has, where these are cleared or counted. A comparison takes at most as
+//! many, since it stops at the first lane that decides; where it answers `true` exactly as many,
+//! and where it answers `false` one at least.
 
 use crate::proved::fixedbitset::views::{Bits, BitsMut};
 use crate::proved::bitlanes::Steps;
@@ -188,8 +189,8 @@ impl Bits<'_> {
 
     /// Which of the sets comes first, in the order of `FixedBitSet`.
     ///
-    /// It counts a step for each lane where the lengths are alike, and none where they differ: std compares the words, and may
-    /// stop before all that are counted.
+    /// It counts a step for each lane where the lengths are alike, and none where they differ: std
+    /// compares the words, and may stop before all that are counted.
     ///
     /// ```text
     /// let (mut words, mut other) = ([9, 0, 0, 0], [11, 0, 0, 0]);
@@ -215,8 +216,9 @@ impl Bits<'_> {
         joins::count::<O>(self.words, other.words, steps)
     }
 
-    // The same, where sets of one lane are counted by the words that the longer length needs. Compiled by the kit for AVX2,
-    // the four words of a lane become one vector, which takes longer than two words.
+    // The same, where sets of one lane are counted by the words that the longer length needs.
+    // Compiled by the kit for AVX2, the four words of a lane become one vector, which takes
+    // longer than two words.
     #[inline(always)]
     pub(crate) fn count_used<O: WordOp>(self, other: Bits<'_>, steps: &mut Steps) -> usize {
         if self.words.len() == LANE && other.words.len() == LANE {
