@@ -9,6 +9,7 @@ TIMES = "front/bench/results/times.csv"
 LINES = "bench/results/lines.csv"
 LIMITS = "bench/results/limits.csv"
 OTHERS = "bench/results/others.csv"
+QUESTIONS = "front/postgres/times/questions.csv"
 # From so many bits on a set is long.
 LONG = 10_000
 KINDS = [
@@ -45,6 +46,16 @@ KINDS_OF_LINES = [
     ("ranges", r"count_|contains_a|\w+_range\b|range_"),
     ("two sets", r"\w+_(with|count|assign)|is_(disjoint|subset|superset)|eq|cmp|clone|bit"),
     ("`new`, `len`, `minimum` and the like", r""),
+]
+KINDS_OF_QUESTIONS = [
+    ("union of all rows", r"union"),
+    ("each row counted", r"each counted, "),
+    ("each row counted with one set", r"each counted with"),
+    ("rows that contain three positions", r"contain three"),
+    ("rows that contain one position", r"contain one"),
+    ("each row read, for its last position", r"each read"),
+    ("unlike sets, hashed", r"unlike"),
+    ("`count(*)`", r""),
 ]
 
 # A ratio of two times: ours / theirs. The size is a count of bits, or of lines; lines have no processor.
