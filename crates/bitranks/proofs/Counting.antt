@@ -1,30 +1,24 @@
--- Counts of positions as a directory has them, the position with so many positions before it in a word, in a row of
--- words and in the ascending list, and a value with its words and a directory of them.
-use Rattle.std.proofs.Common.{◌≡◌, ◌==◌, ℕ, zero, suc, ◌+◌, ◌-◌, ◌*◌, ◌/◌, ◌%◌, ◌^◌, ◌<◌, ◌≤◌, Bool, true}
-use Rattle.std.proofs.Common.{false, ◌&&◌, nat_lt, bit_and, min, Option, Some, None, IfSome, IfNone, List}
-use Rattle.std.proofs.Common.{length, get_or, set, slice_index, refl, sym, subst, ap, ◌∙◌, arith, ⊎_elim}
+-- Counts of positions as a directory has them, the position to which one leads, and a value with its words and a directory of them.
+use Rattle.std.proofs.Common.{◌≡◌, ◌==◌, ℕ, ◌+◌, ◌-◌, ◌*◌, ◌/◌, ◌<◌, ◌≤◌, Bool, true, false, ◌&&◌, nat_lt, bit_and, min, Option, Some, None, IfSome, IfNone, List, length, get_or, set, slice_index, refl, sym, subst, ap, ◌∙◌, arith, ⊎_elim}
 use Rattle.std.specs.List.{slice_get}
-use Rattle.std.specs.Int.{bit_at}
 use Rattle.std.specs.Int.Count.{ones}
-use Rattle.std.proofs.Math.Nat.{pow-suc, div-lt_iff_lt-mul}
 use Rattle.std.proofs.lemmas.Bool.{cases_lt, lt-ltb}
 use Rattle.std.proofs.lemmas.Bool.Decides.{nat_tests}
 use Rattle.std.proofs.lemmas.List.{get_or-set_same, get_or-set_other}
-use Rattle.std.proofs.lemmas.Nat.{shr_split, ones_cat, pow_pos, and_le_l}
-use Rattle.std.proofs.lemmas.Nat.Bits.{bit_at_cat_low}
 use Rattle.bitlanes.specs.Bits.{bit}
-use Rattle.bitlanes.specs.BitLaws.{bit-and}
 use Rattle.bitwords.specs.Ascending.{ascending}
 use Rattle.bitwords.specs.AscendingFacts.{ascending-cut}
-use Rattle.bitwords.specs.CountFacts.{indicator, count-zero, count-suc, count-same, count-append, count-shorter}
-use Rattle.bitwords.specs.RowFacts.{AreWords, has_bit-at, has_bit-past}
+use Rattle.bitwords.specs.CountFacts.{count-same, count-shorter}
+use Rattle.bitwords.specs.Neighbours.{IsNth}
+use Rattle.bitwords.specs.NthFacts.{nth-ascending, none-ascending, ones-below, count-within}
+use Rattle.bitwords.specs.RowFacts.{AreWords, has_bit-past}
 use Rattle.bitwords.specs.Rows.{has_bit, bit_test, count_below}
 use Rattle.bitwords.specs.Steps.{range_words}
 use Rattle.fixedbitset.specs.Bits.{Bits, contains, asc, words_needed}
 use Rattle.fixedbitset.specs.BitsFacts.{contains-past}
 use Rattle.fixedbitset.specs.WordsFacts.{has_bit-words, length-words}
-use Rattle.bitranks.specs.Ranks.{IsDirectory, IsKept, IsNth, rank, select, entries}
-use Rattle.bitranks.specs.RanksFacts.{nth-ascending, none-ascending, rank-count}
+use Rattle.bitranks.specs.Ranks.{IsDirectory, IsKept, rank, select, entries}
+use Rattle.bitranks.specs.RanksFacts.{rank-count}
 
 -- ---- the entries of a directory
 
@@ -58,66 +52,9 @@ not_zero n some = grind (arith, nat_tests)
 pub eight_words : (n : ℕ) → range_words (512 * n) (512 * n + 512) ≡ 8
 eight_words n = rw (lt-ltb (512 * n) (512 * n + 512) (omega arith)) (omega arith)
 
--- ---- the bits of a word
-
-ones_below_two : (q : ℕ) → q < 2 → ones q ≡ indicator (q % 2 == 1)
-unfolding ones
-ones_below_two zero h = refl
-ones_below_two (suc zero) h = refl
-ones_below_two (suc (suc q)) h = absurd (omega arith)
-
--- the ones of a number, counted bit by bit
-pub ones-bits : (w x : ℕ) → x < 2 ^ w → ones x ≡ count_below (bit x) w
-ones-bits zero x h = let e : x ≡ 0 = omega arith in rw e (ones_below_two 0 (omega arith) ∙ sym (count-zero (bit 0)))
-ones-bits (suc w) x h =
-    let q : ℕ = x / 2 ^ w in
-    let r : ℕ = x % 2 ^ w in
-    let pos : 0 < 2 ^ w = pow_pos w in
-    let small : r < 2 ^ w = omega arith in
-    let two : q < 2 = (div-lt_iff_lt-mul pos).1 (omega (arith, pow-suc 2 w)) in
-    let is : x ≡ q * 2 ^ w + r = sym (shr_split x w) in
-    let low : count_below (bit r) w ≡ count_below (bit x) w =
-    count-same _ _ w (λ i l. ap (λ y. y == 1) (sym (ap (λ y. bit_at y i) is ∙ bit_at_cat_low q w r i l))) in
-    let top : ones q ≡ indicator (bit x w) = ones_below_two q two in
-    let split : ones x ≡ ones q + ones r = ap ones is ∙ ones_cat w q r small in
-    omega (arith, split, top, low, ones-bits w r small, count-suc (bit x) w)
-
--- those of a word, below place n
-pub ones-below : (word mask n : ℕ) → word < 2 ^ 64 → n ≤ 64 → ((i : ℕ) → bit mask i ≡ nat_lt i n)
-    → ones (bit_and word mask) ≡ count_below (bit word) n
-ones-below word mask n fits within masked =
-    let less : bit_and word mask ≤ word = and_le_l word mask in
-    ones-bits 64 (bit_and word mask) (omega arith)
-    ∙ count-shorter (bit (bit_and word mask)) n 64 within
-    (λ i from _. grind (arith, nat_tests, bit-and word mask i, masked i))
-    ∙ count-same (bit (bit_and word mask)) (bit word) n
-    (λ i below. grind (arith, nat_tests, bit-and word mask i, masked i))
-
 -- ---- the words of a row
 
 module _ (ws : List ℕ) (words : AreWords ws) (k : ℕ) where
-  -- some bits further within word k
-  pub count-within : (n : ℕ) → n ≤ 64
-      → count_below (has_bit ws) (64 * k + n) ≡ count_below (has_bit ws) (64 * k) + count_below (bit (get_or ws k 0)) n
-  count-within n within =
-      let c : ℕ → Bool = has_bit ws in
-      omega (
-        arith,
-        count-append c (64 * k) n,
-        count-same (λ i. c (64 * k + i)) (bit (get_or ws k 0)) n (λ i below. has_bit-at ws k i (omega arith)),
-      )
-
-  -- one word further
-  pub word-count : count_below (has_bit ws) (64 * (k + 1)) ≡ count_below (has_bit ws) (64 * k) + ones (get_or ws k 0)
-  word-count =
-      let e : 64 * (k + 1) ≡ 64 * k + 64 = omega arith in
-      omega (
-        arith,
-        ap (count_below (has_bit ws)) e,
-        count-within 64 (omega arith),
-        ones-bits 64 (get_or ws k 0) (words k),
-      )
-
   -- up to a position, where word k has it or is the last one
   pub count-upto : (position n mask total at : ℕ) → total ≡ count_below (has_bit ws) (64 * at) → at ≡ k
       → k ≡ min (position / 64) (length ws - 1) → 0 < length ws
@@ -126,23 +63,7 @@ module _ (ws : List ℕ) (words : AreWords ws) (k : ℕ) where
   count-upto position n mask total at had here last some below masked =
       let end : 64 * k + n ≡ min position (64 * length ws) = omega arith in
       let ones = ones-below (get_or ws k 0) mask n (words k) (omega arith) masked in
-      omega (
-        arith,
-        ap (λ j. count_below (has_bit ws) (64 * j)) here,
-        count-within n (omega arith),
-        ones,
-        ap (count_below (has_bit ws)) end,
-        count-min ws position,
-      )
-
-  -- the position of a bit of word k
-  pub nth-word : (index left j : ℕ) → j < 64 → IsNth (bit (get_or ws k 0)) left j
-      → count_below (has_bit ws) (64 * k) + left ≡ index → IsNth (has_bit ws) index (64 * k + j)
-  nth-word index left j within is all =
-      record {
-        passes = has_bit-at ws k j within ∙ is.passes;
-        before = omega (arith, count-within j (omega arith), is.before, all);
-      }
+      omega (arith, ap (λ j. count_below (has_bit ws) (64 * j)) here, count-within ws words k n (omega arith), ones, ap (count_below (has_bit ws)) end, count-min ws position)
 
 -- ---- the position that a directory leads to
 

@@ -1,6 +1,5 @@
 -- Rank and select of a value, and the directory that answers them.
-use Rattle.std.specs.Prelude.{◌≡◌, ℕ, ◌+◌, ◌-◌, ◌*◌, ◌/◌, ◌%◌, ◌^◌, ◌<◌, ◌≤◌, min}
-use Rattle.std.specs.Prelude.{Bool, true, Option, List, length, slice_get, slice_index}
+use Rattle.std.specs.Prelude.{◌≡◌, ℕ, ◌+◌, ◌-◌, ◌*◌, ◌/◌, ◌%◌, ◌^◌, ◌<◌, ◌≤◌, min, Option, List, length, slice_get, slice_index}
 use Rattle.std.specs.Int.{div_ceil}
 use Rattle.bitwords.specs.Rows.{has_bit, count_below}
 use Rattle.fixedbitset.specs.Bits.{Bits, asc, words}
@@ -49,8 +48,3 @@ pub record IsKept (v : Bits) (ws counts : List ℕ) : Type 0 where
   pub of_value : ws ≡ words v
   pub directory : IsDirectory ws counts
   pub fits : 64 * length ws ≤ 2 ^ 64
-
--- p passes, and k numbers below it do
-pub record IsNth (test : ℕ → Bool) (k p : ℕ) : Type 0 where
-  pub passes : test p ≡ true
-  pub before : count_below test p ≡ k

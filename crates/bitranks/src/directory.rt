@@ -1,21 +1,17 @@
 //! Rank and select over words that someone keeps, with a directory of them beside.
 //!
-//! Position `p` stands at bit `p % 64` of word `p / 64`. Entry `k` of the directory is how
-//! many bits are set in the words before word `8 * k`, so it takes one word of memory for
-//! eight words of the row.
-ghost use Rattle.std.specs.Prelude.{◌≡◌, ℕ, ◌+◌, ◌-◌, ◌*◌, ◌/◌, ◌^◌, ◌<◌, ◌≤◌};
-ghost use Rattle.std.specs.Prelude.{length, slice_get, slice_index, IfSome, IfNone};
-ghost use Rattle.std.specs.Int.RustNames.{count_ones};
-ghost use Rattle.bitlanes.specs.Bits.{bit};
+//! Position `p` stands at bit `p % 64` of word `p / 64`. Entry `k` of the directory is how many bits are set in the words
+//! before word `8 * k`, so it takes one word of memory for eight words of the row.
+ghost use Rattle.std.specs.Prelude.{◌≡◌, ℕ, ◌+◌, ◌-◌, ◌*◌, ◌/◌, ◌^◌, ◌<◌, ◌≤◌, length, slice_get, slice_index, IfSome, IfNone};
 ghost use Rattle.bitwords.specs.Ascending.{ascending};
 ghost use Rattle.bitwords.specs.Rows.{has_bit, count_below};
 ghost use Rattle.bitranks.specs.Ranks as ranks;
-ghost use Rattle.bitranks.specs.Ranks.{IsDirectory, IsNth, Halves, last_words, nth_of_entry};
+ghost use Rattle.bitranks.specs.Ranks.{IsDirectory, Halves, last_words, nth_of_entry};
 
 use bitlanes::Steps;
 use bitlanes::ops::And;
 use bitlanes::word::{BITS, Block, ones_below};
-use bitwords::ranges;
+use bitwords::{positions, ranges};
 
 /// How many words of the row an entry stands for.
 pub const WORDS: usize = 8;
@@ -139,7 +135,7 @@ pub fn select(
     let entry = last_within(directory, index, steps);
     let first = WORDS * entry;
     let end = words.len().min(first + WORDS);
-    select_in(words, first, end, index - directory[entry], steps)
+    positions::nth(words, first, end, index - directory[entry], steps)
 }
 
 // The place of an entry that is `index` at most, with none behind it or one that is more.
@@ -165,58 +161,4 @@ fn last_within(directory: &[usize], index: usize, steps: &mut Steps) -> usize
         }
     }
     low
-}
-
-// The position of the words from `first` on with `index` positions of them before it, if a
-// word before `end` has it.
-#[inline(always)]
-fn select_in(
-    words: &[Block],
-    first: usize,
-    end: usize,
-    index: usize,
-    steps: &mut Steps,
-) -> Option<usize>
-    requires order { first ≤ end }
-    requires within { end ≤ length words.now }
-    requires fits { 64 * length words.now ≤ 2 ^ 64 }
-    ensures found { IfSome result
-        (IsNth (has_bit words.now) (count_below (has_bit words.now) (64 * first) + index)) }
-    ensures from { IfSome result (λ p. 64 * first ≤ p) }
-    ensures below { IfSome result (λ p. p < 64 * end) }
-    ensures none { IfNone result (count_below (has_bit words.now) (64 * end)
-        ≤ count_below (has_bit words.now) (64 * first) + index) }
-    ensures cost { IfSome result (λ p. steps.new + first ≡ steps.old + (p / 64 + 1)) }
-    ensures exact_if_none { IfNone result (steps.new ≡ steps.old + (end - first)) }
-    ensures bound { steps.new ≤ steps.old + (end - first) }
-{
-    let mut left = index;
-    for k in first..end {
-        steps.tick();
-        let ones = words[k].count_ones() as usize;
-        if left < ones {
-            return Some(BITS * k + nth_bit(words[k], left));
-        }
-        left -= ones;
-    }
-    None
-}
-
-// The bit of a word with `index` bits set below it. The word has to have more bits set than that.
-#[inline(always)]
-fn nth_bit(word: Block, index: usize) -> usize
-    requires { index < count_ones word }
-    ensures within { result < 64 }
-    ensures nth { IsNth (bit word) index result }
-{
-    let mut at = 0;
-    let mut span = BITS;
-    while span > 1 {
-        let half = span / 2;
-        if (word & ones_below(at + half)).count_ones() as usize <= index {
-            at += half;
-        }
-        span -= half;
-    }
-    at
 }

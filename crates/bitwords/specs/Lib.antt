@@ -12,6 +12,7 @@ pub mod NextFacts
 pub mod RunsFacts
 pub mod GapsFacts
 pub mod CountFacts
+pub mod NthFacts
 pub mod RowFacts
 pub mod CallFacts
 pub mod WalkFacts

@@ -1,5 +1,6 @@
--- The positions next to a given one.
+-- The positions next to a given one, and the one with so many before it.
 use Rattle.std.specs.Prelude.{◌≡◌, ℕ, ◌<◌, ◌≤◌, Bool, true, false}
+use Rattle.bitwords.specs.Rows.{count_below}
 
 -- p is the least number at or past `from` and below `end` that passes
 pub record IsNext (test : ℕ → Bool) (from end p : ℕ) : Type 0 where
@@ -17,3 +18,8 @@ pub record IsPrevious (test : ℕ → Bool) (end p : ℕ) : Type 0 where
 -- no number at or past `from` and below `end` passes
 abbrev pub NonePasses : (ℕ → Bool) → ℕ → ℕ → Type 0
 NonePasses test from end = (i : ℕ) → from ≤ i → i < end → test i ≡ false
+
+-- p passes, and k numbers below it do
+pub record IsNth (test : ℕ → Bool) (k p : ℕ) : Type 0 where
+  pub passes : test p ≡ true
+  pub before : count_below test p ≡ k

@@ -1,12 +1,12 @@
-//! Single positions of a row of words, the first and the last of them, and
-//! those from one position on.
-ghost use Rattle.std.specs.Prelude.{◌≡◌, ◌↔◌, ℕ, ◌+◌, ◌-◌, ◌*◌, ◌/◌, ◌^◌, ◌<◌, ◌≤◌, ◌&&◌, nat_lt};
-ghost use Rattle.std.specs.Prelude.{length, slice_get, None, IfSome, IfNone, IsTrue, true, false};
+//! Single positions of a row of words, the first, the last and the k-th of them, and those from one position on.
+ghost use Rattle.std.specs.Prelude.{◌≡◌, ◌↔◌, ℕ, ◌+◌, ◌-◌, ◌*◌, ◌/◌, ◌^◌, ◌<◌, ◌≤◌, ◌&&◌, nat_lt, length, slice_get, None, IfSome, IfNone, IsTrue, true, false};
+ghost use Rattle.std.specs.Int.RustNames.{count_ones};
 ghost use Rattle.std.specs.List.{last_or};
+ghost use Rattle.bitlanes.specs.Bits.{bit};
 ghost use Rattle.bitlanes.specs.Words.{lane_steps};
 ghost use Rattle.bitwords.specs.Ascending.{ascending};
-ghost use Rattle.bitwords.specs.Neighbours.{IsNext, IsPrevious, NonePasses};
-ghost use Rattle.bitwords.specs.Rows.{has_bit, bit_test, IsJoined};
+ghost use Rattle.bitwords.specs.Neighbours.{IsNext, IsPrevious, NonePasses, IsNth};
+ghost use Rattle.bitwords.specs.Rows.{has_bit, bit_test, IsJoined, count_below};
 
 use bitlanes::ops::{And, WordOp};
 use bitlanes::search::{first_one, last_one, next_one, previous_one};
@@ -157,6 +157,50 @@ pub fn previous<O: WordOp>(words: &[Block], below: usize, steps: &mut Steps) -> 
     Some(BITS * at + highest_bit(O::word(Block::MAX, words[at])))
 }
 
+/// The position of the words from place `first` on and before place `end` that has exactly `index` of their positions before
+/// it: the first has index 0. `None` where these words have no more positions than `index`.
+///
+/// It takes one step for each of these words up to the one that has the position. That word is searched by halves, six times,
+/// which is not counted. The number of positions of the row, 64 for each word, may be at most 2 ^ 64.
+///
+/// ```
+/// assert_eq!(rt; positions::nth(&[9, 0, 2], 0, 3, 2, &mut Steps::new()), Some(129));
+/// assert_eq!(rt; positions::nth(&[9, 0, 2], 1, 3, 0, &mut Steps::new()), Some(129));
+/// assert_eq!(rt; positions::nth(&[9, 0, 2], 0, 2, 2, &mut Steps::new()), None);
+/// ```
+#[inline(always)]
+pub fn nth(
+    words: &[Block],
+    first: usize,
+    end: usize,
+    index: usize,
+    steps: &mut Steps,
+) -> Option<usize>
+    requires order { first ≤ end }
+    requires within { end ≤ length words.now }
+    requires fits { 64 * length words.now ≤ 2 ^ 64 }
+    ensures found { IfSome result
+        (IsNth (has_bit words.now) (count_below (has_bit words.now) (64 * first) + index)) }
+    ensures from { IfSome result (λ p. 64 * first ≤ p) }
+    ensures below { IfSome result (λ p. p < 64 * end) }
+    ensures none { IfNone result (count_below (has_bit words.now) (64 * end)
+        ≤ count_below (has_bit words.now) (64 * first) + index) }
+    ensures cost { IfSome result (λ p. steps.new + first ≡ steps.old + (p / 64 + 1)) }
+    ensures exact_if_none { IfNone result (steps.new ≡ steps.old + (end - first)) }
+    ensures bound { steps.new ≤ steps.old + (end - first) }
+{
+    let mut left = index;
+    for k in first..end {
+        steps.tick();
+        let ones = words[k].count_ones() as usize;
+        if left < ones {
+            return Some(BITS * k + nth_bit(words[k], left));
+        }
+        left -= ones;
+    }
+    None
+}
+
 /// Whether no position of the row from `start` on is set.
 ///
 /// It looks at the word of `start`, and at four words at a time behind it up to the first that has
@@ -218,4 +262,23 @@ fn next_in_row<O: WordOp>(words: &[Block], from: usize, steps: &mut Steps) -> Op
     }
     let at = next_one::<O>(Block::MAX, words, at + 1, steps)?;
     Some(BITS * at + lowest_bit(O::word(Block::MAX, words[at])))
+}
+
+// The bit of a word with `index` bits set below it. The word has to have more bits set than that.
+#[inline(always)]
+fn nth_bit(word: Block, index: usize) -> usize
+    requires { index < count_ones word }
+    ensures within { result < 64 }
+    ensures nth { IsNth (bit word) index result }
+{
+    let mut at = 0;
+    let mut span = BITS;
+    while span > 1 {
+        let half = span / 2;
+        if (word & ones_below(at + half)).count_ones() as usize <= index {
+            at += half;
+        }
+        span -= half;
+    }
+    at
 }

@@ -2,7 +2,8 @@ use Rattle.std.proofs.Common.{◌≡◌, ◌+◌, ◌*◌, length, min, arith, r
 use Rattle.std.proofs.lemmas.Bool.{eqb-true}
 use Rattle.bitwords.specs.Rows.{has_bit}
 use Rattle.bitwords.specs.CountFacts.{count-le}
-use Rattle.bitranks.proofs.Counting.{count-min, not_zero, word-count, count-upto}
+use Rattle.bitwords.specs.NthFacts.{word-count}
+use Rattle.bitranks.proofs.Counting.{count-min, not_zero, count-upto}
 use Rattle.bitranks.proofs.directory.rank.Goals as goal
 
 pub returns-then-is_empty-clause-count : goal.returns-then-is_empty-clause-count

@@ -3,10 +3,9 @@ use Rattle.std.specs.Int.Count.{ones}
 use Rattle.bitlanes.specs.Bits.{bit}
 use Rattle.bitwords.specs.Rows.{count_below}
 use Rattle.bitwords.specs.CountFacts.{count-zero, count-mono}
-use Rattle.bitranks.proofs.Counting.{ones-bits, ones-below}
-use Rattle.bitranks.specs.RanksFacts.{nth-between}
-use Rattle.bitranks.proofs.directory.nth_bit.Goals as goal
-use Rattle.bitranks.proofs.directory.nth_bit.Goals.{then-word-ones_below, else-word-ones_below}
+use Rattle.bitwords.specs.NthFacts.{nth-between, ones-bits, ones-below}
+use Rattle.bitwords.proofs.positions.nth_bit.Goals as goal
+use Rattle.bitwords.proofs.positions.nth_bit.Goals.{then-word-ones_below, else-word-ones_below}
 
 pub loop-span-init : goal.loop-span-init
 loop-span-init c = grind (arith, c.requires, count-zero (bit c.args.word), ones-bits 64 c.args.word c.ranges.word.fits)

@@ -1,6 +1,6 @@
 use Rattle.std.proofs.Common.{arith, rules}
-use Rattle.bitranks.proofs.Counting.{word-count, nth-word}
-use Rattle.bitranks.proofs.directory.select_in.Goals as goal
+use Rattle.bitwords.specs.NthFacts.{word-count, nth-word}
+use Rattle.bitwords.proofs.positions.nth.Goals as goal
 
 pub returns-then-left-ones-clause-found : goal.returns-then-left-ones-clause-found
 returns-then-left-ones-clause-found c =

@@ -1,7 +1,7 @@
 use Rattle.std.proofs.Common.{◌+◌, ◌<◌, ◌≤◌}
 use Rattle.bitlanes.specs.Bits.{bit}
 use Rattle.bitwords.specs.Rows.{count_below}
-use Rattle.bitranks.proofs.directory.nth_bit.Given as goal
+use Rattle.bitwords.proofs.positions.nth_bit.Given as goal
 
 abbrev pub invariant-loop-span : goal.invariant-loop-span
 invariant-loop-span l = record {
