@@ -13,10 +13,11 @@ ghost use Rattle.bitlanes.specs.Changes.{changes};
 ghost use Rattle.bitlanes.specs.Search.{IsFirstOne, AreZeros};
 ghost use Rattle.bitlanes.specs.Words.{zip_longest, lane_steps};
 ghost use Rattle.bitwords.specs.Ascending.{ascending};
+ghost use Rattle.bitwords.specs.Neighbours.{IsNext, NonePasses};
 ghost use Rattle.bitwords.specs.Rows.{has_bit, IsJoined, count_below, bits_test};
 ghost use Rattle.bitwords.specs.Steps.{join_steps, both_steps};
 
-use bitlanes::ops::{AndNot, Or, Second, WordOp};
+use bitlanes::ops::{And, AndNot, Or, Second, WordOp};
 use bitlanes::search::{first_joined, next_one};
 use bitlanes::word::{BITS, lowest_bit};
 use bitlanes::{Block, Steps, changes, lanes};
@@ -201,6 +202,46 @@ pub fn first_of_difference(a: &[Block], b: &[Block], steps: &mut Steps) -> Optio
 {
     let at = first_word(a, b, steps)?;
     Some(BITS * at + lowest_bit(word_without(a, b, at)))
+}
+
+/// The least position, at or past `from`, that both rows have, or `None` where there is none. Both rows have to have the word
+/// of `from`.
+///
+/// It takes one step for that word of the two, and one for each lane of four words behind it up to the one that has the
+/// position, or up to the end of the shorter row. The number of positions of `a`, 64 for each word, may be at most 2 ^ 64.
+///
+/// ```
+/// let (a, b) = ([9, 0, 6], [8, 7, 4]);
+/// assert_eq!(rt; joins::next_common(&a, &b, 1, &mut Steps::new()), Some(3));
+/// assert_eq!(rt; joins::next_common(&a, &b, 4, &mut Steps::new()), Some(130));
+/// assert_eq!(rt; joins::next_common(&a, &b[..2], 4, &mut Steps::new()), None);
+/// ```
+#[inline(always)]
+#[tactic(auto, using(crate::proofs::Shared::length_behind))]
+pub fn next_common(a: &[Block], b: &[Block], from: usize, steps: &mut Steps) -> Option<usize>
+    requires fits { 64 * length a.now ≤ 2 ^ 64 }
+    requires within { from < 64 * min (length a.now) (length b.now) }
+    ensures found { IfSome result (IsNext (bits_test (λ x y. x && y) a.now b.now)
+        from (64 * min (length a.now) (length b.now))) }
+    ensures none { IfNone result (NonePasses (bits_test (λ x y. x && y) a.now b.now)
+        from (64 * min (length a.now) (length b.now))) }
+    ensures cost { IfSome result
+        (λ p. steps.new ≡ steps.old + 1 + lane_steps (p / 64 - from / 64)) }
+    ensures exact_if_none { IfNone result (steps.new ≡ steps.old + 1
+        + lane_steps (min (length a.now) (length b.now) - 1 - from / 64)) }
+    ensures bound { steps.new ≤ steps.old + 1
+        + lane_steps (min (length a.now) (length b.now) - 1 - from / 64) }
+{
+    steps.tick();
+    let at = from / BITS;
+    let rest = And::word(a[at], b[at]) >> (from % BITS);
+    if rest != 0 {
+        return Some(from + lowest_bit(rest));
+    }
+    let behind = at + 1;
+    let place = first_joined::<And>(&a[behind..], &b[behind..], steps)?;
+    let at = behind + place;
+    Some(BITS * at + lowest_bit(And::word(a[at], b[at])))
 }
 
 // How many bits are set from word `from` on, where these words count.

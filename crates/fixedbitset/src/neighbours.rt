@@ -1,14 +1,16 @@
-//! The positions of a set next to a given one. Upstream has no such calls.
+//! The positions of a set next to a given one, and the k-th of all. Upstream has no such calls.
 //!
 //! Any number may be asked for, at or past the length too; a range has to be valid. No call takes
 //! memory. Each looks at the word of the number, and then at sixteen words at a time, or four, up
 //! to those that have the position.
 
-ghost use Rattle.std.specs.Prelude.{◌≡◌, IsTrue};
+ghost use Rattle.std.specs.Prelude.{◌≡◌, IsTrue, slice_get};
+ghost use Rattle.fixedbitset.specs.Bits.{asc};
 ghost use Rattle.fixedbitset.specs.Neighbours as neighbours;
 ghost use Rattle.fixedbitset.specs.Ranges as ranges;
 ghost use Rattle.fixedbitset.specs.Ranges.{over};
 ghost use Rattle.fixedbitset.specs.Runs as stretches;
+ghost use Rattle.fixedbitset.specs.TwoSets.{intersection};
 
 use crate::set::FixedBitSet;
 use bitlanes::{IndexRange, Steps};
@@ -45,8 +47,48 @@ impl FixedBitSet {
         self.as_bits().next_zero(from, &mut Steps::new())
     }
 
-    /// The least number at or past `from` with `count` clear positions from there on, all below the
-    /// length, or `None` where there is none. With a `count` of 0 that is `from`, up to the length.
+    /// The least position at or past `from` that this set and `other` have both, or `None` where there is none. The lengths are
+    /// not compared.
+    ///
+    /// It takes one step for the word of `from`, and one for each lane of four words behind it, up to the one that has the
+    /// position or to the end of the shorter set.
+    ///
+    /// ```
+    /// let set = FixedBitSet::from_iter(alloc, [1, 3, 70])?;
+    /// let other = FixedBitSet::from_iter(alloc, [3, 64, 70, 500])?;
+    /// assert_eq!(rt; set.next_common(&other, 0), Some(3));
+    /// assert_eq!(rt; set.next_common(&other, 4), Some(70));
+    /// assert_eq!(rt; set.next_common(&other, 71), None);
+    /// ```
+    #[inline]
+    pub fn next_common(&self, other: &Self, from: usize) -> Option<usize>
+        ensures { result ≡ neighbours.next_one (intersection self.now other.now) from }
+    {
+        self.as_bits()
+            .next_common(other.as_bits(), from, &mut Steps::new())
+    }
+
+    /// The position that has exactly `index` positions of the set below it: the first has index 0. `None` where the set has no
+    /// more positions than `index`.
+    ///
+    /// It counts word by word, so it takes one step for each word up to the one that has the position. Where many such
+    /// positions are asked for, `Ranks::select` of `bitranks` has a directory, and looks at eight words at most.
+    ///
+    /// ```
+    /// let set = FixedBitSet::from_iter(alloc, [3, 64, 70])?;
+    /// assert_eq!(rt; set.nth_one(0), Some(3));
+    /// assert_eq!(rt; set.nth_one(2), Some(70));
+    /// assert_eq!(rt; set.nth_one(3), None);
+    /// ```
+    #[inline]
+    pub fn nth_one(&self, index: usize) -> Option<usize>
+        ensures { result ≡ slice_get (asc self.now) index }
+    {
+        self.as_bits().nth_one(index, &mut Steps::new())
+    }
+
+    /// The least number at or past `from` with `count` clear positions from there on, all below the length, or `None` where
+    /// there is none. With a `count` of 0 that is `from`, up to the length.
     ///
     /// It goes from one stretch of clear positions to the next, so it takes a
     /// search or two for each.

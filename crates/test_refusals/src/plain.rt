@@ -109,6 +109,9 @@ fn sees(set: &FixedBitSet) -> bool {
 fn sees_nearest(set: &FixedBitSet) -> bool {
     set.next_one(0) == Some(3)
         && set.next_zero(3) == Some(4)
+        && set.next_common(set, 1) == Some(3)
+        && set.nth_one(0) == Some(3)
+        && set.nth_one(1) == None
         && set.previous_one(10) == Some(3)
         && set.previous_zero(4) == Some(2)
 }
@@ -396,6 +399,8 @@ fn are_found(short: &FixedBitSet, long: &FixedBitSet) -> bool {
         && long.as_bits().maximum(steps) == long.maximum()
         && short.as_bits().next_one(0, steps) == short.next_one(0)
         && short.as_bits().next_zero(0, steps) == short.next_zero(0)
+        && short.as_bits().next_common(short.as_bits(), 0, steps) == short.next_common(short, 0)
+        && short.as_bits().nth_one(0, steps) == short.nth_one(0)
         && short.as_bits().previous_one(10, steps) == short.previous_one(10)
         && short.as_bits().previous_zero(10, steps) == short.previous_zero(10)
 }

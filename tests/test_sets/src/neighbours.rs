@@ -1,5 +1,5 @@
-//! The positions next to a given one: of each number, at every length up to 200 beside slow values, and over rows of many
-//! words.
+//! The positions next to a given one, and the k-th: of each number, at every length up to 200 beside slow values, and over
+//! rows of many words.
 
 use crate::questions::fillings;
 use fixedbitset::FixedBitSet;
@@ -41,11 +41,28 @@ fn assert_previous(rt: &impl Abort, set: &FixedBitSet, flags: &[bool], wanted: b
     assert!(rt; previous(flags.len()) == seen && previous(usize::MAX) == seen);
 }
 
+// With the number of positions that were seen.
+fn assert_nth(rt: &impl Abort, set: &FixedBitSet, flags: &[bool]) {
+    let mut seen = 0;
+    for position in 0..flags.len() {
+        if flags[position] {
+            assert!(rt;
+                set.nth_one(seen) == Some(position),
+                "{position} of {}",
+                flags.len()
+            );
+            seen += 1;
+        }
+    }
+    assert!(rt; set.nth_one(seen) == None && set.nth_one(usize::MAX) == None);
+}
+
 #[test]
 fn next_to_each_number_at_every_length(rt: HostRuntime) -> Result<(), Fail> {
     for length in 0..201 {
         for flags in fillings(rt.alloc(), length)? {
             let set = filled(rt.alloc(), &flags)?;
+            assert_nth(&rt, &set, &flags);
             for wanted in [true, false] {
                 assert_next(&rt, &set, &flags, wanted);
                 assert_previous(&rt, &set, &flags, wanted);
@@ -80,6 +97,7 @@ fn far_over_many_words(rt: HostRuntime) -> Result<(), Fail> {
                     None
                 };
                 assert!(rt; set.next_one(from) == next && others.next_zero(from) == next);
+                assert!(rt; set.nth_one(near) == if near == 0 { Some(position) } else { None });
                 assert!(rt; set.previous_one(from) == previous);
                 assert!(rt; others.previous_zero(from) == previous);
             }

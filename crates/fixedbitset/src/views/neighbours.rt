@@ -1,18 +1,19 @@
-//! The positions of a set next to a given one.
+//! The positions of a set next to a given one, and the k-th of all.
 //!
-//! A step is one lane of four words, but for the first word that is looked at,
-//! which is a step by itself.
+//! A step is one lane of four words, but for the first word that is looked at, which is a step by itself. A step of `nth_one`
+//! is one word.
 
-ghost use Rattle.std.specs.Prelude.{◌≡◌, ◌+◌, ◌-◌, ◌/◌, ◌<◌, ◌≤◌, min, IfSome, IfNone};
+ghost use Rattle.std.specs.Prelude.{◌≡◌, ◌+◌, ◌-◌, ◌/◌, ◌<◌, ◌≤◌, min, slice_get, IfSome, IfNone};
 ghost use Rattle.bitlanes.specs.Words.{lane_steps};
-ghost use Rattle.fixedbitset.specs.Bits.{storage_words};
+ghost use Rattle.fixedbitset.specs.Bits.{asc, storage_words, words_needed};
 ghost use Rattle.fixedbitset.specs.Neighbours as neighbours;
+ghost use Rattle.fixedbitset.specs.TwoSets.{intersection};
 ghost use Rattle.fixedbitset.specs.Views.{value};
 
 use crate::views::Bits;
 use bitlanes::Steps;
 use bitlanes::ops::{And, AndNot};
-use bitwords::positions;
+use bitwords::{joins, positions};
 
 impl Bits<'_> {
     /// The least position at or past `from` that is set, or `None` where none is.
@@ -60,6 +61,60 @@ impl Bits<'_> {
         ensures empty { self.entry.length ≤ from → steps.new ≡ steps.old }
     {
         positions::next::<AndNot>(self.words, from, self.length, steps)
+    }
+
+    /// The least position at or past `from` that both sets have, or `None` where there is none. The lengths are not compared.
+    ///
+    /// It looks at the word of `from` in each set, and then at four words of each at a time, up to those that have the position
+    /// or to the end of the shorter set.
+    ///
+    /// ```
+    /// let (mut words, mut other) = ([9, 2, 0, 0], [1, 3, 0, 0]);
+    /// let set = BitsMut::settle(&mut words, 70, 70);
+    /// let other = BitsMut::settle(&mut other, 66, 66);
+    /// let next = set.as_bits().next_common(other.as_bits(), 1, &mut Steps::new());
+    /// assert_eq!(rt; next, Some(65));
+    /// ```
+    #[inline(always)]
+    pub fn next_common(self, other: Bits<'_>, from: usize, steps: &mut Steps) -> Option<usize>
+        ensures next { result ≡ neighbours.next_one
+            (intersection (value self.entry) (value other.entry)) from }
+        ensures cost { IfSome result
+            (λ p. steps.new ≡ steps.old + 1 + lane_steps (p / 64 - from / 64)) }
+        ensures bound { steps.new ≤ steps.old + 1 + lane_steps
+            (storage_words (min self.entry.length other.entry.length) - 1 - from / 64) }
+        ensures missed { IfNone result (from < min self.entry.length other.entry.length
+            → steps.new ≡ steps.old + 1 + lane_steps
+            (storage_words (min self.entry.length other.entry.length) - 1 - from / 64)) }
+        ensures empty { min self.entry.length other.entry.length ≤ from → steps.new ≡ steps.old }
+    {
+        if from >= self.length.min(other.length) {
+            return None;
+        }
+        joins::next_common(self.words, other.words, from, steps)
+    }
+
+    /// The position that has exactly `index` positions of the set below it: the first has index 0. `None` where the set has no
+    /// more positions than `index`.
+    ///
+    /// It counts word by word, up to the one that has the position, and takes a step for each of these words.
+    ///
+    /// ```
+    /// let mut words = [9, 2, 0, 0];
+    /// let set = BitsMut::settle(&mut words, 70, 70);
+    /// assert_eq!(rt; set.as_bits().nth_one(2, &mut Steps::new()), Some(65));
+    /// assert_eq!(rt; set.as_bits().nth_one(3, &mut Steps::new()), None);
+    /// ```
+    #[inline]
+    pub fn nth_one(self, index: usize, steps: &mut Steps) -> Option<usize>
+        ensures nth { result ≡ slice_get (asc (value self.entry)) index }
+        ensures cost { IfSome result (λ p. steps.new ≡ steps.old + (p / 64 + 1)) }
+        ensures bound { steps.new ≤ steps.old + words_needed self.entry.length }
+        ensures exact_if_none { IfNone result
+            (steps.new ≡ steps.old + words_needed self.entry.length) }
+    {
+        let words = self.as_slice();
+        positions::nth(words, 0, words.len(), index, steps)
     }
 
     /// The greatest position below `below` that is set, or `None` where none is.

@@ -131,6 +131,28 @@ fn every_pair_changed_with_answer(rt: HostRuntime) -> Result<(), Fail> {
     Ok(())
 }
 
+// From the back on, with the last position that was seen in both.
+#[test]
+fn every_pair_asked_for_the_next_common(rt: HostRuntime) -> Result<(), Fail> {
+    for pair in &every_pair(rt.alloc())? {
+        let (set, other) = (filled(rt.alloc(), &pair.a)?, filled(rt.alloc(), &pair.b)?);
+        let shorter = length_of(pair, Length::Shorter);
+        let mut seen = None;
+        assert!(rt; set.next_common(&other, shorter) == None);
+        assert!(rt; set.next_common(&other, usize::MAX) == None);
+        for position in (0..shorter).rev() {
+            if pair.a[position] && pair.b[position] {
+                seen = Some(position);
+            }
+            assert!(rt;
+                set.next_common(&other, position) == seen,
+                "{position} of {shorter}"
+            );
+        }
+    }
+    Ok(())
+}
+
 // Which positions each call counts.
 const COUNTS: [(Counting, Join); 4] = [
     (Counting::Union, Join::Either),
