@@ -169,6 +169,35 @@ impl<'a> Bits<'a> {
         self.view.next_zero(from, &mut Steps::new())
     }
 
+    /// [`FixedBitSet::next_common`](crate::FixedBitSet::next_common).
+    ///
+    /// Proved: the answer, for any two sets and all numbers ([contract](crate::contracts#fixedbitsetbitsnext_common)).
+    ///
+    /// ```
+    /// # use fixedbitset::Bits;
+    /// let set = Bits::over(&[9, 2, 0, 0], 70).unwrap();
+    /// let other = Bits::over(&[3, 0, 0, 0], 9).unwrap();
+    /// assert_eq!((set.next_common(other, 0), set.next_common(other, 1)), (Some(0), None));
+    /// ```
+    #[inline]
+    pub fn next_common(self, other: Bits<'_>, from: usize) -> Option<usize> {
+        self.view.next_common(other.view, from, &mut Steps::new())
+    }
+
+    /// [`FixedBitSet::nth_one`](crate::FixedBitSet::nth_one).
+    ///
+    /// Proved: the answer, for all sets and all numbers ([contract](crate::contracts#fixedbitsetbitsnth_one)).
+    ///
+    /// ```
+    /// # use fixedbitset::Bits;
+    /// let set = Bits::over(&[9, 2, 0, 0], 70).unwrap();
+    /// assert_eq!((set.nth_one(2), set.nth_one(3)), (Some(65), None));
+    /// ```
+    #[inline]
+    pub fn nth_one(self, index: usize) -> Option<usize> {
+        self.view.nth_one(index, &mut Steps::new())
+    }
+
     /// [`FixedBitSet::previous_one`](crate::FixedBitSet::previous_one).
     ///
     /// Proved: the answer, for all sets and all numbers ([contract](crate::contracts#fixedbitsetbitsprevious_one)).

@@ -161,8 +161,8 @@ fn an_empty_set_has_no_position() {
         (0, 0, 0)
     );
     assert_eq!(
-        (set, set.first_lacking(set)),
-        (FixedBitSet::new().as_bits(), None)
+        (set, set.first_lacking(set), set.next_common(set, 0)),
+        (FixedBitSet::new().as_bits(), None, None)
     );
     let mut changed = BitsMut::over(&mut [], 0).unwrap();
     changed.insert_range(..);
@@ -220,6 +220,7 @@ fn positions_are_those_of_the_flags() {
             assert_eq!(set.next_zero(at), next(&zeroes, at));
             assert_eq!(set.previous_one(at), previous(&ones, at));
             assert_eq!(set.previous_zero(at), previous(&zeroes, at));
+            assert_eq!(set.nth_one(at), ones.get(at).copied());
         }
     }
 }
@@ -304,6 +305,10 @@ fn counts_and_tests_of_two_sets_are_those_of_the_flags() {
         assert_eq!(set.is_subset(second), left.is_empty());
         assert_eq!(set.is_superset(second), lacking.is_empty());
         assert_eq!(set.first_lacking(second), lacking.first().copied());
+        for from in (0..one.len() + 2).chain([usize::MAX]) {
+            let next = shared.iter().find(|at| **at >= from).copied();
+            assert_eq!(set.next_common(second, from), next);
+        }
     }
 }
 
