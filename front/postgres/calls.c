@@ -52,6 +52,8 @@ ASK(bitset_is_full, BoolGetDatum, bits_is_full(set))
 ASK(bitset_count_ones, Int64GetDatum, bits_count_ones(set, 0, set->length))
 /* (Past the length all that are set are below.) */
 ASK(bitset_rank, Int64GetDatum, bits_count_ones(set, 0, Min(FROM_ZERO(1), set->length)))
+/* (No set has as many positions as a negative number says.) */
+ASK(bitset_select_one, FOUND, bits_nth_one(set, PG_GETARG_INT64(1)))
 ASK(bitset_minimum, FOUND, bits_minimum(set))
 ASK(bitset_maximum, FOUND, bits_maximum(set))
 ASK(bitset_next_one, FOUND, bits_next_one(set, FROM_ZERO(1)))
@@ -61,26 +63,6 @@ ASK(bitset_previous_zero, FOUND, bits_previous_zero(set, FROM_ZERO(1)))
 ASK(bitset_first_gap, FOUND, first_gap(set, COUNT(1), 1, (Span){FROM_ZERO(2), set->length}))
 ASK(bitset_first_aligned_gap, FOUND,
     first_gap(set, COUNT(1), not_negative(PG_GETARG_INT64(2), "alignment"), read_span(fcinfo, 3, set)))
-
-/* The directory by which a position is found from how many are below it. It is made for one question, by a pass over the words
- * as a count is, and done_ranking frees it. */
-bits_ranks ranks_of(const bits *set) {
-    size_t count = bits_ranks_entries(set->length);
-    bits_ranks ranks = BITS_RANKS;
-    sure(bits_ranks_fill(&ranks, set, palloc(count * sizeof(size_t)), count));
-    return ranks;
-}
-
-void done_ranking(bits_ranks *ranks) {
-    pfree((void *)ranks->directory);
-}
-
-/* The position that has so many below it. */
-FUNCTION(bitset_select_one) {
-    READ(set, 0);
-    __attribute__((cleanup(done_ranking))) bits_ranks ranks = ranks_of(set);
-    return FOUND(bits_select(&ranks, PG_GETARG_INT64(1)));
-}
 
 CHANGE(bitset_insert, change_at(&changed, bits_insert, PG_GETARG_INT64(1)))
 CHANGE(bitset_remove, change_at(&changed, bits_remove, PG_GETARG_INT64(1)))
@@ -146,6 +128,7 @@ ASK_PAIR(bitset_intersection_count, Int64GetDatum, bits_intersection_count(a, b)
 ASK_PAIR(bitset_difference_count, Int64GetDatum, bits_difference_count(a, b))
 ASK_PAIR(bitset_symmetric_difference_count, Int64GetDatum, bits_symmetric_difference_count(a, b))
 ASK_PAIR(bitset_first_lacking, FOUND, bits_first_lacking(a, b))
+ASK_PAIR(bitset_next_common, FOUND, bits_next_common(a, b, FROM_ZERO(2)))
 ASK_PAIR(bitset_superset, BoolGetDatum, bits_is_subset(b, a))
 ASK_PAIR(bitset_subset, BoolGetDatum, bits_is_subset(a, b))
 ASK_PAIR(bitset_overlap, BoolGetDatum, !bits_is_disjoint(a, b))

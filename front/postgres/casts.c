@@ -43,12 +43,11 @@ FUNCTION(bitset_to_positions) {
 /* The positions from that with `offset` below it on, at most `limit`. */
 FUNCTION(bitset_to_positions_part) {
     READ(set, 0);
-    __attribute__((cleanup(done_ranking))) bits_ranks ranks = ranks_of(set);
-    size_t ones = bits_rank(&ranks, set->length);
+    size_t ones = bits_count_ones(set, 0, set->length);
     size_t offset = Min(not_negative(PG_GETARG_INT64(1), "offset of positions"), ones);
     size_t count = Min(not_negative(PG_GETARG_INT64(2), "limit of positions"), ones - offset);
     bits_walk walk = BITS_WALK;
-    sure(bits_ones_in(&walk, set, count == 0 ? 0 : bits_select(&ranks, offset), set->length));
+    sure(bits_ones_in(&walk, set, count == 0 ? 0 : bits_nth_one(set, offset), set->length));
     return array_of(take_positions(&walk, count, "an array"), count);
 }
 

@@ -85,6 +85,8 @@ ALTER FUNCTION bitset_cmp(bitset, bitset) LEAKPROOF;
 
 CREATE FUNCTION first_aligned_gap(bitset, count bigint, align bigint, int8range DEFAULT '(,)') RETURNS bigint
 AS 'MODULE_PATHNAME', 'bitset_first_aligned_gap' LANGUAGE C IMMUTABLE STRICT PARALLEL SAFE;
+CREATE FUNCTION next_common(bitset, bitset, "from" bigint) RETURNS bigint
+AS 'MODULE_PATHNAME', 'bitset_next_common' LANGUAGE C IMMUTABLE STRICT PARALLEL SAFE;
 CREATE FUNCTION bitset(bit) RETURNS bitset
 AS 'MODULE_PATHNAME', 'bitset_from_varbit' LANGUAGE C IMMUTABLE STRICT PARALLEL SAFE;
 CREATE FUNCTION bitset_to_bit(bitset, length integer, is_explicit boolean) RETURNS bit

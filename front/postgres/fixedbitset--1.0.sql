@@ -148,6 +148,8 @@ CREATE FUNCTION symmetric_difference_count(bitset, bitset) RETURNS bigint
 AS 'MODULE_PATHNAME', 'bitset_symmetric_difference_count' LANGUAGE C IMMUTABLE STRICT PARALLEL SAFE;
 CREATE FUNCTION first_lacking(bitset, bitset) RETURNS bigint
 AS 'MODULE_PATHNAME', 'bitset_first_lacking' LANGUAGE C IMMUTABLE STRICT PARALLEL SAFE;
+CREATE FUNCTION next_common(bitset, bitset, "from" bigint) RETURNS bigint
+AS 'MODULE_PATHNAME', 'bitset_next_common' LANGUAGE C IMMUTABLE STRICT PARALLEL SAFE;
 CREATE FUNCTION append(bitset, bitset) RETURNS bitset
 AS 'MODULE_PATHNAME', 'bitset_append' LANGUAGE C IMMUTABLE STRICT PARALLEL SAFE;
 CREATE FUNCTION copy_range(bitset, bitset, int8range, at bigint) RETURNS bitset

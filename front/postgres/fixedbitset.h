@@ -123,8 +123,6 @@ extern size_t not_negative(int64 number, const char *name);
 extern size_t checked_length(int64 length);
 extern void change_at(bits *set, bool (*call)(bits *, size_t), int64 position);
 extern Span read_span(FunctionCallInfo fcinfo, int argument, const bits *set);
-extern bits_ranks ranks_of(const bits *set);
-extern void done_ranking(bits_ranks *ranks);
 extern Datum *take_positions(bits_walk *walk, size_t ones, const char *where);
 extern Datum *positions_of(const bits *set, int32 *count, const char *where);
 

@@ -228,6 +228,8 @@ CALLS = {
     "first_aligned_gap(s, abs(p) % 12, abs(p) % 7, int8range(a, b))": lambda s, t, p, a, b: ranged(
         s, a, b, lambda m: aligned_gap(s, abs(p) % 12, abs(p) % 7, a, b)),
     "first_lacking(s, t)": lambda s, t, p, a, b: next_of(t.ones & ~s.ones, t.length, 0),
+    "next_common(s, t, p)": lambda s, t, p, a, b: next_of(s.ones & t.ones, s.length, max(p, 0)),
+    "next_common(s, t, a)": lambda s, t, p, a, b: next_of(s.ones & t.ones, s.length, max(a, 0)),
     "bitset_from_bytes(bytes(s), length(t))": lambda s, t, p, a, b: long(t.length, s.ones),
     "positions(s)": lambda s, t, p, a, b: s.positions(),
     "positions(s, p, b)": lambda s, t, p, a, b: s.positions()[p:p + b] if p >= 0 else wrong("22003"),

@@ -64,6 +64,9 @@ SELECT count_ones(~s) = count_zeroes(s, '(,)') AS "not", count_ones(s | t) = uni
 FROM (SELECT s, shift_up(truncate(s, 20000000), 3) AS t FROM long WHERE start < 33554432) v;
 DROP TABLE long;
 SELECT first_lacking(:s, :t), first_lacking(:t, :s), first_lacking(:s, :s), first_lacking('{1}/5', '{1,99}/100'), first_lacking('{}/0', '{}/9');
+-- the next that both have; a negative number is before all positions
+SELECT p, next_common(:s, :t, p), next_common(:t, :s, p) FROM unnest('{-1,0,7,8,16,21,64,9223372036854775807}'::bigint[]) p;
+SELECT next_common(:s, ~:s, 0), next_common('{}/0', '{}/9', 0), next_common('{4000}/5000', '{63,4000}/4001', 64), next_common('{4000}/5000', '{63}/4001', 0);
 
 -- bytes of another length
 SELECT n, bitset_from_bytes('\x88fc1f', n) FROM unnest('{0,4,8,20,24,1000}'::bigint[]) n;
