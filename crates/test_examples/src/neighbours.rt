@@ -24,6 +24,25 @@ fn next_zero(rt: HostRuntime) {
 }
 
 #[test]
+fn next_common(rt: HostRuntime) {
+    let alloc = rt.alloc();
+    let set = set_of(&rt, alloc, &[1, 3, 70]);
+    let other = set_of(&rt, alloc, &[3, 64, 70, 500]);
+    equal(&rt, set.next_common(&other, 0), Some(3));
+    equal(&rt, set.next_common(&other, 4), Some(70));
+    equal(&rt, set.next_common(&other, 71), None);
+}
+
+#[test]
+fn nth_one(rt: HostRuntime) {
+    let alloc = rt.alloc();
+    let set = set_of(&rt, alloc, &[3, 64, 70]);
+    equal(&rt, set.nth_one(0), Some(3));
+    equal(&rt, set.nth_one(2), Some(70));
+    equal(&rt, set.nth_one(3), None);
+}
+
+#[test]
 fn first_gap(rt: HostRuntime) {
     let alloc = rt.alloc();
     let mut set = set_of(&rt, alloc, &[3, 6, 90]);

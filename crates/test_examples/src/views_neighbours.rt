@@ -25,6 +25,27 @@ fn next_zero(rt: HostRuntime) {
 
 #[test]
 #[tactic(auto, using(fixedbitset::specs::WordsFacts::facts))]
+fn next_common(rt: HostRuntime) {
+    let (mut words, mut other) = ([9, 2, 0, 0], [1, 3, 0, 0]);
+    let set = BitsMut::settle(&mut words, 70, 70);
+    let other = BitsMut::settle(&mut other, 66, 66);
+    let next = set
+        .as_bits()
+        .next_common(other.as_bits(), 1, &mut Steps::new());
+    equal(&rt, next, Some(65));
+}
+
+#[test]
+#[tactic(auto, using(fixedbitset::specs::WordsFacts::facts))]
+fn nth_one(rt: HostRuntime) {
+    let mut words = [9, 2, 0, 0];
+    let set = BitsMut::settle(&mut words, 70, 70);
+    equal(&rt, set.as_bits().nth_one(2, &mut Steps::new()), Some(65));
+    equal(&rt, set.as_bits().nth_one(3, &mut Steps::new()), None);
+}
+
+#[test]
+#[tactic(auto, using(fixedbitset::specs::WordsFacts::facts))]
 fn previous_one(rt: HostRuntime) {
     let mut words = [9, 2, 0, 0];
     let set = BitsMut::settle(&mut words, 70, 70);

@@ -78,3 +78,23 @@ fn first_of_difference(rt: HostRuntime) {
         None,
     );
 }
+
+#[test]
+fn next_common(rt: HostRuntime) {
+    let (a, b) = ([9, 0, 6], [8, 7, 4]);
+    equal(
+        &rt,
+        joins::next_common(&a, &b, 1, &mut Steps::new()),
+        Some(3),
+    );
+    equal(
+        &rt,
+        joins::next_common(&a, &b, 4, &mut Steps::new()),
+        Some(130),
+    );
+    equal(
+        &rt,
+        joins::next_common(&a, &b[..2], 4, &mut Steps::new()),
+        None,
+    );
+}

@@ -78,6 +78,25 @@ fn previous(rt: HostRuntime) {
 }
 
 #[test]
+fn nth(rt: HostRuntime) {
+    equal(
+        &rt,
+        positions::nth(&[9, 0, 2], 0, 3, 2, &mut Steps::new()),
+        Some(129),
+    );
+    equal(
+        &rt,
+        positions::nth(&[9, 0, 2], 1, 3, 0, &mut Steps::new()),
+        Some(129),
+    );
+    equal(
+        &rt,
+        positions::nth(&[9, 0, 2], 0, 2, 2, &mut Steps::new()),
+        None,
+    );
+}
+
+#[test]
 fn none_from(rt: HostRuntime) {
     holds(&rt, positions::none_from(&[9, 2, 0], 66));
     holds(&rt, !positions::none_from(&[9, 2, 0], 65));

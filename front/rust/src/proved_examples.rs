@@ -1100,7 +1100,23 @@ fn bitwords_joins_138() {
 }
 
 #[test]
-fn bitwords_positions_12() {
+fn bitwords_joins_152() {
+    use crate::proved::bitlanes::ops::*;
+    use crate::proved::bitlanes::{word, Block, Steps};
+    use crate::proved::bitwords::cursors::*;
+    use crate::proved::bitwords::*;
+    use crate::shim::u64x4;
+    use core::cmp::Ordering;
+    use core::mem::{size_of, size_of_val};
+
+    let (a, b) = ([9, 0, 6], [8, 7, 4]);
+    assert_eq!(joins::next_common(&a, &b, 1, &mut Steps::new()), Some(3));
+    assert_eq!(joins::next_common(&a, &b, 4, &mut Steps::new()), Some(130));
+    assert_eq!(joins::next_common(&a, &b[..2], 4, &mut Steps::new()), None);
+}
+
+#[test]
+fn bitwords_positions_11() {
     use crate::proved::bitlanes::ops::*;
     use crate::proved::bitlanes::{word, Block, Steps};
     use crate::proved::bitwords::cursors::*;
@@ -1179,7 +1195,22 @@ fn bitwords_positions_90() {
 }
 
 #[test]
-fn bitwords_positions_115() {
+fn bitwords_positions_112() {
+    use crate::proved::bitlanes::ops::*;
+    use crate::proved::bitlanes::{word, Block, Steps};
+    use crate::proved::bitwords::cursors::*;
+    use crate::proved::bitwords::*;
+    use crate::shim::u64x4;
+    use core::cmp::Ordering;
+    use core::mem::{size_of, size_of_val};
+
+    assert_eq!(positions::nth(&[9, 0, 2], 0, 3, 2, &mut Steps::new()), Some(129));
+    assert_eq!(positions::nth(&[9, 0, 2], 1, 3, 0, &mut Steps::new()), Some(129));
+    assert_eq!(positions::nth(&[9, 0, 2], 0, 2, 2, &mut Steps::new()), None);
+}
+
+#[test]
+fn bitwords_positions_142() {
     use crate::proved::bitlanes::ops::*;
     use crate::proved::bitlanes::{word, Block, Steps};
     use crate::proved::bitwords::cursors::*;
@@ -1194,7 +1225,7 @@ fn bitwords_positions_115() {
 }
 
 #[test]
-fn bitwords_positions_128() {
+fn bitwords_positions_154() {
     use crate::proved::bitlanes::ops::*;
     use crate::proved::bitlanes::{word, Block, Steps};
     use crate::proved::bitwords::cursors::*;
@@ -1562,7 +1593,7 @@ fn fixedbitset_views_neighbours_15() {
 }
 
 #[test]
-fn fixedbitset_views_neighbours_30() {
+fn fixedbitset_views_neighbours_29() {
     use crate::proved::bitlanes::ops::*;
     use crate::proved::bitlanes::{word, Block, Steps};
     use crate::proved::bitwords::cursors::*;
@@ -1578,7 +1609,40 @@ fn fixedbitset_views_neighbours_30() {
 }
 
 #[test]
-fn fixedbitset_views_neighbours_43() {
+fn fixedbitset_views_neighbours_45() {
+    use crate::proved::bitlanes::ops::*;
+    use crate::proved::bitlanes::{word, Block, Steps};
+    use crate::proved::bitwords::cursors::*;
+    use crate::proved::fixedbitset::*;
+    use crate::shim::u64x4;
+    use core::cmp::Ordering;
+    use core::mem::{size_of, size_of_val};
+
+    let (mut words, mut other) = ([9, 2, 0, 0], [1, 3, 0, 0]);
+    let set = BitsMut::settle(&mut words, 70, 70);
+    let other = BitsMut::settle(&mut other, 66, 66);
+    let next = set.as_bits().next_common(other.as_bits(), 1, &mut Steps::new());
+    assert_eq!(next, Some(65));
+}
+
+#[test]
+fn fixedbitset_views_neighbours_65() {
+    use crate::proved::bitlanes::ops::*;
+    use crate::proved::bitlanes::{word, Block, Steps};
+    use crate::proved::bitwords::cursors::*;
+    use crate::proved::fixedbitset::*;
+    use crate::shim::u64x4;
+    use core::cmp::Ordering;
+    use core::mem::{size_of, size_of_val};
+
+    let mut words = [9, 2, 0, 0];
+    let set = BitsMut::settle(&mut words, 70, 70);
+    assert_eq!(set.as_bits().nth_one(2, &mut Steps::new()), Some(65));
+    assert_eq!(set.as_bits().nth_one(3, &mut Steps::new()), None);
+}
+
+#[test]
+fn fixedbitset_views_neighbours_79() {
     use crate::proved::bitlanes::ops::*;
     use crate::proved::bitlanes::{word, Block, Steps};
     use crate::proved::bitwords::cursors::*;
@@ -1595,7 +1659,7 @@ fn fixedbitset_views_neighbours_43() {
 }
 
 #[test]
-fn fixedbitset_views_neighbours_58() {
+fn fixedbitset_views_neighbours_93() {
     use crate::proved::bitlanes::ops::*;
     use crate::proved::bitlanes::{word, Block, Steps};
     use crate::proved::bitwords::cursors::*;

@@ -8,7 +8,7 @@
 use crate::proved::bitlanes::Steps;
 use crate::proved::bitlanes::ops::And;
 use crate::proved::bitlanes::word::{BITS, Block, ones_below};
-use crate::proved::bitwords::ranges;
+use crate::proved::bitwords::{positions, ranges};
 
 /// How many words of the row an entry stands for.
 pub const WORDS: usize = 8;
@@ -109,7 +109,7 @@ pub fn select(
     let entry = last_within(directory, index, steps);
     let first = WORDS * entry;
     let end = words.len().min(first + WORDS);
-    select_in(words, first, end, index - directory[entry], steps)
+    positions::nth(words, first, end, index - directory[entry], steps)
 }
 
 // The place of an entry that is `index` at most, with none behind it or one that is more.
@@ -127,41 +127,4 @@ fn last_within(directory: &[usize], index: usize, steps: &mut Steps) -> usize {
         }
     }
     low
-}
-
-// The position of the words from `first` on with `index` positions of them before it, if a
-// word before `end` has it.
-#[inline(always)]
-fn select_in(
-    words: &[Block],
-    first: usize,
-    end: usize,
-    index: usize,
-    steps: &mut Steps,
-) -> Option<usize> {
-    let mut left = index;
-    for k in first..end {
-        steps.tick();
-        let ones = words[k].count_ones() as usize;
-        if left < ones {
-            return Some(BITS * k + nth_bit(words[k], left));
-        }
-        left -= ones;
-    }
-    None
-}
-
-// The bit of a word with `index` bits set below it. The word has to have more bits set than that.
-#[inline(always)]
-fn nth_bit(word: Block, index: usize) -> usize {
-    let mut at = 0;
-    let mut span = BITS;
-    while span > 1 {
-        let half = span / 2;
-        if (word & ones_below(at + half)).count_ones() as usize <= index {
-            at += half;
-        }
-        span -= half;
-    }
-    at
 }

@@ -5,7 +5,7 @@
 //! The words that both rows have are joined by a kernel of `bitlanes`, by lanes of four; the rest
 //! of the longer row is cleared, counted or left, as the operation says.
 
-use crate::proved::bitlanes::ops::{AndNot, Or, Second, WordOp};
+use crate::proved::bitlanes::ops::{And, AndNot, Or, Second, WordOp};
 use crate::proved::bitlanes::search::{first_joined, next_one};
 use crate::proved::bitlanes::word::{BITS, lowest_bit};
 use crate::proved::bitlanes::{Block, Steps, changes, lanes};
@@ -144,6 +144,32 @@ pub fn none<O: WordOp>(a: &[Block], b: &[Block], steps: &mut Steps) -> bool {
 pub fn first_of_difference(a: &[Block], b: &[Block], steps: &mut Steps) -> Option<usize> {
     let at = first_word(a, b, steps)?;
     Some(BITS * at + lowest_bit(word_without(a, b, at)))
+}
+
+/// The least position, at or past `from`, that both rows have, or `None` where there is none. Both rows have to have the word
+/// of `from`.
+///
+/// It takes one step for that word of the two, and one for each lane of four words behind it up to the one that has the
+/// position, or up to the end of the shorter row. The number of positions of `a`, 64 for each word, may be at most 2 ^ 64.
+///
+/// ```text
+/// let (a, b) = ([9, 0, 6], [8, 7, 4]);
+/// assert_eq!(joins::next_common(&a, &b, 1, &mut Steps::new()), Some(3));
+/// assert_eq!(joins::next_common(&a, &b, 4, &mut Steps::new()), Some(130));
+/// assert_eq!(joins::next_common(&a, &b[..2], 4, &mut Steps::new()), None);
+/// ```
+#[inline(always)]
+pub fn next_common(a: &[Block], b: &[Block], from: usize, steps: &mut Steps) -> Option<usize> {
+    steps.tick();
+    let at = from / BITS;
+    let rest = And::word(a[at], b[at]) >> (from % BITS);
+    if rest != 0 {
+        return Some(from + lowest_bit(rest));
+    }
+    let behind = at + 1;
+    let place = first_joined::<And>(&a[behind..], &b[behind..], steps)?;
+    let at = behind + place;
+    Some(BITS * at + lowest_bit(And::word(a[at], b[at])))
 }
 
 // How many bits are set from word `from` on, where these words count.

@@ -1,6 +1,5 @@
 // Made by front/erase from crates/bitwords/src/positions.rt: change that, and not this.
-//! Single positions of a row of words, the first and the last of them, and
-//! those from one position on.
+//! Single positions of a row of words, the first, the last and the k-th of them, and those from one position on.
 
 use crate::proved::bitlanes::ops::{And, WordOp};
 use crate::proved::bitlanes::search::{first_one, last_one, next_one, previous_one};
@@ -107,6 +106,37 @@ pub fn previous<O: WordOp>(words: &[Block], below: usize, steps: &mut Steps) -> 
     Some(BITS * at + highest_bit(O::word(Block::MAX, words[at])))
 }
 
+/// The position of the words from place `first` on and before place `end` that has exactly `index` of their positions before
+/// it: the first has index 0. `None` where these words have no more positions than `index`.
+///
+/// It takes one step for each of these words up to the one that has the position. That word is searched by halves, six times,
+/// which is not counted. The number of positions of the row, 64 for each word, may be at most 2 ^ 64.
+///
+/// ```text
+/// assert_eq!(positions::nth(&[9, 0, 2], 0, 3, 2, &mut Steps::new()), Some(129));
+/// assert_eq!(positions::nth(&[9, 0, 2], 1, 3, 0, &mut Steps::new()), Some(129));
+/// assert_eq!(positions::nth(&[9, 0, 2], 0, 2, 2, &mut Steps::new()), None);
+/// ```
+#[inline(always)]
+pub fn nth(
+    words: &[Block],
+    first: usize,
+    end: usize,
+    index: usize,
+    steps: &mut Steps,
+) -> Option<usize> {
+    let mut left = index;
+    for k in first..end {
+        steps.tick();
+        let ones = words[k].count_ones() as usize;
+        if left < ones {
+            return Some(BITS * k + nth_bit(words[k], left));
+        }
+        left -= ones;
+    }
+    None
+}
+
 /// Whether no position of the row from `start` on is set.
 ///
 /// It looks at the word of `start`, and at four words at a time behind it up to the first that has
@@ -150,4 +180,19 @@ fn next_in_row<O: WordOp>(words: &[Block], from: usize, steps: &mut Steps) -> Op
     }
     let at = next_one::<O>(Block::MAX, words, at + 1, steps)?;
     Some(BITS * at + lowest_bit(O::word(Block::MAX, words[at])))
+}
+
+// The bit of a word with `index` bits set below it. The word has to have more bits set than that.
+#[inline(always)]
+fn nth_bit(word: Block, index: usize) -> usize {
+    let mut at = 0;
+    let mut span = BITS;
+    while span > 1 {
+        let half = span / 2;
+        if (word & ones_below(at + half)).count_ones() as usize <= index {
+            at += half;
+        }
+        span -= half;
+    }
+    at
 }
