@@ -6,6 +6,7 @@ pub mod Walk
 pub mod Neighbours
 pub mod Runs
 pub mod Gaps
+pub mod Handfuls
 -- facts for callers
 pub mod AscendingFacts
 pub mod NextFacts

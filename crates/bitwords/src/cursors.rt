@@ -4,8 +4,7 @@
 //! between them stand in a `Middle`, which says where they come from: a slice, a slice of inverted
 //! words, two slices joined, or a vector that the cursor owns.
 
-ghost use Rattle.std.specs.Prelude.{◌≡◌, ℕ, ◌+◌, ◌*◌, ◌^◌, ◌<◌, ◌≤◌, ◌∷◌};
-ghost use Rattle.std.specs.Prelude.{◌++◌, [], List, length, map, Some, IfSome};
+ghost use Rattle.std.specs.Prelude.{◌≡◌, ℕ, ◌+◌, ◌*◌, ◌^◌, ◌<◌, ◌≤◌, ◌∷◌, ◌++◌, [], List, length, map, slice_get, Some, IfSome};
 ghost use Rattle.std.specs.Int.{bit_not, w64};
 ghost use Rattle.std.specs.Iterator.{YieldsFirst, YieldsLast, item_count, UpTo};
 ghost use Rattle.std.specs.Iterator.SizeHint.{IsWithinCount};
@@ -47,6 +46,19 @@ pub trait Middle {
         ensures { result ≡ length (words self.now) };
 }
 
+/// Words that can be looked at before they are taken.
+///
+/// ```
+/// let middle = Plain { words: &[3, 5, 7] };
+/// assert_eq!(rt; Seen::peek(&middle, 1), Some(5));
+/// assert_eq!(rt; Seen::peek(&middle, 3), None);
+/// ```
+pub trait Seen: Middle {
+    /// The word at this place of those left, or `None` past the last one.
+    fn peek(&self, index: usize) -> Option<Block>
+        ensures { result ≡ slice_get (Self.words self.now) index };
+}
+
 /// Words of a slice.
 ///
 /// ```
@@ -82,6 +94,13 @@ impl<'a> Middle for Plain<'a> {
     }
 }
 
+impl<'a> Seen for Plain<'a> {
+    #[inline]
+    fn peek(&self, index: usize) -> Option<Block> {
+        self.words.get(index).copied()
+    }
+}
+
 /// Words of a slice, each bit inverted.
 ///
 /// ```
@@ -114,8 +133,15 @@ impl<'a> Middle for Inverted<'a> {
     }
 }
 
-/// Words of a slice, each joined by `O` with the word at its place of another slice. Past the end
-/// of that it is joined with 0.
+impl<'a> Seen for Inverted<'a> {
+    #[inline]
+    fn peek(&self, index: usize) -> Option<Block> {
+        Some(!self.plain.peek(index)?)
+    }
+}
+
+/// Words of a slice, each joined by `O` with the word at its place of another slice. Past the end of that it is joined
+/// with 0.
 ///
 /// So the positions of a word are looked up in the other slice at once, when the word is taken.
 ///
