@@ -1,7 +1,8 @@
 -- The word without its lowest bit.
 use Rattle.std.proofs.Common.{◌≡◌, ◌+◌, ◌-◌, ◌*◌, ◌/◌, ◌%◌, ◌^◌, ◌<◌, ℕ, suc, ap, arith, bit_and, pow-suc, pow_pos}
 use Rattle.std.specs.Int.{bit_at}
-use Rattle.std.proofs.lemmas.Nat.Bits.{bit_at_and, bit_at_ones_above, bit_at-zero, bit_at_cat_low, bit_at_cat_high, same_from_bits_below}
+use Rattle.std.proofs.lemmas.Nat.Bits.{bit_at_and, bit_at_ones_above, bit_at-zero}
+use Rattle.std.proofs.lemmas.Nat.Bits.{bit_at_cat_low, bit_at_cat_high, same_from_bits_below}
 use Rattle.bitlanes.specs.Word.{IsLowestBit, ClearsBit}
 
 module _ (n k : ℕ) (is : IsLowestBit n k) where
@@ -14,7 +15,10 @@ module _ (n k : ℕ) (is : IsLowestBit n k) where
   whole =
       let room : 0 < 2 ^ k = pow_pos k in
       let parts : n / 2 ^ k * 2 ^ k + n % 2 ^ k ≡ n = omega arith in
-      let unset : (i : ℕ) → i < k → bit_at (n % 2 ^ k) i ≡ bit_at 0 i = λ i lt. cc (bit_at_cat_low (n / 2 ^ k) k (n % 2 ^ k) i lt, ap (λ x. bit_at x i) parts, is.lowest i lt, bit_at-zero i) in
+      let unset : (i : ℕ) → i < k
+      → bit_at (n % 2 ^ k) i ≡ bit_at 0 i =
+      λ i lt.
+      cc (bit_at_cat_low (n / 2 ^ k) k (n % 2 ^ k) i lt, ap (λ x. bit_at x i) parts, is.lowest i lt, bit_at-zero i) in
       let none : n % 2 ^ k ≡ 0 = same_from_bits_below k (n % 2 ^ k) 0 (omega arith) room unset in
       let odd : n / 2 ^ k ≡ 2 * above + 1 = omega (arith, is.set) in
       omega (arith, ap (λ x. x * 2 ^ k) odd, ap (λ x. above * x) (pow-suc 2 k))

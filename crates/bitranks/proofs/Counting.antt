@@ -1,5 +1,8 @@
--- Counts of positions as a directory has them, the position to which one leads, and a value with its words and a directory of them.
-use Rattle.std.proofs.Common.{◌≡◌, ◌==◌, ℕ, ◌+◌, ◌-◌, ◌*◌, ◌/◌, ◌<◌, ◌≤◌, Bool, true, false, ◌&&◌, nat_lt, bit_and, min, Option, Some, None, IfSome, IfNone, List, length, get_or, set, slice_index, refl, sym, subst, ap, ◌∙◌, arith, ⊎_elim}
+-- Counts of positions as a directory has them, the position to which one leads, and a
+-- value with its words and a directory of them.
+use Rattle.std.proofs.Common.{◌≡◌, ◌==◌, ℕ, ◌+◌, ◌-◌, ◌*◌, ◌/◌, ◌<◌, ◌≤◌, Bool, true, false, ◌&&◌}
+use Rattle.std.proofs.Common.{nat_lt, bit_and, min, Option, Some, None, IfSome, IfNone, List, length}
+use Rattle.std.proofs.Common.{get_or, set, slice_index, refl, sym, subst, ap, ◌∙◌, arith, ⊎_elim}
 use Rattle.std.specs.List.{slice_get}
 use Rattle.std.specs.Int.Count.{ones}
 use Rattle.std.proofs.lemmas.Bool.{cases_lt, lt-ltb}
@@ -63,7 +66,14 @@ module _ (ws : List ℕ) (words : AreWords ws) (k : ℕ) where
   count-upto position n mask total at had here last some below masked =
       let end : 64 * k + n ≡ min position (64 * length ws) = omega arith in
       let ones = ones-below (get_or ws k 0) mask n (words k) (omega arith) masked in
-      omega (arith, ap (λ j. count_below (has_bit ws) (64 * j)) here, count-within ws words k n (omega arith), ones, ap (count_below (has_bit ws)) end, count-min ws position)
+      omega (
+        arith,
+        ap (λ j. count_below (has_bit ws) (64 * j)) here,
+        count-within ws words k n (omega arith),
+        ones,
+        ap (count_below (has_bit ws)) end,
+        count-min ws position,
+      )
 
 -- ---- the position that a directory leads to
 

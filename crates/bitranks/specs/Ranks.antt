@@ -1,5 +1,6 @@
 -- Rank and select of a value, and the directory that answers them.
-use Rattle.std.specs.Prelude.{◌≡◌, ℕ, ◌+◌, ◌-◌, ◌*◌, ◌/◌, ◌%◌, ◌^◌, ◌<◌, ◌≤◌, min, Option, List, length, slice_get, slice_index}
+use Rattle.std.specs.Prelude.{◌≡◌, ℕ, ◌+◌, ◌-◌, ◌*◌, ◌/◌, ◌%◌, ◌^◌, ◌<◌, ◌≤◌}
+use Rattle.std.specs.Prelude.{min, Option, List, length, slice_get, slice_index}
 use Rattle.std.specs.Int.{div_ceil}
 use Rattle.bitwords.specs.Rows.{has_bit, count_below}
 use Rattle.fixedbitset.specs.Bits.{Bits, asc, words}

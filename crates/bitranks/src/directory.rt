@@ -1,8 +1,10 @@
 //! Rank and select over words that someone keeps, with a directory of them beside.
 //!
-//! Position `p` stands at bit `p % 64` of word `p / 64`. Entry `k` of the directory is how many bits are set in the words
-//! before word `8 * k`, so it takes one word of memory for eight words of the row.
-ghost use Rattle.std.specs.Prelude.{◌≡◌, ℕ, ◌+◌, ◌-◌, ◌*◌, ◌/◌, ◌^◌, ◌<◌, ◌≤◌, length, slice_get, slice_index, IfSome, IfNone};
+//! Position `p` stands at bit `p % 64` of word `p / 64`. Entry `k` of the directory is how
+//! many bits are set in the words before word `8 * k`, so it takes one word of memory for
+//! eight words of the row.
+ghost use Rattle.std.specs.Prelude.{◌≡◌, ℕ, ◌+◌, ◌-◌, ◌*◌, ◌/◌, ◌^◌, ◌<◌, ◌≤◌};
+ghost use Rattle.std.specs.Prelude.{length, slice_get, slice_index, IfSome, IfNone};
 ghost use Rattle.bitwords.specs.Ascending.{ascending};
 ghost use Rattle.bitwords.specs.Rows.{has_bit, count_below};
 ghost use Rattle.bitranks.specs.Ranks as ranks;

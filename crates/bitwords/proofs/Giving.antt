@@ -1,8 +1,11 @@
 -- What the positions of a word become, as they are given from the lowest on.
-use Rattle.std.proofs.Common.{◌≡◌, ℕ, zero, suc, ◌+◌, ◌-◌, ◌%◌, ◌^◌, ◌<◌, ◌≤◌, ◌==◌, Bool, true, false, cond, List, [], ◌∷◌, ◌++◌, inl, inr, ◌⊎◌, length, take, drop, get_or, slice_set, refl, sym, ap, ◌∙◌, arith, bit_and}
+use Rattle.std.proofs.Common.{◌≡◌, ℕ, zero, suc, ◌+◌, ◌-◌, ◌%◌, ◌^◌, ◌<◌, ◌≤◌, ◌==◌, Bool, true}
+use Rattle.std.proofs.Common.{false, cond, List, [], ◌∷◌, ◌++◌, inl, inr, ◌⊎◌, length, take}
+use Rattle.std.proofs.Common.{drop, get_or, slice_set, refl, sym, ap, ◌∙◌, arith, bit_and}
 use Rattle.std.specs.Int.{w64, trailing_zeros}
 use Rattle.std.specs.Int.Count.{ones}
-use Rattle.std.proofs.lemmas.List.{drop-drop, get_or-drop, get_or-take, ext_get_or, length-take-le, length-drop, get_or-set_same, get_or-set_other, get_or_append_left, get_or-append-add}
+use Rattle.std.proofs.lemmas.List.{drop-drop, get_or-drop, get_or-take, ext_get_or, length-take-le, length-drop}
+use Rattle.std.proofs.lemmas.List.{get_or-set_same, get_or-set_other, get_or_append_left, get_or-append-add}
 use Rattle.std.proofs.lemmas.Bool.{cases_eq}
 use Rattle.std.proofs.lemmas.Bool.Decides.{leb_tells}
 use Rattle.std.proofs.lemmas.Slice.{take-put_mid}
@@ -18,7 +21,8 @@ use Rattle.bitwords.proofs.Counted.{ones-bits}
 use Rattle.bitwords.specs.Handfuls.{word_positions}
 
 -- the lowest bit gives the first position
-pub positions-first : (base old new k : ℕ) → IsLowestBit old k → ClearsBit old new k → word_positions base old ≡ (base + k) ∷ word_positions base new
+pub positions-first : (base old new k : ℕ) → IsLowestBit old k → ClearsBit old new k
+    → word_positions base old ≡ (base + k) ∷ word_positions base new
 unfolding word_positions
 positions-first base old new k is clears =
     let here : base + k - base ≡ k = omega arith in
@@ -28,7 +32,8 @@ positions-first base old new k is clears =
       to = omega (arith, is.within);
       passes = rw (here, is.set);
       gone = rw (here, clears.clear);
-      others = λ i above below other. ap (λ b. b == 1) (clears.others (i - base) (omega arith) (λ e. other (omega arith)));
+      others =
+          λ i above below other. ap (λ b. b == 1) (clears.others (i - base) (omega arith) (λ e. other (omega arith)));
     })
     (λ i above below. ap (λ b. b == 1) (is.lowest (i - base) (omega arith)))
 
@@ -42,14 +47,16 @@ unfolding word_positions
 positions-most base word = length-ascending (λ p. bit word (p - base)) base 64
 
 -- as many pass where the test is moved with the numbers
-length-moved : (f : ℕ → Bool) (base low n : ℕ) → length (ascending (λ p. f (p - base)) (base + low) n) ≡ length (ascending f low n)
+length-moved : (f : ℕ → Bool) (base low n : ℕ)
+    → length (ascending (λ p. f (p - base)) (base + low) n) ≡ length (ascending f low n)
 length-moved f base low zero = refl
 length-moved f base low (suc n) =
     let here : base + low - base ≡ low = omega arith in
     let next : base + low + 1 ≡ base + (low + 1) = omega arith in
     rw (here, next) (by_test (f low) _ _ (length-moved f base (low + 1) n))
   where
-    by_test : (b : Bool) (xs ys : List ℕ) → length xs ≡ length ys → length (cond b ((base + low) ∷ xs) xs) ≡ length (cond b (low ∷ ys) ys)
+    by_test : (b : Bool) (xs ys : List ℕ) → length xs ≡ length ys
+        → length (cond b ((base + low) ∷ xs) xs) ≡ length (cond b (low ∷ ys) ys)
     by_test true xs ys e = omega (arith, e)
     by_test false xs ys e = e
 
@@ -70,14 +77,16 @@ length-positions base word fits = length-bits base word ∙ length-count (bit wo
 -- ---- the lowest bit cleared, also of a word that is 0
 
 is_lowest : (n : ℕ) → 0 < n → n < 2 ^ 64 → IsLowestBit n (trailing_zeros w64 n)
-is_lowest n some fits = let found = bit_at-trailing_zeros w64 n some fits in record { within = found.0; set = found.1; lowest = found.2 }
+is_lowest n some fits =
+    let found = bit_at-trailing_zeros w64 n some fits in record { within = found.0; set = found.1; lowest = found.2 }
 
 -- one less, and for 0 the greatest word
 abbrev pub one_less : ℕ → ℕ
 one_less n = (n + (2 ^ 64 - 1)) % 2 ^ 64
 
 -- the positions left are those behind the first, if there is one
-pub step-rest : (base n : ℕ) → n < 2 ^ 64 → word_positions base (bit_and n (one_less n)) ≡ drop 1 (word_positions base n)
+pub step-rest : (base n : ℕ) → n < 2 ^ 64
+    → word_positions base (bit_and n (one_less n)) ≡ drop 1 (word_positions base n)
 step-rest base zero fits = rw (positions-none base) refl
 step-rest base (suc m) fits =
     let n : ℕ = suc m in
@@ -86,13 +95,16 @@ step-rest base (suc m) fits =
     rw (less, positions-first base n (bit_and n (n - 1)) (trailing_zeros w64 n) is (clears_lowest n _ is)) refl
 
 -- the first, if there is one
-pub step-first : (base n : ℕ) → n < 2 ^ 64 → base + 64 ≤ 2 ^ 64 → 0 < length (word_positions base n) → (base + trailing_zeros w64 n) % 2 ^ 64 ≡ get_or (word_positions base n) 0 0
+pub step-first : (base n : ℕ) → n < 2 ^ 64 → base + 64 ≤ 2 ^ 64 → 0 < length (word_positions base n)
+    → (base + trailing_zeros w64 n) % 2 ^ 64 ≡ get_or (word_positions base n) 0 0
 step-first base zero fits room some = absurd (omega (arith, ap length (positions-none base)))
 step-first base (suc m) fits room some =
     let n : ℕ = suc m in
     let is = is_lowest n (omega arith) fits in
     let small : (base + trailing_zeros w64 n) % 2 ^ 64 ≡ base + trailing_zeros w64 n = omega (arith, is.within) in
-    small ∙ sym (ap (λ xs. get_or xs 0 0) (positions-first base n (bit_and n (n - 1)) (trailing_zeros w64 n) is (clears_lowest n _ is)))
+    small
+    ∙ sym (ap (λ xs. get_or xs 0 0)
+    (positions-first base n (bit_and n (n - 1)) (trailing_zeros w64 n) is (clears_lowest n _ is)))
 
 -- ---- what is written, as far as there is so much
 
@@ -100,20 +112,25 @@ step-first base (suc m) fits room some =
 abbrev pub IsWritten : List ℕ → ℕ → List ℕ → Type 0
 IsWritten all k out = (j : ℕ) → j < k → j < length all → get_or out j 0 ≡ get_or all j 0
 
-pub written-one : (all out : List ℕ) (k x : ℕ) → k < length out → IsWritten all k out → (0 < length (drop k all) → x ≡ get_or (drop k all) 0 0) → IsWritten all (k + 1) (slice_set out k x)
+pub written-one : (all out : List ℕ) (k x : ℕ) → k < length out → IsWritten all k out
+    → (0 < length (drop k all) → x ≡ get_or (drop k all) 0 0) → IsWritten all (k + 1) (slice_set out k x)
 written-one all out k x room before is j below some =
     elim (cases_eq j k) [
       | inl here ↦
           let at : k + 0 ≡ k = omega arith in
-          let one : x ≡ get_or all k 0 = is (omega (arith, length-drop k all)) ∙ get_or-drop k all 0 0 ∙ ap (λ i. get_or all i 0) at in
+          let one : x ≡ get_or all k 0 = is (omega (arith, length-drop k all)) ∙ get_or-drop k all 0 0
+          ∙ ap (λ i. get_or all i 0) at in
           rw here (get_or-set_same out k x 0 room ∙ one)
       | inr other ↦ get_or-set_other out k j x 0 other ∙ before j (omega (arith, other)) some
     ]
 
-module _ (all out eight : List ℕ) (a : ℕ) (room : a + 8 ≤ length out) (long : length eight ≡ 8) (before : IsWritten all a out) (more : IsWritten (drop a all) 8 eight) where
-  by_place : (j : ℕ) → j < a + 8 → j < length all → ((leb a j ≡ true) × (a ≤ j)) ⊎ ((leb a j ≡ false) × (j < a)) → get_or (take a out ++ eight) j 0 ≡ get_or all j 0
+module _ (all out eight : List ℕ) (a : ℕ) (room : a + 8 ≤ length out) (long : length eight ≡ 8)
+    (before : IsWritten all a out) (more : IsWritten (drop a all) 8 eight) where
+  by_place : (j : ℕ) → j < a + 8 → j < length all → ((leb a j ≡ true) × (a ≤ j)) ⊎ ((leb a j ≡ false) × (j < a))
+      → get_or (take a out ++ eight) j 0 ≡ get_or all j 0
   by_place j below some (inr (_, early)) =
-      get_or_append_left (take a out) eight 0 j (omega (arith, length-take-le a out (omega arith))) ∙ get_or-take a out j 0 early ∙ before j early some
+      get_or_append_left (take a out) eight 0 j (omega (arith, length-take-le a out (omega arith)))
+      ∙ get_or-take a out j 0 early ∙ before j early some
   by_place j below some (inl (_, late)) =
       let i : ℕ = j - a in
       let is : j ≡ length (take a out) + i = omega (arith, length-take-le a out (omega arith)) in
@@ -128,10 +145,12 @@ module _ (all out eight : List ℕ) (a : ℕ) (room : a + 8 ≤ length out) (lon
       ∙ by_place j below some (leb_tells a j)
 
 -- where all are written, they stand in front
-pub all-written : (all out : List ℕ) (k n : ℕ) → n ≡ length all → n ≤ k → n ≤ length out → IsWritten all k out → take n out ≡ all
+pub all-written : (all out : List ℕ) (k n : ℕ) → n ≡ length all → n ≤ k → n ≤ length out → IsWritten all k out
+    → take n out ≡ all
 all-written all out k n is enough room written =
     let long : length (take n out) ≡ n = length-take-le n out room in
-    ext_get_or 0 (take n out) all (omega (arith, is)) (λ i below. get_or-take n out i 0 (omega arith) ∙ written i (omega arith) (omega arith))
+    ext_get_or 0 (take n out) all (omega (arith, is))
+    (λ i below. get_or-take n out i 0 (omega arith) ∙ written i (omega arith) (omega arith))
 
 -- ---- what is behind
 

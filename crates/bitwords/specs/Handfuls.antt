@@ -14,7 +14,8 @@ in_eights n = 8 * div_ceil n 8
 
 -- how many positions the first four words have
 abbrev pub ones_ahead : List ℕ → ℕ
-ones_ahead words = length (word_positions 0 (get_or words 0 0)) + length (word_positions 0 (get_or words 1 0)) + length (word_positions 0 (get_or words 2 0)) + length (word_positions 0 (get_or words 3 0))
+ones_ahead words = length (word_positions 0 (get_or words 0 0)) + length (word_positions 0 (get_or words 1 0))
+    + length (word_positions 0 (get_or words 2 0)) + length (word_positions 0 (get_or words 3 0))
 
 -- A call wrote the first `count` of these items to the front of the places, and left those that the items do not reach.
 pub record GivesSome (items before : List ℕ) (count : ℕ) (after left : List ℕ) : Type 0 where

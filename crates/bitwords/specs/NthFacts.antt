@@ -1,7 +1,9 @@
--- How many positions stand below one, in a word and in a row of words, and the one with so many before it, for those who look
--- for it.
+-- How many positions stand below one, in a word and in a row of words, and the one with so many before it, for those
+-- who look for it.
 use Rattle.std.specs.Prelude.{slice_get}
-use Rattle.std.proofs.Common.{◌≡◌, ◌==◌, ℕ, zero, suc, ◌+◌, ◌-◌, ◌*◌, ◌/◌, ◌%◌, ◌^◌, ◌<◌, ◌≤◌, Bool, true, false, cond, ◌&&◌, nat_lt, bit_and, Some, None, List, ◌∷◌, ◌++◌, length, get_or, refl, sym, subst, ap, ◌∙◌, arith, ⊎_elim}
+use Rattle.std.proofs.Common.{◌≡◌, ◌==◌, ℕ, zero, suc, ◌+◌, ◌-◌, ◌*◌, ◌/◌, ◌%◌, ◌^◌, ◌<◌, ◌≤◌}
+use Rattle.std.proofs.Common.{Bool, true, false, cond, ◌&&◌, nat_lt, bit_and, Some, None, List}
+use Rattle.std.proofs.Common.{◌∷◌, ◌++◌, length, get_or, refl, sym, subst, ap, ◌∙◌, arith, ⊎_elim}
 use Rattle.std.specs.Int.{bit_at}
 use Rattle.std.specs.Int.Count.{ones}
 use Rattle.std.proofs.Math.Nat.{pow-suc, div-lt_iff_lt-mul}
@@ -26,7 +28,8 @@ use Rattle.bitwords.specs.Rows.{has_bit, count_below}
 pub nth-between : (test : ℕ → Bool) (k p : ℕ) → count_below test p ≤ k → k < count_below test (p + 1) → IsNth test k p
 nth-between test k p low high =
     let e : p + 1 ≡ suc p = omega arith in
-    let step : count_below test (p + 1) ≡ count_below test p + indicator (test p) = ap (count_below test) e ∙ count-suc test p in
+    let step : count_below test (p + 1) ≡ count_below test p + indicator (test p) = ap (count_below test) e
+    ∙ count-suc test p in
     ⊎_elim
     (λ (one : test p ≡ true). record { passes = one; before = omega (arith, step, ap indicator one) })
     (λ (none : test p ≡ false). absurd (omega (arith, step, ap indicator none)))
@@ -37,8 +40,13 @@ pub nth-below : (test : ℕ → Bool) (n k : ℕ) → k < count_below test n →
 nth-below test zero k more = absurd (omega (arith, count-zero test))
 nth-below test (suc n) k more =
     ⊎_elim
-    (λ (lower : k < count_below test n). let found = nth-below test n k lower in (found.0, (let below : found.0 < n = found.1 in omega arith), found.2))
-    (λ (last : count_below test n ≤ k). (n, omega arith, nth-between test k n last (let e : suc n ≡ n + 1 = omega arith in omega (arith, ap (count_below test) e))))
+    (λ (lower : k < count_below test n).
+    let found = nth-below test n k lower in (found.0, (let below : found.0 < n = found.1 in omega arith), found.2))
+    (λ (last : count_below test n ≤ k). (
+      n,
+      omega arith,
+      nth-between test k n last (let e : suc n ≡ n + 1 = omega arith in omega (arith, ap (count_below test) e)),
+    ))
     (cases_lt k (count_below test n))
 
 -- behind those before it stands the k-th
@@ -55,9 +63,11 @@ nth-ascending test n k p within is =
     let rest : ℕ = n - (p + 1) in
     let e : n ≡ p + suc rest = omega arith in
     let z : 0 + p ≡ p = omega arith in
-    let here : ascending test p (suc rest) ≡ p ∷ ascending test (p + 1) rest = ap (λ b. cond b (p ∷ ascending test (p + 1) rest) (ascending test (p + 1) rest)) is.passes in
+    let here : ascending test p (suc rest) ≡ p ∷ ascending test (p + 1) rest =
+    ap (λ b. cond b (p ∷ ascending test (p + 1) rest) (ascending test (p + 1) rest)) is.passes in
     ap (λ m. slice_get (ascending test 0 m) k) e
-    ∙ ap (λ xs. slice_get xs k) (ascending-append test 0 p (suc rest) ∙ ap (λ xs. ascending test 0 p ++ xs) (ap (λ low. ascending test low (suc rest)) z ∙ here))
+    ∙ ap (λ xs. slice_get xs k) (ascending-append test 0 p (suc rest)
+    ∙ ap (λ xs. ascending test 0 p ++ xs) (ap (λ low. ascending test low (suc rest)) z ∙ here))
     ∙ seam (ascending test 0 p) _ k p (omega (arith, length-count test p, is.before))
 
 pub none-ascending : (test : ℕ → Bool) (n k : ℕ) → count_below test n ≤ k → slice_get (ascending test 0 n) k ≡ None
@@ -99,30 +109,40 @@ ones-bits (suc w) x h =
     omega (arith, split, top, low, ones-bits w r small, count-suc (bit x) w)
 
 -- those of a word, below place n
-pub ones-below : (word mask n : ℕ) → word < 2 ^ 64 → n ≤ 64 → ((i : ℕ) → bit mask i ≡ nat_lt i n) → ones (bit_and word mask) ≡ count_below (bit word) n
+pub ones-below : (word mask n : ℕ) → word < 2 ^ 64 → n ≤ 64 → ((i : ℕ) → bit mask i ≡ nat_lt i n)
+    → ones (bit_and word mask) ≡ count_below (bit word) n
 ones-below word mask n fits within masked =
     let less : bit_and word mask ≤ word = and_le_l word mask in
     ones-bits 64 (bit_and word mask) (omega arith)
-    ∙ count-shorter (bit (bit_and word mask)) n 64 within (λ i from _. grind (arith, nat_tests, bit-and word mask i, masked i))
-    ∙ count-same (bit (bit_and word mask)) (bit word) n (λ i below. grind (arith, nat_tests, bit-and word mask i, masked i))
+    ∙ count-shorter (bit (bit_and word mask)) n 64 within
+    (λ i from _. grind (arith, nat_tests, bit-and word mask i, masked i))
+    ∙ count-same (bit (bit_and word mask)) (bit word) n
+    (λ i below. grind (arith, nat_tests, bit-and word mask i, masked i))
 
 -- ---- the words of a row
 
 module _ (ws : List ℕ) (words : AreWords ws) (k : ℕ) where
   -- some bits further within word k
-  pub count-within : (n : ℕ) → n ≤ 64 → count_below (has_bit ws) (64 * k + n) ≡ count_below (has_bit ws) (64 * k) + count_below (bit (get_or ws k 0)) n
+  pub count-within : (n : ℕ) → n ≤ 64
+      → count_below (has_bit ws) (64 * k + n) ≡ count_below (has_bit ws) (64 * k) + count_below (bit (get_or ws k 0)) n
   count-within n within =
       let c : ℕ → Bool = has_bit ws in
-      omega (arith, count-append c (64 * k) n, count-same (λ i. c (64 * k + i)) (bit (get_or ws k 0)) n (λ i below. has_bit-at ws k i (omega arith)))
+      omega (
+        arith,
+        count-append c (64 * k) n,
+        count-same (λ i. c (64 * k + i)) (bit (get_or ws k 0)) n (λ i below. has_bit-at ws k i (omega arith)),
+      )
 
   -- one word further
   pub word-count : count_below (has_bit ws) (64 * (k + 1)) ≡ count_below (has_bit ws) (64 * k) + ones (get_or ws k 0)
   word-count =
       let e : 64 * (k + 1) ≡ 64 * k + 64 = omega arith in
-      omega (arith, ap (count_below (has_bit ws)) e, count-within 64 (omega arith), ones-bits 64 (get_or ws k 0) (words k))
+      omega
+      (arith, ap (count_below (has_bit ws)) e, count-within 64 (omega arith), ones-bits 64 (get_or ws k 0) (words k))
 
   -- the position of a bit of word k
-  pub nth-word : (index left j : ℕ) → j < 64 → IsNth (bit (get_or ws k 0)) left j → count_below (has_bit ws) (64 * k) + left ≡ index → IsNth (has_bit ws) index (64 * k + j)
+  pub nth-word : (index left j : ℕ) → j < 64 → IsNth (bit (get_or ws k 0)) left j
+      → count_below (has_bit ws) (64 * k) + left ≡ index → IsNth (has_bit ws) index (64 * k + j)
   nth-word index left j within is all =
       record {
         passes = has_bit-at ws k j within ∙ is.passes;

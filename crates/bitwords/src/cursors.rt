@@ -4,7 +4,8 @@
 //! between them stand in a `Middle`, which says where they come from: a slice, a slice of inverted
 //! words, two slices joined, or a vector that the cursor owns.
 
-ghost use Rattle.std.specs.Prelude.{◌≡◌, ℕ, ◌+◌, ◌*◌, ◌^◌, ◌<◌, ◌≤◌, ◌∷◌, ◌++◌, [], List, length, map, slice_get, Some, IfSome};
+ghost use Rattle.std.specs.Prelude.{◌≡◌, ℕ, ◌+◌, ◌*◌, ◌^◌, ◌<◌, ◌≤◌, ◌∷◌, ◌++◌, []};
+ghost use Rattle.std.specs.Prelude.{List, length, map, slice_get, Some, IfSome};
 ghost use Rattle.std.specs.Int.{bit_not, w64};
 ghost use Rattle.std.specs.Iterator.{YieldsFirst, YieldsLast, item_count, UpTo};
 ghost use Rattle.std.specs.Iterator.SizeHint.{IsWithinCount};
@@ -140,8 +141,8 @@ impl<'a> Seen for Inverted<'a> {
     }
 }
 
-/// Words of a slice, each joined by `O` with the word at its place of another slice. Past the end of that it is joined
-/// with 0.
+/// Words of a slice, each joined by `O` with the word at its place of another slice. Past the end
+/// of that it is joined with 0.
 ///
 /// So the positions of a word are looked up in the other slice at once, when the word is taken.
 ///

@@ -204,11 +204,12 @@ pub fn first_of_difference(a: &[Block], b: &[Block], steps: &mut Steps) -> Optio
     Some(BITS * at + lowest_bit(word_without(a, b, at)))
 }
 
-/// The least position, at or past `from`, that both rows have, or `None` where there is none. Both rows have to have the word
-/// of `from`.
+/// The least position, at or past `from`, that both rows have, or `None` where there is none. Both
+/// rows have to have the word of `from`.
 ///
-/// It takes one step for that word of the two, and one for each lane of four words behind it up to the one that has the
-/// position, or up to the end of the shorter row. The number of positions of `a`, 64 for each word, may be at most 2 ^ 64.
+/// It takes one step for that word of the two, and one for each lane of four words behind it up to
+/// the one that has the position, or up to the end of the shorter row. The number of positions of
+/// `a`, 64 for each word, may be at most 2 ^ 64.
 ///
 /// ```
 /// let (a, b) = ([9, 0, 6], [8, 7, 4]);

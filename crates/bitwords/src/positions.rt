@@ -1,5 +1,7 @@
-//! Single positions of a row of words, the first, the last and the k-th of them, and those from one position on.
-ghost use Rattle.std.specs.Prelude.{◌≡◌, ◌↔◌, ℕ, ◌+◌, ◌-◌, ◌*◌, ◌/◌, ◌^◌, ◌<◌, ◌≤◌, ◌&&◌, nat_lt, length, slice_get, None, IfSome, IfNone, IsTrue, true, false};
+//! Single positions of a row of words, the first, the last and the k-th of them, and
+//! those from one position on.
+ghost use Rattle.std.specs.Prelude.{◌≡◌, ◌↔◌, ℕ, ◌+◌, ◌-◌, ◌*◌, ◌/◌, ◌^◌, ◌<◌, ◌≤◌, ◌&&◌, nat_lt};
+ghost use Rattle.std.specs.Prelude.{length, slice_get, None, IfSome, IfNone, IsTrue, true, false};
 ghost use Rattle.std.specs.Int.RustNames.{count_ones};
 ghost use Rattle.std.specs.List.{last_or};
 ghost use Rattle.bitlanes.specs.Bits.{bit};
@@ -157,11 +159,13 @@ pub fn previous<O: WordOp>(words: &[Block], below: usize, steps: &mut Steps) -> 
     Some(BITS * at + highest_bit(O::word(Block::MAX, words[at])))
 }
 
-/// The position of the words from place `first` on and before place `end` that has exactly `index` of their positions before
-/// it: the first has index 0. `None` where these words have no more positions than `index`.
+/// The position of the words from place `first` on and before place `end` that has exactly `index`
+/// of their positions before it: the first has index 0. `None` where these words have no more
+/// positions than `index`.
 ///
-/// It takes one step for each of these words up to the one that has the position. That word is searched by halves, six times,
-/// which is not counted. The number of positions of the row, 64 for each word, may be at most 2 ^ 64.
+/// It takes one step for each of these words up to the one that has the position. That word is
+/// searched by halves, six times, which is not counted. The number of positions of the row, 64 for
+/// each word, may be at most 2 ^ 64.
 ///
 /// ```
 /// assert_eq!(rt; positions::nth(&[9, 0, 2], 0, 3, 2, &mut Steps::new()), Some(129));

@@ -1,7 +1,8 @@
 -- The position next to a given one, and the k-th, found in the words that a set keeps.
 use Rattle.std.specs.Prelude.{slice_get}
 use Rattle.std.specs.List.{last_or}
-use Rattle.std.proofs.Common.{◌≡◌, ℕ, ◌+◌, ◌*◌, ◌<◌, ◌≤◌, Bool, true, false, not, ◌&&◌, nat_lt, nat_le, min, filter, List, length, Option, Some, None, IfSome, IfNone, sym, subst, ap, ◌∙◌, arith}
+use Rattle.std.proofs.Common.{◌≡◌, ℕ, ◌+◌, ◌*◌, ◌<◌, ◌≤◌, Bool, true, false, not, ◌&&◌, nat_lt, nat_le, min}
+use Rattle.std.proofs.Common.{filter, List, length, Option, Some, None, IfSome, IfNone, sym, subst, ap, ◌∙◌, arith}
 use Rattle.std.proofs.lemmas.Bool.Decides.{nat_tests}
 use Rattle.bitwords.specs.Ascending.{ascending}
 use Rattle.bitwords.specs.AscendingFacts.{ascending-none, filter-ascending, first-ascending, last-ascending}
@@ -92,7 +93,8 @@ module _ (n : ℕ) (ws : List ℕ) (clean : IsClean n ws) where
       → (from < n → NonePasses sets from (64 * length ws) → Steps) → IfNone found (from < n → Steps)
   unfolding bit_test
   missed_one from (Some p) none cost = tt
-  missed_one from None none cost = λ some. cost some (λ i above below. grind (arith, nat_tests, none i above, clean.tail i))
+  missed_one from None none cost =
+      λ some. cost some (λ i above below. grind (arith, nat_tests, none i above, clean.tail i))
 
 -- ---- in the words of two values
 
@@ -108,18 +110,28 @@ module _ (n : ℕ) (xs : List ℕ) (clean_xs : IsClean n xs) (m : ℕ) (ys : Lis
 
   in_both : (p : ℕ) → shares p ≡ contains both p
   unfolding bits_test
-  in_both p = grind (arith, contains_word n xs p clean_xs, contains_word m ys p clean_ys, contains-intersection (of_words n xs) (of_words m ys) p)
+  in_both p =
+      grind (
+        arith,
+        contains_word n xs p clean_xs,
+        contains_word m ys p clean_ys,
+        contains-intersection (of_words n xs) (of_words m ys) p,
+      )
 
   none_past : (p : ℕ) → min n m ≤ p → shares p ≡ false
   unfolding bits_test
   none_past p past = grind (arith, clean_xs.tail p, clean_ys.tail p)
 
   listed : ascending shares 0 common ≡ asc both
-  listed = upto-asc both shares common (λ p _. in_both p) (λ p past. sym (in_both p) ∙ none_past p (omega (arith, past, clean_xs.count, clean_ys.count)))
+  listed =
+      upto-asc both shares common (λ p _. in_both p)
+      (λ p past. sym (in_both p) ∙ none_past p (omega (arith, past, clean_xs.count, clean_ys.count)))
 
-  pub next_common_of : (from : ℕ) (found : Option ℕ) → IfSome found (IsNext shares from common) → IfNone found (NonePasses shares from common) → found ≡ next_one both from
+  pub next_common_of : (from : ℕ) (found : Option ℕ) → IfSome found (IsNext shares from common)
+      → IfNone found (NonePasses shares from common) → found ≡ next_one both from
   unfolding next_one
-  next_common_of from found is none = next shares common from found is none ∙ ap (λ xs. slice_get (filter (nat_le from) xs) 0) listed
+  next_common_of from found is none =
+      next shares common from found is none ∙ ap (λ xs. slice_get (filter (nat_le from) xs) 0) listed
 
   pub no_next_common : (from : ℕ) → min n m ≤ from → None ≡ next_one both from
   no_next_common from past = next_common_of from None tt (λ i after _. none_past i (omega (arith, past, after)))
@@ -128,13 +140,21 @@ module _ (n : ℕ) (xs : List ℕ) (clean_xs : IsClean n xs) (m : ℕ) (ys : Lis
 
 pub nth_one_of : (v : Bits) (ws : List ℕ) (end index : ℕ) → ws ≡ words v → end ≡ length ws → (found : Option ℕ)
     → IfSome found (IsNth (has_bit ws) (count_below (has_bit ws) (64 * 0) + index)) → IfSome found (λ p. p < 64 * end)
-    → IfNone found (count_below (has_bit ws) (64 * end) ≤ count_below (has_bit ws) (64 * 0) + index) → found ≡ slice_get (asc v) index
-nth_one_of v ws end index is long found nth below none = listed found nth below none ∙ ap (λ xs. slice_get xs index) (ap (λ xs. ascending (has_bit xs) 0 (64 * length xs)) is ∙ words-asc v)
+    → IfNone found (count_below (has_bit ws) (64 * end) ≤ count_below (has_bit ws) (64 * 0) + index)
+    → found ≡ slice_get (asc v) index
+nth_one_of v ws end index is long found nth below none = listed found nth below none
+    ∙ ap (λ xs. slice_get xs index) (ap (λ xs. ascending (has_bit xs) 0 (64 * length xs)) is ∙ words-asc v)
   where
     before : count_below (has_bit ws) (64 * 0) + index ≡ index
     before = omega (arith, count-zero (has_bit ws))
 
-    listed : (found : Option ℕ) → IfSome found (IsNth (has_bit ws) (count_below (has_bit ws) (64 * 0) + index)) → IfSome found (λ p. p < 64 * end)
-        → IfNone found (count_below (has_bit ws) (64 * end) ≤ count_below (has_bit ws) (64 * 0) + index) → found ≡ slice_get (ascending (has_bit ws) 0 (64 * length ws)) index
-    listed (Some p) nth below none = sym (nth-ascending (has_bit ws) (64 * length ws) index p (omega (arith, below, long)) (subst (λ k. IsNth (has_bit ws) k p) before nth))
-    listed None nth below none = sym (none-ascending (has_bit ws) (64 * length ws) index (omega (arith, none, before, ap (λ k. count_below (has_bit ws) (64 * k)) long)))
+    listed : (found : Option ℕ) → IfSome found (IsNth (has_bit ws) (count_below (has_bit ws) (64 * 0) + index))
+        → IfSome found (λ p. p < 64 * end)
+        → IfNone found (count_below (has_bit ws) (64 * end) ≤ count_below (has_bit ws) (64 * 0) + index)
+        → found ≡ slice_get (ascending (has_bit ws) 0 (64 * length ws)) index
+    listed (Some p) nth below none =
+        sym (nth-ascending (has_bit ws) (64 * length ws) index p (omega (arith, below, long))
+        (subst (λ k. IsNth (has_bit ws) k p) before nth))
+    listed None nth below none =
+        sym (none-ascending (has_bit ws) (64 * length ws) index
+        (omega (arith, none, before, ap (λ k. count_below (has_bit ws) (64 * k)) long)))

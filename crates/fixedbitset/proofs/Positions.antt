@@ -62,7 +62,8 @@ below-asc v test n long same =
     ap (ascending test 0) long ∙ ascending-same test (contains v) 0 v.length (λ p _ below. same p (omega arith))
 
 -- those of a test that says below a bound what the value has, which has none past it
-pub upto-asc : (v : Bits) (test : ℕ → Bool) (n : ℕ) → ((p : ℕ) → p < n → test p ≡ contains v p) → ((p : ℕ) → n ≤ p → contains v p ≡ false) → ascending test 0 n ≡ asc v
+pub upto-asc : (v : Bits) (test : ℕ → Bool) (n : ℕ) → ((p : ℕ) → p < n → test p ≡ contains v p)
+    → ((p : ℕ) → n ≤ p → contains v p ≡ false) → ascending test 0 n ≡ asc v
 unfolding asc
 upto-asc v test n same past =
     let all : ℕ = n + v.length in

@@ -47,11 +47,11 @@ impl FixedBitSet {
         self.as_bits().next_zero(from, &mut Steps::new())
     }
 
-    /// The least position at or past `from` that this set and `other` have both, or `None` where there is none. The lengths are
-    /// not compared.
+    /// The least position at or past `from` that this set and `other` have both, or `None` where
+    /// there is none. The lengths are not compared.
     ///
-    /// It takes one step for the word of `from`, and one for each lane of four words behind it, up to the one that has the
-    /// position or to the end of the shorter set.
+    /// It takes one step for the word of `from`, and one for each lane of four words behind it, up
+    /// to the one that has the position or to the end of the shorter set.
     ///
     /// ```
     /// let set = FixedBitSet::from_iter(alloc, [1, 3, 70])?;
@@ -68,11 +68,12 @@ impl FixedBitSet {
             .next_common(other.as_bits(), from, &mut Steps::new())
     }
 
-    /// The position that has exactly `index` positions of the set below it: the first has index 0. `None` where the set has no
-    /// more positions than `index`.
+    /// The position that has exactly `index` positions of the set below it: the first has index 0.
+    /// `None` where the set has no more positions than `index`.
     ///
-    /// It counts word by word, so it takes one step for each word up to the one that has the position. Where many such
-    /// positions are asked for, `Ranks::select` of `bitranks` has a directory, and looks at eight words at most.
+    /// It counts word by word, so it takes one step for each word up to the one that has the
+    /// position. Where many such positions are asked for, `Ranks::select` of `bitranks` has a
+    /// directory, and looks at eight words at most.
     ///
     /// ```
     /// let set = FixedBitSet::from_iter(alloc, [3, 64, 70])?;
@@ -87,8 +88,8 @@ impl FixedBitSet {
         self.as_bits().nth_one(index, &mut Steps::new())
     }
 
-    /// The least number at or past `from` with `count` clear positions from there on, all below the length, or `None` where
-    /// there is none. With a `count` of 0 that is `from`, up to the length.
+    /// The least number at or past `from` with `count` clear positions from there on, all below the
+    /// length, or `None` where there is none. With a `count` of 0 that is `from`, up to the length.
     ///
     /// It goes from one stretch of clear positions to the next, so it takes a
     /// search or two for each.

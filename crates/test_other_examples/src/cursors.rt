@@ -4,7 +4,7 @@
 use crate::calls::{equal, gives, ok};
 use bitlanes::ops::{And, AndNot};
 use bitwords::cursors;
-use bitwords::cursors::{Beside, Cursor, Inverted, Middle, Plain};
+use bitwords::cursors::{Beside, Cursor, Inverted, Middle, Plain, Seen};
 use fixedbitset::Block;
 
 #[test]
@@ -13,6 +13,13 @@ fn middle(rt: HostRuntime) {
     equal(&rt, Middle::take_first(&mut middle), Some(3));
     equal(&rt, Middle::take_last(&mut middle), Some(7));
     equal(&rt, Middle::left(&middle), 1);
+}
+
+#[test]
+fn seen(rt: HostRuntime) {
+    let middle = Plain { words: &[3, 5, 7] };
+    equal(&rt, Seen::peek(&middle, 1), Some(5));
+    equal(&rt, Seen::peek(&middle, 3), None);
 }
 
 #[test]

@@ -34,6 +34,8 @@ mod form;
 #[cfg(test)]
 mod gaps;
 #[cfg(test)]
+mod handfuls;
+#[cfg(test)]
 mod joins;
 #[cfg(test)]
 mod lanes;

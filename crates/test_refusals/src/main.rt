@@ -1,6 +1,6 @@
 //! The program `test_refusals`: makes each call that may be refused memory, and each call that
-//! takes none, and checks what it answers and what it leaves. The script `tools/memory/sweep` runs it
-//! with requests for memory refused.
+//! takes none, and checks what it answers and what it leaves. The script `tools/memory/sweep` runs
+//! it with requests for memory refused.
 //!
 //! All sets are made before the first call. It writes a line for each call that was refused memory,
 //! one for each that did wrong, and at the end how many it made. It ends with status 0 where each

@@ -827,13 +827,28 @@ fn bitwords_cursors_35() {
     use core::cmp::Ordering;
     use core::mem::{size_of, size_of_val};
 
+    let middle = Plain { words: &[3, 5, 7] };
+    assert_eq!(Seen::peek(&middle, 1), Some(5));
+    assert_eq!(Seen::peek(&middle, 3), None);
+}
+
+#[test]
+fn bitwords_cursors_47() {
+    use crate::proved::bitlanes::ops::*;
+    use crate::proved::bitlanes::{word, Block, Steps};
+    use crate::proved::bitwords::cursors::*;
+    use crate::proved::bitwords::*;
+    use crate::shim::u64x4;
+    use core::cmp::Ordering;
+    use core::mem::{size_of, size_of_val};
+
     let mut cursor = Cursor::over(Plain { words: &[8, 0, 1] });
     assert_eq!(cursor.next_back(), Some(128));
     assert!(cursor.eq([3]));
 }
 
 #[test]
-fn bitwords_cursors_68() {
+fn bitwords_cursors_87() {
     use crate::proved::bitlanes::ops::*;
     use crate::proved::bitlanes::{word, Block, Steps};
     use crate::proved::bitwords::cursors::*;
@@ -849,7 +864,7 @@ fn bitwords_cursors_68() {
 }
 
 #[test]
-fn bitwords_cursors_101() {
+fn bitwords_cursors_127() {
     use crate::proved::bitlanes::ops::*;
     use crate::proved::bitlanes::{word, Block, Steps};
     use crate::proved::bitwords::cursors::*;
@@ -863,7 +878,7 @@ fn bitwords_cursors_101() {
 }
 
 #[test]
-fn bitwords_cursors_115() {
+fn bitwords_cursors_141() {
     use crate::proved::bitlanes::ops::*;
     use crate::proved::bitlanes::{word, Block, Steps};
     use crate::proved::bitwords::cursors::*;
@@ -877,7 +892,7 @@ fn bitwords_cursors_115() {
 }
 
 #[test]
-fn bitwords_cursors_231() {
+fn bitwords_cursors_257() {
     use crate::proved::bitlanes::ops::*;
     use crate::proved::bitlanes::{word, Block, Steps};
     use crate::proved::bitwords::cursors::*;
@@ -891,7 +906,7 @@ fn bitwords_cursors_231() {
 }
 
 #[test]
-fn bitwords_cursors_245() {
+fn bitwords_cursors_271() {
     use crate::proved::bitlanes::ops::*;
     use crate::proved::bitlanes::{word, Block, Steps};
     use crate::proved::bitwords::cursors::*;
@@ -905,7 +920,7 @@ fn bitwords_cursors_245() {
 }
 
 #[test]
-fn bitwords_cursors_261() {
+fn bitwords_cursors_287() {
     use crate::proved::bitlanes::ops::*;
     use crate::proved::bitlanes::{word, Block, Steps};
     use crate::proved::bitwords::cursors::*;
@@ -920,7 +935,7 @@ fn bitwords_cursors_261() {
 }
 
 #[test]
-fn bitwords_cursors_288() {
+fn bitwords_cursors_314() {
     use crate::proved::bitlanes::ops::*;
     use crate::proved::bitlanes::{word, Block, Steps};
     use crate::proved::bitwords::cursors::*;
@@ -935,7 +950,7 @@ fn bitwords_cursors_288() {
 }
 
 #[test]
-fn bitwords_cursors_399() {
+fn bitwords_cursors_425() {
     use crate::proved::bitlanes::ops::*;
     use crate::proved::bitlanes::{word, Block, Steps};
     use crate::proved::bitwords::cursors::*;
@@ -949,7 +964,7 @@ fn bitwords_cursors_399() {
 }
 
 #[test]
-fn bitwords_cursors_414() {
+fn bitwords_cursors_440() {
     use crate::proved::bitlanes::ops::*;
     use crate::proved::bitlanes::{word, Block, Steps};
     use crate::proved::bitwords::cursors::*;
@@ -1100,7 +1115,7 @@ fn bitwords_joins_138() {
 }
 
 #[test]
-fn bitwords_joins_152() {
+fn bitwords_joins_156() {
     use crate::proved::bitlanes::ops::*;
     use crate::proved::bitlanes::{word, Block, Steps};
     use crate::proved::bitwords::cursors::*;
@@ -1116,7 +1131,7 @@ fn bitwords_joins_152() {
 }
 
 #[test]
-fn bitwords_positions_11() {
+fn bitwords_positions_12() {
     use crate::proved::bitlanes::ops::*;
     use crate::proved::bitlanes::{word, Block, Steps};
     use crate::proved::bitwords::cursors::*;
@@ -1195,7 +1210,7 @@ fn bitwords_positions_90() {
 }
 
 #[test]
-fn bitwords_positions_112() {
+fn bitwords_positions_118() {
     use crate::proved::bitlanes::ops::*;
     use crate::proved::bitlanes::{word, Block, Steps};
     use crate::proved::bitwords::cursors::*;
@@ -1210,7 +1225,7 @@ fn bitwords_positions_112() {
 }
 
 #[test]
-fn bitwords_positions_142() {
+fn bitwords_positions_148() {
     use crate::proved::bitlanes::ops::*;
     use crate::proved::bitlanes::{word, Block, Steps};
     use crate::proved::bitwords::cursors::*;
@@ -1225,7 +1240,7 @@ fn bitwords_positions_142() {
 }
 
 #[test]
-fn bitwords_positions_154() {
+fn bitwords_positions_161() {
     use crate::proved::bitlanes::ops::*;
     use crate::proved::bitlanes::{word, Block, Steps};
     use crate::proved::bitwords::cursors::*;
@@ -1593,7 +1608,7 @@ fn fixedbitset_views_neighbours_15() {
 }
 
 #[test]
-fn fixedbitset_views_neighbours_29() {
+fn fixedbitset_views_neighbours_30() {
     use crate::proved::bitlanes::ops::*;
     use crate::proved::bitlanes::{word, Block, Steps};
     use crate::proved::bitwords::cursors::*;
@@ -1609,7 +1624,7 @@ fn fixedbitset_views_neighbours_29() {
 }
 
 #[test]
-fn fixedbitset_views_neighbours_45() {
+fn fixedbitset_views_neighbours_47() {
     use crate::proved::bitlanes::ops::*;
     use crate::proved::bitlanes::{word, Block, Steps};
     use crate::proved::bitwords::cursors::*;
@@ -1626,7 +1641,7 @@ fn fixedbitset_views_neighbours_45() {
 }
 
 #[test]
-fn fixedbitset_views_neighbours_65() {
+fn fixedbitset_views_neighbours_68() {
     use crate::proved::bitlanes::ops::*;
     use crate::proved::bitlanes::{word, Block, Steps};
     use crate::proved::bitwords::cursors::*;
@@ -1642,7 +1657,7 @@ fn fixedbitset_views_neighbours_65() {
 }
 
 #[test]
-fn fixedbitset_views_neighbours_79() {
+fn fixedbitset_views_neighbours_82() {
     use crate::proved::bitlanes::ops::*;
     use crate::proved::bitlanes::{word, Block, Steps};
     use crate::proved::bitwords::cursors::*;
@@ -1659,7 +1674,7 @@ fn fixedbitset_views_neighbours_79() {
 }
 
 #[test]
-fn fixedbitset_views_neighbours_93() {
+fn fixedbitset_views_neighbours_97() {
     use crate::proved::bitlanes::ops::*;
     use crate::proved::bitlanes::{word, Block, Steps};
     use crate::proved::bitwords::cursors::*;

@@ -1,7 +1,7 @@
 //! The positions of a set next to a given one, and the k-th of all.
 //!
-//! A step is one lane of four words, but for the first word that is looked at, which is a step by itself. A step of `nth_one`
-//! is one word.
+//! A step is one lane of four words, but for the first word that is looked at, which is a step by
+//! itself. A step of `nth_one` is one word.
 
 ghost use Rattle.std.specs.Prelude.{◌≡◌, ◌+◌, ◌-◌, ◌/◌, ◌<◌, ◌≤◌, min, slice_get, IfSome, IfNone};
 ghost use Rattle.bitlanes.specs.Words.{lane_steps};
@@ -63,10 +63,11 @@ impl Bits<'_> {
         positions::next::<AndNot>(self.words, from, self.length, steps)
     }
 
-    /// The least position at or past `from` that both sets have, or `None` where there is none. The lengths are not compared.
+    /// The least position at or past `from` that both sets have, or `None` where there is none. The
+    /// lengths are not compared.
     ///
-    /// It looks at the word of `from` in each set, and then at four words of each at a time, up to those that have the position
-    /// or to the end of the shorter set.
+    /// It looks at the word of `from` in each set, and then at four words of each at a time, up to
+    /// those that have the position or to the end of the shorter set.
     ///
     /// ```
     /// let (mut words, mut other) = ([9, 2, 0, 0], [1, 3, 0, 0]);
@@ -94,10 +95,11 @@ impl Bits<'_> {
         joins::next_common(self.words, other.words, from, steps)
     }
 
-    /// The position that has exactly `index` positions of the set below it: the first has index 0. `None` where the set has no
-    /// more positions than `index`.
+    /// The position that has exactly `index` positions of the set below it: the first has index 0.
+    /// `None` where the set has no more positions than `index`.
     ///
-    /// It counts word by word, up to the one that has the position, and takes a step for each of these words.
+    /// It counts word by word, up to the one that has the position, and takes a step
+    /// for each of these words.
     ///
     /// ```
     /// let mut words = [9, 2, 0, 0];

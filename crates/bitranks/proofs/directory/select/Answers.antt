@@ -14,8 +14,10 @@ last_within-entry-requires-clause-first c =
 pub returns-clause-value : goal.returns-clause-value
 returns-clause-value c =
     let entry : ℕ = c.last_within-entry.result in
-    selected c.args.words.now c.args.directory.now c.requires.directory c.args.index entry _ (c.args.index - slice_index c.args.directory.now entry)
-    c.last_within-entry.ensures.within c.last_within-entry.ensures.low c.last_within-entry.ensures.high (search rules) (omega arith) c.nth.result c.nth.ensures.found c.nth.ensures.below c.nth.ensures.none
+    selected c.args.words.now c.args.directory.now c.requires.directory c.args.index entry _
+    (c.args.index - slice_index c.args.directory.now entry)
+    c.last_within-entry.ensures.within c.last_within-entry.ensures.low c.last_within-entry.ensures.high (search rules)
+    (omega arith) c.nth.result c.nth.ensures.found c.nth.ensures.below c.nth.ensures.none
 
 pub returns-then-is_empty-clause-exact_if_none : goal.returns-then-is_empty-clause-exact_if_none
 returns-then-is_empty-clause-exact_if_none c =
@@ -26,15 +28,19 @@ returns-then-is_empty-clause-exact_if_none c =
 
 pub returns-clause-cost : goal.returns-clause-cost
 returns-clause-cost c =
-    found_steps _ _ _ _ c.last_within-entry.result c.min-end.result c.nth.result c.last_within-entry.ensures.cost (omega (arith, c.min-end.ensures)) c.nth.ensures.from
+    found_steps _ _ _ _ c.last_within-entry.result c.min-end.result c.nth.result c.last_within-entry.ensures.cost
+    (omega (arith, c.min-end.ensures)) c.nth.ensures.from
     c.nth.ensures.below c.nth.ensures.cost
 
 pub returns-clause-exact_if_none : goal.returns-clause-exact_if_none
 returns-clause-exact_if_none c =
     let entry : ℕ = c.last_within-entry.result in
-    unfound_steps _ _ _ _ _ entry c.min-end.result c.nth.result c.last_within-entry.ensures.cost c.requires.directory.long
-    (last_entry c.args.words.now c.args.directory.now c.requires.directory c.args.index entry _ (c.args.index - slice_index c.args.directory.now entry)
-    c.last_within-entry.ensures.within c.last_within-entry.ensures.low c.last_within-entry.ensures.high (search rules) (omega arith))
+    unfound_steps _ _ _ _ _ entry c.min-end.result c.nth.result c.last_within-entry.ensures.cost
+    c.requires.directory.long
+    (last_entry c.args.words.now c.args.directory.now c.requires.directory c.args.index entry _
+    (c.args.index - slice_index c.args.directory.now entry)
+    c.last_within-entry.ensures.within c.last_within-entry.ensures.low c.last_within-entry.ensures.high (search rules)
+    (omega arith))
     (search rules) c.nth.ensures.none c.nth.ensures.exact_if_none
 
 pub returns-clause-bound : goal.returns-clause-bound

@@ -9,7 +9,11 @@ loop-index-preserved c =
     let all = word_positions c.args.base c.args.word in
     let inv = c.loop-index.invariant in
     record {
-      written = written-one all c.loop-index.eight c.loop-index.index _ (omega (arith, c.loop-index.auto.eight, c.requires.room)) inv.written
-          (λ some. step-first c.args.base c.loop-index.left c.loop-index.auto.left-fits.fits c.requires.fits (rw inv.rest some) ∙ ap (λ xs. get_or xs 0 0) inv.rest);
-      rest = step-rest c.args.base c.loop-index.left c.loop-index.auto.left-fits.fits ∙ ap (drop 1) inv.rest ∙ drop-drop 1 c.loop-index.index all;
+      written =
+          written-one all c.loop-index.eight c.loop-index.index _
+          (omega (arith, c.loop-index.auto.eight, c.requires.room)) inv.written
+          (λ some. step-first c.args.base c.loop-index.left c.loop-index.auto.left-fits.fits c.requires.fits
+          (rw inv.rest some) ∙ ap (λ xs. get_or xs 0 0) inv.rest);
+      rest = step-rest c.args.base c.loop-index.left c.loop-index.auto.left-fits.fits ∙ ap (drop 1) inv.rest
+          ∙ drop-drop 1 c.loop-index.index all;
     }

@@ -14,8 +14,12 @@ loop-at-preserved c =
     record {
       eights = omega (arith, inv.eights);
       within = omega (arith, inv.eights, most, count);
-      written = written-eight all c.loop-at.places c.give_eight-left.new.eight c.loop-at.at (omega (arith, inv.eights, inv.within, c.requires.room)) (omega arith) inv.written (rw inv.rest at c.give_eight-left.ensures.written);
-      behind = drop-put_mid c.loop-at.at (c.loop-at.at + 8 - c.loop-at.at) c.loop-at.places c.give_eight-left.new.eight (c.loop-at.at + 8) (omega arith) (omega (arith, inv.eights, inv.within, c.requires.room)) (omega arith) ∙ drop-further 8 c.loop-at.at c.loop-at.places c.args.places.now inv.behind;
+      written = written-eight all c.loop-at.places c.give_eight-left.new.eight c.loop-at.at
+          (omega (arith, inv.eights, inv.within, c.requires.room)) (omega arith) inv.written
+          (rw inv.rest at c.give_eight-left.ensures.written);
+      behind = drop-put_mid c.loop-at.at (c.loop-at.at + 8 - c.loop-at.at) c.loop-at.places c.give_eight-left.new.eight
+          (c.loop-at.at + 8) (omega arith) (omega (arith, inv.eights, inv.within, c.requires.room)) (omega arith)
+          ∙ drop-further 8 c.loop-at.at c.loop-at.places c.args.places.now inv.behind;
       rest = c.give_eight-left.ensures.rest ∙ ap (drop 8) inv.rest ∙ drop-drop 8 c.loop-at.at all;
     }
 
@@ -23,7 +27,8 @@ pub returns-clause-written : goal.returns-clause-written
 returns-clause-written c =
     let most = positions-most c.args.base c.args.word in
     let count = length-positions c.args.base c.args.word c.ranges.word.fits in
-    all-written (word_positions c.args.base c.args.word) c.loop-at.places c.loop-at.at _ (sym count) (omega arith) (omega (arith, most, count)) c.loop-at.invariant.written
+    all-written (word_positions c.args.base c.args.word) c.loop-at.places c.loop-at.at _ (sym count) (omega arith)
+    (omega (arith, most, count)) c.loop-at.invariant.written
 
 pub returns-clause-behind : goal.returns-clause-behind
 returns-clause-behind c =

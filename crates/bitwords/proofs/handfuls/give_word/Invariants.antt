@@ -9,7 +9,8 @@ invariant-loop-at l = record {
   eights : l.at % 8 ≡ 0;
   within : l.at ≤ in_eights (count_ones l.word);
   behind : drop l.at l.places ≡ drop l.at l.fn.places;
-  written : (j : ℕ) → j < l.at → j < length (word_positions l.base l.word) → get_or l.places j 0 ≡ get_or (word_positions l.base l.word) j 0;
+  written : (j : ℕ) → j < l.at → j < length (word_positions l.base l.word)
+      → get_or l.places j 0 ≡ get_or (word_positions l.base l.word) j 0;
   rest : word_positions l.base l.left ≡ drop l.at (word_positions l.base l.word);
 }
 

@@ -1,4 +1,5 @@
-use Rattle.std.proofs.Common.{◌≡◌, ℕ, ◌+◌, ◌-◌, ◌<◌, ◌≤◌, List, [], ◌∷◌, ◌++◌, length, take, drop, count_ones, refl, sym, ap, ◌∙◌, arith}
+use Rattle.std.proofs.Common.{◌≡◌, ℕ, ◌+◌, ◌-◌, ◌<◌, ◌≤◌, List, [], ◌∷◌, ◌++◌, length}
+use Rattle.std.proofs.Common.{take, drop, count_ones, refl, sym, ap, ◌∙◌, arith}
 use Rattle.std.proofs.lemmas.List.{length-take-le, length-drop}
 use Rattle.bitwords.specs.Handfuls.{word_positions, in_eights}
 use Rattle.bitwords.specs.WalkedWords.{held_items, ones_from}
@@ -12,7 +13,8 @@ pub overflow_sub-room : goal.overflow_sub-room
 overflow_sub-room g c = omega (arith, c.loop-room.invariant.gives.room, c.loop-room.auto.places)
 
 pub give_word-count-requires-clause-fits : goal.give_word-count-requires-clause-fits
-give_word-count-requires-clause-fits g c = omega (arith, c.loop-room.invariant.spaced.order, c.loop-room.invariant.spaced.fits)
+give_word-count-requires-clause-fits g c =
+    omega (arith, c.loop-room.invariant.spaced.order, c.loop-room.invariant.spaced.fits)
 
 pub overflow_add-held-in-loop-room : goal.overflow_add-held-in-loop-room
 overflow_add-held-in-loop-room g c =
@@ -21,7 +23,8 @@ overflow_add-held-in-loop-room g c =
 
 pub loop-room-smaller : goal.loop-room-smaller
 loop-room-smaller g c =
-    let shorter : length (g.M.Middle.words c.take_first.new.self) < length (g.M.Middle.words c.loop-room.held.middle) = omega (arith, ap length c.in-Some.ensures) in
+    let shorter : length (g.M.Middle.words c.take_first.new.self) < length (g.M.Middle.words c.loop-room.held.middle) =
+    omega (arith, ap length c.in-Some.ensures) in
     shorter
 
 pub loop-room-preserved : goal.loop-room-preserved
@@ -39,20 +42,37 @@ loop-room-preserved g c =
     let room : ℕ = length c.loop-room.places - count in
     let part : List ℕ = take room (drop count c.loop-room.places) in
     let places : List ℕ = c.give_word-count.new.places in
-    let part_long : length part ≡ room = length-take-le room (drop count c.loop-room.places) (omega (arith, length-drop count c.loop-room.places)) in
+    let part_long : length part ≡ room =
+    length-take-le room (drop count c.loop-room.places) (omega (arith, length-drop count c.loop-room.places)) in
     let long : length places ≡ length part = c.give_word-count.auto.places in
     let gave = c.give_word-count.ensures in
     let fits : count_ones front + 7 ≤ room = c.if-room-held.false in
     let items : List ℕ = word_positions at front in
     let others : List ℕ = ones_from (at + 64) (middle ++ back ∷ []) in
-    let all : given ≡ length items = sym (sym (ap length gave.written) ∙ length-take-le given places (omega (arith, gave.count, fits, long, part_long))) in
-    let many : 8 ≤ length others = omega (arith, c.loop-room-test.ensures.many refl, most-ahead (at + 64) middle back (c.loop-room-test.ensures.long refl)) in
-    let next : held_items (at + 64) c.in-Some.word after back ≡ others = sym (ap (λ xs. ones_from (at + 64) (xs ++ back ∷ [])) split) in
-    let more = gives-first (held_items at front middle back) items others (held_items (at + 64) c.in-Some.word after back) part places given (in_eights (count_ones front))
-    (ones_from-word at front (middle ++ back ∷ [])) next all (omega (arith, gave.count)) (omega (arith, gave.count, all, many)) (omega (arith, gave.count, fits, part_long)) gave.written gave.behind in
+    let all : given ≡ length items =
+    sym (sym (ap length gave.written)
+    ∙ length-take-le given places (omega (arith, gave.count, fits, long, part_long))) in
+    let many : 8 ≤ length others =
+    omega (
+      arith,
+      c.loop-room-test.ensures.many refl,
+      most-ahead (at + 64) middle back (c.loop-room-test.ensures.long refl),
+    ) in
+    let next : held_items (at + 64) c.in-Some.word after back ≡ others =
+    sym (ap (λ xs. ones_from (at + 64) (xs ++ back ∷ [])) split) in
+    let more = gives-first (held_items at front middle back) items others
+    (held_items (at + 64) c.in-Some.word after back) part places given (in_eights (count_ones front))
+    (ones_from-word at front (middle ++ back ∷ [])) next all (omega (arith, gave.count))
+    (omega (arith, gave.count, all, many)) (omega (arith, gave.count, fits, part_long)) gave.written gave.behind in
     record {
-      spaced = record { apart = λ _. omega (arith, ap length split, apart); order = omega (arith, ap length split, apart); fits = inv.spaced.fits };
-      gives = gives-more _ c.args.places.now c.loop-room.places places (held_items at front middle back) (held_items (at + 64) c.in-Some.word after back) count room given c.loop-room.auto.places long inv.gives more;
+      spaced =
+          record {
+            apart = λ _. omega (arith, ap length split, apart);
+            order = omega (arith, ap length split, apart);
+            fits = inv.spaced.fits;
+          };
+      gives = gives-more _ c.args.places.now c.loop-room.places places (held_items at front middle back)
+          (held_items (at + 64) c.in-Some.word after back) count room given c.loop-room.auto.places long inv.gives more;
     }
 
 pub returns-after-loop-room-clause-spaced : goal.returns-after-loop-room-clause-spaced

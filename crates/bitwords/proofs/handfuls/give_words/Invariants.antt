@@ -7,7 +7,8 @@ use Rattle.bitwords.proofs.handfuls.give_words.Given as goal
 abbrev pub invariant-loop-room : goal.invariant-loop-room
 invariant-loop-room g l = record {
   spaced : IsSpaced l.held.front_at l.held.back_at (length (g.M.Middle.words l.held.middle)) l.held.back;
-  gives : GivesSome (held_items l.fn.held.front_at l.fn.held.front (g.M.Middle.words l.fn.held.middle) l.fn.held.back) l.fn.places l.count l.places
+  gives : GivesSome (held_items l.fn.held.front_at l.fn.held.front (g.M.Middle.words l.fn.held.middle) l.fn.held.back)
+      l.fn.places l.count l.places
       (held_items l.held.front_at l.held.front (g.M.Middle.words l.held.middle) l.held.back);
 }
 

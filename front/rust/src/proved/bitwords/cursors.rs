@@ -30,6 +30,18 @@ pub trait Middle {
     fn left(&self) -> usize;
 }
 
+/// Words that can be looked at before they are taken.
+///
+/// ```text
+/// let middle = Plain { words: &[3, 5, 7] };
+/// assert_eq!(Seen::peek(&middle, 1), Some(5));
+/// assert_eq!(Seen::peek(&middle, 3), None);
+/// ```
+pub trait Seen: Middle {
+    /// The word at this place of those left, or `None` past the last one.
+    fn peek(&self, index: usize) -> Option<Block>;
+}
+
 /// Words of a slice.
 ///
 /// ```text
@@ -63,6 +75,13 @@ impl<'a> Middle for Plain<'a> {
     }
 }
 
+impl<'a> Seen for Plain<'a> {
+    #[inline]
+    fn peek(&self, index: usize) -> Option<Block> {
+        self.words.get(index).copied()
+    }
+}
+
 /// Words of a slice, each bit inverted.
 ///
 /// ```text
@@ -90,6 +109,13 @@ impl<'a> Middle for Inverted<'a> {
     #[inline]
     fn left(&self) -> usize {
         self.plain.left()
+    }
+}
+
+impl<'a> Seen for Inverted<'a> {
+    #[inline]
+    fn peek(&self, index: usize) -> Option<Block> {
+        Some(!self.plain.peek(index)?)
     }
 }
 

@@ -1,5 +1,6 @@
 // Made by front/erase from crates/bitwords/src/positions.rt: change that, and not this.
-//! Single positions of a row of words, the first, the last and the k-th of them, and those from one position on.
+//! Single positions of a row of words, the first, the last and the k-th of them, and
+//! those from one position on.
 
 use crate::proved::bitlanes::ops::{And, WordOp};
 use crate::proved::bitlanes::search::{first_one, last_one, next_one, previous_one};
@@ -106,11 +107,13 @@ pub fn previous<O: WordOp>(words: &[Block], below: usize, steps: &mut Steps) -> 
     Some(BITS * at + highest_bit(O::word(Block::MAX, words[at])))
 }
 
-/// The position of the words from place `first` on and before place `end` that has exactly `index` of their positions before
-/// it: the first has index 0. `None` where these words have no more positions than `index`.
+/// The position of the words from place `first` on and before place `end` that has exactly `index`
+/// of their positions before it: the first has index 0. `None` where these words have no more
+/// positions than `index`.
 ///
-/// It takes one step for each of these words up to the one that has the position. That word is searched by halves, six times,
-/// which is not counted. The number of positions of the row, 64 for each word, may be at most 2 ^ 64.
+/// It takes one step for each of these words up to the one that has the position. That word is
+/// searched by halves, six times, which is not counted. The number of positions of the row, 64 for
+/// each word, may be at most 2 ^ 64.
 ///
 /// ```text
 /// assert_eq!(positions::nth(&[9, 0, 2], 0, 3, 2, &mut Steps::new()), Some(129));

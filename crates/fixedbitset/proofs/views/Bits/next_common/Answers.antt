@@ -3,8 +3,10 @@ use Rattle.fixedbitset.proofs.NextPositions.{next_common_of, no_next_common}
 use Rattle.fixedbitset.proofs.views.Bits.next_common.Goals as goal
 
 pub returns-then-from-min-clause-next : goal.returns-then-from-min-clause-next
-returns-then-from-min-clause-next c = no_next_common _ _ c.args.self.clean _ _ c.args.other.clean c.args.from (omega arith)
+returns-then-from-min-clause-next c =
+    no_next_common _ _ c.args.self.clean _ _ c.args.other.clean c.args.from (omega arith)
 
 pub returns-clause-next : goal.returns-clause-next
 returns-clause-next c =
-    next_common_of _ _ c.args.self.clean _ _ c.args.other.clean c.args.from c.next_common.result c.next_common.ensures.found c.next_common.ensures.none
+    next_common_of _ _ c.args.self.clean _ _ c.args.other.clean c.args.from c.next_common.result
+    c.next_common.ensures.found c.next_common.ensures.none

@@ -4,4 +4,5 @@ use Rattle.fixedbitset.proofs.views.Bits.nth_one.Goals as goal
 
 pub returns-clause-nth : goal.returns-clause-nth
 returns-clause-nth c =
-    nth_one_of _ c.as_slice-words.result.now _ c.args.index c.as_slice-words.ensures.value (search rules) c.nth.result c.nth.ensures.found c.nth.ensures.below c.nth.ensures.none
+    nth_one_of _ c.as_slice-words.result.now _ c.args.index c.as_slice-words.ensures.value (search rules) c.nth.result
+    c.nth.ensures.found c.nth.ensures.below c.nth.ensures.none
