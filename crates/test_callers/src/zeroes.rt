@@ -19,6 +19,19 @@ pub fn first_clear(set: &FixedBitSet) -> Option<usize>
     set.zeroes().next()
 }
 
+/// The first free slot, or the number of slots where each is taken.
+#[tactic(auto, using(fixedbitset::specs::WalkFacts::zero_items))]
+pub fn first_clear_or_end(set: &FixedBitSet) -> usize
+    ensures clear { result < set.now.length → model.contains set.now result ≡ false }
+    ensures full { result ≡ set.now.length
+        → (p : ℕ) → p < set.now.length → model.contains set.now p ≡ true }
+{
+    match set.zeroes().next() {
+        Some(slot) => slot,
+        None => set.len(),
+    }
+}
+
 /// Some free slot from `low` on.
 #[tactic(auto, using(fixedbitset::specs::WalkFacts::zero_items))]
 pub fn some_clear_from(set: &FixedBitSet, low: usize) -> Option<usize>
