@@ -23,7 +23,7 @@ use std::fmt::Write;
 use std::process::ExitCode;
 use use_text::program::{finish, read};
 use use_text::sets::set_of;
-use use_text::{Fault, Row};
+use use_text::{Fault, Row, Wrong};
 
 mod policies;
 
@@ -39,7 +39,8 @@ fn main(rt: HostRuntime) -> ExitCode {
 fn answers(alloc: Global, text: &str) -> Result<String, Fault> {
     let rows = use_text::rows(alloc, text)?;
     let Some((size, others)) = rows.split_first() else {
-        return Err(Fault::Line(1, "the numbers of roles and rights are missing"));
+        let wanted = "the numbers of roles and rights are missing";
+        return Err(Fault::Line(1, Wrong::Form(wanted)));
     };
     let (roles, rights) = sizes_of(size)?;
     let (first, second, denied, questions) = parts_of(others, rows.len() + 1)?;
@@ -62,11 +63,20 @@ fn policy_of(alloc: Global, roles: usize, rights: usize, rows: &[Row]) -> Result
     let mut policy = Policy::new(alloc, roles, rights)?;
     for row in rows {
         let Some((role, right)) = grant_of(&row.numbers, roles, rights) else {
-            return Err(Fault::Line(row.line, "a grant has to be a role and a right"));
+            return Err(Fault::Line(row.line, wrong_grant(&row.numbers, roles, rights)));
         };
         policy.grant(role, right);
     }
     Ok(policy)
+}
+
+// What is wrong with the numbers of a row that is no grant.
+fn wrong_grant(numbers: &[usize], roles: usize, rights: usize) -> Wrong {
+    match *numbers {
+        [role, _] if role >= roles => Wrong::NotBelow("the role", role, roles),
+        [_, right] => Wrong::NotBelow("the right", right, rights),
+        _ => Wrong::Form("there have to be a role and a right"),
+    }
 }
 
 // The role and the right of a grant. `None` comes exactly where the numbers are none.
@@ -91,7 +101,8 @@ fn deny(policy: &mut Policy, rows: &[Row]) -> Result<(), Fault>
 {
     for row in rows {
         let Some((role, right)) = grant_of(&row.numbers, policy.roles(), policy.rights()) else {
-            return Err(Fault::Line(row.line, "what is denied has to be a role and a right"));
+            let wrong = wrong_grant(&row.numbers, policy.roles(), policy.rights());
+            return Err(Fault::Line(row.line, wrong));
         };
         policy.revoke(role, right);
     }
@@ -113,10 +124,16 @@ enum Answer {
 fn sizes_of(row: &Row) -> Result<(usize, usize), Fault> {
     match *row.numbers.as_slice() {
         [roles @ 0..=LIMIT, rights @ 0..=LIMIT] => Ok((roles, rights)),
-        _ => {
-            let wanted = "there have to be two numbers, of roles and of rights, up to 10,000";
-            Err(Fault::Line(row.line, wanted))
-        }
+        _ => Err(Fault::Line(row.line, wrong_sizes(&row.numbers))),
+    }
+}
+
+// What is wrong with numbers that are no such sizes.
+fn wrong_sizes(numbers: &[usize]) -> Wrong {
+    match *numbers {
+        [roles, _] if roles > LIMIT => Wrong::Above("the number of roles", roles, LIMIT),
+        [_, rights] => Wrong::Above("the number of rights", rights, LIMIT),
+        _ => Wrong::Form("there have to be two numbers, of roles and of rights"),
     }
 }
 
@@ -125,13 +142,13 @@ fn sizes_of(row: &Row) -> Result<(usize, usize), Fault> {
 fn parts_of(rows: &[Row], line: usize) -> Result<(&[Row], &[Row], &[Row], &[Row]), Fault> {
     let mut parts = rows.splitn(5, |row| row.numbers.is_empty());
     if let Some([row, ..]) = parts.next() {
-        return Err(Fault::Line(row.line, "an empty line has to stand here"));
+        return Err(Fault::Line(row.line, Wrong::Form("an empty line has to stand here")));
     }
     match (parts.next(), parts.next(), parts.next(), parts.next()) {
         (Some(first), Some(second), Some(denied), Some(questions)) => {
             Ok((first, second, denied, questions))
         }
-        _ => Err(Fault::Line(line, "a part is missing")),
+        _ => Err(Fault::Line(line, Wrong::Form("a part is missing"))),
     }
 }
 
@@ -143,7 +160,7 @@ fn answers_of(alloc: Global, policy: &Policy, rows: &[Row]) -> Result<String, Fa
     let mut answers = String::new(alloc);
     for row in rows {
         let Some((role, rights)) = row.numbers.split_first() else {
-            return Err(Fault::Line(row.line, "a question has to begin with a role"));
+            return Err(Fault::Line(row.line, Wrong::Form("a question has to begin with a role")));
         };
         match answer_to(alloc, policy, *role, rights)? {
             Answer::Allowed => answers.push_str("yes\n")?,

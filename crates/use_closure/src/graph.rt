@@ -16,7 +16,7 @@ ghost use Rattle.use_closure.specs.Edges.{IsEdge, HasEdge, IsBefore, pairs_in};
 
 use bitrows::BitRows;
 use std::alloc::{AllocError, Global};
-use use_text::{Fault, Row};
+use use_text::{Fault, Row, Wrong};
 
 /// The pairs of nodes that a path of one or more of these edges joins.
 ///
@@ -43,11 +43,20 @@ fn table_of(alloc: Global, nodes: usize, rows: &[Row]) -> Result<BitRows, Fault>
     let mut table = BitRows::new(alloc, nodes, nodes)?;
     for row in rows {
         let Some((from, to)) = edge_of(&row.numbers, nodes) else {
-            return Err(Fault::Line(row.line, "an edge has to be two nodes"));
+            return Err(Fault::Line(row.line, wrong_edge(&row.numbers, nodes)));
         };
         table.set(from, to, true);
     }
     Ok(table)
+}
+
+// What is wrong with the numbers of a row that is no edge.
+fn wrong_edge(numbers: &[usize], nodes: usize) -> Wrong {
+    match *numbers {
+        [from, _] if from >= nodes => Wrong::NotBelow("the node", from, nodes),
+        [_, to] => Wrong::NotBelow("the node", to, nodes),
+        _ => Wrong::Form("an edge has to be two nodes"),
+    }
 }
 
 // The nodes of an edge. `None` comes exactly where the numbers are none.

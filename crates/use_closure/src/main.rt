@@ -11,8 +11,8 @@ use graph::closure;
 use std::alloc::Global;
 use std::fmt::Write;
 use std::process::ExitCode;
-use use_text::Fault;
 use use_text::program::{finish, read};
+use use_text::{Fault, Wrong};
 
 mod graph;
 
@@ -28,11 +28,18 @@ fn main(rt: HostRuntime) -> ExitCode {
 fn answer(alloc: Global, text: &str) -> Result<String, Fault> {
     let rows = use_text::rows(alloc, text)?;
     let Some((first, edges)) = rows.split_first() else {
-        return Err(Fault::Line(1, "the number of nodes is missing"));
+        return Err(Fault::Line(1, Wrong::Form("the number of nodes is missing")));
     };
-    let [nodes @ 0..=LIMIT] = *first.numbers.as_slice() else {
-        let wanted = "there has to be one number, of nodes, up to 10,000";
-        return Err(Fault::Line(first.line, wanted));
+    let nodes = match *first.numbers.as_slice() {
+        [nodes @ 0..=LIMIT] => nodes,
+        [nodes] => {
+            let wrong = Wrong::Above("the number of nodes", nodes, LIMIT);
+            return Err(Fault::Line(first.line, wrong));
+        }
+        _ => return Err(Fault::Line(
+            first.line,
+            Wrong::Form("the number of nodes has to be one number"),
+        )),
     };
     let mut answer = String::new(alloc);
     for (from, to) in &closure(alloc, nodes, edges)? {

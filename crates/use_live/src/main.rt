@@ -22,7 +22,7 @@ use std::alloc::{AllocError, Global};
 use std::fmt::Write;
 use std::process::ExitCode;
 use use_text::program::{finish, read};
-use use_text::{Fault, numbers_of};
+use use_text::{Fault, Wrong, numbers_of};
 
 /// All variables, each at the position that stands for it.
 const LETTERS: &[u8; 26] = b"abcdefghijklmnopqrstuvwxyz";
@@ -84,7 +84,8 @@ fn program_of(alloc: Global, text: &str) -> Result<Program, Fault>
     for line in text.lines() {
         let from = uses.len();
         let Some(statement) = statement_of(alloc, line)? else {
-            return Err(Fault::Line(from + 1, "a statement has to be as in x = y z -> 2 3"));
+            let wanted = "a statement has to be as in x = y z -> 2 3";
+            return Err(Fault::Line(from + 1, Wrong::Form(wanted)));
         };
         for to in &statement.next {
             next.push((from, *to))?;
@@ -94,7 +95,8 @@ fn program_of(alloc: Global, text: &str) -> Result<Program, Fault>
     }
     for (from, to) in &next {
         if *to >= uses.len() {
-            return Err(Fault::Line(*from + 1, "each next statement has to be there"));
+            let wrong = Wrong::NotBelow("the next statement", *to, uses.len());
+            return Err(Fault::Line(*from + 1, wrong));
         }
     }
     Ok(Program {

@@ -9,8 +9,8 @@ use sieve::{LIMIT, primes};
 use std::alloc::Global;
 use std::fmt::Write;
 use std::process::ExitCode;
-use use_text::Fault;
 use use_text::program::{finish, read};
+use use_text::{Fault, Wrong};
 
 mod sieve;
 
@@ -23,14 +23,18 @@ fn main(rt: HostRuntime) -> ExitCode {
 fn answer(alloc: Global, text: &str) -> Result<String, Fault> {
     let rows = use_text::rows(alloc, text)?;
     let Some((first, others)) = rows.split_first() else {
-        return Err(Fault::Line(1, "the number is missing"));
+        return Err(Fault::Line(1, Wrong::Form("the number is missing")));
     };
-    let [end @ 0..=LIMIT] = *first.numbers.as_slice() else {
-        let wanted = "there has to be one number up to 10,000,000";
-        return Err(Fault::Line(first.line, wanted));
+    let end = match *first.numbers.as_slice() {
+        [end @ 0..=LIMIT] => end,
+        [end] => {
+            let wrong = Wrong::Above("the number", end, LIMIT);
+            return Err(Fault::Line(first.line, wrong));
+        }
+        _ => return Err(Fault::Line(first.line, Wrong::Form("there has to be one number"))),
     };
     if let Some(other) = others.first() {
-        return Err(Fault::Line(other.line, "there has to be one line"));
+        return Err(Fault::Line(other.line, Wrong::Form("there has to be one line")));
     }
     let mut answer = String::new(alloc);
     for prime in primes(alloc, end)?.ones() {

@@ -17,7 +17,7 @@ use std::alloc::Global;
 use std::fmt::Write;
 use std::process::ExitCode;
 use use_text::program::{finish, read};
-use use_text::{Fault, Row};
+use use_text::{Fault, Row, Wrong};
 
 mod reach;
 
@@ -30,11 +30,15 @@ fn main(rt: HostRuntime) -> ExitCode {
 fn answer(alloc: Global, text: &str) -> Result<String, Fault> {
     let rows = use_text::rows(alloc, text)?;
     let Some((first, others)) = rows.split_first() else {
-        return Err(Fault::Line(1, "the start is missing"));
+        return Err(Fault::Line(1, Wrong::Form("the start is missing")));
     };
     let start = match *first.numbers.as_slice() {
         [start] if start < others.len() => start,
-        _ => return Err(Fault::Line(first.line, "the start has to be one node")),
+        [start] => {
+            let wrong = Wrong::NotBelow("the start", start, others.len());
+            return Err(Fault::Line(first.line, wrong));
+        }
+        _ => return Err(Fault::Line(first.line, Wrong::Form("the start has to be one number"))),
     };
     let graph = graph_of(alloc, others)?;
     prove!(is_graph(&graph));
@@ -56,9 +60,17 @@ fn graph_of(alloc: Global, rows: &[Row]) -> Result<Vec<Vec<usize>>, Fault>
     let mut graph = Vec::new(alloc);
     for row in rows {
         if !are_nodes(&row.numbers, rows.len()) {
-            return Err(Fault::Line(row.line, "each edge has to lead to a node"));
+            return Err(Fault::Line(row.line, wrong_row(&row.numbers, rows.len())));
         }
         graph.push(row.numbers.to_vec(alloc)?)?;
     }
     Ok(graph)
+}
+
+// What is wrong with a row that has an edge to no node: the first such.
+fn wrong_row(numbers: &[usize], nodes: usize) -> Wrong {
+    match numbers.iter().find(|node| **node >= nodes) {
+        Some(node) => Wrong::NotBelow("the node", *node, nodes),
+        None => Wrong::Form("each edge has to lead to a node"),
+    }
 }

@@ -27,7 +27,7 @@ use std::alloc::{AllocError, Global};
 use std::fmt::Write;
 use std::process::ExitCode;
 use use_text::program::{finish, read};
-use use_text::{Fault, Row};
+use use_text::{Fault, Row, Wrong};
 
 mod slots;
 
@@ -43,13 +43,18 @@ fn main(rt: HostRuntime) -> ExitCode {
 fn answers(alloc: Global, text: &str) -> Result<String, Fault> {
     let rows = use_text::rows(alloc, text)?;
     let Some((first, others)) = rows.split_first() else {
-        return Err(Fault::Line(1, "the number of slots is missing"));
+        return Err(Fault::Line(1, Wrong::Form("the number of slots is missing")));
     };
-    let [many @ 0..=LIMIT] = *first.numbers.as_slice() else {
-        return Err(Fault::Line(
-            first.line,
-            "the number of slots has to be one number up to 1,000,000",
-        ));
+    let many = match *first.numbers.as_slice() {
+        [many @ 0..=LIMIT] => many,
+        [many] => {
+            let wrong = Wrong::Above("the number of slots", many, LIMIT);
+            return Err(Fault::Line(first.line, wrong));
+        }
+        _ => {
+            let wanted = "the number of slots has to be one number";
+            return Err(Fault::Line(first.line, Wrong::Form(wanted)));
+        }
     };
     let mut slots = Slots::new(alloc, many)?;
     // A law of the calls that the lines make. It does nothing.
@@ -85,7 +90,10 @@ fn carry_out(alloc: Global, slots: &mut Slots, rows: &[Row]) -> Result<String, F
                 Some(start) => writeln!(answers, "{start}")?,
                 None => answers.push_str("full\n")?,
             },
-            _ => return Err(Fault::Line(row.line, "a command has to be three numbers at most")),
+            _ => {
+                let wanted = "a command has to be three numbers at most";
+                return Err(Fault::Line(row.line, Wrong::Form(wanted)));
+            }
         }
     }
     Ok(answers)

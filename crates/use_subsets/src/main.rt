@@ -30,7 +30,7 @@ use std::process::ExitCode;
 use subsets::determinize;
 use use_text::program::{finish, read};
 use use_text::sets::set_of;
-use use_text::{Fault, Row};
+use use_text::{Fault, Row, Wrong};
 
 mod automata;
 mod subsets;
@@ -49,7 +49,7 @@ fn main(rt: HostRuntime) -> ExitCode {
 fn answers(alloc: Global, text: &str) -> Result<String, Fault> {
     let rows = use_text::rows(alloc, text)?;
     let [size, start, accepting, others @ ..] = rows.as_slice() else {
-        return Err(Fault::Line(rows.len() + 1, "a line is missing"));
+        return Err(Fault::Line(rows.len() + 1, Wrong::Form("a line is missing")));
     };
     let (states, letters, limit) = sizes_of(size)?;
     let start = states_of(alloc, states, start)?;
@@ -64,7 +64,8 @@ fn answers(alloc: Global, text: &str) -> Result<String, Fault> {
     };
     prove!(nfa.is_valid());
     let Some(dfa) = determinize(alloc, &nfa, limit)? else {
-        return Err(Fault::Line(size.line, "the automaton would have too many states"));
+        let wrong = Wrong::Past("the automaton would have more states than", limit);
+        return Err(Fault::Line(size.line, wrong));
     };
     Ok(answers_of(alloc, &dfa, words)?)
 }
@@ -74,7 +75,7 @@ fn edges_and_words(rows: &[Row], line: usize) -> Result<(&[Row], &[Row]), Fault>
     let mut parts = rows.splitn(2, |row| row.numbers.is_empty());
     match (parts.next(), parts.next()) {
         (Some(edges), Some(words)) => Ok((edges, words)),
-        _ => Err(Fault::Line(line, "an empty line has to follow the edges")),
+        _ => Err(Fault::Line(line, Wrong::Form("an empty line has to follow the edges"))),
     }
 }
 
@@ -100,12 +101,21 @@ fn sizes_of(row: &Row) -> Result<(usize, usize, usize), Fault> {
             letters @ 0..=LETTERS,
             limit @ 0..=STATES,
         ] => Ok((states, letters, limit)),
-        _ => {
-            let wanted =
-                "there have to be the numbers of states up to 1,000 and of letters up to 100, \
-                and perhaps a limit up to 1,000";
-            Err(Fault::Line(row.line, wanted))
+        _ => Err(Fault::Line(row.line, wrong_sizes(&row.numbers))),
+    }
+}
+
+// What is wrong with numbers that are no such sizes.
+fn wrong_sizes(numbers: &[usize]) -> Wrong {
+    match *numbers {
+        [states, _, ..] if states > STATES => Wrong::Above("the number of states", states, STATES),
+        [_, letters, ..] if letters > LETTERS => {
+            Wrong::Above("the number of letters", letters, LETTERS)
         }
+        [_, _, limit] => Wrong::Above("the limit", limit, STATES),
+        _ => Wrong::Form(
+            "there have to be the numbers of states and of letters, and perhaps a limit",
+        ),
     }
 }
 
@@ -133,9 +143,17 @@ fn states_of(alloc: Global, states: usize, row: &Row) -> Result<FixedBitSet, Fau
     ensures fault { IfErr result (IsFaultOfRow (AreBelow states) (row.now ∷ [])) }
 {
     let Some(set) = set_of(alloc, states, &row.numbers)? else {
-        return Err(Fault::Line(row.line, "each number has to be a state"));
+        return Err(Fault::Line(row.line, wrong_states(&row.numbers, states)));
     };
     Ok(set)
+}
+
+// What is wrong with numbers that are not all states: the first that is none.
+fn wrong_states(numbers: &[usize], states: usize) -> Wrong {
+    match numbers.iter().find(|state| **state >= states) {
+        Some(state) => Wrong::NotBelow("the state", *state, states),
+        None => Wrong::Form("each number has to be a state"),
+    }
 }
 
 // The edges of these rows, one each. The fault has the first row that is no edge.
@@ -148,11 +166,21 @@ fn edges_of(alloc: Global, states: usize, letters: usize, rows: &[Row]) -> Resul
     let mut edges = Vec::new(alloc);
     for row in rows {
         let Some(edge) = edge_of(&row.numbers, states, letters) else {
-            return Err(Fault::Line(row.line, "an edge has to be a state, a letter and a state"));
+            return Err(Fault::Line(row.line, wrong_edge(&row.numbers, states, letters)));
         };
         edges.push(edge)?;
     }
     Ok(edges)
+}
+
+// What is wrong with the numbers of a row that is no edge.
+fn wrong_edge(numbers: &[usize], states: usize, letters: usize) -> Wrong {
+    match *numbers {
+        [from, _, _] if from >= states => Wrong::NotBelow("the state", from, states),
+        [_, by, _] if by >= letters => Wrong::NotBelow("the letter", by, letters),
+        [_, _, to] => Wrong::NotBelow("the state", to, states),
+        _ => Wrong::Form("an edge has to be a state, a letter and a state"),
+    }
 }
 
 // The numbers of an edge. `None` comes exactly where they are none.

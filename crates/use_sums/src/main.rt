@@ -14,7 +14,7 @@ use std::fmt::Write;
 use std::process::ExitCode;
 use sums::totals;
 use use_text::program::{finish, read};
-use use_text::{Fault, Row};
+use use_text::{Fault, Row, Wrong};
 
 mod sums;
 
@@ -30,11 +30,15 @@ fn main(rt: HostRuntime) -> ExitCode {
 fn answer(alloc: Global, text: &str) -> Result<String, Fault> {
     let rows = use_text::rows(alloc, text)?;
     let Some((first, others)) = rows.split_first() else {
-        return Err(Fault::Line(1, "the limit is missing"));
+        return Err(Fault::Line(1, Wrong::Form("the limit is missing")));
     };
-    let [limit @ 0..=LIMIT] = *first.numbers.as_slice() else {
-        let wanted = "the limit has to be one number up to 10,000,000";
-        return Err(Fault::Line(first.line, wanted));
+    let limit = match *first.numbers.as_slice() {
+        [limit @ 0..=LIMIT] => limit,
+        [limit] => {
+            let wrong = Wrong::Above("the limit", limit, LIMIT);
+            return Err(Fault::Line(first.line, wrong));
+        }
+        _ => return Err(Fault::Line(first.line, Wrong::Form("the limit has to be one number"))),
     };
     let numbers = numbers_of(alloc, others)?;
     let mut answer = String::new(alloc);

@@ -38,9 +38,26 @@ pub enum Fault {
     /// The input cannot be read.
     #[error("the input cannot be read")]
     Input,
-    /// The line of this number, from 1 on, is not as the sentence says.
+    /// The line of this number, from 1 on, is wrong as it is said.
     #[error("line {0}: {1}")]
-    Line(usize, &'static str),
+    Line(usize, Wrong),
+}
+
+/// What is wrong with a line.
+#[derive(Debug, Drop, Error)]
+pub enum Wrong {
+    /// It has not the form that the sentence says.
+    #[error("{0}")]
+    Form(&'static str),
+    /// What is named has this number, which is not below the bound.
+    #[error("{0} {1} is not below {2}")]
+    NotBelow(&'static str, usize, usize),
+    /// What is named has this number, which is above the greatest.
+    #[error("{0} {1} is above {2}")]
+    Above(&'static str, usize, usize),
+    /// The sentence says what would go past this number.
+    #[error("{0} {1}")]
+    Past(&'static str, usize),
 }
 
 impl From<AllocError> for Fault {
@@ -76,7 +93,8 @@ pub fn rows(alloc: Global, text: &str) -> Result<Vec<Row>, Fault>
     for line in &lines {
         let number = rows.len() + 1;
         let Some(numbers) = numbers_of(alloc, line)? else {
-            return Err(Fault::Line(number, "each word has to be a number below 2^64"));
+            let wanted = "each word has to be a number below 2^64";
+            return Err(Fault::Line(number, Wrong::Form(wanted)));
         };
         rows.push(Row {
             line: number,

@@ -8,7 +8,7 @@ ghost use Rattle.std.specs.Process.{exit_status};
 ghost use Rattle.std.specs.Io.KnownBytes.{Keeps, Appends};
 ghost use Rattle.use_text.specs.Faults.{HasLine, line_of};
 
-use crate::Fault;
+use crate::{Fault, Wrong};
 use std::alloc::Global;
 use std::io::{ErrorKind, Read, Write};
 use std::process::ExitCode;
@@ -41,7 +41,7 @@ fn text_of(bytes: Vec<u8>) -> Result<String, Fault>
         Ok(text) => Ok(text),
         Err(error) => {
             let line = line_at(error.as_bytes(), error.utf8_error().valid_up_to());
-            Err(Fault::Line(line, "a text has to be UTF-8"))
+            Err(Fault::Line(line, Wrong::Form("a text has to be UTF-8")))
         }
     }
 }
