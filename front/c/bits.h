@@ -266,10 +266,13 @@ void bits_clear(bits *set) BITS_SYMBOL(bits_clear);
 size_t bits_minimum(const bits *set) BITS_SYMBOL(bits_minimum);
 /* The greatest position that is set, or BITS_NONE. */
 size_t bits_maximum(const bits *set) BITS_SYMBOL(bits_maximum);
-/* The least position at or past `from` that is set, or BITS_NONE. Any number may be given, here and in the next four. */
+/* The least position at or past `from` that is set, or BITS_NONE. Any number may be given, here and in the next five. */
 size_t bits_next_one(const bits *set, size_t from) BITS_SYMBOL(bits_next_one);
 /* The least position at or past `from` and below the length that is not set, or BITS_NONE. */
 size_t bits_next_zero(const bits *set, size_t from) BITS_SYMBOL(bits_next_zero);
+/* The position that has exactly `index` positions of the set below it, or BITS_NONE: 0 asks for the first. It counts word by
+ * word; bits_select has a directory. */
+size_t bits_nth_one(const bits *set, size_t index) BITS_SYMBOL(bits_nth_one);
 /* The least number at or past `from` with `count` clear positions from there on, or BITS_NONE. */
 size_t bits_first_gap(const bits *set, size_t count, size_t from) BITS_SYMBOL(bits_first_gap);
 /* The least multiple of `align` in the range with `count` clear positions from there on, all in the range, or BITS_NONE; that
@@ -339,6 +342,8 @@ bool bits_is_disjoint(const bits *set, const bits *other) BITS_SYMBOL(bits_is_di
 bool bits_is_subset(const bits *set, const bits *other) BITS_SYMBOL(bits_is_subset);
 /* The least position of the second that the first lacks, or BITS_NONE. */
 size_t bits_first_lacking(const bits *set, const bits *other) BITS_SYMBOL(bits_first_lacking);
+/* The least position at or past `from` that both have, or BITS_NONE. Any number may be given. */
+size_t bits_next_common(const bits *set, const bits *other, size_t from) BITS_SYMBOL(bits_next_common);
 /* Whether the lengths and the positions are equal. */
 bool bits_equal(const bits *set, const bits *other) BITS_SYMBOL(bits_equal);
 /* -1 where the first comes before the second, 0 where they are equal, 1 where it comes after: by their lengths, and then by

@@ -45,6 +45,7 @@ static void positions(void) {
     assert(bits_minimum(&set) == 5 && bits_maximum(&set) == 69);
     assert(bits_next_one(&set, 5) == 5 && bits_next_one(&set, 6) == 69 && bits_next_one(&set, 70) == BITS_NONE);
     assert(bits_next_zero(&set, 5) == 6 && bits_next_zero(&set, 69) == BITS_NONE);
+    assert(bits_nth_one(&set, 0) == 5 && bits_nth_one(&set, 1) == 69 && bits_nth_one(&set, 2) == BITS_NONE);
     assert(bits_previous_one(&set, SIZE_MAX) == 69 && bits_previous_one(&set, 5) == BITS_NONE);
     assert(bits_previous_zero(&set, 70) == 68 && bits_previous_zero(&set, 0) == BITS_NONE);
     assert(bits_remove(&set, 69) && !bits_remove(&set, 70) && bits_maximum(&set) == 5);
@@ -96,6 +97,7 @@ static void pairs(void) {
     assert(bits_intersect_with_change(&c, &b) && !bits_intersect_with_change(&c, &b) && bits_equal(&c, &b));
     assert(bits_difference_with_change(&c, &b) && !bits_difference_with_change(&c, &b) && bits_is_clear(&c));
     assert(bits_first_lacking(&a, &b) == BITS_NONE && bits_first_lacking(&b, &a) == 1 && bits_first_lacking(&c, &b) == 3);
+    assert(bits_next_common(&a, &b, 0) == 3 && bits_next_common(&b, &a, 4) == BITS_NONE);
     changed = true;
     assert(!bits_union_with_difference(&a, &b, &c, &changed) && changed && bits_count_ones(&a, 0, 10) == 2);
     assert(bits_union_with_difference(&c, &a, &b, &changed) && changed && bits_count_ones(&c, 0, 70) == 1 && bits_minimum(&c) == 1);

@@ -246,6 +246,9 @@ static void neighbours(one *it) {
     const size_t p = number(it->set.length);
     HOLDS(bits_minimum(&it->set) == next(it, 0, true) && bits_maximum(&it->set) == previous(it, SIZE_MAX, true));
     HOLDS(bits_next_one(&it->set, p) == next(it, p, true) && bits_next_zero(&it->set, p) == next(it, p, false));
+    const size_t at = next(it, p, true), ones = counted(it, 0, it->set.length);
+    HOLDS(at == BITS_NONE || bits_nth_one(&it->set, counted(it, 0, at)) == at);
+    HOLDS(bits_nth_one(&it->set, ones) == BITS_NONE && (p < ones) == (bits_nth_one(&it->set, p) != BITS_NONE));
     HOLDS(bits_previous_one(&it->set, p) == previous(it, p, true));
     HOLDS(bits_previous_zero(&it->set, p) == previous(it, p, false));
     HOLDS(bits_is_clear(&it->set) == (next(it, 0, true) == BITS_NONE) && bits_is_full(&it->set) == (next(it, 0, false) == BITS_NONE));
@@ -373,12 +376,14 @@ static void three_sets(one *it, const one *gens, const one *kills) {
 }
 
 static void questions(const one *it, const one *other) {
-    size_t both = 0, first = 0, second = 0, lacking = BITS_NONE;
+    size_t both = 0, first = 0, second = 0, lacking = BITS_NONE, common = BITS_NONE;
     for (size_t p = MOST; p-- > 0;) {
         both += has(it, p) && has(other, p);
         first += has(it, p) && !has(other, p);
         second += !has(it, p) && has(other, p);
         lacking = !has(it, p) && has(other, p) ? p : lacking;
+        common = has(it, p) && has(other, p) ? p : common;
+        HOLDS(bits_next_common(&it->set, &other->set, p) == common);
     }
     HOLDS(bits_union_count(&it->set, &other->set) == both + first + second && bits_intersection_count(&it->set, &other->set) == both);
     HOLDS(bits_difference_count(&it->set, &other->set) == first);

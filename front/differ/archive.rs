@@ -127,6 +127,7 @@ impl FixedBitSet {
         maximum() = bits_maximum;
         next_one(from) = bits_next_one;
         next_zero(from) = bits_next_zero;
+        nth_one(index) = bits_nth_one;
         previous_one(below) = bits_previous_one;
         previous_zero(below) = bits_previous_zero;
         first_gap(count, from) = bits_first_gap;
@@ -323,6 +324,10 @@ impl FixedBitSet {
 
     pub fn is_superset(&self, other: &Self) -> bool {
         other.is_subset(self)
+    }
+
+    pub fn next_common(&self, other: &Self, from: usize) -> Option<usize> {
+        position(unsafe { bits_next_common(&self.lent(), &other.lent(), from) })
     }
 
     pub fn first_lacking(&self, other: &Self) -> Option<usize> {

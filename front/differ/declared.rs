@@ -102,6 +102,7 @@ of_archive! {
     pub fn bits_maximum(set: &Lent) -> usize;
     pub fn bits_next_one(set: &Lent, from: usize) -> usize;
     pub fn bits_next_zero(set: &Lent, from: usize) -> usize;
+    pub fn bits_nth_one(set: &Lent, index: usize) -> usize;
     pub fn bits_first_gap(set: &Lent, count: usize, from: usize) -> usize;
     pub fn bits_first_aligned_gap(
         set: &Lent,
@@ -145,6 +146,7 @@ of_archive! {
     pub fn bits_is_disjoint(set: &Lent, other: &Lent) -> bool;
     pub fn bits_is_subset(set: &Lent, other: &Lent) -> bool;
     pub fn bits_first_lacking(set: &Lent, other: &Lent) -> usize;
+    pub fn bits_next_common(set: &Lent, other: &Lent, from: usize) -> usize;
     pub fn bits_equal(set: &Lent, other: &Lent) -> bool;
     pub fn bits_compare(set: &Lent, other: &Lent) -> isize;
     pub fn bits_shift_up(set: &mut Lent, by: usize);

@@ -278,7 +278,11 @@ impl World {
                 self.say(set.is_subset(other) as u64);
                 self.say(set.is_superset(other) as u64);
             }
-            46 => self.say_if(set.first_lacking(other)),
+            46 => {
+                let from = self.near(set.len());
+                self.say_if(set.first_lacking(other));
+                self.say_if(set.next_common(other, from));
+            }
             _ => {
                 self.say((set == other) as u64);
                 self.say(set.cmp(other) as u64);
@@ -315,7 +319,10 @@ impl World {
         let number = self.near(set.len());
         match call {
             56 => self.say_if(set.next_one(number)),
-            57 => self.say_if(set.next_zero(number)),
+            57 => {
+                self.say_if(set.next_zero(number));
+                self.say_if(set.nth_one(number));
+            }
             58 => self.say_if(set.previous_one(number)),
             59 => self.say_if(set.previous_zero(number)),
             _ => {

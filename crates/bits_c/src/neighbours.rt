@@ -1,9 +1,11 @@
-//! The positions of a set next to a given one. Any number may be given.
+//! The positions of a set next to a given one, and the k-th of all. Any number may be given.
 
-ghost use Rattle.std.specs.Prelude.{◌≡◌, if◌then◌else◌, unwrap_or};
+ghost use Rattle.std.specs.Prelude.{◌≡◌, if◌then◌else◌, slice_get, unwrap_or};
+ghost use Rattle.fixedbitset.specs.Bits.{asc};
 ghost use Rattle.fixedbitset.specs.Neighbours as neighbours;
 ghost use Rattle.fixedbitset.specs.Ranges.{is_valid};
 ghost use Rattle.fixedbitset.specs.Runs as stretches;
+ghost use Rattle.fixedbitset.specs.TwoSets.{intersection};
 ghost use Rattle.fixedbitset.specs.Views.{value};
 
 use crate::NONE;
@@ -25,6 +27,24 @@ pub extern "C" fn bits_next_zero(set: &Bits<'_>, from: usize) -> usize
     ensures { result ≡ unwrap_or (neighbours.next_zero (value set.now) from) NONE }
 {
     set.next_zero(from, &mut Steps::new()).unwrap_or(NONE)
+}
+
+/// The least position at or past `from` that both sets have, or `NONE`.
+#[unsafe(no_mangle)]
+pub extern "C" fn bits_next_common(set: &Bits<'_>, other: &Bits<'_>, from: usize) -> usize
+    ensures { result ≡ unwrap_or
+        (neighbours.next_one (intersection (value set.now) (value other.now)) from) NONE }
+{
+    set.next_common(*other, from, &mut Steps::new())
+        .unwrap_or(NONE)
+}
+
+/// The position that has exactly `index` positions of the set below it, or `NONE`.
+#[unsafe(no_mangle)]
+pub extern "C" fn bits_nth_one(set: &Bits<'_>, index: usize) -> usize
+    ensures { result ≡ unwrap_or (slice_get (asc (value set.now)) index) NONE }
+{
+    set.nth_one(index, &mut Steps::new()).unwrap_or(NONE)
 }
 
 /// The least number at or past `from` with `count` clear positions from there on, or `NONE`.
