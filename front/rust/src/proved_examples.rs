@@ -1010,6 +1010,39 @@ fn bitwords_gaps_53() {
 }
 
 #[test]
+fn bitwords_handfuls_27() {
+    use crate::proved::bitlanes::ops::*;
+    use crate::proved::bitlanes::{word, Block, Steps};
+    use crate::proved::bitwords::cursors::*;
+    use crate::proved::bitwords::*;
+    use crate::shim::u64x4;
+    use core::cmp::Ordering;
+    use core::mem::{size_of, size_of_val};
+
+    let mut places = [0; 8];
+    assert_eq!(handfuls::give_word(9, 640, &mut places), 2);
+    assert_eq!(places[..2], [640, 643]);
+}
+
+#[test]
+fn bitwords_handfuls_52() {
+    use crate::proved::bitlanes::ops::*;
+    use crate::proved::bitlanes::{word, Block, Steps};
+    use crate::proved::bitwords::cursors::*;
+    use crate::proved::bitwords::*;
+    use crate::shim::u64x4;
+    use core::cmp::Ordering;
+    use core::mem::{size_of, size_of_val};
+
+    let cursor = Cursor::over(Plain { words: &[9, 255, 0, 0, 0, 1] });
+    let mut held = cursor.into_held();
+    let mut places = [7; 10];
+    assert_eq!(handfuls::give_words(&mut held, &mut places), 2);
+    assert_eq!(places[..2], [0, 3]);
+    assert_eq!(held.front, 255);
+}
+
+#[test]
 fn bitwords_joins_18() {
     use crate::proved::bitlanes::ops::*;
     use crate::proved::bitlanes::{word, Block, Steps};

@@ -5,6 +5,7 @@
 //! positions, and of two rows of any two lengths. No call here knows a set or its length.
 pub mod cursors;
 pub mod gaps;
+pub mod handfuls;
 pub mod joins;
 pub mod positions;
 pub mod ranges;
