@@ -10,6 +10,7 @@ LINES = "bench/results/lines.csv"
 LIMITS = "bench/results/limits.csv"
 OTHERS = "bench/results/others.csv"
 QUESTIONS = "front/postgres/times/questions.csv"
+PIECES = "front/postgres/times/pieces.csv"
 # From so many bits on a set is long.
 LONG = 10_000
 KINDS = [
