@@ -7,12 +7,14 @@ ghost use Rattle.std.specs.Prelude.{◌≡◌, ◌++◌, ℕ, List, reverse};
 ghost use Rattle.std.specs.Iterator.{YieldsFirst, YieldsLast};
 ghost use Rattle.bits_c.specs.Walks.{TakesFirst, TakesLast, ones_left, zeroes_left};
 ghost use Rattle.bits_c.specs.Walks.{shared_left, lacked_left, joined_left, split_left};
+ghost use Rattle.bitwords.specs.Handfuls.{GivesSome};
 
 use crate::structs::{Ones, Pair, Sieve, Zeroes};
 use bitlanes::Block;
 use bitlanes::ops::{And, AndNot};
-use bitlanes::word::take_lowest_bit;
+use bitlanes::word::{BITS, take_lowest_bit};
 use bitwords::cursors::{Cursor, Middle};
+use bitwords::handfuls::give_words;
 
 // What gives positions from both ends.
 trait Giver {
@@ -23,6 +25,13 @@ trait Giver {
 
     fn take_last(&mut self) -> Option<usize>
         ensures { YieldsLast left self.old result self.new };
+}
+
+// What gives words as a whole, as long as they have many positions.
+trait Worded: Giver {
+    fn take_words(&mut self, positions: &mut [usize]) -> usize
+        ensures { GivesSome (Self.left self.old) positions.old result positions.new
+            (Self.left self.new) };
 }
 
 impl<M: Middle + Drop> Giver for Cursor<M> {
@@ -81,6 +90,26 @@ impl<'a> Giver for Zeroes<'a> {
     }
 }
 
+impl<'a> Worded for Ones<'a> {
+    #[inline(always)]
+    fn take_words(&mut self, positions: &mut [usize]) -> usize {
+        let mut held = self.cursor().into_held();
+        let count = give_words(&mut held, positions);
+        *self = Ones::of(Cursor::of_held(held));
+        count
+    }
+}
+
+impl<'a> Worded for Zeroes<'a> {
+    #[inline(always)]
+    fn take_words(&mut self, positions: &mut [usize]) -> usize {
+        let mut held = self.cursor().into_held();
+        let count = give_words(&mut held, positions);
+        *self = Zeroes::of(Cursor::of_held(held));
+        count
+    }
+}
+
 // The positions of a giver, the last one first.
 #[derive(Drop)]
 struct Reversed<G> {
@@ -113,6 +142,24 @@ fn fill<G: Giver>(giver: &mut G, positions: &mut [usize]) -> usize
         }
     }
     positions.len()
+}
+
+// The same as `fill`, where words with many positions are given as a whole. Behind them a word's worth of positions is given
+// one by one before words are looked at again.
+#[inline(always)]
+fn fill_by_words<G: Worded>(giver: &mut G, positions: &mut [usize]) -> usize
+    ensures { TakesFirst G.left giver.old positions.old result positions.new giver.new }
+{
+    let mut count = 0;
+    while count < positions.len() {
+        count += giver.take_words(&mut positions[count..]);
+        let end = count + BITS.min(positions.len() - count);
+        count += fill(giver, &mut positions[count..end]);
+        if count < end {
+            break;
+        }
+    }
+    count
 }
 
 // Writes the last positions left, the last one first, and answers how many.
@@ -159,7 +206,7 @@ pub extern "C" fn bits_ones_take(walk: &mut Ones<'_>, positions: &mut [usize]) -
     ensures { TakesFirst ones_left walk.old positions.old result positions.new walk.new }
 {
     let mut ones = Ones::of(walk.cursor());
-    let count = fill(&mut ones, positions);
+    let count = fill_by_words(&mut ones, positions);
     *walk = ones;
     count
 }
@@ -182,7 +229,7 @@ pub extern "C" fn bits_zeroes_take(walk: &mut Zeroes<'_>, positions: &mut [usize
     ensures { TakesFirst zeroes_left walk.old positions.old result positions.new walk.new }
 {
     let mut zeroes = Zeroes::of(walk.cursor());
-    let count = fill(&mut zeroes, positions);
+    let count = fill_by_words(&mut zeroes, positions);
     *walk = zeroes;
     count
 }

@@ -1,0 +1,12 @@
+use Rattle.std.proofs.Common.{◌-◌, length}
+use Rattle.bitwords.specs.Handfuls.{GivesSome}
+use Rattle.bits_c.proofs.handfuls.fill_by_words.Given as goal
+
+-- the first positions are written, and the others are left
+abbrev pub invariant-loop-count : goal.invariant-loop-count
+invariant-loop-count g l = record {
+  gives : GivesSome (g.G.Giver.left l.fn.giver) l.fn.positions l.count l.positions (g.G.Giver.left l.giver);
+}
+
+abbrev pub decreases-loop-count : goal.decreases-loop-count
+decreases-loop-count g l = length l.positions - l.count
