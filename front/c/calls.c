@@ -321,6 +321,34 @@ static void walks(void) {
     free(b.words);
 }
 
+/* Handfuls of a set with stretches of many and of few positions, at each room: the positions in order, and the places behind
+ * them as they were. */
+static void handfuls(void) {
+    enum { LENGTH = 3000 };
+    uint64_t words[BITS_WORDS(LENGTH)] = {0};
+    size_t wanted[2][LENGTH], many[2] = {0, 0}, taken[LENGTH + 8];
+    bits set = {words, BITS_WORDS(LENGTH), LENGTH};
+    for (size_t p = 0; p < LENGTH; p++) {
+        const bool is_set = p / 600 % 2 ? p % 97 == 0 : p * p % 11 < 4;
+        if (is_set)
+            bits_insert(&set, p);
+        wanted[is_set][many[is_set]++] = p;
+    }
+    for (size_t room = 1; room <= LENGTH; room += room < 150 ? 1 : 149)
+        for (int is_set = 0; is_set < 2; is_set++) {
+            bits_walk walk = BITS_WALK;
+            (is_set ? bits_ones : bits_zeroes)(&walk, &set);
+            for (size_t done = 0; done <= many[is_set]; done += room) {
+                const size_t left = many[is_set] - done, had = room < left ? room : left;
+                memset(taken, 255, sizeof taken);
+                assert((is_set ? bits_ones_take : bits_zeroes_take)(&walk, taken, room) == had);
+                assert(!memcmp(taken, wanted[is_set] + done, had * sizeof *taken));
+                for (size_t k = had; k < LENGTH + 8; k++)
+                    assert(taken[k] == SIZE_MAX);
+            }
+        }
+}
+
 int main(void) {
     words();
     positions();
@@ -332,5 +360,6 @@ int main(void) {
     tables();
     ranks();
     walks();
+    handfuls();
     return 0;
 }

@@ -5,6 +5,7 @@ mod chains;
 mod ends;
 mod fills;
 mod gives;
+mod handfuls;
 mod kernels;
 mod loops;
 mod pair_walks;
