@@ -73,13 +73,20 @@ fn words_give_their_first_positions(rt: HostRuntime) {
             assert!(rt; count <= room, "{room} places from word {begin}");
             for index in 0..600 {
                 if index < count {
-                    assert_eq!(rt; places[index], wanted[index], "{index} of {room} from {begin}");
+                    assert_eq!(rt;
+                        places[index],
+                        wanted[index],
+                        "{index} of {room} from {begin}"
+                    );
                 } else if index >= all || index >= room {
                     assert_eq!(rt; places[index], MARK, "{index} of {room} from {begin}");
                 }
             }
             let rest = Cursor::of_held(held);
-            assert!(rt; rest.eq(wanted[count..all].iter().copied()), "{room} places from {begin}");
+            assert!(rt;
+                rest.eq(wanted[count..all].iter().copied()),
+                "{room} places from {begin}"
+            );
         }
     }
 }
