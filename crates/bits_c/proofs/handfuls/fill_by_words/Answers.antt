@@ -1,4 +1,4 @@
-use Rattle.std.proofs.Common.{◌-◌, length, refl, inl, arith}
+use Rattle.std.proofs.Common.{◌-◌, length, inl, arith}
 use borrow.Rule.Slice.PartMut.{same_len_mid}
 use Rattle.bitwords.proofs.Places.{gives-none}
 use Rattle.bits_c.proofs.Takes.{some_are_all, words_and_few, words_and_last}
@@ -28,7 +28,7 @@ returns-then-count-end g c =
     let few = c.fill-count.ensures in
     let long = same_len_mid c.loop-count.count (length c.loop-count.positions - c.loop-count.count) c.loop-count.positions c.take_words-count.new.positions c.take_words-count.auto.positions in
     let last = words_and_last _ c.args.positions.now c.loop-count.positions c.take_words-count.new.positions c.fill-count.new.positions (left c.loop-count.giver) (left c.take_words-count.new.self) (left c.fill-count.new.giver)
-            c.loop-count.count (length c.loop-count.positions - c.loop-count.count) c.take_words-count.result _ c.fill-count.result
-            c.loop-count.auto.positions c.take_words-count.auto.positions c.fill-count.auto.positions c.loop-count.invariant.gives c.take_words-count.ensures (record { told = few.told; written = few.written; rest = few.rest })
-            (omega (arith, c.if-count-end.true)) (omega (arith, c.min.ensures, c.loop-count.auto.positions, long)) in
+    c.loop-count.count (length c.loop-count.positions - c.loop-count.count) c.take_words-count.result _ c.fill-count.result
+    c.loop-count.auto.positions c.take_words-count.auto.positions c.fill-count.auto.positions c.loop-count.invariant.gives c.take_words-count.ensures (record { told = few.told; written = few.written; rest = few.rest })
+    (omega (arith, c.if-count-end.true)) (omega (arith, c.min.ensures, c.loop-count.auto.positions, long)) in
     record { told = last.told; written = last.written; rest = last.rest }
