@@ -1,8 +1,12 @@
 -- Positions that are written to the front of a list, one after the other.
-use Rattle.std.proofs.Common.{◌≡◌, ℕ, ◌+◌, ◌-◌, ◌<◌, ◌≤◌, min, List, ◌∷◌, ◌++◌, length, take, drop, reverse, get_or, refl, sym, ap, ◌∙◌, ⊎_elim, ◌⊎◌, inl, inr, arith, suc, add-one, length-drop, length-append, drop-cons, append-nil, append_assoc}
-use Rattle.std.proofs.Math.Seq.{take-append_seam, drop-append_seam, take-append-add, drop-append-add, take-length, drop-length}
+use Rattle.std.proofs.Common.{◌≡◌, ℕ, ◌+◌, ◌-◌, ◌<◌, ◌≤◌, min, List, ◌∷◌, ◌++◌, length, take, drop}
+use Rattle.std.proofs.Common.{reverse, get_or, refl, sym, ap, ◌∙◌, ⊎_elim, ◌⊎◌, inl, inr, arith, suc}
+use Rattle.std.proofs.Common.{add-one, length-drop, length-append, drop-cons, append-nil, append_assoc}
+use Rattle.std.proofs.Math.Seq.{take-append_seam, drop-append_seam, take-append-add}
+use Rattle.std.proofs.Math.Seq.{drop-append-add, take-length, drop-length}
 use Rattle.std.proofs.lemmas.Bool.{cases_lt}
-use Rattle.std.proofs.lemmas.List.{drop_all, take-append-le, drop-append-le, length-take-le, drop-drop, take-append-drop, reverse-reverse, reverse-append, length-reverse}
+use Rattle.std.proofs.lemmas.List.{drop_all, take-append-le, drop-append-le, length-take-le, drop-drop}
+use Rattle.std.proofs.lemmas.List.{take-append-drop, reverse-reverse, reverse-append, length-reverse}
 use borrow.Rule.Slice.PartMut.{put_mid, same_len_mid}
 use Rattle.bitwords.specs.Handfuls.{GivesSome}
 use Rattle.bitwords.proofs.Places.{gives-more}
@@ -75,15 +79,16 @@ rest_reversed xs rest n within is =
 pub from_reversed : (xs before after rest : List ℕ) (n : ℕ)
     → TakesFirst (λ zs. zs) (reverse xs) before n after (reverse rest) → TakesLast (λ zs. zs) xs before n after rest
 from_reversed xs before after rest n first =
-    let told : n ≡ min (length before) (length xs) = first.told ∙ ap (min (length before)) (length-reverse xs) in
-    record { told = told; written = first.written; rest = rest_reversed xs rest n (omega arith) first.rest }
+    let answer : n ≡ min (length before) (length xs) = first.answer ∙ ap (min (length before)) (length-reverse xs) in
+    record { answer = answer; written = first.written; rest = rest_reversed xs rest n (omega arith) first.rest }
 
 -- ---- some of the positions, written as far as they reach
 
 -- of the same lists
-pub gives_same : (items others before after left rest : List ℕ) (n : ℕ) → GivesSome items before n after left → items ≡ others → rest ≡ left → GivesSome others before n after rest
+pub gives_same : (items others before after left rest : List ℕ) (n : ℕ) → GivesSome items before n after left
+    → items ≡ others → rest ≡ left → GivesSome others before n after rest
 gives_same items others before after left rest n some same here = record {
-  told = omega (arith, some.told, ap length same);
+  at_most = omega (arith, some.at_most, ap length same);
   room = some.room;
   written = some.written ∙ ap (take n) same;
   behind = sym (ap (λ xs. drop (length xs) after) same) ∙ some.behind ∙ ap (λ xs. drop (length xs) before) same;
@@ -91,37 +96,48 @@ gives_same items others before after left rest n some same here = record {
 }
 
 -- the first positions left are some of them
-pub takes_some : (all before after rest : List ℕ) (n : ℕ) → TakesFirst (λ zs. zs) all before n after rest → GivesSome all before n after rest
+pub takes_some : (all before after rest : List ℕ) (n : ℕ) → TakesFirst (λ zs. zs) all before n after rest
+    → GivesSome all before n after rest
 takes_some all before after rest n first =
-    let few : length (take n all) ≡ n = length-take-le n all (omega (arith, first.told)) in
+    let few : length (take n all) ≡ n = length-take-le n all (omega (arith, first.answer)) in
     let j : ℕ = length all - n in
-    let sum : n + j ≡ length all = omega (arith, first.told) in
+    let sum : n + j ≡ length all = omega (arith, first.answer) in
     let also : length (take n all) + j ≡ length all = omega (arith, few, sum) in
     record {
-      told = omega (arith, first.told);
-      room = omega (arith, first.told);
-      written = ap (take n) first.written ∙ sym (ap (λ m. take m (take n all ++ drop n before)) few) ∙ take-append_seam (take n all) (drop n before);
-      behind = ap (drop (length all)) first.written ∙ sym (ap (λ m. drop m (take n all ++ drop n before)) also) ∙ drop-append-add (take n all) (drop n before) j
+      at_most = omega (arith, first.answer);
+      room = omega (arith, first.answer);
+      written = ap (take n) first.written ∙ sym (ap (λ m. take m (take n all ++ drop n before)) few)
+          ∙ take-append_seam (take n all) (drop n before);
+      behind = ap (drop (length all)) first.written ∙ sym (ap (λ m. drop m (take n all ++ drop n before)) also)
+          ∙ drop-append-add (take n all) (drop n before) j
           ∙ drop-drop j n before ∙ ap (λ m. drop m before) sum;
       rest = first.rest;
     }
 
 -- where there is no more room, or no position is left, they are all that are to be written
-pub some_are_all : (all before after rest : List ℕ) (n : ℕ) → GivesSome all before n after rest → length after ≡ length before → (n ≡ length before) ⊎ (n ≡ length all) → TakesFirst (λ zs. zs) all before n after rest
+pub some_are_all : (all before after rest : List ℕ) (n : ℕ) → GivesSome all before n after rest
+    → length after ≡ length before → (n ≡ length before) ⊎ (n ≡ length all)
+    → TakesFirst (λ zs. zs) all before n after rest
 some_are_all all before after rest n some long (inl full) = record {
-  told = omega (arith, some.told, some.room, full);
-  written = sym (take-append-drop n after) ∙ (λ j. some.written j ++ (drop_all n after (omega (arith, long, full)) ∙ sym (drop_all n before (omega (arith, full)))) j);
+  answer = omega (arith, some.at_most, some.room, full);
+  written = sym (take-append-drop n after)
+      ∙ (λ j. some.written j
+      ++ (drop_all n after (omega (arith, long, full)) ∙ sym (drop_all n before (omega (arith, full)))) j);
   rest = some.rest;
 }
 some_are_all all before after rest n some long (inr given) = record {
-  told = omega (arith, some.told, some.room, given);
-  written = sym (take-append-drop n after) ∙ (λ j. some.written j ++ (ap (λ m. drop m after) given ∙ some.behind ∙ sym (ap (λ m. drop m before) given)) j);
+  answer = omega (arith, some.at_most, some.room, given);
+  written = sym (take-append-drop n after)
+      ∙ (λ j. some.written j ++ (ap (λ m. drop m after) given ∙ some.behind ∙ sym (ap (λ m. drop m before) given)) j);
   rest = some.rest;
 }
 
 -- some words are given whole, and then positions one by one to a part of the places behind them
-module _ (all before out ys zs left mid rest : List ℕ) (a k n j m : ℕ) (same : length out ≡ length before) (long : length ys ≡ length (take k (drop a out))) (also : length zs ≡ length (take j (drop (a + n) (put_mid a k out ys))))
-    (some : GivesSome all before a out left) (more : GivesSome left (take k (drop a out)) n ys mid) (few : TakesFirst (λ xs. xs) mid (take j (drop (a + n) (put_mid a k out ys))) m zs rest) where
+module _ (all before out ys zs left mid rest : List ℕ) (a k n j m : ℕ) (same : length out ≡ length before)
+    (long : length ys ≡ length (take k (drop a out)))
+    (also : length zs ≡ length (take j (drop (a + n) (put_mid a k out ys))))
+    (some : GivesSome all before a out left) (more : GivesSome left (take k (drop a out)) n ys mid)
+    (few : TakesFirst (λ xs. xs) mid (take j (drop (a + n) (put_mid a k out ys))) m zs rest) where
   by_words : GivesSome all before (a + n) (put_mid a k out ys) mid
   by_words = gives-more all before out ys left mid a k n same long some more
 
@@ -129,12 +145,18 @@ module _ (all before out ys zs left mid rest : List ℕ) (a k n j m : ℕ) (same
   kept_long = same_len_mid a k out ys long ∙ same
 
   pub words_and_few : GivesSome all before (a + n + m) (put_mid (a + n) j (put_mid a k out ys) zs) rest
-  words_and_few = gives-more all before (put_mid a k out ys) zs mid rest (a + n) j m kept_long also by_words (takes_some mid (take j (drop (a + n) (put_mid a k out ys))) zs rest m few)
+  words_and_few =
+      gives-more all before (put_mid a k out ys) zs mid rest (a + n) j m kept_long also by_words
+      (takes_some mid (take j (drop (a + n) (put_mid a k out ys))) zs rest m few)
 
   -- where there are fewer positions than places in that part, they are the last
-  pub words_and_last : m < j → j ≤ length before - (a + n) → TakesFirst (λ xs. xs) all before (a + n + m) (put_mid (a + n) j (put_mid a k out ys) zs) rest
+  pub words_and_last : m < j → j ≤ length before - (a + n)
+      → TakesFirst (λ xs. xs) all before (a + n + m) (put_mid (a + n) j (put_mid a k out ys) zs) rest
   words_and_last fewer fits =
       let put : List ℕ = put_mid a k out ys in
-      let part_long : length (take j (drop (a + n) put)) ≡ j = length-take-le j (drop (a + n) put) (omega (arith, length-drop (a + n) put, kept_long, fits, by_words.room)) in
+      let part_long : length (take j (drop (a + n) put)) ≡ j =
+      length-take-le j (drop (a + n) put) (omega (arith, length-drop (a + n) put, kept_long, fits, by_words.room)) in
       let mid_long : length mid ≡ length all - (a + n) = ap length by_words.rest ∙ length-drop (a + n) all in
-      some_are_all all before (put_mid (a + n) j put zs) rest (a + n + m) words_and_few (same_len_mid (a + n) j put zs also ∙ kept_long) (inr (omega (arith, few.told, fewer, part_long, mid_long, by_words.told)))
+      some_are_all all before (put_mid (a + n) j put zs) rest (a + n + m) words_and_few
+      (same_len_mid (a + n) j put zs also ∙ kept_long)
+      (inr (omega (arith, few.answer, fewer, part_long, mid_long, by_words.at_most)))

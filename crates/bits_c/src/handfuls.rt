@@ -144,8 +144,8 @@ fn fill<G: Giver>(giver: &mut G, positions: &mut [usize]) -> usize
     positions.len()
 }
 
-// The same as `fill`, where words with many positions are given as a whole. Behind them a word's worth of positions is given
-// one by one before words are looked at again.
+// The same as `fill`, where words with many positions are given as a whole. Behind them a word's
+// worth of positions is given one by one before words are looked at again.
 #[inline(always)]
 fn fill_by_words<G: Worded>(giver: &mut G, positions: &mut [usize]) -> usize
     ensures { TakesFirst G.left giver.old positions.old result positions.new giver.new }

@@ -96,12 +96,12 @@ pub gives-more : (all before out ys left rest : List ℕ) (a k n : ℕ) → leng
 gives-more all before out ys left rest a k n same long first more =
     let within : a ≤ length out = omega (arith, first.room) in
     let left_long : length left ≡ length all - a = ap length first.rest ∙ length-drop a all in
-    let sum : a + length left ≡ length all = omega (arith, first.told, left_long) in
+    let sum : a + length left ≡ length all = omega (arith, first.at_most, left_long) in
     let put : List ℕ = put_mid a k out ys in
     let part : length (take k (drop a out)) ≤ length out - a =
     omega (arith, length-part k (drop a out), length-drop a out) in
     record {
-      told = omega (arith, more.told, sum);
+      at_most = omega (arith, more.at_most, sum);
       room = omega (arith, more.room, within, part);
       written = take-more a k n out ys within (omega (arith, more.room, long))
           ∙ (λ j. first.written j ++ (more.written ∙ ap (take n) first.rest) j) ∙ sym (take-add a n all);
@@ -125,7 +125,7 @@ pub gives-first : (left items others rest before after : List ℕ) (c e : ℕ) �
 gives-first left items others rest before after c e left_is rest_is is few reach room written behind =
     let long : length left ≡ length items + length others = ap length left_is ∙ length-append items others in
     record {
-      told = omega (arith, long, is);
+      at_most = omega (arith, long, is);
       room = room;
       written =
           written ∙ sym (ap (λ n. take n left) is ∙ ap (take (length items)) left_is ∙ take-append_seam items others);
@@ -136,4 +136,4 @@ gives-first left items others rest before after c e left_is rest_is is few reach
 
 -- none is given
 pub gives-none : (items before : List ℕ) → GivesSome items before 0 before items
-gives-none items before = record { told = omega arith; room = omega arith; written = refl; behind = refl; rest = refl }
+gives-none items before = record { at_most = omega arith; room = omega arith; written = refl; behind = refl; rest = refl }

@@ -19,7 +19,7 @@ ones_ahead words = length (word_positions 0 (get_or words 0 0)) + length (word_p
 
 -- A call wrote the first `count` of these items to the front of the places, and left those that the items do not reach.
 pub record GivesSome (items before : List ℕ) (count : ℕ) (after left : List ℕ) : Type 0 where
-  pub told : count ≤ length items
+  pub at_most : count ≤ length items
   pub room : count ≤ length before
   pub written : take count after ≡ take count items
   pub behind : drop (length items) after ≡ drop (length items) before

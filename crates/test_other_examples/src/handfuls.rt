@@ -1,4 +1,5 @@
-//! The examples in the docs of `bitwords::handfuls`. tools/docs/make_examples writes this file.
+//! The examples in the docs of `bitwords::handfuls`.
+//! tools/docs/make_examples writes this file.
 
 use crate::calls::equal;
 use bitwords::cursors::{Cursor, Plain};

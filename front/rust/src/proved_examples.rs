@@ -892,7 +892,7 @@ fn bitwords_cursors_141() {
 }
 
 #[test]
-fn bitwords_cursors_254() {
+fn bitwords_cursors_257() {
     use crate::proved::bitlanes::ops::*;
     use crate::proved::bitlanes::{word, Block, Steps};
     use crate::proved::bitwords::cursors::*;
@@ -906,7 +906,7 @@ fn bitwords_cursors_254() {
 }
 
 #[test]
-fn bitwords_cursors_268() {
+fn bitwords_cursors_271() {
     use crate::proved::bitlanes::ops::*;
     use crate::proved::bitlanes::{word, Block, Steps};
     use crate::proved::bitwords::cursors::*;
@@ -920,7 +920,7 @@ fn bitwords_cursors_268() {
 }
 
 #[test]
-fn bitwords_cursors_284() {
+fn bitwords_cursors_287() {
     use crate::proved::bitlanes::ops::*;
     use crate::proved::bitlanes::{word, Block, Steps};
     use crate::proved::bitwords::cursors::*;
@@ -935,7 +935,7 @@ fn bitwords_cursors_284() {
 }
 
 #[test]
-fn bitwords_cursors_311() {
+fn bitwords_cursors_314() {
     use crate::proved::bitlanes::ops::*;
     use crate::proved::bitlanes::{word, Block, Steps};
     use crate::proved::bitwords::cursors::*;
@@ -950,7 +950,7 @@ fn bitwords_cursors_311() {
 }
 
 #[test]
-fn bitwords_cursors_420() {
+fn bitwords_cursors_425() {
     use crate::proved::bitlanes::ops::*;
     use crate::proved::bitlanes::{word, Block, Steps};
     use crate::proved::bitwords::cursors::*;
@@ -964,7 +964,7 @@ fn bitwords_cursors_420() {
 }
 
 #[test]
-fn bitwords_cursors_435() {
+fn bitwords_cursors_440() {
     use crate::proved::bitlanes::ops::*;
     use crate::proved::bitlanes::{word, Block, Steps};
     use crate::proved::bitwords::cursors::*;
@@ -1010,7 +1010,7 @@ fn bitwords_gaps_53() {
 }
 
 #[test]
-fn bitwords_handfuls_24() {
+fn bitwords_handfuls_27() {
     use crate::proved::bitlanes::ops::*;
     use crate::proved::bitlanes::{word, Block, Steps};
     use crate::proved::bitwords::cursors::*;
@@ -1025,7 +1025,7 @@ fn bitwords_handfuls_24() {
 }
 
 #[test]
-fn bitwords_handfuls_48() {
+fn bitwords_handfuls_52() {
     use crate::proved::bitlanes::ops::*;
     use crate::proved::bitlanes::{word, Block, Steps};
     use crate::proved::bitwords::cursors::*;
@@ -1043,7 +1043,7 @@ fn bitwords_handfuls_48() {
 }
 
 #[test]
-fn bitwords_joins_17() {
+fn bitwords_joins_18() {
     use crate::proved::bitlanes::ops::*;
     use crate::proved::bitlanes::{word, Block, Steps};
     use crate::proved::bitwords::cursors::*;

@@ -119,8 +119,8 @@ impl<'a> Seen for Inverted<'a> {
     }
 }
 
-/// Words of a slice, each joined by `O` with the word at its place of another slice. Past the end of that it is joined
-/// with 0.
+/// Words of a slice, each joined by `O` with the word at its place of another slice. Past the end
+/// of that it is joined with 0.
 ///
 /// So the positions of a word are looked up in the other slice at once, when the word is taken.
 ///

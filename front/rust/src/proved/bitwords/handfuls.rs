@@ -1,8 +1,10 @@
 // Made by front/erase from crates/bitwords/src/handfuls.rt: change that, and not this.
-//! Positions by the handful: words are given whole, and their positions are written to a slice in groups of eight.
+//! Positions by the handful: words are given whole, and their positions are written to a
+//! slice in groups of eight.
 //!
-//! A group takes no branch for a position. So it writes eight numbers also where a word has fewer positions left, and the
-//! places behind those of the word hold anything until the positions of the next words are written there.
+//! A group takes no branch for a position. So it writes eight numbers also where a word has fewer
+//! positions left, and the places behind those of the word hold anything until the positions of the
+//! next words are written there.
 
 use crate::proved::bitwords::cursors::{Held, Seen};
 use crate::proved::bitlanes::word::{BITS, Block};
@@ -10,16 +12,17 @@ use crate::proved::bitlanes::word::{BITS, Block};
 // How many numbers are written at once.
 const GROUP: usize = 8;
 
-// How many words are looked at behind the one that is given, and how many positions they have at least.
+// How many words are looked at behind the one that is given, and how many
+// positions they have at least.
 const AHEAD: usize = 4;
 
 const MANY: usize = 8;
 
-/// Writes the positions of the bits set in the word to the front of the slice, in ascending order. Bit 0 has position
-/// `base`. It answers how many they are.
+/// Writes the positions of the bits set in the word to the front of the slice, in ascending order.
+/// Bit 0 has position `base`. It answers how many they are.
 ///
-/// It writes a multiple of eight places, up to seven more than there are positions. Those behind the positions hold
-/// anything then, and the slice has to have them.
+/// It writes a multiple of eight places, up to seven more than there are positions. Those behind
+/// the positions hold anything then, and the slice has to have them.
 ///
 /// ```text
 /// let mut places = [0; 8];
@@ -38,12 +41,13 @@ pub fn give_word(word: Block, base: usize, places: &mut [usize]) -> usize {
     count
 }
 
-/// Writes the positions of first words of those left to the front of the slice, and takes these words. It answers how many
-/// positions they are.
+/// Writes the positions of first words of those left to the front of the slice, and takes these
+/// words. It answers how many positions they are.
 ///
-/// A word is given as long as there is room for its positions and seven more, and the four words behind it are not the
-/// last one and have eight positions or more. So where positions are few no word is given. Places that the positions left
-/// are too few to reach stay; up to seven behind those that were written may hold anything.
+/// A word is given as long as there is room for its positions and seven more, and the four words
+/// behind it are not the last one and have eight positions or more. So where positions are few no
+/// word is given. Places that the positions left are too few to reach stay; up to seven behind
+/// those that were written may hold anything.
 ///
 /// ```text
 /// let cursor = Cursor::over(Plain { words: &[9, 255, 0, 0, 0, 1] });
@@ -94,8 +98,8 @@ fn ones_of(word: Block) -> usize {
     word.count_ones() as usize
 }
 
-// Writes the first eight of the positions, or all of them with any numbers behind, and answers the word without their
-// bits.
+// Writes the first eight of the positions, or all of them with any numbers behind, and answers the
+// word without their bits.
 #[inline(always)]
 fn give_eight(word: Block, base: usize, eight: &mut [usize]) -> Block {
     let mut left = word;
