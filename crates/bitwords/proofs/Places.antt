@@ -136,4 +136,5 @@ gives-first left items others rest before after c e left_is rest_is is few reach
 
 -- none is given
 pub gives-none : (items before : List ℕ) → GivesSome items before 0 before items
-gives-none items before = record { at_most = omega arith; room = omega arith; written = refl; behind = refl; rest = refl }
+gives-none items before =
+    record { at_most = omega arith; room = omega arith; written = refl; behind = refl; rest = refl }

@@ -96,7 +96,7 @@ fn words_give_their_first_positions(rt: HostRuntime) {
 fn words_of_many_positions_are_given(rt: HostRuntime) {
     let mut places = [MARK; 600];
     let mut held = Cursor::over(Plain { words: &WORDS }).into_held();
-    assert_eq!(rt; give_words(&mut held, &mut places), 64 + 8 + 32);
+    assert_eq!(rt; give_words(&mut held, &mut places), 64 + 8 + 32 + 1);
     let plain = Plain { words: &[0; 9] };
     let mut held = Cursor::over(Inverted { plain }).into_held();
     assert_eq!(rt; give_words(&mut held, &mut places), 256);
