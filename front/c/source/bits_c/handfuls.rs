@@ -1,0 +1,289 @@
+// Made by front/erase from crates/bits_c/src/handfuls.rt: change that, and not this.
+//! Positions of a walk by the handful: a call gives as many as there is room for, or as are left.
+//!
+//! Such a call leaves the walk where as many calls for one position leave it, and both may be
+//! mixed. Places that it has no position for stay as they are.
+
+use crate::bits_c::structs::{Ones, Pair, Sieve, Zeroes};
+use crate::proved::bitlanes::ops::{And, AndNot};
+use crate::proved::bitlanes::word::{BITS, take_lowest_bit};
+use crate::proved::bitwords::cursors::{Cursor, Middle};
+use crate::proved::bitwords::handfuls::give_words;
+
+// What gives positions from both ends.
+trait Giver {
+    fn take_first(&mut self) -> Option<usize>;
+
+    fn take_last(&mut self) -> Option<usize>;
+}
+
+// What gives words as a whole, as long as they have many positions.
+trait Worded: Giver {
+    fn take_words(&mut self, positions: &mut [usize]) -> usize;
+}
+
+impl<M: Middle> Giver for Cursor<M> {
+    #[inline(always)]
+    fn take_first(&mut self) -> Option<usize> {
+        self.next()
+    }
+
+    #[inline(always)]
+    fn take_last(&mut self) -> Option<usize> {
+        self.next_back()
+    }
+}
+
+// The next bit of the first word lies at hand. Only the way to a further word asks the cursor.
+impl<'a> Giver for Ones<'a> {
+    #[inline(always)]
+    fn take_first(&mut self) -> Option<usize> {
+        if self.front != 0 {
+            return Some(self.front_at + take_lowest_bit(&mut self.front));
+        }
+        Ones::take_first(self)
+    }
+
+    #[inline(always)]
+    fn take_last(&mut self) -> Option<usize> {
+        Ones::take_last(self)
+    }
+}
+
+impl<'a> Giver for Zeroes<'a> {
+    #[inline(always)]
+    fn take_first(&mut self) -> Option<usize> {
+        if self.front == 0 {
+            let mut cursor = self.cursor();
+            let item = cursor.next();
+            *self = Zeroes::of(cursor);
+            return item;
+        }
+        let lowest = take_lowest_bit(&mut self.front);
+        Some(self.front_at + lowest)
+    }
+
+    #[inline(always)]
+    fn take_last(&mut self) -> Option<usize> {
+        let mut cursor = self.cursor();
+        let item = cursor.next_back();
+        *self = Zeroes::of(cursor);
+        item
+    }
+}
+
+impl<'a> Worded for Ones<'a> {
+    #[inline(always)]
+    fn take_words(&mut self, positions: &mut [usize]) -> usize {
+        let mut held = self.cursor().into_held();
+        let count = give_words(&mut held, positions);
+        *self = Ones::of(Cursor::of_held(held));
+        count
+    }
+}
+
+impl<'a> Worded for Zeroes<'a> {
+    #[inline(always)]
+    fn take_words(&mut self, positions: &mut [usize]) -> usize {
+        let mut held = self.cursor().into_held();
+        let count = give_words(&mut held, positions);
+        *self = Zeroes::of(Cursor::of_held(held));
+        count
+    }
+}
+
+// The positions of a giver, the last one first.
+#[derive(Clone)]
+struct Reversed<G> {
+    giver: G,
+}
+
+impl<G: Giver> Giver for Reversed<G> {
+    #[inline(always)]
+    fn take_first(&mut self) -> Option<usize> {
+        self.giver.take_last()
+    }
+
+    #[inline(always)]
+    fn take_last(&mut self) -> Option<usize> {
+        self.giver.take_first()
+    }
+}
+
+// Writes the first positions left, and answers how many.
+#[inline(always)]
+fn fill<G: Giver>(giver: &mut G, positions: &mut [usize]) -> usize {
+    for (index, place) in positions.iter_mut().enumerate() {
+        match giver.take_first() {
+            Some(position) => *place = position,
+            None => return index,
+        }
+    }
+    positions.len()
+}
+
+// The same as `fill`, where words with many positions are given as a whole. Behind them a word's
+// worth of positions is given one by one before words are looked at again.
+#[inline(always)]
+fn fill_by_words<G: Worded>(giver: &mut G, positions: &mut [usize]) -> usize {
+    let mut count = 0;
+    while count < positions.len() {
+        count += giver.take_words(&mut positions[count..]);
+        let end = count + BITS.min(positions.len() - count);
+        count += fill(giver, &mut positions[count..end]);
+        if count < end {
+            break;
+        }
+    }
+    count
+}
+
+// Writes the last positions left, the last one first, and answers how many.
+#[inline(always)]
+fn fill_back<G: Giver>(giver: G, positions: &mut [usize]) -> (usize, G) {
+    let mut reversed = Reversed { giver };
+    let count = fill(&mut reversed, positions);
+    (count, reversed.giver)
+}
+
+// The same as `fill`, where the positions of a second giver stand behind those of the first.
+#[inline(always)]
+fn fill_both<A: Giver, B: Giver>(first: &mut A, second: &mut B, positions: &mut [usize]) -> usize {
+    let count = fill(first, positions);
+    let (_, room) = positions.split_at_mut(count);
+    count + fill(second, room)
+}
+
+// The same from the end, the last position of the second giver first.
+#[inline(always)]
+fn fill_both_back<A: Giver, B: Giver>(
+    first: A,
+    second: B,
+    positions: &mut [usize],
+) -> (usize, A, B) {
+    let mut front = Reversed { giver: second };
+    let mut back = Reversed { giver: first };
+    let count = fill_both(&mut front, &mut back, positions);
+    (count, back.giver, front.giver)
+}
+
+/// Writes the first positions left to `positions`, from its front on and in ascending order: as
+/// many as there is room for, or as are left. It answers how many.
+pub fn bits_ones_take(walk: &mut Ones<'_>, positions: &mut [usize]) -> usize {
+    let mut ones = Ones::of(walk.cursor());
+    let count = fill_by_words(&mut ones, positions);
+    *walk = ones;
+    count
+}
+
+/// Writes the last positions left to `positions`, from its front on and in descending order: as
+/// many as there is room for, or as are left. It answers how many.
+pub fn bits_ones_take_back(walk: &mut Ones<'_>, positions: &mut [usize]) -> usize {
+    let (count, ones) = fill_back(walk.cursor(), positions);
+    *walk = Ones::of(ones);
+    count
+}
+
+/// Writes the first positions left to `positions`, from its front on and in ascending order: as
+/// many as there is room for, or as are left. It answers how many.
+pub fn bits_zeroes_take(walk: &mut Zeroes<'_>, positions: &mut [usize]) -> usize {
+    let mut zeroes = Zeroes::of(walk.cursor());
+    let count = fill_by_words(&mut zeroes, positions);
+    *walk = zeroes;
+    count
+}
+
+/// Writes the last positions left to `positions`, from its front on and in descending order: as
+/// many as there is room for, or as are left. It answers how many.
+pub fn bits_zeroes_take_back(walk: &mut Zeroes<'_>, positions: &mut [usize]) -> usize {
+    let (count, zeroes) = fill_back(walk.cursor(), positions);
+    *walk = Zeroes::of(zeroes);
+    count
+}
+
+/// Writes the first positions left to `positions`, from its front on and in ascending order: as
+/// many as there is room for, or as are left. It answers how many.
+pub fn bits_intersection_take(walk: &mut Sieve<'_>, positions: &mut [usize]) -> usize {
+    let mut shared = walk.cursor::<And>();
+    let count = fill(&mut shared, positions);
+    *walk = Sieve::of(shared);
+    count
+}
+
+/// Writes the last positions left to `positions`, from its front on and in descending order: as
+/// many as there is room for, or as are left. It answers how many.
+pub fn bits_intersection_take_back(
+    walk: &mut Sieve<'_>,
+    positions: &mut [usize],
+) -> usize {
+    let (count, shared) = fill_back(walk.cursor::<And>(), positions);
+    *walk = Sieve::of(shared);
+    count
+}
+
+/// Writes the first positions left to `positions`, from its front on and in ascending order: as
+/// many as there is room for, or as are left. It answers how many.
+pub fn bits_difference_take(walk: &mut Sieve<'_>, positions: &mut [usize]) -> usize {
+    let mut lacked = walk.cursor::<AndNot>();
+    let count = fill(&mut lacked, positions);
+    *walk = Sieve::of(lacked);
+    count
+}
+
+/// Writes the last positions left to `positions`, from its front on and in descending order: as
+/// many as there is room for, or as are left. It answers how many.
+pub fn bits_difference_take_back(walk: &mut Sieve<'_>, positions: &mut [usize]) -> usize {
+    let (count, lacked) = fill_back(walk.cursor::<AndNot>(), positions);
+    *walk = Sieve::of(lacked);
+    count
+}
+
+/// Writes the first positions left to `positions`, from its front on and in the order of the walk:
+/// as many as there is room for, or as are left. It answers how many.
+pub fn bits_union_take(walk: &mut Pair<'_>, positions: &mut [usize]) -> usize {
+    let mut first = walk.first.walk.cursor();
+    let mut second = walk.second.cursor::<AndNot>();
+    let count = fill_both(&mut first, &mut second, positions);
+    walk.first.walk = Ones::of(first);
+    walk.second = Sieve::of(second);
+    count
+}
+
+/// Writes the last positions left to `positions`, from its front on and against the order of the
+/// walk: as many as there is room for, or as are left. It answers how many.
+pub fn bits_union_take_back(walk: &mut Pair<'_>, positions: &mut [usize]) -> usize {
+    let first = walk.first.walk.cursor();
+    let second = walk.second.cursor::<AndNot>();
+    let (count, first, second) = fill_both_back(first, second, positions);
+    walk.first.walk = Ones::of(first);
+    walk.second = Sieve::of(second);
+    count
+}
+
+/// Writes the first positions left to `positions`, from its front on and in the order of the walk:
+/// as many as there is room for, or as are left. It answers how many.
+pub fn bits_symmetric_difference_take(
+    walk: &mut Pair<'_>,
+    positions: &mut [usize],
+) -> usize {
+    let mut first = walk.first.cursor::<AndNot>();
+    let mut second = walk.second.cursor::<AndNot>();
+    let count = fill_both(&mut first, &mut second, positions);
+    walk.first = Sieve::of(first);
+    walk.second = Sieve::of(second);
+    count
+}
+
+/// Writes the last positions left to `positions`, from its front on and against the order of the
+/// walk: as many as there is room for, or as are left. It answers how many.
+pub fn bits_symmetric_difference_take_back(
+    walk: &mut Pair<'_>,
+    positions: &mut [usize],
+) -> usize {
+    let first = walk.first.cursor::<AndNot>();
+    let second = walk.second.cursor::<AndNot>();
+    let (count, first, second) = fill_both_back(first, second, positions);
+    walk.first = Sieve::of(first);
+    walk.second = Sieve::of(second);
+    count
+}

@@ -1,0 +1,176 @@
+// Made by front/erase from crates/bits_c/src/lib.rt: change that, and not this.
+//! A set of bits under C names: the words and the length stand in a struct of the caller's.
+//!
+//! A set is the struct `bits` of `front/c/bits.h`: here `fixedbitset::Bits` where it is read, and
+//! `fixedbitset::BitsMut` where it is changed. The caller owns its words, and keeps them as the
+//! ghost field of both says: as many whole lanes of four as the length needs, and no bit past the
+//! length. Each call leaves them so, and `bits_settle` makes any words so. No call asks anything
+//! else: it tests the numbers that it is given, and its answer says what came of it. No call takes
+//! memory or waits, and none but the begin of a walk keeps a pointer.
+//!
+//! Each call is that of the two types with its name, and looks at as many words. A clause sees a
+//! set as its value, a length and the positions below it.
+
+pub mod bytes;
+pub mod copies;
+pub mod handfuls;
+pub mod lists;
+pub mod neighbours;
+pub mod pairs;
+pub mod ranges;
+pub mod ranks;
+pub mod rows;
+pub mod runs;
+pub mod shifts;
+pub mod sieves;
+pub mod structs;
+pub mod walks;
+pub mod whole;
+
+use crate::proved::bitlanes::lanes::LANE;
+use crate::proved::bitlanes::word::{BITS, take_lowest_bit};
+use crate::proved::bitlanes::{Block, Steps};
+use crate::proved::fixedbitset::views::{Bits, BitsMut};
+
+/// What a call answers for 'no position'. No set has this position.
+pub const NONE: usize = usize::MAX;
+
+/// How many words a set of so many positions has: whole lanes of four.
+pub fn bits_words(length: usize) -> usize {
+    LANE * length.div_ceil(BITS).div_ceil(LANE)
+}
+
+/// How many of them hold positions below the length.
+pub fn bits_blocks(length: usize) -> usize {
+    length.div_ceil(BITS)
+}
+
+/// Makes any words those of a set of `length` positions: of the positions that they have those
+/// below `kept` stay. It answers whether it did: where there are `bits_words(length)` words and
+/// `kept` is not past the length.
+pub fn bits_settle(words: &mut [Block], length: usize, kept: usize) -> bool {
+    if words.len() == bits_words(length) && kept <= length {
+        BitsMut::settle(words, length, kept);
+        true
+    } else {
+        false
+    }
+}
+
+/// Whether the words are those of a set of `length` positions as they stand: `bits_words(length)`
+/// words, and no bit past the length.
+pub fn bits_is_clean(words: &[Block], length: usize) -> bool {
+    Bits::over(words, length).is_some()
+}
+
+/// Whether the position is set: `false` at or past the length.
+pub fn bits_contains(set: &Bits<'_>, bit: usize) -> bool {
+    set.contains(bit)
+}
+
+/// Sets the position, and answers whether it is below the length; else nothing is changed.
+pub fn bits_insert(set: &mut BitsMut<'_>, bit: usize) -> bool {
+    if bit < set.length {
+        set.insert(bit);
+        true
+    } else {
+        false
+    }
+}
+
+/// Clears the position, and answers whether it is below the length; else nothing is changed.
+pub fn bits_remove(set: &mut BitsMut<'_>, bit: usize) -> bool {
+    if bit < set.length {
+        set.remove(bit);
+        true
+    } else {
+        false
+    }
+}
+
+/// Sets the position if it is clear and clears it if it is set, and answers whether it is below the
+/// length; else nothing is changed.
+pub fn bits_toggle(set: &mut BitsMut<'_>, bit: usize) -> bool {
+    if bit < set.length {
+        set.toggle(bit);
+        true
+    } else {
+        false
+    }
+}
+
+/// Sets the position, or clears it where `enabled` is false, and answers whether it is below the
+/// length; else nothing is changed.
+pub fn bits_set(set: &mut BitsMut<'_>, bit: usize, enabled: bool) -> bool {
+    if bit < set.length {
+        set.set(bit, enabled);
+        true
+    } else {
+        false
+    }
+}
+
+/// Sets the position, and answers whether it was set before. At or past the length nothing is
+/// changed, and the answer is `false`.
+pub fn bits_put(set: &mut BitsMut<'_>, bit: usize) -> bool {
+    if bit < set.length {
+        set.put(bit)
+    } else {
+        false
+    }
+}
+
+/// Clears the position, and answers whether it was set before. At or past the length nothing is
+/// changed, and the answer is `false`.
+pub fn bits_take(set: &mut BitsMut<'_>, bit: usize) -> bool {
+    if bit < set.length {
+        set.take(bit)
+    } else {
+        false
+    }
+}
+
+/// Makes word `index` the given one, without its bits past the length. It answers whether the
+/// length needs a word of this index; else nothing is changed.
+pub fn bits_set_block(set: &mut BitsMut<'_>, index: usize, block: Block) -> bool {
+    if index < bits_blocks(set.length) {
+        set.set_block(index, block);
+        true
+    } else {
+        false
+    }
+}
+
+/// Clears all positions.
+pub fn bits_clear(set: &mut BitsMut<'_>) {
+    set.clear(&mut Steps::new());
+}
+
+/// Whether no position is set.
+pub fn bits_is_clear(set: &Bits<'_>) -> bool {
+    set.is_clear(&mut Steps::new())
+}
+
+/// Whether each position below the length is set.
+pub fn bits_is_full(set: &Bits<'_>) -> bool {
+    set.is_full(&mut Steps::new())
+}
+
+/// The least position that is set, or `NONE`.
+pub fn bits_minimum(set: &Bits<'_>) -> usize {
+    set.minimum(&mut Steps::new()).unwrap_or(NONE)
+}
+
+/// The greatest position that is set, or `NONE`.
+pub fn bits_maximum(set: &Bits<'_>) -> usize {
+    set.maximum(&mut Steps::new()).unwrap_or(NONE)
+}
+
+/// Clears the lowest bit of the word that is set, and answers its index. Of 0 the answer is `NONE`.
+pub fn bits_take_lowest_bit(word: &mut Block) -> usize {
+    if *word == 0 {
+        NONE
+    } else {
+        take_lowest_bit(word)
+    }
+}

@@ -1,0 +1,119 @@
+// Made by front/erase from crates/bits_c/src/pairs.rt: change that, and not this.
+//! Walks over the positions of two sets in turn: from the front those of the first before
+//! those of the second, and from the back those of the second before those of the first. Their
+//! calls are those of `walks`.
+
+use crate::bits_c::structs::{Ones, Pair, Sieve};
+use crate::bits_c::walks::hand_out;
+use crate::proved::bitlanes::ops::AndNot;
+use crate::proved::bitlanes::word::BITS;
+use crate::proved::fixedbitset::views::Bits;
+
+impl<'a> Pair<'a> {
+    // The first position of the second walk. The other bits of its word become the first walk: so
+    // the next calls find them without a look at a walk that has none left.
+    #[inline(always)]
+    fn take_first_of_second(&mut self) -> Option<usize> {
+        let item = self.second.take_first::<AndNot>();
+        let second = &mut self.second.walk;
+        self.first.walk = Ones {
+            front: second.front,
+            back: 0,
+            front_at: second.front_at,
+            back_at: second.front_at,
+            words: &[],
+        };
+        second.front = 0;
+        item
+    }
+
+    // The last word of the first walk becomes the second one, which has none left: so the next
+    // calls from the back find its bits without a look at that.
+    #[inline(always)]
+    fn bring_last_word(&mut self) {
+        let first = &mut self.first.walk;
+        if first.back == 0 {
+            return;
+        }
+        self.second.walk = Ones {
+            front: 0,
+            back: first.back,
+            front_at: first.back_at - BITS,
+            back_at: first.back_at,
+            words: &[],
+        };
+        first.back = 0;
+    }
+}
+
+/// Begins the walk over the positions of the first set, and then over those of the second that the
+/// first lacks, each part in ascending order.
+pub fn bits_union<'a>(walk: &mut Pair<'a>, set: &Bits<'a>, other: &Bits<'a>) {
+    *walk = Pair {
+        first: Sieve {
+            walk: Ones::of(set.ones()),
+            other: other.words,
+        },
+        second: Sieve::lacking(other, set),
+    };
+}
+
+/// Gives the first position left.
+pub fn bits_union_next(walk: &mut Pair<'_>, position: &mut usize) -> bool {
+    let item = match walk.first.walk.take_first() {
+        Some(found) => Some(found),
+        None => walk.take_first_of_second(),
+    };
+    hand_out(item, position)
+}
+
+/// Gives the last position left.
+pub fn bits_union_next_back(walk: &mut Pair<'_>, position: &mut usize) -> bool {
+    let item = match walk.second.take_last::<AndNot>() {
+        Some(found) => Some(found),
+        None => {
+            let last = walk.first.walk.take_last();
+            walk.bring_last_word();
+            last
+        }
+    };
+    hand_out(item, position)
+}
+
+/// Begins the walk over the positions of the first set that the second lacks, and then over those
+/// of the second that the first lacks, each part in ascending order.
+pub fn bits_symmetric_difference<'a>(
+    walk: &mut Pair<'a>,
+    set: &Bits<'a>,
+    other: &Bits<'a>,
+) {
+    *walk = Pair {
+        first: Sieve::lacking(set, other),
+        second: Sieve::lacking(other, set),
+    };
+}
+
+/// Gives the first position left.
+pub fn bits_symmetric_difference_next(walk: &mut Pair<'_>, position: &mut usize) -> bool {
+    let item = match walk.first.take_first::<AndNot>() {
+        Some(found) => Some(found),
+        None => walk.take_first_of_second(),
+    };
+    hand_out(item, position)
+}
+
+/// Gives the last position left.
+pub fn bits_symmetric_difference_next_back(
+    walk: &mut Pair<'_>,
+    position: &mut usize,
+) -> bool {
+    let item = match walk.second.take_last::<AndNot>() {
+        Some(found) => Some(found),
+        None => {
+            let last = walk.first.take_last::<AndNot>();
+            walk.bring_last_word();
+            last
+        }
+    };
+    hand_out(item, position)
+}
