@@ -1,4 +1,5 @@
-/* Sets of bits with a length, answered by proved code: libbits_c.a of the crate bits_c, for x86-64 Linux.
+/* Sets of bits with a length, answered by proved code: libbits_c.a of the crate bits_c, for Linux on x86-64 and aarch64. From
+ * source it is built for others too; where a size_t has 32 bits nothing is proved of it.
  *
  *     bits set = bits_new(100);
  *     if (!set.words)
@@ -35,10 +36,6 @@
 #include <stddef.h>
 #include <stdint.h>
 
-#if SIZE_MAX != UINT64_MAX
-#error "libbits_c.a is built for x86-64"
-#endif
-
 /* Who gives the memory of bits_new and of bits_own.h. A program may define all three before it includes this header. */
 #ifndef BITS_CALLOC
 #include <stdlib.h>
@@ -47,8 +44,10 @@
 #define BITS_FREE(pointer) free(pointer)
 #endif
 
-/* The symbol of a call in the archive. */
-#define BITS_SYMBOL(name) __asm__("fixedbitset_" #name)
+/* The symbol of a call in the archive. (Some systems have an underscore before each name of C.) */
+#define BITS_TEXT_OF(text) #text
+#define BITS_TEXT(text) BITS_TEXT_OF(text)
+#define BITS_SYMBOL(name) __asm__(BITS_TEXT(__USER_LABEL_PREFIX__) "fixedbitset_" #name)
 
 /* (The attribute lets a bits_view be read as one.) */
 typedef struct bits {

@@ -18,8 +18,6 @@
 #include <stdio.h>
 #include <stdlib.h>
 
-#define BITS_TEXT_OF(text) #text
-#define BITS_TEXT(text) BITS_TEXT_OF(text)
 #define BITS_HERE(name) __FILE__ ":" BITS_TEXT(__LINE__) ": " #name
 
 /* ---- what is tested. `here` says which call it is, and `who` which argument. */
@@ -35,28 +33,31 @@ __attribute__((__noreturn__, __cold__, __format__(__printf__, 2, 3))) static inl
     abort();
 }
 
-/* A pointer to one value of `size` bytes, which is what it is aligned to where that is less than 8. */
+/* What a value of `size` bytes is aligned to, at the least: 8 bytes at the most, and 4 where a size_t has 32 bits. */
+#define BITS_ALIGNMENT(size) ((size) < sizeof(size_t) ? (size) : sizeof(size_t))
+
+/* A pointer to one value of `size` bytes. */
 static inline void bits_ask_place(const char *here, const char *who, const void *place, size_t size) {
     if (!place)
         bits_stop(here, "`%s` is NULL", who);
-    if ((uintptr_t)place % (size < 8 ? size : 8))
-        bits_stop(here, "`%s` is not aligned to %zu bytes", who, size < 8 ? size : 8);
+    if ((uintptr_t)place % BITS_ALIGNMENT(size))
+        bits_stop(here, "`%s` is not aligned to %zu bytes", who, BITS_ALIGNMENT(size));
 }
 
 /* A pointer to `count` values. */
 static inline void bits_ask_array(const char *here, const char *who, const void *values, size_t count, size_t size) {
     if (!values && count)
         bits_stop(here, "`%s` is NULL, and there are to be %zu", who, count);
-    if ((uintptr_t)values % size)
-        bits_stop(here, "`%s` is not aligned to %zu bytes", who, size);
+    if ((uintptr_t)values % BITS_ALIGNMENT(size))
+        bits_stop(here, "`%s` is not aligned to %zu bytes", who, BITS_ALIGNMENT(size));
 }
 
 /* The words of a set, a walk or ranks. */
 static inline void bits_ask_words(const char *here, const char *who, const uint64_t *words, size_t count) {
     if (!words && count)
         bits_stop(here, "`%s` has NULL for words, and says that it has %zu", who, count);
-    if ((uintptr_t)words % sizeof(uint64_t))
-        bits_stop(here, "`%s` has words that are not aligned to 8 bytes", who);
+    if ((uintptr_t)words % sizeof(size_t))
+        bits_stop(here, "`%s` has words that are not aligned to %zu bytes", who, sizeof(size_t));
 }
 
 static inline void bits_ask_clean(const char *here, const char *who, const uint64_t *words, size_t count, size_t length) {

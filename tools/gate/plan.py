@@ -104,13 +104,15 @@ class Plan:
     def fronts(self):
         """What stands above the static library and is no Rattle."""
         library = self.sources("bits_c", parts=("src", "specs", "proofs"))
-        front = Stage("the crate for Rust and the header for C", ("front/test",), ("front", "tools/docs/make_api", "tools/calls.py", *library), MAKERS, ("README.md",))
+        gcc = [f"{it}-linux-gnu-gcc" for it in ("aarch64", "i686", "s390x")]
+        qemu = ("qemu-aarch64-static", "qemu-s390x-static")
+        inputs = ("front", "tools/docs/make_api", "tools/calls.py", "tools/kept.py", *library)
+        front = Stage("the crate for Rust and the header for C", ("front/test",), inputs, (*MAKERS, "cmake", "dpkg-deb", *gcc, *qemu), ("README.md",))
         server = ("pg_config", "postgres", "psql", *MAKERS)
         inputs = ("front/postgres", "front/lib", "front/c")
         postgres = Stage("the type for PostgreSQL", ("front/postgres/test",), inputs, server, ("README.md",))
         crate = ("front/rust", "front/differ", "front/registry", "front/compilers")
-        gcc = [f"{it}-linux-gnu-gcc" for it in ("aarch64", "i686", "s390x")]
-        emulators = ("qemu-aarch64-static", "qemu-s390x-static", "wasm-ld", "node", "cargo", "rustc", "cc", *gcc)
+        emulators = (*qemu, "wasm-ld", "node", "cargo", "rustc", "cc", *gcc)
         others = ("front/targets", "front/wrong", "front/wrong_lines", "tools/kept.py")
         targets = Stage("the crate on other targets", ("front/targets",), (*crate, *others), emulators)
         client = Stage("petgraph over the crate", ("front/client",), (*crate, "front/client"), ("cargo", "rustc", "cc"))
