@@ -21,7 +21,7 @@
 #endif
 
 #ifdef WORDS_BIGENDIAN
-#error "the binary forms take the words' bytes least first; libbits_c.a is built for x86-64"
+#error "the binary forms take the words' bytes least first, and this machine has them the other way round"
 #endif
 
 typedef struct Stored {
