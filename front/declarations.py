@@ -1,5 +1,6 @@
 #!/usr/bin/env python3
-"""Compares the declarations of differ/declared.rs and c/bits.h, and their structs, with the exports of crates/bits_c and the views that cross.
+"""Compares the declarations of differ/declared.rs and c/bits.h, the exports of c/source, and the structs of all three, with the
+exports of crates/bits_c and the views that cross.
 
 usage: front/declarations.py
 
@@ -33,17 +34,21 @@ KINDS = {
     "&mut RowsMut": "rows*", "&mut Rows": "rows*", "bits_rows *": "rows*", "&Rows": "const rows*", "const bits_rows *": "const rows*",
     "&mut Ranks": "ranks*", "&mut LentRanks": "ranks*", "bits_ranks *": "ranks*", "&LentRanks": "const ranks*",
     "&Ranks": "const ranks*", "const bits_ranks *": "const ranks*",
+    "*mut Block": "word*", "*const Block": "const word*", "*mut usize": "word*", "*mut bool": "bool*", "*mut u8": "byte*",
+    "*mut CSet": "set*", "*const CSet": "const set*", "*mut CRows": "rows*", "*const CRows": "const rows*",
+    "*mut CRanks": "ranks*", "*const CRanks": "const ranks*", "*mut CWalk": "walk*", "*mut CRuns": "runs*",
+    "*mut CSieve": "sieve*", "*mut CPair": "pair*",
 }
-# The struct that each of the three has, by its name in bits.h.
+# The struct that each has, by its name in bits.h: the sources, declared.rs and c/source/crossing.rs.
 STRUCTS = {
-    "bits": ("BitsMut", "Lent"),
-    "bits_view": ("Bits", "Lent"),
-    "bits_walk": ("Ones", "Walk"),
-    "bits_run_walk": ("Runs", "Runs"),
-    "bits_sieve": ("Sieve", "Sieve"),
-    "bits_pair": ("Pair", "Pair"),
-    "bits_ranks": ("Ranks", "LentRanks"),
-    "bits_rows": ("RowsMut", "Rows"),
+    "bits": ("BitsMut", "Lent", "CSet"),
+    "bits_view": ("Bits", "Lent", "CSet"),
+    "bits_walk": ("Ones", "Walk", "CWalk"),
+    "bits_run_walk": ("Runs", "Runs", "CRuns"),
+    "bits_sieve": ("Sieve", "Sieve", "CSieve"),
+    "bits_pair": ("Pair", "Pair", "CPair"),
+    "bits_ranks": ("Ranks", "LentRanks", "CRanks"),
+    "bits_rows": ("RowsMut", "Rows", "CRows"),
 }
 
 
@@ -99,9 +104,10 @@ def fields_of(text, name):
     return found
 
 
-def wrong_calls(exported, archive, header):
+def wrong_calls(exported, archive, header, made):
     """What is wrong with the declarations of calls."""
-    for side, declared in (("declared.rs", of_rust(archive)), ("bits.h", of_c(header))):
+    named = made.replace("unsafe extern", "extern").replace("fn fixedbitset_", "fn ")
+    for side, declared in (("declared.rs", of_rust(archive)), ("bits.h", of_c(header)), ("exports.rs", of_rust(named))):
         # (The program that compares need not declare all.)
         names = declared.keys() if side == "declared.rs" else exported.keys() | declared.keys()
         for it in sorted(names):
@@ -109,13 +115,14 @@ def wrong_calls(exported, archive, header):
                 yield f"{side}: {it} is {exported.get(it)}, and declared {declared.get(it)}"
 
 
-def wrong_structs(sources, archive, header):
+def wrong_structs(sources, archive, header, crossing):
     """What is wrong with the declarations of structs."""
-    for name, (of_sources, of_archive) in STRUCTS.items():
+    for name, (of_sources, of_archive, of_crossing) in STRUCTS.items():
         exported = fields_of(sources, of_sources)
-        for side, fields in (("declared.rs", fields_of(archive, of_archive)), ("bits.h", fields_of(header, name))):
-            if not agree(exported, fields):
-                yield f"{side}: the struct {name} is {exported}, and declared {fields}"
+        declared = {"declared.rs": (archive, of_archive), "bits.h": (header, name), "crossing.rs": (crossing, of_crossing)}
+        for side, (text, struct) in declared.items():
+            if not agree(exported, fields_of(text, struct)):
+                yield f"{side}: the struct {name} is {exported}, and declared {fields_of(text, struct)}"
     for one, other, name in (("Ones", "Zeroes", "bits_walk"), ("Bits", "BitsMut", "bits"), ("BitsMut", "Room", "bits"), ("Rows", "RowsMut", "bits_rows")):
         if fields_of(sources, one) != fields_of(sources, other):
             yield f"the structs {one} and {other} differ, and {name} stands for both"
@@ -133,9 +140,10 @@ def main():
         sys.exit(print(__doc__.strip()))
     views = [TOP / "crates" / it / "src/views.rt" for it in ("fixedbitset", "bitrows")]
     sources = "\n".join(it.read_text() for it in [*views, *sorted((TOP / "crates/bits_c/src").rglob("*.rt"))])
-    archive, header, tests = ((TOP / "front" / it).read_text() for it in ("differ/declared.rs", "c/bits.h", "c/bits_check.h"))
+    files = ("differ/declared.rs", "c/bits.h", "c/bits_check.h", "c/source/exports.rs", "c/source/crossing.rs")
+    archive, header, tests, made, crossing = ((TOP / "front" / it).read_text() for it in files)
     exported = of_rust(sources)
-    wrong = [*wrong_calls(exported, archive, header), *wrong_structs(sources, archive, header), *wrong_tests(exported, tests)]
+    wrong = [*wrong_calls(exported, archive, header, made), *wrong_structs(sources, archive, header, crossing), *wrong_tests(exported, tests)]
     print("\n".join([*wrong, f"{len(exported)} exports and {len(STRUCTS)} structs, {len(wrong)} wrong declarations"]))
     return bool(wrong)
 
