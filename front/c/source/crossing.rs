@@ -107,128 +107,85 @@ pub trait Kept: Crosses {
     fn kept(self) -> Self::Struct;
 }
 
-impl Crosses for Bits<'_> {
-    type Struct = CSet;
+/// Values by their structs: the fields that cross as they are, and each slice with the field that has its number.
+macro_rules! crosses {
+    ($($value:ident as $struct:ident: $($field:ident)*, $($lend:ident($slice:ident $count:ident))*;)*) => { $(
+        impl Crosses for $value<'_> {
+            type Struct = $struct;
 
-    unsafe fn read(from: *const CSet) -> Self {
-        let CSet { words, count, length } = *from;
-        Bits { words: lent(words, count), length }
-    }
+            unsafe fn read(from: *const $struct) -> Self {
+                $value {
+                    $($field: (*from).$field,)*
+                    $($slice: $lend((*from).$slice, (*from).$count),)*
+                }
+            }
+        }
+    )* };
+}
+crosses! {
+    Bits as CSet: length, lent(words count);
+    BitsMut as CSet: length, lent_mut(words count);
+    Room as CSet: length, lent_mut(words count);
+    Rows as CRows: rows columns, lent(words count);
+    RowsMut as CRows: rows columns, lent_mut(words count);
+    Ones as CWalk: front back front_at back_at, lent(words count);
+    Zeroes as CWalk: front back front_at back_at, lent(words count);
+    Runs as CRuns: are_set end low high, lent(words count);
+    Ranks as CRanks: length, lent(words count) lent(directory entries);
 }
 
-impl Crosses for BitsMut<'_> {
-    type Struct = CSet;
+/// The same for what a call writes back.
+macro_rules! kept {
+    ($($value:ident as $struct:ident: $($field:ident)*, $($slice:ident $count:ident),*;)*) => { $(
+        impl Kept for $value<'_> {
+            fn nothing() -> Self {
+                $value {
+                    $($field: Default::default(),)*
+                    $($slice: &[],)*
+                }
+            }
 
-    unsafe fn read(from: *const CSet) -> Self {
-        let CSet { words, count, length } = *from;
-        BitsMut { words: lent_mut(words, count), length }
-    }
+            fn kept(self) -> $struct {
+                $struct {
+                    $($field: self.$field,)*
+                    $($slice: self.$slice.as_ptr(), $count: self.$slice.len(),)*
+                }
+            }
+        }
+    )* };
 }
-
-impl Crosses for Room<'_> {
-    type Struct = CSet;
-
-    unsafe fn read(from: *const CSet) -> Self {
-        let CSet { words, count, length } = *from;
-        Room { words: lent_mut(words, count), length }
-    }
-}
-
-impl Crosses for Rows<'_> {
-    type Struct = CRows;
-
-    unsafe fn read(from: *const CRows) -> Self {
-        let CRows { words, count, rows, columns } = *from;
-        Rows { words: lent(words, count), rows, columns }
-    }
-}
-
-impl Crosses for RowsMut<'_> {
-    type Struct = CRows;
-
-    unsafe fn read(from: *const CRows) -> Self {
-        let CRows { words, count, rows, columns } = *from;
-        RowsMut { words: lent_mut(words, count), rows, columns }
-    }
-}
-
-impl Crosses for Ones<'_> {
-    type Struct = CWalk;
-
-    unsafe fn read(from: *const CWalk) -> Self {
-        let CWalk { front, back, front_at, back_at, words, count } = *from;
-        Ones { front, back, front_at, back_at, words: lent(words, count) }
-    }
-}
-
-impl Kept for Ones<'_> {
-    fn nothing() -> Self {
-        Ones { front: 0, back: 0, front_at: 0, back_at: 0, words: &[] }
-    }
-
-    fn kept(self) -> CWalk {
-        let Ones { front, back, front_at, back_at, words } = self;
-        CWalk { front, back, front_at, back_at, words: words.as_ptr(), count: words.len() }
-    }
-}
-
-impl Crosses for Zeroes<'_> {
-    type Struct = CWalk;
-
-    unsafe fn read(from: *const CWalk) -> Self {
-        let CWalk { front, back, front_at, back_at, words, count } = *from;
-        Zeroes { front, back, front_at, back_at, words: lent(words, count) }
-    }
-}
-
-impl Kept for Zeroes<'_> {
-    fn nothing() -> Self {
-        Zeroes { front: 0, back: 0, front_at: 0, back_at: 0, words: &[] }
-    }
-
-    fn kept(self) -> CWalk {
-        let Zeroes { front, back, front_at, back_at, words } = self;
-        CWalk { front, back, front_at, back_at, words: words.as_ptr(), count: words.len() }
-    }
-}
-
-impl Crosses for Runs<'_> {
-    type Struct = CRuns;
-
-    unsafe fn read(from: *const CRuns) -> Self {
-        let CRuns { are_set, end, low, high, words, count } = *from;
-        Runs { are_set, end, low, high, words: lent(words, count) }
-    }
-}
-
-impl Kept for Runs<'_> {
-    fn nothing() -> Self {
-        Runs { are_set: false, end: 0, low: 0, high: 0, words: &[] }
-    }
-
-    fn kept(self) -> CRuns {
-        let Runs { are_set, end, low, high, words } = self;
-        CRuns { are_set, end, low, high, words: words.as_ptr(), count: words.len() }
-    }
+kept! {
+    Ones as CWalk: front back front_at back_at, words count;
+    Zeroes as CWalk: front back front_at back_at, words count;
+    Runs as CRuns: are_set end low high, words count;
+    Ranks as CRanks: length, words count, directory entries;
 }
 
 impl Crosses for Sieve<'_> {
     type Struct = CSieve;
 
     unsafe fn read(from: *const CSieve) -> Self {
-        let CSieve { ref walk, other, other_count } = *from;
-        Sieve { walk: Ones::read(walk), other: lent(other, other_count) }
+        Sieve {
+            walk: Ones::read(&(*from).walk),
+            other: lent((*from).other, (*from).other_count),
+        }
     }
 }
 
 impl Kept for Sieve<'_> {
     fn nothing() -> Self {
-        Sieve { walk: Ones::nothing(), other: &[] }
+        Sieve {
+            walk: Ones::nothing(),
+            other: &[],
+        }
     }
 
     fn kept(self) -> CSieve {
-        let Sieve { walk, other } = self;
-        CSieve { walk: walk.kept(), other: other.as_ptr(), other_count: other.len() }
+        CSieve {
+            walk: self.walk.kept(),
+            other: self.other.as_ptr(),
+            other_count: self.other.len(),
+        }
     }
 }
 
@@ -236,38 +193,25 @@ impl Crosses for Pair<'_> {
     type Struct = CPair;
 
     unsafe fn read(from: *const CPair) -> Self {
-        let CPair { ref first, ref second } = *from;
-        Pair { first: Sieve::read(first), second: Sieve::read(second) }
+        Pair {
+            first: Sieve::read(&(*from).first),
+            second: Sieve::read(&(*from).second),
+        }
     }
 }
 
 impl Kept for Pair<'_> {
     fn nothing() -> Self {
-        Pair { first: Sieve::nothing(), second: Sieve::nothing() }
+        Pair {
+            first: Sieve::nothing(),
+            second: Sieve::nothing(),
+        }
     }
 
     fn kept(self) -> CPair {
-        CPair { first: self.first.kept(), second: self.second.kept() }
-    }
-}
-
-impl Crosses for Ranks<'_> {
-    type Struct = CRanks;
-
-    unsafe fn read(from: *const CRanks) -> Self {
-        let CRanks { words, count, length, directory, entries } = *from;
-        Ranks { words: lent(words, count), length, directory: lent(directory, entries) }
-    }
-}
-
-impl Kept for Ranks<'_> {
-    fn nothing() -> Self {
-        Ranks { words: &[], length: 0, directory: &[] }
-    }
-
-    fn kept(self) -> CRanks {
-        let Ranks { words, length, directory } = self;
-        let (count, entries) = (words.len(), directory.len());
-        CRanks { words: words.as_ptr(), count, length, directory: directory.as_ptr(), entries }
+        CPair {
+            first: self.first.kept(),
+            second: self.second.kept(),
+        }
     }
 }
