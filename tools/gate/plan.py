@@ -109,7 +109,7 @@ class Plan:
         inputs = ("front", "tools/docs/make_api", "tools/calls.py", "tools/kept.py", *library)
         front = Stage("the crate for Rust and the header for C", ("front/test",), inputs, (*MAKERS, "cmake", "dpkg-deb", *gcc, *qemu), ("README.md",))
         server = ("pg_config", "postgres", "psql", *MAKERS)
-        inputs = ("front/postgres", "front/lib", "front/c")
+        inputs = ("front/postgres", "front/lib", "front/c", "front/rust/src")
         postgres = Stage("the type for PostgreSQL", ("front/postgres/test",), inputs, server, ("README.md",))
         crate = ("front/rust", "front/differ", "front/registry", "front/compilers")
         emulators = (*qemu, "wasm-ld", "node", "cargo", "rustc", "cc", *gcc)
