@@ -77,7 +77,13 @@ class Rounds:
             has_work = True
             for found, halves in (ran.result() for ran in ended):
                 running |= {self.submit(half) for half in halves}
-                (over if self.by_goal else left).extend(self.settle(found))
+                waiting = self.settle(found)
+                if self.by_goal:
+                    over.extend(waiting)
+                elif len(waiting) == len(found):
+                    running |= {self.submit([edit]) for edit in waiting}  # (each may wait for another of them)
+                else:
+                    left.extend(waiting)
         for ran in self.alone:
             ran.result()
         return over
