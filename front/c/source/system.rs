@@ -3,14 +3,23 @@
 
 use core::alloc::{GlobalAlloc, Layout};
 
+#[cfg(not(target_family = "wasm"))]
 extern "C" {
     fn abort() -> !;
 }
 
+#[cfg(not(target_family = "wasm"))]
 #[panic_handler]
 fn end(_: &core::panic::PanicInfo<'_>) -> ! {
     // SAFETY: it is C's, and asks nothing.
     unsafe { abort() }
+}
+
+// A module of WebAssembly has no C below it.
+#[cfg(target_family = "wasm")]
+#[panic_handler]
+fn end(_: &core::panic::PanicInfo<'_>) -> ! {
+    core::arch::wasm32::unreachable()
 }
 
 struct NoMemory;
