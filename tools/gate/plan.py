@@ -117,7 +117,7 @@ class Plan:
         targets = Stage("the crate on other targets", ("front/targets",), (*crate, *others), emulators)
         client = Stage("petgraph over the crate", ("front/client",), (*crate, "front/client"), ("cargo", "rustc", "cc"))
         glue = ("front/wasm", "front/wrong", "front/wrong_lines", "front/checks.sh", "tools/kept.py")
-        made = ("front/compilers", "front/c/bits.h", "front/c/source", "front/rust/src")
+        made = ("front/archive", "front/compilers", "front/c/bits.h", "front/c/source", "front/rust/src", *library)
         browsers = Stage("sets in a browser and in Node", ("front/wasm/test",), (*glue, *made), ("node", "wasm-ld", "chromium", "python3"))
         return [front, postgres, targets, client, browsers] if self.has("bits_c") else []
 

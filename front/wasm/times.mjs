@@ -1,0 +1,63 @@
+// Times calls over both modules beside loops over a Uint32Array: microseconds, the least of many rounds, each side in turn.
+import { readFile } from "node:fs/promises";
+import { load } from "./bits.mjs";
+
+const LENGTH = 1_000_000, ROUNDS = 200, TURNS = 20;
+const positions = (step) => Array.from({ length: Math.floor(LENGTH / step) }, (_, at) => at * step);
+const filled = [positions(3), positions(7)];
+
+/** The sums of bits in each byte of a word, added up. */
+function onesOf(word) {
+  const pairs = word - ((word >>> 1) & 0x55555555), fours = (pairs & 0x33333333) + ((pairs >>> 2) & 0x33333333);
+  return Math.imul((fours + (fours >>> 4)) & 0x0f0f0f0f, 0x01010101) >>> 24;
+}
+
+/** What a program does by itself. */
+class Typed {
+  constructor(length, positions = []) {
+    this.words = new Uint32Array(Math.ceil(length / 32));
+    for (const it of positions) this.words[it >>> 5] |= 1 << (it & 31);
+  }
+  union_with({ words }) { for (let at = 0; at < this.words.length; at++) this.words[at] |= words[at]; }
+  intersect_with({ words }) { for (let at = 0; at < this.words.length; at++) this.words[at] &= words[at]; }
+  count_ones() {
+    let count = 0;
+    for (const it of this.words) count += onesOf(it);
+    return count;
+  }
+  intersection_count({ words }) {
+    let count = 0;
+    for (let at = 0; at < this.words.length; at++) count += onesOf(this.words[at] & words[at]);
+    return count;
+  }
+  contains(position) { return (this.words[position >>> 5] >>> (position & 31)) % 2 === 1; }
+}
+
+const calls = {
+  union_with: (one, other) => one.union_with(other),
+  intersect_with: (one, other) => one.intersect_with(other),
+  count_ones: (one) => one.count_ones(),
+  intersection_count: (one, other) => one.intersection_count(other),
+  "contains, of 1000 positions": (one) => {
+    let found = 0;
+    for (let at = 0; at < LENGTH; at += 1000) found += one.contains(at) ? 1 : 0;
+    return found;
+  },
+};
+
+function microseconds(call, sets) {
+  const began = performance.now();
+  for (let turn = 0; turn < TURNS; turn++) call(...sets);
+  return ((performance.now() - began) * 1000) / TURNS;
+}
+
+const sides = [await load(readFile("bits32.wasm")), await load(readFile("bits64.wasm")), Typed];
+console.log("call,bits,module_32,module_64,typed_array");
+for (const [name, call] of Object.entries(calls)) {
+  const sets = sides.map((Side) => filled.map((it) => new Side(LENGTH, it))), least = sides.map(() => Infinity);
+  const answers = sets.map((it) => call(...it));
+  if (new Set(answers).size > 1) throw new Error(`${name}: ${answers}`);
+  for (let round = 0; round < ROUNDS; round++)
+    sets.forEach((it, side) => (least[side] = Math.min(least[side], microseconds(call, it))));
+  console.log([`"${name}"`, LENGTH, ...least.map((it) => it.toFixed(2))].join());
+}
