@@ -18,16 +18,24 @@ class Typed {
     this.words = new Uint32Array(Math.ceil(length / 32));
     for (const it of positions) this.words[it >>> 5] |= 1 << (it & 31);
   }
-  union_with({ words }) { for (let at = 0; at < this.words.length; at++) this.words[at] |= words[at]; }
-  intersect_with({ words }) { for (let at = 0; at < this.words.length; at++) this.words[at] &= words[at]; }
+  union_with({ words }) {
+    const mine = this.words;
+    for (let at = 0; at < mine.length; at++) mine[at] |= words[at];
+  }
+  intersect_with({ words }) {
+    const mine = this.words;
+    for (let at = 0; at < mine.length; at++) mine[at] &= words[at];
+  }
   count_ones() {
+    const mine = this.words;
     let count = 0;
-    for (const it of this.words) count += onesOf(it);
+    for (let at = 0; at < mine.length; at++) count += onesOf(mine[at]);
     return count;
   }
   intersection_count({ words }) {
+    const mine = this.words;
     let count = 0;
-    for (let at = 0; at < this.words.length; at++) count += onesOf(this.words[at] & words[at]);
+    for (let at = 0; at < mine.length; at++) count += onesOf(mine[at] & words[at]);
     return count;
   }
   contains(position) { return (this.words[position >>> 5] >>> (position & 31)) % 2 === 1; }
