@@ -15,8 +15,8 @@ files to start proofs from, and a static library, or a program without its `main
 that have few edits share a round where none of them stands on another, since most of a small round is reading the libraries
 below (together.py).
 
-By a goal (goals.py). The file of an edit names a goal that refuses it, and the first rounds ask each edit for this goal alone.
-Those that it does not refuse are tried by all goals, so a name that fits no longer costs time and changes no verdict.
+By a goal (goals.py). The file of an edit names a goal that refuses it, and its first round asks it for this goal alone. Where
+that does not refuse it, another round tries it by all goals, so a name that fits no longer costs time and changes no verdict.
 
 What an edit changes (reach.py). In src/ it is the function that has its text. A definition of specs/ on which one function
 alone rests counts as that function. An edit that changes more than that is lone: it is judged by the one function that its

@@ -53,8 +53,8 @@ class Copy:
         return made
 
 
-def copy_of(edits, is_source=True, by_goal=False):
-    """The copy in which these edits are judged together: by all goals, or each by the one that its file names."""
+def copy_of(edits, is_source=True, by_goal=()):
+    """The copy in which these edits are judged together: those of `by_goal` by the goal that each names, the others by all."""
     crates = dict.fromkeys(edit.crate for edit in edits)
     copy = Copy({}, is_source)
     for crate in crates:
@@ -88,10 +88,9 @@ def with_edits(edits, by_goal):
         if edit.stands_beside:
             suffixes[edit] = f"_edit{number}"
             put_beside(edit, suffixes[edit], texts)
-    if by_goal:
-        for edit in edits:
-            for judge in judges_of(edit, suffixes.get(edit, ""), texts):
-                goals.ask_alone(edit, judge.function, texts)
+    for edit in edits:
+        for judge in judges_of(edit, suffixes.get(edit, ""), texts) if edit in by_goal else ():
+            goals.ask_alone(edit, judge.function, texts)
     return texts, {edit: judges_of(edit, suffixes.get(edit, ""), texts) for edit in edits}
 
 

@@ -7,8 +7,8 @@ from concurrent.futures import FIRST_COMPLETED, ThreadPoolExecutor, wait
 from . import copies, naming, together, verdicts
 
 BAD = "BAD EDIT: a text behind 'old:' is not in its file exactly once"
-# The most edits of a round, and of the first one where no check of the crate left its work for it.
-MOST, MOST_AT_FIRST = 120, 30
+# The most edits of a round, and of the first one where no check of the crate left its work for it and there are more.
+MOST, MOST_AT_FIRST = 160, 30
 # A crate that `rt ci` has proved is checked once more where it has more edits that each have a round of their own.
 ROUNDS_THAT_GAIN = 2
 
@@ -59,14 +59,17 @@ class Beside:
 
 
 class Rounds:
-    """Rounds of edits of a crate, or of several, over a folder of work: by all goals, or each edit by the one that it names."""
+    """Rounds of edits of a crate, or of several, over a folder of work: each edit by the goal that it names, or by all goals.
+
+    by_goal  the edits that are still to be tried by that goal alone
+    """
     def __init__(self, runner, work, most, is_source, by_goal):
-        self.runner, self.work, self.most, self.is_source, self.by_goal = runner, work, most, is_source, by_goal
+        self.runner, self.work, self.most, self.is_source, self.by_goal = runner, work, most, is_source, set(by_goal)
         self.alone = []
 
     def run(self, left, has_work):
-        """Tries these edits in rounds side by side, and answers those that the goals that they name did not refuse."""
-        running, over = set(), []
+        """Tries these edits in rounds side by side. One that its goal does not refuse is tried again, by all goals."""
+        running = set()
         while left or running:
             while left and (has_work or not running):
                 fits = has_work or len(left) <= self.most
@@ -77,37 +80,38 @@ class Rounds:
             has_work = True
             for found, halves in (ran.result() for ran in ended):
                 running |= {self.submit(half) for half in halves}
-                waiting = self.settle(found)
-                if self.by_goal:
-                    over.extend(waiting)
-                elif len(waiting) == len(found):
-                    running |= {self.submit([edit]) for edit in waiting}  # (each may wait for another of them)
+                over, waiting = self.settle(found)
+                if over or len(waiting) < len(found):
+                    left.extend([*over, *waiting])
                 else:
-                    left.extend(waiting)
+                    running |= {self.submit([edit]) for edit in waiting}  # (each may wait for another of them)
         for ran in self.alone:
             ran.result()
-        return over
 
     def submit(self, edits, fills=False):
         return self.runner.pool.submit(self.round, edits, fills)
 
     def settle(self, found):
-        """Tells of the edits that a round refuses, has those tried alone of which one by all goals says nothing, and answers the
-        others, which wait for another round."""
-        waiting = []
+        """Tells of the edits that a round refuses, and has those tried alone of which one by all goals says nothing. Answers
+        those that their goals did not refuse, and those that wait for another round."""
+        over, waiting = [], []
         for edit, verdict, why in found:
             if verdict == verdicts.REFUSED:
                 self.runner.told.tell(edit, True, why, is_tried=True)
                 self.runner.kept.keep(edit, why)
-            elif self.by_goal or verdict == verdicts.WAITS and len(found) > 1:
+            elif edit in self.by_goal:
+                over.append(edit)
+            elif verdict == verdicts.WAITS and len(found) > 1:
                 waiting.append(edit)
             else:
                 self.alone.append(self.runner.pool.submit(self.runner.alone, edit))
-        return waiting
+        self.by_goal.difference_update(over)
+        return over, waiting
 
     def round(self, edits, fills):
         """What a round says of each edit, and the rounds to try instead where the front end does not take all together."""
-        copy = copies.copy_of(edits, self.is_source, self.by_goal)
+        by_goal = self.by_goal.intersection(edits)
+        copy = copies.copy_of(edits, self.is_source, by_goal)
         said = self.runner.checks.check(copy, self.work, fills)
         if len(edits) > 1 and not verdicts.is_taken(said):
             return [], [edits[::2], edits[1::2]]
@@ -117,7 +121,7 @@ class Rounds:
 
     def judged(self, edit, judges, said, is_by_itself):
         own = verdicts.said_of(edit.crate, said)
-        if self.by_goal:
+        if edit in self.by_goal:
             return verdicts.judged_by_goal(edit, judges[0], own)
         if self.runner.names:
             naming.write_goal(edit, judges, own)
@@ -195,12 +199,10 @@ class Runner:
         return as_source, self.pool.submit(self.checks.check, copy, *given).result()
 
     def try_in_rounds(self, left, work, most, has_work, is_source=True):
-        """Tries edits in rounds: first those whose files name a goal, each by that goal alone, and then all that are left, by all
-        goals. Where no check has left its work for them, the first round does."""
-        named = [edit for edit in left if self.by_goal and edit.names_a_goal]
-        over = Rounds(self, work, most, is_source, by_goal=True).run(named, has_work)
-        left = [*(edit for edit in left if edit not in named), *over]
-        Rounds(self, work, most, is_source, by_goal=False).run(left, has_work or bool(named))
+        """Tries edits in rounds, each by the goal that its file names, or by all goals where that does not refuse it or it names
+        none. Where no check has left its work for them, the first round does."""
+        by_goal = (edit for edit in left if self.by_goal and edit.names_a_goal)
+        Rounds(self, work, most, is_source, by_goal).run(left, has_work)
 
     def alone(self, edit):
         """Tries an edit by a check of the whole crate, from nothing, and tells of it."""
