@@ -30,6 +30,12 @@ class Counts:
         return 1 if self.failed else 0
 
 
+def arguments(crate):
+    """The words that the program of a crate is given with its stored input: the lines of its file args, if it has one."""
+    stored = crate / "args"
+    return stored.read_text().splitlines() if stored.is_file() else []
+
+
 def built(name):
     """The program of a crate, or None where it cannot be built. Its time is that of the start, as under ./bits, so a source
     that is edited meanwhile is newer."""
@@ -38,7 +44,8 @@ def built(name):
     sources = [TOP / "crates.txt", *(it for part in ("src", "specs", "proofs") for it in TOP.glob(f"crates/*/{part}/**/*.*"))]
     if not program.exists() or max(it.stat().st_mtime for it in sources) > program.stat().st_mtime:
         with open(text if text.exists() else os.devnull, "rb") as given:
-            made = subprocess.run(["rt", "run"], cwd=crate, stdin=given, stdout=subprocess.PIPE, stderr=subprocess.STDOUT)
+            words = ["rt", "run", "--", *arguments(crate)]
+            made = subprocess.run(words, cwd=crate, stdin=given, stdout=subprocess.PIPE, stderr=subprocess.STDOUT)
         if made.returncode != 0:
             sys.stdout.buffer.write(made.stdout[-3000:])
             return None

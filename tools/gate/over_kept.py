@@ -15,6 +15,7 @@ import subprocess
 
 import kept
 from plan import below
+from running import arguments
 
 # What a program is run on, and what it has to answer, as the kit has it.
 SECONDS = 120
@@ -155,7 +156,7 @@ class Trees:
         """Builds a program by each of the kit's compilers, and has it answer what is stored."""
         program = folder / "out" / name
         for words, to in ((["--backend", "rattle"], f"{name}.by-rattle"), ([], name)):
-            is_well, said = rt(folder, "run", *words)
+            is_well, said = rt(folder, "run", *words, "--", *arguments(folder))
             if not is_well:
                 return False, said
             if to != name:
@@ -187,8 +188,7 @@ def status_of(folder, words):
 def answers(folder, program):
     """Whether a program writes what is stored beside its crate, and ends as it should."""
     stored = {it: (folder / it).read_bytes() for it in ("stdin", "stdout") if (folder / it).is_file()}
-    args = (folder / "args").read_text().splitlines() if (folder / "args").is_file() else []
     with contextlib.suppress(subprocess.TimeoutExpired):
-        ran = subprocess.run([program, *args], input=stored.get("stdin", b""), stdout=subprocess.PIPE, timeout=SECONDS)
+        ran = subprocess.run([program, *arguments(folder)], input=stored.get("stdin", b""), stdout=subprocess.PIPE, timeout=SECONDS)
         return ran.stdout == stored.get("stdout", b"") and ran.returncode == status_of(folder, ["run"])
     return False
