@@ -126,16 +126,14 @@ class Plan:
         script = ("bits", "tools/launch/build.sh", "tools/launch/refusals", "tools/calls.py")
         bits = (*self.sources("bits"), *script, "docs/COMMANDS.md", "examples", f"{SCRIPTS}/programs", f"{SCRIPTS}/report.sh")
         shared = ("tools/calls.py", "tools/running.py", "tools/fuzz", "tools/memory")
-        uses = [it for it in self.names if it.startswith("use_") and it != "use_text"]
-        stored = [f"crates/{it}/{part}" for it in uses for part in ("cases", "wrong", "stdin", "stdout")]
-        stored = [it for it in stored if (self.top / it).exists()]
+        uses = ("use", "tools/launch/build.sh", *(f"crates/uses/{it}" for it in ("examples", "cases", "wrong", "stdin", "args")))
         commands = ("tools/docs/check_commands",)
         refusals = self.sources("test_refusals", "bits")
         stages = [
             (["bits"], Stage("programs", (f"{SCRIPTS}/programs",), bits, ("cc",))),
             (["bits"], Stage("examples of docs/COMMANDS.md", ("tools/docs/check_commands",), (*bits, *commands))),
             (["bits"], Stage("lines with one byte changed", ("tools/fuzz/lines",), (*bits, *commands, *shared))),
-            (uses, Stage("input of the uses", ("tools/fuzz/uses", *uses), (*self.sources(*uses), *stored, *shared))),
+            (["uses"], Stage("input of the uses", ("tools/fuzz/uses",), (*self.sources("uses"), *uses, *shared))),
             (["test_refusals"], Stage("memory refused", ("tools/memory/sweep",), (*refusals, "examples", "docs/COMMANDS.md", *shared))),
         ]
         return [stage for names, stage in stages if self.has(*names)]

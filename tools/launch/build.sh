@@ -1,6 +1,7 @@
 # Builds a program of this repository, by the kit that README names: what ./bits and ./use share.
-# Whoever reads this file has set top, the repository's folder, and crate, the program's name.
+# Whoever reads this file has set top, the repository's folder, and crate, the program's name; arguments are those of the program.
 program=$top/crates/$crate/out/$crate
+arguments=()
 
 refuse() {
   echo "$crate: $1" >&2
@@ -75,19 +76,22 @@ try() {
   tell "nothing is proved in this run: the program is compiled with checks, which takes half a minute each time"
   cd "$top/crates/$crate"
   exec {said}> >(awk '!/^(interpreter: ended|checked: ended|run=ended) status=/ { print; fflush() }' >&2)
-  rt try 2>&"$said" || status=$?
+  rt try -- "${arguments[@]}" 2>&"$said" || status=$?
   exec {said}>&-
   wait "$!"
   return "$status"
 }
 
-# prove CRATE TEXT: proves a crate over those below it, and builds the program where the crate is its own. TEXT says which
-# of the crates it is.
+# prove CRATE TEXT: proves a crate over those below it, and builds the program where the crate is its own, which is run on
+# what is stored for it. TEXT says which of the crates it is.
 prove() {
-  local began=$SECONDS call=lib given=/dev/null
-  if [ "$1" = "$crate" ]; then call=run given=stdin; fi
+  local began=$SECONDS call=(lib) given=/dev/null args=$top/crates/$crate/args stored=()
+  if [ "$1" = "$crate" ]; then
+    if [ -e "$args" ]; then mapfile -t stored <"$args"; fi
+    call=(run -- "${stored[@]}") given=stdin
+  fi
   tell "$2, begins"
-  (cd "$top/crates/$1" && rt "$call" <"$given" 2>&1) | tee -a "$log" | progress "$2" || return
+  (cd "$top/crates/$1" && rt "${call[@]}" <"$given" 2>&1) | tee -a "$log" | progress "$2" || return
   if [ "$1" != "$crate" ]; then tell "$2, is proved, after $((SECONDS - began)) seconds"; fi
 }
 

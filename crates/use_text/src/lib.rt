@@ -1,5 +1,5 @@
 //! Rows of numbers in a text, sets of such numbers, and how a program reads its input and ends:
-//! what the programs `use_..` share.
+//! what the worked uses share.
 //!
 //! Each line of the text is a row. Its words stand between spaces, and each of them has to be a
 //! number: one or more decimal digits and nothing else, of a value below 2 ^ 64

@@ -1,8 +1,0 @@
-use Rattle.use_access.proofs.Granted.{none_at_first, sized_at_first}
-use Rattle.use_access.proofs.policies.Policy.new.Goals as goal
-
-pub invariant_of-result : goal.invariant_of-result
-invariant_of-result c = sized_at_first c.args.rights c.loop.sets.items c.loop.invariant.blank
-
-pub returns-clause-none : goal.returns-clause-none
-returns-clause-none c = none_at_first c.args.rights c.loop.sets.items c.loop.invariant.blank

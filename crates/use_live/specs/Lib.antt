@@ -1,2 +1,0 @@
-pub mod Live
-pub mod Lines

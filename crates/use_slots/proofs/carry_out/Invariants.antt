@@ -1,7 +1,0 @@
-use Rattle.std.proofs.Common.{take}
-use Rattle.use_text.specs.Faults.{AreAll}
-use Rattle.use_slots.specs.Commands.{IsCommand}
-use Rattle.use_slots.proofs.carry_out.Given as goal
-
-abbrev pub invariant-loop-row : goal.invariant-loop-row
-invariant-loop-row l = AreAll IsCommand (take l.row-index l.rows)

@@ -1,0 +1,10 @@
+use Rattle.std.proofs.Common.{[], ◌∷◌, refl, arith}
+use Rattle.use_text.specs.FaultFacts.{other_row}
+use Rattle.use_text.specs.Sets.{AreBelow}
+use Rattle.uses.proofs.subsets.states_of.Goals as goal
+
+pub returns-in_default-clause-fault : goal.returns-in_default-clause-fault
+returns-in_default-clause-fault c =
+    let row = c.args.row.now in
+    other_row (AreBelow c.args.states) (row ∷ []) 0 row (omega arith) refl (λ k d within. absurd (omega arith))
+    (rw c.in_default.is at (rw c.deref.ensures.value at c.in_ok-set.ensures))

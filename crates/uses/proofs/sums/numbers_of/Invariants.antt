@@ -1,0 +1,7 @@
+use Rattle.std.proofs.Common.{◌≡◌, take}
+use Rattle.std.specs.List.{flat_map}
+use Rattle.use_text.specs.declared.Row.{Row}
+use Rattle.uses.proofs.sums.numbers_of.Given as goal
+
+abbrev pub invariant-loop-row : goal.invariant-loop-row
+invariant-loop-row l = l.numbers.items ≡ flat_map (λ (row : Row). row.numbers.items) (take l.row-index l.rows)

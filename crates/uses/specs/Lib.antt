@@ -1,0 +1,22 @@
+-- access
+pub mod Policies
+pub mod AccessLines
+-- closure
+pub mod Edges
+-- live
+pub mod Live
+pub mod Variables
+-- primes
+pub mod Primes
+-- reach
+pub mod Reach
+-- slots
+pub mod Pool
+pub mod Runs
+pub mod Commands
+-- subsets
+pub mod Automata
+pub mod Subsets
+pub mod AutomatonEdges
+-- sums
+pub mod Sums

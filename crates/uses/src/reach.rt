@@ -1,0 +1,68 @@
+//! Reads a graph from standard input, and prints the nodes that a walk from its
+//! start reaches, one a line.
+//!
+//! The first line is the start. The next is the row of node 0: the nodes that an edge from it leads
+//! to; and so on, a row for each node. Where some line is not as said here, or names a node that
+//! there is not, nothing is answered but one sentence on standard error with the number of that
+//! line, and the status is 1.
+
+ghost use Rattle.std.specs.Prelude.{◌≡◌, IfOk, IfErr, map, length};
+ghost use Rattle.use_text.specs.Faults.{IsFaultOfRow};
+ghost use Rattle.uses.specs.Reach.{IsGraph, AreNodes};
+
+use fixedbitset::Steps;
+use std::alloc::Global;
+use std::fmt::Write;
+use use_text::{Fault, Row, Wrong};
+use walk::{are_nodes, is_graph, reachable};
+
+mod walk;
+
+/// What is printed for this text.
+pub(crate) fn answers(alloc: Global, text: &str) -> Result<String, Fault> {
+    let rows = use_text::rows(alloc, text)?;
+    let Some((first, others)) = rows.split_first() else {
+        return Err(Fault::Line(1, Wrong::Form("the start is missing")));
+    };
+    let start = match *first.numbers.as_slice() {
+        [start] if start < others.len() => start,
+        [start] => {
+            let wrong = Wrong::NotBelow("the start", start, others.len());
+            return Err(Fault::Line(first.line, wrong));
+        }
+        _ => return Err(Fault::Line(first.line, Wrong::Form("the start has to be one number"))),
+    };
+    let graph = graph_of(alloc, others)?;
+    prove!(is_graph(&graph));
+    let reached = reachable(alloc, &graph, start, &mut Steps::new(), &mut Steps::new())?;
+    let mut answer = String::new(alloc);
+    for node in reached.ones() {
+        writeln!(answer, "{node}")?;
+    }
+    Ok(answer)
+}
+
+// The graph that has these rows. The fault has the first row with an edge to no node.
+fn graph_of(alloc: Global, rows: &[Row]) -> Result<Vec<Vec<usize>>, Fault>
+    ensures graph { IfOk result (λ graph. IsGraph graph.items) }
+    ensures rows { IfOk result (λ graph.
+        map (λ row. row.items) graph.items ≡ map (λ row. row.numbers.items) rows.now) }
+    ensures fault { IfErr result (IsFaultOfRow (AreNodes (length rows.now)) rows.now) }
+{
+    let mut graph = Vec::new(alloc);
+    for row in rows {
+        if !are_nodes(&row.numbers, rows.len()) {
+            return Err(Fault::Line(row.line, wrong_row(&row.numbers, rows.len())));
+        }
+        graph.push(row.numbers.to_vec(alloc)?)?;
+    }
+    Ok(graph)
+}
+
+// What is wrong with a row that has an edge to no node: the first such.
+fn wrong_row(numbers: &[usize], nodes: usize) -> Wrong {
+    match numbers.iter().find(|node| **node >= nodes) {
+        Some(node) => Wrong::NotBelow("the node", *node, nodes),
+        None => Wrong::Form("each edge has to lead to a node"),
+    }
+}

@@ -1,0 +1,123 @@
+//! Takes slots and gives them back, as lines of standard input say, and prints an
+//! answer for each of them.
+//!
+//! The first line is how many slots there are, at most 1,000,000. A line without a number takes a
+//! slot, and the answer is the slot or `full`. A line with a number gives that slot back, and the
+//! answer is `ok`, or `free` where it was not taken. A line of two numbers takes a stretch: as many
+//! slots as the first says, one behind the other, from the least start at or past the second where
+//! all of them are free. The answer is that start, or `full`. A third number is the end: where the
+//! stretch goes past it, nothing is taken, and the answer is `full`. Each slot of a stretch is
+//! given back by a line of its own.
+//!
+//! At the end what is in the slots moves to the front, the least slot first, with a line like `5 to
+//! 0` for each that moves. The last line is how many slots are free then, and the two least of them
+//! where there are two, as in `4 free: 5 6`.
+//!
+//! Where some line is not as said here, nothing is answered but one sentence on standard error with
+//! the number of that line, and the status is 1.
+
+ghost use Rattle.std.specs.Prelude.{◌+◌, ◌≤◌, OnOk, IfErr, IfSome};
+ghost use Rattle.use_text.specs.Faults.{AreAll, IsFaultOfRow};
+ghost use Rattle.uses.specs.Commands.{IsCommand};
+ghost use Rattle.uses.specs.Pool.{IsTakenStretch};
+
+use pool::{Slots, never_twice, take_two};
+use std::alloc::{AllocError, Global};
+use std::fmt::Write;
+use use_text::{Fault, Row, Wrong};
+
+mod pool;
+
+// How many slots there may be.
+const LIMIT: usize = 1_000_000;
+
+/// What is printed for this text.
+pub(crate) fn answers(alloc: Global, text: &str) -> Result<String, Fault> {
+    let rows = use_text::rows(alloc, text)?;
+    let Some((first, others)) = rows.split_first() else {
+        return Err(Fault::Line(1, Wrong::Form("the number of slots is missing")));
+    };
+    let many = match *first.numbers.as_slice() {
+        [many @ 0..=LIMIT] => many,
+        [many] => {
+            let wrong = Wrong::Above("the number of slots", many, LIMIT);
+            return Err(Fault::Line(first.line, wrong));
+        }
+        _ => {
+            let wanted = "the number of slots has to be one number";
+            return Err(Fault::Line(first.line, Wrong::Form(wanted)));
+        }
+    };
+    let mut slots = Slots::new(alloc, many)?;
+    // A law of the calls that the lines make. It does nothing.
+    never_twice();
+    let mut answers = carry_out(alloc, &mut slots, others)?;
+    move_to_front(&mut slots, many, &mut answers)?;
+    Ok(answers)
+}
+
+// Carries out the command of each row, and answers a line for each. The fault has the first
+// row that is no command.
+fn carry_out(alloc: Global, slots: &mut Slots, rows: &[Row]) -> Result<String, Fault>
+    ensures each { OnOk result (AreAll IsCommand rows.now) }
+    ensures fault { IfErr result (IsFaultOfRow IsCommand rows.now) }
+{
+    let mut answers = String::new(alloc);
+    for row in rows {
+        match *row.numbers.as_slice() {
+            [] => match slots.take() {
+                Some(slot) => writeln!(answers, "{slot}")?,
+                None => answers.push_str("full\n")?,
+            },
+            [slot] if slots.is_taken(slot) => {
+                slots.give_back(slot);
+                answers.push_str("ok\n")?;
+            }
+            [_] => answers.push_str("free\n")?,
+            [count, from] => match slots.take_stretch(count, from) {
+                Some(start) => writeln!(answers, "{start}")?,
+                None => answers.push_str("full\n")?,
+            },
+            [count, from, end] => match take_before(slots, count, from, end) {
+                Some(start) => writeln!(answers, "{start}")?,
+                None => answers.push_str("full\n")?,
+            },
+            _ => {
+                let wanted = "a command has to be three numbers at most";
+                return Err(Fault::Line(row.line, Wrong::Form(wanted)));
+            }
+        }
+    }
+    Ok(answers)
+}
+
+// Takes the stretch that `take_stretch` takes, if it does not go past `end`.
+fn take_before(slots: &mut Slots, count: usize, from: usize, end: usize) -> Option<usize>
+    ensures { IfSome result (λ start.
+        IsTakenStretch slots.new count start × (start + count ≤ end)) }
+{
+    let start = slots.take_stretch(count, from)?;
+    if end < start || end - start < count {
+        slots.give_back_stretch(start, count);
+        return None;
+    }
+    Some(start)
+}
+
+// Moves what is in the slots to the front, and adds the lines that say so and what is free then.
+fn move_to_front(slots: &mut Slots, many: usize, answers: &mut String) -> Result<(), AllocError> {
+    for slot in 0..many {
+        if slots.is_taken(slot) {
+            let front = slots.lower(slot);
+            if front < slot {
+                writeln!(answers, "{slot} to {front}")?;
+            }
+        }
+    }
+    write!(answers, "{} free", slots.free())?;
+    if let Some((first, second)) = take_two(slots) {
+        write!(answers, ": {first} {second}")?;
+    }
+    answers.push_str("\n")?;
+    Ok(())
+}
