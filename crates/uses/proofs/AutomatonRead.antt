@@ -1,7 +1,7 @@
 -- Edges read one after the other.
 use Rattle.std.proofs.Common.{◌≡◌, ◌∙◌, ℕ, ◌+◌, ◌<◌, List, [], ◌∷◌, ◌++◌, length, get_or, map, take, sym, ap}
 use Rattle.std.proofs.lemmas.List.{map-append, take_more}
-use Rattle.use_text.specs.declared.Row.{Row}
+use Rattle.uses.specs.declared.text.Row.{Row}
 use Rattle.uses.specs.Automata.{Edges}
 
 -- the edges are those of the rows, one each

@@ -3,7 +3,7 @@ use Rattle.std.proofs.Common.{◌≡◌, ◌∙◌, ℕ, ◌+◌, ◌<◌, ◌�
 use Rattle.std.proofs.Common.{length, get_or, map, take, Contains, sym, ap, subst, ⊎_elim}
 use Rattle.std.proofs.lemmas.List.{map-append, take_more}
 use Rattle.std.proofs.lemmas.List.Elements.{Contains-push, Contains-push_cases, Contains-append_left}
-use Rattle.use_text.specs.declared.Row.{Row}
+use Rattle.uses.specs.declared.text.Row.{Row}
 use Rattle.uses.specs.Policies.{Rights, IsGranted, IsRevoked}
 use Rattle.uses.specs.AccessLines.{HasGrants, IsWithout}
 

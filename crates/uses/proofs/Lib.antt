@@ -25,3 +25,6 @@ pub mod WordRuns
 pub mod AutomatonRead
 -- sums
 pub mod Totals
+-- text
+pub mod Read
+pub mod Members

@@ -3,8 +3,8 @@ use Rattle.std.proofs.Common.{◌≡◌, ◌∙◌, ℕ, ◌+◌, ◌<◌, List,
 use Rattle.std.proofs.Common.{length, get_or, map, take, sym, ap, subst, arith}
 use Rattle.std.specs.declared.alloc.Global.{Global}
 use Rattle.std.proofs.lemmas.List.{map-append, length-map, get_or-map, take_more}
-use Rattle.use_text.specs.declared.Row.{Row}
-use Rattle.use_text.specs.Faults.{AreAll}
+use Rattle.uses.specs.declared.text.Row.{Row}
+use Rattle.uses.specs.Faults.{AreAll}
 use Rattle.uses.specs.Reach.{Graph, AreNodes, IsGraph}
 
 -- the rows of the graph are those of the text

@@ -1,6 +1,6 @@
 -- What the lines of the two policies, of what is denied and of the questions say.
 use Rattle.std.specs.Prelude.{◌≡◌, ℕ, ◌<◌, ◌↔◌, List, [], ◌∷◌, All, Contains, length, map, slice_index}
-use Rattle.use_text.specs.declared.Row.{Row}
+use Rattle.uses.specs.declared.text.Row.{Row}
 use Rattle.uses.specs.declared.access.Answer.{Answer}
 use Rattle.uses.specs.declared.access.Answer.TheVariants.{Allowed, Lacking, Unknown}
 use Rattle.uses.specs.Policies.{Rights, Has, IsLeastMissing}

@@ -1,7 +1,7 @@
 -- Which edges the rows are, and pairs of nodes in order.
 use Rattle.std.specs.Prelude.{◌≡◌, ℕ, ◌<◌, ◌⊎◌, List, [], ◌∷◌, Contains, length, map, slice_index}
 use Rattle.std.specs.List.{flat_map, range_with_len}
-use Rattle.use_text.specs.declared.Row.{Row}
+use Rattle.uses.specs.declared.text.Row.{Row}
 use Rattle.fixedbitset.specs.Bits.{asc}
 use Rattle.bitrows.specs.Tables.{Table, row_of}
 

@@ -20,3 +20,8 @@ pub mod Subsets
 pub mod AutomatonEdges
 -- sums
 pub mod Sums
+-- text
+pub mod Rows
+pub mod Faults
+pub mod Sets
+pub mod FaultFacts

@@ -12,15 +12,15 @@
 //! error with the number of that line, and the status is 1.
 
 ghost use Rattle.std.specs.Prelude.{◌≡◌, ◌∷◌, [], MatchOption, IfOk, IfErr, OnOk, length};
-ghost use Rattle.use_text.specs.Faults.{AreAll, IsFaultOfRow};
+ghost use Rattle.uses.specs.Faults.{AreAll, IsFaultOfRow};
 ghost use Rattle.uses.specs.AccessLines.{IsGrant, IsQuestion, HasGrants, IsWithout, IsAnswer};
 ghost use Rattle.uses.specs.Policies.{HaveSameSize};
 
+use crate::text::sets::set_of;
+use crate::text::{Fault, Row, Wrong};
 use policies::Policy;
 use std::alloc::{AllocError, Global};
 use std::fmt::Write;
-use use_text::sets::set_of;
-use use_text::{Fault, Row, Wrong};
 
 mod policies;
 
@@ -29,7 +29,7 @@ const LIMIT: usize = 10_000;
 
 /// What is printed for this text.
 pub(crate) fn answers(alloc: Global, text: &str) -> Result<String, Fault> {
-    let rows = use_text::rows(alloc, text)?;
+    let rows = crate::text::rows(alloc, text)?;
     let Some((size, others)) = rows.split_first() else {
         let wanted = "the numbers of roles and rights are missing";
         return Err(Fault::Line(1, Wrong::Form(wanted)));

@@ -6,10 +6,10 @@
 //! line is not as said here, or names a node that there is not, nothing is answered but one
 //! sentence on standard error with the number of that line, and the status is 1.
 
+use crate::text::{Fault, Wrong};
 use graph::closure;
 use std::alloc::Global;
 use std::fmt::Write;
-use use_text::{Fault, Wrong};
 
 mod graph;
 
@@ -18,7 +18,7 @@ const LIMIT: usize = 10_000;
 
 /// What is printed for this text.
 pub(crate) fn answers(alloc: Global, text: &str) -> Result<String, Fault> {
-    let rows = use_text::rows(alloc, text)?;
+    let rows = crate::text::rows(alloc, text)?;
     let Some((first, edges)) = rows.split_first() else {
         return Err(Fault::Line(1, Wrong::Form("the number of nodes is missing")));
     };

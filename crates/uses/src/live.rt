@@ -12,10 +12,10 @@ ghost use Rattle.fixedbitset.specs.Bits.{contains};
 ghost use Rattle.flow.specs.Flow.{IsProblem};
 ghost use Rattle.uses.specs.Variables.{AreLetters, AreVariables};
 
+use crate::text::{Fault, Wrong, numbers_of};
 use fixedbitset::FixedBitSet;
 use std::alloc::{AllocError, Global};
 use std::fmt::Write;
-use use_text::{Fault, Wrong, numbers_of};
 use variables::live_before;
 
 mod variables;

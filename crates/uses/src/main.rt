@@ -5,13 +5,13 @@
 //! nothing is written but one sentence on standard error with the names, and the status is 2.
 #![tactic(auto)]
 
+use crate::text::Fault;
+use crate::text::program::{finish, read};
 use std::alloc::Global;
 use std::env::Args;
 use std::io::ErrorKind;
 use std::process::ExitCode;
 use std::{env, io};
-use use_text::Fault;
-use use_text::program::{finish, read};
 
 mod access;
 mod closure;
@@ -21,6 +21,7 @@ mod reach;
 mod slots;
 mod subsets;
 mod sums;
+mod text;
 
 /// What an argument may name.
 #[derive(Clone, Copy, PartialEq, Eq, Debug)]

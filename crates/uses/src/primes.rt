@@ -4,16 +4,16 @@
 //! here, nothing is answered but one sentence on standard error with the number of the
 //! line, and the status is 1.
 
+use crate::text::{Fault, Wrong};
 use sieve::{LIMIT, primes};
 use std::alloc::Global;
 use std::fmt::Write;
-use use_text::{Fault, Wrong};
 
 mod sieve;
 
 /// What is printed for this text.
 pub(crate) fn answers(alloc: Global, text: &str) -> Result<String, Fault> {
-    let rows = use_text::rows(alloc, text)?;
+    let rows = crate::text::rows(alloc, text)?;
     let Some((first, others)) = rows.split_first() else {
         return Err(Fault::Line(1, Wrong::Form("the number is missing")));
     };

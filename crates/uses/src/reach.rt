@@ -7,20 +7,20 @@
 //! line, and the status is 1.
 
 ghost use Rattle.std.specs.Prelude.{◌≡◌, IfOk, IfErr, map, length};
-ghost use Rattle.use_text.specs.Faults.{IsFaultOfRow};
+ghost use Rattle.uses.specs.Faults.{IsFaultOfRow};
 ghost use Rattle.uses.specs.Reach.{IsGraph, AreNodes};
 
+use crate::text::{Fault, Row, Wrong};
 use fixedbitset::Steps;
 use std::alloc::Global;
 use std::fmt::Write;
-use use_text::{Fault, Row, Wrong};
 use walk::{are_nodes, is_graph, reachable};
 
 mod walk;
 
 /// What is printed for this text.
 pub(crate) fn answers(alloc: Global, text: &str) -> Result<String, Fault> {
-    let rows = use_text::rows(alloc, text)?;
+    let rows = crate::text::rows(alloc, text)?;
     let Some((first, others)) = rows.split_first() else {
         return Err(Fault::Line(1, Wrong::Form("the start is missing")));
     };

@@ -17,14 +17,14 @@
 //! the number of that line, and the status is 1.
 
 ghost use Rattle.std.specs.Prelude.{◌+◌, ◌≤◌, OnOk, IfErr, IfSome};
-ghost use Rattle.use_text.specs.Faults.{AreAll, IsFaultOfRow};
+ghost use Rattle.uses.specs.Faults.{AreAll, IsFaultOfRow};
 ghost use Rattle.uses.specs.Commands.{IsCommand};
 ghost use Rattle.uses.specs.Pool.{IsTakenStretch};
 
+use crate::text::{Fault, Row, Wrong};
 use pool::{Slots, never_twice, take_two};
 use std::alloc::{AllocError, Global};
 use std::fmt::Write;
-use use_text::{Fault, Row, Wrong};
 
 mod pool;
 
@@ -33,7 +33,7 @@ const LIMIT: usize = 1_000_000;
 
 /// What is printed for this text.
 pub(crate) fn answers(alloc: Global, text: &str) -> Result<String, Fault> {
-    let rows = use_text::rows(alloc, text)?;
+    let rows = crate::text::rows(alloc, text)?;
     let Some((first, others)) = rows.split_first() else {
         return Err(Fault::Line(1, Wrong::Form("the number of slots is missing")));
     };

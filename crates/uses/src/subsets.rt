@@ -16,18 +16,18 @@
 //! the status is 1. An automaton that would have too many states is a fault of its first line.
 
 ghost use Rattle.std.specs.Prelude.{◌≡◌, [], ◌∷◌, MatchOption, IfOk, IfErr, All, map};
-ghost use Rattle.use_text.specs.Faults.{IsFaultOfRow};
-ghost use Rattle.use_text.specs.Sets.{AreBelow, IsSetOf};
+ghost use Rattle.uses.specs.Faults.{IsFaultOfRow};
+ghost use Rattle.uses.specs.Sets.{AreBelow, IsSetOf};
 ghost use Rattle.uses.specs.Automata.{IsDfa};
 ghost use Rattle.uses.specs.AutomatonEdges.{IsEdge, IsBetween};
 
+use crate::text::sets::set_of;
+use crate::text::{Fault, Row, Wrong};
 use automata::{Dfa, Edge, Nfa};
 use construction::determinize;
 use fixedbitset::FixedBitSet;
 use std::alloc::{AllocError, Global};
 use std::fmt::Write;
-use use_text::sets::set_of;
-use use_text::{Fault, Row, Wrong};
 
 mod automata;
 mod construction;
@@ -39,7 +39,7 @@ const LETTERS: usize = 100;
 
 /// What is printed for this text.
 pub(crate) fn answers(alloc: Global, text: &str) -> Result<String, Fault> {
-    let rows = use_text::rows(alloc, text)?;
+    let rows = crate::text::rows(alloc, text)?;
     let [size, start, accepting, others @ ..] = rows.as_slice() else {
         return Err(Fault::Line(rows.len() + 1, Wrong::Form("a line is missing")));
     };

@@ -8,10 +8,10 @@
 ghost use Rattle.std.specs.Prelude.{◌≡◌, IfOk};
 ghost use Rattle.std.specs.List.{flat_map};
 
+use crate::text::{Fault, Row, Wrong};
 use parts::totals;
 use std::alloc::{AllocError, Global};
 use std::fmt::Write;
-use use_text::{Fault, Row, Wrong};
 
 mod parts;
 
@@ -20,7 +20,7 @@ const LIMIT: usize = 10_000_000;
 
 /// What is printed for this text.
 pub(crate) fn answers(alloc: Global, text: &str) -> Result<String, Fault> {
-    let rows = use_text::rows(alloc, text)?;
+    let rows = crate::text::rows(alloc, text)?;
     let Some((first, others)) = rows.split_first() else {
         return Err(Fault::Line(1, Wrong::Form("the limit is missing")));
     };

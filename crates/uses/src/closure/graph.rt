@@ -9,14 +9,14 @@
 ghost use Rattle.std.specs.Prelude.{◌≡◌, ◌∷◌, [], ◌↔◌, ℕ, MatchOption, Contains};
 ghost use Rattle.std.specs.Prelude.{IfOk, IfErr, OnOk, IsTrue, length};
 ghost use Rattle.std.specs.List.{AllPairs};
-ghost use Rattle.use_text.specs.Faults.{AreAll, IsFaultOfRow};
+ghost use Rattle.uses.specs.Faults.{AreAll, IsFaultOfRow};
 ghost use Rattle.bitrows.specs.Tables.{has};
 ghost use Rattle.bitrows.specs.Paths.{IsConnected};
 ghost use Rattle.uses.specs.Edges.{IsEdge, HasEdge, IsBefore, pairs_in};
 
+use crate::text::{Fault, Row, Wrong};
 use bitrows::BitRows;
 use std::alloc::{AllocError, Global};
-use use_text::{Fault, Row, Wrong};
 
 /// The pairs of nodes that a path of one or more of these edges joins.
 ///

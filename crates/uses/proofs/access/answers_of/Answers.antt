@@ -1,5 +1,5 @@
 use Rattle.std.proofs.Common.{rules, ◌≡◌, length, ap, arith}
-use Rattle.use_text.specs.FaultFacts.{row_more, each_row, other_row}
+use Rattle.uses.specs.FaultFacts.{row_more, each_row, other_row}
 use Rattle.uses.specs.AccessLines.{IsQuestion}
 use Rattle.uses.proofs.access.answers_of.Goals as goal
 

@@ -1,5 +1,5 @@
 use Rattle.std.proofs.Common.{take}
-use Rattle.use_text.specs.Faults.{AreAll}
+use Rattle.uses.specs.Faults.{AreAll}
 use Rattle.uses.specs.AccessLines.{IsQuestion}
 use Rattle.uses.proofs.access.answers_of.Given as goal
 

@@ -1,5 +1,5 @@
 use Rattle.std.proofs.Common.{◌∙◌, length}
-use Rattle.use_text.specs.FaultFacts.{row_more, each_row, other_row}
+use Rattle.uses.specs.FaultFacts.{row_more, each_row, other_row}
 use Rattle.uses.specs.AccessLines.{IsGrant}
 use Rattle.uses.proofs.GrantsRead.{denials_more}
 use Rattle.uses.proofs.access.deny.Goals as goal

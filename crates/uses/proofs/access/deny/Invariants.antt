@@ -1,5 +1,5 @@
 use Rattle.std.proofs.Common.{length, take}
-use Rattle.use_text.specs.Faults.{AreAll}
+use Rattle.uses.specs.Faults.{AreAll}
 use Rattle.uses.specs.AccessLines.{IsGrant, IsWithout}
 use Rattle.uses.specs.Policies.{HaveSameSize}
 use Rattle.uses.proofs.access.deny.Given as goal

@@ -1,5 +1,5 @@
 use Rattle.std.proofs.Common.{◌∙◌}
-use Rattle.use_text.specs.FaultFacts.{row_more, each_row, other_row}
+use Rattle.uses.specs.FaultFacts.{row_more, each_row, other_row}
 use Rattle.uses.specs.AccessLines.{IsGrant}
 use Rattle.uses.proofs.GrantsRead.{grants_more}
 use Rattle.uses.proofs.access.policy_of.Goals as goal

@@ -1,5 +1,5 @@
 use Rattle.std.proofs.Common.{◌≡◌, length, take}
-use Rattle.use_text.specs.Faults.{AreAll}
+use Rattle.uses.specs.Faults.{AreAll}
 use Rattle.uses.specs.AccessLines.{IsGrant, HasGrants}
 use Rattle.uses.proofs.access.policy_of.Given as goal
 

@@ -1,7 +1,7 @@
 use Rattle.std.proofs.Common.{rules, ◌∙◌, length, sym, subst}
 use Rattle.std.proofs.lemmas.List.{take_all}
 use Rattle.std.proofs.lemmas.Bool.{true≢false}
-use Rattle.use_text.specs.FaultFacts.{row_more, each_row, other_row}
+use Rattle.uses.specs.FaultFacts.{row_more, each_row, other_row}
 use Rattle.uses.specs.Reach.{AreNodes}
 use Rattle.uses.proofs.RowsRead.{HasRows, has_rows_more, is_graph}
 use Rattle.uses.proofs.reach.graph_of.Goals as goal

@@ -1,5 +1,5 @@
 use Rattle.std.proofs.Common.{length, take}
-use Rattle.use_text.specs.Faults.{AreAll}
+use Rattle.uses.specs.Faults.{AreAll}
 use Rattle.uses.specs.Reach.{AreNodes}
 use Rattle.uses.proofs.RowsRead.{HasRows}
 use Rattle.uses.proofs.reach.graph_of.Given as goal

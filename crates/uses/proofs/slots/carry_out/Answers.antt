@@ -1,5 +1,5 @@
 use Rattle.std.proofs.Common.{length, ap, arith}
-use Rattle.use_text.specs.FaultFacts.{row_more, each_row, other_row}
+use Rattle.uses.specs.FaultFacts.{row_more, each_row, other_row}
 use Rattle.uses.specs.Commands.{IsCommand}
 use Rattle.uses.proofs.slots.carry_out.Goals as goal
 use Rattle.uses.proofs.slots.carry_out.Goals.{in-empty+in-Some+in_ok-writeln-in-Some}

@@ -1,5 +1,5 @@
 use Rattle.std.proofs.Common.{take}
-use Rattle.use_text.specs.Faults.{AreAll}
+use Rattle.uses.specs.Faults.{AreAll}
 use Rattle.uses.specs.Commands.{IsCommand}
 use Rattle.uses.proofs.slots.carry_out.Given as goal
 

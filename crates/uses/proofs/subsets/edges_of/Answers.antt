@@ -1,6 +1,6 @@
 use Rattle.std.proofs.Common.{subst, sym, refl}
 use Rattle.std.proofs.lemmas.List.Elements.{All-push}
-use Rattle.use_text.specs.FaultFacts.{row_more, other_row}
+use Rattle.uses.specs.FaultFacts.{row_more, other_row}
 use Rattle.uses.specs.AutomatonEdges.{IsBetween, IsEdge}
 use Rattle.uses.proofs.AutomatonRead.{edges_more}
 use Rattle.uses.proofs.subsets.edges_of.Goals as goal

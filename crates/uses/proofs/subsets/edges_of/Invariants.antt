@@ -1,5 +1,5 @@
 use Rattle.std.proofs.Common.{take, All}
-use Rattle.use_text.specs.Faults.{AreAll}
+use Rattle.uses.specs.Faults.{AreAll}
 use Rattle.uses.specs.AutomatonEdges.{IsBetween, IsEdge}
 use Rattle.uses.proofs.AutomatonRead.{HasEdges}
 use Rattle.uses.proofs.subsets.edges_of.Given as goal

@@ -1,6 +1,6 @@
 use Rattle.std.proofs.Common.{[], ◌∷◌, refl, arith}
-use Rattle.use_text.specs.FaultFacts.{other_row}
-use Rattle.use_text.specs.Sets.{AreBelow}
+use Rattle.uses.specs.FaultFacts.{other_row}
+use Rattle.uses.specs.Sets.{AreBelow}
 use Rattle.uses.proofs.subsets.states_of.Goals as goal
 
 pub returns-in_default-clause-fault : goal.returns-in_default-clause-fault

@@ -1,6 +1,6 @@
 use Rattle.std.proofs.Common.{◌≡◌, take}
 use Rattle.std.specs.List.{flat_map}
-use Rattle.use_text.specs.declared.Row.{Row}
+use Rattle.uses.specs.declared.text.Row.{Row}
 use Rattle.uses.proofs.sums.numbers_of.Given as goal
 
 abbrev pub invariant-loop-row : goal.invariant-loop-row

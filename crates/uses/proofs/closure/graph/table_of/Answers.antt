@@ -3,7 +3,7 @@ use Rattle.std.proofs.Common.{IsTrue, length, sym, ap, subst, arith, ⊎_elim}
 use Rattle.std.specs.Prelude.{All, slice_index}
 use Rattle.std.proofs.lemmas.Bool.{true≢false}
 use Rattle.std.proofs.lemmas.List.{take_all, length-replicate}
-use Rattle.use_text.specs.FaultFacts.{no_row, row_more, each_row, other_row}
+use Rattle.uses.specs.FaultFacts.{no_row, row_more, each_row, other_row}
 use Rattle.fixedbitset.specs.Bits.{Bits, empty}
 use Rattle.bitrows.specs.Tables.{Table, has, blank, set_at}
 use Rattle.bitrows.specs.TableFacts.{has-blank, sized-blank, sized-set_at, length-with_row, in_set}

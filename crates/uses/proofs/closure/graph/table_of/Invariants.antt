@@ -1,6 +1,6 @@
 use Rattle.std.proofs.Common.{◌≡◌, ◌↔◌, IsTrue, ℕ, length, take}
 use Rattle.std.specs.Prelude.{All}
-use Rattle.use_text.specs.Faults.{AreAll}
+use Rattle.uses.specs.Faults.{AreAll}
 use Rattle.fixedbitset.specs.Bits.{Bits}
 use Rattle.bitrows.specs.Tables.{has}
 use Rattle.uses.specs.Edges.{IsEdge, HasEdge}

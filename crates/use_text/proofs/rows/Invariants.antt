@@ -1,6 +1,0 @@
-use Rattle.std.proofs.Common.{map, take}
-use Rattle.use_text.specs.Rows.{AreRowsOf}
-use Rattle.use_text.proofs.rows.Given as goal
-
-abbrev pub invariant-loop-line : goal.invariant-loop-line
-invariant-loop-line l = AreRowsOf (take l.line-index (map (λ x. x.now) l.line-items)) l.rows.items

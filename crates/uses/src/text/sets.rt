@@ -1,0 +1,28 @@
+//! Sets of the numbers of a row.
+
+ghost use Rattle.std.specs.Prelude.{MatchOption, IfOk};
+ghost use Rattle.uses.specs.Sets.{AreBelow, IsSetOf};
+
+use fixedbitset::FixedBitSet;
+use std::alloc::{AllocError, Global};
+
+/// The set of this length that has these positions and no other. `None` comes exactly where some
+/// is not below the length.
+#[tactic(auto, using(crate::proofs::Members::no_members))]
+pub fn set_of(
+    alloc: Global,
+    length: usize,
+    positions: &[usize],
+) -> Result<Option<FixedBitSet>, AllocError>
+    ensures { IfOk result (λ made. MatchOption made (¬ (AreBelow length positions.now))
+        (λ set. AreBelow length positions.now × IsSetOf length positions.now set)) }
+{
+    let mut set = FixedBitSet::with_capacity(alloc, length)?;
+    for position in positions {
+        if *position >= length {
+            return Ok(None);
+        }
+        set.insert(*position);
+    }
+    Ok(Some(set))
+}
