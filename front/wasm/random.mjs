@@ -7,7 +7,11 @@ import { load } from "./bits.mjs";
 /** The answers by plain loops. */
 class Slow {
   constructor(length, positions = []) { [this.length, this.has] = [length, new Set(positions)]; }
-  all(start = 0, end = this.length) { return Array.from({ length: Math.max(end - start, 0) }, (_, at) => start + at); }
+  all(start = 0, end = this.length) {
+    const made = []; // (Array.from takes half of the time of a run)
+    for (let at = start; at < end; at++) made.push(at);
+    return made;
+  }
   ones(start, end) { return this.all(start, end).filter((it) => this.has.has(it)); }
   zeroes(start, end) { return this.all(start, end).filter((it) => !this.has.has(it)); }
   put(position, enabled) { enabled ? this.has.add(position) : this.has.delete(position); }
