@@ -115,7 +115,7 @@ class Plan:
         emulators = (*qemu, "wasm-ld", "node", "cargo", "rustc", "cc", *gcc)
         others = ("front/targets", "front/wrong", "front/wrong_lines", "tools/kept.py")
         targets = Stage("the crate on other targets", ("front/targets",), (*crate, *others), emulators)
-        client = Stage("petgraph over the crate", ("front/client",), (*crate, "front/client"), ("cargo", "rustc", "cc"))
+        client = Stage("petgraph over the crate", ("front/client",), (*crate, "front/client", "front/rustdoc"), ("cargo", "rustc", "cc"))
         glue = ("front/wasm", "front/wrong", "front/wrong_lines", "front/checks.sh", "tools/kept.py")
         made = ("front/archive", "front/compilers", "front/c/bits.h", "front/c/source", "front/rust/src", *library)
         browsers = Stage("sets in a browser and in Node", ("front/wasm/test",), (*glue, *made), ("node", "wasm-ld", "chromium", "python3"))
