@@ -15,7 +15,6 @@ pub mod Walking
 pub mod RowsRead
 -- slots
 pub mod Pools
-pub mod Histories
 -- subsets
 pub mod Steps
 pub mod WordPaths

@@ -12,7 +12,7 @@ pub mod Primes
 pub mod Reach
 -- slots
 pub mod Pool
-pub mod Runs
+pub mod Calls
 pub mod Commands
 -- subsets
 pub mod Automata

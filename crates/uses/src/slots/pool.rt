@@ -15,7 +15,7 @@ ghost use Rattle.fixedbitset.specs.Ranges as ranges;
 ghost use Rattle.uses.specs.Pool.{IsTaken, IsFree, IsLeastFree, IsAnswer};
 ghost use Rattle.uses.specs.Pool.{IsLeft, free_count, taken_count};
 ghost use Rattle.uses.specs.Pool.{IsTakenStretch, IsStretchAnswer, IsStretchLeft};
-ghost use Rattle.uses.specs.Runs.{Call, Runs, Takes, GivesBack};
+ghost use Rattle.uses.specs.Calls.{Call, Runs, Takes, GivesBack};
 
 use bitlaws::laws::{counts_of_range_add_up, first_gap_is_least};
 use fixedbitset::FixedBitSet;
