@@ -28,7 +28,7 @@ mod policies;
 const LIMIT: usize = 10_000;
 
 /// What is printed for this text.
-pub(crate) fn answers(alloc: Global, text: &str) -> Result<String, Fault> {
+pub(crate) fn output(alloc: Global, text: &str) -> Result<String, Fault> {
     let rows = crate::text::rows(alloc, text)?;
     let Some((size, others)) = rows.split_first() else {
         let wanted = "the numbers of roles and rights are missing";

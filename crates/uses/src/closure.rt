@@ -17,7 +17,7 @@ mod graph;
 const LIMIT: usize = 10_000;
 
 /// What is printed for this text.
-pub(crate) fn answers(alloc: Global, text: &str) -> Result<String, Fault> {
+pub(crate) fn output(alloc: Global, text: &str) -> Result<String, Fault> {
     let rows = crate::text::rows(alloc, text)?;
     let Some((first, edges)) = rows.split_first() else {
         return Err(Fault::Line(1, Wrong::Form("the number of nodes is missing")));

@@ -42,7 +42,7 @@ struct Program {
 }
 
 /// What is printed for this text.
-pub(crate) fn answers(alloc: Global, text: &str) -> Result<String, Fault> {
+pub(crate) fn output(alloc: Global, text: &str) -> Result<String, Fault> {
     let Program {
         uses,
         defines,

@@ -44,7 +44,7 @@ fn main(rt: HostRuntime) -> ExitCode {
         Err(fault) => return finish(&rt, &Err(fault), &mut rt.stdout()),
     };
     let text = read(alloc, &mut rt.stdin());
-    let answer = text.and_then(|text| answers(alloc, chosen, text.as_str()));
+    let answer = text.and_then(|text| output(alloc, chosen, text.as_str()));
     finish(&rt, &answer, &mut rt.stdout())
 }
 
@@ -78,16 +78,16 @@ fn named_by(mut words: Args) -> Option<Use> {
 }
 
 // What is printed for this text.
-fn answers(alloc: Global, chosen: Use, text: &str) -> Result<String, Fault> {
+fn output(alloc: Global, chosen: Use, text: &str) -> Result<String, Fault> {
     match chosen {
-        Use::Access => access::answers(alloc, text),
-        Use::Closure => closure::answers(alloc, text),
-        Use::Live => live::answers(alloc, text),
-        Use::Primes => primes::answers(alloc, text),
-        Use::Reach => reach::answers(alloc, text),
-        Use::Slots => slots::answers(alloc, text),
-        Use::Subsets => subsets::answers(alloc, text),
-        Use::Sums => sums::answers(alloc, text),
+        Use::Access => access::output(alloc, text),
+        Use::Closure => closure::output(alloc, text),
+        Use::Live => live::output(alloc, text),
+        Use::Primes => primes::output(alloc, text),
+        Use::Reach => reach::output(alloc, text),
+        Use::Slots => slots::output(alloc, text),
+        Use::Subsets => subsets::output(alloc, text),
+        Use::Sums => sums::output(alloc, text),
     }
 }
 

@@ -12,7 +12,7 @@ use std::fmt::Write;
 mod sieve;
 
 /// What is printed for this text.
-pub(crate) fn answers(alloc: Global, text: &str) -> Result<String, Fault> {
+pub(crate) fn output(alloc: Global, text: &str) -> Result<String, Fault> {
     let rows = crate::text::rows(alloc, text)?;
     let Some((first, others)) = rows.split_first() else {
         return Err(Fault::Line(1, Wrong::Form("the number is missing")));

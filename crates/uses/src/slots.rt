@@ -32,7 +32,7 @@ mod pool;
 const LIMIT: usize = 1_000_000;
 
 /// What is printed for this text.
-pub(crate) fn answers(alloc: Global, text: &str) -> Result<String, Fault> {
+pub(crate) fn output(alloc: Global, text: &str) -> Result<String, Fault> {
     let rows = crate::text::rows(alloc, text)?;
     let Some((first, others)) = rows.split_first() else {
         return Err(Fault::Line(1, Wrong::Form("the number of slots is missing")));

@@ -38,7 +38,7 @@ const STATES: usize = 1_000;
 const LETTERS: usize = 100;
 
 /// What is printed for this text.
-pub(crate) fn answers(alloc: Global, text: &str) -> Result<String, Fault> {
+pub(crate) fn output(alloc: Global, text: &str) -> Result<String, Fault> {
     let rows = crate::text::rows(alloc, text)?;
     let [size, start, accepting, others @ ..] = rows.as_slice() else {
         return Err(Fault::Line(rows.len() + 1, Wrong::Form("a line is missing")));
