@@ -1,8 +1,10 @@
 // Times calls over both modules beside loops over a Uint32Array: microseconds, the least of many rounds, each side in turn.
+import { once } from "node:events";
 import { readFile } from "node:fs/promises";
+import { Worker, isMainThread, parentPort } from "node:worker_threads";
 import { load } from "./bits.mjs";
 
-const LENGTH = 1_000_000, ROUNDS = 200, TURNS = 20;
+const LENGTH = 1_000_000, ROUNDS = 800, TURNS = 20;
 const positions = (step) => Array.from({ length: Math.floor(LENGTH / step) }, (_, at) => at * step);
 const filled = [positions(3), positions(7)];
 
@@ -59,13 +61,33 @@ function microseconds(call, sets) {
   return ((performance.now() - began) * 1000) / TURNS;
 }
 
-const sides = [await load(readFile("bits32.wasm")), await load(readFile("bits64.wasm")), Typed];
-console.log("call,bits,module_32,module_64,typed_array");
-for (const [name, call] of Object.entries(calls)) {
-  const sets = sides.map((Side) => filled.map((it) => new Side(LENGTH, it))), least = sides.map(() => Infinity);
-  const answers = sets.map((it) => call(...it));
-  if (new Set(answers).size > 1) throw new Error(`${name}: ${answers}`);
-  for (let round = 0; round < ROUNDS; round++)
-    sets.forEach((it, side) => (least[side] = Math.min(least[side], microseconds(call, it))));
-  console.log([`"${name}"`, LENGTH, ...least.map((it) => it.toFixed(2))].join());
+/** The sets of a class, what a call answers of them, and the microseconds of a round of it. */
+const sides = (classes, name) => classes.map((Side) => {
+  const sets = filled.map((it) => new Side(LENGTH, it));
+  return { answer: calls[name](...sets), round: () => microseconds(calls[name], sets) };
+});
+
+// The loops have a thread of their own: where a module's memory grows, V8 asks at each look into an array whether that was taken
+// away.
+if (!isMainThread) {
+  let side;
+  parentPort.on("message", (name) => {
+    if (name) [side] = sides([Typed], name);
+    parentPort.postMessage(name ? side.answer : side.round());
+  });
+} else {
+  const loops = new Worker(new URL(import.meta.url)), modules = [];
+  const ask = async (name) => (loops.postMessage(name), (await once(loops, "message"))[0]);
+  for (const bits of [32, 64]) modules.push(await load(readFile(`bits${bits}.wasm`)));
+  console.log("call,bits,module_32,module_64,typed_array");
+  for (const name of Object.keys(calls)) {
+    const own = sides(modules, name), answers = [...own.map((it) => it.answer), await ask(name)], least = answers.map(() => Infinity);
+    if (new Set(answers).size > 1) throw new Error(`${name}: ${answers}`);
+    for (let round = 0; round < ROUNDS; round++) {
+      const found = [...own.map((it) => it.round()), await ask()];
+      found.forEach((it, side) => (least[side] = Math.min(least[side], it)));
+    }
+    console.log([`"${name}"`, LENGTH, ...least.map((it) => it.toFixed(2))].join());
+  }
+  await loops.terminate();
 }
