@@ -91,6 +91,12 @@ fn try_masks<O: WordOp>(join: Join) {
             for place in 0..=row.len() {
                 let next = (place..row.len()).find(|&at| wanted[at] != 0);
                 assert_eq!(search::next_one::<O>(mask, &row, place, steps), next);
+                let lanes = wanted[place..].chunks_exact(4);
+                let zeros = 4 * lanes.take_while(|lane| ones(lane) == 0).count();
+                assert_eq!(
+                    search::skip_zeros::<O>(mask, &row, place, steps),
+                    place + zeros
+                );
                 let previous = (0..place).rfind(|&at| wanted[at] != 0);
                 assert_eq!(
                     search::previous_one::<O>(mask, &row, place, steps),
