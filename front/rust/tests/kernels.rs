@@ -1,5 +1,5 @@
-//! The kernels of the proved modules on rows of every length to 21 words, beside plain loops. A set keeps whole lanes of four
-//! words, so no call of the crate goes by the rest of a lane.
+//! The kernels of the proved modules, and a walk over two rows, on rows of every length to 21 words, beside plain loops. A set
+//! keeps whole lanes of four words, so no call of the crate goes by the rest of a lane.
 extern crate alloc;
 
 #[rustfmt::skip]
@@ -12,6 +12,7 @@ mod shim;
 
 use proved::bitlanes::ops::{And, AndNot, Or, Second, WordOp, Xor};
 use proved::bitlanes::{changes, lanes, search, Steps};
+use proved::bitwords::cursors::{Beside, Cursor};
 use shim::Block;
 
 type Join = fn(Block, Block) -> Block;
@@ -104,6 +105,28 @@ fn try_masks<O: WordOp>(join: Join) {
                 );
             }
         }
+    }
+}
+
+/// A walk over one row beside another, which has no bits past its end.
+fn try_beside<O: WordOp>(one: &[Block], other: &[Block], join: Join) {
+    let other_word = |at| other.get(at).copied().unwrap_or(0);
+    let words: Vec<_> = (0..one.len())
+        .map(|at| join(one[at], other_word(at)))
+        .collect();
+    let wanted: Vec<_> = (0..64 * words.len())
+        .filter(|at| words[at / 64] >> (at % 64) & 1 == 1)
+        .collect();
+    let walk = || Cursor::over(Beside::<O>::of(one, other));
+    assert!(walk().eq(wanted.iter().copied()));
+    assert!(walk().rev().eq(wanted.iter().rev().copied()));
+}
+
+#[test]
+fn a_row_is_walked_over_beside_another_as_by_a_plain_loop() {
+    for (one, other) in pairs() {
+        try_beside::<And>(&one, &other, |one, other| one & other);
+        try_beside::<AndNot>(&one, &other, |one, other| one & !other);
     }
 }
 
