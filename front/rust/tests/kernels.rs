@@ -12,7 +12,7 @@ mod shim;
 
 use proved::bitlanes::ops::{And, AndNot, Or, Second, WordOp, Xor};
 use proved::bitlanes::{changes, lanes, search, Steps};
-use proved::bitwords::cursors::{Beside, Cursor};
+use proved::bitwords::cursors::{Beside, Cursor, Inverted, Plain, Seen};
 use shim::Block;
 
 type Join = fn(Block, Block) -> Block;
@@ -127,6 +127,21 @@ fn a_row_is_walked_over_beside_another_as_by_a_plain_loop() {
     for (one, other) in pairs() {
         try_beside::<And>(&one, &other, |one, other| one & other);
         try_beside::<AndNot>(&one, &other, |one, other| one & !other);
+    }
+}
+
+#[test]
+fn words_ahead_of_a_walk_are_those_of_its_row() {
+    for row in (0..=LONGEST).flat_map(rows) {
+        let plain = Plain { words: &row };
+        let inverted = Inverted {
+            plain: plain.clone(),
+        };
+        for index in 0..row.len() + 2 {
+            let word = row.get(index).copied();
+            assert_eq!(plain.peek(index), word);
+            assert_eq!(inverted.peek(index), word.map(|word| !word));
+        }
     }
 }
 
