@@ -1,5 +1,5 @@
-//! The kernels of the proved modules, and a walk over two rows, on rows of every length to 21 words, beside plain loops. A set
-//! keeps whole lanes of four words, so no call of the crate goes by the rest of a lane.
+//! The kernels of the proved modules, and parts of walks, on rows of every length to 21 words, beside plain loops. A set keeps
+//! whole lanes of four words, so no call of the crate goes by the rest of a lane.
 extern crate alloc;
 
 #[rustfmt::skip]
@@ -13,6 +13,7 @@ mod shim;
 use proved::bitlanes::ops::{And, AndNot, Or, Second, WordOp, Xor};
 use proved::bitlanes::{changes, lanes, search, Steps};
 use proved::bitwords::cursors::{Beside, Cursor, Inverted, Plain, Seen};
+use proved::bitwords::handfuls;
 use shim::Block;
 
 type Join = fn(Block, Block) -> Block;
@@ -55,6 +56,11 @@ fn joined(one: &[Block], other: &[Block], join: Join) -> Vec<Block> {
 
 fn ones(row: &[Block]) -> usize {
     row.iter().map(|word| word.count_ones() as usize).sum()
+}
+
+fn positions(row: &[Block]) -> Vec<usize> {
+    let is_set = |at: &usize| row[at / 64] >> (at % 64) & 1 == 1;
+    (0..64 * row.len()).filter(is_set).collect()
 }
 
 /// What a kernel leaves of `row`, where it writes these words over the first ones.
@@ -114,9 +120,7 @@ fn try_beside<O: WordOp>(one: &[Block], other: &[Block], join: Join) {
     let words: Vec<_> = (0..one.len())
         .map(|at| join(one[at], other_word(at)))
         .collect();
-    let wanted: Vec<_> = (0..64 * words.len())
-        .filter(|at| words[at / 64] >> (at % 64) & 1 == 1)
-        .collect();
+    let wanted = positions(&words);
     let walk = || Cursor::over(Beside::<O>::of(one, other));
     assert!(walk().eq(wanted.iter().copied()));
     assert!(walk().rev().eq(wanted.iter().rev().copied()));
@@ -127,6 +131,40 @@ fn a_row_is_walked_over_beside_another_as_by_a_plain_loop() {
     for (one, other) in pairs() {
         try_beside::<And>(&one, &other, |one, other| one & other);
         try_beside::<AndNot>(&one, &other, |one, other| one & !other);
+    }
+}
+
+/// The positions of first words, where so many places are free. A word is given as long as seven places more are, and the
+/// four words behind it are not the last one and have eight positions.
+fn given(row: &[Block], room: usize) -> Vec<usize> {
+    let mut found = Vec::new();
+    for at in 0..row.len().saturating_sub(5) {
+        let own = positions(&row[at..=at]);
+        if ones(&row[at + 1..at + 5]) < 8 || room - found.len() < own.len() + 7 {
+            break;
+        }
+        found.extend(own.iter().map(|position| 64 * at + position));
+    }
+    found
+}
+
+#[test]
+fn words_are_given_whole_as_by_a_plain_loop() {
+    for row in (0..=LONGEST).flat_map(rows) {
+        let all = positions(&row);
+        for room in [0, 7, 8, 70, 71, 200, 2000] {
+            let wanted = given(&row, room);
+            let mut places = vec![0; room];
+            let mut held = Cursor::over(Plain { words: &row }).into_held();
+            let count = handfuls::give_words(&mut held, &mut places);
+            assert_eq!(places[..count], wanted);
+            assert!(Cursor::of_held(held).eq(all[count..].iter().copied()));
+        }
+    }
+    let mut places = [0; 64];
+    for word in mixed(64, 0) {
+        let count = handfuls::give_word(word, 0, &mut places);
+        assert_eq!(places[..count], positions(&[word]));
     }
 }
 
