@@ -1,20 +1,21 @@
-//! A range of positions of one row: changes, counts and tests, and a copy from another row.
+//! A range of positions of one row: changes, counts and tests, a copy from another row, and at most
+//! 64 positions as a number.
 //!
 //! A range is cut at the edges of words into three parts: positions of its first word, whole
 //! words, and positions of its last word. Each part may be empty. So no word but the first
 //! and the last is masked.
 ghost use Rattle.std.specs.Prelude.{◌≡◌, ℕ, ◌<◌, ◌≤◌, ◌+◌, ◌-◌, ◌*◌, ◌/◌, ◌^◌};
-ghost use Rattle.std.specs.Prelude.{length, ◌==◌, IsTrue, true, false, ◌&&◌, nat_lt};
+ghost use Rattle.std.specs.Prelude.{length, ◌==◌, IsTrue, true, false, ◌&&◌, nat_lt, [], ◌∷◌};
 ghost use Rattle.bitlanes.specs.Bits.{bit};
 ghost use Rattle.bitlanes.specs.Words.{lane_steps};
 ghost use Rattle.bitwords.specs.Cuts.{IsCut};
-ghost use Rattle.bitwords.specs.Rows.{in_range, IsJoined, IsCopied, count_below, bit_test};
+ghost use Rattle.bitwords.specs.Rows.{has_bit, in_range, IsJoined, IsCopied, count_below, bit_test};
 ghost use Rattle.bitwords.specs.Steps.{range_words, search_steps};
 
 use crate::shifts::join_down;
 use bitlanes::ops::{Second, WordOp};
 use bitlanes::shifts::word_from;
-use bitlanes::word::{BITS, Block, stretch};
+use bitlanes::word::{BITS, Block, ones_below, stretch};
 use bitlanes::{Steps, lanes};
 
 /// Joins each position of the range, as one that is set, to the words by `O`; the others stay.
@@ -132,6 +133,47 @@ pub fn copy(
         steps,
     );
     copy_part(words, high, end, other, from + (high - start), steps);
+}
+
+/// The `width` positions from `start` on as a number: bit `i` of it is position `start + i`.
+///
+/// Positions past the words count as clear. The width may be 64 at most. It looks at one
+/// word, or at two.
+///
+/// ```
+/// assert_eq!(rt; ranges::load(&[5 << 60, 9], 62, 5), 5);
+/// assert_eq!(rt; ranges::load(&[5 << 60, 9], 62, 64), 37);
+/// assert_eq!(rt; ranges::load(&[5 << 60, 9], 500, 9), 0);
+/// ```
+#[inline(always)]
+pub fn load(words: &[Block], start: usize, width: usize) -> Block
+    requires { width ≤ 64 }
+    ensures { (i : ℕ) → bit result i ≡ (nat_lt i width && has_bit words.now (start + i)) }
+{
+    word_from(words, start) & ones_below(width)
+}
+
+/// Makes the `width` positions from `start` on the lowest bits of the number; the others stay.
+///
+/// The width may be 64 at most. It takes exactly one step for each word that holds one of these
+/// positions, which are two at most.
+///
+/// ```
+/// let mut words = [7 << 61, 9];
+/// ranges::store(&mut words, 62, 5, 22, &mut Steps::new());
+/// assert_eq!(rt; words, [5 << 61, 13]);
+/// ```
+#[inline(always)]
+pub fn store(words: &mut [Block], start: usize, width: usize, number: Block, steps: &mut Steps)
+    requires width { width ≤ 64 }
+    requires within { start + width ≤ 64 * length words.old }
+    requires fits { start + width < 2 ^ 64 }
+    ensures bits { IsCopied (number ∷ []) 0 start (start + width) words.old words.new }
+    ensures cost { steps.new ≡ steps.old + range_words start (start + width) }
+{
+    let low = width.min(BITS - start % BITS);
+    copy_part(words, start, start + low, &[number], 0, steps);
+    copy_part(words, start + low, start + width, &[number], low, steps);
 }
 
 // Where the whole words of the range begin and where they end. If it has none,

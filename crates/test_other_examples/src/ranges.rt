@@ -31,3 +31,17 @@ fn copy(rt: HostRuntime) {
     ranges::copy(&mut words, 1, 67, &[5 << 60, 9], 62, &mut Steps::new());
     equal(&rt, words, [75, 8]);
 }
+
+#[test]
+fn load(rt: HostRuntime) {
+    equal(&rt, ranges::load(&[5 << 60, 9], 62, 5), 5);
+    equal(&rt, ranges::load(&[5 << 60, 9], 62, 64), 37);
+    equal(&rt, ranges::load(&[5 << 60, 9], 500, 9), 0);
+}
+
+#[test]
+fn store(rt: HostRuntime) {
+    let mut words = [7 << 61, 9];
+    ranges::store(&mut words, 62, 5, 22, &mut Steps::new());
+    equal(&rt, words, [5 << 61, 13]);
+}

@@ -1,5 +1,6 @@
 // Made by front/erase from crates/bitwords/src/ranges.rt: change that, and not this.
-//! A range of positions of one row: changes, counts and tests, and a copy from another row.
+//! A range of positions of one row: changes, counts and tests, a copy from another row, and at most
+//! 64 positions as a number.
 //!
 //! A range is cut at the edges of words into three parts: positions of its first word, whole
 //! words, and positions of its last word. Each part may be empty. So no word but the first
@@ -8,7 +9,7 @@
 use crate::proved::bitwords::shifts::join_down;
 use crate::proved::bitlanes::ops::{Second, WordOp};
 use crate::proved::bitlanes::shifts::word_from;
-use crate::proved::bitlanes::word::{BITS, Block, stretch};
+use crate::proved::bitlanes::word::{BITS, Block, ones_below, stretch};
 use crate::proved::bitlanes::{Steps, lanes};
 
 /// Joins each position of the range, as one that is set, to the words by `O`; the others stay.
@@ -97,6 +98,38 @@ pub fn copy(
         steps,
     );
     copy_part(words, high, end, other, from + (high - start), steps);
+}
+
+/// The `width` positions from `start` on as a number: bit `i` of it is position `start + i`.
+///
+/// Positions past the words count as clear. The width may be 64 at most. It looks at one
+/// word, or at two.
+///
+/// ```text
+/// assert_eq!(ranges::load(&[5 << 60, 9], 62, 5), 5);
+/// assert_eq!(ranges::load(&[5 << 60, 9], 62, 64), 37);
+/// assert_eq!(ranges::load(&[5 << 60, 9], 500, 9), 0);
+/// ```
+#[inline(always)]
+pub fn load(words: &[Block], start: usize, width: usize) -> Block {
+    word_from(words, start) & ones_below(width)
+}
+
+/// Makes the `width` positions from `start` on the lowest bits of the number; the others stay.
+///
+/// The width may be 64 at most. It takes exactly one step for each word that holds one of these
+/// positions, which are two at most.
+///
+/// ```text
+/// let mut words = [7 << 61, 9];
+/// ranges::store(&mut words, 62, 5, 22, &mut Steps::new());
+/// assert_eq!(words, [5 << 61, 13]);
+/// ```
+#[inline(always)]
+pub fn store(words: &mut [Block], start: usize, width: usize, number: Block, steps: &mut Steps) {
+    let low = width.min(BITS - start % BITS);
+    copy_part(words, start, start + low, &[number], 0, steps);
+    copy_part(words, start + low, start + width, &[number], low, steps);
 }
 
 // Where the whole words of the range begin and where they end. If it has none,
