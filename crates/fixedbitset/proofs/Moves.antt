@@ -1,11 +1,12 @@
 -- Words that are moved, and then cut at a length: what that does to the value.
 use Rattle.std.proofs.Common.{◌≡◌, ℕ, ◌+◌, ◌-◌, ◌*◌, ◌/◌, ◌%◌, ◌^◌, ◌<◌, ◌≤◌, Bool, true, false, ◌&&◌}
 use Rattle.std.proofs.Common.{◌||◌, nat_lt, nat_le, min, if◌then◌else◌, List, length, ◌++◌, take}
-use Rattle.std.proofs.Common.{drop, refl, sym, ap, ◌∙◌, arith, ⊎_elim, get_or-drop, length-drop}
+use Rattle.std.proofs.Common.{[], ◌∷◌, drop, refl, sym, ap, ◌∙◌, arith, ⊎_elim, get_or-drop, length-drop, pow_mono}
 use Rattle.std.proofs.lemmas.Bool.Decides.{nat_tests}
 use Rattle.std.proofs.lemmas.List.{length-take-le, get_or-take, length-append as length-appended}
 use Rattle.std.proofs.lemmas.List.{get_or_append_left, get_or-append_right}
 use Rattle.std.proofs.lemmas.Bool.{cases_lt}
+use Rattle.std.proofs.lemmas.Nat.Bits.{same_from_bits_below, bit_at-lt, bit_at_above}
 use Rattle.std.specs.Int.{div_ceil}
 use Rattle.bitlanes.specs.Bits.{bit}
 use Rattle.bitlanes.specs.Shifts.{up_steps}
@@ -13,19 +14,21 @@ use Rattle.bitlanes.specs.Words.{lane_steps}
 use Rattle.bitwords.specs.Steps.{join_steps}
 use Rattle.bitwords.specs.Rows.{has_bit, IsJoined, IsCopied}
 use Rattle.bitwords.specs.RowFacts.{has_bit-past}
-use Rattle.fixedbitset.specs.Bits.{Bits, contains, grow, having, of_words, storage_words, words_needed}
+use Rattle.fixedbitset.specs.Bits.{Bits, contains, grow, having, number_at, of_words, storage_words, words_needed}
 use Rattle.fixedbitset.specs.BlocksFacts.{has_bit-take}
 use Rattle.fixedbitset.specs.BitsFacts.{same_bits, contains-grow, length-grow, contains-past}
 use Rattle.fixedbitset.specs.Parts.{shift_up, shift_down, union_with_shifted}
-use Rattle.fixedbitset.specs.Parts.{slice, copy_range, append, truncate, resize}
+use Rattle.fixedbitset.specs.Parts.{slice, copy_range, store, append, truncate, resize}
 use Rattle.fixedbitset.specs.PartsFacts.{length-shift_up, contains-shift_up, length-shift_down, contains-shift_down}
 use Rattle.fixedbitset.specs.PartsFacts.{length-union_with_shifted, contains-union_with_shifted, length-copy_range}
 use Rattle.fixedbitset.specs.PartsFacts.{contains-copy_range, length-append, contains-append, length-truncate}
+use Rattle.fixedbitset.specs.PartsFacts.{length-store, contains-store}
 use Rattle.fixedbitset.specs.PartsFacts.{contains-truncate, length-resize, contains-resize}
 use Rattle.fixedbitset.specs.Ranges.{insert_range}
 use Rattle.fixedbitset.specs.RangesFacts.{length-insert_range, contains-insert_range}
 use Rattle.fixedbitset.specs.Stored.{IsClean}
 use Rattle.fixedbitset.specs.WordsFacts.{length-having, contains-having, length-of_words}
+use Rattle.fixedbitset.specs.WordsFacts.{number_at-lt, bit_at-number_at}
 use Rattle.fixedbitset.proofs.Words.{Keeps, keeps, having_is, contains_word}
 
 -- a row joined with the positions of a test, and then cut at n
@@ -270,6 +273,62 @@ keeps_copied n m old ws new clean other start end at room done =
       contains-copy_range v w start end at p,
       length-of_words n old,
     ))
+
+-- ---- at most 64 positions as a number
+
+has_bit-single : (number i : ℕ) → i < 64 → has_bit (number ∷ []) i ≡ bit number i
+unfolding has_bit
+has_bit-single number i within =
+    let first : i / 64 ≡ 0 = omega arith in
+    let at : i % 64 ≡ i = omega arith in
+    rw (first, at) refl
+
+pub keeps_stored : (n : ℕ) (old new : List ℕ) → IsClean n old → (start width number : ℕ) → width ≤ 64
+    → start + width ≤ n → IsCopied (number ∷ []) 0 start (start + width) old new
+    → Keeps n new (store (of_words n old) start width number)
+keeps_stored n old new clean start width number short room done =
+    let v : Bits = of_words n old in
+    keeps n new (store v start width number) clean.fits (done.long ∙ clean.count)
+    (length-store v start width number ∙ length-of_words n old) (λ p.
+    grind (
+      arith,
+      nat_tests,
+      done.before p,
+      done.copied p,
+      done.behind p,
+      has_bit-single number (p - start),
+      clean.tail p,
+      contains_word n old p clean,
+      contains-store v start width number p,
+      length-of_words n old,
+    ))
+
+-- a number with the bits of the positions
+pub number_is : (n : ℕ) (ws : List ℕ) → IsClean n ws → (start width number : ℕ) → width ≤ 64 → number < 2 ^ 64
+    → ((i : ℕ) → bit number i ≡ (nat_lt i width && has_bit ws (start + i)))
+    → number ≡ number_at (of_words n ws) start width
+number_is n ws clean start width number short fits bits =
+    let v : Bits = of_words n ws in
+    let less : 2 ^ width ≤ 2 ^ 64 = pow_mono short in
+    same_from_bits_below 64 _ _ fits (omega (arith, number_at-lt v start width, less)) (λ i _. ⊎_elim
+    (λ (below : i < width).
+    grind (
+      arith,
+      nat_tests,
+      bits i,
+      bit_at-lt number i,
+      contains_word n ws (start + i) clean,
+      bit_at-number_at v start width i below,
+    ))
+    (λ (past : width ≤ i).
+    grind (
+      arith,
+      nat_tests,
+      bits i,
+      bit_at-lt number i,
+      bit_at_above (number_at v start width) width i (number_at-lt v start width) past,
+    ))
+    (cases_lt i width))
 
 -- ---- parts put together
 

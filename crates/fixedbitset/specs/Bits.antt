@@ -68,6 +68,10 @@ length_for n (item ∷ items) = max (item + 1) (length_for n items)
 unfoldable pub add_all : Bits → List ℕ → Bits
 add_all v items = pair (length_for v.length items) (set.union v.positions (set.from_list items))
 
+-- no item of the list is set
+unfoldable pub remove_all : Bits → List ℕ → Bits
+remove_all v items = pair v.length (set.difference v.positions (set.from_list items))
+
 -- ---- questions
 
 -- no position is set

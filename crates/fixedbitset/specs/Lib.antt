@@ -16,6 +16,7 @@ pub mod Json
 pub mod NumbersFacts
 pub mod BitsFacts
 pub mod AddFacts
+pub mod RemoveFacts
 pub mod ExtendFacts
 pub mod RangesFacts
 pub mod TwoSetsFacts

@@ -1,5 +1,6 @@
 -- Positions moved up or down, and parts of a value.
 use Rattle.std.specs.Prelude.{ℕ, ◌+◌, ◌-◌, min, Bool, ◌&&◌, ◌||◌, nat_le, if◌then◌else◌}
+use Rattle.bitlanes.specs.Bits.{bit}
 use Rattle.bitwords.specs.Rows.{in_range}
 use Rattle.fixedbitset.specs.Bits.{Bits, pair, having, contains}
 
@@ -23,6 +24,11 @@ slice v start end = having (end - start) (λ p. contains v (start + p))
 unfoldable pub copy_range : Bits → Bits → (start end at : ℕ) → Bits
 copy_range v w start end at =
     having v.length (λ p. if in_range at (at + (end - start)) p then contains w (start + (p - at)) else contains v p)
+
+-- v, with `width` bits of a number, the lowest first, written over the positions from start on
+unfoldable pub store : Bits → (start width number : ℕ) → Bits
+store v start width number =
+    having v.length (λ p. if in_range start (start + width) p then bit number (p - start) else contains v p)
 
 -- the positions of v, and behind them those of w; the lengths are added
 unfoldable pub append : Bits → Bits → Bits

@@ -1,11 +1,12 @@
 -- The length and the members of values that are moved or cut, for those who call a set.
 use Rattle.std.proofs.Common.{◌≡◌, ℕ, ◌+◌, ◌-◌, min, Bool, ◌&&◌, ◌||◌, nat_lt, nat_le, if◌then◌else◌}
+use Rattle.bitlanes.specs.Bits.{bit}
 use Rattle.bitwords.specs.Rows.{in_range}
 use Rattle.fixedbitset.specs.Bits.{Bits, contains}
 use Rattle.fixedbitset.specs.BitsFacts.{length-pair, contains-pair}
 use Rattle.fixedbitset.specs.WordsFacts.{length-having, contains-having}
 use Rattle.fixedbitset.specs.Parts.{shift_up, shift_down, union_with_shifted}
-use Rattle.fixedbitset.specs.Parts.{slice, copy_range, append, truncate, resize}
+use Rattle.fixedbitset.specs.Parts.{slice, copy_range, store, append, truncate, resize}
 
 pub length-shift_up : (v : Bits) (by : ℕ) → (shift_up v by).length ≡ v.length
 unfolding shift_up
@@ -54,6 +55,16 @@ pub contains-copy_range : (v w : Bits) (start end at p : ℕ)
 unfolding copy_range
 contains-copy_range v w start end at p = contains-having _ _ p
 
+pub length-store : (v : Bits) (start width number : ℕ) → (store v start width number).length ≡ v.length
+unfolding store
+length-store v start width number = length-having _ _
+
+pub contains-store : (v : Bits) (start width number p : ℕ)
+    → contains (store v start width number) p
+    ≡ ((if in_range start (start + width) p then bit number (p - start) else contains v p) && nat_lt p v.length)
+unfolding store
+contains-store v start width number p = contains-having _ _ p
+
 pub length-append : (v w : Bits) → (append v w).length ≡ v.length + w.length
 unfolding append
 length-append v w = length-having _ _
@@ -80,3 +91,25 @@ pub contains-resize : (v : Bits) (n : ℕ) (enabled : Bool) (p : ℕ)
     → contains (resize v n enabled) p ≡ ((contains v p || (enabled && nat_le v.length p)) && nat_lt p n)
 unfolding resize
 contains-resize v n enabled p = contains-having _ _ p
+
+-- what a caller needs of values that are moved or cut
+pub ruleset facts = (
+  length-shift_up,
+  length-shift_down,
+  length-union_with_shifted,
+  length-slice,
+  length-copy_range,
+  length-store,
+  length-append,
+  length-truncate,
+  length-resize,
+  contains-shift_up,
+  contains-shift_down,
+  contains-union_with_shifted,
+  contains-slice,
+  contains-copy_range,
+  contains-store,
+  contains-append,
+  contains-truncate,
+  contains-resize,
+)

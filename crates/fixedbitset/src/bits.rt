@@ -6,6 +6,7 @@
 //! that they are safe, and do what the calls without the ending do.
 
 ghost use Rattle.std.specs.Prelude.{◌≡◌, ◌<◌};
+ghost use Rattle.std.specs.List.{All};
 ghost use Rattle.fixedbitset.specs.Bits as model;
 
 use crate::set::FixedBitSet;
@@ -174,6 +175,45 @@ impl FixedBitSet {
     {
         let (words, length) = (&mut *self.words.as_mut_slice(), self.length);
         BitsMut { words, length }.take(bit)
+    }
+
+    /// Sets each position of the list. All of them have to be below the length. It writes one word
+    /// for each item.
+    ///
+    /// Upstream has no such call. `extend` does so for any iterator, and grows.
+    ///
+    /// ```
+    /// let mut set = FixedBitSet::with_capacity(alloc, 70)?;
+    /// set.insert_all(&[64, 3, 64]);
+    /// assert_eq!(rt; set.as_slice(), [8, 1].as_slice());
+    /// ```
+    #[tactic(auto, using(crate::proofs::Words::given_back, crate::proofs::Words::viewed_length))]
+    pub fn insert_all(&mut self, positions: &[usize])
+        requires { All (λ p. p < self.old.length) positions.now }
+        ensures value { self.new ≡ model.add_all self.old positions.now }
+        ensures length { self.new.length ≡ self.old.length }
+    {
+        let (words, length) = (&mut *self.words.as_mut_slice(), self.length);
+        BitsMut { words, length }.insert_all(positions);
+    }
+
+    /// Clears each position of the list. All of them have to be below the length. It writes one
+    /// word for each item.
+    ///
+    /// Upstream has no such call.
+    ///
+    /// ```
+    /// let mut set = FixedBitSet::from_iter(alloc, [3, 64, 69])?;
+    /// set.remove_all(&[69, 3, 69]);
+    /// assert_eq!(rt; set.as_slice(), [0, 1].as_slice());
+    /// ```
+    #[tactic(auto, using(crate::proofs::Words::given_back, crate::proofs::Words::viewed_length))]
+    pub fn remove_all(&mut self, positions: &[usize])
+        requires { All (λ p. p < self.old.length) positions.now }
+        ensures { self.new ≡ model.remove_all self.old positions.now }
+    {
+        let (words, length) = (&mut *self.words.as_mut_slice(), self.length);
+        BitsMut { words, length }.remove_all(positions);
     }
 
     /// Sets the position if it is clear and clears it if it is set. It has to be below the length.

@@ -1,5 +1,6 @@
 //! Parts of a set, and sets put together: positions of a range as a set of their own or written
-//! over those of another set, one set behind another, and other lengths.
+//! over those of another set, at most 64 of them as a number, one set behind another, and other
+//! lengths.
 //!
 //! `Err` comes only where more words are needed than there are and memory for them was refused. The
 //! set is then as it was.
@@ -15,7 +16,7 @@ ghost use Rattle.fixedbitset.specs.Ranges.{over};
 
 use crate::counted;
 use crate::set::FixedBitSet;
-use crate::views::storage_words;
+use crate::views::{BitsMut, storage_words};
 use bitjson::bytes::{bytes_of_words, words_of_bytes};
 use bitlanes::{Block, IndexRange, Steps};
 use bitwords::positions;
@@ -68,6 +69,46 @@ impl FixedBitSet {
             other.now (R.start_of range) (R.end_of range) }
     {
         counted::copy_range(self, other, range, at, &mut Steps::new());
+    }
+
+    /// The `width` positions from `start` on as a number: its bit `i` is position `start + i`.
+    ///
+    /// The width may be 64 at most, and the positions have to be below the length. It looks at one
+    /// word, or at two. Upstream has no such call.
+    ///
+    /// ```
+    /// let set = FixedBitSet::from_iter(alloc, [1, 63, 65, 69])?;
+    /// assert_eq!(rt; set.load(62, 8), 138);
+    /// assert_eq!(rt; set.load(70, 0), 0);
+    /// ```
+    #[tactic(auto, using(crate::proofs::Words::viewed_length))]
+    pub fn load(&self, start: usize, width: usize) -> Block
+        requires width { width ≤ 64 }
+        requires within { start + width ≤ self.now.length }
+        ensures { result ≡ model.number_at self.now start width }
+    {
+        self.as_bits().load(start, width)
+    }
+
+    /// Makes the `width` positions from `start` on the lowest bits of the number: position
+    /// `start + i` becomes its bit `i`. All others stay.
+    ///
+    /// The width may be 64 at most, and the positions have to be below the length. It writes one
+    /// word, or two. Upstream has no such call.
+    ///
+    /// ```
+    /// let mut set = FixedBitSet::from_iter(alloc, [1, 63, 65, 69])?;
+    /// set.store(62, 4, 5);
+    /// assert!(rt; set.ones().eq([1, 62, 64, 69]));
+    /// ```
+    #[tactic(auto, using(crate::proofs::Words::given_back, crate::proofs::Words::viewed_length))]
+    pub fn store(&mut self, start: usize, width: usize, number: Block)
+        requires width { width ≤ 64 }
+        requires within { start + width ≤ self.old.length }
+        ensures { self.new ≡ parts.store self.old start width number }
+    {
+        let (words, length) = (&mut *self.words.as_mut_slice(), self.length);
+        BitsMut { words, length }.store(start, width, number);
     }
 
     /// Puts the positions of `other` behind those of this set: the lengths are added,

@@ -94,6 +94,23 @@ fn take(rt: HostRuntime) {
 
 #[test]
 #[tactic(auto, using(fixedbitset::specs::BitsFacts::facts))]
+fn insert_all(rt: HostRuntime) {
+    let alloc = rt.alloc();
+    let mut set = cleared(&rt, alloc, 70);
+    set.insert_all(&[64, 3, 64]);
+    equal(&rt, set.as_slice(), [8, 1].as_slice());
+}
+
+#[test]
+fn remove_all(rt: HostRuntime) {
+    let alloc = rt.alloc();
+    let mut set = set_of(&rt, alloc, &[3, 64, 69]);
+    set.remove_all(&[69, 3, 69]);
+    equal(&rt, set.as_slice(), [0, 1].as_slice());
+}
+
+#[test]
+#[tactic(auto, using(fixedbitset::specs::BitsFacts::facts))]
 fn toggle(rt: HostRuntime) {
     let alloc = rt.alloc();
     let mut set = cleared(&rt, alloc, 70);

@@ -24,6 +24,23 @@ fn copy_range(rt: HostRuntime) {
 }
 
 #[test]
+fn load(rt: HostRuntime) {
+    let alloc = rt.alloc();
+    let set = set_of(&rt, alloc, &[1, 63, 65, 69]);
+    equal(&rt, set.load(62, 8), 138);
+    equal(&rt, set.load(70, 0), 0);
+}
+
+#[test]
+#[tactic(auto, using(fixedbitset::specs::PartsFacts::facts))]
+fn store(rt: HostRuntime) {
+    let alloc = rt.alloc();
+    let mut set = set_of(&rt, alloc, &[1, 63, 65, 69]);
+    set.store(62, 4, 5);
+    gives(&rt, set.ones(), &[1, 62, 64, 69]);
+}
+
+#[test]
 #[tactic(auto, using(fixedbitset::specs::BitsFacts::facts))]
 fn append(rt: HostRuntime) {
     let alloc = rt.alloc();

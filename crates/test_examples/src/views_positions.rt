@@ -133,6 +133,24 @@ fn set(rt: HostRuntime) {
 
 #[test]
 #[tactic(auto, using(fixedbitset::specs::WordsFacts::facts))]
+fn insert_all(rt: HostRuntime) {
+    let mut words = [9, 0, 0, 0];
+    let mut set = BitsMut::settle(&mut words, 70, 70);
+    set.insert_all(&[64, 2, 64]);
+    equal(&rt, words, [13, 1, 0, 0]);
+}
+
+#[test]
+#[tactic(auto, using(fixedbitset::specs::WordsFacts::facts))]
+fn remove_all(rt: HostRuntime) {
+    let mut words = [13, 1, 0, 0];
+    let mut set = BitsMut::settle(&mut words, 70, 70);
+    set.remove_all(&[64, 2, 64, 69]);
+    equal(&rt, words, [9, 0, 0, 0]);
+}
+
+#[test]
+#[tactic(auto, using(fixedbitset::specs::WordsFacts::facts))]
 fn set_block(rt: HostRuntime) {
     let mut words = [9, 0, 0, 0];
     let mut set = BitsMut::settle(&mut words, 70, 70);

@@ -54,10 +54,28 @@ fn copy_range(rt: HostRuntime) {
 }
 
 #[test]
+#[tactic(auto, using(fixedbitset::specs::PartsFacts::facts, fixedbitset::specs::WordsFacts::facts))]
+fn store(rt: HostRuntime) {
+    let mut words = [9 | 1 << 63, 2, 0, 0];
+    let mut set = BitsMut::settle(&mut words, 70, 70);
+    set.store(62, 4, 5);
+    equal(&rt, words, [9 | 1 << 62, 1, 0, 0]);
+}
+
+#[test]
 #[tactic(auto, using(fixedbitset::specs::WordsFacts::facts))]
 fn slice_to(rt: HostRuntime) {
     let (mut words, mut to) = ([9, 8, 0, 0], [0; 4]);
     let set = BitsMut::settle(&mut words, 70, 70);
     set.as_bits().slice_to(3, 68, &mut to, &mut Steps::new());
     equal(&rt, to, [1, 1, 0, 0]);
+}
+
+#[test]
+#[tactic(auto, using(fixedbitset::specs::WordsFacts::facts))]
+fn load(rt: HostRuntime) {
+    let mut words = [9 | 1 << 63, 2, 0, 0];
+    let set = BitsMut::settle(&mut words, 70, 70);
+    equal(&rt, set.as_bits().load(62, 4), 10);
+    equal(&rt, set.as_bits().load(0, 64), 9 | 1 << 63);
 }

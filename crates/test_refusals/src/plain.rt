@@ -325,7 +325,8 @@ fn shifts(starts: &mut Starts) -> Result<bool, Fault> {
     let mut set = starts.take_short()?;
     let is_moved = moves(&mut set, &starts.short);
     let is_cut = cuts(&mut set, &starts.short);
-    Ok(is_moved && is_cut)
+    let is_listed = numbers(&mut set);
+    Ok(is_moved && is_cut && is_listed)
 }
 
 fn moves(set: &mut FixedBitSet, short: &FixedBitSet) -> bool {
@@ -346,6 +347,19 @@ fn cuts(set: &mut FixedBitSet, short: &FixedBitSet) -> bool {
     }
     set.copy_range(short, 2..5, 4);
     is_cut && is_value(set, 7, &[5])
+}
+
+// A part as a number, and lists of positions.
+#[tactic(auto, using(fixedbitset::specs::PartsFacts::facts, fixedbitset::specs::AddFacts::additions))]
+fn numbers(set: &mut FixedBitSet) -> bool {
+    if set.len() != 7 {
+        return false;
+    }
+    let number = set.load(3, 4);
+    set.store(0, 3, 5);
+    set.insert_all(&[6, 1]);
+    set.remove_all(&[5, 0]);
+    number == 4 && is_value(set, 7, &[1, 2, 6])
 }
 
 fn counts(short: &FixedBitSet, long: &FixedBitSet) -> bool {

@@ -1288,7 +1288,7 @@ fn bitwords_positions_161() {
 }
 
 #[test]
-fn bitwords_ranges_18() {
+fn bitwords_ranges_19() {
     use crate::proved::bitlanes::ops::*;
     use crate::proved::bitlanes::{word, Block, Steps};
     use crate::proved::bitwords::cursors::*;
@@ -1303,7 +1303,7 @@ fn bitwords_ranges_18() {
 }
 
 #[test]
-fn bitwords_ranges_37() {
+fn bitwords_ranges_38() {
     use crate::proved::bitlanes::ops::*;
     use crate::proved::bitlanes::{word, Block, Steps};
     use crate::proved::bitwords::cursors::*;
@@ -1317,7 +1317,7 @@ fn bitwords_ranges_37() {
 }
 
 #[test]
-fn bitwords_ranges_57() {
+fn bitwords_ranges_58() {
     use crate::proved::bitlanes::ops::*;
     use crate::proved::bitlanes::{word, Block, Steps};
     use crate::proved::bitwords::cursors::*;
@@ -1331,7 +1331,7 @@ fn bitwords_ranges_57() {
 }
 
 #[test]
-fn bitwords_ranges_75() {
+fn bitwords_ranges_76() {
     use crate::proved::bitlanes::ops::*;
     use crate::proved::bitlanes::{word, Block, Steps};
     use crate::proved::bitwords::cursors::*;
@@ -1343,6 +1343,36 @@ fn bitwords_ranges_75() {
     let mut words = [9, 9];
     ranges::copy(&mut words, 1, 67, &[5 << 60, 9], 62, &mut Steps::new());
     assert_eq!(words, [75, 8]);
+}
+
+#[test]
+fn bitwords_ranges_108() {
+    use crate::proved::bitlanes::ops::*;
+    use crate::proved::bitlanes::{word, Block, Steps};
+    use crate::proved::bitwords::cursors::*;
+    use crate::proved::bitwords::*;
+    use crate::shim::u64x4;
+    use core::cmp::Ordering;
+    use core::mem::{size_of, size_of_val};
+
+    assert_eq!(ranges::load(&[5 << 60, 9], 62, 5), 5);
+    assert_eq!(ranges::load(&[5 << 60, 9], 62, 64), 37);
+    assert_eq!(ranges::load(&[5 << 60, 9], 500, 9), 0);
+}
+
+#[test]
+fn bitwords_ranges_123() {
+    use crate::proved::bitlanes::ops::*;
+    use crate::proved::bitlanes::{word, Block, Steps};
+    use crate::proved::bitwords::cursors::*;
+    use crate::proved::bitwords::*;
+    use crate::shim::u64x4;
+    use core::cmp::Ordering;
+    use core::mem::{size_of, size_of_val};
+
+    let mut words = [7 << 61, 9];
+    ranges::store(&mut words, 62, 5, 22, &mut Steps::new());
+    assert_eq!(words, [5 << 61, 13]);
 }
 
 #[test]
@@ -1952,12 +1982,44 @@ fn fixedbitset_views_positions_238() {
 
     let mut words = [9, 0, 0, 0];
     let mut set = BitsMut::settle(&mut words, 70, 70);
+    set.insert_all(&[64, 2, 64]);
+    assert_eq!(words, [13, 1, 0, 0]);
+}
+
+#[test]
+fn fixedbitset_views_positions_257() {
+    use crate::proved::bitlanes::ops::*;
+    use crate::proved::bitlanes::{word, Block, Steps};
+    use crate::proved::bitwords::cursors::*;
+    use crate::proved::fixedbitset::*;
+    use crate::shim::u64x4;
+    use core::cmp::Ordering;
+    use core::mem::{size_of, size_of_val};
+
+    let mut words = [13, 1, 0, 0];
+    let mut set = BitsMut::settle(&mut words, 70, 70);
+    set.remove_all(&[64, 2, 64, 69]);
+    assert_eq!(words, [9, 0, 0, 0]);
+}
+
+#[test]
+fn fixedbitset_views_positions_275() {
+    use crate::proved::bitlanes::ops::*;
+    use crate::proved::bitlanes::{word, Block, Steps};
+    use crate::proved::bitwords::cursors::*;
+    use crate::proved::fixedbitset::*;
+    use crate::shim::u64x4;
+    use core::cmp::Ordering;
+    use core::mem::{size_of, size_of_val};
+
+    let mut words = [9, 0, 0, 0];
+    let mut set = BitsMut::settle(&mut words, 70, 70);
     set.set_block(1, Block::MAX);
     assert_eq!(words, [9, 63, 0, 0]);
 }
 
 #[test]
-fn fixedbitset_views_positions_252() {
+fn fixedbitset_views_positions_289() {
     use crate::proved::bitlanes::ops::*;
     use crate::proved::bitlanes::{word, Block, Steps};
     use crate::proved::bitwords::cursors::*;
@@ -1973,7 +2035,7 @@ fn fixedbitset_views_positions_252() {
 }
 
 #[test]
-fn fixedbitset_views_positions_267() {
+fn fixedbitset_views_positions_304() {
     use crate::proved::bitlanes::ops::*;
     use crate::proved::bitlanes::{word, Block, Steps};
     use crate::proved::bitwords::cursors::*;
@@ -2210,7 +2272,23 @@ fn fixedbitset_views_shifts_90() {
 }
 
 #[test]
-fn fixedbitset_views_shifts_130() {
+fn fixedbitset_views_shifts_116() {
+    use crate::proved::bitlanes::ops::*;
+    use crate::proved::bitlanes::{word, Block, Steps};
+    use crate::proved::bitwords::cursors::*;
+    use crate::proved::fixedbitset::*;
+    use crate::shim::u64x4;
+    use core::cmp::Ordering;
+    use core::mem::{size_of, size_of_val};
+
+    let mut words = [9 | 1 << 63, 2, 0, 0];
+    let mut set = BitsMut::settle(&mut words, 70, 70);
+    set.store(62, 4, 5);
+    assert_eq!(words, [9 | 1 << 62, 1, 0, 0]);
+}
+
+#[test]
+fn fixedbitset_views_shifts_147() {
     use crate::proved::bitlanes::ops::*;
     use crate::proved::bitlanes::{word, Block, Steps};
     use crate::proved::bitwords::cursors::*;
@@ -2223,6 +2301,22 @@ fn fixedbitset_views_shifts_130() {
     let set = BitsMut::settle(&mut words, 70, 70);
     set.as_bits().slice_to(3, 68, &mut to, &mut Steps::new());
     assert_eq!(to, [1, 1, 0, 0]);
+}
+
+#[test]
+fn fixedbitset_views_shifts_164() {
+    use crate::proved::bitlanes::ops::*;
+    use crate::proved::bitlanes::{word, Block, Steps};
+    use crate::proved::bitwords::cursors::*;
+    use crate::proved::fixedbitset::*;
+    use crate::shim::u64x4;
+    use core::cmp::Ordering;
+    use core::mem::{size_of, size_of_val};
+
+    let mut words = [9 | 1 << 63, 2, 0, 0];
+    let set = BitsMut::settle(&mut words, 70, 70);
+    assert_eq!(set.as_bits().load(62, 4), 10);
+    assert_eq!(set.as_bits().load(0, 64), 9 | 1 << 63);
 }
 
 #[test]

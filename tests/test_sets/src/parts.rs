@@ -292,6 +292,80 @@ fn slices_are_copied_back_at_every_length(rt: HostRuntime) -> Result<(), Fail> {
     Ok(())
 }
 
+// The flags from `start` on as a number, the first of them its lowest bit.
+fn slow_number(flags: &[bool], start: usize, width: usize) -> Block {
+    let mut number = 0;
+    for position in start..start + width {
+        number |= Block::from(flags[position]) << (position - start);
+    }
+    number
+}
+
+// A part of the set read as a number, and another number written over that part.
+fn assert_number(
+    rt: &impl Abort,
+    alloc: Global,
+    pair: &Pair<'_>,
+    start: usize,
+    width: usize,
+) -> Result<(), AllocError> {
+    let mut set = pair.set.clone()?;
+    let number = set.load(start, width);
+    assert!(rt;
+        number == slow_number(pair.flags, start, width),
+        "{width} from {start} on"
+    );
+    let other = number.rotate_left(7) ^ 0x9e37_79b9_7f4a_7c15;
+    set.store(start, width, other);
+    let mut wanted = pair.flags.to_vec(alloc)?;
+    for position in start..start + width {
+        wanted[position] = other >> (position - start) & 1 == 1;
+    }
+    assert_same(rt, &set, &wanted, "a number from", start);
+    Ok(())
+}
+
+#[test]
+fn numbers_of_every_width_at_every_edge(rt: HostRuntime) -> Result<(), Fail> {
+    for length in [0, 1, 64, 65, 128, 200, 321] {
+        for flags in fillings(rt.alloc(), length)? {
+            let pair = paired(rt.alloc(), &flags)?;
+            for start in [0, 1, 6, 63, 64, 65, 127, 256, length] {
+                for width in [0, 1, 7, 58, 63, 64] {
+                    if start + width <= length {
+                        assert_number(&rt, rt.alloc(), &pair, start, width)?;
+                    }
+                }
+            }
+        }
+    }
+    Ok(())
+}
+
+// Lists of positions, set and then cleared: some of them twice, in any order.
+#[test]
+fn lists_of_positions(rt: HostRuntime) -> Result<(), Fail> {
+    for length in [1, 64, 65, 200] {
+        let mut flags = multiples(rt.alloc(), length, 3)?;
+        let mut set = filled(rt.alloc(), &flags)?;
+        let list = [length - 1, 0, length / 2, length - 1];
+        set.insert_all(&list);
+        for position in list {
+            flags[position] = true;
+        }
+        assert_same(&rt, &set, &flags, "set at", length);
+        set.remove_all(&list[1..]);
+        for position in list[1..].iter() {
+            flags[*position] = false;
+        }
+        assert_same(&rt, &set, &flags, "cleared at", length);
+        set.insert_all(&[]);
+        set.remove_all(&[]);
+        assert_same(&rt, &set, &flags, "left at", length);
+    }
+    Ok(())
+}
+
 fn assert_resized(rt: &impl Abort, alloc: Global, flags: &[bool]) -> Result<(), AllocError> {
     let whole = filled(alloc, flags)?;
     for bits in [0, 1, 63, 64, 65, 128, 200] {

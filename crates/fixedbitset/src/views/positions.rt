@@ -3,6 +3,7 @@
 ghost use Rattle.std.specs.Prelude.{◌≡◌, ◌↔◌, ◌<◌, ◌≤◌, ◌+◌, ◌-◌, ◌*◌, ◌/◌};
 ghost use Rattle.std.specs.Prelude.{min, IsTrue, IfSome, IfNone, IsSome};
 ghost use Rattle.std.specs.Prelude as prelude;
+ghost use Rattle.std.specs.List.{All};
 ghost use Rattle.bitlanes.specs.Words.{lane_steps};
 ghost use Rattle.fixedbitset.specs.Bits as model;
 ghost use Rattle.fixedbitset.specs.Bits.{of_words, storage_words};
@@ -302,6 +303,49 @@ impl<'a> BitsMut<'a> {
             self.insert(bit);
         } else {
             self.remove(bit);
+        }
+    }
+
+    /// Sets each position of the list. All of them have to be below the length. It writes one word
+    /// for each item.
+    ///
+    /// ```
+    /// let mut words = [9, 0, 0, 0];
+    /// let mut set = BitsMut::settle(&mut words, 70, 70);
+    /// set.insert_all(&[64, 2, 64]);
+    /// assert_eq!(rt; words, [13, 1, 0, 0]);
+    /// ```
+    #[inline]
+    pub fn insert_all(&mut self, positions: &[usize])
+        requires { All (λ p. p < self.old.length) positions.now }
+        ensures { Becomes self.old self.new (model.add_all (held self.old) positions.now) }
+    {
+        // Taken apart, so that a turn need not look anew where the words lie.
+        let (words, length) = (&mut *self.words, self.length);
+        for position in positions {
+            let words = &mut *words;
+            BitsMut { words, length }.insert(*position);
+        }
+    }
+
+    /// Clears each position of the list. All of them have to be below the length. It writes one
+    /// word for each item.
+    ///
+    /// ```
+    /// let mut words = [13, 1, 0, 0];
+    /// let mut set = BitsMut::settle(&mut words, 70, 70);
+    /// set.remove_all(&[64, 2, 64, 69]);
+    /// assert_eq!(rt; words, [9, 0, 0, 0]);
+    /// ```
+    #[inline]
+    pub fn remove_all(&mut self, positions: &[usize])
+        requires { All (λ p. p < self.old.length) positions.now }
+        ensures { Becomes self.old self.new (model.remove_all (held self.old) positions.now) }
+    {
+        let (words, length) = (&mut *self.words, self.length);
+        for position in positions {
+            let words = &mut *words;
+            BitsMut { words, length }.remove(*position);
         }
     }
 

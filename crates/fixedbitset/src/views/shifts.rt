@@ -1,4 +1,4 @@
-//! Positions moved up or down, sets joined with moved ones, and parts.
+//! Positions moved up or down, sets joined with moved ones, parts, and parts as numbers.
 //!
 //! A call takes at most one step for each lane that it writes, and one or two more for the words at
 //! the ends: `bound` says so, and `cost` how many it takes. The lanes past the words that the
@@ -11,7 +11,7 @@ ghost use Rattle.bitlanes.specs.Shifts.{up_steps};
 ghost use Rattle.bitlanes.specs.Words.{lane_steps};
 ghost use Rattle.bitwords.specs.Rows.{has_bit};
 ghost use Rattle.bitwords.specs.Steps.{join_steps, join_up_steps, move_up_steps, search_steps};
-ghost use Rattle.fixedbitset.specs.Bits.{having, of_words, storage_words};
+ghost use Rattle.fixedbitset.specs.Bits.{having, number_at, of_words, storage_words};
 ghost use Rattle.fixedbitset.specs.Parts as parts;
 ghost use Rattle.fixedbitset.specs.Stored.{IsClean};
 ghost use Rattle.fixedbitset.specs.Views.{value, held, Becomes};
@@ -150,6 +150,27 @@ impl BitsMut<'_> {
         ranges::copy(self.words, at, behind, other.words, start, steps);
     }
 
+    /// Makes the `width` positions from `start` on the lowest bits of the number: position
+    /// `start + i` becomes its bit `i`. All others stay.
+    ///
+    /// The width may be 64 at most, and the positions have to be below the length. It writes one
+    /// word, or two.
+    ///
+    /// ```
+    /// let mut words = [9 | 1 << 63, 2, 0, 0];
+    /// let mut set = BitsMut::settle(&mut words, 70, 70);
+    /// set.store(62, 4, 5);
+    /// assert_eq!(rt; words, [9 | 1 << 62, 1, 0, 0]);
+    /// ```
+    #[inline]
+    pub fn store(&mut self, start: usize, width: usize, number: Block)
+        requires width { width ≤ 64 }
+        requires within { start + width ≤ self.old.length }
+        ensures { Becomes self.old self.new (parts.store (held self.old) start width number) }
+    {
+        ranges::store(self.words, start, width, number, &mut Steps::new());
+    }
+
     // Joins each position by `O` with the one that stood `by` below it, and cuts
     // the words at the length.
     #[inline(always)]
@@ -196,6 +217,26 @@ impl Bits<'_> {
     {
         shifts::join_down::<Second>(to, self.words, start, steps);
         positions::clear_from(to, end - start);
+    }
+
+    /// The `width` positions from `start` on as a number: its bit `i` is position `start + i`.
+    ///
+    /// The width may be 64 at most, and the positions have to be below the length. It looks at one
+    /// word, or at two.
+    ///
+    /// ```
+    /// let mut words = [9 | 1 << 63, 2, 0, 0];
+    /// let set = BitsMut::settle(&mut words, 70, 70);
+    /// assert_eq!(rt; set.as_bits().load(62, 4), 10);
+    /// assert_eq!(rt; set.as_bits().load(0, 64), 9 | 1 << 63);
+    /// ```
+    #[inline]
+    pub fn load(self, start: usize, width: usize) -> Block
+        requires width { width ≤ 64 }
+        requires within { start + width ≤ self.length }
+        ensures { result ≡ number_at (value self.entry) start width }
+    {
+        ranges::load(self.words, start, width)
     }
 }
 

@@ -232,6 +232,43 @@ impl<'a> BitsMut<'a> {
         }
     }
 
+    /// Sets each position of the list. All of them have to be below the length. It writes one word
+    /// for each item.
+    ///
+    /// ```text
+    /// let mut words = [9, 0, 0, 0];
+    /// let mut set = BitsMut::settle(&mut words, 70, 70);
+    /// set.insert_all(&[64, 2, 64]);
+    /// assert_eq!(words, [13, 1, 0, 0]);
+    /// ```
+    #[inline]
+    pub fn insert_all(&mut self, positions: &[usize]) {
+        // Taken apart, so that a turn need not look anew where the words lie.
+        let (words, length) = (&mut *self.words, self.length);
+        for position in positions {
+            let words = &mut *words;
+            BitsMut { words, length }.insert(*position);
+        }
+    }
+
+    /// Clears each position of the list. All of them have to be below the length. It writes one
+    /// word for each item.
+    ///
+    /// ```text
+    /// let mut words = [13, 1, 0, 0];
+    /// let mut set = BitsMut::settle(&mut words, 70, 70);
+    /// set.remove_all(&[64, 2, 64, 69]);
+    /// assert_eq!(words, [9, 0, 0, 0]);
+    /// ```
+    #[inline]
+    pub fn remove_all(&mut self, positions: &[usize]) {
+        let (words, length) = (&mut *self.words, self.length);
+        for position in positions {
+            let words = &mut *words;
+            BitsMut { words, length }.remove(*position);
+        }
+    }
+
     /// Makes word `index` the given one. Bits past the length are dropped. The word has to be one
     /// that the length needs.
     ///

@@ -1,5 +1,5 @@
 // Made by front/erase from crates/fixedbitset/src/views/shifts.rt: change that, and not this.
-//! Positions moved up or down, sets joined with moved ones, and parts.
+//! Positions moved up or down, sets joined with moved ones, parts, and parts as numbers.
 //!
 //! A call takes at most one step for each lane that it writes, and one or two more for the words at
 //! the ends: `bound` says so, and `cost` how many it takes. The lanes past the words that the
@@ -107,6 +107,23 @@ impl BitsMut<'_> {
         ranges::copy(self.words, at, behind, other.words, start, steps);
     }
 
+    /// Makes the `width` positions from `start` on the lowest bits of the number: position
+    /// `start + i` becomes its bit `i`. All others stay.
+    ///
+    /// The width may be 64 at most, and the positions have to be below the length. It writes one
+    /// word, or two.
+    ///
+    /// ```text
+    /// let mut words = [9 | 1 << 63, 2, 0, 0];
+    /// let mut set = BitsMut::settle(&mut words, 70, 70);
+    /// set.store(62, 4, 5);
+    /// assert_eq!(words, [9 | 1 << 62, 1, 0, 0]);
+    /// ```
+    #[inline]
+    pub fn store(&mut self, start: usize, width: usize, number: Block) {
+        ranges::store(self.words, start, width, number, &mut Steps::new());
+    }
+
     // Joins each position by `O` with the one that stood `by` below it, and cuts
     // the words at the length.
     #[inline(always)]
@@ -137,6 +154,22 @@ impl Bits<'_> {
     pub fn slice_to(self, start: usize, end: usize, to: &mut [Block], steps: &mut Steps) {
         shifts::join_down::<Second>(to, self.words, start, steps);
         positions::clear_from(to, end - start);
+    }
+
+    /// The `width` positions from `start` on as a number: its bit `i` is position `start + i`.
+    ///
+    /// The width may be 64 at most, and the positions have to be below the length. It looks at one
+    /// word, or at two.
+    ///
+    /// ```text
+    /// let mut words = [9 | 1 << 63, 2, 0, 0];
+    /// let set = BitsMut::settle(&mut words, 70, 70);
+    /// assert_eq!(set.as_bits().load(62, 4), 10);
+    /// assert_eq!(set.as_bits().load(0, 64), 9 | 1 << 63);
+    /// ```
+    #[inline]
+    pub fn load(self, start: usize, width: usize) -> Block {
+        ranges::load(self.words, start, width)
     }
 }
 
