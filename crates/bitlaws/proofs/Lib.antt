@@ -1,4 +1,5 @@
 mod OneList
+mod OfNumbers
 mod OfRanges
 mod OfRuns
 mod OfTwoSets

@@ -1,6 +1,7 @@
 -- What holds of one set, for all values.
-use Rattle.std.specs.Prelude.{◌≡◌, ℕ, ◌+◌, ◌<◌, true, false, IsTrue, ◌↔◌}
-use Rattle.fixedbitset.specs.Bits.{Bits, contains, insert, remove, is_clear, is_full, words, of_words}
+use Rattle.std.specs.Prelude.{◌≡◌, ℕ, ◌+◌, ◌%◌, ◌^◌, ◌<◌, ◌≤◌, true, false, IsTrue, ◌↔◌}
+use Rattle.fixedbitset.specs.Bits.{Bits, contains, insert, remove, is_clear, is_full, words, of_words, number_at}
+use Rattle.fixedbitset.specs.Parts.{store}
 use Rattle.fixedbitset.specs.Ranges.{count_ones}
 
 -- the value of a length and of its words
@@ -34,3 +35,12 @@ RemoveTakesOne = (v : Bits) (bit : ℕ) → contains v bit ≡ true → size (re
 -- clearing one that was not set changes nothing
 abbrev pub RemoveKeeps : Type 0
 RemoveKeeps = (v : Bits) (bit : ℕ) → contains v bit ≡ false → remove v bit ≡ v
+
+-- a number that is written over positions of the set is read there, without the bits that have no place
+abbrev pub StoredReadsBack : Type 0
+StoredReadsBack = (v : Bits) (start width number : ℕ) → start + width ≤ v.length
+    → number_at (store v start width number) start width ≡ number % 2 ^ width
+
+-- what is read at positions of the set, written over them, changes nothing
+abbrev pub LoadedStays : Type 0
+LoadedStays = (v : Bits) (start width : ℕ) → store v start width (number_at v start width) ≡ v

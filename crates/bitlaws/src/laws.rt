@@ -17,6 +17,7 @@ ghost use Rattle.bitlaws.specs.RangeLaws.{IsValidTells, ContainsAllTells, Contai
 ghost use Rattle.bitlaws.specs.RunLaws.{RunsAreTheSet, ZeroRunsAreTheOthers, RoomTells, GapIsLeast};
 ghost use Rattle.bitlaws.specs.SetLaws.{ClearHasNone, FullHasAll, InsertAddsOne, InsertKeeps};
 ghost use Rattle.bitlaws.specs.SetLaws.{RemoveTakesOne, RemoveKeeps, WordsReadBack};
+ghost use Rattle.bitlaws.specs.SetLaws.{StoredReadsBack, LoadedStays};
 ghost use Rattle.bitlaws.specs.TwoSetLaws.{CountsAddUp, SymmetricDifferenceIsSum};
 ghost use Rattle.bitlaws.specs.TwoSetLaws.{SubsetBothWays, IsSubsetTells};
 ghost use Rattle.bitlaws.specs.TwoSetLaws.{IsDisjointTells, StepsBound, WholeStepsBound};
@@ -51,6 +52,20 @@ pub fn one_ascending_list()
 /// ```
 pub fn words_read_back()
     ensures { WordsReadBack }
+{}
+
+/// A number that `store` writes is read by `load`, without the bits that have no place; and what
+/// `load` reads, written there again, changes nothing.
+///
+/// ```
+/// let mut set = FixedBitSet::with_capacity(alloc, 70)?;
+/// laws::numbers_read_back();
+/// set.store(62, 4, 21);
+/// assert_eq!(rt; set.load(62, 4), 5);
+/// ```
+pub fn numbers_read_back()
+    ensures stored { StoredReadsBack }
+    ensures loaded { LoadedStays }
 {}
 
 /// The stretches that `runs` and `zero_runs` walk over are the set. Each position of a stretch is

@@ -29,6 +29,16 @@ fn words_read_back(rt: HostRuntime) {
 }
 
 #[test]
+#[tactic(auto, using(fixedbitset::specs::BitsFacts::facts, fixedbitset::specs::PartsFacts::facts))]
+fn numbers_read_back(rt: HostRuntime) {
+    let alloc = rt.alloc();
+    let mut set = cleared(&rt, alloc, 70);
+    laws::numbers_read_back();
+    set.store(62, 4, 21);
+    equal(&rt, set.load(62, 4), 5);
+}
+
+#[test]
 fn runs_are_the_set(rt: HostRuntime) {
     let alloc = rt.alloc();
     let set = set_of(&rt, alloc, &[3, 4, 9]);
