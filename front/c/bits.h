@@ -255,6 +255,8 @@ bool bits_set(bits *set, size_t bit, bool enabled) BITS_SYMBOL(bits_set);
 bool bits_set_block(bits *set, size_t index, uint64_t block) BITS_SYMBOL(bits_set_block);
 /* Sets each of `count` positions, and answers whether all of them are below the length; else nothing is changed. */
 bool bits_insert_all(bits *set, const size_t *positions, size_t count) BITS_SYMBOL(bits_insert_all);
+/* Clears each of `count` positions, and answers whether all of them are below the length; else nothing is changed. */
+bool bits_remove_all(bits *set, const size_t *positions, size_t count) BITS_SYMBOL(bits_remove_all);
 /* Writes for each of `count` positions whether it is set: false at or past the length. It answers whether there are as many
  * places; else nothing is written. */
 bool bits_contains_each(const bits *set, const size_t *positions, size_t count, bool *answers, size_t places)
@@ -382,6 +384,12 @@ bool bits_slice(bits *part, const bits *set, size_t start, size_t end) BITS_SYMB
  * stay. It answers whether it did, which is where the range is valid in the second, and from `at` on ends within the first;
  * else nothing is changed. */
 bool bits_copy_range(bits *set, const bits *other, size_t start, size_t end, size_t at) BITS_SYMBOL(bits_copy_range);
+/* Writes the `width` positions from `start` on as a number: its bit i is position start + i. It answers whether it did, which
+ * is where `width` is 64 at most and the positions are below the length; else nothing is written. */
+bool bits_load(const bits *set, size_t start, size_t width, uint64_t *number) BITS_SYMBOL(bits_load);
+/* Makes the `width` positions from `start` on the lowest bits of the number: position start + i becomes its bit i. It answers
+ * whether it did, which is where `width` is 64 at most and the positions are below the length; else nothing is changed. */
+bool bits_store(bits *set, size_t start, size_t width, uint64_t number) BITS_SYMBOL(bits_store);
 
 /* ---- a set as bytes: position p is bit p % 8 of byte p / 8 */
 

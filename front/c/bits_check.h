@@ -242,6 +242,10 @@ BITS_TESTED(bool, return, insert_all, (const char *here, bits *set, const size_t
             (set, positions, count),
             BITS_SET(set) BITS_LIST(positions, count) BITS_LIST_APART(positions, count, set->words, set->count)
                 bits_ask_each_below(here, positions, count, set->length);)
+BITS_TESTED(bool, return, remove_all, (const char *here, bits *set, const size_t *positions, size_t count),
+            (set, positions, count),
+            BITS_SET(set) BITS_LIST(positions, count) BITS_LIST_APART(positions, count, set->words, set->count)
+                bits_ask_each_below(here, positions, count, set->length);)
 BITS_TESTED(bool, return, contains_each,
             (const char *here, const bits *set, const size_t *positions, size_t count, bool *answers, size_t places),
             (set, positions, count, answers, places),
@@ -313,6 +317,12 @@ BITS_TESTED(bool, return, slice, (const char *here, bits *part, const bits *set,
 BITS_TESTED(bool, return, copy_range,
             (const char *here, bits *set, const bits *other, size_t start, size_t end, size_t at), (set, other, start, end, at),
             BITS_SET(set) BITS_SET(other) BITS_APART(set, other) BITS_RANGE(start, end, other->length))
+BITS_TESTED(bool, return, load, (const char *here, const bits *set, size_t start, size_t width, uint64_t *number),
+            (set, start, width, number),
+            BITS_SET(set) BITS_PLACE(number) BITS_BELOW(width, 65) BITS_RANGE(start, start + width, set->length))
+BITS_TESTED(bool, return, store, (const char *here, bits *set, size_t start, size_t width, uint64_t number),
+            (set, start, width, number),
+            BITS_SET(set) BITS_BELOW(width, 65) BITS_RANGE(start, start + width, set->length))
 
 BITS_TESTED(void, , from_bytes, (const char *here, bits *set, const uint8_t *bytes, size_t count), (set, bytes, count),
             BITS_SET(set) BITS_LIST(bytes, count) BITS_LIST_APART(bytes, count, set->words, set->count))
@@ -384,6 +394,7 @@ BITS_RUN_STEP(runs_next_back)
 #define bits_set(...) BITS_CALL(set, __VA_ARGS__)
 #define bits_set_block(...) BITS_CALL(set_block, __VA_ARGS__)
 #define bits_insert_all(...) BITS_CALL(insert_all, __VA_ARGS__)
+#define bits_remove_all(...) BITS_CALL(remove_all, __VA_ARGS__)
 #define bits_contains_each(...) BITS_CALL(contains_each, __VA_ARGS__)
 #define bits_clear(...) BITS_CALL(clear, __VA_ARGS__)
 #define bits_minimum(...) BITS_CALL(minimum, __VA_ARGS__)
@@ -434,6 +445,8 @@ BITS_RUN_STEP(runs_next_back)
 #define bits_union_with_own_shift(...) BITS_CALL(union_with_own_shift, __VA_ARGS__)
 #define bits_slice(...) BITS_CALL(slice, __VA_ARGS__)
 #define bits_copy_range(...) BITS_CALL(copy_range, __VA_ARGS__)
+#define bits_load(...) BITS_CALL(load, __VA_ARGS__)
+#define bits_store(...) BITS_CALL(store, __VA_ARGS__)
 #define bits_from_bytes(...) BITS_CALL(from_bytes, __VA_ARGS__)
 #define bits_to_bytes(...) BITS_CALL(to_bytes, __VA_ARGS__)
 #define bits_reverse_each_byte(...) BITS_CALL(reverse_each_byte, __VA_ARGS__)

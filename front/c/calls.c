@@ -58,6 +58,7 @@ static void positions(void) {
     assert(!bits_contains_each(&set, list, 4, answers, 3) && !answers[0]);
     assert(bits_remove(&set, 2) && bits_contains_each(&set, list, 4, answers, 4));
     assert(answers[0] && !answers[1] && answers[2] && !answers[3]);
+    assert(!bits_remove_all(&set, list, 4) && bits_contains(&set, 69) && bits_remove_all(&set, list, 3) && bits_is_clear(&set));
     bits_clear(&set);
     assert(bits_is_clear(&set) && set.length == 70);
     free(set.words);
@@ -165,6 +166,11 @@ static void parts(void) {
     IS(a, 70, 2);
     assert(bits_copy_range(&a, &b, 3, 68, 1) && bits_copy_range(&a, &b, 70, 70, 70));
     IS(a, 70, 1, 2, 64, 65);
+    uint64_t number = 7;
+    assert(!bits_load(&a, 6, 65, &number) && !bits_load(&a, 66, 5, &number) && !bits_load(&a, SIZE_MAX, 2, &number) && number == 7);
+    assert(bits_load(&a, 62, 8, &number) && number == 12 && bits_load(&a, 1, 64, &number) && number == (UINT64_C(1) << 63 | 3));
+    assert(!bits_store(&a, 6, 65, 0) && !bits_store(&a, 66, 5, 0) && bits_store(&a, 62, 4, 21) && bits_store(&a, 70, 0, 1));
+    IS(a, 70, 1, 2, 62, 64);
     part.length = 3;
     assert(bits_settle(part.words, part.count, 3, 3));
     IS(part, 3, 0, 2);

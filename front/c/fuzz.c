@@ -240,6 +240,27 @@ static void list(one *it) {
     HOLDS(bits_insert_all(&it->set, positions, count) == all);
     for (size_t k = 0; all && k < count; k++)
         it->has[positions[k]] = 1;
+    for (size_t k = 0; k < count; k++)
+        positions[k] = k % 2 ? positions[k] : number(it->set.length);
+    all = true;
+    for (size_t k = 0; k < count; k++)
+        all = all && positions[k] < it->set.length;
+    HOLDS(bits_remove_all(&it->set, positions, count) == all);
+    for (size_t k = 0; all && k < count; k++)
+        it->has[positions[k]] = 0;
+}
+
+static void load_and_store(one *it) {
+    const size_t start = number(it->set.length), width = byte() % 70;
+    const bool fits = width <= 64 && start <= it->set.length && width <= it->set.length - start;
+    uint64_t loaded = 77777, wanted = fits ? 0 : 77777;
+    for (size_t k = 0; fits && k < width; k++)
+        wanted |= (uint64_t)it->has[start + k] << k;
+    HOLDS(bits_load(&it->set, start, width, &loaded) == fits && loaded == wanted);
+    const uint64_t stored = UINT64_MAX / (byte() + 1u);
+    HOLDS(bits_store(&it->set, start, width, stored) == fits);
+    for (size_t k = 0; fits && k < width; k++)
+        it->has[start + k] = stored >> k & 1;
 }
 
 static void neighbours(one *it) {
@@ -648,7 +669,7 @@ static void growth(const one *it) {
 /* ---- */
 
 static void step(void) {
-    const unsigned which = byte() % 24, at = byte() % SETS;
+    const unsigned which = byte() % 25, at = byte() % SETS;
     one *it = &sets[at];
     const one *other = &sets[(at + 1) % SETS], *third = &sets[(at + 2) % SETS];
     void (*const alone[])(one *) = {numbers, settle, position, block, list, neighbours, gap, range, shift, bytes, ranks, texts};
@@ -665,6 +686,7 @@ static void step(void) {
     case 21: loops(it); break;
     case 22: tables(); break;
     case 23: growth(it); break;
+    case 24: load_and_store(it); break;
     default: alone[which](it);
     }
     nothing_else_is_written();

@@ -282,6 +282,11 @@ impl FixedBitSet {
         assert!(unsafe { bits_insert_all(&mut self.lent_mut(), list, count) });
     }
 
+    pub fn remove_all(&mut self, positions: &[usize]) {
+        let (list, count) = (positions.as_ptr(), positions.len());
+        assert!(unsafe { bits_remove_all(&mut self.lent_mut(), list, count) });
+    }
+
     pub fn contains_each(&self, positions: &[usize], answers: &mut [bool]) {
         let (places, count) = (NonNull::from(&mut *answers).cast(), answers.len());
         assert!(unsafe {
@@ -359,6 +364,16 @@ impl FixedBitSet {
     pub fn copy_range(&mut self, other: &Self, range: Range<usize>, at: usize) {
         let (to, other) = (&mut self.lent_mut(), other.lent());
         assert!(unsafe { bits_copy_range(to, &other, range.start, range.end, at) });
+    }
+
+    pub fn load(&self, start: usize, width: usize) -> u64 {
+        let mut number = 0;
+        assert!(unsafe { bits_load(&self.lent(), start, width, &mut number) });
+        number as u64
+    }
+
+    pub fn store(&mut self, start: usize, width: usize, number: u64) {
+        assert!(unsafe { bits_store(&mut self.lent_mut(), start, width, number as usize) });
     }
 
     pub fn append(&mut self, other: &Self) {

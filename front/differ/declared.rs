@@ -90,6 +90,7 @@ of_archive! {
     pub fn bits_set(set: &mut Lent, bit: usize, enabled: bool) -> bool;
     pub fn bits_set_block(set: &mut Lent, index: usize, block: usize) -> bool;
     pub fn bits_insert_all(set: &mut Lent, positions: *const usize, count: usize) -> bool;
+    pub fn bits_remove_all(set: &mut Lent, positions: *const usize, count: usize) -> bool;
     pub fn bits_contains_each(
         set: &Lent,
         positions: *const usize,
@@ -161,6 +162,8 @@ of_archive! {
         end: usize,
         at: usize,
     ) -> bool;
+    pub fn bits_load(set: &Lent, start: usize, width: usize, number: &mut usize) -> bool;
+    pub fn bits_store(set: &mut Lent, start: usize, width: usize, number: usize) -> bool;
     pub fn bits_bytes(length: usize) -> usize;
     pub fn bits_from_bytes(set: &mut Lent, bytes: *const u8, count: usize);
     pub fn bits_to_bytes(set: &Lent, bytes: NonNull<u8>, count: usize) -> bool;

@@ -204,11 +204,14 @@ impl World {
             13 if bit < n => set.set(bit, enabled),
             14 if bit < n => set.copy_bit(from, bit),
             15 if n > 0 => set.set_block(self.below(n.div_ceil(64)), self.block()),
-            16 if n > 0 => set.insert_all(
-                &(0..self.below(9))
-                    .map(|_| self.below(n))
-                    .collect::<Vec<_>>(),
-            ),
+            16 if n > 0 => {
+                let list: Vec<usize> = (0..self.below(9)).map(|_| self.below(n)).collect();
+                if enabled {
+                    set.insert_all(&list);
+                } else {
+                    set.remove_all(&list);
+                }
+            }
             17 => {
                 let all: Vec<usize> = (0..self.below(9)).map(|_| self.near(n)).collect();
                 let mut answers = vec![false; all.len()];
@@ -301,6 +304,11 @@ impl World {
             51 => set.union_with_own_shift(by),
             52 => *set = set.slice(start..end),
             53 if by <= n && end - start <= n - by => set.copy_range(other, start..end, by),
+            53 if by <= n => {
+                let width = self.below(65).min(n - by);
+                self.say(set.load(by, width));
+                set.store(by, width, self.block() as u64);
+            }
             54 if n + other.len() < 100_000 => set.append(other),
             55 => {
                 let bytes = set.to_bytes();

@@ -1,31 +1,12 @@
-//! Lists of positions in one call: put into a set, or looked up in it.
+//! Lists of positions in one call: put into a set, taken out of it, or looked up in it.
 
 ghost use Rattle.std.specs.Prelude.{◌≡◌, ◌==◌, ◌<◌, ◌↔◌, IsTrue, true};
 ghost use Rattle.std.specs.Prelude.{false, map, length, if◌then◌else◌};
 ghost use Rattle.std.specs.List.{All};
 ghost use Rattle.fixedbitset.specs.Bits as model;
-ghost use Rattle.fixedbitset.specs.Bits.{of_words};
-ghost use Rattle.fixedbitset.specs.Stored.{IsClean};
 ghost use Rattle.fixedbitset.specs.Views.{value, held};
 
-use bitlanes::Block;
 use fixedbitset::views::{Bits, BitsMut};
-
-// Sets each position of the list. It takes the words apart from the set: of a set behind a pointer,
-// each turn would look anew where they lie.
-#[inline(always)]
-fn insert_each(words: &mut [Block], length: usize, positions: &[usize])
-    requires lent { IsClean length words.old }
-    requires below { All (λ p. p < length) positions.now }
-    ensures value { of_words length words.new
-        ≡ model.add_all (of_words length words.old) positions.now }
-    ensures clean { IsClean length words.new }
-{
-    for position in positions {
-        let words = &mut *words;
-        BitsMut { words, length }.insert(*position);
-    }
-}
 
 /// Sets each position of the list, and answers whether all of them are below the length;
 /// else nothing is changed.
@@ -35,9 +16,24 @@ pub extern "C" fn bits_insert_all(set: &mut BitsMut<'_>, positions: &[usize]) ->
     ensures value { held set.new
         ≡ (if result then model.add_all (held set.old) positions.now else held set.old) }
 {
-    let length = set.length;
-    if positions.iter().all(|position| *position < length) {
-        insert_each(set.words, length, positions);
+    if all_below(positions, set.length) {
+        set.insert_all(positions);
+        true
+    } else {
+        false
+    }
+}
+
+/// Clears each position of the list, and answers whether all of them are below the length;
+/// else nothing is changed.
+#[unsafe(no_mangle)]
+pub extern "C" fn bits_remove_all(set: &mut BitsMut<'_>, positions: &[usize]) -> bool
+    ensures answer { IsTrue result ↔ All (λ p. p < set.old.length) positions.now }
+    ensures value { held set.new
+        ≡ (if result then model.remove_all (held set.old) positions.now else held set.old) }
+{
+    if all_below(positions, set.length) {
+        set.remove_all(positions);
         true
     } else {
         false
@@ -63,4 +59,12 @@ pub extern "C" fn bits_contains_each(
         answers[index] = set.contains(*position);
     }
     true
+}
+
+// Whether each position of the list is below the length.
+#[inline(always)]
+fn all_below(positions: &[usize], length: usize) -> bool
+    ensures { IsTrue result ↔ All (λ p. p < length) positions.now }
+{
+    positions.iter().all(|position| *position < length)
 }

@@ -1,11 +1,13 @@
-//! Positions moved up or down by any number, sets joined with moved ones, and parts. The words of a
-//! set that is changed may not be those of the other.
+//! Positions moved up or down by any number, sets joined with moved ones, parts, and parts as
+//! numbers. The words of a set that is changed may not be those of the other.
 
 ghost use Rattle.std.specs.Prelude.{◌≡◌, ◌+◌, ◌-◌, ◌&&◌, ◌==◌, nat_le, if◌then◌else◌};
+ghost use Rattle.fixedbitset.specs.Bits.{number_at};
 ghost use Rattle.fixedbitset.specs.Parts as parts;
 ghost use Rattle.fixedbitset.specs.Views.{value, held};
 
-use bitlanes::Steps;
+use bitlanes::word::BITS;
+use bitlanes::{Block, Steps};
 use fixedbitset::views::{Bits, BitsMut};
 
 /// Moves each position up by `by`. Those that are not below the length then fall away.
@@ -89,4 +91,51 @@ pub extern "C" fn bits_copy_range(
     }
     set.copy_range(*other, start, end, at, &mut Steps::new());
     true
+}
+
+/// Writes the `width` positions from `start` on as a number: its bit `i` is position `start + i`.
+/// It answers whether it did: where the width is 64 at most, and the positions are below the
+/// length. Else nothing is written.
+#[unsafe(no_mangle)]
+pub extern "C" fn bits_load(set: &Bits<'_>, start: usize, width: usize, number: &mut Block) -> bool
+    ensures answer { result ≡ (nat_le width 64 && nat_le (start + width) set.now.length) }
+    ensures value { number.new
+        ≡ (if result then number_at (value set.now) start width else number.old) }
+{
+    if is_part(set.length, start, width) {
+        *number = set.load(start, width);
+        true
+    } else {
+        false
+    }
+}
+
+/// Makes the `width` positions from `start` on the lowest bits of the number: position `start + i`
+/// becomes its bit `i`. It answers whether it did: where the width is 64 at most, and the
+/// positions are below the length. Else nothing is changed.
+#[unsafe(no_mangle)]
+pub extern "C" fn bits_store(
+    set: &mut BitsMut<'_>,
+    start: usize,
+    width: usize,
+    number: Block,
+) -> bool
+    ensures answer { result ≡ (nat_le width 64 && nat_le (start + width) set.old.length) }
+    ensures value { held set.new
+        ≡ (if result then parts.store (held set.old) start width number else held set.old) }
+{
+    if is_part(set.length, start, width) {
+        set.store(start, width, number);
+        true
+    } else {
+        false
+    }
+}
+
+// Whether so many positions from `start` on are below the length, and fit a word.
+#[inline(always)]
+fn is_part(length: usize, start: usize, width: usize) -> bool
+    ensures { result ≡ (nat_le width 64 && nat_le (start + width) length) }
+{
+    width <= BITS && start <= length && width <= length - start
 }

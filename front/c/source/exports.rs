@@ -155,6 +155,11 @@ pub unsafe extern "C" fn fixedbitset_bits_insert_all(set: *mut CSet, positions: 
 }
 
 #[no_mangle]
+pub unsafe extern "C" fn fixedbitset_bits_remove_all(set: *mut CSet, positions: *const usize, positions_count: usize) -> bool {
+    bits_c::lists::bits_remove_all(&mut BitsMut::read(set), lent(positions, positions_count))
+}
+
+#[no_mangle]
 pub unsafe extern "C" fn fixedbitset_bits_contains_each(set: *const CSet, positions: *const usize, positions_count: usize, answers: *mut bool, answers_count: usize) -> bool {
     bits_c::lists::bits_contains_each(&Bits::read(set), lent(positions, positions_count), lent_mut(answers, answers_count))
 }
@@ -494,6 +499,16 @@ pub unsafe extern "C" fn fixedbitset_bits_slice(part: *mut CSet, set: *const CSe
 #[no_mangle]
 pub unsafe extern "C" fn fixedbitset_bits_copy_range(set: *mut CSet, other: *const CSet, start: usize, end: usize, at: usize) -> bool {
     bits_c::shifts::bits_copy_range(&mut BitsMut::read(set), &Bits::read(other), start, end, at)
+}
+
+#[no_mangle]
+pub unsafe extern "C" fn fixedbitset_bits_load(set: *const CSet, start: usize, width: usize, number: *mut Block) -> bool {
+    bits_c::shifts::bits_load(&Bits::read(set), start, width, &mut *number)
+}
+
+#[no_mangle]
+pub unsafe extern "C" fn fixedbitset_bits_store(set: *mut CSet, start: usize, width: usize, number: Block) -> bool {
+    bits_c::shifts::bits_store(&mut BitsMut::read(set), start, width, number)
 }
 
 #[no_mangle]

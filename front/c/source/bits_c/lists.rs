@@ -1,25 +1,24 @@
 // Made by front/erase from crates/bits_c/src/lists.rt: change that, and not this.
-//! Lists of positions in one call: put into a set, or looked up in it.
+//! Lists of positions in one call: put into a set, taken out of it, or looked up in it.
 
-use crate::proved::bitlanes::Block;
 use crate::proved::fixedbitset::views::{Bits, BitsMut};
-
-// Sets each position of the list. It takes the words apart from the set: of a set behind a pointer,
-// each turn would look anew where they lie.
-#[inline(always)]
-fn insert_each(words: &mut [Block], length: usize, positions: &[usize]) {
-    for position in positions {
-        let words = &mut *words;
-        BitsMut { words, length }.insert(*position);
-    }
-}
 
 /// Sets each position of the list, and answers whether all of them are below the length;
 /// else nothing is changed.
 pub fn bits_insert_all(set: &mut BitsMut<'_>, positions: &[usize]) -> bool {
-    let length = set.length;
-    if positions.iter().all(|position| *position < length) {
-        insert_each(set.words, length, positions);
+    if all_below(positions, set.length) {
+        set.insert_all(positions);
+        true
+    } else {
+        false
+    }
+}
+
+/// Clears each position of the list, and answers whether all of them are below the length;
+/// else nothing is changed.
+pub fn bits_remove_all(set: &mut BitsMut<'_>, positions: &[usize]) -> bool {
+    if all_below(positions, set.length) {
+        set.remove_all(positions);
         true
     } else {
         false
@@ -40,4 +39,10 @@ pub fn bits_contains_each(
         answers[index] = set.contains(*position);
     }
     true
+}
+
+// Whether each position of the list is below the length.
+#[inline(always)]
+fn all_below(positions: &[usize], length: usize) -> bool {
+    positions.iter().all(|position| *position < length)
 }

@@ -1,8 +1,9 @@
 // Made by front/erase from crates/bits_c/src/shifts.rt: change that, and not this.
-//! Positions moved up or down by any number, sets joined with moved ones, and parts. The words of a
-//! set that is changed may not be those of the other.
+//! Positions moved up or down by any number, sets joined with moved ones, parts, and parts as
+//! numbers. The words of a set that is changed may not be those of the other.
 
-use crate::proved::bitlanes::Steps;
+use crate::proved::bitlanes::word::BITS;
+use crate::proved::bitlanes::{Block, Steps};
 use crate::proved::fixedbitset::views::{Bits, BitsMut};
 
 /// Moves each position up by `by`. Those that are not below the length then fall away.
@@ -61,4 +62,39 @@ pub fn bits_copy_range(
     }
     set.copy_range(*other, start, end, at, &mut Steps::new());
     true
+}
+
+/// Writes the `width` positions from `start` on as a number: its bit `i` is position `start + i`.
+/// It answers whether it did: where the width is 64 at most, and the positions are below the
+/// length. Else nothing is written.
+pub fn bits_load(set: &Bits<'_>, start: usize, width: usize, number: &mut Block) -> bool {
+    if is_part(set.length, start, width) {
+        *number = set.load(start, width);
+        true
+    } else {
+        false
+    }
+}
+
+/// Makes the `width` positions from `start` on the lowest bits of the number: position `start + i`
+/// becomes its bit `i`. It answers whether it did: where the width is 64 at most, and the
+/// positions are below the length. Else nothing is changed.
+pub fn bits_store(
+    set: &mut BitsMut<'_>,
+    start: usize,
+    width: usize,
+    number: Block,
+) -> bool {
+    if is_part(set.length, start, width) {
+        set.store(start, width, number);
+        true
+    } else {
+        false
+    }
+}
+
+// Whether so many positions from `start` on are below the length, and fit a word.
+#[inline(always)]
+fn is_part(length: usize, start: usize, width: usize) -> bool {
+    width <= BITS && start <= length && width <= length - start
 }
