@@ -151,7 +151,8 @@ impl FixedBitSet {
     ///
     /// **Panics** where one is at or past the length, with the first that is. Then nothing is set.
     ///
-    /// Proved: what each position leaves ([contract](crate::contracts#fixedbitsetbitsmutinsert)).
+    /// Proved: what it leaves, for all sets and all positions below the length
+    /// ([contract](crate::contracts#fixedbitsetbitsmutinsert_all)).
     ///
     /// ```
     /// # use fixedbitset::FixedBitSet;
@@ -163,6 +164,25 @@ impl FixedBitSet {
     #[track_caller]
     pub fn insert_all(&mut self, positions: &[usize]) {
         self.as_bits_mut().insert_all(positions);
+    }
+
+    /// Clears each of the positions, in any order.
+    ///
+    /// **Panics** where one is at or past the length, with the first that is. Then nothing is cleared.
+    ///
+    /// Proved: what it leaves, for all sets and all positions below the length
+    /// ([contract](crate::contracts#fixedbitsetbitsmutremove_all)).
+    ///
+    /// ```
+    /// # use fixedbitset::FixedBitSet;
+    /// let mut set: FixedBitSet = [3, 5, 7].into_iter().collect();
+    /// set.remove_all(&[7, 3, 7]);
+    /// assert_eq!(set.ones().collect::<Vec<_>>(), [5]);
+    /// ```
+    #[inline]
+    #[track_caller]
+    pub fn remove_all(&mut self, positions: &[usize]) {
+        self.as_bits_mut().remove_all(positions);
     }
 
     /// Writes for each of the positions whether it is set. At or past the length none is.

@@ -182,7 +182,8 @@ impl BitsMut<'_> {
     ///
     /// **Panics** where one is at or past the length, with the first that is. Then nothing is set.
     ///
-    /// Proved: what each position leaves ([contract](crate::contracts#fixedbitsetbitsmutinsert)).
+    /// Proved: what it leaves, for all sets and all positions below the length
+    /// ([contract](crate::contracts#fixedbitsetbitsmutinsert_all)).
     ///
     /// ```
     /// # use fixedbitset::BitsMut;
@@ -194,10 +195,38 @@ impl BitsMut<'_> {
     #[inline]
     #[track_caller]
     pub fn insert_all(&mut self, positions: &[usize]) {
+        self.assert_all_below("insert at", positions);
+        self.view.insert_all(positions);
+    }
+
+    /// [`FixedBitSet::remove_all`](crate::FixedBitSet::remove_all).
+    ///
+    /// **Panics** where one is at or past the length, with the first that is. Then nothing is cleared.
+    ///
+    /// Proved: what it leaves, for all sets and all positions below the length
+    /// ([contract](crate::contracts#fixedbitsetbitsmutremove_all)).
+    ///
+    /// ```
+    /// # use fixedbitset::BitsMut;
+    /// let mut words = [9, 2, 0, 0];
+    /// let mut set = BitsMut::over(&mut words, 70).unwrap();
+    /// set.remove_all(&[65, 0, 65]);
+    /// assert_eq!(words, [8, 0, 0, 0]);
+    /// ```
+    #[inline]
+    #[track_caller]
+    pub fn remove_all(&mut self, positions: &[usize]) {
+        self.assert_all_below("remove at", positions);
+        self.view.remove_all(positions);
+    }
+
+    // Panics with the first that is at or past the length.
+    #[inline]
+    #[track_caller]
+    fn assert_all_below(&self, call: &str, positions: &[usize]) {
         if let Some(past) = positions.iter().find(|bit| **bit >= self.len()) {
-            self.assert_below("insert at", *past);
+            self.assert_below(call, *past);
         }
-        positions.iter().for_each(|bit| self.view.insert(*bit));
     }
 
     /// [`FixedBitSet::set_block`](crate::FixedBitSet::set_block).
@@ -435,6 +464,27 @@ impl BitsMut<'_> {
         }
         self.view
             .copy_range(other.view, start, end, at, &mut Steps::new());
+    }
+
+    /// [`FixedBitSet::store`](crate::FixedBitSet::store).
+    ///
+    /// **Panics** where the width is over 64, and where the positions are not all below the length.
+    ///
+    /// Proved: what it leaves, for all sets, all numbers and all such positions
+    /// ([contract](crate::contracts#fixedbitsetbitsmutstore)).
+    ///
+    /// ```
+    /// # use fixedbitset::BitsMut;
+    /// let mut words = [9, 2, 0, 0];
+    /// let mut set = BitsMut::over(&mut words, 70).unwrap();
+    /// set.store(62, 4, 5);
+    /// assert_eq!(words, [9 | 1 << 62, 1, 0, 0]);
+    /// ```
+    #[inline]
+    #[track_caller]
+    pub fn store(&mut self, start: usize, width: usize, number: u64) {
+        self.as_bits().assert_part(start, width);
+        self.view.store(start, width, number as Block);
     }
 
     /// [`FixedBitSet::union_with`](crate::FixedBitSet::union_with).

@@ -110,6 +110,44 @@ impl FixedBitSet {
         self.as_bits_mut().copy_range(other, range, at);
     }
 
+    /// The `width` positions from `start` on as a number: its bit `i` is position `start + i`.
+    ///
+    /// **Panics** where the width is over 64, and where the positions are not all below the length.
+    ///
+    /// Proved: the answer, for all sets and all such positions
+    /// ([contract](crate::contracts#fixedbitsetbitsload)).
+    ///
+    /// ```
+    /// # use fixedbitset::FixedBitSet;
+    /// let set: FixedBitSet = [1, 63, 65, 69].into_iter().collect();
+    /// assert_eq!(set.load(62, 8), 0b1000_1010);
+    /// ```
+    #[inline]
+    #[track_caller]
+    pub fn load(&self, start: usize, width: usize) -> u64 {
+        self.as_bits().load(start, width)
+    }
+
+    /// Makes the `width` positions from `start` on the lowest bits of the number: position `start + i` becomes its
+    /// bit `i`. All others stay.
+    ///
+    /// **Panics** where the width is over 64, and where the positions are not all below the length.
+    ///
+    /// Proved: what it leaves, for all sets, all numbers and all such positions
+    /// ([contract](crate::contracts#fixedbitsetbitsmutstore)).
+    ///
+    /// ```
+    /// # use fixedbitset::FixedBitSet;
+    /// let mut set: FixedBitSet = [1, 63, 65, 69].into_iter().collect();
+    /// set.store(62, 4, 0b0101);
+    /// assert_eq!(set.ones().collect::<Vec<_>>(), [1, 62, 64, 69]);
+    /// ```
+    #[inline]
+    #[track_caller]
+    pub fn store(&mut self, start: usize, width: usize, number: u64) {
+        self.as_bits_mut().store(start, width, number);
+    }
+
     /// Puts the positions of `other` behind those of this set. The lengths are added.
     ///
     /// **Panics** where the sum of the lengths is past `usize::MAX`.

@@ -183,4 +183,17 @@ impl Bits<'_> {
         }
         (start, end)
     }
+
+    /// Panics where so many positions from `start` on do not fit a number, or are not below the length.
+    #[inline]
+    #[track_caller]
+    pub(crate) fn assert_part(self, start: usize, width: usize) {
+        if width > 64 {
+            panics::wide(width);
+        }
+        let length = self.len();
+        if start > length || width > length - start {
+            panics::not_valid(start, start.saturating_add(width), length);
+        }
+    }
 }

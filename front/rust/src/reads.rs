@@ -86,6 +86,25 @@ impl<'a> Bits<'a> {
         each.for_each(|(bit, answer)| *answer = self.contains(*bit));
     }
 
+    /// [`FixedBitSet::load`](crate::FixedBitSet::load).
+    ///
+    /// **Panics** where the width is over 64, and where the positions are not all below the length.
+    ///
+    /// Proved: the answer, for all sets and all such positions
+    /// ([contract](crate::contracts#fixedbitsetbitsload)).
+    ///
+    /// ```
+    /// # use fixedbitset::Bits;
+    /// let set = Bits::over(&[9, 2, 0, 0], 70).unwrap();
+    /// assert_eq!(set.load(62, 8), 0b1000);
+    /// ```
+    #[inline]
+    #[track_caller]
+    pub fn load(self, start: usize, width: usize) -> u64 {
+        self.assert_part(start, width);
+        self.view.load(start, width) as u64
+    }
+
     /// [`FixedBitSet::is_clear`](crate::FixedBitSet::is_clear).
     ///
     /// Proved: the answer, for all sets ([contract](crate::contracts#fixedbitsetbitsis_clear)).

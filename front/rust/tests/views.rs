@@ -378,6 +378,18 @@ fn changes_of_many_positions_are_those_of_the_flags() {
             let list = [(); 3].map(|()| numbers.below(length));
             let with = |at: usize| list.contains(&at) || flags[at];
             check(flags, |set| set.insert_all(&list), with);
+            let without = |at: usize| !list.contains(&at) && flags[at];
+            check(flags, |set| set.remove_all(&list), without);
+            let (start, number) = (list[1], numbers.below(usize::MAX) as u64);
+            let width = numbers.below(65).min(length - start);
+            let stored = |at: usize| match (start..start + width).contains(&at) {
+                true => number >> (at - start) & 1 == 1,
+                false => flags[at],
+            };
+            check(flags, |set| set.store(start, width, number), stored);
+            let words = words_of(flags);
+            let loaded = (0..width).fold(0, |sum, i| sum | (flags[start + i] as u64) << i);
+            assert_eq!(set_of(&words, flags).load(start, width), loaded);
             let (index, value) = (list[0] / BITS, numbers.below(usize::MAX) as Block);
             let is_in = |at: usize| value >> (at % BITS) & 1 == 1;
             let written = |at: usize| {
@@ -555,9 +567,19 @@ fn what_no_call_takes_panics() {
         refused(|set| set.set(bit, true), &at("set at", bit));
         refused(|set| set.copy_bit(0, bit), &at("copy to", bit));
         refused(|set| set.insert_all(&[1, bit]), &at("insert at", bit));
+        refused(|set| set.remove_all(&[1, bit]), &at("remove at", bit));
         refused(|set| set.set_block(bit, 1), &at("set block at", bit));
     }
     refused(|set| set.set_block(2, 1), &at("set block at", 2));
+    let wide = "65 positions for a number of 64 bits";
+    refused(|set| set.store(0, 65, 1), wide);
+    refused(|set| assert_eq!(set.as_bits().load(0, 65), 0), wide);
+    for (start, width) in [(7, 64), (70, 1), (71, 0), (usize::MAX, 2)] {
+        let end = start.saturating_add(width);
+        let text = format!("invalid range {start}..{end} for a fixedbitset of size 70");
+        refused(|set| set.store(start, width, 1), &text);
+        refused(|set| assert_eq!(set.as_bits().load(start, width), 0), &text);
+    }
     for (start, end) in [(9, 8), (0, 71), (71, 71)] {
         let text = format!("invalid range {start}..{end} for a fixedbitset of size 70");
         refused(|set| set.insert_range(start..end), &text);
