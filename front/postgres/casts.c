@@ -11,20 +11,28 @@ FUNCTION(bitset_empty) {
     return stored_set(&set);
 }
 
-FUNCTION(bitset_from_positions) {
-    ArrayType *array = PG_GETARG_ARRAYTYPE_P(0);
-    bits set = new_set(checked_length(PG_GETARG_INT64(1)));
+/* Changes each position of the array that is argument n. */
+static void change_each(FunctionCallInfo fcinfo, int n, bits *set, bool (*call)(bits *, size_t)) {
+    ArrayType *array = PG_GETARG_ARRAYTYPE_P(n);
     const int64 *positions = (const int64 *)ARR_DATA_PTR(array);
     int count = ArrayGetNItems(ARR_NDIM(array), ARR_DIMS(array));
     if (array_contains_nulls(array))
         REFUSE(NULL_VALUE_NOT_ALLOWED, "positions of a bitset must not be null");
     for (int i = 0; i < count; i++) {
         CHECK_FOR_INTERRUPTS();
-        change_at(&set, bits_insert, positions[i]);
+        change_at(set, call, positions[i]);
     }
-    PG_FREE_IF_COPY(array, 0);
+    PG_FREE_IF_COPY(array, n);
+}
+
+FUNCTION(bitset_from_positions) {
+    bits set = new_set(checked_length(PG_GETARG_INT64(1)));
+    change_each(fcinfo, 0, &set, bits_insert);
     return stored_set(&set);
 }
+
+CHANGE(bitset_insert_all, change_each(fcinfo, 1, &changed, bits_insert))
+CHANGE(bitset_remove_all, change_each(fcinfo, 1, &changed, bits_remove))
 
 /* Positions as an array. They are freed. */
 static Datum array_of(Datum *positions, int32 count) {

@@ -87,6 +87,14 @@ CREATE FUNCTION first_aligned_gap(bitset, count bigint, align bigint, int8range 
 AS 'MODULE_PATHNAME', 'bitset_first_aligned_gap' LANGUAGE C IMMUTABLE STRICT PARALLEL SAFE;
 CREATE FUNCTION next_common(bitset, bitset, "from" bigint) RETURNS bigint
 AS 'MODULE_PATHNAME', 'bitset_next_common' LANGUAGE C IMMUTABLE STRICT PARALLEL SAFE;
+CREATE FUNCTION insert_all(bitset, positions bigint[]) RETURNS bitset
+AS 'MODULE_PATHNAME', 'bitset_insert_all' LANGUAGE C IMMUTABLE STRICT PARALLEL SAFE;
+CREATE FUNCTION remove_all(bitset, positions bigint[]) RETURNS bitset
+AS 'MODULE_PATHNAME', 'bitset_remove_all' LANGUAGE C IMMUTABLE STRICT PARALLEL SAFE;
+CREATE FUNCTION load(bitset, start bigint, width bigint) RETURNS bigint
+AS 'MODULE_PATHNAME', 'bitset_load' LANGUAGE C IMMUTABLE STRICT PARALLEL SAFE;
+CREATE FUNCTION store(bitset, start bigint, width bigint, number bigint) RETURNS bitset
+AS 'MODULE_PATHNAME', 'bitset_store' LANGUAGE C IMMUTABLE STRICT PARALLEL SAFE;
 CREATE FUNCTION bitset(bit) RETURNS bitset
 AS 'MODULE_PATHNAME', 'bitset_from_varbit' LANGUAGE C IMMUTABLE STRICT PARALLEL SAFE;
 CREATE FUNCTION bitset_to_bit(bitset, length integer, is_explicit boolean) RETURNS bit

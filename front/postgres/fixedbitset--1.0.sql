@@ -111,6 +111,14 @@ CREATE FUNCTION remove(bitset, "position" bigint) RETURNS bitset
 AS 'MODULE_PATHNAME', 'bitset_remove' LANGUAGE C IMMUTABLE STRICT PARALLEL SAFE;
 CREATE FUNCTION toggle(bitset, "position" bigint) RETURNS bitset
 AS 'MODULE_PATHNAME', 'bitset_toggle' LANGUAGE C IMMUTABLE STRICT PARALLEL SAFE;
+CREATE FUNCTION insert_all(bitset, positions bigint[]) RETURNS bitset
+AS 'MODULE_PATHNAME', 'bitset_insert_all' LANGUAGE C IMMUTABLE STRICT PARALLEL SAFE;
+CREATE FUNCTION remove_all(bitset, positions bigint[]) RETURNS bitset
+AS 'MODULE_PATHNAME', 'bitset_remove_all' LANGUAGE C IMMUTABLE STRICT PARALLEL SAFE;
+CREATE FUNCTION load(bitset, start bigint, width bigint) RETURNS bigint
+AS 'MODULE_PATHNAME', 'bitset_load' LANGUAGE C IMMUTABLE STRICT PARALLEL SAFE;
+CREATE FUNCTION store(bitset, start bigint, width bigint, number bigint) RETURNS bitset
+AS 'MODULE_PATHNAME', 'bitset_store' LANGUAGE C IMMUTABLE STRICT PARALLEL SAFE;
 CREATE FUNCTION shift_up(bitset, by bigint) RETURNS bitset
 AS 'MODULE_PATHNAME', 'bitset_shift_up' LANGUAGE C IMMUTABLE STRICT PARALLEL SAFE;
 CREATE FUNCTION shift_down(bitset, by bigint) RETURNS bitset

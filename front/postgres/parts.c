@@ -30,6 +30,27 @@ static void copy_in(bits *changed, const bits *other, Span span, int64 at) {
 
 CHANGE(bitset_copy_range, READ(other, 1); copy_in(&changed, other, read_span(fcinfo, 2, other), PG_GETARG_INT64(3)))
 
+/* Positions as a number: the last of 64 is the sign of a bigint. */
+static void refuse_number(const bits *set, int64 start, int64 width) {
+    REFUSE(ARRAY_SUBSCRIPT_ERROR, "%lld positions from %lld on are more than 64, or not within the length %zu", (long long)width,
+           (long long)start, set->length);
+}
+
+FUNCTION(bitset_load) {
+    READ(set, 0);
+    uint64_t number = 0;
+    if (!bits_load(set, PG_GETARG_INT64(1), PG_GETARG_INT64(2), &number))
+        refuse_number(set, PG_GETARG_INT64(1), PG_GETARG_INT64(2));
+    return Int64GetDatum(number);
+}
+
+static void store_in(bits *changed, int64 start, int64 width, int64 number) {
+    if (!bits_store(changed, start, width, number))
+        refuse_number(changed, start, width);
+}
+
+CHANGE(bitset_store, store_in(&changed, PG_GETARG_INT64(1), PG_GETARG_INT64(2), PG_GETARG_INT64(3)))
+
 /* The second set behind the first. */
 FUNCTION(bitset_append) {
     READ(a, 0);

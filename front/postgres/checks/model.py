@@ -125,6 +125,23 @@ def up(ones, by):
     return ones << min(by, 200000)
 
 
+def is_number(s, start, width):
+    return 0 <= width <= 64 and 0 <= start <= s.length - width
+
+
+def loaded(s, start, width):
+    if not is_number(s, start, width):
+        return wrong("2202E")
+    number = s.ones >> start & mask(0, width)
+    return number - (number >> 63 << 64)
+
+
+def stored(s, start, width, number):
+    if not is_number(s, start, width):
+        return wrong("2202E")
+    return Set(s.length, s.ones & ~mask(start, start + width) | (number & mask(0, width)) << start)
+
+
 def written(s, t, a, b, at):
     if not (0 <= a <= b <= t.length and 0 <= at <= s.length - (b - a)):
         return wrong("2202E")
@@ -215,6 +232,12 @@ CALLS = {
     "slice(s, int8range(a, b))": lambda s, t, p, a, b: ranged(s, a, b, lambda m: Set(b - a, (s.ones & m) >> a)),
     "copy_range(s, t, int8range(a, b), p)": lambda s, t, p, a, b: written(s, t, a, b, p),
     "copy_range(t, s, int8range(a, b), p / 2)": lambda s, t, p, a, b: written(t, s, a, b, int(p / 2)),
+    "load(s, p, b)": lambda s, t, p, a, b: loaded(s, p, b),
+    "load(s, a, b)": lambda s, t, p, a, b: loaded(s, a, b),
+    "store(s, a, b, p)": lambda s, t, p, a, b: stored(s, a, b, p),
+    "store(s, p, abs(p) % 65, -a)": lambda s, t, p, a, b: stored(s, p, abs(p) % 65, -a),
+    "insert_all(s, ARRAY[a, p])": lambda s, t, p, a, b: below(s, p, lambda: s.ones | 1 << p | 1 << a) if a < s.length else wrong("2202E"),
+    "remove_all(s, positions(t))": lambda s, t, p, a, b: Set(s.length, s.ones & ~t.ones) if t.ones >> s.length == 0 else wrong("2202E"),
     "shift_up(s, p)": lambda s, t, p, a, b: moved(s, p, lambda by: up(s.ones, by)),
     "shift_down(s, p)": lambda s, t, p, a, b: moved(s, p, lambda by: s.ones >> by),
     "union_with_shifted(s, t, p)": lambda s, t, p, a, b: moved(s, p, lambda by: s.ones | up(t.ones, by)),

@@ -22,6 +22,23 @@ SELECT copy_range(:s, :t, '[14,18)', -1);
 SELECT copy_range(:s, :t, '[14,101)', 0);
 SELECT copy_range(:s, :t, 'empty', 65);
 
+-- at most 64 positions as a number
+SELECT p, load(:s, p, 4), load(:s, p, 0), store(:s, p, 4, 10), store(:s, p, 3, -1) FROM unnest('{0,7,58,60}'::bigint[]) p;
+SELECT load(:s, 0, 64), load(:t, 36, 64), store(:s, 0, 64, load(:s, 0, 64)) = :s AS same, store(:t, 36, 64, -1), load('{}/0', 0, 0);
+SELECT load(:s, 61, 4);
+SELECT load(:t, 0, 65);
+SELECT load(:s, -1, 4);
+SELECT load(:s, 4, -1);
+SELECT store(:s, 61, 4, 0);
+SELECT store(:t, 0, 65, 0);
+SELECT store(:s, 9223372036854775807, 9223372036854775807, 0);
+
+-- many positions in one call
+SELECT insert_all(:s, '{63,0,5,0}'), remove_all(:s, '{63,0,12,63}'), insert_all(:s, '{}') = :s AS same, remove_all(:s, '{}') = :s AS same_too;
+SELECT insert_all(:s, '{0,64}');
+SELECT remove_all(:s, '{3,-1}');
+SELECT remove_all(:s, '{3,NULL}');
+
 -- one set behind another
 SELECT append(:s, :t), append(:t, :s), append(:s, '{}/0') = :s AS same, append('{}/0', :t) = :t AS same_too, append('{}/0', '{}/0');
 SELECT append('{0}/960', '{0}/1'), append('{959}/960', '{}/1');
