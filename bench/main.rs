@@ -9,10 +9,12 @@ mod carries;
 #[path = "../front/differ/declared.rs"]
 mod declared;
 mod limits;
+mod lists;
 mod memory;
 mod sets;
 mod turns;
 
 fn main() {
     limits::print();
+    lists::print();
 }
