@@ -8,6 +8,7 @@ TOP = pathlib.Path(__file__).resolve().parent.parent
 TIMES = "front/bench/results/times.csv"
 LINES = "bench/results/lines.csv"
 LIMITS = "bench/results/limits.csv"
+PETGRAPH = "front/bench/results/petgraph.csv"
 OTHERS = "bench/results/others.csv"
 QUESTIONS = "front/postgres/times/questions.csv"
 PIECES = "front/postgres/times/pieces.csv"
@@ -16,10 +17,8 @@ LONG = 10_000
 KINDS = [
     ("parts and stretches", r"ones_in|runs|first_gap|first_lacking"),
     ("positions moved, slices", r"shift_|union_with_(shifted|own_shift)|slice|append"),
-    ("rank beside `count_ones`", r"rank.* beside"),
     ("rank and select", r"rank|select"),
     ("tables", r"union_rows|close"),
-    ("whole walks of 5 positions", r"ones of 5"),
     ("counts of walks", r"count of"),
     ("walks of a set", r"ones|zeroes|into_ones"),
     ("walks of two sets", r"(union|intersection|difference|symmetric_difference)\b"),
@@ -31,8 +30,7 @@ KINDS = [
     ("ranges", r"\w+\("),
     ("new sets, copies, growth", r"bit|clone|with_capacity|extend|from_iter|grow by"),
     ("questions and order", r"is_|==|cmp|minimum|maximum"),
-    ("`hash`", r"hash"),
-    ("text", r"to_string"),
+    ("`hash`, text", r"hash|to_string"),
     ("single positions, `clear`", r""),
 ]
 KINDS_OF_LINES = [

@@ -165,6 +165,6 @@ pub fn print() {
             }
             ours = ours.min(nanoseconds(|| taken(black_box(words), &mut list)));
         }
-        println!("\"ones_take, {name} set\",\"lists positions, {name} set\",{limit:.1},{ours:.1}");
+        println!("\"ones_take, {name} set\",\"lists positions\",{limit:.1},{ours:.1}");
     }
 }
