@@ -3,6 +3,8 @@ use Rattle.std.specs.Prelude.{slice_get}
 use Rattle.std.specs.List.{last_or}
 use Rattle.std.proofs.Common.{◌≡◌, ℕ, ◌+◌, ◌*◌, ◌<◌, ◌≤◌, Bool, true, false, not, ◌&&◌, nat_lt, nat_le, min}
 use Rattle.std.proofs.Common.{filter, List, length, Option, Some, None, IfSome, IfNone, sym, subst, ap, ◌∙◌, arith}
+use Rattle.std.proofs.Common.{⊎_elim}
+use Rattle.std.proofs.lemmas.Bool.{cases_lt}
 use Rattle.std.proofs.lemmas.Bool.Decides.{nat_tests}
 use Rattle.bitwords.specs.Ascending.{ascending}
 use Rattle.bitwords.specs.AscendingFacts.{ascending-none, filter-ascending, first-ascending, last-ascending}
@@ -10,7 +12,7 @@ use Rattle.bitwords.specs.CountFacts.{count-zero}
 use Rattle.bitwords.specs.Neighbours.{IsNext, IsPrevious, NonePasses, IsNth}
 use Rattle.bitwords.specs.NthFacts.{nth-ascending, none-ascending}
 use Rattle.bitwords.specs.Rows.{has_bit, bit_test, bits_test, count_below}
-use Rattle.fixedbitset.specs.Bits.{Bits, asc, complement, contains, of_words, words}
+use Rattle.fixedbitset.specs.Bits.{Bits, asc, complement, contains, of_words, storage_words, words}
 use Rattle.fixedbitset.specs.BitsFacts.{length-complement, contains-complement}
 use Rattle.fixedbitset.specs.Neighbours.{next_one, next_zero, previous_one, previous_zero}
 use Rattle.fixedbitset.specs.Stored.{IsClean}
@@ -158,3 +160,14 @@ nth_one_of v ws end index is long found nth below none = listed found nth below 
     listed None nth below none =
         sym (none-ascending (has_bit ws) (64 * length ws) index
         (omega (arith, none, before, ap (λ k. count_below (has_bit ws) (64 * k)) long)))
+
+-- the fewer words of two sets are those of the lesser length
+pub fewer_words : (n m : ℕ) → min (storage_words n) (storage_words m) ≡ storage_words (min n m)
+fewer_words n m = ⊎_elim
+    (λ (less : n < m).
+    let low : min n m ≡ n = omega (arith, less) in
+    rw low (omega (arith, less)))
+    (λ (more : m ≤ n).
+    let low : min n m ≡ m = omega (arith, more) in
+    rw low (omega (arith, more)))
+    (cases_lt n m)

@@ -1,0 +1,12 @@
+use Rattle.std.proofs.Common.{rules, ◌∙◌}
+use Rattle.fixedbitset.proofs.Words.{changed_clean, changed_value}
+use Rattle.fixedbitset.proofs.counted.changes.intersect_with_change.Goals as goal
+
+pub invariant_of-set : goal.invariant_of-set
+invariant_of-set c =
+    changed_clean c.set.inside.words _ _ _ _ c.set.invariant c.intersect_with_change.ensures.value (search rules)
+
+pub returns-clause-value : goal.returns-clause-value
+returns-clause-value c =
+    changed_value c.set.inside.words _ _ _ _ c.set.invariant c.intersect_with_change.ensures.value (search rules)
+    ∙ (search rules)

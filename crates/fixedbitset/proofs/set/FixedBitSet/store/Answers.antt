@@ -1,0 +1,11 @@
+use Rattle.std.proofs.Common.{rules, ◌∙◌}
+use Rattle.fixedbitset.proofs.Words.{changed_clean, changed_value}
+use Rattle.fixedbitset.proofs.set.FixedBitSet.store.Goals as goal
+
+pub invariant_of-self : goal.invariant_of-self
+invariant_of-self c =
+    changed_clean c.self.inside.words _ _ _ _ c.self.invariant c.store.ensures (search rules)
+
+pub returns : goal.returns
+returns c =
+    changed_value c.self.inside.words _ _ _ _ c.self.invariant c.store.ensures (search rules) ∙ (search rules)

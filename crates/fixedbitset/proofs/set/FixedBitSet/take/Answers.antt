@@ -1,0 +1,7 @@
+use Rattle.std.proofs.Common.{rules}
+use Rattle.fixedbitset.proofs.Words.{changed_clean}
+use Rattle.fixedbitset.proofs.set.FixedBitSet.take.Goals as goal
+
+pub invariant_of-self : goal.invariant_of-self
+invariant_of-self c =
+    changed_clean c.self.inside.words _ _ _ _ c.self.invariant c.take.ensures.value (search rules)
