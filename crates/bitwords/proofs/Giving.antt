@@ -1,11 +1,12 @@
 -- What the positions of a word become, as they are given from the lowest on.
 use Rattle.std.proofs.Common.{◌≡◌, ℕ, zero, suc, ◌+◌, ◌-◌, ◌%◌, ◌^◌, ◌<◌, ◌≤◌, ◌==◌, Bool, true}
 use Rattle.std.proofs.Common.{false, cond, List, [], ◌∷◌, ◌++◌, inl, inr, ◌⊎◌, length, take}
-use Rattle.std.proofs.Common.{drop, get_or, slice_set, refl, sym, ap, ◌∙◌, arith, bit_and}
+use Rattle.std.proofs.Common.{drop, get_or, slice_set, map, refl, sym, ap, ◌∙◌, arith, bit_and}
 use Rattle.std.specs.Int.{w64, trailing_zeros}
 use Rattle.std.specs.Int.Count.{ones}
 use Rattle.std.proofs.lemmas.List.{drop-drop, get_or-drop, get_or-take, ext_get_or, length-take-le, length-drop}
 use Rattle.std.proofs.lemmas.List.{get_or-set_same, get_or-set_other, get_or_append_left, get_or-append-add}
+use Rattle.std.proofs.lemmas.List.{length-map, drop-map, get_or-map}
 use Rattle.std.proofs.lemmas.Bool.{cases_eq}
 use Rattle.std.proofs.lemmas.Bool.Decides.{leb_tells}
 use Rattle.std.proofs.lemmas.Slice.{take-put_mid}
@@ -16,7 +17,8 @@ use Rattle.bitlanes.specs.Bits.{bit}
 use Rattle.bitlanes.specs.Word.{IsLowestBit, ClearsBit}
 use Rattle.bitlanes.proofs.Lowest.{clears_lowest}
 use Rattle.bitwords.specs.Ascending.{ascending}
-use Rattle.bitwords.specs.AscendingFacts.{ascending-none, ascending-first, length-ascending, length-count}
+use Rattle.bitwords.specs.AscendingFacts.{ascending-none, ascending-first, ascending-same, length-ascending}
+use Rattle.bitwords.specs.AscendingFacts.{length-count}
 use Rattle.bitwords.proofs.Counted.{ones-bits}
 use Rattle.bitwords.specs.Handfuls.{word_positions}
 
@@ -46,26 +48,40 @@ pub positions-most : (base word : ℕ) → length (word_positions base word) ≤
 unfolding word_positions
 positions-most base word = length-ascending (λ p. bit word (p - base)) base 64
 
--- as many pass where the test is moved with the numbers
-length-moved : (f : ℕ → Bool) (base low n : ℕ)
-    → length (ascending (λ p. f (p - base)) (base + low) n) ≡ length (ascending f low n)
-length-moved f base low zero = refl
-length-moved f base low (suc n) =
+-- where the test is moved with the numbers, those that pass are moved
+ascending-moved : (f : ℕ → Bool) (base low n : ℕ)
+    → ascending (λ p. f (p - base)) (base + low) n ≡ map (λ b. base + b) (ascending f low n)
+ascending-moved f base low zero = refl
+ascending-moved f base low (suc n) =
     let here : base + low - base ≡ low = omega arith in
     let next : base + low + 1 ≡ base + (low + 1) = omega arith in
-    rw (here, next) (by_test (f low) _ _ (length-moved f base (low + 1) n))
+    rw (here, next, ascending-moved f base (low + 1) n) (by_test (f low) (ascending f (low + 1) n))
   where
-    by_test : (b : Bool) (xs ys : List ℕ) → length xs ≡ length ys
-        → length (cond b ((base + low) ∷ xs) xs) ≡ length (cond b (low ∷ ys) ys)
-    by_test true xs ys e = omega (arith, e)
-    by_test false xs ys e = e
+    by_test : (b : Bool) (xs : List ℕ) → cond b ((base + low) ∷ map (λ b. base + b) xs) (map (λ b. base + b) xs)
+        ≡ map (λ b. base + b) (cond b (low ∷ xs) xs)
+    by_test true xs = refl
+    by_test false xs = refl
+
+-- the bits that are set, moved up by the position of bit 0
+positions-moved : (base word : ℕ) → word_positions base word ≡ map (λ b. base + b) (ascending (bit word) 0 64)
+unfolding word_positions
+positions-moved base word =
+    let e : base ≡ base + 0 = omega arith in
+    ap (λ b. ascending (λ p. bit word (p - base)) b 64) e ∙ ascending-moved (bit word) base 0 64
+
+-- at position 0 they are the bits themselves
+pub positions-bits : (word : ℕ) → word_positions 0 word ≡ ascending (bit word) 0 64
+unfolding word_positions
+positions-bits word = ascending-same _ (bit word) 0 64
+    (λ i above below. let e : i - 0 ≡ i = omega arith in ap (bit word) e)
+
+pub positions-placed : (base word : ℕ) → map (λ b. base + b) (word_positions 0 word) ≡ word_positions base word
+positions-placed base word = ap (map (λ b. base + b)) (positions-bits word) ∙ sym (positions-moved base word)
 
 -- where the word stands makes no difference to how many they are
-pub length-bits : (base word : ℕ) → length (word_positions base word) ≡ length (ascending (bit word) 0 64)
-unfolding word_positions
+length-bits : (base word : ℕ) → length (word_positions base word) ≡ length (ascending (bit word) 0 64)
 length-bits base word =
-    let e : base ≡ base + 0 = omega arith in
-    ap (λ b. length (ascending (λ p. bit word (p - base)) b 64)) e ∙ length-moved (bit word) base 0 64
+    ap length (positions-moved base word) ∙ length-map (ascending (bit word) 0 64) (λ b. base + b)
 
 pub length-placed : (base other word : ℕ) → length (word_positions base word) ≡ length (word_positions other word)
 length-placed base other word = length-bits base word ∙ sym (length-bits other word)
@@ -95,16 +111,29 @@ step-rest base (suc m) fits =
     rw (less, positions-first base n (bit_and n (n - 1)) (trailing_zeros w64 n) is (clears_lowest n _ is)) refl
 
 -- the first, if there is one
-pub step-first : (base n : ℕ) → n < 2 ^ 64 → base + 64 ≤ 2 ^ 64 → 0 < length (word_positions base n)
-    → (base + trailing_zeros w64 n) % 2 ^ 64 ≡ get_or (word_positions base n) 0 0
-step-first base zero fits room some = absurd (omega (arith, ap length (positions-none base)))
-step-first base (suc m) fits room some =
+first-bit : (n : ℕ) → n < 2 ^ 64 → 0 < length (word_positions 0 n)
+    → (trailing_zeros w64 n < 64) × (trailing_zeros w64 n ≡ get_or (word_positions 0 n) 0 0)
+first-bit zero fits some = absurd (omega (arith, ap length (positions-none 0)))
+first-bit (suc m) fits some =
     let n : ℕ = suc m in
     let is = is_lowest n (omega arith) fits in
-    let small : (base + trailing_zeros w64 n) % 2 ^ 64 ≡ base + trailing_zeros w64 n = omega (arith, is.within) in
-    small
-    ∙ sym (ap (λ xs. get_or xs 0 0)
-    (positions-first base n (bit_and n (n - 1)) (trailing_zeros w64 n) is (clears_lowest n _ is)))
+    let same : trailing_zeros w64 n ≡ 0 + trailing_zeros w64 n = omega arith in (
+      is.within,
+      same
+          ∙ sym (ap (λ xs. get_or xs 0 0)
+          (positions-first 0 n (bit_and n (n - 1)) (trailing_zeros w64 n) is (clears_lowest n _ is))),
+    )
+
+-- what the first of the bits left is given as is the next that is to be written
+pub step-first : (f : ℕ → ℕ) (all : List ℕ) (n k x : ℕ) → n < 2 ^ 64 → word_positions 0 n ≡ drop k all
+    → (trailing_zeros w64 n < 64 → x ≡ f (trailing_zeros w64 n)) → 0 < length (drop k (map f all))
+    → x ≡ get_or (drop k (map f all)) 0 0
+step-first f all n k x fits rest is some =
+    let mapped : drop k (map f all) ≡ map f (word_positions 0 n) = drop-map f k all ∙ ap (map f) (sym rest) in
+    let left : 0 < length (word_positions 0 n) = omega (arith, ap length mapped, length-map (word_positions 0 n) f) in
+    let first = first-bit n fits left in
+    is first.0 ∙ ap f first.1 ∙ sym (get_or-map f (word_positions 0 n) 0 0 0 left)
+    ∙ sym (ap (λ xs. get_or xs 0 0) mapped)
 
 -- ---- what is written, as far as there is so much
 

@@ -1,10 +1,10 @@
 -- Some items are written to places, and then some more of those left.
-use Rattle.std.proofs.Common.{◌≡◌, ℕ, suc, ◌+◌, ◌-◌, ◌*◌, ◌<◌, ◌≤◌, List, [], ◌∷◌, ◌++◌}
-use Rattle.std.proofs.Common.{length, take, drop, refl, sym, ap, ◌∙◌, ⊎_elim, arith}
+use Rattle.std.proofs.Common.{◌≡◌, ℕ, zero, suc, ◌+◌, ◌-◌, ◌*◌, ◌<◌, ◌≤◌, List, [], ◌∷◌, ◌++◌}
+use Rattle.std.proofs.Common.{length, take, drop, get_or, refl, sym, ap, ◌∙◌, ⊎_elim, arith}
 use Rattle.std.proofs.Math.Seq.{take-append-add, take-append_seam, drop-append_seam, drop-append-add, take-add}
 use Rattle.std.proofs.lemmas.Bool.{cases_lt}
-use Rattle.std.proofs.lemmas.List.{length-take-le, length-append, length-drop, take-take}
-use Rattle.std.proofs.lemmas.List.{take-append-drop, drop_at, drop-drop, drop-append-le}
+use Rattle.std.proofs.lemmas.List.{append-nil, append_assoc, length-take-le, length-append, length-drop, take-take}
+use Rattle.std.proofs.lemmas.List.{get_or-drop, take-append-drop, drop_at, drop-drop, drop-append-le}
 use Rattle.std.proofs.lemmas.Slice.{take-put_mid}
 use borrow.Rule.Slice.PartMut.{put_mid}
 use Rattle.bitlanes.specs.Bits.{bit}
@@ -37,15 +37,34 @@ length-first at word words =
     ap length (ones_from-word at word words) ∙ length-append (word_positions at word) (ones_from (at + 64) words)
     ∙ ap (λ n. n + length (ones_from (at + 64) words)) (length-placed at 0 word)
 
--- a row has at least as many positions as its first four words
-pub most-ahead : (at : ℕ) (words : List ℕ) (back : ℕ) → 4 ≤ length words
-    → ones_ahead words ≤ length (ones_from at (words ++ back ∷ []))
-most-ahead at [] back long = absurd (omega arith)
-most-ahead at (a ∷ []) back long = absurd (omega arith)
-most-ahead at (a ∷ b ∷ []) back long = absurd (omega arith)
-most-ahead at (a ∷ b ∷ c ∷ []) back long = absurd (omega arith)
-most-ahead at (a ∷ b ∷ c ∷ d ∷ words) back long =
-    let rest : List ℕ = words ++ back ∷ [] in
+-- no word has none
+ones_from-none : (start : ℕ) → ones_from start [] ≡ []
+unfolding ones_from
+ones_from-none start = refl
+
+-- the first words', and then the last one's
+pub ones_from-last_word : (start end word : ℕ) (words : List ℕ) → end ≡ start + 64 * length words
+    → ones_from start (words ++ word ∷ []) ≡ ones_from start words ++ word_positions end word
+ones_from-last_word start end word [] is =
+    let here : start ≡ end = omega (arith, is) in
+    ones_from-word start word [] ∙ (λ j. word_positions (here j) word ++ ones_from-none (start + 64) j)
+    ∙ append-nil (word_positions end word) ∙ sym (ap (λ xs. xs ++ word_positions end word) (ones_from-none start))
+ones_from-last_word start end word (first ∷ words) is =
+    ones_from-word start first (words ++ word ∷ [])
+    ∙ ap (λ xs. word_positions start first ++ xs)
+    (ones_from-last_word (start + 64) end word words (omega (arith, is)))
+    ∙ sym (append_assoc (word_positions start first) (ones_from (start + 64) words) (word_positions end word))
+    ∙ ap (λ xs. xs ++ word_positions end word) (sym (ones_from-word start first words))
+
+-- a row has at least as many positions as any four words that follow each other
+pub most-in : (at k : ℕ) (words others : List ℕ) → k + 4 ≤ length words
+    → ones_ahead (drop k words) ≤ length (ones_from at (words ++ others))
+most-in at zero [] others long = absurd (omega arith)
+most-in at zero (a ∷ []) others long = absurd (omega arith)
+most-in at zero (a ∷ b ∷ []) others long = absurd (omega arith)
+most-in at zero (a ∷ b ∷ c ∷ []) others long = absurd (omega arith)
+most-in at zero (a ∷ b ∷ c ∷ d ∷ words) others long =
+    let rest : List ℕ = words ++ others in
     omega (
       arith,
       length-first at a (b ∷ c ∷ d ∷ rest),
@@ -53,6 +72,31 @@ most-ahead at (a ∷ b ∷ c ∷ d ∷ words) back long =
       length-first (at + 64 + 64) c (d ∷ rest),
       length-first (at + 64 + 64 + 64) d rest,
     )
+most-in at (suc k) [] others long = absurd (omega arith)
+most-in at (suc k) (a ∷ words) others long =
+    omega (arith, length-first at a (words ++ others), most-in (at + 64) k words others (omega arith))
+
+-- the positions of a row's last four words, of those behind its first
+pub most-behind : (at front : ℕ) (middle : List ℕ) → 4 ≤ length middle
+    → ones_ahead (drop (length middle - 4) middle) ≤ length (ones_from at (front ∷ middle))
+most-behind at front middle long =
+    let most = most-in (at + 64) (length middle - 4) middle [] (omega arith) in
+    omega (arith, length-first at front middle, rw append-nil at most)
+
+-- the word at a place and the three behind it are the first four of those from there on
+pub four-ahead : (words : List ℕ) (k : ℕ)
+    → ones_ahead (drop k words)
+    ≡ length (word_positions 0 (get_or words k 0)) + length (word_positions 0 (get_or words (k + 1) 0))
+    + length (word_positions 0 (get_or words (k + 2) 0)) + length (word_positions 0 (get_or words (k + 3) 0))
+four-ahead words k =
+    let here : k + 0 ≡ k = omega arith in
+    rw (
+      get_or-drop k words 0 0,
+      get_or-drop k words 1 0,
+      get_or-drop k words 2 0,
+      get_or-drop k words 3 0,
+      here,
+    ) refl
 
 -- as many more are in front, as were written to the front of the rest
 take-more : (a k r : ℕ) (xs ys : List ℕ) → a ≤ length xs → r ≤ length ys

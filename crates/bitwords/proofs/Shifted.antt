@@ -19,7 +19,7 @@ use Rattle.bitwords.specs.RowFacts.{AreWords, has_bit-past}
 -- ---- a word moved
 
 -- a bit of a word moved down
-bit-down : (x r i : ℕ) → bit (x / 2 ^ r) i ≡ bit x (r + i)
+pub bit-down : (x r i : ℕ) → bit (x / 2 ^ r) i ≡ bit x (r + i)
 bit-down x r i = ap (λ n. n % 2 == 1) (shr-shr x r i)
 
 -- a bit of the lowest 64
@@ -28,7 +28,7 @@ bit-cut x i h =
     ap (λ n. n == 1) (sym (bit_at_cat_low (x / 2 ^ 64) 64 (x % 2 ^ 64) i h)) ∙ ap (λ n. bit n i) (shr_split x 64)
 
 -- a bit of a word moved up
-bit-up_any : (x k i : ℕ) → i < 64 → bit (x * 2 ^ k % 2 ^ 64) i ≡ (nat_le k i && bit x (i - k))
+pub bit-up_any : (x k i : ℕ) → i < 64 → bit (x * 2 ^ k % 2 ^ 64) i ≡ (nat_le k i && bit x (i - k))
 bit-up_any x k i h =
     bit-cut (x * 2 ^ k) i h ∙ (let e : x * 2 ^ k ≡ x * 2 ^ k + 0 = omega arith in ap (λ n. bit n i) e)
     ∙ grind (arith, nat_tests, bit_at_cat_low x k 0 i, bit_at_cat_high x k 0 i (pow_pos k), bit_at-zero i)

@@ -1,5 +1,5 @@
 -- The positions of one word, and what a call that gives some of a list has written.
-use Rattle.std.specs.Prelude.{◌≡◌, ℕ, ◌+◌, ◌-◌, ◌*◌, ◌≤◌, List, length, take, drop, get_or}
+use Rattle.std.specs.Prelude.{◌≡◌, ℕ, ◌+◌, ◌-◌, ◌*◌, ◌<◌, ◌≤◌, not, ◌&&◌, nat_le, List, length, take, drop, get_or}
 use Rattle.std.specs.Int.{div_ceil}
 use Rattle.bitlanes.specs.Bits.{bit}
 use Rattle.bitwords.specs.Ascending.{ascending}
@@ -24,3 +24,7 @@ pub record GivesSome (items before : List ℕ) (count : ℕ) (after left : List 
   pub written : take count after ≡ take count items
   pub behind : drop (length items) after ≡ drop (length items) before
   pub rest : left ≡ drop count items
+
+-- Of each two bits that are `by` apart just one is set, and so is each bit that has none so far below it.
+abbrev pub ArePairs : (by word : ℕ) → Type 0
+ArePairs by word = (i : ℕ) → i < 64 → bit word i ≡ not (nat_le by i && bit word (i - by))

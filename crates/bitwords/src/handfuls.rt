@@ -5,9 +5,12 @@
 //! positions left, and the places behind those of the word hold anything until the positions of the
 //! next words are written there.
 
-ghost use Rattle.std.specs.Prelude.{◌≡◌, ℕ, ◌+◌, ◌<◌, ◌≤◌, ◌^◌, IsTrue, length, take, drop, get_or};
+ghost use Rattle.std.specs.Prelude.{◌≡◌, ℕ, ◌+◌, ◌-◌, ◌<◌, ◌≤◌, ◌^◌, IsTrue, if◌then◌else◌, length};
+ghost use Rattle.std.specs.Prelude.{take, drop, get_or, map, reverse};
 ghost use Rattle.std.specs.Int.RustNames.{count_ones};
+ghost use Rattle.bitlanes.specs.Bits.{bit};
 ghost use Rattle.bitwords.specs.Handfuls.{word_positions, in_eights, ones_ahead, GivesSome};
+ghost use Rattle.bitwords.specs.Handfuls.{ArePairs};
 ghost use Rattle.bitwords.specs.WalkedWords.{held_items, IsSpaced};
 
 use crate::cursors::{Held, Seen};
@@ -21,6 +24,40 @@ const GROUP: usize = 8;
 const AHEAD: usize = 4;
 
 const MANY: usize = 8;
+
+// What position a bit is given as, where the bits are taken from the lowest on. Bit 0 of the word
+// that has the positions has position `base`.
+trait Order {
+    ghost placed: { ℕ → ℕ → ℕ };
+
+    fn place(base: usize, bit: usize) -> usize
+        requires { base + 64 ≤ 2 ^ 64 }
+        ensures { bit < 64 → result ≡ placed base bit };
+}
+
+// The bits of the word itself, so that the positions ascend.
+struct Ascending;
+
+impl Order for Ascending {
+    ghost placed = { λ base bit. base + bit };
+
+    #[inline(always)]
+    fn place(base: usize, bit: usize) -> usize {
+        base.wrapping_add(bit)
+    }
+}
+
+// The bits of the word in reverse, so that the positions descend.
+struct Descending;
+
+impl Order for Descending {
+    ghost placed = { λ base bit. base + 63 - bit };
+
+    #[inline(always)]
+    fn place(base: usize, bit: usize) -> usize {
+        (base + (BITS - 1)).wrapping_sub(bit)
+    }
+}
 
 /// Writes the positions of the bits set in the word to the front of the slice, in ascending order.
 /// Bit 0 has position `base`. It answers how many they are.
@@ -42,11 +79,50 @@ pub fn give_word(word: Block, base: usize, places: &mut [usize]) -> usize
     ensures behind { drop (in_eights (count_ones word)) places.new
         ≡ drop (in_eights (count_ones word)) places.old }
 {
+    give_in_order::<Ascending>(word, base, places)
+}
+
+/// Writes the positions of the bits set in the word to the front of the slice, in descending
+/// order. Bit 0 has position `base`. It answers how many they are.
+///
+/// It reverses the bits of the word first, in some twenty instructions, and then takes the time of
+/// `give_word`. As there it writes a multiple of eight places, and those behind the positions hold
+/// anything then.
+///
+/// ```
+/// let mut places = [0; 8];
+/// assert_eq!(rt; handfuls::give_word_back(9, 640, &mut places), 2);
+/// assert_eq!(rt; places[0], 643);
+/// assert_eq!(rt; places[1], 640);
+/// ```
+#[inline(always)]
+pub fn give_word_back(word: Block, base: usize, places: &mut [usize]) -> usize
+    requires room { in_eights (count_ones word) ≤ length places.old }
+    requires fits { base + 64 ≤ 2 ^ 64 }
+    ensures count { result ≡ count_ones word }
+    ensures written { take result places.new ≡ reverse (word_positions base word) }
+    ensures behind { drop (in_eights (count_ones word)) places.new
+        ≡ drop (in_eights (count_ones word)) places.old }
+{
+    give_in_order::<Descending>(reversed(word), base, places)
+}
+
+// Writes what the positions of the bits set are given as, from the lowest bit on, in groups of
+// eight, and answers how many they are.
+#[inline(always)]
+fn give_in_order<O: Order>(word: Block, base: usize, places: &mut [usize]) -> usize
+    requires room { in_eights (count_ones word) ≤ length places.old }
+    requires fits { base + 64 ≤ 2 ^ 64 }
+    ensures count { result ≡ count_ones word }
+    ensures written { take result places.new ≡ map (O.placed base) (word_positions 0 word) }
+    ensures behind { drop (in_eights (count_ones word)) places.new
+        ≡ drop (in_eights (count_ones word)) places.old }
+{
     let count = word.count_ones() as usize;
     let mut left = word;
     let mut at = 0;
     while at < count {
-        left = give_eight(left, base, &mut places[at..at + GROUP]);
+        left = give_eight::<O>(left, base, &mut places[at..at + GROUP]);
         at += GROUP;
     }
     count
@@ -96,14 +172,81 @@ pub fn give_words<M: Seen + Drop>(held: &mut Held<M>, places: &mut [usize]) -> u
     count
 }
 
+/// Writes the positions of last words of those left to the front of the slice, in descending
+/// order, and takes these words. It answers how many positions they are.
+///
+/// As in `give_words` a word is given as long as there is room for its positions and seven more,
+/// and the four words before it are not the first one and have eight positions or more. Each word
+/// given takes the time of `give_word_back`.
+///
+/// ```
+/// let cursor = Cursor::over(Plain { words: &[1, 0, 0, 0, 255, 9] });
+/// let mut held = cursor.into_held();
+/// let mut places = [7; 10];
+/// assert_eq!(rt; handfuls::give_words_back(&mut held, &mut places), 2);
+/// assert_eq!(rt; places[0], 323);
+/// assert_eq!(rt; held.back, 255);
+/// ```
+#[inline(always)]
+pub fn give_words_back<M: Seen + Drop>(held: &mut Held<M>, places: &mut [usize]) -> usize
+    requires { IsSpaced held.old.front_at held.old.back_at (length (M.words held.old.middle))
+        held.old.back }
+    ensures spaced { IsSpaced held.new.front_at held.new.back_at
+        (length (M.words held.new.middle)) held.new.back }
+    ensures gives { GivesSome
+        (reverse (held_items held.old.front_at held.old.front (M.words held.old.middle)
+        held.old.back))
+        places.old result places.new
+        (reverse (held_items held.new.front_at held.new.front (M.words held.new.middle)
+        held.new.back)) }
+{
+    let mut count = 0;
+    while are_many_behind(&held.middle) {
+        let room = places.len() - count;
+        if room < held.back.count_ones() as usize + (GROUP - 1) {
+            break;
+        }
+        count += give_word_back(held.back, held.back_at, &mut places[count..]);
+        held.back = 0;
+        let Some(word) = held.middle.take_last() else {
+            break;
+        };
+        held.back = word;
+        held.back_at -= BITS;
+    }
+    count
+}
+
 // Whether the next words have many positions, and others follow them.
 #[inline(always)]
 fn are_many_ahead<M: Seen>(middle: &M) -> bool
     ensures long { IsTrue result → 4 ≤ length (M.words middle.now) }
     ensures many { IsTrue result → 8 ≤ ones_ahead (M.words middle.now) }
 {
-    middle.left() >= AHEAD
-        && ones_at(middle, 0) + ones_at(middle, 1) + ones_at(middle, 2) + ones_at(middle, 3) >= MANY
+    middle.left() >= AHEAD && ones_of_four(middle, 0) >= MANY
+}
+
+// Whether the last words have many positions, and others stand before them.
+#[inline(always)]
+fn are_many_behind<M: Seen>(middle: &M) -> bool
+    ensures long { IsTrue result → 4 ≤ length (M.words middle.now) }
+    ensures many { IsTrue result
+        → 8 ≤ ones_ahead (drop (length (M.words middle.now) - 4) (M.words middle.now)) }
+{
+    let left = middle.left();
+    left >= AHEAD && ones_of_four(middle, left - AHEAD) >= MANY
+}
+
+// How many positions the word at this place and the three behind it have.
+#[inline(always)]
+fn ones_of_four<M: Seen>(middle: &M, first: usize) -> usize
+    requires { first + 4 ≤ 2 ^ 64 }
+    ensures { result ≡ ones_ahead (drop first (M.words middle.now)) }
+{
+    ones_at(middle, first)
+        + ones_at(middle, first + 1)
+        + ones_at(middle, first + 2)
+        + ones_at(middle, first + 3)
 }
 
 // How many positions the word at this place has.
@@ -127,20 +270,45 @@ fn ones_of(word: Block) -> usize
     word.count_ones() as usize
 }
 
-// Writes the first eight of the positions, or all of them with any numbers behind, and answers the
-// word without their bits.
+// Writes what the first eight positions are given as, or all of them with any numbers behind, and
+// answers the word without their bits.
 #[inline(always)]
-fn give_eight(word: Block, base: usize, eight: &mut [usize]) -> Block
+fn give_eight<O: Order>(word: Block, base: usize, eight: &mut [usize]) -> Block
     requires room { length eight.old ≡ 8 }
     requires fits { base + 64 ≤ 2 ^ 64 }
-    ensures written { (j : ℕ) → j < 8 → j < length (word_positions base word)
-        → get_or eight.new j 0 ≡ get_or (word_positions base word) j 0 }
-    ensures rest { word_positions base result ≡ drop 8 (word_positions base word) }
+    ensures written { (j : ℕ) → j < 8 → j < length (word_positions 0 word)
+        → get_or eight.new j 0 ≡ get_or (map (O.placed base) (word_positions 0 word)) j 0 }
+    ensures rest { word_positions 0 result ≡ drop 8 (word_positions 0 word) }
 {
     let mut left = word;
     for index in 0..GROUP {
-        eight[index] = base.wrapping_add(left.trailing_zeros() as usize);
+        eight[index] = O::place(base, left.trailing_zeros() as usize);
         left &= left.wrapping_sub(1);
     }
     left
+}
+
+// The word with its bits in reverse.
+#[inline(always)]
+fn reversed(word: Block) -> Block
+    ensures { (i : ℕ) → i < 64 → bit result i ≡ bit word (63 - i) }
+{
+    let ones = swapped(word, 1, 0x5555_5555_5555_5555);
+    let twos = swapped(ones, 2, 0x3333_3333_3333_3333);
+    let fours = swapped(twos, 4, 0x0F0F_0F0F_0F0F_0F0F);
+    let eights = swapped(fours, 8, 0x00FF_00FF_00FF_00FF);
+    let sixteens = swapped(eights, 16, 0x0000_FFFF_0000_FFFF);
+    swapped(sixteens, 32, 0x0000_0000_FFFF_FFFF)
+}
+
+// The word where each two bits that are `by` apart change places: one that is set in `low`, and
+// the one above it.
+#[inline(always)]
+fn swapped(word: Block, by: usize, low: Block) -> Block
+    requires within { by < 64 }
+    requires pairs { ArePairs by low }
+    ensures { (i : ℕ) → i < 64
+        → bit result i ≡ bit word (if bit low i then i + by else i - by) }
+{
+    ((word >> by) & low) | ((word & low) << by)
 }

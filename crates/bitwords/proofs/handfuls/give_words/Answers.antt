@@ -3,7 +3,7 @@ use Rattle.std.proofs.Common.{take, drop, count_ones, refl, sym, ap, ◌∙◌, 
 use Rattle.std.proofs.lemmas.List.{length-take-le, length-drop}
 use Rattle.bitwords.specs.Handfuls.{word_positions, in_eights}
 use Rattle.bitwords.specs.WalkedWords.{held_items, ones_from}
-use Rattle.bitwords.proofs.Places.{ones_from-word, most-ahead, gives-first, gives-more, gives-none}
+use Rattle.bitwords.proofs.Places.{ones_from-word, most-in, gives-first, gives-more, gives-none}
 use Rattle.bitwords.proofs.handfuls.give_words.Goals as goal
 
 pub loop-room-init : goal.loop-room-init
@@ -56,7 +56,7 @@ loop-room-preserved g c =
     omega (
       arith,
       c.loop-room-test.ensures.many refl,
-      most-ahead (at + 64) middle back (c.loop-room-test.ensures.long refl),
+      most-in (at + 64) 0 middle (back ∷ []) (c.loop-room-test.ensures.long refl),
     ) in
     let next : held_items (at + 64) c.in-Some.word after back ≡ others =
     sym (ap (λ xs. ones_from (at + 64) (xs ++ back ∷ [])) split) in

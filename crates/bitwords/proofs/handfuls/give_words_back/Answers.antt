@@ -1,0 +1,95 @@
+use Rattle.std.proofs.Common.{◌≡◌, ℕ, ◌+◌, ◌-◌, ◌<◌, ◌≤◌, List, [], ◌∷◌, ◌++◌, length, reverse}
+use Rattle.std.proofs.Common.{take, drop, count_ones, refl, sym, ap, ◌∙◌, arith}
+use Rattle.std.proofs.lemmas.List.{length-take-le, length-drop, length-append, length-reverse, reverse-append}
+use Rattle.bitwords.specs.Handfuls.{word_positions, in_eights}
+use Rattle.bitwords.specs.WalkedWords.{held_items, ones_from}
+use Rattle.bitwords.proofs.Places.{ones_from-last_word, most-behind, gives-first, gives-more, gives-none}
+use Rattle.bitwords.proofs.handfuls.give_words_back.Goals as goal
+
+pub loop-room-init : goal.loop-room-init
+loop-room-init g c = record { spaced = c.requires; gives = gives-none _ c.args.places.now }
+
+pub overflow_sub-room : goal.overflow_sub-room
+overflow_sub-room g c = omega (arith, c.loop-room.invariant.gives.room, c.loop-room.auto.places)
+
+pub give_word_back-count-requires-clause-fits : goal.give_word_back-count-requires-clause-fits
+give_word_back-count-requires-clause-fits g c = c.loop-room.invariant.spaced.fits
+
+pub overflow_sub-held : goal.overflow_sub-held
+overflow_sub-held g c =
+    let long = c.loop-room-test.ensures.long refl in
+    let apart = c.loop-room.invariant.spaced.apart (omega (arith, long)) in
+    omega (arith, apart)
+
+pub loop-room-smaller : goal.loop-room-smaller
+loop-room-smaller g c =
+    let after : List ℕ = g.M.Middle.words c.take_last.new.self in
+    let shorter : length after < length (g.M.Middle.words c.loop-room.held.middle) =
+    omega (arith, ap length c.in-Some.ensures, length-append after (c.in-Some.word ∷ [])) in
+    shorter
+
+pub loop-room-preserved : goal.loop-room-preserved
+loop-room-preserved g c =
+    let inv = c.loop-room.invariant in
+    let at : ℕ = c.loop-room.held.front_at in
+    let front : ℕ = c.loop-room.held.front in
+    let back : ℕ = c.loop-room.held.back in
+    let back_at : ℕ = c.loop-room.held.back_at in
+    let middle : List ℕ = g.M.Middle.words c.loop-room.held.middle in
+    let after : List ℕ = g.M.Middle.words c.take_last.new.self in
+    let split : middle ≡ after ++ c.in-Some.word ∷ [] = c.in-Some.ensures in
+    let shorter : length middle ≡ length after + 1 =
+    omega (arith, ap length split, length-append after (c.in-Some.word ∷ [])) in
+    let apart = inv.spaced.apart (omega (arith, shorter)) in
+    let count : ℕ = c.loop-room.count in
+    let given : ℕ = c.give_word_back-count.result in
+    let room : ℕ = length c.loop-room.places - count in
+    let part : List ℕ = take room (drop count c.loop-room.places) in
+    let places : List ℕ = c.give_word_back-count.new.places in
+    let part_long : length part ≡ room =
+    length-take-le room (drop count c.loop-room.places) (omega (arith, length-drop count c.loop-room.places)) in
+    let long : length places ≡ length part = c.give_word_back-count.auto.places in
+    let gave = c.give_word_back-count.ensures in
+    let fits : count_ones back + 7 ≤ room = c.if-room-held.false in
+    let items : List ℕ = reverse (word_positions back_at back) in
+    let others : List ℕ = reverse (ones_from at (front ∷ middle)) in
+    let all : given ≡ length items =
+    sym (sym (ap length gave.written)
+    ∙ length-take-le given places (omega (arith, gave.count, fits, long, part_long))) in
+    let many : 8 ≤ length others =
+    omega (
+      arith,
+      c.loop-room-test.ensures.many refl,
+      most-behind at front middle (c.loop-room-test.ensures.long refl),
+      length-reverse (ones_from at (front ∷ middle)),
+    ) in
+    let next : reverse (held_items at front after c.in-Some.word) ≡ others =
+    ap (λ xs. reverse (ones_from at (front ∷ xs))) (sym split) in
+    let more = gives-first (reverse (held_items at front middle back)) items others
+    (reverse (held_items at front after c.in-Some.word)) part places given (in_eights (count_ones back))
+    (ap reverse (ones_from-last_word at back_at back (front ∷ middle) (omega (arith, apart)))
+    ∙ reverse-append (ones_from at (front ∷ middle)) (word_positions back_at back)) next all (omega (arith, gave.count))
+    (omega (arith, gave.count, all, many)) (omega (arith, gave.count, fits, part_long)) gave.written gave.behind in
+    record {
+      spaced =
+          record {
+            apart = λ _. omega (arith, shorter, apart);
+            order = omega (arith, shorter, apart);
+            fits = omega (arith, inv.spaced.fits);
+          };
+      gives = gives-more _ c.args.places.now c.loop-room.places places (reverse (held_items at front middle back))
+          (reverse (held_items at front after c.in-Some.word)) count room given c.loop-room.auto.places long inv.gives
+          more;
+    }
+
+pub returns-after-loop-room-clause-spaced : goal.returns-after-loop-room-clause-spaced
+returns-after-loop-room-clause-spaced g c = c.loop-room.invariant.spaced
+
+pub returns-after-loop-room-clause-gives : goal.returns-after-loop-room-clause-gives
+returns-after-loop-room-clause-gives g c = c.loop-room.invariant.gives
+
+pub returns-then-room-held-clause-spaced : goal.returns-then-room-held-clause-spaced
+returns-then-room-held-clause-spaced g c = c.loop-room.invariant.spaced
+
+pub returns-then-room-held-clause-gives : goal.returns-then-room-held-clause-gives
+returns-then-room-held-clause-gives g c = c.loop-room.invariant.gives

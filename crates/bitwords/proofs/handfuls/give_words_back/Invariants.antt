@@ -1,0 +1,17 @@
+use Rattle.std.proofs.Common.{length, reverse}
+use Rattle.bitwords.specs.Handfuls.{GivesSome}
+use Rattle.bitwords.specs.WalkedWords.{held_items, IsSpaced}
+use Rattle.bitwords.proofs.handfuls.give_words_back.Given as goal
+
+-- the words that are left have the positions that are left, and the others are given
+abbrev pub invariant-loop-room : goal.invariant-loop-room
+invariant-loop-room g l = record {
+  spaced : IsSpaced l.held.front_at l.held.back_at (length (g.M.Middle.words l.held.middle)) l.held.back;
+  gives : GivesSome
+      (reverse (held_items l.fn.held.front_at l.fn.held.front (g.M.Middle.words l.fn.held.middle) l.fn.held.back))
+      l.fn.places l.count l.places
+      (reverse (held_items l.held.front_at l.held.front (g.M.Middle.words l.held.middle) l.held.back));
+}
+
+abbrev pub decreases-loop-room : goal.decreases-loop-room
+decreases-loop-room g l = length (g.M.Middle.words l.held.middle)
