@@ -12,9 +12,9 @@ ghost use Rattle.bitwords.specs.Handfuls.{GivesSome};
 use crate::structs::{Ones, Pair, Sieve, Zeroes};
 use bitlanes::Block;
 use bitlanes::ops::{And, AndNot};
-use bitlanes::word::{BITS, take_lowest_bit};
+use bitlanes::word::{BITS, take_highest_bit, take_lowest_bit};
 use bitwords::cursors::{Cursor, Middle};
-use bitwords::handfuls::give_words;
+use bitwords::handfuls::{give_words, give_words_back};
 
 // What gives positions from both ends.
 trait Giver {
@@ -27,11 +27,15 @@ trait Giver {
         ensures { YieldsLast left self.old result self.new };
 }
 
-// What gives words as a whole, as long as they have many positions.
+// What gives words as a whole from both ends, as long as they have many positions.
 trait Worded: Giver {
     fn take_words(&mut self, positions: &mut [usize]) -> usize
         ensures { GivesSome (Self.left self.old) positions.old result positions.new
             (Self.left self.new) };
+
+    fn take_words_back(&mut self, positions: &mut [usize]) -> usize
+        ensures { GivesSome (reverse (Self.left self.old)) positions.old result positions.new
+            (reverse (Self.left self.new)) };
 }
 
 impl<M: Middle + Drop> Giver for Cursor<M> {
@@ -48,7 +52,8 @@ impl<M: Middle + Drop> Giver for Cursor<M> {
     }
 }
 
-// The next bit of the first word lies at hand. Only the way to a further word asks the cursor.
+// The next bits of the first and of the last word lie at hand. Only the way to a further word asks
+// the cursor.
 impl<'a> Giver for Ones<'a> {
     ghost left = { ones_left };
 
@@ -62,6 +67,9 @@ impl<'a> Giver for Ones<'a> {
 
     #[inline(always)]
     fn take_last(&mut self) -> Option<usize> {
+        if self.back != 0 {
+            return Some(self.back_at + take_highest_bit(&mut self.back));
+        }
         Ones::take_last(self)
     }
 }
@@ -83,10 +91,14 @@ impl<'a> Giver for Zeroes<'a> {
 
     #[inline(always)]
     fn take_last(&mut self) -> Option<usize> {
-        let mut cursor = self.cursor();
-        let item = cursor.next_back();
-        *self = Zeroes::of(cursor);
-        item
+        if self.back == 0 {
+            let mut cursor = self.cursor();
+            let item = cursor.next_back();
+            *self = Zeroes::of(cursor);
+            return item;
+        }
+        let highest = take_highest_bit(&mut self.back);
+        Some(self.back_at + highest)
     }
 }
 
@@ -98,6 +110,15 @@ impl<'a> Worded for Ones<'a> {
         *self = Ones::of(Cursor::of_held(held));
         count
     }
+
+    #[inline(always)]
+    fn take_words_back(&mut self, positions: &mut [usize]) -> usize {
+        let mut held = self.cursor().into_held();
+        let count = give_words_back(&mut held, positions);
+        let rest = Cursor::of_held(held);
+        *self = Ones::of(rest);
+        count
+    }
 }
 
 impl<'a> Worded for Zeroes<'a> {
@@ -106,6 +127,15 @@ impl<'a> Worded for Zeroes<'a> {
         let mut held = self.cursor().into_held();
         let count = give_words(&mut held, positions);
         *self = Zeroes::of(Cursor::of_held(held));
+        count
+    }
+
+    #[inline(always)]
+    fn take_words_back(&mut self, positions: &mut [usize]) -> usize {
+        let mut held = self.cursor().into_held();
+        let count = give_words_back(&mut held, positions);
+        let rest = Cursor::of_held(held);
+        *self = Zeroes::of(rest);
         count
     }
 }
@@ -127,6 +157,18 @@ impl<G: Giver + Drop> Giver for Reversed<G> {
     #[inline(always)]
     fn take_last(&mut self) -> Option<usize> {
         self.giver.take_first()
+    }
+}
+
+impl<G: Worded + Drop> Worded for Reversed<G> {
+    #[inline(always)]
+    fn take_words(&mut self, positions: &mut [usize]) -> usize {
+        self.giver.take_words_back(positions)
+    }
+
+    #[inline(always)]
+    fn take_words_back(&mut self, positions: &mut [usize]) -> usize {
+        self.giver.take_words(positions)
     }
 }
 
@@ -170,6 +212,16 @@ fn fill_back<G: Giver + Drop>(giver: G, positions: &mut [usize]) -> (usize, G)
     let mut reversed = Reversed { giver };
     let count = fill(&mut reversed, positions);
     (count, reversed.giver)
+}
+
+// The same as `fill_back`, where words with many positions are given as a whole.
+#[inline(always)]
+fn fill_back_by_words<G: Worded + Drop>(giver: G, positions: &mut [usize]) -> (usize, G)
+    ensures { TakesLast G.left giver positions.old result.0 positions.new result.1 }
+{
+    let mut backwards = Reversed { giver };
+    let count = fill_by_words(&mut backwards, positions);
+    (count, backwards.giver)
 }
 
 // The same as `fill`, where the positions of a second giver stand behind those of the first.
@@ -217,8 +269,8 @@ pub extern "C" fn bits_ones_take(walk: &mut Ones<'_>, positions: &mut [usize]) -
 pub extern "C" fn bits_ones_take_back(walk: &mut Ones<'_>, positions: &mut [usize]) -> usize
     ensures { TakesLast ones_left walk.old positions.old result positions.new walk.new }
 {
-    let (count, ones) = fill_back(walk.cursor(), positions);
-    *walk = Ones::of(ones);
+    let (count, ones) = fill_back_by_words(Ones::of(walk.cursor()), positions);
+    *walk = ones;
     count
 }
 
@@ -240,8 +292,8 @@ pub extern "C" fn bits_zeroes_take(walk: &mut Zeroes<'_>, positions: &mut [usize
 pub extern "C" fn bits_zeroes_take_back(walk: &mut Zeroes<'_>, positions: &mut [usize]) -> usize
     ensures { TakesLast zeroes_left walk.old positions.old result positions.new walk.new }
 {
-    let (count, zeroes) = fill_back(walk.cursor(), positions);
-    *walk = Zeroes::of(zeroes);
+    let (count, zeroes) = fill_back_by_words(Zeroes::of(walk.cursor()), positions);
+    *walk = zeroes;
     count
 }
 
