@@ -19,11 +19,11 @@ use Rattle.bitwords.proofs.Giving.{positions-bits, length-positions}
 abbrev partner : (by low i : ℕ) → ℕ
 partner by low i = if bit low i then i + by else i - by
 
--- the lower ones of the bits that are `by` apart, where 64 is a multiple of twice `by`
+-- the lower ones of the pairs of bits that are `by` apart, where `by` is a power of two
 abbrev lower : ℕ → ℕ
 lower by = (2 ^ 64 - 1) / (2 ^ by + 1)
 
--- so far this is computed for one number
+-- whether a number is such pairs is computed
 pub are_pairs : (by low : ℕ) → agree_below (bit low) (λ i. not (nat_le by i && bit low (i - by))) 64 ≡ true
     → ArePairs by low
 are_pairs by low all i below = agree_below_at (bit low) (λ i. not (nat_le by i && bit low (i - by))) 64 i all below

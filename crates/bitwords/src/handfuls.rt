@@ -4,6 +4,8 @@
 //! A group takes no branch for a position. So it writes eight numbers also where a word has fewer
 //! positions left, and the places behind those of the word hold anything until the positions of the
 //! next words are written there.
+//!
+//! From the back on, the bits of a word are reversed first. So both ends share the groups.
 
 ghost use Rattle.std.specs.Prelude.{◌≡◌, ℕ, ◌+◌, ◌-◌, ◌<◌, ◌≤◌, ◌^◌, IsTrue, if◌then◌else◌, length};
 ghost use Rattle.std.specs.Prelude.{take, drop, get_or, map, reverse};
