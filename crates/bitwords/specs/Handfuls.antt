@@ -25,6 +25,6 @@ pub record GivesSome (items before : List ℕ) (count : ℕ) (after left : List 
   pub behind : drop (length items) after ≡ drop (length items) before
   pub rest : left ≡ drop count items
 
--- Of each two bits that are `by` apart just one is set, and so is each bit that has none so far below it.
+-- The bits alternate in stretches of `by`: the first `by` bits are set, the next `by` are not, and so on.
 abbrev pub ArePairs : (by word : ℕ) → Type 0
 ArePairs by word = (i : ℕ) → i < 64 → bit word i ≡ not (nat_le by i && bit word (i - by))

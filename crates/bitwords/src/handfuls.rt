@@ -295,12 +295,12 @@ fn give_eight<O: Order>(word: Block, base: usize, eight: &mut [usize]) -> Block
 fn reversed(word: Block) -> Block
     ensures { (i : ℕ) → i < 64 → bit result i ≡ bit word (63 - i) }
 {
-    let ones = swapped(word, 1, 0x5555_5555_5555_5555);
-    let twos = swapped(ones, 2, 0x3333_3333_3333_3333);
-    let fours = swapped(twos, 4, 0x0F0F_0F0F_0F0F_0F0F);
-    let eights = swapped(fours, 8, 0x00FF_00FF_00FF_00FF);
-    let sixteens = swapped(eights, 16, 0x0000_FFFF_0000_FFFF);
-    swapped(sixteens, 32, 0x0000_0000_FFFF_FFFF)
+    let ones = swapped(word, 1, Block::MAX / 3);
+    let twos = swapped(ones, 2, Block::MAX / 5);
+    let fours = swapped(twos, 4, Block::MAX / 17);
+    let eights = swapped(fours, 8, Block::MAX / 257);
+    let sixteens = swapped(eights, 16, Block::MAX / 65_537);
+    swapped(sixteens, 32, Block::MAX / 4_294_967_297)
 }
 
 // The word where each two bits that are `by` apart change places: one that is set in `low`, and

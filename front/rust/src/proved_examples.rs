@@ -1010,7 +1010,7 @@ fn bitwords_gaps_53() {
 }
 
 #[test]
-fn bitwords_handfuls_27() {
+fn bitwords_handfuls_57() {
     use crate::proved::bitlanes::ops::*;
     use crate::proved::bitlanes::{word, Block, Steps};
     use crate::proved::bitwords::cursors::*;
@@ -1025,7 +1025,23 @@ fn bitwords_handfuls_27() {
 }
 
 #[test]
-fn bitwords_handfuls_52() {
+fn bitwords_handfuls_74() {
+    use crate::proved::bitlanes::ops::*;
+    use crate::proved::bitlanes::{word, Block, Steps};
+    use crate::proved::bitwords::cursors::*;
+    use crate::proved::bitwords::*;
+    use crate::shim::u64x4;
+    use core::cmp::Ordering;
+    use core::mem::{size_of, size_of_val};
+
+    let mut places = [0; 8];
+    assert_eq!(handfuls::give_word_back(9, 640, &mut places), 2);
+    assert_eq!(places[0], 643);
+    assert_eq!(places[1], 640);
+}
+
+#[test]
+fn bitwords_handfuls_107() {
     use crate::proved::bitlanes::ops::*;
     use crate::proved::bitlanes::{word, Block, Steps};
     use crate::proved::bitwords::cursors::*;
@@ -1040,6 +1056,24 @@ fn bitwords_handfuls_52() {
     assert_eq!(handfuls::give_words(&mut held, &mut places), 2);
     assert_eq!(places[1], 3);
     assert_eq!(held.front, 255);
+}
+
+#[test]
+fn bitwords_handfuls_141() {
+    use crate::proved::bitlanes::ops::*;
+    use crate::proved::bitlanes::{word, Block, Steps};
+    use crate::proved::bitwords::cursors::*;
+    use crate::proved::bitwords::*;
+    use crate::shim::u64x4;
+    use core::cmp::Ordering;
+    use core::mem::{size_of, size_of_val};
+
+    let cursor = Cursor::over(Plain { words: &[1, 0, 0, 0, 255, 9] });
+    let mut held = cursor.into_held();
+    let mut places = [7; 10];
+    assert_eq!(handfuls::give_words_back(&mut held, &mut places), 2);
+    assert_eq!(places[0], 323);
+    assert_eq!(held.back, 255);
 }
 
 #[test]

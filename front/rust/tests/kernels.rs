@@ -148,6 +148,19 @@ fn given(row: &[Block], room: usize) -> Vec<usize> {
     found
 }
 
+/// The same from the last word on, in descending order.
+fn given_back(row: &[Block], room: usize) -> Vec<usize> {
+    let mut found = Vec::new();
+    for at in (5..row.len()).rev() {
+        let own = positions(&row[at..=at]);
+        if ones(&row[at - 4..at]) < 8 || room - found.len() < own.len() + 7 {
+            break;
+        }
+        found.extend(own.iter().rev().map(|position| 64 * at + position));
+    }
+    found
+}
+
 #[test]
 fn words_are_given_whole_as_by_a_plain_loop() {
     for row in (0..=LONGEST).flat_map(rows) {
@@ -159,12 +172,21 @@ fn words_are_given_whole_as_by_a_plain_loop() {
             let count = handfuls::give_words(&mut held, &mut places);
             assert_eq!(places[..count], wanted);
             assert!(Cursor::of_held(held).eq(all[count..].iter().copied()));
+            let wanted = given_back(&row, room);
+            let mut held = Cursor::over(Plain { words: &row }).into_held();
+            let count = handfuls::give_words_back(&mut held, &mut places);
+            assert_eq!(places[..count], wanted);
+            assert!(Cursor::of_held(held).eq(all[..all.len() - count].iter().copied()));
         }
     }
     let mut places = [0; 64];
     for word in mixed(64, 0) {
+        let mut wanted = positions(&[word]);
         let count = handfuls::give_word(word, 0, &mut places);
-        assert_eq!(places[..count], positions(&[word]));
+        assert_eq!(places[..count], wanted);
+        wanted.reverse();
+        let count = handfuls::give_word_back(word, 0, &mut places);
+        assert_eq!(places[..count], wanted);
     }
 }
 

@@ -6,9 +6,9 @@
 
 use crate::bits_c::structs::{Ones, Pair, Sieve, Zeroes};
 use crate::proved::bitlanes::ops::{And, AndNot};
-use crate::proved::bitlanes::word::{BITS, take_lowest_bit};
+use crate::proved::bitlanes::word::{BITS, take_highest_bit, take_lowest_bit};
 use crate::proved::bitwords::cursors::{Cursor, Middle};
-use crate::proved::bitwords::handfuls::give_words;
+use crate::proved::bitwords::handfuls::{give_words, give_words_back};
 
 // What gives positions from both ends.
 trait Giver {
@@ -17,9 +17,11 @@ trait Giver {
     fn take_last(&mut self) -> Option<usize>;
 }
 
-// What gives words as a whole, as long as they have many positions.
+// What gives words as a whole from both ends, as long as they have many positions.
 trait Worded: Giver {
     fn take_words(&mut self, positions: &mut [usize]) -> usize;
+
+    fn take_words_back(&mut self, positions: &mut [usize]) -> usize;
 }
 
 impl<M: Middle> Giver for Cursor<M> {
@@ -34,7 +36,8 @@ impl<M: Middle> Giver for Cursor<M> {
     }
 }
 
-// The next bit of the first word lies at hand. Only the way to a further word asks the cursor.
+// The next bits of the first and of the last word lie at hand. Only the way to a further word asks
+// the cursor.
 impl<'a> Giver for Ones<'a> {
     #[inline(always)]
     fn take_first(&mut self) -> Option<usize> {
@@ -46,6 +49,9 @@ impl<'a> Giver for Ones<'a> {
 
     #[inline(always)]
     fn take_last(&mut self) -> Option<usize> {
+        if self.back != 0 {
+            return Some(self.back_at + take_highest_bit(&mut self.back));
+        }
         Ones::take_last(self)
     }
 }
@@ -65,10 +71,14 @@ impl<'a> Giver for Zeroes<'a> {
 
     #[inline(always)]
     fn take_last(&mut self) -> Option<usize> {
-        let mut cursor = self.cursor();
-        let item = cursor.next_back();
-        *self = Zeroes::of(cursor);
-        item
+        if self.back == 0 {
+            let mut cursor = self.cursor();
+            let item = cursor.next_back();
+            *self = Zeroes::of(cursor);
+            return item;
+        }
+        let highest = take_highest_bit(&mut self.back);
+        Some(self.back_at + highest)
     }
 }
 
@@ -80,6 +90,15 @@ impl<'a> Worded for Ones<'a> {
         *self = Ones::of(Cursor::of_held(held));
         count
     }
+
+    #[inline(always)]
+    fn take_words_back(&mut self, positions: &mut [usize]) -> usize {
+        let mut held = self.cursor().into_held();
+        let count = give_words_back(&mut held, positions);
+        let rest = Cursor::of_held(held);
+        *self = Ones::of(rest);
+        count
+    }
 }
 
 impl<'a> Worded for Zeroes<'a> {
@@ -88,6 +107,15 @@ impl<'a> Worded for Zeroes<'a> {
         let mut held = self.cursor().into_held();
         let count = give_words(&mut held, positions);
         *self = Zeroes::of(Cursor::of_held(held));
+        count
+    }
+
+    #[inline(always)]
+    fn take_words_back(&mut self, positions: &mut [usize]) -> usize {
+        let mut held = self.cursor().into_held();
+        let count = give_words_back(&mut held, positions);
+        let rest = Cursor::of_held(held);
+        *self = Zeroes::of(rest);
         count
     }
 }
@@ -107,6 +135,18 @@ impl<G: Giver> Giver for Reversed<G> {
     #[inline(always)]
     fn take_last(&mut self) -> Option<usize> {
         self.giver.take_first()
+    }
+}
+
+impl<G: Worded> Worded for Reversed<G> {
+    #[inline(always)]
+    fn take_words(&mut self, positions: &mut [usize]) -> usize {
+        self.giver.take_words_back(positions)
+    }
+
+    #[inline(always)]
+    fn take_words_back(&mut self, positions: &mut [usize]) -> usize {
+        self.giver.take_words(positions)
     }
 }
 
@@ -146,6 +186,14 @@ fn fill_back<G: Giver>(giver: G, positions: &mut [usize]) -> (usize, G) {
     (count, reversed.giver)
 }
 
+// The same as `fill_back`, where words with many positions are given as a whole.
+#[inline(always)]
+fn fill_back_by_words<G: Worded>(giver: G, positions: &mut [usize]) -> (usize, G) {
+    let mut backwards = Reversed { giver };
+    let count = fill_by_words(&mut backwards, positions);
+    (count, backwards.giver)
+}
+
 // The same as `fill`, where the positions of a second giver stand behind those of the first.
 #[inline(always)]
 fn fill_both<A: Giver, B: Giver>(first: &mut A, second: &mut B, positions: &mut [usize]) -> usize {
@@ -179,8 +227,8 @@ pub fn bits_ones_take(walk: &mut Ones<'_>, positions: &mut [usize]) -> usize {
 /// Writes the last positions left to `positions`, from its front on and in descending order: as
 /// many as there is room for, or as are left. It answers how many.
 pub fn bits_ones_take_back(walk: &mut Ones<'_>, positions: &mut [usize]) -> usize {
-    let (count, ones) = fill_back(walk.cursor(), positions);
-    *walk = Ones::of(ones);
+    let (count, ones) = fill_back_by_words(Ones::of(walk.cursor()), positions);
+    *walk = ones;
     count
 }
 
@@ -196,8 +244,8 @@ pub fn bits_zeroes_take(walk: &mut Zeroes<'_>, positions: &mut [usize]) -> usize
 /// Writes the last positions left to `positions`, from its front on and in descending order: as
 /// many as there is room for, or as are left. It answers how many.
 pub fn bits_zeroes_take_back(walk: &mut Zeroes<'_>, positions: &mut [usize]) -> usize {
-    let (count, zeroes) = fill_back(walk.cursor(), positions);
-    *walk = Zeroes::of(zeroes);
+    let (count, zeroes) = fill_back_by_words(Zeroes::of(walk.cursor()), positions);
+    *walk = zeroes;
     count
 }
 

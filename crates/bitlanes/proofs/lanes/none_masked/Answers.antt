@@ -1,5 +1,6 @@
-use Rattle.std.proofs.Common.{arith, ◌==◌, ℕ, map, refl}
-use Rattle.bitlanes.proofs.Folding.{fails_within}
+use Rattle.std.proofs.Common.{arith, ◌==◌, ℕ, map, refl, rules}
+use Rattle.bitlanes.proofs.Folding.{fails_within, all_lane}
+use Rattle.bitlanes.proofs.Filling.{all_mapped_part}
 use Rattle.bitlanes.proofs.lanes.none_masked.Goals as goal
 
 pub loop-at-init : goal.loop-at-init
@@ -14,3 +15,6 @@ returns-then-not-is_zero-clause-zero g c =
       arith,
       fails_within (λ (word : ℕ). word == 0) c.loop-at.at 4 (map (g.O.WordOp.joined c.args.mask) c.args.words.now),
     )
+
+pub returns-then-rest-gt0-clause-zero : goal.returns-then-rest-gt0-clause-zero
+returns-then-rest-gt0-clause-zero g c = search (rules, all_lane, all_mapped_part) steps 300000

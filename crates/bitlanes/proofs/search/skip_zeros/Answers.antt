@@ -1,4 +1,4 @@
-use Rattle.std.proofs.Common.{map, sym, ◌∙◌, arith}
+use Rattle.std.proofs.Common.{map, sym, ◌∙◌, arith, rules}
 use Rattle.bitlanes.proofs.Folding.{zero_in_lane, zero_in_stretch}
 use Rattle.bitlanes.proofs.search.skip_zeros.Goals as goal
 
@@ -34,3 +34,6 @@ loop-start-2-preserved g c = record {
   zeros = λ i from below. grind (arith, c.loop-start-2.invariant.zeros i, zero_in_lane);
   cost = omega arith;
 }
+
+pub returns-after-loop-start-2-clause-stop : goal.returns-after-loop-start-2-clause-stop
+returns-after-loop-start-2-clause-stop g c = search rules steps 300000

@@ -33,3 +33,6 @@ loop-at-preserved c =
           (word_joined at _ c.window_word.result c.window_word.result (omega arith) (omega arith) word refl);
       cost = search rules;
     }
+
+pub returns-clause-words : goal.returns-clause-words
+returns-clause-words c = search rules steps 300000

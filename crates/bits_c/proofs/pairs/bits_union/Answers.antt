@@ -1,6 +1,9 @@
-use Rattle.std.proofs.Common.{◌∙◌}
+use Rattle.std.proofs.Common.{◌∙◌, rules}
 use Rattle.bits_c.proofs.Between.{words_left}
 use Rattle.bits_c.proofs.pairs.bits_union.Goals as goal
 
 pub returns-clause-words : goal.returns-clause-words
 returns-clause-words c = words_left _ _ _ (c.of.ensures.words ∙ c.ones.ensures.words)
+
+pub returns-clause-left : goal.returns-clause-left
+returns-clause-left c = search rules steps 300000

@@ -1,4 +1,4 @@
-use Rattle.std.proofs.Common.{sym, ◌∙◌, true≢false, arith}
+use Rattle.std.proofs.Common.{sym, ◌∙◌, true≢false, arith, rules}
 use Rattle.bitwords.proofs.positions.next.Goals as goal
 
 pub returns-in_err-position-clause-none : goal.returns-in_err-position-clause-none
@@ -35,3 +35,6 @@ returns-else-position-end-clause-row g c =
 
 pub returns-else-position-end-clause-missed : goal.returns-else-position-end-clause-missed
 returns-else-position-end-clause-missed g c = λ some. omega (arith, c.in_ok-position.ensures.cost)
+
+pub returns-then-from-end-clause-empty : goal.returns-then-from-end-clause-empty
+returns-then-from-end-clause-empty g c = search rules steps 100000

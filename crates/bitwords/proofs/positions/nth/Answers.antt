@@ -15,3 +15,6 @@ loop-k-preserved c =
       word-count c.args.words.now (λ k. search rules) c.loop-k.k,
       c.if-left-ones.false,
     )
+
+pub returns-then-left-ones-clause-cost : goal.returns-then-left-ones-clause-cost
+returns-then-left-ones-clause-cost c = search rules steps 300000

@@ -34,3 +34,6 @@ returns-clause-cost g c =
 
 pub returns-clause-bound : goal.returns-clause-bound
 returns-clause-bound g c = omega (arith, c.in_ok-at.ensures.cost)
+
+pub returns-in_err-last-clause-empty : goal.returns-in_err-last-clause-empty
+returns-in_err-last-clause-empty g c = search rules steps 100000

@@ -1,3 +1,4 @@
+use Rattle.std.proofs.Common.{rules}
 use Rattle.flow.specs.Turns.{facts_of}
 use Rattle.flow.proofs.Turning.{ins_passed, outs_passed, as_long, none_passed, some_passed, none_written}
 use Rattle.flow.proofs.rounds.pass.Goals as goal
@@ -38,3 +39,6 @@ returns-clause-outs c =
     c.requires.fits c.requires.from c.requires.to c.index-ins-to.result c.index-outs-from.result c.add.new.set
     c.add.ensures.value c.index-ins-to-2.result c.index-outs-to.result c.index-kills-to.result c.add_spared.new.set
     c.index-kills-to.is c.add_spared.ensures
+
+pub returns-clause-due : goal.returns-clause-due
+returns-clause-due c = search rules steps 300000

@@ -17,3 +17,6 @@ pub turns-smaller : goal.turns-smaller
 turns-smaller c =
     rw (← c.turn.auto.ins)
     (omega (arith, total_all (facts_of c.args.kills.now) c.turn.new.ins, c.turn.ensures.grows c.if-not-turn.false))
+
+pub returns-then-not-turn-clause-once : goal.returns-then-not-turn-clause-once
+returns-then-not-turn-clause-once c = search rules steps 300000

@@ -6,3 +6,6 @@ pub of_held-requires : goal.of_held-requires
 of_held-requires g c =
     rw (length-beside g.O.WordOp.joined c.of.result.plain.words.now c.of.result.other.now, c.of.ensures.words)
     (search rules)
+
+pub returns : goal.returns
+returns g c = search rules steps 300000

@@ -5,3 +5,6 @@ use Rattle.fixedbitset.proofs.counted.changes.union_with_difference.Goals as goa
 pub invariant_of-set : goal.invariant_of-set
 invariant_of-set c =
     changed_clean c.set.inside.words _ _ _ _ c.set.invariant c.union_with_difference.ensures.value (search rules)
+
+pub returns-then-len-clause-changed : goal.returns-then-len-clause-changed
+returns-then-len-clause-changed c = search rules steps 300000

@@ -1,4 +1,4 @@
-use Rattle.std.proofs.Common.{arith, ◌∙◌}
+use Rattle.std.proofs.Common.{arith, ◌∙◌, rules}
 use Rattle.fixedbitset.proofs.Words.{viewed_count}
 use Rattle.fixedbitset.proofs.set.FixedBitSet.copy_from.Goals as goal
 
@@ -28,3 +28,6 @@ invariant_of-self-2 c = grind arith
 
 pub returns-clause-ok : goal.returns-clause-ok
 returns-clause-ok c = grind arith
+
+pub invariant_of-self : goal.invariant_of-self
+invariant_of-self c = search rules steps 300000

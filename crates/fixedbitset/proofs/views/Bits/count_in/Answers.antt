@@ -1,4 +1,4 @@
-use Rattle.std.proofs.Common.{arith, refl}
+use Rattle.std.proofs.Common.{arith, refl, rules}
 use Rattle.fixedbitset.specs.Bits.{of_words}
 use Rattle.fixedbitset.proofs.JoinedCounts.{count_range-is}
 use Rattle.fixedbitset.proofs.Words.{reaches, valid_range}
@@ -18,3 +18,6 @@ returns-clause-count g c =
       c.count.ensures.count,
       count_range-is g.met.O.WordOp.laws c.requires.drops _ _ c.args.self.clean _ _ c.requires.valid,
     )
+
+pub returns-clause-cost : goal.returns-clause-cost
+returns-clause-cost g c = search rules steps 100000

@@ -1,4 +1,4 @@
-use Rattle.std.proofs.Common.{◌∙◌, refl, arith}
+use Rattle.std.proofs.Common.{◌∙◌, refl, arith, rules}
 use Rattle.fixedbitset.proofs.Gaps.{same_aligned_gap}
 use Rattle.fixedbitset.proofs.Words.{valid_range, of_length, reaches}
 use Rattle.fixedbitset.specs.Bits.{of_words}
@@ -16,3 +16,9 @@ returns-clause-gap c =
 
 pub first_aligned-requires : goal.first_aligned-requires
 first_aligned-requires c = reaches _ _ _ refl c.args.self.clean _ _ c.requires
+
+pub returns-clause-least : goal.returns-clause-least
+returns-clause-least c = search rules steps 100000
+
+pub returns-clause-grows : goal.returns-clause-grows
+returns-clause-grows c = search rules steps 100000

@@ -1,4 +1,4 @@
-use Rattle.std.proofs.Common.{◌∙◌}
+use Rattle.std.proofs.Common.{◌∙◌, rules}
 use Rattle.std.proofs.lemmas.Option.{IfSome_then}
 use Rattle.fixedbitset.proofs.Gaps.{same_gap, equal_le}
 use Rattle.fixedbitset.proofs.views.Bits.first_gap.Goals as goal
@@ -8,3 +8,9 @@ returns-clause-gap c = c.first.ensures.gap ∙ same_gap c.args.self.length c.arg
 
 pub returns-clause-least : goal.returns-clause-least
 returns-clause-least c = IfSome_then _ c.first.ensures.cost (λ p is. equal_le is)
+
+pub returns-clause-found : goal.returns-clause-found
+returns-clause-found c = search rules steps 100000
+
+pub returns-clause-cost : goal.returns-clause-cost
+returns-clause-cost c = search rules steps 100000

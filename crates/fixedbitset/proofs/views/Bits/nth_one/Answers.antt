@@ -6,3 +6,6 @@ pub returns-clause-nth : goal.returns-clause-nth
 returns-clause-nth c =
     nth_one_of _ c.as_slice-words.result.now _ c.args.index c.as_slice-words.ensures.value (search rules) c.nth.result
     c.nth.ensures.found c.nth.ensures.below c.nth.ensures.none
+
+pub returns-clause-cost : goal.returns-clause-cost
+returns-clause-cost c = search rules steps 300000

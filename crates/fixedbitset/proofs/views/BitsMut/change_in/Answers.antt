@@ -1,4 +1,4 @@
-use Rattle.std.proofs.Common.{refl}
+use Rattle.std.proofs.Common.{refl, rules}
 use Rattle.fixedbitset.specs.Views.{held}
 use Rattle.fixedbitset.proofs.Words.{keeps_range, reaches, valid_range}
 use Rattle.fixedbitset.proofs.views.BitsMut.change_in.Goals as goal
@@ -26,3 +26,6 @@ returns-clause-value g c =
       length = refl;
       same = refl;
     }
+
+pub returns-clause-cost : goal.returns-clause-cost
+returns-clause-cost g c = search rules steps 100000

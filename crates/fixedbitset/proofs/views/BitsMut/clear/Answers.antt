@@ -1,4 +1,4 @@
-use Rattle.std.proofs.Common.{refl}
+use Rattle.std.proofs.Common.{refl, rules}
 use Rattle.fixedbitset.proofs.Blocks.{zeroed}
 use Rattle.fixedbitset.proofs.views.BitsMut.clear.Goals as goal
 
@@ -8,3 +8,6 @@ invariant_of-self c = record { clean = (zeroed _ _ _ c.args.self.now.clean c.zer
 pub returns-clause-value : goal.returns-clause-value
 returns-clause-value c =
     record { value = (zeroed _ _ _ c.args.self.now.clean c.zero.ensures.words).value; length = refl; same = refl }
+
+pub returns-clause-cost : goal.returns-clause-cost
+returns-clause-cost c = search rules steps 100000

@@ -1,4 +1,4 @@
-use Rattle.std.proofs.Common.{refl}
+use Rattle.std.proofs.Common.{refl, rules}
 use Rattle.fixedbitset.proofs.Words.{keeps_pair}
 use Rattle.fixedbitset.proofs.views.BitsMut.join.Goals as goal
 
@@ -19,3 +19,6 @@ returns-clause-value g c =
       length = refl;
       same = refl;
     }
+
+pub returns-clause-cost : goal.returns-clause-cost
+returns-clause-cost g c = search rules steps 300000

@@ -1,4 +1,4 @@
-use Rattle.std.proofs.Common.{◌∙◌, ◌==◌, not, sym, ap, refl}
+use Rattle.std.proofs.Common.{◌∙◌, ◌==◌, not, sym, ap, refl, rules}
 use Rattle.bitlanes.specs.Changes.{changes}
 use Rattle.fixedbitset.proofs.JoinedCounts.{shows, count_rows}
 use Rattle.fixedbitset.proofs.Words.{keeps_pair}
@@ -28,3 +28,6 @@ returns-clause-changed g c =
     ∙ ap (λ n.
     not (n == 0)) (sym (count_rows (changes g.O.WordOp.truth) g.met.O.WordOp.laws.of_neither _ _ _ _
     (shows _ _ c.args.self.now.clean) (shows _ _ c.args.other.clean)))
+
+pub returns-clause-cost : goal.returns-clause-cost
+returns-clause-cost g c = search rules steps 300000

@@ -1,4 +1,5 @@
-use Rattle.std.proofs.Common.{◌≡◌, ◌∙◌, ◌++◌, map, sym}
+use Rattle.std.proofs.Common.{◌≡◌, ◌∙◌, ◌++◌, map, sym, arith}
+use Rattle.std.proofs.lemmas.Grind.{common_steps}
 use Rattle.fixedbitset.specs.Bits.{asc}
 use Rattle.bitrows.specs.Tables.{row_of}
 use Rattle.uses.proofs.Pairs.{pairs_more}
@@ -11,3 +12,6 @@ loop-column-init c =
     let items : c.into_iter-column-iterator.result.items ≡ asc (row_of c.args.table.now c.loop-row.row) =
     (λ i. (walk i).items) ∙ c.row-column-items.ensures.items in
     (λ i. before i ++ map (λ b. (c.loop-row.row, b)) (items i)) ∙ sym (pairs_more c.args.table.now c.loop-row.row)
+
+pub loop-column-preserved : goal.loop-column-preserved
+loop-column-preserved c = grind (arith, common_steps)

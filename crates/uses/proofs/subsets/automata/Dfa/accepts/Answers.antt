@@ -1,4 +1,4 @@
-use Rattle.std.proofs.Common.{arith}
+use Rattle.std.proofs.Common.{arith, rules}
 use Rattle.uses.proofs.WordRuns.{run_more, run_done}
 use Rattle.uses.proofs.subsets.automata.Dfa.accepts.Goals as goal
 
@@ -9,3 +9,6 @@ loop-letter-preserved c =
 
 pub returns : goal.returns
 returns c = run_done _ _ _ _ _ _ _ _ c.requires.flags c.loop-letter-test.false c.loop-letter.invariant c.index.ensures
+
+pub returns-then-letter-self : goal.returns-then-letter-self
+returns-then-letter-self c = search rules steps 300000

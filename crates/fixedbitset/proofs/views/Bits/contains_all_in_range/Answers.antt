@@ -1,0 +1,9 @@
+use Rattle.std.proofs.Common.{rules}
+use Rattle.fixedbitset.proofs.JoinedCounts.{contains_all_of}
+use Rattle.fixedbitset.proofs.views.Bits.contains_all_in_range.Goals as goal
+
+pub returns-clause-cost : goal.returns-clause-cost
+returns-clause-cost c = search rules steps 100000
+
+pub returns-clause-answer : goal.returns-clause-answer
+returns-clause-answer c = search (rules, contains_all_of) steps 100000

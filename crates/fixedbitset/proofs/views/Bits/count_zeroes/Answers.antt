@@ -1,0 +1,6 @@
+use Rattle.std.proofs.Common.{rules}
+use Rattle.fixedbitset.proofs.JoinedCounts.{count_zeroes_of}
+use Rattle.fixedbitset.proofs.views.Bits.count_zeroes.Goals as goal
+
+pub returns-clause-count : goal.returns-clause-count
+returns-clause-count c = search (rules, count_zeroes_of) steps 100000

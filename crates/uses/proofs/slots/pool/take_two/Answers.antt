@@ -1,0 +1,8 @@
+use Rattle.std.proofs.Common.{rules}
+use Rattle.uses.proofs.slots.pool.take_two.Goals as goal
+
+pub returns-clause-first : goal.returns-clause-first
+returns-clause-first c = search rules steps 300000
+
+pub returns-clause-second : goal.returns-clause-second
+returns-clause-second c = search rules steps 300000
