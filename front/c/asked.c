@@ -205,6 +205,28 @@ static void position_of_a_list(void) {
     bits_insert_all(&set, list, 3);
 }
 
+static void position_of_a_removed_list(void) {
+    bits set = good(70);
+    list[2] = 71;
+    bits_remove_all(&set, list, 3);
+}
+
+static void null_number(void) {
+    bits set = good(70);
+    bits_load(&set, 3, 7, NULL);
+}
+
+static void width(void) {
+    bits set = good(70);
+    bits_store(&set, 0, 65, 1);
+}
+
+static void number_past_the_length(void) {
+    bits set = good(70);
+    uint64_t number;
+    bits_load(&set, 64, 7, &number);
+}
+
 static void range(void) {
     bits set = good(70);
     bits_insert_range(&set, 3, 71);
@@ -257,6 +279,7 @@ static const struct {
     {null_bytes, "bits_from_bytes: `bytes` is NULL, and there are to be 9", 1},
     {words_to_settle, "bits_settle: `words` is NULL, and there are to be 4", 1},
     {null_position, "bits_ones_next: `position` is NULL", 1},
+    {null_number, "bits_load: `number` is NULL", 1},
     {null_walk, "bits_runs: `walk` is NULL", 1},
     {walk_of_null, "bits_union_next: `walk` has NULL for words, and says that it has 4", 1},
     {handful_of_null, "bits_difference_take: `positions` is NULL, and there are to be 1", 1},
@@ -270,6 +293,9 @@ static const struct {
     {row_of_all, "bits_rows_close: `rows[2]` has a bit past its 70 columns", 1},
     {position, "bits_insert: `bit` is 70, which is not below 70", 2},
     {position_of_a_list, "bits_insert_all: `positions` is 71, which is not below 70", 2},
+    {position_of_a_removed_list, "bits_remove_all: `positions` is 71, which is not below 70", 2},
+    {width, "bits_store: `width` is 65, which is not below 65", 2},
+    {number_past_the_length, "bits_load: from 64 to 71 is not a range of a set of length 70", 2},
     {range, "bits_insert_range: from 3 to 71 is not a range of a set of length 70", 2},
     {range_the_other_way, "bits_count_ones: from 4 to 3 is not a range of a set of length 70", 2},
     {range_of_a_gap, "bits_first_aligned_gap: from 3 to 71 is not a range of a set of length 70", 2},
