@@ -10,3 +10,6 @@ pub returns-clause-value : goal.returns-clause-value
 returns-clause-value g c =
     changed_value c.set.inside.words _ _ _ _ c.set.invariant c.insert_range.ensures.value (search rules)
     ∙ (search rules)
+
+pub returns-clause-cost : goal.returns-clause-cost
+returns-clause-cost g c = search rules steps 800000

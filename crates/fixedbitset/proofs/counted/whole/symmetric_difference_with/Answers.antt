@@ -10,3 +10,6 @@ invariant_of-set c =
 pub symmetric_difference_with-requires : goal.symmetric_difference_with-requires
 symmetric_difference_with-requires c =
     search (rules, symmetric_difference_grown, symmetric_difference_longer, given_back, viewed_length) steps 300000
+
+pub returns-clause-cost : goal.returns-clause-cost
+returns-clause-cost c = search rules steps 800000

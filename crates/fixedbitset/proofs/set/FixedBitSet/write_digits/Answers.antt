@@ -1,4 +1,4 @@
-use Rattle.std.proofs.Common.{◌≡◌, ◌+◌, ◌-◌, ◌*◌, ◌<◌, get_or, length, ◌++◌, arith, refl, ap, ◌∙◌}
+use Rattle.std.proofs.Common.{◌≡◌, ◌+◌, ◌-◌, ◌*◌, ◌<◌, get_or, length, ◌++◌, arith, refl, ap, ◌∙◌, rules}
 use Rattle.std.proofs.Output.{has_written_styled_append, has_written_styled_of_eq}
 use Rattle.fixedbitset.specs.Bits.{word, words, words_needed}
 use Rattle.fixedbitset.specs.WordsFacts.{get_or-words, length-words}
@@ -44,3 +44,6 @@ returns g c = λ flush _.
     ∙ length-words v in
     let done : v.length - c.loop-word.left ≡ v.length = omega arith in
     has_written_styled_of_eq _ _ _ _ _ (text_is v _ done) (c.loop-word.invariant.written flush)
+
+pub loop-word-init : goal.loop-word-init
+loop-word-init g c = search rules steps 800000

@@ -7,3 +7,6 @@ returns-clause-cost c = search rules steps 100000
 
 pub returns-clause-answer : goal.returns-clause-answer
 returns-clause-answer c = search (rules, contains_any_of) steps 100000
+
+pub returns-clause-stops : goal.returns-clause-stops
+returns-clause-stops c = search rules steps 800000

@@ -1,4 +1,4 @@
-use Rattle.std.proofs.Common.{sym, ◌∙◌}
+use Rattle.std.proofs.Common.{sym, ◌∙◌, rules}
 use Rattle.std.proofs.lemmas.Bool.{ne_eqb}
 use Rattle.fixedbitset.proofs.JoinedCounts.{equal_of, other_length}
 use Rattle.fixedbitset.specs.WordsFacts.{length-of_words}
@@ -16,3 +16,6 @@ returns-else-self-other-clause-answer c =
     ∙ sym (other_length _ _ (λ e.
     c.if-self-other.false (sym (length-of_words c.args.self.length c.args.self.words.now) ∙ e
     ∙ length-of_words c.args.other.length c.args.other.words.now)))
+
+pub returns-then-self-other-clause-exact_if_true : goal.returns-then-self-other-clause-exact_if_true
+returns-then-self-other-clause-exact_if_true c = search rules steps 2000000
