@@ -31,11 +31,18 @@ fn mixed(count: usize, first: usize) -> Vec<Block> {
     (first..first + count).map(word).collect()
 }
 
-/// Rows of so many words: those of one bit at each place, that of none, and mixed ones.
+/// Rows of so many words: those of one bit at each place, that of none, mixed ones, and two of which one half is empty.
 fn rows(count: usize) -> Vec<Vec<Block>> {
     let one_bit = |place| (0..count).map(|at| Block::from(at == place)).collect();
+    let (mut late, mut early) = (mixed(count, 1), mixed(count, 1));
+    late[..count / 2].fill(0);
+    early[count / 2..].fill(0);
     let mixed = (0..4).map(|first| mixed(count, first));
-    (0..=count).map(one_bit).chain(mixed).collect()
+    (0..=count)
+        .map(one_bit)
+        .chain(mixed)
+        .chain([late, early])
+        .collect()
 }
 
 /// Pairs of rows, of one length and of two.
