@@ -459,6 +459,9 @@ bool bits_ones_next(bits_walk *walk, size_t *position) BITS_SYMBOL(bits_ones_nex
 bool bits_ones_next_back(bits_walk *walk, size_t *position) BITS_SYMBOL(bits_ones_next_back);
 size_t bits_ones_take(bits_walk *walk, size_t *positions, size_t room) BITS_SYMBOL(bits_ones_take);
 size_t bits_ones_take_back(bits_walk *walk, size_t *positions, size_t room) BITS_SYMBOL(bits_ones_take_back);
+/* The same as bits_ones_take in half of the room: a place takes the low 32 bits of its position, which are the position itself
+ * in a set of at most 2^32 bits. */
+size_t bits_ones_take_u32(bits_walk *walk, uint32_t *positions, size_t room) BITS_SYMBOL(bits_ones_take_u32);
 /* Begins the walk over the positions below the length that are not set, in ascending order. */
 void bits_zeroes(bits_walk *walk, const bits *set) BITS_SYMBOL(bits_zeroes);
 bool bits_zeroes_next(bits_walk *walk, size_t *position) BITS_SYMBOL(bits_zeroes_next);

@@ -210,17 +210,17 @@ static inline void bits_ask_range(const char *here, size_t start, size_t end, si
 #define BITS_STEP(kind, name)                                                                                    \
     BITS_TESTED(bool, return, name, (const char *here, kind *walk, size_t *position), (walk, position), \
                 bits_ask_##kind(here, walk); BITS_PLACE(position))
-#define BITS_HANDFUL(kind, name)                                                                                                \
-    BITS_TESTED(size_t, return, name, (const char *here, kind *walk, size_t *positions, size_t room), (walk, positions, room), \
+#define BITS_HANDFUL(kind, name, number)                                                                                        \
+    BITS_TESTED(size_t, return, name, (const char *here, kind *walk, number *positions, size_t room), (walk, positions, room), \
                 bits_ask_##kind(here, walk); BITS_LIST(positions, room))
 #define BITS_RUN_STEP(name)                                                                                                 \
     BITS_TESTED(bool, return, name, (const char *here, bits_run_walk *walk, size_t *start, size_t *end), (walk, start, end), \
                 bits_ask_bits_run_walk(here, walk); BITS_PLACE(start) BITS_PLACE(end))
-#define BITS_STEPS(kind, name)        \
-    BITS_STEP(kind, name##_next)      \
-    BITS_STEP(kind, name##_next_back) \
-    BITS_HANDFUL(kind, name##_take)   \
-    BITS_HANDFUL(kind, name##_take_back)
+#define BITS_STEPS(kind, name)              \
+    BITS_STEP(kind, name##_next)            \
+    BITS_STEP(kind, name##_next_back)       \
+    BITS_HANDFUL(kind, name##_take, size_t) \
+    BITS_HANDFUL(kind, name##_take_back, size_t)
 
 BITS_TESTED(bool, return, settle, (const char *here, uint64_t *words, size_t count, size_t length, size_t kept),
             (words, count, length, kept), BITS_LIST(words, count))
@@ -370,6 +370,7 @@ BITS_BEGINS_TWO(bits_sieve, difference)
 BITS_BEGINS_TWO(bits_pair, union)
 BITS_BEGINS_TWO(bits_pair, symmetric_difference)
 BITS_STEPS(bits_walk, ones)
+BITS_HANDFUL(bits_walk, ones_take_u32, uint32_t)
 BITS_STEPS(bits_walk, zeroes)
 BITS_STEPS(bits_sieve, intersection)
 BITS_STEPS(bits_sieve, difference)
@@ -464,6 +465,7 @@ BITS_RUN_STEP(runs_next_back)
 #define bits_ones_next_back(...) BITS_CALL(ones_next_back, __VA_ARGS__)
 #define bits_ones_take(...) BITS_CALL(ones_take, __VA_ARGS__)
 #define bits_ones_take_back(...) BITS_CALL(ones_take_back, __VA_ARGS__)
+#define bits_ones_take_u32(...) BITS_CALL(ones_take_u32, __VA_ARGS__)
 #define bits_zeroes(...) BITS_CALL(zeroes, __VA_ARGS__)
 #define bits_zeroes_next(...) BITS_CALL(zeroes_next, __VA_ARGS__)
 #define bits_zeroes_next_back(...) BITS_CALL(zeroes_next_back, __VA_ARGS__)

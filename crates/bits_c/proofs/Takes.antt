@@ -1,16 +1,17 @@
 -- Positions that are written to the front of a list, one after the other.
 use Rattle.std.proofs.Common.{◌≡◌, ℕ, ◌+◌, ◌-◌, ◌<◌, ◌≤◌, min, List, ◌∷◌, ◌++◌, length, take, drop}
-use Rattle.std.proofs.Common.{reverse, get_or, refl, sym, ap, ◌∙◌, ⊎_elim, ◌⊎◌, inl, inr, arith, suc}
+use Rattle.std.proofs.Common.{reverse, map, get_or, refl, sym, ap, ◌∙◌, ⊎_elim, ◌⊎◌, inl, inr, arith, suc}
 use Rattle.std.proofs.Common.{add-one, length-drop, length-append, drop-cons, append-nil, append_assoc}
-use Rattle.std.proofs.Math.Seq.{take-append_seam, drop-append_seam, take-append-add}
+use Rattle.std.proofs.Math.Seq.{take-append_seam, drop-append_seam, take-append-add, take-add}
 use Rattle.std.proofs.Math.Seq.{drop-append-add, take-length, drop-length}
 use Rattle.std.proofs.lemmas.Bool.{cases_lt}
 use Rattle.std.proofs.lemmas.List.{drop_all, take-append-le, drop-append-le, length-take-le, drop-drop}
 use Rattle.std.proofs.lemmas.List.{take-append-drop, reverse-reverse, reverse-append, length-reverse}
+use Rattle.std.proofs.lemmas.List.{drop-map, take-map, map-append, length-map}
 use borrow.Rule.Slice.PartMut.{put_mid, same_len_mid}
 use Rattle.bitwords.specs.Handfuls.{GivesSome}
 use Rattle.bitwords.proofs.Places.{gives-more}
-use Rattle.bits_c.specs.Walks.{TakesFirst, TakesLast}
+use Rattle.bits_c.specs.Walks.{TakesFirst, TakesLast, TakesNarrow, low32}
 use Rattle.std.proofs.Math.ListN.{set}
 use Rattle.std.proofs.lemmas.List.Edits.{paste_more}
 use Rattle.std.proofs.Math.Nat.{zero-add}
@@ -26,6 +27,18 @@ module _ {A : Type 0} (xs ps : List A) (k : ℕ) (room : k < length ps) where
       let tail : rest ≡ drop (k + 1) xs = rw add-one (cc) in
       let write = simp zero-add at (paste_more ps 0 xs k x (omega arith) below) in
       (omega arith, ap (set (take k xs ++ drop k ps) k) (sym head) ∙ write, tail)
+
+-- the same, where a place takes what f makes of its item
+pub more_mapped : {A B : Type 0} (f : A → B) (items : List A) (places out : List B) (k : ℕ) (d : A)
+    → length items ≡ length places → k < length items → out ≡ map f (take k items) ++ drop k places
+    → set out k (f (get_or items k d)) ≡ map f (take (k + 1) items) ++ drop (k + 1) places
+more_mapped f items places out k d long lt is =
+    let left : drop k (map f items) ≡ f (get_or items k d) ∷ map f (drop (suc k) items) =
+    drop-map f k items ∙ ap (map f) (drop-cons items k d lt) in
+    let more = more_written (map f items) places k (omega arith) (f (get_or items k d)) _ left in
+    ap (λ ys. set ys k (f (get_or items k d)))
+    (is ∙ ap (λ ys. ys ++ drop k places) (sym (take-map f k items)))
+    ∙ more.1 ∙ ap (λ ys. ys ++ drop (k + 1) places) (take-map f (k + 1) items)
 
 -- what is taken of two lists in turn is taken of the two joined
 joined : (xs ys : List ℕ) (n m : ℕ) → n ≤ length xs → (n < length xs → m ≡ 0)
@@ -160,3 +173,69 @@ module _ (all before out ys zs left mid rest : List ℕ) (a k n j m : ℕ) (same
       some_are_all all before (put_mid (a + n) j put zs) rest (a + n + m) words_and_few
       (same_len_mid (a + n) j put zs also ∙ kept_long)
       (inr (omega (arith, few.answer, fewer, part_long, mid_long, by_words.at_most)))
+
+-- ---- positions written as narrower numbers
+
+-- The first ones are written so, and the others are left.
+pub record NarrowSome {S : Type 0} (left : S → List ℕ) (old : S) (before : List ℕ) (count : ℕ) (after : List ℕ)
+    (new : S) : Type 0 where
+  pub at_most : count ≤ length (left old)
+  pub room : count ≤ length before
+  pub written : after ≡ map low32 (take count (left old)) ++ drop count before
+  pub rest : left new ≡ drop count (left old)
+
+-- where there is no more room, or no position is left, they are all that are to be written
+pub narrow_all : {S : Type 0} {left : S → List ℕ} {old new : S} {before after : List ℕ} {n : ℕ}
+    → NarrowSome left old before n after new → (n ≡ length before) ⊎ (n ≡ length (left old))
+    → TakesNarrow left old before n after new
+narrow_all some (inl full) =
+    record { answer = omega (arith, some.at_most, full); written = some.written; rest = some.rest }
+narrow_all some (inr given) =
+    record { answer = omega (arith, some.room, given); written = some.written; rest = some.rest }
+
+-- of those left as many more as a part of a buffer has room for, which is copied
+module _ {S : Type 0} {left : S → List ℕ} {old mid new : S} {before out part ys places : List ℕ} {a n : ℕ}
+    (others : List ℕ) (some : NarrowSome left old before a out mid) (few : TakesFirst left mid part n ys new)
+    (now : places ≡ map low32 (take n (ys ++ others))) where
+  -- the buffer begins with what was given
+  given : take n (ys ++ others) ≡ take n (left mid)
+  given =
+      let long : length (take n (left mid)) ≡ n = length-take-le n (left mid) (omega (arith, few.answer)) in
+      ap (λ zs. take n (zs ++ others)) few.written
+      ∙ ap (take n) (append_assoc (take n (left mid)) (drop n part) others)
+      ∙ (rw long at (take-append_seam (take n (left mid)) (drop n part ++ others)))
+
+  written : put_mid a (a + n - a) out places ≡ map low32 (take (a + n) (left old)) ++ drop (a + n) before
+  written =
+      let all : List ℕ = left old in
+      let first : List ℕ = map low32 (take a all) in
+      let long : length first ≡ a = length-map (take a all) low32 ∙ length-take-le a all some.at_most in
+      let front : take a out ≡ first =
+      ap (take a) some.written ∙ (rw long at (take-append_seam first (drop a before))) in
+      let behind : drop a out ≡ drop a before =
+      ap (drop a) some.written ∙ (rw long at (drop-append_seam first (drop a before))) in
+      let same : a + n - a ≡ n = omega arith in
+      let both : first ++ map low32 (take n (left mid)) ≡ map low32 (take (a + n) all) =
+      sym (map-append low32 (take a all) (take n (left mid)))
+      ∙ ap (map low32) ((λ j. take a all ++ take n (some.rest j)) ∙ sym (take-add a n all)) in
+      (λ j. front j ++ ((now ∙ ap (map low32) given) j ++ drop (same j) (behind j)))
+      ∙ sym (append_assoc first (map low32 (take n (left mid))) (drop n (drop a before)))
+      ∙ (λ j. both j ++ drop-drop n a before j)
+
+  mid_long : length (left mid) ≡ length (left old) - a
+  mid_long = ap length some.rest ∙ length-drop a (left old)
+
+  pub narrow_more : length part ≤ length before - a
+      → NarrowSome left old before (a + n) (put_mid a (a + n - a) out places) new
+  narrow_more fits = record {
+    at_most = omega (arith, few.answer, mid_long, some.at_most);
+    room = omega (arith, few.answer, fits, some.room);
+    written = written;
+    rest = few.rest ∙ ap (drop n) some.rest ∙ drop-drop n a (left old);
+  }
+
+  -- where there are fewer positions than places in that part, they are the last
+  pub narrow_last : length part ≤ length before - a → n < length part
+      → TakesNarrow left old before (a + n) (put_mid a (a + n - a) out places) new
+  narrow_last fits fewer =
+      narrow_all (narrow_more fits) (inr (omega (arith, few.answer, fewer, mid_long, some.at_most)))

@@ -1,5 +1,5 @@
 -- What a contract sees of a walk that a caller keeps: the positions left.
-use Rattle.std.specs.Prelude.{ℕ, ◌≡◌, ◌-◌, ◌/◌, min, Bool, if◌then◌else◌, Option, Some}
+use Rattle.std.specs.Prelude.{ℕ, ◌≡◌, ◌-◌, ◌/◌, ◌%◌, ◌^◌, min, Bool, if◌then◌else◌, Option, Some}
 use Rattle.std.specs.Prelude.{None, List, ◌++◌, length, take, drop, reverse, map, bit_and}
 use Rattle.std.specs.Int.{bit_not, w64, div_ceil}
 use Rattle.bitlanes.specs.Bits.{bit_without}
@@ -74,3 +74,14 @@ pub record TakesLast {S : Type 0} (left : S → List ℕ) (old : S) (before : Li
   pub answer : count ≡ min (length before) (length (left old))
   pub written : after ≡ take count (reverse (left old)) ++ drop count before
   pub rest : left new ≡ take (length (left old) - count) (left old)
+
+-- the low 32 bits of a number
+abbrev pub low32 : ℕ → ℕ
+low32 n = n % 2 ^ 32
+
+-- A call wrote the low 32 bits of the first positions left, as many as `TakesFirst` says, and left those behind them.
+pub record TakesNarrow {S : Type 0} (left : S → List ℕ) (old : S) (before : List ℕ) (count : ℕ) (after : List ℕ)
+    (new : S) : Type 0 where
+  pub answer : count ≡ min (length before) (length (left old))
+  pub written : after ≡ map low32 (take count (left old)) ++ drop count before
+  pub rest : left new ≡ drop count (left old)

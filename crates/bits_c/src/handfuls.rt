@@ -3,10 +3,10 @@
 //! Such a call leaves the walk where as many calls for one position leave it, and both may be
 //! mixed. Places that it has no position for stay as they are.
 
-ghost use Rattle.std.specs.Prelude.{◌≡◌, ◌++◌, ℕ, List, reverse};
+ghost use Rattle.std.specs.Prelude.{◌≡◌, ◌++◌, ℕ, List, length, map, reverse};
 ghost use Rattle.std.specs.Iterator.{YieldsFirst, YieldsLast};
-ghost use Rattle.bits_c.specs.Walks.{TakesFirst, TakesLast, ones_left, zeroes_left};
-ghost use Rattle.bits_c.specs.Walks.{shared_left, lacked_left, joined_left, split_left};
+ghost use Rattle.bits_c.specs.Walks.{TakesFirst, TakesLast, TakesNarrow, ones_left, zeroes_left};
+ghost use Rattle.bits_c.specs.Walks.{low32, shared_left, lacked_left, joined_left, split_left};
 ghost use Rattle.bitwords.specs.Handfuls.{GivesSome};
 
 use crate::structs::{Ones, Pair, Sieve, Zeroes};
@@ -15,6 +15,12 @@ use bitlanes::ops::{And, AndNot};
 use bitlanes::word::{BITS, take_highest_bit, take_lowest_bit};
 use bitwords::cursors::{Cursor, Middle};
 use bitwords::handfuls::{give_words, give_words_back};
+
+// How many positions are given at once where they are written as narrower numbers.
+const PART: usize = 256;
+
+// The bits of a position that a place of 32 bits takes.
+const LOW: usize = u32::MAX as usize;
 
 // What gives positions from both ends.
 trait Giver {
@@ -224,6 +230,37 @@ fn fill_back_by_words<G: Worded + Drop>(giver: G, positions: &mut [usize]) -> (u
     (count, backwards.giver)
 }
 
+// The same as `fill_by_words`, where each place takes the low 32 bits of its position. As many
+// positions as a buffer has room for are given to it, and then copied from there.
+#[inline(always)]
+fn fill_narrow<G: Worded>(giver: &mut G, positions: &mut [u32]) -> usize
+    ensures { TakesNarrow G.left giver.old positions.old result positions.new giver.new }
+{
+    let mut count = 0;
+    let mut wide = [0; PART];
+    while count < positions.len() {
+        let room = PART.min(positions.len() - count);
+        let given = fill_by_words(giver, &mut wide[..room]);
+        narrow(&mut positions[count..count + given], &wide[..given]);
+        count += given;
+        if given < room {
+            break;
+        }
+    }
+    count
+}
+
+// Writes the low 32 bits of each position to its place.
+#[inline(always)]
+fn narrow(places: &mut [u32], positions: &[usize])
+    requires { length places.old ≡ length positions.now }
+    ensures { places.new ≡ map low32 positions.now }
+{
+    for (index, position) in positions.iter().enumerate() {
+        places[index] = (*position & LOW) as u32;
+    }
+}
+
 // The same as `fill`, where the positions of a second giver stand behind those of the first.
 #[inline(always)]
 fn fill_both<A: Giver, B: Giver>(first: &mut A, second: &mut B, positions: &mut [usize]) -> usize
@@ -259,6 +296,19 @@ pub extern "C" fn bits_ones_take(walk: &mut Ones<'_>, positions: &mut [usize]) -
 {
     let mut ones = Ones::of(walk.cursor());
     let count = fill_by_words(&mut ones, positions);
+    *walk = ones;
+    count
+}
+
+/// Writes the first positions left to `positions`, from its front on and in ascending order: as
+/// many as there is room for, or as are left. It answers how many. A place takes the low 32 bits of
+/// its position, which are the position itself in a set of at most 2^32 bits.
+#[unsafe(no_mangle)]
+pub extern "C" fn bits_ones_take_u32(walk: &mut Ones<'_>, positions: &mut [u32]) -> usize
+    ensures { TakesNarrow ones_left walk.old positions.old result positions.new walk.new }
+{
+    let mut ones = Ones::of(walk.cursor());
+    let count = fill_narrow(&mut ones, positions);
     *walk = ones;
     count
 }

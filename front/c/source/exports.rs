@@ -62,6 +62,14 @@ pub unsafe extern "C" fn fixedbitset_bits_ones_take(walk: *mut CWalk, positions:
 }
 
 #[no_mangle]
+pub unsafe extern "C" fn fixedbitset_bits_ones_take_u32(walk: *mut CWalk, positions: *mut u32, positions_count: usize) -> usize {
+    let mut kept = Ones::read(walk);
+    let answer = bits_c::handfuls::bits_ones_take_u32(&mut kept, lent_mut(positions, positions_count));
+    *walk = kept.kept();
+    answer
+}
+
+#[no_mangle]
 pub unsafe extern "C" fn fixedbitset_bits_ones_take_back(walk: *mut CWalk, positions: *mut usize, positions_count: usize) -> usize {
     let mut kept = Ones::read(walk);
     let answer = bits_c::handfuls::bits_ones_take_back(&mut kept, lent_mut(positions, positions_count));

@@ -10,6 +10,12 @@ use crate::proved::bitlanes::word::{BITS, take_highest_bit, take_lowest_bit};
 use crate::proved::bitwords::cursors::{Cursor, Middle};
 use crate::proved::bitwords::handfuls::{give_words, give_words_back};
 
+// How many positions are given at once where they are written as narrower numbers.
+const PART: usize = 256;
+
+// The bits of a position that a place of 32 bits takes.
+const LOW: usize = u32::MAX as usize;
+
 // What gives positions from both ends.
 trait Giver {
     fn take_first(&mut self) -> Option<usize>;
@@ -194,6 +200,32 @@ fn fill_back_by_words<G: Worded>(giver: G, positions: &mut [usize]) -> (usize, G
     (count, backwards.giver)
 }
 
+// The same as `fill_by_words`, where each place takes the low 32 bits of its position. As many
+// positions as a buffer has room for are given to it, and then copied from there.
+#[inline(always)]
+fn fill_narrow<G: Worded>(giver: &mut G, positions: &mut [u32]) -> usize {
+    let mut count = 0;
+    let mut wide = [0; PART];
+    while count < positions.len() {
+        let room = PART.min(positions.len() - count);
+        let given = fill_by_words(giver, &mut wide[..room]);
+        narrow(&mut positions[count..count + given], &wide[..given]);
+        count += given;
+        if given < room {
+            break;
+        }
+    }
+    count
+}
+
+// Writes the low 32 bits of each position to its place.
+#[inline(always)]
+fn narrow(places: &mut [u32], positions: &[usize]) {
+    for (index, position) in positions.iter().enumerate() {
+        places[index] = (*position & LOW) as u32;
+    }
+}
+
 // The same as `fill`, where the positions of a second giver stand behind those of the first.
 #[inline(always)]
 fn fill_both<A: Giver, B: Giver>(first: &mut A, second: &mut B, positions: &mut [usize]) -> usize {
@@ -220,6 +252,16 @@ fn fill_both_back<A: Giver, B: Giver>(
 pub fn bits_ones_take(walk: &mut Ones<'_>, positions: &mut [usize]) -> usize {
     let mut ones = Ones::of(walk.cursor());
     let count = fill_by_words(&mut ones, positions);
+    *walk = ones;
+    count
+}
+
+/// Writes the first positions left to `positions`, from its front on and in ascending order: as
+/// many as there is room for, or as are left. It answers how many. A place takes the low 32 bits of
+/// its position, which are the position itself in a set of at most 2^32 bits.
+pub fn bits_ones_take_u32(walk: &mut Ones<'_>, positions: &mut [u32]) -> usize {
+    let mut ones = Ones::of(walk.cursor());
+    let count = fill_narrow(&mut ones, positions);
     *walk = ones;
     count
 }
