@@ -355,6 +355,41 @@ static void handfuls(void) {
         }
 }
 
+/* The same in numbers of 32 bits, beside a walk by bits_ones_take and in any mix with its other calls: of sets of many lengths,
+ * at rooms below and above what the call gives at once. */
+static void handfuls_of_32_bits(void) {
+    enum { MOST = 2600 };
+    static size_t wide[MOST + 1];
+    static uint32_t narrow[MOST + 1];
+    for (size_t length = 0; length <= MOST; length += length < 200 ? 1 : 150) {
+        bits set = empty(length);
+        for (size_t p = 0; p < length; p++)
+            if (p / 1300 % 2 ? p % 97 == 0 : p * p % 11 < 9)
+                bits_insert(&set, p);
+        for (size_t room = 0; room <= MOST; room += room < 200 ? 1 + 2 * (length > 200) : 104) {
+            bits_walk one = BITS_WALK, other = BITS_WALK;
+            size_t first = 0, last = 0, same = 0;
+            bits_ones(&one, &set);
+            bits_ones(&other, &set);
+            for (size_t turn = 0, had = 1; had > 0; turn++) {
+                had = bits_ones_take(&one, wide, room);
+                memset(narrow, 255, sizeof narrow);
+                assert(bits_ones_take_u32(&other, narrow, room) == had);
+                for (size_t k = 0; k <= MOST; k++)
+                    assert(narrow[k] == (k < had ? wide[k] : UINT32_MAX));
+                if (turn % 3 == 1)
+                    assert(bits_ones_next(&one, &first) == bits_ones_next(&other, &same) && first == same);
+                same = last;
+                if (turn % 3 == 2)
+                    assert(bits_ones_next_back(&one, &last) == bits_ones_next_back(&other, &same) && last == same);
+                same = first;
+            }
+            assert(room == 0 || !bits_ones_next(&other, &same));
+        }
+        free(set.words);
+    }
+}
+
 int main(void) {
     words();
     positions();
@@ -367,5 +402,6 @@ int main(void) {
     ranks();
     walks();
     handfuls();
+    handfuls_of_32_bits();
     return 0;
 }

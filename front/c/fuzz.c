@@ -87,17 +87,21 @@ static size_t number(size_t length) {
 /* ---- memory between pages that may not be touched */
 
 /* Lends so many bytes of the page, at its begin or at its end. All that is not lent has one value, and keeps it. */
-static void *lend(int page, size_t size) {
+static void *lend_at(int page, size_t size, bool is_at_begin) {
     if (!pages[page]) {
         uint8_t *place = (uint8_t *)mmap(NULL, 3 * PAGE, PROT_NONE, MAP_PRIVATE | MAP_ANONYMOUS, -1, 0);
         HOLDS(place != MAP_FAILED && mprotect(place + PAGE, PAGE, PROT_READ | PROT_WRITE) == 0);
         pages[page] = place + PAGE;
     }
     HOLDS(size <= PAGE);
-    lent[page].from = byte() % 2 ? 0 : PAGE - size;
+    lent[page].from = is_at_begin ? 0 : PAGE - size;
     lent[page].size = size;
     memset(pages[page], UNUSED, PAGE);
     return pages[page] + lent[page].from;
+}
+
+static void *lend(int page, size_t size) {
+    return lend_at(page, size, byte() % 2);
 }
 
 static void nothing_else_is_written(void) {
@@ -461,8 +465,21 @@ static void parts(one *it, const one *other) {
 
 /* ---- walks */
 
-/* Takes the positions of a walk in any mix of its calls: `wanted` has them in order. */
-#define WALKS(walk, name)                                                                    \
+/* Takes the first positions of a walk, and of a copy of it in numbers of 32 bits. The walk goes on from either. */
+static size_t take_both(bits_walk *walk, size_t *taken, size_t room) {
+    bits_walk other = *walk;
+    uint32_t *narrow = (uint32_t *)lend_at(ANSWERS, 4 * room, room % 2);
+    const size_t had = bits_ones_take(walk, taken, room);
+    HOLDS(bits_ones_take_u32(&other, narrow, room) == had);
+    for (size_t k = 0; k < room; k++)
+        HOLDS(narrow[k] == (k < had ? taken[k] : UNUSED * 0x01010101u));
+    if (had % 2)
+        *walk = other;
+    return had;
+}
+
+/* Takes the positions of a walk in any mix of its calls: `wanted` has them in order, and `first` takes the first. */
+#define WALKS(walk, name, first)                                                             \
     do {                                                                                     \
         size_t low = 0, high = many;                                                         \
         for (int turns = 0; turns < 40 && (low < high || turns < 3); turns++) {              \
@@ -472,7 +489,7 @@ static void parts(one *it, const one *other) {
             const size_t had = room < high - low ? room : high - low;                        \
             HOLDS((call == 0   ? (size_t)name##_next(&walk, taken)                           \
                    : call == 1 ? (size_t)name##_next_back(&walk, taken)                      \
-                   : call == 2 ? name##_take(&walk, taken, room)                             \
+                   : call == 2 ? first(&walk, taken, room)                                   \
                                : name##_take_back(&walk, taken, room)) == had);              \
             for (size_t k = 0; k < had; k++)                                                 \
                 HOLDS(taken[k] == (call % 2 ? wanted[--high] : wanted[low++]));              \
@@ -495,9 +512,9 @@ static void walks(const one *it) {
         if (it->has[p] == is_set && (kind < 2 || (is_valid && start <= p && p < end)))
             wanted[many++] = p;
     if (is_set)
-        WALKS(walk, bits_ones);
+        WALKS(walk, bits_ones, take_both);
     else
-        WALKS(walk, bits_zeroes);
+        WALKS(walk, bits_zeroes, bits_zeroes_take);
 }
 
 static void walks_of_two(const one *it, const one *other) {
@@ -512,10 +529,12 @@ static void walks_of_two(const one *it, const one *other) {
         if (has(other, p) && !has(it, p))
             wanted[many++] = p;
     switch (kind) {
-    case 0: bits_intersection(&sieve, &it->set, &other->set); WALKS(sieve, bits_intersection); break;
-    case 1: bits_difference(&sieve, &it->set, &other->set); WALKS(sieve, bits_difference); break;
-    case 2: bits_union(&pair, &it->set, &other->set); WALKS(pair, bits_union); break;
-    default: bits_symmetric_difference(&pair, &it->set, &other->set); WALKS(pair, bits_symmetric_difference);
+    case 0: bits_intersection(&sieve, &it->set, &other->set); WALKS(sieve, bits_intersection, bits_intersection_take); break;
+    case 1: bits_difference(&sieve, &it->set, &other->set); WALKS(sieve, bits_difference, bits_difference_take); break;
+    case 2: bits_union(&pair, &it->set, &other->set); WALKS(pair, bits_union, bits_union_take); break;
+    default:
+        bits_symmetric_difference(&pair, &it->set, &other->set);
+        WALKS(pair, bits_symmetric_difference, bits_symmetric_difference_take);
     }
 }
 
@@ -586,7 +605,7 @@ static void table_step(bits_rows *table, bool has[ROWS][COLUMNS]) {
     for (size_t p = 0; row < table->rows && p < table->columns; p++)
         if (has[row][p])
             wanted[many++] = p;
-    WALKS(walk, bits_ones);
+    WALKS(walk, bits_ones, take_both);
 }
 
 static void tables(void) {
