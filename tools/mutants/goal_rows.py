@@ -4,7 +4,7 @@ import contextlib
 import io
 
 from kept_rows import StandIn
-from wrong_bodies import goals, naming
+from wrong_bodies import crates, goals, naming
 from wrong_bodies.copies import Judge
 
 ANSWERS = """use Rattle.numbers.proofs.next.Goals as goal
@@ -58,6 +58,7 @@ OPEN = "note: src/lib.rt:9:1: it is not proved that what it ensures holds (`retu
 NEXT = OPEN + "fn numbers::next: no proof: `search` did not prove `returns`\nonly=1"
 # What a check says where the answer that stands for `returns`, or the other, is false, in which lines.
 FALSE = "proofs/next/Answers.antt:{}:5: error: `{}`: the goal fails\nfn numbers::next: not proved\nonly=1"
+BROKE_OFF = FALSE.format(10, "returns").replace("\n", "\n  `search` broke off: more than 300000 steps\n", 1)
 NOTHING = "fn numbers::next: perhaps\nonly=1"
 # A goal and the answers that are stored, what the checks of an edit say in turn, and what has to be told.
 SAID = [
@@ -65,6 +66,7 @@ SAID = [
     ("it names a goal that there is not", "nothing", "", [NOTHING, NEXT], "refused: src/lib.rt:9: "),
     ("no goal of it is open", "returns", "", [NOTHING, NOTHING, "logic=proved"], "NOT REFUSED"),
     ("the answer of its goal is false", "returns", ANSWERS, [FALSE.format(10, "returns")], "refused: proofs/next/Answers.antt:10: "),
+    ("the search for the answer broke off", "returns", ANSWERS, [BROKE_OFF], "refused at a bound: proofs/next/Answers.antt:10: "),
     ("a goal that no tactic was asked for is open", "returns", ANSWERS, [NEXT, NEXT], "refused: src/lib.rt:9: "),
     ("the answer of another goal is false", "returns", ANSWERS, [FALSE.format(14, "overflow"), NEXT], "refused: src/lib.rt:9: "),
 ]
@@ -83,6 +85,8 @@ def check_goals(counts, project, runner_of):
     text = goals.without_tactic(crate.sources[function.path], function)
     counts.compare("no tactic is asked for", text.count("#[tactic(none)]\npub fn next("), 1)
     counts.compare("no tactic stands twice", goals.without_tactic(text, function), text)
+    bounds = crates.BOUND.sub("", "search rules steps 300000\n) steps 9; steps 7; steps\n")
+    counts.compare("an answer without its bound", bounds, "search rules\n); steps 7; steps\n")
     for row in SAID:
         check_said(counts, crate, runner_of, *row)
     check_names(counts, crate)

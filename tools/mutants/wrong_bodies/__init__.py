@@ -25,7 +25,9 @@ its round rests on what another edit there changes. Where it is not known what r
 type, the edit has a round of its own, with all bodies.
 
 What a check says (verdicts.py):
-  refused   a goal is open at a place in the function, or an answer that is stored for one of its goals is false
+  refused   a goal is open at a place in the function, or an answer that is stored for one of its goals does not prove it;
+            `at a bound` where the search for this answer broke off at a bound on its steps, before it had tried every way.
+            `tools/mutants/edits --whole` tries those edits without the bounds
   waits     no goal of its own is open, but it calls a function that another edit changed: a later round tries it
   else      it is tried alone, by a check of the whole crate from nothing, and that answer stands: refused alone; NOT REFUSED;
             BAD EDIT where its text does not compile or read; UNCLEAR where the check says what is not known here

@@ -8,12 +8,15 @@ import subprocess
 from . import goals, rattle, reach
 
 PARTS = ("src", "specs", "proofs")
+# A bound on the steps of a search, at its end.
+BOUND = re.compile(r"(?<=[\w)]) steps \d+\b")
 
 
 class Project:
-    """A checkout: its crates by their names, the lowest first. The edits stand in it, or below another folder."""
-    def __init__(self, top, edits_top=None):
-        self.top, self.edits_top = top, edits_top or top
+    """A checkout: its crates by their names, the lowest first. The edits stand in it, or below another folder. Without bounds
+    its proofs are read as if no search in them had one."""
+    def __init__(self, top, edits_top=None, has_bounds=True):
+        self.top, self.edits_top, self.has_bounds = top, edits_top or top, has_bounds
         lines = (top / "crates.txt").read_text().splitlines()
         crates = [Crate(line, self) for line in lines if line.strip() and not line.startswith("#")]
         self.crates = {crate.name: crate for crate in crates}
@@ -50,7 +53,10 @@ class Crate:
     def sources(self):
         """The texts of src/, specs/ and proofs/ by their paths, as they are read once."""
         files = [path for part in PARTS for path in sorted(self.folder.glob(f"{part}/**/*.*"))]
-        return {str(path.relative_to(self.folder)): path.read_text() for path in files if path.is_file()}
+        texts = {str(path.relative_to(self.folder)): path.read_text() for path in files if path.is_file()}
+        if self.project.has_bounds:
+            return texts
+        return {path: BOUND.sub("", text) if path.startswith("proofs/") else text for path, text in texts.items()}
 
     @functools.cached_property
     def functions(self):
@@ -149,6 +155,13 @@ class Edit:
         text = self.crate.sources.get(goals.path_of_answers(self.crate, function), "")
         own = goals.answers_in(text, goals.DECLARATION).get(self.goal, range(0))
         return range(own.start + 1, own.stop + 1) if own else own
+
+    @property
+    def is_at_a_bound(self):
+        """Whether the goal that its file names has a stored answer by a search with a bound."""
+        lines = self.lines_of_answer if self.names_a_goal else range(0)
+        text = (self.crate.folder / goals.path_of_answers(self.crate, self.functions[0])).read_text() if lines else ""
+        return bool(BOUND.search("\n".join(text.split("\n")[lines.start - 1 : lines.stop - 1])))
 
     def applied(self, texts, changes=None):
         """The texts by their paths with this edit in them, or None where it cannot be applied. `changes` gets what it

@@ -16,7 +16,7 @@ ROUNDS_THAT_GAIN = 2
 class Told:
     """What was told of the edits."""
     def __init__(self):
-        self.refused, self.others, self.kept, self.tried = 0, 0, 0, 0
+        self.refused, self.others, self.kept, self.tried, self.at_bounds = 0, 0, 0, 0, 0
         self.lock = threading.Lock()
 
     def tell(self, edit, is_refused, why, is_kept=False, is_tried=False):
@@ -25,11 +25,14 @@ class Told:
             self.others += not is_refused
             self.kept += is_kept
             self.tried += is_tried
+            self.at_bounds += why.startswith("refused at a bound")
             print(f"{edit.crate.name}/{edit.name}: {why}", flush=True)
 
     def finish(self):
         """Prints the counts, and answers the exit status."""
         count = self.refused + self.others
+        if self.at_bounds:
+            print(f"refused at a bound: {self.at_bounds}")
         print(f"kept: {self.kept} of {count} verdicts, tried in this run: {self.tried}")
         print(f"{self.refused} passed, {self.others} failed")
         return 1 if self.others else 0

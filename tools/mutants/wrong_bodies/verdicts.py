@@ -104,12 +104,19 @@ def judged_by_goal(edit, judge, said):
     path = goals.path_of_answers(edit.crate, function)
     for error in errors_in_proofs(said):
         if error.path == path and error.line in edit.lines_of_answer:
-            return REFUSED, f"refused: {without_number(error)}"
+            where = " at a bound" if broke_off(said, error) else ""
+            return REFUSED, f"refused{where}: {without_number(error)}"
     if not edit.lines_of_answer:
         for unproved in unproved_in(said):
             if unproved.is_of(function) and (place := open_in(unproved, judge)):
                 return REFUSED, f"refused: {place}"
     return UNCLEAR, ""
+
+
+def broke_off(said, error):
+    """Whether the search at the place of an error ended before it had tried every way."""
+    blocks = re.findall(rf"(?m)^(?:\./)?{re.escape(error.path)}:{error.line}:.*(?:\n .*)*", said)
+    return any("broke off" in block for block in blocks)
 
 
 def place_of_refusal(unproved, judge, errors):
