@@ -20,15 +20,32 @@ const SHARES: [(usize, &str); 5] = [
 ];
 
 /// Writes the positions of the words to the list, and answers how many they are.
-type List = fn(&[usize], &mut [usize]) -> usize;
+type List<P> = fn(&[usize], &mut [P]) -> usize;
+
+/// What a place of a list holds: a position, or its low 32 bits.
+trait Place: Copy + Default + PartialEq {
+    fn of(position: usize) -> Self;
+}
+
+impl Place for usize {
+    fn of(position: usize) -> usize {
+        position
+    }
+}
+
+impl Place for u32 {
+    fn of(position: usize) -> u32 {
+        position as u32
+    }
+}
 
 /// One branch for each position.
-fn one_by_one(words: &[usize], list: &mut [usize]) -> usize {
+fn one_by_one<P: Place>(words: &[usize], list: &mut [P]) -> usize {
     let mut count = 0;
     for (index, word) in words.iter().enumerate() {
         let mut left = *word;
         while left != 0 {
-            list[count] = 64 * index + left.trailing_zeros() as usize;
+            list[count] = P::of(64 * index + left.trailing_zeros() as usize);
             left &= left - 1;
             count += 1;
         }
@@ -37,13 +54,13 @@ fn one_by_one(words: &[usize], list: &mut [usize]) -> usize {
 }
 
 /// Eight positions at once, with no branch for each.
-fn by_groups(words: &[usize], list: &mut [usize]) -> usize {
+fn by_groups<P: Place>(words: &[usize], list: &mut [P]) -> usize {
     let mut count = 0;
     for (index, word) in words.iter().enumerate() {
         let (mut left, ones) = (*word, word.count_ones() as usize);
         for at in (0..ones).step_by(8) {
             for place in &mut list[count + at..count + at + 8] {
-                *place = 64 * index + left.trailing_zeros() as usize;
+                *place = P::of(64 * index + left.trailing_zeros() as usize);
                 left &= left.wrapping_sub(1);
             }
         }
@@ -105,25 +122,33 @@ fn by_table(words: &[usize], list: &mut [usize]) -> usize {
     count
 }
 
-const LISTS: [List; 3] = [one_by_one, by_groups, by_table];
-
 unsafe extern "C" {
     #[link_name = "fixedbitset_bits_ones_take"]
     fn bits_ones_take(walk: &mut Walk, positions: *mut usize, room: usize) -> usize;
+    #[link_name = "fixedbitset_bits_ones_take_u32"]
+    fn bits_ones_take_u32(walk: &mut Walk, positions: *mut u32, room: usize) -> usize;
 }
 
-/// The call: a walk over the set of these words, and all that it gives.
-fn taken(words: &[usize], list: &mut [usize]) -> usize {
+/// A walk over the set of these words.
+fn walk_over(words: &[usize]) -> Walk {
     let set = Lent {
         words: NonNull::from(words).cast(),
         count: words.len(),
         length: BITS,
     };
     let mut walk = Walk::NONE;
-    unsafe {
-        bits_ones(&mut walk, &set);
-        bits_ones_take(&mut walk, list.as_mut_ptr(), list.len())
-    }
+    unsafe { bits_ones(&mut walk, &set) };
+    walk
+}
+
+/// The call: all that such a walk gives.
+fn taken(words: &[usize], list: &mut [usize]) -> usize {
+    unsafe { bits_ones_take(&mut walk_over(words), list.as_mut_ptr(), list.len()) }
+}
+
+/// The same in places of 32 bits.
+fn taken_u32(words: &[usize], list: &mut [u32]) -> usize {
+    unsafe { bits_ones_take_u32(&mut walk_over(words), list.as_mut_ptr(), list.len()) }
 }
 
 /// The words of a set of which about so many of a hundred thousand positions are set, in no order.
@@ -148,23 +173,28 @@ fn nanoseconds(run: impl FnOnce() -> usize) -> f64 {
 /// Prints the rows: the least nanoseconds of the loops, and of the call.
 pub fn print() {
     for (share, name) in SHARES {
-        let words = &scattered(share)[..];
-        let mut list = vec![0; BITS + 8];
-        let count = by_table(words, &mut list);
-        let wanted = list[..count].to_vec();
-        for run in LISTS {
-            list.fill(0);
-            assert!(run(words, &mut list) == count && list[..count] == wanted);
-        }
-        list.fill(0);
-        assert!(taken(words, &mut list) == count && list[..count] == wanted);
-        let [mut limit, mut ours] = [f64::INFINITY; 2];
-        for () in turns(TURNS) {
-            for run in LISTS {
-                limit = limit.min(nanoseconds(|| run(black_box(words), &mut list)));
-            }
-            ours = ours.min(nanoseconds(|| taken(black_box(words), &mut list)));
-        }
-        println!("\"ones_take, {name} set\",\"lists positions\",{limit:.1},{ours:.1}");
+        let (words, set) = (scattered(share), format!("{name} set"));
+        let wide: [List<usize>; 3] = [one_by_one, by_groups, by_table];
+        print_row(&format!("ones_take, {set}"), &words, &wide, taken);
+        let narrow: [List<u32>; 2] = [one_by_one, by_groups];
+        print_row(&format!("ones_take_u32, {set}"), &words, &narrow, taken_u32);
     }
+}
+
+fn print_row<P: Place>(name: &str, words: &[usize], loops: &[List<P>], call: List<P>) {
+    let mut list = vec![P::default(); BITS + 8];
+    let count = one_by_one(words, &mut list);
+    let wanted = list[..count].to_vec();
+    for run in loops.iter().chain([&call]) {
+        list.fill(P::default());
+        assert!(run(words, &mut list) == count && list[..count] == wanted);
+    }
+    let [mut limit, mut ours] = [f64::INFINITY; 2];
+    for () in turns(TURNS) {
+        for run in loops {
+            limit = limit.min(nanoseconds(|| run(black_box(words), &mut list)));
+        }
+        ours = ours.min(nanoseconds(|| call(black_box(words), &mut list)));
+    }
+    println!("\"{name}\",\"lists positions\",{limit:.1},{ours:.1}");
 }

@@ -3,7 +3,7 @@
 //! Such a call leaves the walk where as many calls for one position leave it, and both may be
 //! mixed. Places that it has no position for stay as they are.
 
-ghost use Rattle.std.specs.Prelude.{◌≡◌, ◌++◌, ℕ, List, length, map, reverse};
+ghost use Rattle.std.specs.Prelude.{◌≡◌, ◌<◌, ◌++◌, ℕ, List, length, map, reverse};
 ghost use Rattle.std.specs.Iterator.{YieldsFirst, YieldsLast};
 ghost use Rattle.bits_c.specs.Walks.{TakesFirst, TakesLast, TakesNarrow, ones_left, zeroes_left};
 ghost use Rattle.bits_c.specs.Walks.{low32, shared_left, lacked_left, joined_left, split_left};
@@ -16,8 +16,11 @@ use bitlanes::word::{BITS, take_highest_bit, take_lowest_bit};
 use bitwords::cursors::{Cursor, Middle};
 use bitwords::handfuls::{give_words, give_words_back};
 
-// How many positions are given at once where they are written as narrower numbers.
-const PART: usize = 256;
+// How many positions are given at once where they are written as narrower numbers: to a list of up
+// to so many places, and to a longer one.
+const FEW: usize = 32;
+
+const MANY: usize = 256;
 
 // The bits of a position that a place of 32 bits takes.
 const LOW: usize = u32::MAX as usize;
@@ -231,15 +234,15 @@ fn fill_back_by_words<G: Worded + Drop>(giver: G, positions: &mut [usize]) -> (u
 }
 
 // The same as `fill_by_words`, where each place takes the low 32 bits of its position. As many
-// positions as a buffer has room for are given to it, and then copied from there.
+// positions as the buffer `wide` has room for are given to it, and then copied from there.
 #[inline(always)]
-fn fill_narrow<G: Worded>(giver: &mut G, positions: &mut [u32]) -> usize
+fn fill_narrow<G: Worded>(giver: &mut G, wide: &mut [usize], positions: &mut [u32]) -> usize
+    requires { 0 < length wide.old }
     ensures { TakesNarrow G.left giver.old positions.old result positions.new giver.new }
 {
     let mut count = 0;
-    let mut wide = [0; PART];
     while count < positions.len() {
-        let room = PART.min(positions.len() - count);
+        let room = wide.len().min(positions.len() - count);
         let given = fill_by_words(giver, &mut wide[..room]);
         narrow(&mut positions[count..count + given], &wide[..given]);
         count += given;
@@ -248,6 +251,15 @@ fn fill_narrow<G: Worded>(giver: &mut G, positions: &mut [u32]) -> usize
         }
     }
     count
+}
+
+// The same by the longer buffer. It stands out of line, since a call for a few positions would else
+// clear that buffer too.
+#[inline(never)]
+fn fill_many(ones: &mut Ones<'_>, positions: &mut [u32]) -> usize
+    ensures { TakesNarrow ones_left ones.old positions.old result positions.new ones.new }
+{
+    fill_narrow(ones, &mut [0; MANY], positions)
 }
 
 // Writes the low 32 bits of each position to its place.
@@ -308,7 +320,11 @@ pub extern "C" fn bits_ones_take_u32(walk: &mut Ones<'_>, positions: &mut [u32])
     ensures { TakesNarrow ones_left walk.old positions.old result positions.new walk.new }
 {
     let mut ones = Ones::of(walk.cursor());
-    let count = fill_narrow(&mut ones, positions);
+    let count = if positions.len() > FEW {
+        fill_many(&mut ones, positions)
+    } else {
+        fill_narrow(&mut ones, &mut [0; FEW], positions)
+    };
     *walk = ones;
     count
 }

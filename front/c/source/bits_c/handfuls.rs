@@ -10,8 +10,11 @@ use crate::proved::bitlanes::word::{BITS, take_highest_bit, take_lowest_bit};
 use crate::proved::bitwords::cursors::{Cursor, Middle};
 use crate::proved::bitwords::handfuls::{give_words, give_words_back};
 
-// How many positions are given at once where they are written as narrower numbers.
-const PART: usize = 256;
+// How many positions are given at once where they are written as narrower numbers: to a list of up
+// to so many places, and to a longer one.
+const FEW: usize = 32;
+
+const MANY: usize = 256;
 
 // The bits of a position that a place of 32 bits takes.
 const LOW: usize = u32::MAX as usize;
@@ -201,13 +204,12 @@ fn fill_back_by_words<G: Worded>(giver: G, positions: &mut [usize]) -> (usize, G
 }
 
 // The same as `fill_by_words`, where each place takes the low 32 bits of its position. As many
-// positions as a buffer has room for are given to it, and then copied from there.
+// positions as the buffer `wide` has room for are given to it, and then copied from there.
 #[inline(always)]
-fn fill_narrow<G: Worded>(giver: &mut G, positions: &mut [u32]) -> usize {
+fn fill_narrow<G: Worded>(giver: &mut G, wide: &mut [usize], positions: &mut [u32]) -> usize {
     let mut count = 0;
-    let mut wide = [0; PART];
     while count < positions.len() {
-        let room = PART.min(positions.len() - count);
+        let room = wide.len().min(positions.len() - count);
         let given = fill_by_words(giver, &mut wide[..room]);
         narrow(&mut positions[count..count + given], &wide[..given]);
         count += given;
@@ -216,6 +218,13 @@ fn fill_narrow<G: Worded>(giver: &mut G, positions: &mut [u32]) -> usize {
         }
     }
     count
+}
+
+// The same by the longer buffer. It stands out of line, since a call for a few positions would else
+// clear that buffer too.
+#[inline(never)]
+fn fill_many(ones: &mut Ones<'_>, positions: &mut [u32]) -> usize {
+    fill_narrow(ones, &mut [0; MANY], positions)
 }
 
 // Writes the low 32 bits of each position to its place.
@@ -261,7 +270,11 @@ pub fn bits_ones_take(walk: &mut Ones<'_>, positions: &mut [usize]) -> usize {
 /// its position, which are the position itself in a set of at most 2^32 bits.
 pub fn bits_ones_take_u32(walk: &mut Ones<'_>, positions: &mut [u32]) -> usize {
     let mut ones = Ones::of(walk.cursor());
-    let count = fill_narrow(&mut ones, positions);
+    let count = if positions.len() > FEW {
+        fill_many(&mut ones, positions)
+    } else {
+        fill_narrow(&mut ones, &mut [0; FEW], positions)
+    };
     *walk = ones;
     count
 }

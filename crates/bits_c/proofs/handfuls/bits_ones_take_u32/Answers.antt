@@ -1,5 +1,8 @@
 use Rattle.std.proofs.Common.{arith}
 use Rattle.bits_c.proofs.handfuls.bits_ones_take_u32.Goals as goal
 
-pub returns : goal.returns
-returns c = record { answer = grind arith; written = grind arith; rest = grind arith }
+pub returns-then-positions-gt-FEW : goal.returns-then-positions-gt-FEW
+returns-then-positions-gt-FEW c = record { answer = grind arith; written = grind arith; rest = grind arith }
+
+pub returns-else-positions-gt-FEW : goal.returns-else-positions-gt-FEW
+returns-else-positions-gt-FEW c = record { answer = grind arith; written = grind arith; rest = grind arith }
