@@ -1,6 +1,6 @@
 //! JSON values, written through a formatter without memory. The library's own
 //! `Display` promises no text.
-ghost use Rattle.std.specs.Prelude.{◌≡◌, false};
+ghost use Rattle.std.specs.Prelude.{◌≡◌, ◌++◌, false, codes};
 ghost use Rattle.std.specs.Fmt.{WritesOnOk};
 ghost use Rattle.bitcommands.specs.Quoting.{in_quotes};
 ghost use Rattle.serde_json.specs.Data.{string};
@@ -62,9 +62,7 @@ fn write_members<W: fmt::Write>(
 {
     let mut later = false;
     for (key, member) in members.iter() {
-        write_comma(later, f)?;
-        write_quoted(key.as_str(), f)?;
-        f.write_str(":")?;
+        write_key(later, key.as_str(), f)?;
         write_value(member, f)?;
         later = true;
     }
@@ -76,6 +74,16 @@ fn write_comma<W: fmt::Write>(later: bool, f: &mut fmt::Formatter<W>) -> fmt::Re
     ensures { WritesOnOk W.write_str_gives f.old result (comma_if later) f.new }
 {
     if later { f.write_str(",") } else { Ok(()) }
+}
+
+// The key of a member and a colon, behind a comma if a member stands before.
+fn write_key<W: fmt::Write>(later: bool, key: &str, f: &mut fmt::Formatter<W>) -> fmt::Result
+    ensures { WritesOnOk W.write_str_gives f.old result
+        (comma_if later ++ (compact_text (string key.now) ++ codes ":")) f.new }
+{
+    write_comma(later, f)?;
+    write_quoted(key, f)?;
+    f.write_str(":")
 }
 
 // A whole number in decimal. Of a number with a fraction or an exponent no text is promised.
