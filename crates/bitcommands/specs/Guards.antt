@@ -41,6 +41,10 @@ no_word s k i = option_or (no_set s k) (refuse refusal.Position (not (nat_lt i (
 abbrev pub past_limit : ℕ → ℕ → Option Refusal
 past_limit limit n = refuse refusal.Limit (nat_lt limit n)
 
+-- there is no such set, or a length above the limit is asked for
+abbrev pub no_length : ℕ → Sets → ℕ → ℕ → Option Refusal
+no_length limit s k n = option_or (no_set s k) (past_limit limit n)
+
 -- there is no such set, or the value is not in the form, or its length is above the limit
 abbrev pub no_value : ℕ → Sets → ℕ → Data → Option Refusal
 no_value limit s d json = option_or (no_set s d)

@@ -1,13 +1,17 @@
 //! Calls of a walk from its ends, one after the other.
-ghost use Rattle.std.specs.Prelude.{◌≡◌, ◌≤◌, [], length, IfOk};
+ghost use Rattle.std.specs.Prelude.{◌≡◌, ◌≤◌, [], length, MatchResult};
 ghost use Rattle.std.specs.Vec.{vec_capacity};
 ghost use Rattle.bitwalks.specs.Pairs.{joined_items, split_items};
 ghost use Rattle.bitcommands.specs.Calls.{calls};
+ghost use Rattle.bitcommands.specs.Answers.{answer_of, items};
+ghost use Rattle.bitcommands.specs.declared.commands.refusals.Refusal.TheVariants.{Memory};
 ghost use Rattle.bitcommands.specs.OneCall.{item_at, without_item_at};
 
 use crate::commands::arguments::End;
+use crate::commands::refusals::Refusal;
+use crate::commands::replies::Reply;
 use fixedbitset::{Difference, Intersection, IntoOnes, Ones, SymmetricDifference, Union, Zeroes};
-use std::alloc::{AllocError, Global};
+use std::alloc::Global;
 
 // A walk that is called from its two ends.
 pub(super) trait TwoEnds {
@@ -110,16 +114,18 @@ impl<'a> TwoEnds for SymmetricDifference<'a> {
     }
 }
 
-// One call an end, in order. All places are reserved before the first call.
+// The reply of one call an end, in order. All places are reserved before the first call.
 pub(super) fn call_all<W: TwoEnds + Drop>(
     alloc: Global,
     walk: W,
     ends: &[End],
-) -> Result<Vec<Option<usize>>, AllocError>
-    ensures { IfOk result (λ list. list.items ≡ calls ends.now (W.items_left walk)) }
+) -> Result<Reply, Refusal>
+    ensures { MatchResult result
+        (λ reply. answer_of reply ≡ items (calls ends.now (W.items_left walk)))
+        (λ refusal. refusal ≡ Memory) }
 {
     let places = Vec::with_capacity(alloc, ends.len())?;
-    Ok(call_each(walk, ends, places))
+    Ok(Reply::Items(call_each(walk, ends, places)))
 }
 
 // The same, where the list is empty and has a place for each answer.

@@ -4,7 +4,7 @@ ghost use Rattle.bitcommands.specs.Actions.{change_action};
 ghost use Rattle.bitcommands.specs.Outcomes.{Answers, AnswersAlways};
 
 use crate::commands::refusals::{
-    Refusal, check_item, check_items, check_limit, check_position, check_set, check_word,
+    Refusal, check_item, check_items, check_length, check_position, check_set, check_word,
 };
 use crate::commands::replies::Reply;
 use fixedbitset::{Block, FixedBitSet};
@@ -104,8 +104,7 @@ fn clear(sets: &mut [FixedBitSet], set: usize) -> Result<Reply, Refusal>
 fn grow(sets: &mut [FixedBitSet], set: usize, bits: usize, limit: usize) -> Result<Reply, Refusal>
     ensures { Answers limit sets.old (action.grow set bits) result sets.new }
 {
-    check_set(sets, set)?;
-    check_limit(limit, bits)?;
+    check_length(limit, sets, set, bits)?;
     sets[set].grow(bits)?;
     Ok(Reply::Done)
 }

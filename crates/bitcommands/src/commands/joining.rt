@@ -1,10 +1,9 @@
 //! Commands that change one set by another one, or by itself.
 ghost use Rattle.std.specs.Prelude.{◌≡◌, ◌<◌, length, IsTrue, OnOk, OnErr, slice_set};
-ghost use Rattle.bitcommands.specs.Actions as action;
 ghost use Rattle.bitcommands.specs.Actions.{whole_action};
-ghost use Rattle.bitcommands.specs.Joints.{combination, joint_may_lack_memory};
+ghost use Rattle.bitcommands.specs.Joints.{combination, joint_may_lack_memory, Joins};
 ghost use Rattle.bitcommands.specs.Sets.{at};
-ghost use Rattle.bitcommands.specs.Outcomes.{Answers, AnswersAlways};
+ghost use Rattle.bitcommands.specs.Outcomes.{Answers};
 
 use crate::commands::refusals::{Refusal, check_sets};
 use crate::commands::replies::Reply;
@@ -40,61 +39,16 @@ pub(super) fn apply_whole(
     ensures { Answers limit sets.old (whole_action command.now) result sets.new }
 {
     match command {
-        Whole::UnionWith { a, b } => union_with(alloc, sets, *a, *b),
-        Whole::SymmetricDifferenceWith { a, b } => symmetric_difference_with(alloc, sets, *a, *b),
-        Whole::BitorAssign { a, b } => union_with(alloc, sets, *a, *b),
-        Whole::BitxorAssign { a, b } => symmetric_difference_with(alloc, sets, *a, *b),
-        Whole::IntersectWith { a, b } => intersect_with(alloc, sets, *a, *b),
-        Whole::DifferenceWith { a, b } => difference_with(alloc, sets, *a, *b),
-        Whole::BitandAssign { a, b } => intersect_with(alloc, sets, *a, *b),
+        Whole::UnionWith { a, b } => join(alloc, sets, *a, *b, Joint::Union),
+        Whole::SymmetricDifferenceWith { a, b } => {
+            join(alloc, sets, *a, *b, Joint::SymmetricDifference)
+        }
+        Whole::BitorAssign { a, b } => join(alloc, sets, *a, *b, Joint::Union),
+        Whole::BitxorAssign { a, b } => join(alloc, sets, *a, *b, Joint::SymmetricDifference),
+        Whole::IntersectWith { a, b } => join(alloc, sets, *a, *b, Joint::Intersection),
+        Whole::DifferenceWith { a, b } => join(alloc, sets, *a, *b, Joint::Difference),
+        Whole::BitandAssign { a, b } => join(alloc, sets, *a, *b, Joint::Intersection),
     }
-}
-
-fn union_with(alloc: Global, sets: &mut [FixedBitSet], a: usize, b: usize) -> Result<Reply, Refusal>
-    ensures { AnswersAlways sets.old (action.union_with a b) result sets.new }
-{
-    check_sets(sets, a, b)?;
-    join(alloc, sets, a, b, Joint::Union)?;
-    Ok(Reply::Done)
-}
-
-fn symmetric_difference_with(
-    alloc: Global,
-    sets: &mut [FixedBitSet],
-    a: usize,
-    b: usize,
-) -> Result<Reply, Refusal>
-    ensures { AnswersAlways sets.old (action.symmetric_difference_with a b) result sets.new }
-{
-    check_sets(sets, a, b)?;
-    join(alloc, sets, a, b, Joint::SymmetricDifference)?;
-    Ok(Reply::Done)
-}
-
-fn intersect_with(
-    alloc: Global,
-    sets: &mut [FixedBitSet],
-    a: usize,
-    b: usize,
-) -> Result<Reply, Refusal>
-    ensures { AnswersAlways sets.old (action.intersect_with a b) result sets.new }
-{
-    check_sets(sets, a, b)?;
-    join(alloc, sets, a, b, Joint::Intersection)?;
-    Ok(Reply::Done)
-}
-
-fn difference_with(
-    alloc: Global,
-    sets: &mut [FixedBitSet],
-    a: usize,
-    b: usize,
-) -> Result<Reply, Refusal>
-    ensures { AnswersAlways sets.old (action.difference_with a b) result sets.new }
-{
-    check_sets(sets, a, b)?;
-    join(alloc, sets, a, b, Joint::Difference)?;
-    Ok(Reply::Done)
 }
 
 // What is made of a set and another one.
@@ -108,8 +62,23 @@ pub(super) enum Joint {
     Copy,
 }
 
-// Changes the set `target` by the set `other`, which may be the same. No copy of a set is made.
+// Changes the set `target` by the set `other`, which may be the same, if there are both.
 pub(super) fn join(
+    alloc: Global,
+    sets: &mut [FixedBitSet],
+    target: usize,
+    other: usize,
+    joint: Joint,
+) -> Result<Reply, Refusal>
+    ensures { Joins sets.old joint target other result sets.new }
+{
+    check_sets(sets, target, other)?;
+    join_sets(alloc, sets, target, other, joint)?;
+    Ok(Reply::Done)
+}
+
+// The same, where there are both. No copy of a set is made.
+fn join_sets(
     alloc: Global,
     sets: &mut [FixedBitSet],
     target: usize,

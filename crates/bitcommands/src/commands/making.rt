@@ -1,14 +1,16 @@
 //! Commands that put a new value in a set's place.
-ghost use Rattle.std.specs.Prelude.{◌≡◌, IfOk};
+ghost use Rattle.std.specs.Prelude.{◌≡◌, ◌<◌, length, Ok, Err, IfOk, MatchResult, slice_set};
 ghost use Rattle.serde_json.specs.View.{view};
 ghost use Rattle.fixedbitset.specs.Bits as model;
 ghost use Rattle.bitcommands.specs.Actions as action;
 ghost use Rattle.bitcommands.specs.Actions.{make_action};
+ghost use Rattle.bitcommands.specs.declared.commands.refusals.Refusal.TheVariants.{Memory};
+ghost use Rattle.bitcommands.specs.declared.commands.replies.Reply.TheVariants.{Done};
 ghost use Rattle.bitcommands.specs.Outcomes.{Answers, AnswersAlways};
 
 use crate::commands::joining::{Joint, join};
 use crate::commands::refusals::{
-    Refusal, check_items, check_limit, check_set, check_sets, check_value,
+    Refusal, check_items, check_length, check_set, check_sets, check_value, sets_at,
 };
 use crate::commands::replies::Reply;
 use fixedbitset::{Block, FixedBitSet};
@@ -95,7 +97,7 @@ pub(super) fn apply_make(
             blocks,
         } => with_capacity_and_blocks(alloc, sets, *target, *bits, blocks.as_slice(), limit),
         Make::Clone { target, source } => clone(sets, *target, *source),
-        Make::CloneFrom { target, source } => clone_from(alloc, sets, *target, *source),
+        Make::CloneFrom { target, source } => join(alloc, sets, *target, *source, Joint::Copy),
         Make::FromIter { target, items } => {
             from_iter(alloc, sets, *target, items.as_slice(), limit)
         }
@@ -110,16 +112,14 @@ fn new(alloc: Global, sets: &mut [FixedBitSet], target: usize) -> Result<Reply, 
     ensures { AnswersAlways sets.old (action.new target) result sets.new }
 {
     check_set(sets, target)?;
-    sets[target] = FixedBitSet::new(alloc);
-    Ok(Reply::Done)
+    put(sets, target, Ok(FixedBitSet::new(alloc)))
 }
 
 fn default(alloc: Global, sets: &mut [FixedBitSet], target: usize) -> Result<Reply, Refusal>
     ensures { AnswersAlways sets.old (action.default target) result sets.new }
 {
     check_set(sets, target)?;
-    sets[target] = FixedBitSet::default(alloc);
-    Ok(Reply::Done)
+    put(sets, target, Ok(FixedBitSet::default(alloc)))
 }
 
 fn with_capacity(
@@ -131,10 +131,8 @@ fn with_capacity(
 ) -> Result<Reply, Refusal>
     ensures { Answers limit sets.old (action.with_capacity target bits) result sets.new }
 {
-    check_set(sets, target)?;
-    check_limit(limit, bits)?;
-    sets[target] = FixedBitSet::with_capacity(alloc, bits)?;
-    Ok(Reply::Done)
+    check_length(limit, sets, target, bits)?;
+    put(sets, target, FixedBitSet::with_capacity(alloc, bits))
 }
 
 fn with_capacity_and_blocks(
@@ -148,10 +146,8 @@ fn with_capacity_and_blocks(
     ensures { Answers limit sets.old
         (action.with_capacity_and_blocks target bits blocks.now) result sets.new }
 {
-    check_set(sets, target)?;
-    check_limit(limit, bits)?;
-    sets[target] = set_of_blocks(alloc, bits, blocks)?;
-    Ok(Reply::Done)
+    check_length(limit, sets, target, bits)?;
+    put(sets, target, set_of_blocks(alloc, bits, blocks))
 }
 
 // A set of so many positions, of the words of a list.
@@ -166,21 +162,8 @@ fn clone(sets: &mut [FixedBitSet], target: usize, source: usize) -> Result<Reply
     ensures { AnswersAlways sets.old (action.clone target source) result sets.new }
 {
     check_sets(sets, target, source)?;
-    sets[target] = sets[source].clone()?;
-    Ok(Reply::Done)
-}
-
-fn clone_from(
-    alloc: Global,
-    sets: &mut [FixedBitSet],
-    target: usize,
-    source: usize,
-) -> Result<Reply, Refusal>
-    ensures { AnswersAlways sets.old (action.clone_from target source) result sets.new }
-{
-    check_sets(sets, target, source)?;
-    join(alloc, sets, target, source, Joint::Copy)?;
-    Ok(Reply::Done)
+    let made: Result<_, _> = sets[source].clone();
+    put(sets, target, made)
 }
 
 // Where an item is not taken, the set stays as it was.
@@ -217,25 +200,40 @@ fn bitand(sets: &mut [FixedBitSet], target: usize, a: usize, b: usize) -> Result
     ensures { AnswersAlways sets.old (action.bitand target a b) result sets.new }
 {
     check_set(sets, target)?;
-    check_sets(sets, a, b)?;
-    sets[target] = sets[a].bitand(&sets[b])?;
-    Ok(Reply::Done)
+    let (first, second) = sets_at(sets, a, b)?;
+    let made = first.bitand(second);
+    put(sets, target, made)
 }
 
 fn bitor(sets: &mut [FixedBitSet], target: usize, a: usize, b: usize) -> Result<Reply, Refusal>
     ensures { AnswersAlways sets.old (action.bitor target a b) result sets.new }
 {
     check_set(sets, target)?;
-    check_sets(sets, a, b)?;
-    sets[target] = sets[a].bitor(&sets[b])?;
-    Ok(Reply::Done)
+    let (first, second) = sets_at(sets, a, b)?;
+    let made = first.bitor(second);
+    put(sets, target, made)
 }
 
 fn bitxor(sets: &mut [FixedBitSet], target: usize, a: usize, b: usize) -> Result<Reply, Refusal>
     ensures { AnswersAlways sets.old (action.bitxor target a b) result sets.new }
 {
     check_set(sets, target)?;
-    check_sets(sets, a, b)?;
-    sets[target] = sets[a].bitxor(&sets[b])?;
+    let (first, second) = sets_at(sets, a, b)?;
+    let made = first.bitxor(second);
+    put(sets, target, made)
+}
+
+// Puts the set that was made in the place of the set `target`, if there was memory for it.
+fn put(
+    sets: &mut [FixedBitSet],
+    target: usize,
+    made: Result<FixedBitSet, AllocError>,
+) -> Result<Reply, Refusal>
+    requires { target < length sets.old }
+    ensures { MatchResult made
+        (λ set. (result ≡ Ok Done) × (sets.new ≡ slice_set sets.old target set))
+        (λ _. (result ≡ Err Memory) × (sets.new ≡ sets.old)) }
+{
+    sets[target] = made?;
     Ok(Reply::Done)
 }

@@ -6,7 +6,7 @@ ghost use Rattle.fixedbitset.specs.Ranges.{over, is_valid};
 ghost use Rattle.bitcommands.specs.Sets.{at};
 ghost use Rattle.bitcommands.specs.Guards.{no_set, no_sets, no_position, no_word};
 ghost use Rattle.bitcommands.specs.Guards.{no_range, no_item, no_items, no_value};
-ghost use Rattle.bitcommands.specs.Guards.{past_limit, before_greatest};
+ghost use Rattle.bitcommands.specs.Guards.{past_limit, no_length, before_greatest};
 ghost use Rattle.bitcommands.specs.declared.commands.refusals.Refusal.TheVariants.{Json};
 ghost use Rattle.bitcommands.specs.Texts.{refusal_text};
 ghost use Rattle.bitcommands.specs.Outcomes.{Passes, number_text};
@@ -154,6 +154,19 @@ pub(super) fn set_at<'a>(sets: &'a [FixedBitSet], set: usize) -> Result<&'a Fixe
     sets.get(set).ok_or(Refusal::NoSet)
 }
 
+// The two sets, if there are both.
+pub(super) fn sets_at<'a>(
+    sets: &'a [FixedBitSet],
+    first: usize,
+    second: usize,
+) -> Result<(&'a FixedBitSet, &'a FixedBitSet), Refusal>
+    ensures passes { Passes result (no_sets sets.now first second) }
+    ensures value { IfOk result
+        (λ v. (v.0.now ≡ at sets.now first) × (v.1.now ≡ at sets.now second)) }
+{
+    Ok((set_at(sets, first)?, set_at(sets, second)?))
+}
+
 // There is such a set, and the position is below its length.
 pub(super) fn check_position(sets: &[FixedBitSet], set: usize, bit: usize) -> Result<(), Refusal>
     ensures { Passes result (no_position sets.now set bit) }
@@ -225,7 +238,7 @@ fn is_each_below(limit: usize, items: &[usize]) -> bool
 }
 
 // The length may be asked for.
-pub(super) fn check_limit(limit: usize, bits: usize) -> Result<(), Refusal>
+fn check_limit(limit: usize, bits: usize) -> Result<(), Refusal>
     ensures { Passes result (past_limit limit bits) }
 {
     if bits <= limit {
@@ -233,6 +246,19 @@ pub(super) fn check_limit(limit: usize, bits: usize) -> Result<(), Refusal>
     } else {
         Err(Refusal::Limit)
     }
+}
+
+// There is such a set, and it may have this length.
+pub(super) fn check_length(
+    limit: usize,
+    sets: &[FixedBitSet],
+    set: usize,
+    bits: usize,
+) -> Result<(), Refusal>
+    ensures { Passes result (no_length limit sets.now set bits) }
+{
+    check_set(sets, set)?;
+    check_limit(limit, bits)
 }
 
 // There is such a set, and the value means a set of a length that may be asked for.

@@ -5,7 +5,7 @@ ghost use Rattle.bitcommands.specs.Outcomes.{Answers, AnswersAlways};
 
 use crate::commands::arguments::End;
 use crate::commands::calling::{call_all, call_each};
-use crate::commands::refusals::{Refusal, check_set, check_sets};
+use crate::commands::refusals::{Refusal, check_set, set_at, sets_at};
 use crate::commands::replies::Reply;
 use fixedbitset::FixedBitSet;
 use std::alloc::Global;
@@ -56,9 +56,7 @@ pub(super) fn apply_walk(
 fn ones(alloc: Global, sets: &[FixedBitSet], set: usize, ends: &[End]) -> Result<Reply, Refusal>
     ensures { AnswersAlways sets.now (action.ones set ends.now) result sets.now }
 {
-    check_set(sets, set)?;
-    let items = call_all(alloc, sets[set].ones(), ends)?;
-    Ok(Reply::Items(items))
+    call_all(alloc, set_at(sets, set)?.ones(), ends)
 }
 
 fn into_ones(
@@ -79,9 +77,7 @@ fn into_ones(
 fn zeroes(alloc: Global, sets: &[FixedBitSet], set: usize, ends: &[End]) -> Result<Reply, Refusal>
     ensures { AnswersAlways sets.now (action.zeroes set ends.now) result sets.now }
 {
-    check_set(sets, set)?;
-    let items = call_all(alloc, sets[set].zeroes(), ends)?;
-    Ok(Reply::Items(items))
+    call_all(alloc, set_at(sets, set)?.zeroes(), ends)
 }
 
 fn union(
@@ -93,9 +89,8 @@ fn union(
 ) -> Result<Reply, Refusal>
     ensures { AnswersAlways sets.now (action.union a b ends.now) result sets.now }
 {
-    check_sets(sets, a, b)?;
-    let items = call_all(alloc, sets[a].union(&sets[b]), ends)?;
-    Ok(Reply::Items(items))
+    let (first, second) = sets_at(sets, a, b)?;
+    call_all(alloc, first.union(second), ends)
 }
 
 fn intersection(
@@ -107,9 +102,8 @@ fn intersection(
 ) -> Result<Reply, Refusal>
     ensures { AnswersAlways sets.now (action.intersection a b ends.now) result sets.now }
 {
-    check_sets(sets, a, b)?;
-    let items = call_all(alloc, sets[a].intersection(&sets[b]), ends)?;
-    Ok(Reply::Items(items))
+    let (first, second) = sets_at(sets, a, b)?;
+    call_all(alloc, first.intersection(second), ends)
 }
 
 fn difference(
@@ -121,9 +115,8 @@ fn difference(
 ) -> Result<Reply, Refusal>
     ensures { AnswersAlways sets.now (action.difference a b ends.now) result sets.now }
 {
-    check_sets(sets, a, b)?;
-    let items = call_all(alloc, sets[a].difference(&sets[b]), ends)?;
-    Ok(Reply::Items(items))
+    let (first, second) = sets_at(sets, a, b)?;
+    call_all(alloc, first.difference(second), ends)
 }
 
 fn symmetric_difference(
@@ -135,7 +128,6 @@ fn symmetric_difference(
 ) -> Result<Reply, Refusal>
     ensures { AnswersAlways sets.now (action.symmetric_difference a b ends.now) result sets.now }
 {
-    check_sets(sets, a, b)?;
-    let items = call_all(alloc, sets[a].symmetric_difference(&sets[b]), ends)?;
-    Ok(Reply::Items(items))
+    let (first, second) = sets_at(sets, a, b)?;
+    call_all(alloc, first.symmetric_difference(second), ends)
 }

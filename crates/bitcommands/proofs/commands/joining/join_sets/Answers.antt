@@ -2,7 +2,7 @@ use Rattle.std.proofs.Common.{arith, ◌∙◌, ◌≢◌, sym}
 use Rattle.std.proofs.lemmas.Result.{on_ok_weaker, on_err_weaker}
 use Rattle.bitcommands.specs.Joints.{combination}
 use Rattle.bitcommands.proofs.TakenOut.{back, changed}
-use Rattle.bitcommands.proofs.commands.joining.join.Goals as goal
+use Rattle.bitcommands.proofs.commands.joining.join_sets.Goals as goal
 
 pub returns-clause-ok : goal.returns-clause-ok
 returns-clause-ok c =
