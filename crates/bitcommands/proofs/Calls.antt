@@ -37,9 +37,6 @@ calls-cons : (e : End) (es : List End) (xs : List ℕ)
 calls-cons Front es xs = refl
 calls-cons Back es xs = refl
 
-pub calls_start : (ends : List End) (xs : List ℕ) → calls ends xs ≡ [] ++ calls ends xs
-calls_start ends xs = refl
-
 -- one call more has its answer behind those so far
 pub calls_more : (all done : List (Option ℕ)) (ends : List End) (i : ℕ) (d : End) (xs ys : List ℕ) (r : Option ℕ)
     → all ≡ done ++ calls (drop i ends) xs → i < length ends

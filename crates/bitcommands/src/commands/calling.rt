@@ -129,7 +129,6 @@ pub(super) fn call_all<W: TwoEnds + Drop>(
 }
 
 // The same, where the list is empty and has a place for each answer.
-#[tactic(auto, using(crate::proofs::Calls::calls_start, crate::proofs::Calls::calls_end))]
 pub(super) fn call_each<W: TwoEnds + Drop>(
     mut walk: W,
     ends: &[End],
