@@ -1,6 +1,7 @@
 //! The least solution of the equations.
 
-ghost use Rattle.std.specs.Prelude.{◌≡◌, ◌+◌, ◌*◌, ◌<◌, ◌≤◌, IfOk, OnOk, OnErr, length};
+ghost use Rattle.std.specs.Prelude.{◌≡◌, ◌+◌, ◌*◌, ◌<◌, ◌≤◌, IfOk, OnOk, OnErr, length, replicate};
+ghost use Rattle.fixedbitset.specs.Bits as model;
 ghost use Rattle.flow.specs.Flow.{IsProblem, IsFor, IsSolution, IsLeast, ArePaths};
 
 use crate::rounds::{Room, settle};
@@ -61,9 +62,26 @@ pub fn solve(
     ensures bound { OnOk result (rounds.new ≤ rounds.old + (length gens.now * facts + 1)) }
     ensures err { OnErr result (rounds.new ≡ rounds.old) }
 {
-    let mut ins = vec![in alloc; FixedBitSet::with_capacity(alloc, facts)?; gens.len()]?;
-    let mut outs = gens.to_vec(alloc)?;
+    let mut answer = start(alloc, facts, gens)?;
     let mut room = Room::new(alloc, gens.len())?;
-    settle(edges, kills, &mut ins, &mut outs, &mut room, rounds);
+    settle(
+        edges,
+        kills,
+        &mut answer.ins,
+        &mut answer.outs,
+        &mut room,
+        rounds,
+    );
+    Ok(answer)
+}
+
+// The sets before the first round: nothing comes to a node, and what it generates comes out.
+fn start(alloc: Global, facts: usize, gens: &[FixedBitSet]) -> Result<Solution, AllocError>
+    ensures ins { IfOk result (λ start. start.ins.items
+        ≡ replicate (length gens.now) (model.empty facts)) }
+    ensures outs { IfOk result (λ start. start.outs.items ≡ gens.now) }
+{
+    let ins = vec![in alloc; FixedBitSet::with_capacity(alloc, facts)?; gens.len()]?;
+    let outs = gens.to_vec(alloc)?;
     Ok(Solution { ins, outs })
 }

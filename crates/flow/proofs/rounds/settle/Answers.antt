@@ -20,3 +20,6 @@ turns-smaller c =
 
 pub returns-then-not-turn-clause-once : goal.returns-then-not-turn-clause-once
 returns-then-not-turn-clause-once c = search rules steps 300000
+
+pub returns-then-not-turn-clause-settled : goal.returns-then-not-turn-clause-settled
+returns-then-not-turn-clause-settled c = c.turn.ensures.settled c.if-not-turn.true

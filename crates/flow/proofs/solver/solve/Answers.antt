@@ -1,4 +1,4 @@
-use Rattle.std.proofs.Common.{◌≡◌, ◌∙◌, ◌*◌, length, replicate, sym, ap, arith}
+use Rattle.std.proofs.Common.{◌≡◌, ◌∙◌, ◌*◌, length, sym, ap, arith, rules}
 use Rattle.std.proofs.lemmas.List.{length-replicate, with_items_is}
 use Rattle.fixedbitset.specs.Bits.{empty}
 use Rattle.flow.specs.Turns.{Fits, facts_of}
@@ -8,9 +8,8 @@ use Rattle.flow.proofs.solver.solve.Goals as goal
 
 pub settle-requires-clause-fits : goal.settle-requires-clause-fits
 settle-requires-clause-fits c =
-    let blank = c.deref_mut.ensures.value ∙ c.in_ok-ins.ensures.items_if_clones_equal (λ y same. same)
-    ∙ ap (replicate (length c.args.gens.now)) c.in_ok-with_capacity.ensures in
-    let copied = c.deref_mut-2.ensures.value ∙ c.in_ok-outs.ensures.items_if_clones_equal (λ x y same. same) in
+    let blank = c.deref_mut.ensures.value ∙ c.in_ok-answer.ensures.ins in
+    let copied = c.deref_mut-2.ensures.value ∙ c.in_ok-answer.ensures.outs in
     let first = fits_first c.args.facts _ _ _ _ _ c.requires blank copied in
     fits_other c.args.facts _ _ _ _ (λ some. sym (first.kills_for.1 0 (empty 0) some)) first
 
@@ -21,18 +20,17 @@ returns c =
     let kills = c.args.kills.now in
     let ins = c.settle.new.ins in
     let outs = c.settle.new.outs in
-    let blank = c.deref_mut.ensures.value ∙ c.in_ok-ins.ensures.items_if_clones_equal (λ y same. same)
-    ∙ ap (replicate (length c.args.gens.now)) c.in_ok-with_capacity.ensures in
-    let copied = c.deref_mut-2.ensures.value ∙ c.in_ok-outs.ensures.items_if_clones_equal (λ x y same. same) in
+    let blank = c.deref_mut.ensures.value ∙ c.in_ok-answer.ensures.ins in
+    let copied = c.deref_mut-2.ensures.value ∙ c.in_ok-answer.ensures.outs in
     let first = fits_first facts _ _ _ _ _ c.requires blank copied in
     let many_first : length c.deref_mut.result.now ≡ length gens = ap length blank
     ∙ length-replicate (length gens) (empty facts) in
     let many_ins : length ins ≡ length gens = omega (arith, c.settle.auto.ins, ap length blank) in
     let many_outs : length outs ≡ length gens = omega (arith, c.settle.auto.outs, ap length copied) in
-    let ins_back = with_items_is c.in_ok-ins.ins ins
-    (omega (arith, c.settle.auto.ins, ap length c.deref_mut.ensures.value, c.in_ok-ins.ins.ok.0)) in
-    let outs_back = with_items_is c.in_ok-outs.outs outs
-    (omega (arith, c.settle.auto.outs, ap length c.deref_mut-2.ensures.value, c.in_ok-outs.outs.ok.0)) in
+    let ins_back = with_items_is c.in_ok-answer.answer.ins ins
+    (omega (arith, c.settle.auto.ins, ap length c.deref_mut.ensures.value, c.in_ok-answer.answer.ins.ok.0)) in
+    let outs_back = with_items_is c.in_ok-answer.answer.outs outs
+    (omega (arith, c.settle.auto.outs, ap length c.deref_mut-2.ensures.value, c.in_ok-answer.answer.outs.ok.0)) in
     let same = first.kills_for.1 0 (empty 0) in
     let fits : Fits facts kills ins outs = fits_other _ facts kills ins outs same c.settle.ensures.fits in
     let reached = c.settle.ensures.reached gens (sym many_first)
@@ -48,3 +46,6 @@ returns c =
       bound = (let most = (rw many_first at c.settle.ensures.bound) in omega arith);
       err = tt;
     }
+
+pub returns-in_err-room-clause-err : goal.returns-in_err-room-clause-err
+returns-in_err-room-clause-err c = search rules steps 300000
