@@ -3,90 +3,114 @@
 ghost use Rattle.std.specs.Prelude.{length};
 ghost use Rattle.std.specs.Iterator.{at_most};
 
+use crate::calls::Call;
+use crate::changes::{Change, is_made};
 use crate::outcome::Fault;
-use crate::starts::{LONG, Starts, is_long, is_short, is_value};
-use fixedbitset::{FixedBitSet, Steps, counted};
+use crate::starts::{BOTH, LONG, SHORT, Starts, is_long, is_short, is_value};
+use fixedbitset::FixedBitSet;
 use std::alloc::AllocError;
 
-#[derive(Clone, Copy, PartialEq, Eq)]
+#[derive(Clone, Copy)]
 pub enum Growing {
     Grow,
     GrowAndInsert,
     Extend,
-    CloneFrom,
-    UnionWith,
-    SymmetricDifferenceWith,
-    BitorAssign,
-    BitxorAssign,
-    UnionWithChange,
-    UnionWithDifference,
     Append,
     Resize,
-    CountedCloneFrom,
-    CountedUnionWith,
-    CountedSymmetricDifferenceWith,
-    CountedUnionWithChange,
-    CountedUnionWithDifference,
+    /// A change by the long set.
+    By(Change),
 }
 
-pub const CALLS: &[(&str, Growing); 17] = &[
-    ("grow", Growing::Grow),
-    ("grow_and_insert", Growing::GrowAndInsert),
-    ("extend", Growing::Extend),
-    ("clone_from", Growing::CloneFrom),
-    ("union_with", Growing::UnionWith),
+pub const CALLS: &[(&str, Call)] = &[
+    ("grow", Call::Growing(Growing::Grow)),
+    ("grow_and_insert", Call::Growing(Growing::GrowAndInsert)),
+    ("extend", Call::Growing(Growing::Extend)),
+    ("clone_from", Call::Growing(Growing::By(Change::CloneFrom))),
+    ("union_with", Call::Growing(Growing::By(Change::UnionWith))),
     (
         "symmetric_difference_with",
-        Growing::SymmetricDifferenceWith,
+        Call::Growing(Growing::By(Change::SymmetricDifferenceWith)),
     ),
-    ("bitor_assign", Growing::BitorAssign),
-    ("bitxor_assign", Growing::BitxorAssign),
-    ("union_with_change", Growing::UnionWithChange),
-    ("union_with_difference", Growing::UnionWithDifference),
-    ("append", Growing::Append),
-    ("resize", Growing::Resize),
-    ("counted::clone_from", Growing::CountedCloneFrom),
-    ("counted::union_with", Growing::CountedUnionWith),
+    (
+        "bitor_assign",
+        Call::Growing(Growing::By(Change::BitorAssign)),
+    ),
+    (
+        "bitxor_assign",
+        Call::Growing(Growing::By(Change::BitxorAssign)),
+    ),
+    (
+        "union_with_change",
+        Call::Growing(Growing::By(Change::UnionWithChange)),
+    ),
+    (
+        "union_with_difference",
+        Call::Growing(Growing::By(Change::UnionWithDifference)),
+    ),
+    ("append", Call::Growing(Growing::Append)),
+    ("resize", Call::Growing(Growing::Resize)),
+    (
+        "counted::clone_from",
+        Call::Growing(Growing::By(Change::CountedCloneFrom)),
+    ),
+    (
+        "counted::union_with",
+        Call::Growing(Growing::By(Change::CountedUnionWith)),
+    ),
     (
         "counted::symmetric_difference_with",
-        Growing::CountedSymmetricDifferenceWith,
+        Call::Growing(Growing::By(Change::CountedSymmetricDifferenceWith)),
     ),
     (
         "counted::union_with_change",
-        Growing::CountedUnionWithChange,
+        Call::Growing(Growing::By(Change::CountedUnionWithChange)),
     ),
     (
         "counted::union_with_difference",
-        Growing::CountedUnionWithDifference,
+        Call::Growing(Growing::By(Change::CountedUnionWithDifference)),
     ),
 ];
 
 // Whether the set is what the call leaves with ample memory.
 fn is_grown(set: &FixedBitSet, call: Growing) -> bool {
     match call {
-        Growing::Grow | Growing::Resize => is_value(set, LONG, &[3]),
+        Growing::Grow | Growing::Resize => is_value(set, LONG, SHORT),
         Growing::Append => is_value(set, 10 + LONG, &[3, 9 + LONG]),
         Growing::GrowAndInsert => is_value(set, LONG + 1, &[3, LONG]),
         Growing::Extend => is_value(set, LONG + 1, &[3, 4, 5, LONG]),
-        Growing::CloneFrom | Growing::CountedCloneFrom => is_long(set),
-        _ => is_value(set, LONG, &[3, LONG - 1]),
+        Growing::By(Change::CloneFrom | Change::CountedCloneFrom) => is_long(set),
+        Growing::By(_) => is_value(set, LONG, BOTH),
     }
 }
 
-/// Makes the call, and looks at what it leaves. With `forgets` a refused
-/// `grow` loses its positions.
-pub fn grown(starts: &mut Starts, call: Growing, forgets: bool) -> Result<bool, Fault> {
+/// Makes the call, and looks at what it leaves.
+pub fn grown(starts: &mut Starts, call: Growing) -> Result<bool, Fault> {
     let mut set = starts.take_short()?;
-    let made = match call {
-        Growing::Grow => grow(&mut set, forgets),
-        Growing::Extend => return extended(&mut set),
-        _ => joined(&mut set, starts, call),
-    };
-    match made {
-        Ok(()) => Ok(is_grown(&set, call) && is_long(&starts.long)),
-        Err(AllocError) if is_short(&set) && is_long(&starts.long) => Err(Fault::Memory),
+    joined(&mut set, starts, call)
+}
+
+fn joined(set: &mut FixedBitSet, starts: &Starts, call: Growing) -> Result<bool, Fault> {
+    if let Growing::Extend = call {
+        return extended(set);
+    }
+    match join(set, starts, call) {
+        Ok(is_told) => Ok(is_told && is_grown(set, call) && is_long(&starts.long)),
+        Err(AllocError) if is_short(set) && is_long(&starts.long) => Err(Fault::Memory),
         Err(AllocError) => Ok(false),
     }
+}
+
+fn join(set: &mut FixedBitSet, starts: &Starts, call: Growing) -> Result<bool, AllocError> {
+    let grown = match call {
+        Growing::Grow => grow(set, starts.forgets),
+        Growing::GrowAndInsert => set.grow_and_insert(LONG),
+        Growing::Append => append(set, &starts.long),
+        Growing::Resize => set.resize(LONG, false),
+        Growing::By(change) => return is_made(set, &starts.long, &starts.short, change),
+        Growing::Extend => return Ok(false),
+    };
+    grown?;
+    Ok(true)
 }
 
 // With `forgets` it is what a set that loses its positions would do: the sweep has to tell it.
@@ -99,50 +123,11 @@ fn grow(set: &mut FixedBitSet, forgets: bool) -> Result<(), AllocError> {
 }
 
 // The lengths are those of the sets that are made for it; of others nothing is put together.
-fn appended(set: &mut FixedBitSet, long: &FixedBitSet) -> Result<(), AllocError> {
+fn append(set: &mut FixedBitSet, long: &FixedBitSet) -> Result<(), AllocError> {
     if set.len() <= LONG && long.len() <= LONG {
         return set.append(long);
     }
     Ok(())
-}
-
-fn joined(set: &mut FixedBitSet, starts: &Starts, call: Growing) -> Result<(), AllocError> {
-    let (short, long) = (&starts.short, &starts.long);
-    match call {
-        Growing::GrowAndInsert => set.grow_and_insert(LONG),
-        Growing::CloneFrom => set.clone_from(long),
-        Growing::UnionWith => set.union_with(long),
-        Growing::SymmetricDifferenceWith => set.symmetric_difference_with(long),
-        Growing::BitorAssign => set.bitor_assign(long),
-        Growing::BitxorAssign => set.bitxor_assign(long),
-        Growing::UnionWithChange => set.union_with_change(long).map(|_| ()),
-        Growing::UnionWithDifference => set.union_with_difference(long, short).map(|_| ()),
-        Growing::Append => appended(set, long),
-        Growing::Resize => set.resize(LONG, false),
-        _ => joined_counted(set, short, long, call),
-    }
-}
-
-fn joined_counted(
-    set: &mut FixedBitSet,
-    short: &FixedBitSet,
-    long: &FixedBitSet,
-    call: Growing,
-) -> Result<(), AllocError> {
-    match call {
-        Growing::CountedCloneFrom => counted::clone_from(set, long, &mut Steps::new()),
-        Growing::CountedUnionWith => counted::union_with(set, long, &mut Steps::new()),
-        Growing::CountedSymmetricDifferenceWith => {
-            counted::symmetric_difference_with(set, long, &mut Steps::new())
-        }
-        Growing::CountedUnionWithChange => {
-            counted::union_with_change(set, long, &mut Steps::new()).map(|_| ())
-        }
-        Growing::CountedUnionWithDifference => {
-            counted::union_with_difference(set, long, short, &mut Steps::new()).map(|_| ())
-        }
-        _ => Ok(()),
-    }
 }
 
 /// Gives its items, and counts how often it is asked for one.

@@ -1,10 +1,11 @@
 //! The commands that take no memory, as lines: each is read, carried out over two short sets, and
 //! its reply put behind an output that has room for it.
 
+use crate::making::line_read;
 use crate::outcome::Fault;
 use crate::starts::{LONG, Starts};
 use bitcommands::commands::{Command, apply};
-use bitlines::lines::{LineFault, parse_line};
+use bitlines::lines::parse_line;
 use bitlines::program::{RunFault, status};
 use std::alloc::{AllocError, Global};
 
@@ -83,12 +84,17 @@ pub const NO_COMMANDS: &[&str; 4] = &["", "len", "len 0 0", "Extend 0 1"];
 
 /// Whether each line gets its reply. The exit status takes no memory either.
 pub fn are_answered(alloc: Global, starts: &mut Starts) -> Result<bool, Fault> {
+    let are_commands = are_replied(alloc, starts)?;
+    Ok(are_commands && are_no_commands(alloc) && are_statuses())
+}
+
+fn are_replied(alloc: Global, starts: &mut Starts) -> Result<bool, Fault> {
     for (line, reply) in REPLIES {
-        if !is_answered(alloc, starts, line, reply)? {
+        if !is_replied(alloc, starts, line, reply)? {
             return Ok(false);
         }
     }
-    Ok(are_no_commands(alloc) && are_statuses())
+    Ok(true)
 }
 
 fn are_no_commands(alloc: Global) -> bool {
@@ -105,29 +111,18 @@ fn are_statuses() -> bool {
 }
 
 fn is_no_command(alloc: Global, line: &str) -> bool {
-    matches!(
-        parse_line(alloc, line.as_bytes()),
-        Err(LineFault::NotACommand)
-    )
+    matches!(line_read(alloc, line), Err(Fault::Other))
 }
 
-fn is_answered(alloc: Global, starts: &mut Starts, line: &str, reply: &str) -> Result<bool, Fault> {
+fn is_replied(alloc: Global, starts: &mut Starts, line: &str, reply: &str) -> Result<bool, Fault> {
     let command = parse_line(alloc, line.as_bytes())?;
-    gets_reply(alloc, starts, &command, reply)
-}
-
-fn gets_reply(
-    alloc: Global,
-    starts: &mut Starts,
-    command: &Command,
-    reply: &str,
-) -> Result<bool, Fault> {
-    starts.output.clear();
-    write_reply(alloc, starts, command)?;
+    write_reply(alloc, starts, &command)?;
     Ok(starts.output.as_slice() == reply.as_bytes())
 }
 
+// Writes the reply in place of the one before it.
 fn write_reply(alloc: Global, starts: &mut Starts, command: &Command) -> Result<(), AllocError> {
+    starts.output.clear();
     let reply = apply(alloc, starts.sets.as_mut_slice(), command, LONG);
     reply.push_text(&mut starts.output)
 }

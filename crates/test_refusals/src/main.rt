@@ -11,6 +11,8 @@
 //! its set, which is wrong.
 #![tactic(auto)]
 
+mod calls;
+mod changes;
 mod growing;
 mod lines;
 mod making;
@@ -21,6 +23,7 @@ mod starts;
 mod walking;
 mod words;
 
+use calls::{Call, PLAIN, REFUSABLE, make};
 use outcome::Tally;
 use starts::Starts;
 use std::io;
@@ -28,11 +31,11 @@ use std::io::Read;
 use std::process::ExitCode;
 
 fn main(rt: HostRuntime) -> ExitCode {
-    let forgets = has_input(&rt);
-    let Ok(mut starts) = Starts::new(rt.alloc()) else {
+    let mut starts = Starts::new(rt.alloc(), has_input(&rt));
+    if starts.add_all(rt.alloc()).is_err() {
         return ExitCode::from(3);
-    };
-    match make_all(&rt, &mut starts, forgets) {
+    }
+    match make_all(&rt, &mut starts) {
         Ok(true) => ExitCode::from(0),
         _ => ExitCode::from(1),
     }
@@ -44,13 +47,9 @@ fn has_input(rt: &HostRuntime) -> bool {
 }
 
 // Makes all calls, and answers whether each of them did right.
-fn make_all(
-    rt: &(impl Print + AllocGlobal),
-    starts: &mut Starts,
-    forgets: bool,
-) -> io::Result<bool> {
-    let refusable = make_refusable(rt, starts, forgets)?;
-    let plain = make_plain(rt, starts)?;
+fn make_all(rt: &(impl Print + AllocGlobal), starts: &mut Starts) -> io::Result<bool> {
+    let refusable = make_tables(rt, starts, REFUSABLE)?;
+    let plain = make_tables(rt, starts, PLAIN)?;
     println!(rt;
         "made {} calls that may be refused memory, and {} groups of calls that take none",
         refusable.calls, plain.calls
@@ -58,83 +57,26 @@ fn make_all(
     Ok(refusable.is_right && plain.is_right)
 }
 
-fn make_refusable(
+fn make_tables(
     rt: &(impl Print + AllocGlobal),
     starts: &mut Starts,
-    forgets: bool,
+    tables: &[&[(&str, Call)]],
 ) -> io::Result<Tally> {
     let mut tally = Tally::new();
-    count_growing(rt, starts, forgets, &mut tally)?;
-    count_making(rt, starts, &mut tally)?;
-    count_lines(rt, &mut tally)?;
-    count_problems(rt, starts, &mut tally)?;
+    for table in tables {
+        make_table(rt, starts, table, &mut tally)?;
+    }
     Ok(tally)
 }
 
-fn count_growing(
-    rt: &impl Print,
-    starts: &mut Starts,
-    forgets: bool,
-    tally: &mut Tally,
-) -> io::Result<()> {
-    for (name, call) in growing::CALLS {
-        tally.count(rt, name, growing::grown(starts, *call, forgets))?;
-    }
-    Ok(())
-}
-
-fn count_making(
+fn make_table(
     rt: &(impl Print + AllocGlobal),
     starts: &mut Starts,
+    table: &[(&str, Call)],
     tally: &mut Tally,
 ) -> io::Result<()> {
-    for (name, call) in making::CALLS {
-        tally.count(rt, name, making::made(rt.alloc(), starts, *call))?;
-    }
-    Ok(())
-}
-
-fn count_lines(rt: &(impl Print + AllocGlobal), tally: &mut Tally) -> io::Result<()> {
-    for line in making::LINES {
-        tally.count(rt, line, making::line_read(rt.alloc(), line))?;
-    }
-    Ok(())
-}
-
-fn count_problems(
-    rt: &(impl Print + AllocGlobal),
-    starts: &Starts,
-    tally: &mut Tally,
-) -> io::Result<()> {
-    for ((name, problem), nodes) in solving::PROBLEMS.iter().zip(starts.nodes.iter()) {
-        tally.count(rt, name, solving::solved(rt.alloc(), nodes, problem))?;
-    }
-    Ok(())
-}
-
-fn make_plain(rt: &(impl Print + AllocGlobal), starts: &mut Starts) -> io::Result<Tally> {
-    let mut tally = Tally::new();
-    count_groups(rt, starts, &mut tally)?;
-    count_walks(rt, starts, &mut tally)?;
-    tally.count(rt, "words", Ok(words::hold()))?;
-    tally.count(rt, "lines", lines::are_answered(rt.alloc(), starts))?;
-    Ok(tally)
-}
-
-fn count_groups(
-    rt: &(impl Print + AllocGlobal),
-    starts: &mut Starts,
-    tally: &mut Tally,
-) -> io::Result<()> {
-    for (name, group) in plain::GROUPS {
-        tally.count(rt, name, plain::holds(rt.alloc(), starts, *group))?;
-    }
-    Ok(())
-}
-
-fn count_walks(rt: &impl Print, starts: &mut Starts, tally: &mut Tally) -> io::Result<()> {
-    for (name, walk) in walking::WALKS {
-        tally.count(rt, name, walking::gives(starts, *walk))?;
+    for (name, call) in table {
+        tally.count(rt, name, make(rt.alloc(), starts, name, *call))?;
     }
     Ok(())
 }

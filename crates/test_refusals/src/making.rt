@@ -1,7 +1,8 @@
 //! The calls that may be refused memory and make a value, and those of commands and lines.
 
+use crate::calls::Call;
 use crate::outcome::Fault;
-use crate::starts::{LONG, Starts, is_long, is_short, is_value};
+use crate::starts::{BOTH, LONG, SHORT, Starts, is_long, is_short, is_value};
 use bitcommands::commands::{Change, Command, Look, Reply, run};
 use bitlines::lines::parse_line;
 use bitranks::Ranks;
@@ -9,7 +10,7 @@ use bitrows::BitRows;
 use fixedbitset::{FixedBitSet, Steps, counted};
 use std::alloc::{AllocError, Global};
 
-#[derive(Clone, Copy, PartialEq, Eq)]
+#[derive(Clone, Copy)]
 pub enum Making {
     WithCapacity,
     WithCapacityAndBlocks,
@@ -33,48 +34,35 @@ pub enum Making {
     Run,
 }
 
-pub const CALLS: &[(&str, Making); 20] = &[
-    ("with_capacity", Making::WithCapacity),
-    ("with_capacity_and_blocks", Making::WithCapacityAndBlocks),
-    ("from_iter", Making::FromIter),
-    ("clone", Making::Clone),
-    ("bitand", Making::Bitand),
-    ("bitor", Making::Bitor),
-    ("bitxor", Making::Bitxor),
-    ("counted::bitand", Making::CountedBitand),
-    ("counted::bitor", Making::CountedBitor),
-    ("counted::bitxor", Making::CountedBitxor),
-    ("slice", Making::Slice),
-    ("from_bytes", Making::FromBytes),
-    ("to_bytes", Making::ToBytes),
-    ("Ranks::of", Making::RanksOf),
-    ("BitRows::new", Making::BitRowsNew),
-    ("from_value", Making::FromValue),
-    ("to_value", Making::ToValue),
-    ("to_string", Making::Text),
-    ("push_text", Making::PushText),
-    ("run", Making::Run),
+pub const CALLS: &[(&str, Call)] = &[
+    ("with_capacity", Call::Making(Making::WithCapacity)),
+    (
+        "with_capacity_and_blocks",
+        Call::Making(Making::WithCapacityAndBlocks),
+    ),
+    ("from_iter", Call::Making(Making::FromIter)),
+    ("clone", Call::Making(Making::Clone)),
+    ("bitand", Call::Making(Making::Bitand)),
+    ("bitor", Call::Making(Making::Bitor)),
+    ("bitxor", Call::Making(Making::Bitxor)),
+    ("counted::bitand", Call::Making(Making::CountedBitand)),
+    ("counted::bitor", Call::Making(Making::CountedBitor)),
+    ("counted::bitxor", Call::Making(Making::CountedBitxor)),
+    ("slice", Call::Making(Making::Slice)),
+    ("from_bytes", Call::Making(Making::FromBytes)),
+    ("to_bytes", Call::Making(Making::ToBytes)),
+    ("Ranks::of", Call::Making(Making::RanksOf)),
+    ("BitRows::new", Call::Making(Making::BitRowsNew)),
+    ("from_value", Call::Making(Making::FromValue)),
+    ("to_value", Call::Making(Making::ToValue)),
+    ("to_string", Call::Making(Making::Text)),
+    ("push_text", Call::Making(Making::PushText)),
+    ("run", Call::Making(Making::Run)),
 ];
 
 /// Makes the call, looks at the value that it makes, and that the sets which it is given stay.
 pub fn made(alloc: Global, starts: &mut Starts, call: Making) -> Result<bool, Fault> {
-    let outcome = match call {
-        Making::ToValue => value_made(alloc, starts),
-        Making::Text => text_made(alloc, starts),
-        Making::PushText => text_pushed(starts),
-        Making::Run => commands_run(alloc, starts),
-        Making::Bitand | Making::Bitor | Making::Bitxor => set_joined(starts, call),
-        Making::CountedBitand | Making::CountedBitor | Making::CountedBitxor => {
-            set_counted(starts, call)
-        }
-        Making::WithCapacityAndBlocks => blocks_made(alloc),
-        Making::ToBytes => bytes_made(alloc, starts),
-        Making::RanksOf => ranks_made(alloc, starts),
-        Making::BitRowsNew => table_made(alloc),
-        Making::Clone => set_cloned(starts),
-        Making::Slice => slice_made(alloc, starts),
-        _ => set_made(alloc, starts, call),
-    };
+    let outcome = value_made(alloc, starts, call);
     if is_short(&starts.short) && is_long(&starts.long) {
         outcome
     } else {
@@ -82,33 +70,63 @@ pub fn made(alloc: Global, starts: &mut Starts, call: Making) -> Result<bool, Fa
     }
 }
 
+fn value_made(alloc: Global, starts: &mut Starts, call: Making) -> Result<bool, Fault> {
+    match call {
+        Making::WithCapacityAndBlocks => blocks_made(alloc),
+        Making::FromIter => items_made(alloc),
+        Making::ToBytes => bytes_made(alloc, starts),
+        Making::RanksOf => ranks_made(alloc, starts),
+        Making::BitRowsNew => table_made(alloc),
+        Making::FromValue => json_read(alloc, starts),
+        Making::ToValue => json_made(alloc, starts),
+        Making::Text => text_made(alloc, starts),
+        Making::PushText => text_pushed(starts),
+        Making::Run => commands_run(alloc, starts),
+        _ => set_made(alloc, starts, call),
+    }
+}
+
 fn set_made(alloc: Global, starts: &Starts, call: Making) -> Result<bool, Fault> {
-    Ok(match call {
-        Making::WithCapacity => is_value(&FixedBitSet::with_capacity(alloc, LONG)?, LONG, &[]),
-        Making::FromIter => is_value(&FixedBitSet::from_iter(alloc, [LONG])?, LONG + 1, &[LONG]),
-        Making::FromBytes => is_short(&FixedBitSet::from_bytes(alloc, 10, &[8])?),
-        Making::FromValue => is_short(&FixedBitSet::from_value(alloc, &starts.json)?),
-        _ => false,
-    })
+    let set = make_set(alloc, starts, call)?;
+    Ok(is_made(&set, call))
 }
 
-fn set_cloned(starts: &Starts) -> Result<bool, Fault> {
-    Ok(is_long(&starts.long.clone()?))
+// Whether the set is what the call makes.
+fn is_made(set: &FixedBitSet, call: Making) -> bool {
+    match call {
+        Making::WithCapacity => is_value(set, LONG, &[]),
+        Making::FromBytes => is_short(set),
+        Making::Clone => is_long(set),
+        Making::Slice => is_value(set, 70, &[69]),
+        Making::Bitand | Making::CountedBitand => is_value(set, 10, &[]),
+        _ => is_value(set, LONG, BOTH),
+    }
 }
 
-fn slice_made(alloc: Global, starts: &Starts) -> Result<bool, Fault> {
-    let long = &starts.long;
-    Ok(long.len() == LONG && is_value(&long.slice(alloc, LONG - 70..)?, 70, &[69]))
-}
-
-fn set_joined(starts: &Starts, call: Making) -> Result<bool, Fault> {
+fn make_set(alloc: Global, starts: &Starts, call: Making) -> Result<FixedBitSet, AllocError> {
     let (short, long) = (&starts.short, &starts.long);
-    Ok(match call {
-        Making::Bitand => is_value(&long.bitand(short)?, 10, &[]),
-        Making::Bitor => is_value(&short.bitor(long)?, LONG, &[3, LONG - 1]),
-        Making::Bitxor => is_value(&short.bitxor(long)?, LONG, &[3, LONG - 1]),
-        _ => false,
-    })
+    match call {
+        Making::FromBytes => FixedBitSet::from_bytes(alloc, 10, &[8]),
+        Making::Clone => long.clone(),
+        Making::Slice if long.len() == LONG => long.slice(alloc, LONG - 70..),
+        Making::Bitand => long.bitand(short),
+        Making::Bitor => short.bitor(long),
+        Making::Bitxor => short.bitxor(long),
+        Making::CountedBitand => counted::bitand(long, short, &mut Steps::new()),
+        Making::CountedBitor => counted::bitor(short, long, &mut Steps::new()),
+        Making::CountedBitxor => counted::bitxor(short, long, &mut Steps::new()),
+        _ => FixedBitSet::with_capacity(alloc, LONG),
+    }
+}
+
+fn items_made(alloc: Global) -> Result<bool, Fault> {
+    let set = FixedBitSet::from_iter(alloc, [LONG])?;
+    Ok(is_value(&set, LONG + 1, &[LONG]))
+}
+
+fn json_read(alloc: Global, starts: &Starts) -> Result<bool, Fault> {
+    let set = FixedBitSet::from_value(alloc, &starts.json)?;
+    Ok(is_short(&set))
 }
 
 fn bytes_made(alloc: Global, starts: &Starts) -> Result<bool, Fault> {
@@ -125,11 +143,11 @@ fn ranks_made(alloc: Global, starts: &Starts) -> Result<bool, Fault> {
 fn blocks_made(alloc: Global) -> Result<bool, Fault> {
     let words = [8];
     let mut lent = words.iter().copied();
-    let made = FixedBitSet::with_capacity_and_blocks(alloc, LONG, lent.by_ref());
-    if made.is_err() && lent.next() != Some(8) {
-        return Ok(false);
+    match FixedBitSet::with_capacity_and_blocks(alloc, LONG, lent.by_ref()) {
+        Ok(set) => Ok(is_value(&set, LONG, SHORT)),
+        Err(fault) if lent.next() == Some(8) => Err(Fault::from(fault)),
+        Err(_) => Ok(false),
     }
-    Ok(is_value(&made?, LONG, &[3]))
 }
 
 fn table_made(alloc: Global) -> Result<bool, Fault> {
@@ -141,23 +159,9 @@ fn table_made(alloc: Global) -> Result<bool, Fault> {
     Ok(table.get(1, LONG - 1) && !table.get(0, LONG - 1))
 }
 
-fn set_counted(starts: &Starts, call: Making) -> Result<bool, Fault> {
-    let (short, long, steps) = (&starts.short, &starts.long, &mut Steps::new());
-    Ok(match call {
-        Making::CountedBitand => is_value(&counted::bitand(long, short, steps)?, 10, &[]),
-        Making::CountedBitor => {
-            is_value(&counted::bitor(short, long, steps)?, LONG, &[3, LONG - 1])
-        }
-        Making::CountedBitxor => {
-            is_value(&counted::bitxor(short, long, steps)?, LONG, &[3, LONG - 1])
-        }
-        _ => false,
-    })
-}
-
-fn value_made(alloc: Global, starts: &Starts) -> Result<bool, Fault> {
+fn json_made(alloc: Global, starts: &Starts) -> Result<bool, Fault> {
     let value = starts.short.to_value(alloc)?;
-    Ok(FixedBitSet::check_value(&value)? == 10)
+    Ok(FixedBitSet::check_value(&value) == Ok(10))
 }
 
 fn text_made(alloc: Global, starts: &Starts) -> Result<bool, Fault> {
@@ -166,24 +170,25 @@ fn text_made(alloc: Global, starts: &Starts) -> Result<bool, Fault> {
 }
 
 fn text_pushed(starts: &mut Starts) -> Result<bool, Fault> {
-    let pushed = Reply::Done.push_text(&mut starts.full);
-    if pushed.is_err() && !starts.full.is_empty() {
-        return Ok(false);
+    match Reply::Done.push_text(&mut starts.full) {
+        Ok(()) => Ok(starts.full.as_slice() == "ok".as_bytes()),
+        Err(fault) if starts.full.is_empty() => Err(Fault::from(fault)),
+        Err(_) => Ok(false),
     }
-    pushed?;
-    Ok(starts.full.as_slice() == "ok".as_bytes())
 }
 
 // Of three commands that take no memory the places of the replies alone are asked for.
 fn commands_run(alloc: Global, starts: &mut Starts) -> Result<bool, Fault> {
-    let mut sets = [starts.take_short()?];
     let commands = [
         Command::Change(Change::Toggle { set: 0, bit: 3 }),
         Command::Look(Look::IsClear { set: 0 }),
         Command::Change(Change::Put { set: 0, bit: 9 }),
     ];
-    let outcome = run(alloc, &mut sets, &commands, LONG);
-    are_run(outcome, &sets[0])
+    let outcome = run(alloc, starts.run_sets.as_mut_slice(), &commands, LONG);
+    match starts.run_sets.first() {
+        Some(set) => are_run(outcome, set),
+        None => Ok(false),
+    }
 }
 
 fn are_run(outcome: Result<Vec<Reply>, AllocError>, set: &FixedBitSet) -> Result<bool, Fault> {
@@ -195,28 +200,30 @@ fn are_run(outcome: Result<Vec<Reply>, AllocError>, set: &FixedBitSet) -> Result
 }
 
 fn are_replies(replies: &[Reply]) -> bool {
-    replies.len() == 3
-        && matches!(replies.first(), Some(Reply::Done))
-        && matches!(replies.get(1), Some(Reply::Bool(true)))
-        && matches!(replies.get(2), Some(Reply::Bool(false)))
+    matches!(
+        replies,
+        [Reply::Done, Reply::Bool(true), Reply::Bool(false)]
+    )
 }
 
 /// One line of each command that holds a list or a JSON value.
-pub const LINES: &[&str; 10] = &[
-    "with_capacity_and_blocks 0 9 1",
-    "from_iter 0 1",
-    "from_value 0 [3,[5]]",
-    "extend 0 1",
-    "ones 0 f",
-    "into_ones 0 f",
-    "union 0 1 f",
-    "intersection 0 1 f",
-    "difference 0 1 f",
-    "symmetric_difference 0 1 f",
+pub const LINES: &[(&str, Call)] = &[
+    ("with_capacity_and_blocks 0 9 1", Call::Line),
+    ("from_iter 0 1", Call::Line),
+    ("from_value 0 [3,[5]]", Call::Line),
+    ("extend 0 1", Call::Line),
+    ("ones 0 f", Call::Line),
+    ("into_ones 0 f", Call::Line),
+    ("union 0 1 f", Call::Line),
+    ("intersection 0 1 f", Call::Line),
+    ("difference 0 1 f", Call::Line),
+    ("symmetric_difference 0 1 f", Call::Line),
 ];
 
 /// Reads the line.
 pub fn line_read(alloc: Global, line: &str) -> Result<bool, Fault> {
-    parse_line(alloc, line.as_bytes())?;
-    Ok(true)
+    match parse_line(alloc, line.as_bytes()) {
+        Ok(_) => Ok(true),
+        Err(fault) => Err(Fault::from(fault)),
+    }
 }

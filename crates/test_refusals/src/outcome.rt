@@ -6,7 +6,7 @@ use std::alloc::AllocError;
 use std::io;
 
 /// Why a call did not do what it does with ample memory.
-#[derive(Clone, Copy, PartialEq, Eq)]
+#[derive(Clone, Copy)]
 pub enum Fault {
     /// It was refused memory, and left all as it promises.
     Memory,
@@ -48,7 +48,7 @@ impl From<LineFault> for Fault {
 }
 
 /// Counts the calls, and whether each of them did right.
-#[derive(Drop)]
+#[derive(Clone, Copy)]
 pub struct Tally {
     pub calls: usize,
     pub is_right: bool,

@@ -1,16 +1,18 @@
 //! The calls on sets that take no memory, in groups. Each answers whether all calls of the group
 //! did what they do with ample memory.
 
+use crate::calls::Call;
+use crate::changes::{COUNTED_JOINS, COUNTED_LESSER, JOINS, LESSER, SHIFTS, are_made};
 use crate::growing::Asked;
 use crate::outcome::Fault;
 use crate::starts::{LONG, Starts, is_long, is_short, is_value};
-use fixedbitset::{ExtendFault, FixedBitSet, IndexRange, JsonFault, Steps, counted};
+use fixedbitset::{Bits, ExtendFault, FixedBitSet, IndexRange, JsonFault, Steps, counted};
 use serde_json::Value;
-use std::alloc::{AllocError, Global};
+use std::alloc::Global;
 use std::cmp::Ordering;
 use std::hash::{DefaultHasher, Hash, Hasher};
 
-#[derive(Clone, Copy, PartialEq, Eq)]
+#[derive(Clone, Copy)]
 pub enum Group {
     Looks,
     Positions,
@@ -29,41 +31,59 @@ pub enum Group {
     Json,
 }
 
-pub const GROUPS: &[(&str, Group); 15] = &[
-    ("looks", Group::Looks),
-    ("positions", Group::Positions),
-    ("unchecked", Group::Unchecked),
-    ("ranges_asked", Group::RangesAsked),
-    ("ranges_changed", Group::RangesChanged),
-    ("ranges_counted", Group::RangesCounted),
-    ("ranges_inclusive", Group::RangesInclusive),
-    ("lesser", Group::Lesser),
-    ("shifts", Group::Shifts),
-    ("counts", Group::Counts),
-    ("counted", Group::Counted),
-    ("order", Group::Order),
-    ("growth_in_place", Group::GrowthInPlace),
-    ("joins_in_place", Group::JoinsInPlace),
-    ("json", Group::Json),
+pub const GROUPS: &[(&str, Call)] = &[
+    ("looks", Call::Group(Group::Looks)),
+    ("positions", Call::Group(Group::Positions)),
+    ("unchecked", Call::Group(Group::Unchecked)),
+    ("ranges_asked", Call::Group(Group::RangesAsked)),
+    ("ranges_changed", Call::Group(Group::RangesChanged)),
+    ("ranges_counted", Call::Group(Group::RangesCounted)),
+    ("ranges_inclusive", Call::Group(Group::RangesInclusive)),
+    ("lesser", Call::Group(Group::Lesser)),
+    ("shifts", Call::Group(Group::Shifts)),
+    ("counts", Call::Group(Group::Counts)),
+    ("counted", Call::Group(Group::Counted)),
+    ("order", Call::Group(Group::Order)),
+    ("growth_in_place", Call::Group(Group::GrowthInPlace)),
+    ("joins_in_place", Call::Group(Group::JoinsInPlace)),
+    ("json", Call::Group(Group::Json)),
 ];
 
 pub fn holds(alloc: Global, starts: &mut Starts, group: Group) -> Result<bool, Fault> {
+    let mut set = starts.take_short()?;
+    holds_of(alloc, &mut set, starts, group)
+}
+
+// The set is a short one.
+fn holds_of(
+    alloc: Global,
+    set: &mut FixedBitSet,
+    starts: &mut Starts,
+    group: Group,
+) -> Result<bool, Fault> {
     match group {
-        Group::Looks => looks(alloc, starts),
-        Group::Positions => positions(starts),
-        Group::Unchecked => unchecked(starts),
-        Group::RangesAsked => Ok(ranges_asked(&starts.short)),
-        Group::RangesChanged => ranges_changed(starts),
-        Group::RangesCounted => ranges_counted(starts),
-        Group::RangesInclusive => ranges_inclusive(starts),
-        Group::Lesser => lesser(starts),
-        Group::Shifts => shifts(starts),
-        Group::Counts => Ok(counts(&starts.short, &starts.long)),
-        Group::Counted => counted_calls(starts),
-        Group::Order => Ok(order(&starts.short, &starts.long)),
-        Group::GrowthInPlace => growth_in_place(starts),
+        Group::Lesser => lesser(set, starts),
+        Group::Shifts => shifts(set, starts),
+        Group::Counted => counted_calls(set, starts),
+        Group::GrowthInPlace => growth_in_place(set, starts),
         Group::JoinsInPlace => joins_in_place(starts),
-        Group::Json => Ok(values(&starts.json)),
+        _ => Ok(is_right(alloc, set, starts, group)),
+    }
+}
+
+fn is_right(alloc: Global, set: &mut FixedBitSet, starts: &Starts, group: Group) -> bool {
+    match group {
+        Group::Looks => looks(alloc, set),
+        Group::Positions => positions(set),
+        Group::Unchecked => unchecked(set),
+        Group::RangesAsked => ranges_asked(set),
+        Group::RangesChanged => ranges_changed(set),
+        Group::RangesCounted => ranges_counted(set),
+        Group::RangesInclusive => ranges_inclusive(set),
+        Group::Counts => counts(&starts.short, &starts.long),
+        Group::Order => order(&starts.short, &starts.long),
+        Group::Json => values(&starts.json),
+        _ => false,
     }
 }
 
@@ -73,12 +93,8 @@ fn values(json: &Value) -> bool {
         && FixedBitSet::check_value(&Value::Null) == Err(JsonFault::Shape)
 }
 
-fn looks(alloc: Global, starts: &mut Starts) -> Result<bool, Fault> {
-    let are_empty = makes_empty(alloc);
-    let mut set = starts.take_short()?;
-    let is_seen = sees(&set) && sees_nearest(&set) && sees_walks(&set);
-    let is_replaced = replaces(&mut set);
-    Ok(are_empty && is_seen && is_replaced)
+fn looks(alloc: Global, set: &mut FixedBitSet) -> bool {
+    makes_empty(alloc) && sees(set) && sees_nearest(set) && sees_walks(set) && replaces(set)
 }
 
 fn makes_empty(alloc: Global) -> bool {
@@ -136,6 +152,12 @@ enum Placing {
     Put,
     Set,
     CopyBit,
+    InsertUnchecked,
+    RemoveUnchecked,
+    ToggleUnchecked,
+    PutUnchecked,
+    SetUnchecked,
+    CopyBitUnchecked,
 }
 
 const PLACINGS: &[(usize, Placing); 6] = &[
@@ -145,6 +167,15 @@ const PLACINGS: &[(usize, Placing); 6] = &[
     (6, Placing::Put),
     (7, Placing::Set),
     (8, Placing::CopyBit),
+];
+
+const UNCHECKED: &[(usize, Placing); 6] = &[
+    (4, Placing::InsertUnchecked),
+    (3, Placing::RemoveUnchecked),
+    (5, Placing::ToggleUnchecked),
+    (6, Placing::PutUnchecked),
+    (7, Placing::SetUnchecked),
+    (8, Placing::CopyBitUnchecked),
 ];
 
 // Makes the call, where the position is below the length. `put` answers that it was not set before.
@@ -159,44 +190,31 @@ fn place(set: &mut FixedBitSet, position: usize, placing: Placing) -> bool {
         Placing::Put => return !set.put(position),
         Placing::Set => set.set(position, true),
         Placing::CopyBit => set.copy_bit(position - 1, position),
+        Placing::InsertUnchecked => set.insert_unchecked(position),
+        Placing::RemoveUnchecked => set.remove_unchecked(position),
+        Placing::ToggleUnchecked => set.toggle_unchecked(position),
+        Placing::PutUnchecked => return !set.put_unchecked(position),
+        Placing::SetUnchecked => set.set_unchecked(position, true),
+        Placing::CopyBitUnchecked => set.copy_bit_unchecked(position - 1, position),
     }
     true
 }
 
-fn place_unchecked(set: &mut FixedBitSet, position: usize, placing: Placing) -> bool {
-    if position == 0 || position >= set.len() {
-        return false;
-    }
-    match placing {
-        Placing::Insert => set.insert_unchecked(position),
-        Placing::Remove => set.remove_unchecked(position),
-        Placing::Toggle => set.toggle_unchecked(position),
-        Placing::Put => return !set.put_unchecked(position),
-        Placing::Set => set.set_unchecked(position, true),
-        Placing::CopyBit => set.copy_bit_unchecked(position - 1, position),
-    }
-    true
-}
-
-fn positions(starts: &mut Starts) -> Result<bool, Fault> {
-    let mut set = starts.take_short()?;
-    for (position, placing) in PLACINGS {
-        if !place(&mut set, *position, *placing) {
-            return Ok(false);
+fn place_all(set: &mut FixedBitSet, placings: &[(usize, Placing)]) -> bool {
+    for (position, placing) in placings {
+        if !place(set, *position, *placing) {
+            return false;
         }
     }
-    Ok(set.contains(4) && set[5] && !set[10] && is_value(&set, 10, &[4, 5, 6, 7, 8]))
+    is_value(set, 10, &[4, 5, 6, 7, 8])
 }
 
-fn unchecked(starts: &mut Starts) -> Result<bool, Fault> {
-    let mut set = starts.take_short()?;
-    for (position, placing) in PLACINGS {
-        if !place_unchecked(&mut set, *position, *placing) {
-            return Ok(false);
-        }
-    }
-    let is_set = set.len() > 8 && set.contains_unchecked(8);
-    Ok(is_set && is_value(&set, 10, &[4, 5, 6, 7, 8]))
+fn positions(set: &mut FixedBitSet) -> bool {
+    place_all(set, PLACINGS) && set.contains(4) && set[5] && !set[10]
+}
+
+fn unchecked(set: &mut FixedBitSet) -> bool {
+    place_all(set, UNCHECKED) && set.len() > 8 && set.contains_unchecked(8)
 }
 
 fn ranges_asked(set: &FixedBitSet) -> bool {
@@ -248,39 +266,37 @@ fn change_counted<R: IndexRange<usize> + Drop>(
     }
 }
 
-fn ranges_changed(starts: &mut Starts) -> Result<bool, Fault> {
-    let mut set = starts.take_short()?;
-    change(&mut set, .., Changing::Insert);
-    change(&mut set, 2.., Changing::Remove);
-    change(&mut set, ..3, Changing::Toggle);
-    change(&mut set, 8..10, Changing::Set);
-    Ok(is_value(&set, 10, &[2, 8, 9]))
+fn ranges_changed(set: &mut FixedBitSet) -> bool {
+    change(set, .., Changing::Insert);
+    change(set, 2.., Changing::Remove);
+    change(set, ..3, Changing::Toggle);
+    change(set, 8..10, Changing::Set);
+    is_value(set, 10, &[2, 8, 9])
 }
 
-fn ranges_counted(starts: &mut Starts) -> Result<bool, Fault> {
-    let mut set = starts.take_short()?;
-    change_counted(&mut set, .., Changing::Insert);
-    change_counted(&mut set, 2.., Changing::Remove);
-    change_counted(&mut set, ..3, Changing::Toggle);
+fn ranges_counted(set: &mut FixedBitSet) -> bool {
+    change_counted(set, .., Changing::Insert);
+    change_counted(set, 2.., Changing::Remove);
+    change_counted(set, ..3, Changing::Toggle);
+    is_value(set, 10, &[2]) && whole_counted(set)
+}
+
+fn whole_counted(set: &FixedBitSet) -> bool {
     let steps = &mut Steps::new();
-    Ok(
-        is_value(&set, 10, &[2])
-            && counted::count_ones(&set, .., steps) == 1
-            && counted::count_zeroes(&set, .., steps) == 9
-            && !counted::contains_all_in_range(&set, .., steps)
-            && counted::contains_any_in_range(&set, .., steps),
-    )
+    counted::count_ones(set, .., steps) == 1
+        && counted::count_zeroes(set, .., steps) == 9
+        && !counted::contains_all_in_range(set, .., steps)
+        && counted::contains_any_in_range(set, .., steps)
 }
 
 // The calls on ranges that name their last position.
-fn ranges_inclusive(starts: &mut Starts) -> Result<bool, Fault> {
-    let mut set = starts.take_short()?;
-    change(&mut set, 2..=4, Changing::Insert);
-    change(&mut set, ..=2, Changing::Toggle);
-    change(&mut set, 3..=3, Changing::Remove);
-    change(&mut set, 8..=9, Changing::Set);
-    change_counted(&mut set, 8..=8, Changing::Toggle);
-    Ok(is_value(&set, 10, &[0, 1, 4, 9]) && inclusive_asked(&set) && inclusive_counted(&set))
+fn ranges_inclusive(set: &mut FixedBitSet) -> bool {
+    change(set, 2..=4, Changing::Insert);
+    change(set, ..=2, Changing::Toggle);
+    change(set, 3..=3, Changing::Remove);
+    change(set, 8..=9, Changing::Set);
+    change_counted(set, 8..=8, Changing::Toggle);
+    is_value(set, 10, &[0, 1, 4, 9]) && inclusive_asked(set) && inclusive_counted(set)
 }
 
 fn inclusive_asked(set: &FixedBitSet) -> bool {
@@ -308,45 +324,15 @@ fn inclusive_counted(set: &FixedBitSet) -> bool {
 }
 
 // The calls on two sets that leave the length of the first.
-fn lesser(starts: &mut Starts) -> Result<bool, Fault> {
-    let mut set = starts.take_short()?;
-    set &= &starts.short;
-    set &= starts.take_short()?;
-    set.intersect_with(&starts.short);
-    let is_kept = is_short(&set);
-    set.difference_with(&starts.long);
-    let is_still_kept = is_short(&set);
-    set.difference_with(&starts.short);
-    Ok(is_kept && is_still_kept && is_value(&set, 10, &[]))
+fn lesser(set: &mut FixedBitSet, starts: &mut Starts) -> Result<bool, Fault> {
+    *set &= starts.take_short()?;
+    are_made(set, &starts.short, &starts.long, LESSER)
 }
 
-// The calls that move positions, and the one that cuts them off.
-fn shifts(starts: &mut Starts) -> Result<bool, Fault> {
-    let mut set = starts.take_short()?;
-    let is_moved = moves(&mut set, &starts.short);
-    let is_cut = cuts(&mut set, &starts.short);
-    let is_listed = numbers(&mut set);
-    Ok(is_moved && is_cut && is_listed)
-}
-
-fn moves(set: &mut FixedBitSet, short: &FixedBitSet) -> bool {
-    set.shift_up(5);
-    let is_up = is_value(set, 10, &[8]);
-    set.shift_down(2);
-    let is_down = is_value(set, 10, &[6]);
-    set.union_with_own_shift(3);
-    set.union_with_shifted(short, 1);
-    is_up && is_down && is_value(set, 10, &[4, 6, 9])
-}
-
-fn cuts(set: &mut FixedBitSet, short: &FixedBitSet) -> bool {
-    set.truncate(7);
-    let is_cut = is_value(set, 7, &[4, 6]);
-    if set.len() != 7 || short.len() != 10 {
-        return false;
-    }
-    set.copy_range(short, 2..5, 4);
-    is_cut && is_value(set, 7, &[5])
+// The calls that move positions, and those on parts of a set.
+fn shifts(set: &mut FixedBitSet, starts: &Starts) -> Result<bool, Fault> {
+    let is_moved = are_made(set, &starts.short, &starts.long, SHIFTS)?;
+    Ok(is_moved && numbers(set))
 }
 
 // A part as a number, and lists of positions.
@@ -375,21 +361,22 @@ fn counts(short: &FixedBitSet, long: &FixedBitSet) -> bool {
         && is_long(long)
 }
 
-fn counted_calls(starts: &mut Starts) -> Result<bool, Fault> {
-    let mut set = starts.take_short()?;
+fn counted_calls(set: &mut FixedBitSet, starts: &mut Starts) -> Result<bool, Fault> {
     let mut wide = starts.take_long()?;
-    makes_counted(&mut set, &mut wide, &starts.short, &starts.long)
+    calls_counted(set, &mut wide, &starts.short, &starts.long)
 }
 
 // The set is a short one, and the wide one a long one.
-fn makes_counted(
+fn calls_counted(
     set: &mut FixedBitSet,
     wide: &mut FixedBitSet,
     short: &FixedBitSet,
     long: &FixedBitSet,
 ) -> Result<bool, Fault> {
-    let is_counted = are_counted(short, long) && are_found(short, long);
-    Ok(changes_counted(set, wide, short, long)? && is_counted)
+    if !are_counted(short, long) || !are_found(short, long) {
+        return Ok(false);
+    }
+    Ok(are_made(set, short, long, COUNTED_LESSER)? && are_made(wide, short, long, COUNTED_JOINS)?)
 }
 
 fn are_counted(short: &FixedBitSet, long: &FixedBitSet) -> bool {
@@ -400,65 +387,29 @@ fn are_counted(short: &FixedBitSet, long: &FixedBitSet) -> bool {
         && counted::symmetric_difference_count(short, long, steps) == 2
         && counted::is_disjoint(short, long, steps)
         && !counted::is_subset(short, long, steps)
-        && short.as_bits().first_lacking(long.as_bits(), steps) == Some(LONG - 1)
-        && !short.as_bits().is_equal(long.as_bits(), steps)
-        && short.as_bits().compare(long.as_bits(), steps) == short.cmp(long)
 }
 
 fn are_found(short: &FixedBitSet, long: &FixedBitSet) -> bool {
+    let (bits, others) = (short.as_bits(), long.as_bits());
     let steps = &mut Steps::new();
-    !short.as_bits().is_full(steps)
-        && !short.as_bits().is_clear(steps)
-        && short.as_bits().minimum(steps) == short.minimum()
-        && long.as_bits().maximum(steps) == long.maximum()
-        && short.as_bits().next_one(0, steps) == short.next_one(0)
-        && short.as_bits().next_zero(0, steps) == short.next_zero(0)
-        && short.as_bits().next_common(short.as_bits(), 0, steps) == short.next_common(short, 0)
-        && short.as_bits().nth_one(0, steps) == short.nth_one(0)
-        && short.as_bits().previous_one(10, steps) == short.previous_one(10)
-        && short.as_bits().previous_zero(10, steps) == short.previous_zero(10)
+    bits.minimum(steps) == short.minimum()
+        && others.maximum(steps) == long.maximum()
+        && bits.first_lacking(others, steps) == Some(LONG - 1)
+        && bits.compare(others, steps) == short.cmp(long)
+        && !bits.is_equal(others, steps)
+        && !bits.is_full(steps)
+        && !bits.is_clear(steps)
+        && are_found_near(bits, short)
 }
 
-fn changes_counted(
-    set: &mut FixedBitSet,
-    wide: &mut FixedBitSet,
-    short: &FixedBitSet,
-    long: &FixedBitSet,
-) -> Result<bool, AllocError> {
+fn are_found_near(bits: Bits<'_>, set: &FixedBitSet) -> bool {
     let steps = &mut Steps::new();
-    counted::intersect_with(set, short, steps);
-    counted::difference_with(set, long, steps);
-    let is_joined = joins_counted(wide, short)?;
-    let has_changed = tells_change_counted(set, wide, short, long)?;
-    let is_kept = is_short(set) && is_long(wide);
-    counted::clear(set, steps);
-    counted::clone_from(wide, short, steps)?;
-    let is_replaced = is_value(set, 10, &[]) && is_short(wide);
-    Ok(is_joined && has_changed && is_kept && is_replaced)
-}
-
-fn joins_counted(wide: &mut FixedBitSet, short: &FixedBitSet) -> Result<bool, AllocError> {
-    let steps = &mut Steps::new();
-    counted::union_with(wide, short, steps)?;
-    let is_joined = is_value(wide, LONG, &[3, LONG - 1]);
-    counted::symmetric_difference_with(wide, short, steps)?;
-    Ok(is_joined)
-}
-
-fn tells_change_counted(
-    set: &mut FixedBitSet,
-    wide: &mut FixedBitSet,
-    short: &FixedBitSet,
-    long: &FixedBitSet,
-) -> Result<bool, AllocError> {
-    let steps = &mut Steps::new();
-    Ok(
-        counted::union_with_change(wide, short, steps)?
-            && !counted::intersect_with_change(set, short, steps)
-            && counted::difference_with_change(wide, short, steps)
-            && counted::union_with_difference(wide, short, long, steps)?
-            && counted::difference_with_change(wide, short, steps),
-    )
+    bits.next_one(0, steps) == set.next_one(0)
+        && bits.next_zero(0, steps) == set.next_zero(0)
+        && bits.next_common(bits, 0, steps) == set.next_common(set, 0)
+        && bits.nth_one(0, steps) == set.nth_one(0)
+        && bits.previous_one(10, steps) == set.previous_one(10)
+        && bits.previous_zero(10, steps) == set.previous_zero(10)
 }
 
 fn hash_of(set: &FixedBitSet) -> u64 {
@@ -478,10 +429,9 @@ fn order(short: &FixedBitSet, long: &FixedBitSet) -> bool {
 
 // What needs no more words than the set has. An item that is no position stops
 // `extend` without a request.
-fn growth_in_place(starts: &mut Starts) -> Result<bool, Fault> {
-    let has_grown = grows_in_place(&mut starts.take_short()?)?;
-    let has_stopped = stops(&mut starts.take_short()?);
-    Ok(has_grown && has_stopped)
+fn growth_in_place(set: &mut FixedBitSet, starts: &mut Starts) -> Result<bool, Fault> {
+    let has_grown = grows_in_place(set)?;
+    Ok(stops(&mut starts.take_short()?) && has_grown)
 }
 
 fn grows_in_place(set: &mut FixedBitSet) -> Result<bool, Fault> {
@@ -504,41 +454,5 @@ fn stops(set: &mut FixedBitSet) -> bool {
 // A long set joined with a short one.
 fn joins_in_place(starts: &mut Starts) -> Result<bool, Fault> {
     let mut set = starts.take_long()?;
-    joins(&mut set, &starts.short, &starts.long)
-}
-
-fn joins(set: &mut FixedBitSet, short: &FixedBitSet, long: &FixedBitSet) -> Result<bool, Fault> {
-    let is_joined = joins_by_methods(set, short)?;
-    let is_joined_again = joins_by_operators(set, short)?;
-    let has_changed = tells_change(set, short, long)?;
-    let is_back = is_long(set) && !set.intersect_with_change(long);
-    set.clone_from(short)?;
-    Ok(is_joined && is_joined_again && has_changed && is_back && is_short(set))
-}
-
-fn joins_by_methods(set: &mut FixedBitSet, short: &FixedBitSet) -> Result<bool, AllocError> {
-    set.union_with(short)?;
-    let is_joined = is_value(set, LONG, &[3, LONG - 1]);
-    set.symmetric_difference_with(short)?;
-    Ok(is_joined && is_long(set))
-}
-
-fn joins_by_operators(set: &mut FixedBitSet, short: &FixedBitSet) -> Result<bool, AllocError> {
-    set.bitor_assign(short)?;
-    let is_joined = is_value(set, LONG, &[3, LONG - 1]);
-    set.bitxor_assign(short)?;
-    Ok(is_joined && is_long(set))
-}
-
-fn tells_change(
-    set: &mut FixedBitSet,
-    short: &FixedBitSet,
-    long: &FixedBitSet,
-) -> Result<bool, AllocError> {
-    Ok(
-        set.union_with_change(short)?
-            && set.difference_with_change(short)
-            && set.union_with_difference(short, long)?
-            && set.difference_with_change(short),
-    )
+    are_made(&mut set, &starts.short, &starts.long, JOINS)
 }

@@ -1,7 +1,8 @@
 //! The data-flow solver on five worked problems.
 
+use crate::calls::Call;
 use crate::outcome::Fault;
-use crate::starts::{Nodes, is_value};
+use crate::starts::{Nodes, Starts, is_value};
 use fixedbitset::{FixedBitSet, Steps};
 use flow::{is_problem, solve};
 use std::alloc::Global;
@@ -22,66 +23,67 @@ pub struct Problem {
 
 /// Facts along a loop of two nodes; a loop with no fact; an edge from a node to itself, twice;
 /// no facts; and no nodes.
-pub const PROBLEMS: &[(&str, Problem); 5] = &[
-    (
-        "solve of four nodes",
-        Problem {
-            facts: 3,
-            edges: &[(0, 1), (1, 2), (2, 1), (1, 3)],
-            gens: &[&[0], &[], &[1], &[2]],
-            kills: &[&[1], &[], &[0], &[]],
-            ins: &[&[], &[0, 1], &[0, 1], &[0, 1]],
-            outs: &[&[0], &[0, 1], &[1], &[0, 1, 2]],
-        },
-    ),
-    (
-        "solve of a loop",
-        Problem {
-            facts: 2,
-            edges: &[(0, 1), (1, 0)],
-            gens: &[&[], &[]],
-            kills: &[&[], &[]],
-            ins: &[&[], &[]],
-            outs: &[&[], &[]],
-        },
-    ),
-    (
-        "solve of one node",
-        Problem {
-            facts: 1,
-            edges: &[(0, 0), (0, 0)],
-            gens: &[&[0]],
-            kills: &[&[0]],
-            ins: &[&[0]],
-            outs: &[&[0]],
-        },
-    ),
-    (
-        "solve of no facts",
-        Problem {
-            facts: 0,
-            edges: &[(0, 1)],
-            gens: &[&[], &[]],
-            kills: &[&[], &[]],
-            ins: &[&[], &[]],
-            outs: &[&[], &[]],
-        },
-    ),
-    (
-        "solve of no nodes",
-        Problem {
-            facts: 5,
-            edges: &[],
-            gens: &[],
-            kills: &[],
-            ins: &[],
-            outs: &[],
-        },
-    ),
+pub const PROBLEMS: &[Problem] = &[
+    Problem {
+        facts: 3,
+        edges: &[(0, 1), (1, 2), (2, 1), (1, 3)],
+        gens: &[&[0], &[], &[1], &[2]],
+        kills: &[&[1], &[], &[0], &[]],
+        ins: &[&[], &[0, 1], &[0, 1], &[0, 1]],
+        outs: &[&[0], &[0, 1], &[1], &[0, 1, 2]],
+    },
+    Problem {
+        facts: 2,
+        edges: &[(0, 1), (1, 0)],
+        gens: &[&[], &[]],
+        kills: &[&[], &[]],
+        ins: &[&[], &[]],
+        outs: &[&[], &[]],
+    },
+    Problem {
+        facts: 1,
+        edges: &[(0, 0), (0, 0)],
+        gens: &[&[0]],
+        kills: &[&[0]],
+        ins: &[&[0]],
+        outs: &[&[0]],
+    },
+    Problem {
+        facts: 0,
+        edges: &[(0, 1)],
+        gens: &[&[], &[]],
+        kills: &[&[], &[]],
+        ins: &[&[], &[]],
+        outs: &[&[], &[]],
+    },
+    Problem {
+        facts: 5,
+        edges: &[],
+        gens: &[],
+        kills: &[],
+        ins: &[],
+        outs: &[],
+    },
 ];
 
-/// Solves the problem, looks at the answer, and that the sets of the problem stay.
-pub fn solved(alloc: Global, nodes: &Nodes, problem: &Problem) -> Result<bool, Fault> {
+/// Each problem by its place in that list.
+pub const CALLS: &[(&str, Call)] = &[
+    ("solve of four nodes", Call::Problem(0)),
+    ("solve of a loop", Call::Problem(1)),
+    ("solve of one node", Call::Problem(2)),
+    ("solve of no facts", Call::Problem(3)),
+    ("solve of no nodes", Call::Problem(4)),
+];
+
+/// Solves the problem at this place, looks at the answer, and that the sets of the problem stay.
+pub fn solved(alloc: Global, starts: &Starts, place: usize) -> Result<bool, Fault> {
+    match (PROBLEMS.get(place), starts.nodes.get(place)) {
+        (Some(problem), Some(nodes)) => solved_of(alloc, nodes, problem),
+        _ => Ok(false),
+    }
+}
+
+fn solved_of(alloc: Global, nodes: &Nodes, problem: &Problem) -> Result<bool, Fault> {
     let outcome = answered(alloc, &nodes.gens, &nodes.kills, problem);
     let facts = problem.facts;
     if are(&nodes.gens, facts, problem.gens) && are(&nodes.kills, facts, problem.kills) {

@@ -1,8 +1,5 @@
 //! The sets that the calls are made on. All memory for them is asked for before the first call.
 
-ghost use Rattle.std.specs.Prelude.{IfOk, ◌≡◌};
-ghost use Rattle.fixedbitset.specs.Bits as model;
-
 use crate::outcome::Fault;
 use crate::solving::{PROBLEMS, Problem};
 use fixedbitset::FixedBitSet;
@@ -12,10 +9,23 @@ use std::alloc::{AllocError, Global};
 /// The length of a long set. A short set needs more words to have it.
 pub const LONG: usize = 100_000;
 
-// As many sets as calls take for themselves.
-const SHORT_SETS: usize = 38;
+/// The positions of a short set, and of a long one.
+pub const SHORT: &[usize] = &[3];
 
-const LONG_SETS: usize = 8;
+pub const LAST: &[usize] = &[LONG - 1];
+
+/// The positions of both.
+pub const BOTH: &[usize] = &[3, LONG - 1];
+
+// The positions of the sets that calls take for themselves.
+const SHORT_SETS: &[&[usize]] = &[SHORT; 42];
+
+const LONG_SETS: &[&[usize]] = &[LAST; 8];
+
+// The positions of the sets of commands.
+const TWO_SETS: &[&[usize]] = &[SHORT; 2];
+
+const ONE_SET: &[&[usize]] = &[SHORT];
 
 // Room for each text that a call puts behind the output.
 const ROOM: usize = 64;
@@ -36,6 +46,8 @@ pub struct Starts {
     pub long: FixedBitSet,
     /// The sets of commands: two short ones.
     pub sets: Vec<FixedBitSet>,
+    /// The set of the commands that are run together: a short one.
+    pub run_sets: Vec<FixedBitSet>,
     /// The nodes of each data-flow problem.
     pub nodes: Vec<Nodes>,
     /// The JSON form of a short set.
@@ -43,26 +55,54 @@ pub struct Starts {
     /// A text without room, and one with enough for the reply to a line.
     pub full: Vec<u8>,
     pub output: Vec<u8>,
+    /// Whether a refused `grow` is made to lose the positions of its set.
+    pub forgets: bool,
 }
 
 impl Starts {
-    /// Makes all of them. Where memory is refused there are none.
-    pub fn new(alloc: Global) -> Result<Starts, Fault> {
-        let json = short_json(alloc)?;
-        let (short_sets, long_sets) = sets_to_take(alloc)?;
-        let (short, long) = sets_to_keep(alloc)?;
-        let (sets, nodes, output) = places_to_use(alloc)?;
-        Ok(Starts {
-            short_sets,
-            long_sets,
-            short,
-            long,
-            sets,
-            nodes,
-            json,
+    /// No sets yet, which takes no memory.
+    pub fn new(alloc: Global, forgets: bool) -> Starts {
+        Starts {
+            short_sets: Vec::new(alloc),
+            long_sets: Vec::new(alloc),
+            short: FixedBitSet::new(alloc),
+            long: FixedBitSet::new(alloc),
+            sets: Vec::new(alloc),
+            run_sets: Vec::new(alloc),
+            nodes: Vec::new(alloc),
+            json: Value::Null,
             full: Vec::new(alloc),
-            output,
-        })
+            output: Vec::new(alloc),
+            forgets,
+        }
+    }
+
+    /// Makes all of them.
+    pub fn add_all(&mut self, alloc: Global) -> Result<(), Fault> {
+        self.add_values(alloc)?;
+        self.add_sets(alloc)?;
+        self.add_kept(alloc)?;
+        Ok(())
+    }
+
+    fn add_values(&mut self, alloc: Global) -> Result<(), Fault> {
+        self.json = short_json(alloc)?;
+        self.output = Vec::with_capacity(alloc, ROOM)?;
+        Ok(())
+    }
+
+    fn add_sets(&mut self, alloc: Global) -> Result<(), AllocError> {
+        add_sets(&mut self.short_sets, alloc, 10, SHORT_SETS)?;
+        add_sets(&mut self.long_sets, alloc, LONG, LONG_SETS)?;
+        add_sets(&mut self.sets, alloc, 10, TWO_SETS)?;
+        add_sets(&mut self.run_sets, alloc, 10, ONE_SET)
+    }
+
+    // The sets that no call changes, and the nodes.
+    fn add_kept(&mut self, alloc: Global) -> Result<(), AllocError> {
+        self.short = set_of(alloc, 10, SHORT)?;
+        self.long = set_of(alloc, LONG, LAST)?;
+        add_nodes(&mut self.nodes, alloc)
     }
 
     /// A set of ten positions, of them 3, for one call alone.
@@ -80,97 +120,48 @@ fn short_json(alloc: Global) -> Result<Value, Fault> {
     Value::from_str(alloc, r#"{"length":10,"data":[8]}"#).map_err(|_| Fault::Memory)
 }
 
-fn sets_to_take(alloc: Global) -> Result<(Vec<FixedBitSet>, Vec<FixedBitSet>), AllocError> {
-    let short_sets = short_sets(alloc, SHORT_SETS)?;
-    Ok((short_sets, long_sets(alloc, LONG_SETS)?))
-}
-
-fn sets_to_keep(alloc: Global) -> Result<(FixedBitSet, FixedBitSet), AllocError> {
-    let short = short_set(alloc)?;
-    Ok((short, long_set(alloc)?))
-}
-
-// The sets of commands, the nodes, and the output.
-fn places_to_use(alloc: Global) -> Result<(Vec<FixedBitSet>, Vec<Nodes>, Vec<u8>), AllocError> {
-    let sets = short_sets(alloc, 2)?;
-    let nodes = all_nodes(alloc)?;
-    Ok((sets, nodes, Vec::with_capacity(alloc, ROOM)?))
-}
-
-fn short_sets(alloc: Global, count: usize) -> Result<Vec<FixedBitSet>, AllocError> {
-    let mut sets = Vec::new(alloc);
-    for _ in 0..count {
-        sets.push(short_set(alloc)?)?;
-    }
-    Ok(sets)
-}
-
-fn long_sets(alloc: Global, count: usize) -> Result<Vec<FixedBitSet>, AllocError> {
-    let mut sets = Vec::new(alloc);
-    for _ in 0..count {
-        sets.push(long_set(alloc)?)?;
-    }
-    Ok(sets)
-}
-
-fn all_nodes(alloc: Global) -> Result<Vec<Nodes>, AllocError> {
-    let mut all = Vec::new(alloc);
-    for (_, problem) in PROBLEMS {
+fn add_nodes(all: &mut Vec<Nodes>, alloc: Global) -> Result<(), AllocError> {
+    for problem in PROBLEMS {
         all.push(nodes_of(alloc, problem)?)?;
     }
-    Ok(all)
+    Ok(())
 }
 
 fn nodes_of(alloc: Global, problem: &Problem) -> Result<Nodes, AllocError> {
-    Ok(Nodes {
-        gens: fact_sets(alloc, problem.facts, problem.gens)?,
-        kills: fact_sets(alloc, problem.facts, problem.kills)?,
-    })
+    let mut nodes = Nodes {
+        gens: Vec::new(alloc),
+        kills: Vec::new(alloc),
+    };
+    add_sets(&mut nodes.gens, alloc, problem.facts, problem.gens)?;
+    add_sets(&mut nodes.kills, alloc, problem.facts, problem.kills)?;
+    Ok(nodes)
 }
 
-// A set of this length for each list of its positions.
-fn fact_sets(
+// Adds a set of this length for each list of its positions.
+fn add_sets(
+    sets: &mut Vec<FixedBitSet>,
     alloc: Global,
     length: usize,
     members: &[&[usize]],
-) -> Result<Vec<FixedBitSet>, AllocError> {
-    let mut sets = Vec::new(alloc);
-    for facts in members {
-        sets.push(fact_set(alloc, length, facts)?)?;
+) -> Result<(), AllocError> {
+    for positions in members {
+        sets.push(set_of(alloc, length, positions)?)?;
     }
-    Ok(sets)
+    Ok(())
 }
 
-fn fact_set(alloc: Global, length: usize, facts: &[usize]) -> Result<FixedBitSet, AllocError> {
+fn set_of(alloc: Global, length: usize, positions: &[usize]) -> Result<FixedBitSet, AllocError> {
     let mut set = FixedBitSet::with_capacity(alloc, length)?;
-    for fact in facts {
-        insert_fact(&mut set, *fact);
+    for position in positions {
+        insert_below(&mut set, *position);
     }
     Ok(set)
 }
 
-fn insert_fact(set: &mut FixedBitSet, fact: usize) {
-    if fact < set.len() {
-        set.insert(fact);
+fn insert_below(set: &mut FixedBitSet, position: usize) {
+    if position < set.len() {
+        set.insert(position);
     }
-}
-
-#[tactic(auto, using(fixedbitset::specs::BitsFacts::facts))]
-fn short_set(alloc: Global) -> Result<FixedBitSet, AllocError>
-    ensures { IfOk result (λ set. set ≡ model.insert (model.empty 10) 3) }
-{
-    let mut set = FixedBitSet::with_capacity(alloc, 10)?;
-    set.insert(3);
-    Ok(set)
-}
-
-#[tactic(auto, using(fixedbitset::specs::BitsFacts::facts))]
-fn long_set(alloc: Global) -> Result<FixedBitSet, AllocError>
-    ensures { IfOk result (λ set. set ≡ model.insert (model.empty LONG) (99_999)) }
-{
-    let mut set = FixedBitSet::with_capacity(alloc, LONG)?;
-    set.insert(LONG - 1);
-    Ok(set)
 }
 
 /// Whether the set has this length and these positions alone, which are all different.
@@ -183,9 +174,9 @@ pub fn is_value(set: &FixedBitSet, length: usize, positions: &[usize]) -> bool {
 
 /// Whether the set is as it was made.
 pub fn is_short(set: &FixedBitSet) -> bool {
-    is_value(set, 10, &[3])
+    is_value(set, 10, SHORT)
 }
 
 pub fn is_long(set: &FixedBitSet) -> bool {
-    is_value(set, LONG, &[LONG - 1])
+    is_value(set, LONG, LAST)
 }

@@ -1,5 +1,6 @@
 //! The walks, which take no memory: each is made, asked for its hint and called from its ends.
 
+use crate::calls::Call;
 use crate::outcome::Fault;
 use crate::starts::{LONG, Starts};
 use fixedbitset::{FixedBitSet, IntoOnes, Ones};
@@ -16,15 +17,18 @@ pub enum Walk {
     LastBit,
 }
 
-pub const WALKS: &[(&str, Walk); 8] = &[
-    ("ones", Walk::Ones),
-    ("into_ones", Walk::IntoOnes),
-    ("zeroes", Walk::Zeroes),
-    ("intersection", Walk::Intersection),
-    ("difference", Walk::Difference),
-    ("union", Walk::Union),
-    ("symmetric_difference", Walk::SymmetricDifference),
-    ("last_positive_bit_and_unset", Walk::LastBit),
+pub const WALKS: &[(&str, Call)] = &[
+    ("ones", Call::Walk(Walk::Ones)),
+    ("into_ones", Call::Walk(Walk::IntoOnes)),
+    ("zeroes", Call::Walk(Walk::Zeroes)),
+    ("intersection", Call::Walk(Walk::Intersection)),
+    ("difference", Call::Walk(Walk::Difference)),
+    ("union", Call::Walk(Walk::Union)),
+    (
+        "symmetric_difference",
+        Call::Walk(Walk::SymmetricDifference),
+    ),
+    ("last_positive_bit_and_unset", Call::Walk(Walk::LastBit)),
 ];
 
 // Whether the walk gives two items, the first from the front and the last from the

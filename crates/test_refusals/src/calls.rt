@@ -1,0 +1,53 @@
+//! What is called, and the tables of it.
+
+use crate::growing::{Growing, grown};
+use crate::making::{Making, line_read, made};
+use crate::outcome::Fault;
+use crate::plain::{Group, holds};
+use crate::solving::solved;
+use crate::starts::Starts;
+use crate::walking::{Walk, gives};
+use crate::{growing, lines, making, plain, solving, walking, words};
+use std::alloc::Global;
+
+/// A call that may be refused memory, or a group of calls that take none.
+#[derive(Clone, Copy)]
+pub enum Call {
+    Growing(Growing),
+    Making(Making),
+    /// The line that is its name, which is read.
+    Line,
+    /// A data-flow problem, by its place.
+    Problem(usize),
+    Group(Group),
+    Walk(Walk),
+    Words,
+    Lines,
+}
+
+/// The calls that may be refused memory.
+pub const REFUSABLE: &[&[(&str, Call)]] = &[
+    growing::CALLS,
+    making::CALLS,
+    making::LINES,
+    solving::CALLS,
+];
+
+/// The groups of calls that take none.
+pub const PLAIN: &[&[(&str, Call)]] = &[plain::GROUPS, walking::WALKS, OTHERS];
+
+const OTHERS: &[(&str, Call)] = &[("words", Call::Words), ("lines", Call::Lines)];
+
+/// Makes the call, and answers whether it does what it does with ample memory.
+pub fn make(alloc: Global, starts: &mut Starts, name: &str, call: Call) -> Result<bool, Fault> {
+    match call {
+        Call::Growing(growing) => grown(starts, growing),
+        Call::Making(making) => made(alloc, starts, making),
+        Call::Line => line_read(alloc, name),
+        Call::Problem(place) => solved(alloc, starts, place),
+        Call::Group(group) => holds(alloc, starts, group),
+        Call::Walk(walk) => gives(starts, walk),
+        Call::Words => Ok(words::hold()),
+        Call::Lines => lines::are_answered(alloc, starts),
+    }
+}

@@ -1,0 +1,195 @@
+//! Changes of a set by two others. Those of the tables take no memory, since the set has words
+//! enough, and stand there with what they leave, where the first other is the short set and the
+//! second the long one.
+
+use crate::outcome::Fault;
+use crate::starts::{BOTH, LAST, LONG, SHORT, is_value};
+use fixedbitset::{FixedBitSet, Steps, counted};
+use std::alloc::AllocError;
+
+/// A change of a set by the first of two others, where the name does not say the second.
+#[derive(Clone, Copy)]
+pub enum Change {
+    UnionWith,
+    SymmetricDifferenceWith,
+    BitorAssign,
+    BitxorAssign,
+    CloneFrom,
+    UnionWithChange,
+    UnionWithDifference,
+    DifferenceWithChange,
+    IntersectWithChangeOfSecond,
+    BitandAssign,
+    IntersectWith,
+    DifferenceWith,
+    DifferenceWithSecond,
+    ShiftUp,
+    ShiftDown,
+    UnionWithOwnShift,
+    UnionWithShifted,
+    Truncate,
+    CopyRange,
+    CountedUnionWith,
+    CountedSymmetricDifferenceWith,
+    CountedCloneFrom,
+    CountedUnionWithChange,
+    CountedUnionWithDifference,
+    CountedDifferenceWithChange,
+    CountedIntersectWithChange,
+    CountedIntersectWith,
+    CountedDifferenceWithSecond,
+    CountedClear,
+}
+
+/// Changes one after the other, each with the length and the positions that it leaves.
+pub type Changes = &'static [(Change, usize, &'static [usize])];
+
+/// Of a short set: those that leave its length.
+pub const LESSER: Changes = &[
+    (Change::BitandAssign, 10, SHORT),
+    (Change::IntersectWith, 10, SHORT),
+    (Change::DifferenceWithSecond, 10, SHORT),
+    (Change::DifferenceWith, 10, &[]),
+];
+
+/// Of a short set: those that move positions, one that cuts them off, and one that copies some.
+pub const SHIFTS: Changes = &[
+    (Change::ShiftUp, 10, &[8]),
+    (Change::ShiftDown, 10, &[6]),
+    (Change::UnionWithOwnShift, 10, &[6, 9]),
+    (Change::UnionWithShifted, 10, &[4, 6, 9]),
+    (Change::Truncate, 7, &[4, 6]),
+    (Change::CopyRange, 7, &[5]),
+];
+
+/// Of a long set: joined with the short one, and in the end made a copy of it.
+pub const JOINS: Changes = &[
+    (Change::UnionWith, LONG, BOTH),
+    (Change::SymmetricDifferenceWith, LONG, LAST),
+    (Change::BitorAssign, LONG, BOTH),
+    (Change::BitxorAssign, LONG, LAST),
+    (Change::UnionWithChange, LONG, BOTH),
+    (Change::DifferenceWithChange, LONG, LAST),
+    (Change::UnionWithDifference, LONG, BOTH),
+    (Change::DifferenceWithChange, LONG, LAST),
+    (Change::IntersectWithChangeOfSecond, LONG, LAST),
+    (Change::CloneFrom, 10, SHORT),
+];
+
+/// The counted calls on a long set.
+pub const COUNTED_JOINS: Changes = &[
+    (Change::CountedUnionWith, LONG, BOTH),
+    (Change::CountedSymmetricDifferenceWith, LONG, LAST),
+    (Change::CountedUnionWithChange, LONG, BOTH),
+    (Change::CountedDifferenceWithChange, LONG, LAST),
+    (Change::CountedUnionWithDifference, LONG, BOTH),
+    (Change::CountedDifferenceWithChange, LONG, LAST),
+    (Change::CountedCloneFrom, 10, SHORT),
+];
+
+/// The counted calls on a short set.
+pub const COUNTED_LESSER: Changes = &[
+    (Change::CountedIntersectWith, 10, SHORT),
+    (Change::CountedDifferenceWithSecond, 10, SHORT),
+    (Change::CountedIntersectWithChange, 10, SHORT),
+    (Change::CountedClear, 10, &[]),
+];
+
+/// Makes the changes, and answers whether each of them leaves and says what it should.
+pub fn are_made(
+    set: &mut FixedBitSet,
+    first: &FixedBitSet,
+    second: &FixedBitSet,
+    changes: Changes,
+) -> Result<bool, Fault> {
+    for (change, length, positions) in changes {
+        if !is_made(set, first, second, *change)? || !is_value(set, *length, positions) {
+            return Ok(false);
+        }
+    }
+    Ok(true)
+}
+
+/// Makes the change, and answers whether the call says rightly that the set has changed, where it
+/// says anything.
+pub fn is_made(
+    set: &mut FixedBitSet,
+    first: &FixedBitSet,
+    second: &FixedBitSet,
+    change: Change,
+) -> Result<bool, AllocError> {
+    let joined = match change {
+        Change::UnionWith => set.union_with(first),
+        Change::SymmetricDifferenceWith => set.symmetric_difference_with(first),
+        Change::BitorAssign => set.bitor_assign(first),
+        Change::BitxorAssign => set.bitxor_assign(first),
+        Change::CloneFrom => set.clone_from(first),
+        Change::CountedUnionWith => counted::union_with(set, first, &mut Steps::new()),
+        Change::CountedSymmetricDifferenceWith => {
+            counted::symmetric_difference_with(set, first, &mut Steps::new())
+        }
+        Change::CountedCloneFrom => counted::clone_from(set, first, &mut Steps::new()),
+        _ => return is_told(set, first, second, change),
+    };
+    joined?;
+    Ok(true)
+}
+
+fn is_told(
+    set: &mut FixedBitSet,
+    first: &FixedBitSet,
+    second: &FixedBitSet,
+    change: Change,
+) -> Result<bool, AllocError> {
+    let steps = &mut Steps::new();
+    match change {
+        Change::UnionWithChange => set.union_with_change(first),
+        Change::UnionWithDifference => set.union_with_difference(first, second),
+        Change::CountedUnionWithChange => counted::union_with_change(set, first, steps),
+        Change::CountedUnionWithDifference => {
+            counted::union_with_difference(set, first, second, steps)
+        }
+        _ => Ok(is_lessened(set, first, second, change)),
+    }
+}
+
+fn is_lessened(
+    set: &mut FixedBitSet,
+    first: &FixedBitSet,
+    second: &FixedBitSet,
+    change: Change,
+) -> bool {
+    let steps = &mut Steps::new();
+    match change {
+        Change::DifferenceWithChange => return set.difference_with_change(first),
+        Change::IntersectWithChangeOfSecond => return !set.intersect_with_change(second),
+        Change::CountedDifferenceWithChange => {
+            return counted::difference_with_change(set, first, steps);
+        }
+        Change::CountedIntersectWithChange => {
+            return !counted::intersect_with_change(set, first, steps);
+        }
+        Change::BitandAssign => *set &= first,
+        Change::IntersectWith => set.intersect_with(first),
+        Change::DifferenceWith => set.difference_with(first),
+        Change::DifferenceWithSecond => set.difference_with(second),
+        Change::CountedIntersectWith => counted::intersect_with(set, first, steps),
+        Change::CountedDifferenceWithSecond => counted::difference_with(set, second, steps),
+        Change::CountedClear => counted::clear(set, steps),
+        _ => return is_moved(set, first, change),
+    }
+    true
+}
+
+fn is_moved(set: &mut FixedBitSet, first: &FixedBitSet, change: Change) -> bool {
+    match change {
+        Change::ShiftUp => set.shift_up(5),
+        Change::ShiftDown => set.shift_down(2),
+        Change::UnionWithOwnShift => set.union_with_own_shift(3),
+        Change::UnionWithShifted => set.union_with_shifted(first, 1),
+        Change::Truncate => set.truncate(7),
+        Change::CopyRange if set.len() == 7 && first.len() == 10 => set.copy_range(first, 2..5, 4),
+        _ => return false,
+    }
+    true
+}
