@@ -116,7 +116,16 @@ fn is_no_command(alloc: Global, line: &str) -> bool {
 
 fn is_replied(alloc: Global, starts: &mut Starts, line: &str, reply: &str) -> Result<bool, Fault> {
     let command = parse_line(alloc, line.as_bytes())?;
-    write_reply(alloc, starts, &command)?;
+    gets_reply(alloc, starts, &command, reply)
+}
+
+fn gets_reply(
+    alloc: Global,
+    starts: &mut Starts,
+    command: &Command,
+    reply: &str,
+) -> Result<bool, Fault> {
+    write_reply(alloc, starts, command)?;
     Ok(starts.output.as_slice() == reply.as_bytes())
 }
 
