@@ -1,5 +1,8 @@
 //! The sets that the calls are made on. All memory for them is asked for before the first call.
 
+ghost use Rattle.std.specs.Prelude.{IfOk, ◌≡◌};
+ghost use Rattle.fixedbitset.specs.Bits as model;
+
 use crate::outcome::Fault;
 use crate::solving::{PROBLEMS, Problem};
 use fixedbitset::FixedBitSet;
@@ -9,23 +12,21 @@ use std::alloc::{AllocError, Global};
 /// The length of a long set. A short set needs more words to have it.
 pub const LONG: usize = 100_000;
 
-/// The positions of a short set, and of a long one.
+/// The positions of a short set.
 pub const SHORT: &[usize] = &[3];
 
+/// The positions of a long set: the last one alone.
 pub const LAST: &[usize] = &[LONG - 1];
 
 /// The positions of both.
 pub const BOTH: &[usize] = &[3, LONG - 1];
 
-// The positions of the sets that calls take for themselves.
-const SHORT_SETS: &[&[usize]] = &[SHORT; 42];
+// As many sets as calls take for themselves. Each of the 17 calls of `growing`, the 15 groups and
+// the 8 walks takes a short set. The groups `lesser` and `growth_in_place` take one more each.
+const SHORT_SETS: usize = 17 + 15 + 8 + 2;
 
-const LONG_SETS: &[&[usize]] = &[LAST; 8];
-
-// The positions of the sets of commands.
-const TWO_SETS: &[&[usize]] = &[SHORT; 2];
-
-const ONE_SET: &[&[usize]] = &[SHORT];
+// The groups `counted` and `joins_in_place` take a long set each. No call takes the rest.
+const LONG_SETS: usize = 8;
 
 // Room for each text that a call puts behind the output.
 const ROOM: usize = 64;
@@ -60,7 +61,8 @@ pub struct Starts {
 }
 
 impl Starts {
-    /// No sets yet, which takes no memory.
+    /// No sets yet, which takes no memory. `add_all` makes the sets in a second step: one function
+    /// that makes all at once is several times as dear to prove.
     pub fn new(alloc: Global, forgets: bool) -> Starts {
         Starts {
             short_sets: Vec::new(alloc),
@@ -77,7 +79,8 @@ impl Starts {
         }
     }
 
-    /// Makes all of them.
+    /// Makes all the sets. Where memory is refused, the sets made so far stay, and the rest are
+    /// missing. No call is to be made then.
     pub fn add_all(&mut self, alloc: Global) -> Result<(), Fault> {
         self.add_values(alloc)?;
         self.add_sets(alloc)?;
@@ -92,16 +95,16 @@ impl Starts {
     }
 
     fn add_sets(&mut self, alloc: Global) -> Result<(), AllocError> {
-        add_sets(&mut self.short_sets, alloc, 10, SHORT_SETS)?;
-        add_sets(&mut self.long_sets, alloc, LONG, LONG_SETS)?;
-        add_sets(&mut self.sets, alloc, 10, TWO_SETS)?;
-        add_sets(&mut self.run_sets, alloc, 10, ONE_SET)
+        add_short_sets(&mut self.short_sets, alloc, SHORT_SETS)?;
+        add_long_sets(&mut self.long_sets, alloc, LONG_SETS)?;
+        add_short_sets(&mut self.sets, alloc, 2)?;
+        add_short_sets(&mut self.run_sets, alloc, 1)
     }
 
     // The sets that no call changes, and the nodes.
     fn add_kept(&mut self, alloc: Global) -> Result<(), AllocError> {
-        self.short = set_of(alloc, 10, SHORT)?;
-        self.long = set_of(alloc, LONG, LAST)?;
+        self.short = short_set(alloc)?;
+        self.long = long_set(alloc)?;
         add_nodes(&mut self.nodes, alloc)
     }
 
@@ -120,6 +123,46 @@ fn short_json(alloc: Global) -> Result<Value, Fault> {
     Value::from_str(alloc, r#"{"length":10,"data":[8]}"#).map_err(|_| Fault::Memory)
 }
 
+fn add_short_sets(
+    sets: &mut Vec<FixedBitSet>,
+    alloc: Global,
+    count: usize,
+) -> Result<(), AllocError> {
+    for _ in 0..count {
+        sets.push(short_set(alloc)?)?;
+    }
+    Ok(())
+}
+
+fn add_long_sets(
+    sets: &mut Vec<FixedBitSet>,
+    alloc: Global,
+    count: usize,
+) -> Result<(), AllocError> {
+    for _ in 0..count {
+        sets.push(long_set(alloc)?)?;
+    }
+    Ok(())
+}
+
+#[tactic(auto, using(fixedbitset::specs::BitsFacts::facts))]
+fn short_set(alloc: Global) -> Result<FixedBitSet, AllocError>
+    ensures { IfOk result (λ set. set ≡ model.insert (model.empty 10) 3) }
+{
+    let mut set = FixedBitSet::with_capacity(alloc, 10)?;
+    set.insert(3);
+    Ok(set)
+}
+
+#[tactic(auto, using(fixedbitset::specs::BitsFacts::facts))]
+fn long_set(alloc: Global) -> Result<FixedBitSet, AllocError>
+    ensures { IfOk result (λ set. set ≡ model.insert (model.empty LONG) (99_999)) }
+{
+    let mut set = FixedBitSet::with_capacity(alloc, LONG)?;
+    set.insert(LONG - 1);
+    Ok(set)
+}
+
 fn add_nodes(all: &mut Vec<Nodes>, alloc: Global) -> Result<(), AllocError> {
     for problem in PROBLEMS {
         all.push(nodes_of(alloc, problem)?)?;
@@ -132,13 +175,13 @@ fn nodes_of(alloc: Global, problem: &Problem) -> Result<Nodes, AllocError> {
         gens: Vec::new(alloc),
         kills: Vec::new(alloc),
     };
-    add_sets(&mut nodes.gens, alloc, problem.facts, problem.gens)?;
-    add_sets(&mut nodes.kills, alloc, problem.facts, problem.kills)?;
+    add_fact_sets(&mut nodes.gens, alloc, problem.facts, problem.gens)?;
+    add_fact_sets(&mut nodes.kills, alloc, problem.facts, problem.kills)?;
     Ok(nodes)
 }
 
 // Adds a set of this length for each list of its positions.
-fn add_sets(
+fn add_fact_sets(
     sets: &mut Vec<FixedBitSet>,
     alloc: Global,
     length: usize,
