@@ -1,13 +1,15 @@
-//! Changes of a set by two others. Those of the tables take no memory, since the set has words
-//! enough, and stand there with what they leave, where the first other is the short set and the
-//! second the long one.
+//! Changes of a set by up to two others. The tables hold changes that take no memory, since the set
+//! has words enough. Each change stands with what it leaves. There the first other is the short
+//! set, and the second is the long one.
 
 use crate::outcome::Fault;
 use crate::starts::{BOTH, LAST, LONG, SHORT, is_value};
 use fixedbitset::{FixedBitSet, Steps, counted};
 use std::alloc::AllocError;
 
-/// A change of a set by the first of two others, where the name does not say the second.
+/// A change of a set. A name that ends in `WithSecond` is a change by the second of two others. The
+/// two `..UnionWithDifference` are changes by both. `ShiftUp`, `ShiftDown`, `UnionWithOwnShift`,
+/// `Truncate` and `CountedClear` take no other set. All the rest are changes by the first.
 #[derive(Clone, Copy)]
 pub enum Change {
     UnionWith,
@@ -18,7 +20,7 @@ pub enum Change {
     UnionWithChange,
     UnionWithDifference,
     DifferenceWithChange,
-    IntersectWithChangeOfSecond,
+    IntersectChangeWithSecond,
     BitandAssign,
     IntersectWith,
     DifferenceWith,
@@ -41,11 +43,11 @@ pub enum Change {
     CountedClear,
 }
 
-/// Changes one after the other, each with the length and the positions that it leaves.
-pub type Changes = &'static [(Change, usize, &'static [usize])];
+/// A change, with the length and the positions that it leaves.
+pub type Row = (Change, usize, &'static [usize]);
 
 /// Of a short set: those that leave its length.
-pub const LESSER: Changes = &[
+pub const LESSER: &[Row; 4] = &[
     (Change::BitandAssign, 10, SHORT),
     (Change::IntersectWith, 10, SHORT),
     (Change::DifferenceWithSecond, 10, SHORT),
@@ -53,7 +55,7 @@ pub const LESSER: Changes = &[
 ];
 
 /// Of a short set: those that move positions, one that cuts them off, and one that copies some.
-pub const SHIFTS: Changes = &[
+pub const SHIFTS: &[Row; 6] = &[
     (Change::ShiftUp, 10, &[8]),
     (Change::ShiftDown, 10, &[6]),
     (Change::UnionWithOwnShift, 10, &[6, 9]),
@@ -63,7 +65,7 @@ pub const SHIFTS: Changes = &[
 ];
 
 /// Of a long set: joined with the short one, and in the end made a copy of it.
-pub const JOINS: Changes = &[
+pub const JOINS: &[Row; 10] = &[
     (Change::UnionWith, LONG, BOTH),
     (Change::SymmetricDifferenceWith, LONG, LAST),
     (Change::BitorAssign, LONG, BOTH),
@@ -72,12 +74,12 @@ pub const JOINS: Changes = &[
     (Change::DifferenceWithChange, LONG, LAST),
     (Change::UnionWithDifference, LONG, BOTH),
     (Change::DifferenceWithChange, LONG, LAST),
-    (Change::IntersectWithChangeOfSecond, LONG, LAST),
+    (Change::IntersectChangeWithSecond, LONG, LAST),
     (Change::CloneFrom, 10, SHORT),
 ];
 
 /// The counted calls on a long set.
-pub const COUNTED_JOINS: Changes = &[
+pub const COUNTED_JOINS: &[Row; 7] = &[
     (Change::CountedUnionWith, LONG, BOTH),
     (Change::CountedSymmetricDifferenceWith, LONG, LAST),
     (Change::CountedUnionWithChange, LONG, BOTH),
@@ -88,31 +90,33 @@ pub const COUNTED_JOINS: Changes = &[
 ];
 
 /// The counted calls on a short set.
-pub const COUNTED_LESSER: Changes = &[
+pub const COUNTED_LESSER: &[Row; 4] = &[
     (Change::CountedIntersectWith, 10, SHORT),
     (Change::CountedDifferenceWithSecond, 10, SHORT),
     (Change::CountedIntersectWithChange, 10, SHORT),
     (Change::CountedClear, 10, &[]),
 ];
 
-/// Makes the changes, and answers whether each of them leaves and says what it should.
-pub fn are_made(
+/// Makes the changes one after the other, and answers whether each of them leaves and says what it
+/// should.
+pub fn make_changes(
     set: &mut FixedBitSet,
     first: &FixedBitSet,
     second: &FixedBitSet,
-    changes: Changes,
+    changes: &[Row],
 ) -> Result<bool, Fault> {
     for (change, length, positions) in changes {
-        if !is_made(set, first, second, *change)? || !is_value(set, *length, positions) {
+        if !make_change(set, first, second, *change)? || !is_value(set, *length, positions) {
             return Ok(false);
         }
     }
     Ok(true)
 }
 
-/// Makes the change, and answers whether the call says rightly that the set has changed, where it
-/// says anything.
-pub fn is_made(
+/// Makes the change, and answers whether the call says what it should, where the call says
+/// anything. `IntersectChangeWithSecond` and `CountedIntersectWithChange` have to say that the set
+/// has not changed. The others have to say that the set has changed.
+pub fn make_change(
     set: &mut FixedBitSet,
     first: &FixedBitSet,
     second: &FixedBitSet,
@@ -129,13 +133,14 @@ pub fn is_made(
             counted::symmetric_difference_with(set, first, &mut Steps::new())
         }
         Change::CountedCloneFrom => counted::clone_from(set, first, &mut Steps::new()),
-        _ => return is_told(set, first, second, change),
+        _ => return unite(set, first, second, change),
     };
     joined?;
     Ok(true)
 }
 
-fn is_told(
+// The unions that say whether the set has changed, and the changes that take no memory.
+fn unite(
     set: &mut FixedBitSet,
     first: &FixedBitSet,
     second: &FixedBitSet,
@@ -149,11 +154,12 @@ fn is_told(
         Change::CountedUnionWithDifference => {
             counted::union_with_difference(set, first, second, steps)
         }
-        _ => Ok(is_lessened(set, first, second, change)),
+        _ => Ok(lessen(set, first, second, change)),
     }
 }
 
-fn is_lessened(
+// The changes that take no memory at any length.
+fn lessen(
     set: &mut FixedBitSet,
     first: &FixedBitSet,
     second: &FixedBitSet,
@@ -162,7 +168,7 @@ fn is_lessened(
     let steps = &mut Steps::new();
     match change {
         Change::DifferenceWithChange => return set.difference_with_change(first),
-        Change::IntersectWithChangeOfSecond => return !set.intersect_with_change(second),
+        Change::IntersectChangeWithSecond => return !set.intersect_with_change(second),
         Change::CountedDifferenceWithChange => {
             return counted::difference_with_change(set, first, steps);
         }
@@ -176,12 +182,12 @@ fn is_lessened(
         Change::CountedIntersectWith => counted::intersect_with(set, first, steps),
         Change::CountedDifferenceWithSecond => counted::difference_with(set, second, steps),
         Change::CountedClear => counted::clear(set, steps),
-        _ => return is_moved(set, first, change),
+        _ => return move_positions(set, first, change),
     }
     true
 }
 
-fn is_moved(set: &mut FixedBitSet, first: &FixedBitSet, change: Change) -> bool {
+fn move_positions(set: &mut FixedBitSet, first: &FixedBitSet, change: Change) -> bool {
     match change {
         Change::ShiftUp => set.shift_up(5),
         Change::ShiftDown => set.shift_down(2),

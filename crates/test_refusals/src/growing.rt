@@ -4,7 +4,7 @@ ghost use Rattle.std.specs.Prelude.{length};
 ghost use Rattle.std.specs.Iterator.{at_most};
 
 use crate::calls::Call;
-use crate::changes::{Change, is_made};
+use crate::changes::{Change, make_change};
 use crate::outcome::Fault;
 use crate::starts::{BOTH, LONG, SHORT, Starts, is_long, is_short, is_value};
 use fixedbitset::FixedBitSet;
@@ -21,7 +21,7 @@ pub enum Growing {
     By(Change),
 }
 
-pub const CALLS: &[(&str, Call)] = &[
+pub const CALLS: &[(&str, Call); 17] = &[
     ("grow", Call::Growing(Growing::Grow)),
     ("grow_and_insert", Call::Growing(Growing::GrowAndInsert)),
     ("extend", Call::Growing(Growing::Extend)),
@@ -83,37 +83,46 @@ fn is_grown(set: &FixedBitSet, call: Growing) -> bool {
     }
 }
 
-/// Makes the call, and looks at what it leaves.
+// Whether the set is what the call leaves where memory is refused. Of the items of `extend` those
+// before the refused one stand.
+fn is_left(set: &FixedBitSet, call: Growing) -> bool {
+    match call {
+        Growing::Extend => is_value(set, 10, &[3, 4]),
+        _ => is_short(set),
+    }
+}
+
+/// Makes the call on a short set, and looks at what the call leaves.
 pub fn grown(starts: &mut Starts, call: Growing) -> Result<bool, Fault> {
     let mut set = starts.take_short()?;
-    joined(&mut set, starts, call)
+    grown_of(&mut set, starts, call)
 }
 
-fn joined(set: &mut FixedBitSet, starts: &Starts, call: Growing) -> Result<bool, Fault> {
-    if let Growing::Extend = call {
-        return extended(set);
-    }
-    match join(set, starts, call) {
-        Ok(is_told) => Ok(is_told && is_grown(set, call) && is_long(&starts.long)),
-        Err(AllocError) if is_short(set) && is_long(&starts.long) => Err(Fault::Memory),
-        Err(AllocError) => Ok(false),
+// The set is a short one.
+fn grown_of(set: &mut FixedBitSet, starts: &Starts, call: Growing) -> Result<bool, Fault> {
+    match make_growth(set, starts, call) {
+        Ok(says_right) => Ok(says_right && is_grown(set, call) && is_long(&starts.long)),
+        Err(Fault::Memory) if is_left(set, call) && is_long(&starts.long) => Err(Fault::Memory),
+        Err(_) => Ok(false),
     }
 }
 
-fn join(set: &mut FixedBitSet, starts: &Starts, call: Growing) -> Result<bool, AllocError> {
-    let grown = match call {
-        Growing::Grow => grow(set, starts.forgets),
-        Growing::GrowAndInsert => set.grow_and_insert(LONG),
-        Growing::Append => append(set, &starts.long),
-        Growing::Resize => set.resize(LONG, false),
-        Growing::By(change) => return is_made(set, &starts.long, &starts.short, change),
-        Growing::Extend => return Ok(false),
-    };
-    grown?;
+// Makes the call alone, and answers whether the call says what it should.
+fn make_growth(set: &mut FixedBitSet, starts: &Starts, call: Growing) -> Result<bool, Fault> {
+    match call {
+        Growing::Grow => grow(set, starts.forgets)?,
+        Growing::GrowAndInsert => set.grow_and_insert(LONG)?,
+        Growing::Extend => return extend(set),
+        Growing::Append => append(set, &starts.long)?,
+        Growing::Resize => set.resize(LONG, false)?,
+        Growing::By(change) => {
+            return Ok(make_change(set, &starts.long, &starts.short, change)?);
+        }
+    }
     Ok(true)
 }
 
-// With `forgets` it is what a set that loses its positions would do: the sweep has to tell it.
+// With `forgets` a refused call loses the positions of the set. The sweep has to tell this.
 fn grow(set: &mut FixedBitSet, forgets: bool) -> Result<(), AllocError> {
     let grown = set.grow(LONG);
     if forgets && grown.is_err() {
@@ -122,7 +131,7 @@ fn grow(set: &mut FixedBitSet, forgets: bool) -> Result<(), AllocError> {
     grown
 }
 
-// The lengths are those of the sets that are made for it; of others nothing is put together.
+// The lengths are those of a short set and a long one. Other sets are not put together.
 fn append(set: &mut FixedBitSet, long: &FixedBitSet) -> Result<(), AllocError> {
     if set.len() <= LONG && long.len() <= LONG {
         return set.append(long);
@@ -150,15 +159,15 @@ impl Iterator for Asked<'_> {
     }
 }
 
-// The items before the refused one stand, and none behind it is asked for.
-fn extended(set: &mut FixedBitSet) -> Result<bool, Fault> {
+// Answers whether all items are asked for. None is asked for behind a refused one.
+fn extend(set: &mut FixedBitSet) -> Result<bool, Fault> {
     let mut items = Asked {
         items: &[4, LONG, 5],
         count: 0,
     };
     match set.extend(&mut items) {
-        Ok(()) => Ok(items.count == 4 && is_grown(set, Growing::Extend)),
-        Err(fault) if items.count == 2 && is_value(set, 10, &[3, 4]) => Err(Fault::from(fault)),
+        Ok(()) => Ok(items.count == 4),
+        Err(fault) if items.count == 2 => Err(Fault::from(fault)),
         Err(_) => Ok(false),
     }
 }

@@ -2,7 +2,7 @@
 //! did what they do with ample memory.
 
 use crate::calls::Call;
-use crate::changes::{COUNTED_JOINS, COUNTED_LESSER, JOINS, LESSER, SHIFTS, are_made};
+use crate::changes::{COUNTED_JOINS, COUNTED_LESSER, JOINS, LESSER, SHIFTS, make_changes};
 use crate::growing::Asked;
 use crate::outcome::Fault;
 use crate::starts::{LONG, Starts, is_long, is_short, is_value};
@@ -31,7 +31,7 @@ pub enum Group {
     Json,
 }
 
-pub const GROUPS: &[(&str, Call)] = &[
+pub const GROUPS: &[(&str, Call); 15] = &[
     ("looks", Call::Group(Group::Looks)),
     ("positions", Call::Group(Group::Positions)),
     ("unchecked", Call::Group(Group::Unchecked)),
@@ -67,11 +67,17 @@ fn holds_of(
         Group::Counted => counted_calls(set, starts),
         Group::GrowthInPlace => growth_in_place(set, starts),
         Group::JoinsInPlace => joins_in_place(starts),
-        _ => Ok(is_right(alloc, set, starts, group)),
+        _ => Ok(holds_without_fault(alloc, set, starts, group)),
     }
 }
 
-fn is_right(alloc: Global, set: &mut FixedBitSet, starts: &Starts, group: Group) -> bool {
+// The groups in which no call answers a fault.
+fn holds_without_fault(
+    alloc: Global,
+    set: &mut FixedBitSet,
+    starts: &Starts,
+    group: Group,
+) -> bool {
     match group {
         Group::Looks => looks(alloc, set),
         Group::Positions => positions(set),
@@ -326,12 +332,12 @@ fn inclusive_counted(set: &FixedBitSet) -> bool {
 // The calls on two sets that leave the length of the first.
 fn lesser(set: &mut FixedBitSet, starts: &mut Starts) -> Result<bool, Fault> {
     *set &= starts.take_short()?;
-    are_made(set, &starts.short, &starts.long, LESSER)
+    make_changes(set, &starts.short, &starts.long, LESSER)
 }
 
 // The calls that move positions, and those on parts of a set.
 fn shifts(set: &mut FixedBitSet, starts: &Starts) -> Result<bool, Fault> {
-    let is_moved = are_made(set, &starts.short, &starts.long, SHIFTS)?;
+    let is_moved = make_changes(set, &starts.short, &starts.long, SHIFTS)?;
     Ok(is_moved && numbers(set))
 }
 
@@ -376,7 +382,8 @@ fn calls_counted(
     if !are_counted(short, long) || !are_found(short, long) {
         return Ok(false);
     }
-    Ok(are_made(set, short, long, COUNTED_LESSER)? && are_made(wide, short, long, COUNTED_JOINS)?)
+    let is_lessened = make_changes(set, short, long, COUNTED_LESSER)?;
+    Ok(is_lessened && make_changes(wide, short, long, COUNTED_JOINS)?)
 }
 
 fn are_counted(short: &FixedBitSet, long: &FixedBitSet) -> bool {
@@ -454,5 +461,5 @@ fn stops(set: &mut FixedBitSet) -> bool {
 // A long set joined with a short one.
 fn joins_in_place(starts: &mut Starts) -> Result<bool, Fault> {
     let mut set = starts.take_long()?;
-    are_made(&mut set, &starts.short, &starts.long, JOINS)
+    make_changes(&mut set, &starts.short, &starts.long, JOINS)
 }
