@@ -15,7 +15,7 @@ use std::alloc::Global;
 pub enum Call {
     Growing(Growing),
     Making(Making),
-    /// The line that is its name, which is read.
+    /// Reads a line. The name in the table is the line itself.
     Line,
     /// A data-flow problem, by its place.
     Problem(usize),
@@ -26,7 +26,7 @@ pub enum Call {
 }
 
 /// The calls that may be refused memory.
-pub const REFUSABLE: &[&[(&str, Call)]] = &[
+pub const REFUSABLE: &[&[(&str, Call)]; 4] = &[
     growing::CALLS,
     making::CALLS,
     making::LINES,
@@ -34,9 +34,9 @@ pub const REFUSABLE: &[&[(&str, Call)]] = &[
 ];
 
 /// The groups of calls that take none.
-pub const PLAIN: &[&[(&str, Call)]] = &[plain::GROUPS, walking::WALKS, OTHERS];
+pub const PLAIN: &[&[(&str, Call)]; 3] = &[plain::GROUPS, walking::WALKS, OTHERS];
 
-const OTHERS: &[(&str, Call)] = &[("words", Call::Words), ("lines", Call::Lines)];
+const OTHERS: &[(&str, Call); 2] = &[("words", Call::Words), ("lines", Call::Lines)];
 
 /// Makes the call, and answers whether it does what it does with ample memory.
 pub fn make(alloc: Global, starts: &mut Starts, name: &str, call: Call) -> Result<bool, Fault> {

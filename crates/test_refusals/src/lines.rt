@@ -1,11 +1,10 @@
 //! The commands that take no memory, as lines: each is read, carried out over two short sets, and
 //! its reply put behind an output that has room for it.
 
-use crate::making::line_read;
 use crate::outcome::Fault;
 use crate::starts::{LONG, Starts};
 use bitcommands::commands::{Command, apply};
-use bitlines::lines::parse_line;
+use bitlines::lines::{LineFault, parse_line};
 use bitlines::program::{RunFault, status};
 use std::alloc::{AllocError, Global};
 
@@ -111,7 +110,10 @@ fn are_statuses() -> bool {
 }
 
 fn is_no_command(alloc: Global, line: &str) -> bool {
-    matches!(line_read(alloc, line), Err(Fault::Other))
+    matches!(
+        parse_line(alloc, line.as_bytes()),
+        Err(LineFault::NotACommand)
+    )
 }
 
 fn is_replied(alloc: Global, starts: &mut Starts, line: &str, reply: &str) -> Result<bool, Fault> {

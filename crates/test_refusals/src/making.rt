@@ -34,7 +34,7 @@ pub enum Making {
     Run,
 }
 
-pub const CALLS: &[(&str, Call)] = &[
+pub const CALLS: &[(&str, Call); 20] = &[
     ("with_capacity", Call::Making(Making::WithCapacity)),
     (
         "with_capacity_and_blocks",
@@ -99,13 +99,18 @@ fn is_made(set: &FixedBitSet, call: Making) -> bool {
         Making::Clone => is_long(set),
         Making::Slice => is_value(set, 70, &[69]),
         Making::Bitand | Making::CountedBitand => is_value(set, 10, &[]),
-        _ => is_value(set, LONG, BOTH),
+        Making::Bitor | Making::Bitxor | Making::CountedBitor | Making::CountedBitxor => {
+            is_value(set, LONG, BOTH)
+        }
+        _ => false,
     }
 }
 
-fn make_set(alloc: Global, starts: &Starts, call: Making) -> Result<FixedBitSet, AllocError> {
+// Any call that has no arm here is wrong, and is not made.
+fn make_set(alloc: Global, starts: &Starts, call: Making) -> Result<FixedBitSet, Fault> {
     let (short, long) = (&starts.short, &starts.long);
-    match call {
+    let outcome: Result<FixedBitSet, AllocError> = match call {
+        Making::WithCapacity => FixedBitSet::with_capacity(alloc, LONG),
         Making::FromBytes => FixedBitSet::from_bytes(alloc, 10, &[8]),
         Making::Clone => long.clone(),
         Making::Slice if long.len() == LONG => long.slice(alloc, LONG - 70..),
@@ -115,8 +120,9 @@ fn make_set(alloc: Global, starts: &Starts, call: Making) -> Result<FixedBitSet,
         Making::CountedBitand => counted::bitand(long, short, &mut Steps::new()),
         Making::CountedBitor => counted::bitor(short, long, &mut Steps::new()),
         Making::CountedBitxor => counted::bitxor(short, long, &mut Steps::new()),
-        _ => FixedBitSet::with_capacity(alloc, LONG),
-    }
+        _ => return Err(Fault::Other),
+    };
+    Ok(outcome?)
 }
 
 fn items_made(alloc: Global) -> Result<bool, Fault> {
@@ -145,8 +151,14 @@ fn blocks_made(alloc: Global) -> Result<bool, Fault> {
     let mut lent = words.iter().copied();
     match FixedBitSet::with_capacity_and_blocks(alloc, LONG, lent.by_ref()) {
         Ok(set) => Ok(is_value(&set, LONG, SHORT)),
-        Err(fault) if lent.next() == Some(8) => Err(Fault::from(fault)),
-        Err(_) => Ok(false),
+        Err(fault) => {
+            let next = lent.next();
+            if next == Some(8) {
+                Err(Fault::from(fault))
+            } else {
+                Ok(false)
+            }
+        }
     }
 }
 
@@ -207,7 +219,7 @@ fn are_replies(replies: &[Reply]) -> bool {
 }
 
 /// One line of each command that holds a list or a JSON value.
-pub const LINES: &[(&str, Call)] = &[
+pub const LINES: &[(&str, Call); 10] = &[
     ("with_capacity_and_blocks 0 9 1", Call::Line),
     ("from_iter 0 1", Call::Line),
     ("from_value 0 [3,[5]]", Call::Line),

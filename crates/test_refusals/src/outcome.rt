@@ -48,7 +48,7 @@ impl From<LineFault> for Fault {
 }
 
 /// Counts the calls, and whether each of them did right.
-#[derive(Clone, Copy)]
+#[derive(Drop)]
 pub struct Tally {
     pub calls: usize,
     pub is_right: bool,

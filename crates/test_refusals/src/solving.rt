@@ -23,7 +23,7 @@ pub struct Problem {
 
 /// Facts along a loop of two nodes; a loop with no fact; an edge from a node to itself, twice;
 /// no facts; and no nodes.
-pub const PROBLEMS: &[Problem] = &[
+pub const PROBLEMS: &[Problem; 5] = &[
     Problem {
         facts: 3,
         edges: &[(0, 1), (1, 2), (2, 1), (1, 3)],
@@ -67,7 +67,7 @@ pub const PROBLEMS: &[Problem] = &[
 ];
 
 /// Each problem by its place in that list.
-pub const CALLS: &[(&str, Call)] = &[
+pub const CALLS: &[(&str, Call); 5] = &[
     ("solve of four nodes", Call::Problem(0)),
     ("solve of a loop", Call::Problem(1)),
     ("solve of one node", Call::Problem(2)),

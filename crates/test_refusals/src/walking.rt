@@ -17,7 +17,7 @@ pub enum Walk {
     LastBit,
 }
 
-pub const WALKS: &[(&str, Call)] = &[
+pub const WALKS: &[(&str, Call); 8] = &[
     ("ones", Call::Walk(Walk::Ones)),
     ("into_ones", Call::Walk(Walk::IntoOnes)),
     ("zeroes", Call::Walk(Walk::Zeroes)),
