@@ -124,9 +124,9 @@ def stored(crate, answers):
     path = "proofs/next/Answers.antt"
     if answers:
         crate.sources[path] = answers
-    crate.__dict__.pop("proofs", None)
+    [crate.__dict__.pop(name, None) for name in ("proofs", "folders")]
     try:
         yield
     finally:
         crate.sources.pop(path, None)
-        crate.__dict__.pop("proofs", None)
+        [crate.__dict__.pop(name, None) for name in ("proofs", "folders")]

@@ -1,4 +1,5 @@
 """The crates of crates.txt with their texts, and the edits of each: what an edit changes, and what rests on that."""
+import bisect
 import functools
 import os
 import pathlib
@@ -10,6 +11,8 @@ from . import goals, rattle, reach
 PARTS = ("src", "specs", "proofs")
 # A bound on the steps of a search, at its end.
 BOUND = re.compile(r"(?<=[\w)]) steps \d+\b")
+# The letter behind the slash: all names that begin with a folder's stand before the one that has it in place of the slash.
+AFTER_SLASH = chr(ord("/") + 1)
 
 
 class Project:
@@ -71,13 +74,19 @@ class Crate:
                 found.setdefault(os.path.dirname(path) + "/", []).append(path)
         return found
 
+    @functools.cached_property
+    def folders(self):
+        return sorted(self.proofs)
+
     def proof_of(self, function):
         """The files of the folder of proofs/ that is the function's."""
         place = f"/{function.symbol.replace('::', '/')}/"
         return [path for folder, files in self.proofs.items() if place in folder for path in files]
 
     def files_below(self, folder):
-        return [path for own, files in self.proofs.items() if own.startswith(folder) for path in files]
+        """The files of this folder of proofs/ and of those in it; its name ends with a slash."""
+        first, end = (bisect.bisect_left(self.folders, name) for name in (folder, folder[:-1] + AFTER_SLASH))
+        return [path for own in self.folders[first:end] for path in self.proofs[own]]
 
     @functools.cache
     def home_of(self, owner, module):

@@ -5,10 +5,13 @@ tactics before it says so, and checks each answer that is stored. So the file of
 `# goal: NAME`, and behind `# open: NAME ..` the others that the tactics leave open. `tools/mutants/edits --name` writes both lines.
 
 Where the crate stores an answer for the goal, a copy has no other answer of this function, and no tactic. So an error in the
-answer refuses the edit. A lemma that stands beside the answers may be named too. Else the tactics are asked for this goal, and the others that they leave open, or that have a stored
-answer, have a hole. A goal has the same statement in both, and no goal rests on the answer of another. So what refuses an edit
-in such a copy refuses it in one with all goals. Where the named goal does not, the edit is tried with all of them, so a line
-that fits no longer costs time, and changes no verdict.
+answer refuses the edit. A lemma that stands beside the answers may be named too. Else the tactics are asked for this goal, and
+the others that they leave open, or that have a stored answer, have a hole. A goal has the same statement in both, and no goal
+rests on the answer of another. So what refuses an edit in such a copy refuses it in one with all goals. Where the named goal
+does not, the edit is tried with all of them, so a line that fits no longer costs time, and changes no verdict.
+
+The tactics look for seconds, some for half a minute, before they leave a false goal open; a stored answer with a bound on its
+steps fails in less than one. So name a goal that has a stored answer where one refuses the edit.
 """
 import re
 

@@ -7,8 +7,8 @@ from concurrent.futures import FIRST_COMPLETED, ThreadPoolExecutor, wait
 from . import copies, naming, together, verdicts
 
 BAD = "BAD EDIT: a text behind 'old:' is not in its file exactly once"
-# The most edits of a round, and of the first one where no check of the crate left its work for it and there are more.
-MOST, MOST_AT_FIRST = 160, 30
+# The most edits of a round. (Two large rounds take less time than three.)
+MOST = 180
 # A crate that `rt ci` has proved is checked once more where it has more edits that each have a round of their own.
 ROUNDS_THAT_GAIN = 2
 
@@ -75,8 +75,7 @@ class Rounds:
         running = set()
         while left or running:
             while left and (has_work or not running):
-                fits = has_work or len(left) <= self.most
-                now = together.taken_together(left, self.most if fits else min(self.most, MOST_AT_FIRST))
+                now = together.taken_together(left, self.most)
                 left = [edit for edit in left if edit not in now]
                 running.add(self.submit(now, fills=not has_work))
             ended, running = wait(running, return_when=FIRST_COMPLETED)
