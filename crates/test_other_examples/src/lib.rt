@@ -1,8 +1,14 @@
 //! The examples in the docs of the public calls of the crates below a set and of those above it,
-//! as tests.
+//! as tests, but for those of laws that have something proved.
 //! tools/docs/make_examples writes each file of this crate.
 #![tactic(auto)]
 
+#[cfg(test)]
+mod bitlaws_laws;
+#[cfg(test)]
+mod bitranks_counted;
+#[cfg(test)]
+mod bitranks_laws;
 #[cfg(test)]
 mod bitwords_shifts;
 #[cfg(test)]
@@ -25,6 +31,8 @@ mod counted;
 mod counter;
 #[cfg(test)]
 mod cursors;
+#[cfg(test)]
+mod directory;
 #[cfg(test)]
 mod fault;
 #[cfg(test)]
@@ -50,6 +58,8 @@ mod ops;
 #[cfg(test)]
 mod pairs;
 #[cfg(test)]
+mod pieces;
+#[cfg(test)]
 mod positions;
 #[cfg(test)]
 mod program;
@@ -57,6 +67,8 @@ mod program;
 mod range;
 #[cfg(test)]
 mod ranges;
+#[cfg(test)]
+mod ranks;
 #[cfg(test)]
 mod runs;
 #[cfg(test)]

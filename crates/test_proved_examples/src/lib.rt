@@ -1,5 +1,5 @@
-//! The examples in the docs of the laws of sets, and of ranks with their laws, as tests, and the
-//! blocks of the documents.
+//! The examples in the docs of laws that have something proved, as tests, and the blocks of the
+//! documents.
 //! tools/docs/make_examples writes each file of this crate.
 #![tactic(auto)]
 
@@ -12,12 +12,4 @@ mod calling_3;
 #[cfg(test)]
 mod calls;
 #[cfg(test)]
-mod counted;
-#[cfg(test)]
-mod directory;
-#[cfg(test)]
 mod laws;
-#[cfg(test)]
-mod pieces;
-#[cfg(test)]
-mod ranks;
