@@ -1,4 +1,4 @@
-use Rattle.std.proofs.Common.{arith}
+use Rattle.std.proofs.Common.{arith, rules}
 use Rattle.std.proofs.lemmas.Grind.{common_steps}
 use Rattle.bitcommands.proofs.Runs.{Run_more}
 use Rattle.bitcommands.proofs.commands.run.Goals as goal
@@ -11,3 +11,6 @@ loop-command-preserved c = record {
   len = grind (arith, common_steps);
   room = omega arith;
 }
+
+pub loop-command-init : goal.loop-command-init
+loop-command-init c = search rules steps 300000

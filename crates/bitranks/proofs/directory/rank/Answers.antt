@@ -41,3 +41,6 @@ returns-clause-count c =
     c.ones_below.result c.loop-k.total c.loop-k.k
     c.loop-k.invariant.count (omega arith) c.min-at.ensures (not_zero _ (search rules)) c.min-below.ensures
     c.ones_below.ensures
+
+pub loop-k-init : goal.loop-k-init
+loop-k-init c = search rules steps 300000

@@ -2,4 +2,8 @@ use Rattle.std.proofs.Common.{arith}
 use Rattle.bits_c.proofs.handfuls.bits_intersection_take_back.Goals as goal
 
 pub returns : goal.returns
-returns c = record { answer = grind arith; written = grind arith; rest = grind arith }
+returns c = record {
+  answer = grind arith steps 100000;
+  written = grind arith steps 100000;
+  rest = grind arith steps 100000;
+}

@@ -1,5 +1,5 @@
+use Rattle.bitwords.proofs.Shared.{length_behind, shared_bit, own_shared, later_shared, none_shared, one_behind}
 use Rattle.std.proofs.Common.{◌+◌, ◌∙◌, ◌/◌, sym, rules, arith}
-use Rattle.bitwords.proofs.Shared.{shared_bit, own_shared, later_shared, none_shared, one_behind}
 use Rattle.bitwords.proofs.joins.next_common.Goals as goal
 
 pub overflow_add-result : goal.overflow_add-result
@@ -41,3 +41,9 @@ pub lowest_bit-requires-2 : goal.lowest_bit-requires-2
 lowest_bit-requires-2 c =
     λ zero. one_behind c.args.a.now c.args.b.now (λ k. search rules) (λ k. search rules) (c.args.from / 64 + 1)
     c.in_ok-place.place c.in_ok-place.ensures.found (sym c.word-2.ensures ∙ zero)
+
+pub returns-in_err-place-clause-exact_if_none : goal.returns-in_err-place-clause-exact_if_none
+returns-in_err-place-clause-exact_if_none c = search (rules, length_behind) steps 800000
+
+pub returns-clause-cost : goal.returns-clause-cost
+returns-clause-cost c = search (rules, length_behind) steps 800000

@@ -69,3 +69,6 @@ returns-then-rest-ne0-clause-cost g c =
 
 pub returns-then-rest-ne0-clause-bound : goal.returns-then-rest-ne0-clause-bound
 returns-then-rest-ne0-clause-bound g c = omega arith
+
+pub returns-in_err-at-clause-missed : goal.returns-in_err-at-clause-missed
+returns-in_err-at-clause-missed g c = search rules steps 300000

@@ -37,3 +37,6 @@ returns-clause-bound g c = omega (arith, c.in_ok-at.ensures.cost)
 
 pub returns-in_err-last-clause-empty : goal.returns-in_err-last-clause-empty
 returns-in_err-last-clause-empty g c = search rules steps 100000
+
+pub returns-in_err-at-clause-missed : goal.returns-in_err-at-clause-missed
+returns-in_err-at-clause-missed g c = search rules steps 300000

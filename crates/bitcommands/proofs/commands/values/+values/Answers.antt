@@ -71,7 +71,8 @@ write_members-loop-key-preserved g t c = λ none plain.
         plain = value.plain;
         ends = λ h rest.
             left.1.ends h
-            (put_three _ _ _ _ _ _ _ _ _ key value rest (keyed _ (compact_text (string c.as_str.result.now)) (compact_text (view c.in-Some.member.now))
+            (put_three _ _ _ _ _ _ _ _ _ key value rest
+            (keyed _ (compact_text (string c.as_str.result.now)) (compact_text (view c.in-Some.member.now))
             (members_text true (members_view c.next.new.self)) ∙ sym (ap (members_text l.later) here)));
       },
     )

@@ -1,5 +1,5 @@
+use Rattle.fixedbitset.proofs.Words.{viewed_length, given_back, changed_clean, changed_value}
 use Rattle.std.proofs.Common.{rules, ◌∙◌}
-use Rattle.fixedbitset.proofs.Words.{changed_clean, changed_value}
 use Rattle.fixedbitset.proofs.counted.changes.intersect_with_change.Goals as goal
 
 pub invariant_of-set : goal.invariant_of-set
@@ -10,3 +10,6 @@ pub returns-clause-value : goal.returns-clause-value
 returns-clause-value c =
     changed_value c.set.inside.words _ _ _ _ c.set.invariant c.intersect_with_change.ensures.value (search rules)
     ∙ (search rules)
+
+pub returns-clause-changed : goal.returns-clause-changed
+returns-clause-changed c = search (rules, given_back, viewed_length) steps 300000

@@ -8,4 +8,5 @@ invariant_of-set g c =
 
 pub returns-clause-value : goal.returns-clause-value
 returns-clause-value g c =
-    changed_value c.set.inside.words _ _ _ _ c.set.invariant c.copy_range.ensures.value (search rules) ∙ (search rules)
+    changed_value c.set.inside.words _ _ _ _ c.set.invariant c.copy_range.ensures.value (search rules)
+    ∙ (search rules steps 2000000)

@@ -8,4 +8,5 @@ invariant_of-set c =
 
 pub returns-clause-value : goal.returns-clause-value
 returns-clause-value c =
-    changed_value c.set.inside.words _ _ _ _ c.set.invariant c.shift_down.ensures.value (search rules) ∙ (search rules)
+    changed_value c.set.inside.words _ _ _ _ c.set.invariant c.shift_down.ensures.value (search rules)
+    ∙ (search rules steps 800000)

@@ -5,7 +5,7 @@ use Rattle.fixedbitset.proofs.set.FixedBitSet.clear.Goals as goal
 
 pub invariant_of-self : goal.invariant_of-self
 invariant_of-self c =
-    changed_clean c.self.inside.words _ _ _ _ c.self.invariant c.clear.ensures.value (search rules)
+    changed_clean c.self.inside.words _ _ _ _ c.self.invariant c.clear.ensures.value (search rules steps 100000)
 
 pub returns : goal.returns
 returns c =

@@ -24,7 +24,7 @@ returns-clause-cost c =
     rw (← needed) c.tick_lanes.ensures
 
 pub invariant_of-self-2 : goal.invariant_of-self-2
-invariant_of-self-2 c = grind arith
+invariant_of-self-2 c = grind arith steps 100000
 
 pub returns-clause-ok : goal.returns-clause-ok
 returns-clause-ok c = grind arith

@@ -5,12 +5,12 @@ use Rattle.fixedbitset.proofs.set.FixedBitSet.extend.Goals as goal
 
 pub loop-item-preserved : goal.loop-item-preserved
 loop-item-preserved g c = record {
-  added = grind (arith, add_all-last);
-  positions = All-push (λ item. item < 2 ^ 64 - 1) _ _ c.loop-item.invariant.positions (search rules);
+  added = grind (arith, add_all-last) steps 100000;
+  positions = All-push (λ item. item < 2 ^ 64 - 1) _ _ c.loop-item.invariant.positions (search rules steps 800000);
 }
 
 pub returns-in_err-add_item : goal.returns-in_err-add_item
-returns-in_err-add_item g c = grind arith
+returns-in_err-add_item g c = grind arith steps 100000
 
 pub returns : goal.returns
 returns g c = grind arith

@@ -7,8 +7,8 @@ returns-in_err-extend g c =
       it,
       c.extend.new.self,
       becomes,
-      record { taken = run.taken; positions = run.positions; added = cc; next = search rules },
-      search rules,
+      record { taken = run.taken; positions = run.positions; added = cc; next = search rules steps 800000 },
+      search rules steps 800000,
     )
 
 pub returns : goal.returns

@@ -8,4 +8,5 @@ invariant_of-self c =
 
 pub returns : goal.returns
 returns c =
-    changed_value c.self.inside.words _ _ _ _ c.self.invariant c.set_block.ensures (search rules) ∙ (search rules)
+    changed_value c.self.inside.words _ _ _ _ c.self.invariant c.set_block.ensures (search rules)
+    ∙ (search rules steps 800000)

@@ -9,7 +9,7 @@ use Rattle.fixedbitset.proofs.set.FixedBitSet.with_capacity_and_blocks.Goals as 
 pub invariant_of-result : goal.invariant_of-result
 invariant_of-result g c =
     let words = c.in_ok-words.words in
-    let long : length c.fill.new.words ≡ words.len = search rules in
+    let long : length c.fill.new.words ≡ words.len = search rules steps 100000 in
     let needed : words.len ≡ storage_words c.args.bits = c.in_ok-words.ensures.len ∙ c.storage_words.ensures in
     let filled = with_items_is words c.fill.new.words long in
     let done = rw (c.deref_mut-2.ensures.value, filled) at c.clear_from.ensures in
@@ -19,9 +19,9 @@ invariant_of-result g c =
 pub returns : goal.returns
 returns g c =
     let words = c.in_ok-words.words in
-    let long : length c.fill.new.words ≡ words.len = search rules in
+    let long : length c.fill.new.words ≡ words.len = search rules steps 100000 in
     let needed : words.len ≡ storage_words c.args.bits = c.in_ok-words.ensures.len ∙ c.storage_words.ensures in
-    let made : c.deref_mut.result.now ≡ zeros (storage_words c.args.bits) = search rules in
+    let made : c.deref_mut.result.now ≡ zeros (storage_words c.args.bits) = search rules steps 800000 in
     let filled = with_items_is words c.fill.new.words long in
     let done = rw (c.deref_mut-2.ensures.value, filled) at c.clear_from.ensures in
     let run = c.fill.ensures in

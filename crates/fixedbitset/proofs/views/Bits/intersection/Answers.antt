@@ -60,7 +60,7 @@ returns-clause-items c =
       contains-intersection v w p,
       contains-past v p,
       contains-past w p,
-    )))
+    ) steps 100000))
 
 pub returns-clause-words : goal.returns-clause-words
 returns-clause-words c =

@@ -18,6 +18,6 @@ loop-position-preserved c =
     remove v item) c.loop-position.invariant.value ∙ sym (remove_all-last old (take index items) item)
     ∙ ap (remove_all old) (sym (take_more items index 0 c.loop-position-test.true)) in
     record {
-      value = grind (arith, more);
-      clean = search rules;
+      value = grind (arith, more) steps 100000;
+      clean = search rules steps 100000;
     }

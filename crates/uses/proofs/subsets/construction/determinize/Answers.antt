@@ -1,4 +1,4 @@
-use Rattle.std.proofs.Common.{◌≡◌, ◌∙◌, ◌*◌, ◌<◌, List, length, not, sym, ap, subst, arith}
+use Rattle.std.proofs.Common.{◌≡◌, ◌∙◌, ◌*◌, ◌<◌, List, length, not, sym, ap, subst, arith, rules}
 use Rattle.std.proofs.lemmas.List.{length_push, get_or_read}
 use Rattle.fixedbitset.specs.Bits.{Bits, empty}
 use Rattle.fixedbitset.specs.TwoSets.{is_disjoint}
@@ -122,3 +122,6 @@ returns-clause-useful c s s_in =
     let within = end.within in
     let last : c.states.state ≡ length sets = omega arith in
     useful nfa sets c.states.next.items end.part (end.place ∙ ap (λ n. n * nfa.letters) last) s s_in
+
+pub states-init : goal.states-init
+states-init c = search rules steps 2000000

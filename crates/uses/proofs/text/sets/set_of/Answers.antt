@@ -1,7 +1,7 @@
-use Rattle.std.proofs.Common.{◌<◌, take, get_or}
+use Rattle.uses.proofs.Members.{no_members, members_more}
+use Rattle.std.proofs.Common.{◌<◌, take, get_or, rules}
 use Rattle.std.proofs.lemmas.List.{take_more}
 use Rattle.std.proofs.lemmas.List.Elements.{All-push}
-use Rattle.uses.proofs.Members.{members_more}
 use Rattle.uses.proofs.text.sets.set_of.Goals as goal
 
 pub loop-position-preserved : goal.loop-position-preserved
@@ -17,3 +17,6 @@ loop-position-preserved c =
           rw c.insert.ensures (members_more c.args.length positions i c.loop-position.set c.loop-position-test.true
           c.if-position-length.false before.set);
     }
+
+pub returns-then-position-length : goal.returns-then-position-length
+returns-then-position-length c = search (rules, no_members) steps 300000
