@@ -332,7 +332,7 @@ static void walks(void) {
 static void handfuls(void) {
     enum { LENGTH = 3000 };
     uint64_t words[BITS_WORDS(LENGTH)] = {0};
-    size_t wanted[2][LENGTH], many[2] = {0, 0}, taken[LENGTH + 8];
+    size_t wanted[2][LENGTH], many[2] = {0, 0}, taken[LENGTH + 8], untaken[LENGTH + 8];
     bits set = {words, BITS_WORDS(LENGTH), LENGTH};
     for (size_t p = 0; p < LENGTH; p++) {
         const bool is_set = p / 600 % 2 ? p % 97 == 0 : p * p % 11 < 4;
@@ -340,17 +340,18 @@ static void handfuls(void) {
             bits_insert(&set, p);
         wanted[is_set][many[is_set]++] = p;
     }
+    memset(taken, 255, sizeof taken);
+    memset(untaken, 255, sizeof untaken);
     for (size_t room = 1; room <= LENGTH; room += room < 150 ? 1 : 149)
         for (int is_set = 0; is_set < 2; is_set++) {
             bits_walk walk = BITS_WALK;
             (is_set ? bits_ones : bits_zeroes)(&walk, &set);
             for (size_t done = 0; done <= many[is_set]; done += room) {
                 const size_t left = many[is_set] - done, had = room < left ? room : left;
-                memset(taken, 255, sizeof taken);
                 assert((is_set ? bits_ones_take : bits_zeroes_take)(&walk, taken, room) == had);
                 assert(!memcmp(taken, wanted[is_set] + done, had * sizeof *taken));
-                for (size_t k = had; k < LENGTH + 8; k++)
-                    assert(taken[k] == SIZE_MAX);
+                assert(!memcmp(taken + had, untaken + had, sizeof taken - had * sizeof *taken));
+                memset(taken, 255, had * sizeof *taken);
             }
         }
 }
@@ -360,7 +361,9 @@ static void handfuls(void) {
 static void handfuls_of_32_bits(void) {
     enum { MOST = 2600 };
     static size_t wide[MOST + 1];
-    static uint32_t narrow[MOST + 1];
+    static uint32_t narrow[MOST + 1], untaken[MOST + 1];
+    memset(narrow, 255, sizeof narrow);
+    memset(untaken, 255, sizeof untaken);
     for (size_t length = 0; length <= MOST; length += length < 200 ? 1 : 150) {
         bits set = empty(length);
         for (size_t p = 0; p < length; p++)
@@ -373,10 +376,11 @@ static void handfuls_of_32_bits(void) {
             bits_ones(&other, &set);
             for (size_t turn = 0, had = 1; had > 0; turn++) {
                 had = bits_ones_take(&one, wide, room);
-                memset(narrow, 255, sizeof narrow);
                 assert(bits_ones_take_u32(&other, narrow, room) == had);
-                for (size_t k = 0; k <= MOST; k++)
-                    assert(narrow[k] == (k < had ? wide[k] : UINT32_MAX));
+                for (size_t k = 0; k < had; k++)
+                    assert(narrow[k] == wide[k]);
+                assert(!memcmp(narrow + had, untaken + had, sizeof narrow - had * sizeof *narrow));
+                memset(narrow, 255, had * sizeof *narrow);
                 if (turn % 3 == 1)
                     assert(bits_ones_next(&one, &first) == bits_ones_next(&other, &same) && first == same);
                 same = last;

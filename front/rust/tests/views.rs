@@ -306,7 +306,7 @@ fn counts_and_tests_of_two_sets_are_those_of_the_flags() {
         assert_eq!(set.is_superset(second), lacking.is_empty());
         assert_eq!(set.first_lacking(second), lacking.first().copied());
         for from in (0..one.len() + 2).chain([usize::MAX]) {
-            let next = shared.iter().find(|at| **at >= from).copied();
+            let next = shared.get(shared.partition_point(|at| *at < from)).copied();
             assert_eq!(set.next_common(second, from), next);
         }
     }
