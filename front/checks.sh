@@ -1,4 +1,4 @@
-# What front/test and front/c/test share: counts of checks. They set `folder`, a folder of their own, and may set `first`, with
+# What the tests of the fronts share: counts of checks. A test sets `folder`, a folder of its own, and may set `first`, with
 # which the first check that fails is the last.
 passed=0 failed=0 first=
 

@@ -102,24 +102,31 @@ class Plan:
         return Stage("wrong bodies", ("tools/mutants/edits", *words, *names), keeps=True)
 
     def fronts(self):
-        """What stands above the static library and is no Rattle."""
+        """What stands above the static library and is no Rattle, and rests on no work of a proof."""
         library = self.sources("bits_c", parts=("src", "specs", "proofs"))
         gcc = [f"{it}-linux-gnu-gcc" for it in ("aarch64", "i686", "s390x")]
         qemu = ("qemu-aarch64-static", "qemu-s390x-static")
         inputs = ("front", "tools/docs/make_api", "tools/calls.py", "tools/kept.py", *library)
         front = Stage("the crate for Rust and the header for C", ("front/test",), inputs, (*MAKERS, "cmake", "dpkg-deb", *gcc, *qemu), ("README.md",))
-        server = ("pg_config", "postgres", "psql", *MAKERS)
-        inputs = ("front/postgres", "front/lib", "front/c", "front/rust/src")
-        postgres = Stage("the type for PostgreSQL", ("front/postgres/test",), inputs, server, ("README.md",))
         crate = ("front/rust", "front/differ", "front/registry", "front/compilers")
         emulators = (*qemu, "wasm-ld", "node", "cargo", "rustc", "cc", *gcc)
         others = ("front/targets", "front/wrong", "front/wrong_lines", "tools/kept.py")
         targets = Stage("the crate on other targets", ("front/targets",), (*crate, *others), emulators)
         client = Stage("petgraph over the crate", ("front/client",), (*crate, "front/client", "front/rustdoc"), ("cargo", "rustc", "cc"))
+        return [front, targets, client] if self.has("bits_c") else []
+
+    def libraries(self):
+        """What is built of the static library over the work of the proofs, and the type for PostgreSQL: some of its tests end
+        calls by the clock, and want a processor of their own."""
+        library = self.sources("bits_c", parts=("src", "specs", "proofs"))
+        archives = Stage("the archives for C", ("front/lib/test",), ("front/lib", "front/archive", "front/checks.sh", "front/c", *library), ("cc",))
+        server = ("pg_config", "postgres", "psql", *MAKERS)
+        inputs = ("front/postgres", "front/lib", "front/c", "front/rust/src")
+        postgres = Stage("the type for PostgreSQL", ("front/postgres/test",), inputs, server, ("README.md",))
         glue = ("front/wasm", "front/wrong", "front/wrong_lines", "front/checks.sh", "tools/kept.py")
         made = ("front/archive", "front/compilers", "front/c/bits.h", "front/c/source", "front/rust/src", *library)
         browsers = Stage("sets in a browser and in Node", ("front/wasm/test",), (*glue, *made), ("node", "wasm-ld", "chromium", "python3"))
-        return [front, postgres, targets, client, browsers] if self.has("bits_c") else []
+        return [archives, postgres, browsers] if self.has("bits_c") else []
 
     def last(self):
         """What runs the programs."""
