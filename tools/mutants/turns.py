@@ -14,6 +14,9 @@ import tempfile
 import threading
 import time
 
+# The seconds between two looks at what runs here. A look reads a file for each thread, and takes some 20 ms of a processor.
+SECONDS = 4
+
 
 class Processes:
     """The processes that run for us, and the folder that has all their files. Neither is left where we are told to end."""
@@ -69,7 +72,7 @@ class Turns(Processes):
     def begin(self, words, folder):
         with self.starting:
             while self.free() <= len(self.ours):
-                time.sleep(1)
+                time.sleep(SECONDS)
             return super().begin(words, folder)
 
     def free(self):
@@ -78,7 +81,7 @@ class Turns(Processes):
 
     def give_way(self):
         while os.getppid() == self.parent:
-            time.sleep(2)
+            time.sleep(SECONDS)
             free = self.free() if self.ours else 0
             for place, process in enumerate(list(self.ours)):
                 process.send_signal(signal.SIGCONT if place < free else signal.SIGSTOP)

@@ -10,8 +10,8 @@ the others that they leave open, or that have a stored answer, have a hole. A go
 rests on the answer of another. So what refuses an edit in such a copy refuses it in one with all goals. Where the named goal
 does not, the edit is tried with all of them, so a line that fits no longer costs time, and changes no verdict.
 
-The tactics look for seconds, some for half a minute, before they leave a false goal open; a stored answer with a bound on its
-steps fails in less than one. So name a goal that has a stored answer where one refuses the edit.
+The tactics look for seconds, some for half a minute, before they leave a false goal open; a stored answer with a bound of
+300,000 steps fails in less than one. So name a goal that has a stored answer where one refuses the edit.
 """
 import re
 

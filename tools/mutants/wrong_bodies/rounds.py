@@ -7,7 +7,7 @@ from concurrent.futures import FIRST_COMPLETED, ThreadPoolExecutor, wait
 from . import copies, naming, together, verdicts
 
 BAD = "BAD EDIT: a text behind 'old:' is not in its file exactly once"
-# The most edits of a round. (Two large rounds take less time than three.)
+# The most edits of a round.
 MOST = 180
 # A crate that `rt ci` has proved is checked once more where it has more edits that each have a round of their own.
 ROUNDS_THAT_GAIN = 2
@@ -57,7 +57,7 @@ class Beside:
     def proves(self, crate):
         """Waits until it has told of the crate, or has ended, and answers whether the crate is proved."""
         while (said := self.says(crate)) is None:
-            time.sleep(1)
+            time.sleep(4)
         return said
 
 
