@@ -16,4 +16,6 @@ mod sessions;
 #[cfg(test)]
 mod set_sessions;
 #[cfg(test)]
+mod slow;
+#[cfg(test)]
 mod walk_sessions;

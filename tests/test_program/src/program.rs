@@ -208,7 +208,8 @@ fn each_input_of_one_byte(rt: HostRuntime) -> Result<(), Fail> {
 
 #[test]
 fn a_line_of_a_million_bytes(rt: HostRuntime) -> Result<(), Fail> {
-    let mut input = vec![in rt.alloc(); b'7'; 1_000_000]?;
+    let mut input = Vec::new(rt.alloc());
+    input.resize(1_000_000, b'7')?;
     input.extend_from_slice("\nlen 0".as_bytes())?;
     let written = output_of(rt.alloc(), input.as_slice())?;
     assert_eq!(rt; written.as_slice(), "F8 not a command\n0\n".as_bytes());

@@ -1,6 +1,7 @@
 //! Sets that grow by the items that come: worked values, a sweep beside slow values, faults with their texts, and how many
 //! items are asked for.
 
+use crate::slow::Slow;
 use fixedbitset::{ExtendFault, FixedBitSet};
 use std::alloc::{AllocError, Global};
 use std::process::Abort;
@@ -93,13 +94,13 @@ fn items_with_repeats_are_added(rt: HostRuntime) -> Result<(), Fail> {
 fn one_position_is_added(rt: HostRuntime) -> Result<(), Fail> {
     for length in 0..131 {
         let fifths = multiples(rt.alloc(), length, 5)?;
-        let whole = filled(rt.alloc(), &fifths)?;
+        let (slow, whole) = (Slow::of(&fifths), filled(rt.alloc(), &fifths)?);
         for position in 0..131 {
-            let mut flags = fifths.to_vec(rt.alloc())?;
             let mut set = whole.clone()?;
             set.grow_and_insert(position)?;
-            add(&mut flags, position)?;
-            assert!(rt; is_same(&set, &flags), "{position} added to {length}");
+            let mut wanted = slow.resized(length.max(position + 1), false);
+            wanted.set(position, true);
+            assert!(rt; wanted.is_at_each(&set), "{position} added to {length}");
         }
     }
     Ok(())

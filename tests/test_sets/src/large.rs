@@ -4,7 +4,8 @@ use fixedbitset::{Block, FixedBitSet};
 use std::mem::ManuallyDrop;
 use std::test::Fail;
 
-// More than 2 to the 32 positions, which take 512 MiB.
+// More than 2 to the 32 positions, which take 512 MiB. To drop a set drops its words one by one, which takes as long as the
+// calls, so these tests leave their sets.
 const MANY: usize = (1 << 32) + 1;
 
 #[test]
@@ -14,7 +15,6 @@ fn a_set_of_more_than_four_billion_positions(rt: HostRuntime) -> Result<(), Fail
     assert!(rt; MANY > 4_000_000_000);
     set.insert(MANY - 1);
     assert!(rt; set.contains(MANY - 1));
-    // (its words are dropped one by one, which takes as long, and so does the next test)
     let _ = ManuallyDrop::new(set);
     Ok(())
 }
@@ -27,6 +27,7 @@ fn a_set_grows_past_four_billion_positions(rt: HostRuntime) -> Result<(), Fail> 
     let mut set = FixedBitSet::from_iter(rt.alloc(), [69]).expect(&rt, "memory for two words");
     set.grow(MANY)?;
     assert!(rt; set.len() == MANY && set.contains(69) && !set.contains(MANY - 1));
+    let _ = ManuallyDrop::new(set);
     Ok(())
 }
 
@@ -43,6 +44,7 @@ fn a_set_is_long_enough_for_a_far_position(rt: HostRuntime) -> Result<(), Fail> 
     set.resize(3 * LARGE, true)?;
     assert_eq!(rt; set.len(), 3 * LARGE);
     assert_eq!(rt; set.count_ones(..), LARGE + 1);
+    let _ = ManuallyDrop::new((made, set));
     Ok(())
 }
 
@@ -53,6 +55,7 @@ fn a_large_set_is_made_of_words(rt: HostRuntime) -> Result<(), Fail> {
     let set = FixedBitSet::with_capacity_and_blocks(rt.alloc(), LARGE, blocks)?;
     assert_eq!(rt; set.len(), LARGE);
     assert!(rt; set.ones().eq([64 * (words - 1)]));
+    let _ = ManuallyDrop::new(set);
     Ok(())
 }
 
@@ -73,6 +76,7 @@ fn a_large_part_is_cut_out_and_put_behind(rt: HostRuntime) -> Result<(), Fail> {
     assert_eq!(rt; all.len(), LARGE + 3);
     assert!(rt; all.contains(3) && all.contains(LARGE + 2));
     assert_eq!(rt; all.count_ones(..), 2);
+    let _ = ManuallyDrop::new((set, part, all));
     Ok(())
 }
 
@@ -85,6 +89,7 @@ fn a_large_set_goes_into_bytes_and_back(rt: HostRuntime) -> Result<(), Fail> {
     assert_eq!(rt; bytes.len(), 8 * set.as_slice().len());
     let again = FixedBitSet::from_bytes(rt.alloc(), LARGE, &bytes)?;
     assert!(rt; again == set);
+    let _ = ManuallyDrop::new((set, bytes, again));
     Ok(())
 }
 
@@ -98,6 +103,7 @@ fn a_large_set_is_copied(rt: HostRuntime) -> Result<(), Fail> {
     copy.clear();
     copy.clone_from(&set)?;
     assert!(rt; copy == set);
+    let _ = ManuallyDrop::new((set, copy));
     Ok(())
 }
 
@@ -107,7 +113,13 @@ fn a_large_set_has_a_text(rt: HostRuntime) -> Result<(), Fail> {
     set.insert_range(..);
     let text = set.to_string(rt.alloc())?;
     assert_eq!(rt; text.len(), 10_000_000);
-    assert!(rt; text.as_bytes().iter().all(|character| *character == b'1'));
+    let mut ones = String::from_str(rt.alloc(), "1")?;
+    while ones.len() < text.len() {
+        let half = String::from_str(rt.alloc(), &ones)?;
+        ones.push_str(&half)?;
+    }
+    assert!(rt; text.as_str() == &ones[..text.len()]);
+    let _ = ManuallyDrop::new((text, ones));
     Ok(())
 }
 
@@ -118,5 +130,6 @@ fn a_large_set_is_read_back(rt: HostRuntime) -> Result<(), Fail> {
     let value = set.to_value(rt.alloc())?;
     let again = FixedBitSet::from_value(rt.alloc(), &value)?;
     assert!(rt; again == set);
+    let _ = ManuallyDrop::new((value, again));
     Ok(())
 }

@@ -26,6 +26,8 @@ mod questions;
 #[cfg(test)]
 mod ranges;
 #[cfg(test)]
+mod slow;
+#[cfg(test)]
 mod spans;
 #[cfg(test)]
 mod values;

@@ -1,6 +1,7 @@
 //! Sets made of words and as copies, words and whole sets written anew: worked values, sweeps beside slow values, and how
 //! many items are asked for.
 
+use crate::slow::Slow;
 use fixedbitset::{Block, FixedBitSet};
 use std::alloc::{AllocError, Global};
 use std::process::Abort;
@@ -132,17 +133,18 @@ fn a_copy_of_a_shorter_set_leaves_nothing_behind(rt: HostRuntime) -> Result<(), 
     Ok(())
 }
 
-// The calls copy the second slow value over the set of the first, and clear the copy.
+// The calls copy the second slow value over the set of the first, which is asked for each position, and clear the copy.
 fn assert_copies(rt: &impl Abort, alloc: Global, a: &[bool], b: &[bool]) -> Result<(), AllocError> {
     let source = filled(alloc, b)?;
     let mut set = filled(alloc, a)?;
+    let wanted = Slow::of(b);
     set.clone_from(&source)?;
-    assert!(rt; is_same(&set, b), "{} over {}", b.len(), a.len());
+    assert!(rt; wanted.is_at_each(&set), "{} over {}", b.len(), a.len());
     let mut copy = source.clone()?;
-    assert!(rt; is_same(&copy, b), "copy of {}", b.len());
+    assert!(rt; wanted.is(&copy), "copy of {}", b.len());
     copy.clear();
     assert!(rt; copy.len() == b.len() && copy.is_clear());
-    assert!(rt; is_same(&source, b));
+    assert!(rt; wanted.is(&source));
     Ok(())
 }
 

@@ -1,6 +1,7 @@
 //! Shifts and parts at every length up to 200, beside slow values.
 
 use crate::questions::fillings;
+use crate::slow::Slow;
 use bitlanes::word::{BITS, Block};
 use fixedbitset::FixedBitSet;
 use std::alloc::{AllocError, Global};
@@ -32,33 +33,33 @@ fn is_above(flags: &[bool], by: usize, position: usize) -> bool {
     }
 }
 
-fn slow_moved(
-    alloc: Global,
-    flags: &[bool],
-    call: Move,
-    by: usize,
-) -> Result<Vec<bool>, AllocError> {
-    let mut new = Vec::new(alloc);
-    for position in 0..flags.len() {
-        let above = position.saturating_add(by);
-        new.push(match call {
-            Move::Up => is_above(flags, by, position),
-            Move::Down => above < flags.len() && flags[above],
-            Move::WithOwn => flags[position] || is_above(flags, by, position),
-        })?;
+fn slow_moved(slow: &Slow, call: Move, by: usize) -> Slow {
+    let mut new = *slow;
+    for position in 0..slow.length {
+        let is_above = by <= position && slow.has(position - by);
+        new.set(
+            position,
+            match call {
+                Move::Up => is_above,
+                Move::Down => slow.has(position.saturating_add(by)),
+                Move::WithOwn => is_above || slow.has(position),
+            },
+        );
     }
-    Ok(new)
+    new
 }
 
 fn assert_moved(rt: &impl Abort, alloc: Global, flags: &[bool]) -> Result<(), AllocError> {
-    let whole = filled(alloc, flags)?;
+    let (whole, slow) = (filled(alloc, flags)?, Slow::of(flags));
+    let mut last = slow;
+    assert!(rt; slow.is_at_each(&whole));
     for call in [Move::Up, Move::Down, Move::WithOwn] {
         for by in [0, 1, 63, 64, 65, 127, 130, 256, usize::MAX] {
             let mut set = whole.clone()?;
             moved(&mut set, call, by);
-            let wanted = slow_moved(alloc, flags, call, by)?;
+            let wanted = slow_moved(&slow, call, by);
             assert!(rt;
-                is_same(&set, &wanted),
+                wanted.is_at_each_anew(&mut last, &set),
                 "{call:?} by {by} at {}",
                 flags.len()
             );
@@ -117,17 +118,24 @@ fn assert_same(rt: &impl Abort, set: &FixedBitSet, flags: &[bool], case: &str, n
     );
 }
 
+// A set that is put together again is the one that was cut, which is asked for each position.
 fn assert_cut(rt: &impl Abort, alloc: Global, flags: &[bool]) -> Result<(), AllocError> {
-    let set = filled(alloc, flags)?;
+    let (set, whole) = (filled(alloc, flags)?, Slow::of(flags));
+    assert!(rt; whole.is_at_each(&set));
     for cut in [0, 1, 63, 64, 65, 127, 128, 129] {
         if cut <= flags.len() && cut <= set.len() {
             let mut first = set.slice(alloc, ..cut)?;
             let second = set.slice(alloc, cut..)?;
-            assert_same(rt, &first, &flags[..cut], "to", cut);
-            assert_same(rt, &second, &flags[cut..], "from", cut);
+            let are_parts = Slow::of(&flags[..cut]).is_at_each(&first)
+                && Slow::of(&flags[cut..]).is_at_each(&second);
+            assert!(rt; are_parts, "{} flags cut at {cut}", flags.len());
             if first.len() <= 200 && second.len() <= 200 {
                 first.append(&second)?;
-                assert_same(rt, &first, flags, "put together at", cut);
+                assert!(rt;
+                    whole.is(&first),
+                    "{} flags put together at {cut}",
+                    flags.len()
+                );
             }
         }
     }
@@ -261,22 +269,24 @@ fn long_ranges_are_copied(rt: HostRuntime) -> Result<(), Fail> {
     Ok(())
 }
 
-// The parts of a set that is cut, copied back to where they stood: in an empty set, and in the set itself.
+// The parts of a set that is cut, copied back to where they stood: in an empty set, and in the set itself. Each makes the set
+// that was cut, which is asked for each position.
 fn assert_copied_back(rt: &impl Abort, alloc: Global, flags: &[bool]) -> Result<(), AllocError> {
-    let set = filled(alloc, flags)?;
+    let (set, whole) = (filled(alloc, flags)?, Slow::of(flags));
+    assert!(rt; whole.is_at_each(&set));
     for cut in [0, 1, 63, 64, 65, 127, 128, 129] {
         if cut <= set.len() {
             let (first, second) = (set.slice(alloc, ..cut)?, set.slice(alloc, cut..)?);
             assert!(rt; first.len() == cut && second.len() == set.len() - cut);
-            let mut new = filled(alloc, flags)?;
+            let mut new = set.clone()?;
             new.copy_range(&first, .., 0);
-            assert_same(rt, &new, flags, "copied up to", cut);
+            assert!(rt; whole.is(&new), "{} flags copied up to {cut}", flags.len());
             new.clear();
             assert!(rt; new.len() == set.len());
             new.copy_range(&second, .., cut);
             assert!(rt; new.len() == set.len());
             new.copy_range(&first, .., 0);
-            assert_same(rt, &new, flags, "copied at", cut);
+            assert!(rt; whole.is(&new), "{} flags copied at {cut}", flags.len());
         }
     }
     Ok(())
@@ -367,22 +377,19 @@ fn lists_of_positions(rt: HostRuntime) -> Result<(), Fail> {
 }
 
 fn assert_resized(rt: &impl Abort, alloc: Global, flags: &[bool]) -> Result<(), AllocError> {
-    let whole = filled(alloc, flags)?;
-    for bits in [0, 1, 63, 64, 65, 128, 200] {
-        for enabled in [false, true] {
-            let mut wanted = Vec::new(alloc);
-            for position in 0..bits {
-                wanted.push(if position < flags.len() {
-                    flags[position]
-                } else {
-                    enabled
-                })?;
-            }
+    let (whole, slow) = (filled(alloc, flags)?, Slow::of(flags));
+    let mut last = Slow::of(&[]);
+    for enabled in [false, true] {
+        for bits in [0, 1, 63, 64, 65, 128, 200] {
+            let wanted = slow.resized(bits, enabled);
             let mut set = whole.clone()?;
             set.resize(bits, enabled)?;
-            assert_same(rt, &set, &wanted, "resized from", flags.len());
+            let is_resized = wanted.is_at_each(&set);
+            assert!(rt; is_resized, "{} flags resized to {bits}", flags.len());
             set.truncate(64);
-            assert_same(rt, &set, &wanted[..wanted.len().min(64)], "cut from", bits);
+            let wanted = wanted.resized(bits.min(64), false);
+            let is_cut = wanted.is_at_each_anew(&mut last, &set);
+            assert!(rt; is_cut, "{} flags cut from {bits}", flags.len());
         }
     }
     Ok(())

@@ -1,11 +1,12 @@
 //! Questions about one whole set, single positions that are copied or looked at by an index, and the unchecked calls: at
 //! every length up to 130 beside slow values.
 
+use crate::slow::Slow;
 use fixedbitset::FixedBitSet;
 use std::alloc::{AllocError, Global};
 use std::process::Abort;
 use std::test::Fail;
-use test_values::slow::{filled, is_same, multiples};
+use test_values::slow::{filled, multiples};
 
 // The slow values of this length with no position, with all, with the first alone, the last alone, all but the last, and
 // every seventh.
@@ -125,14 +126,15 @@ fn bits_are_copied(rt: HostRuntime) -> Result<(), Fail> {
 #[test]
 fn each_bit_is_copied_alone(rt: HostRuntime) -> Result<(), Fail> {
     for length in 1..131 {
-        let mut flags = multiples(rt.alloc(), length, 3)?;
+        let flags = multiples(rt.alloc(), length, 3)?;
         let mut set = filled(rt.alloc(), &flags)?;
+        let mut wanted = Slow::of(&flags);
         for from in 0..length + 2 {
             let to = (from * 5 + 1) % length;
-            assert!(rt; to < set.len() && to < flags.len());
+            assert!(rt; to < set.len());
             set.copy_bit(from, to);
-            flags[to] = from < flags.len() && flags[from];
-            assert!(rt; is_same(&set, &flags), "{from} to {to} of {length}");
+            wanted.set(to, wanted.has(from));
+            assert!(rt; wanted.is_at_each(&set), "{from} to {to} of {length}");
         }
     }
     Ok(())

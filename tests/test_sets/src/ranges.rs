@@ -2,8 +2,7 @@
 //! 130, and steps that a caller knows of.
 
 use crate::spans::{
-    Change, Fact, Span, assert_facts, change_all, change_range, change_span, change_valid, changed,
-    holds, holds_of_span,
+    Change, Fact, Span, assert_facts, change_all, change_range, change_span, holds, holds_of_span,
 };
 use bitlanes::word::{BITS, Block};
 use fixedbitset::{FixedBitSet, Steps, counted};
@@ -237,71 +236,75 @@ fn chosen(alloc: Global, bits: usize) -> Result<Vec<bool>, AllocError> {
     Ok(flags)
 }
 
-// The words that a change makes of a set: first of no position, and then of one more of the range each time.
-#[derive(Drop)]
-struct Swept {
-    change: Change,
-    words: Vec<Block>,
-}
+// The words of up to 192 positions.
+type Words = [Block; 3];
 
-impl Swept {
-    fn change_one(&mut self, position: usize, was_set: bool) {
-        let bit = 1 << (position % BITS);
-        if changed(was_set, self.change) {
-            self.words[position / BITS] |= bit;
-        } else {
-            self.words[position / BITS] &= !bit;
-        }
+fn words_of(flags: &[bool]) -> Words {
+    let mut words = [0; 3];
+    for position in 0..flags.len() {
+        words[position / BITS] |= Block::from(flags[position]) << (position % BITS);
     }
+    words
 }
 
-// A range that gets one position more at a time: how many of them are set, and what each change of it leaves.
+fn has_words(set: &FixedBitSet, length: usize, words: &Words) -> bool {
+    let found = set.as_slice();
+    set.len() == length
+        && found.len() == length.div_ceil(BITS)
+        && match found {
+            [] => true,
+            [a] => *a == words[0],
+            [a, b] => *a == words[0] && *b == words[1],
+            [a, b, c] => *a == words[0] && *b == words[1] && *c == words[2],
+            _ => false,
+        }
+}
+
+// A range that gets one position more at a time: its positions, and how many of them are set.
 #[derive(Drop)]
 struct Slow<'a> {
     flags: &'a [bool],
+    words: Words,
     start: usize,
     end: usize,
+    inside: Words,
     ones: usize,
-    all: Vec<Swept>,
-}
-
-// The empty range of a set with these flags, which are these words.
-fn empty_range<'a>(
-    alloc: Global,
-    flags: &'a [bool],
-    words: &[Block],
-    start: usize,
-    changes: &[Change],
-) -> Result<Slow<'a>, AllocError> {
-    let mut all = Vec::new(alloc);
-    for change in changes {
-        let (change, words) = (*change, words.to_vec(alloc)?);
-        all.push(Swept { change, words })?;
-    }
-    Ok(Slow {
-        flags,
-        start,
-        end: start,
-        ones: 0,
-        all,
-    })
 }
 
 impl Slow<'_> {
+    // The empty range of a set with these flags, which are these words.
+    fn empty(flags: &[bool], words: Words, start: usize) -> Slow<'_> {
+        Slow {
+            flags,
+            words,
+            start,
+            end: start,
+            inside: [0; 3],
+            ones: 0,
+        }
+    }
+
     // Makes the range longer, up to this end.
     fn reach(&mut self, end: usize) {
         while self.end < end {
-            let was_set = self.flags[self.end];
-            self.ones = self.ones.wrapping_add(usize::from(was_set));
-            for one in &mut self.all {
-                one.change_one(self.end, was_set);
-            }
+            self.ones += usize::from(self.flags[self.end]);
+            self.inside[self.end / BITS] |= 1 << (self.end % BITS);
             self.end += 1;
         }
     }
 
     fn zeroes(&self) -> usize {
         self.end - self.start - self.ones
+    }
+
+    // The words after a change of the range.
+    fn changed(&self, change: Change) -> Words {
+        let ([a, b, c], [i, j, k]) = (self.words, self.inside);
+        match change {
+            Change::Insert | Change::Set(true) => [a | i, b | j, c | k],
+            Change::Remove | Change::Set(false) => [a & !i, b & !j, c & !k],
+            Change::Toggle => [a ^ i, b ^ j, c ^ k],
+        }
     }
 }
 
@@ -330,13 +333,12 @@ fn assert_span(
     ] {
         assert!(rt; holds_of_span(set, span, fact), "{span:?} of {}", set.len());
     }
-    for one in &slow.all {
+    for change in CHANGES {
         new.clone_from(set)?;
-        change_span(rt, new, span, one.change);
+        change_span(rt, new, span, change);
         assert!(rt;
-            new.len() == slow.flags.len() && new.as_slice() == one.words.as_slice(),
-            "{:?} of {span:?} of {}",
-            one.change,
+            has_words(new, slow.flags.len(), &slow.changed(change)),
+            "{change:?} of {span:?} of {}",
             set.len()
         );
     }
@@ -346,14 +348,13 @@ fn assert_span(
 // Each call on the spans from this start, or that they are not valid.
 fn assert_spans_from(
     rt: &impl Abort,
-    alloc: Global,
     flags: &[bool],
+    set: &FixedBitSet,
     start: usize,
     is_inclusive: bool,
 ) -> Result<(), AllocError> {
-    let set = filled(alloc, flags)?;
     let mut new = set.clone()?;
-    let mut slow = empty_range(alloc, flags, set.as_slice(), start, &CHANGES)?;
+    let mut slow = Slow::empty(flags, words_of(flags), start);
     for end in 0..flags.len() + 2 {
         let span = if is_inclusive {
             Span::Through(start, end)
@@ -364,10 +365,10 @@ fn assert_spans_from(
         if start <= end && end <= flags.len() {
             slow.reach(end);
             assert!(rt; count_in(flags, start, end, true) == slow.ones);
-            assert_span(rt, &slow, &set, span, &mut new)?;
+            assert_span(rt, &slow, set, span, &mut new)?;
         } else {
             assert!(rt;
-                holds_of_span(&set, span, Fact::IsNotValid),
+                holds_of_span(set, span, Fact::IsNotValid),
                 "{span:?} of {}",
                 flags.len()
             );
@@ -381,121 +382,119 @@ fn assert_spans_from(
 fn every_range_of_six_lengths(rt: HostRuntime) -> Result<(), Fail> {
     for bits in [0, 1, 63, 64, 65, 130] {
         let flags = chosen(rt.alloc(), bits)?;
-        assert!(rt; are_words(filled(rt.alloc(), &flags)?.as_slice(), &flags));
+        let set = filled(rt.alloc(), &flags)?;
+        assert!(rt; are_words(set.as_slice(), &flags));
         for start in 0..bits + 2 {
-            assert_spans_from(&rt, rt.alloc(), &flags, start, false)?;
-            assert_spans_from(&rt, rt.alloc(), &flags, start, true)?;
+            assert_spans_from(&rt, &flags, &set, start, false)?;
+            assert_spans_from(&rt, &flags, &set, start, true)?;
         }
     }
     Ok(())
 }
 
-// Each call on the range, as far as the slow one goes. The changes are made in the last set, a copy each time.
-fn assert_range(
-    rt: &impl Abort,
+// Whether each call on the range, as far as the slow one goes, is right. The changes are made in the last set, a copy each
+// time.
+fn are_right(
     slow: &Slow<'_>,
     set: &FixedBitSet,
     new: &mut FixedBitSet,
-) -> Result<(), AllocError> {
-    let (start, end, zeroes) = (slow.start, slow.end, slow.zeroes());
-    let answers = set.range_is_valid(&(start..end))
+) -> Result<bool, AllocError> {
+    let (start, end, zeroes, length) = (slow.start, slow.end, slow.zeroes(), slow.flags.len());
+    let inserted = slow.changed(Change::Insert);
+    let removed = slow.changed(Change::Remove);
+    let mut are_right = set.range_is_valid(&(start..end))
         && set.count_ones(start..end) == slow.ones
         && set.count_zeroes(start..end) == zeroes
         && set.contains_all_in_range(start..end) == (zeroes == 0)
         && set.contains_any_in_range(start..end) == (slow.ones != 0);
-    assert!(rt; answers, "{start}..{end} of {}", set.len());
-    for one in &slow.all {
-        new.clone_from(set)?;
-        change_valid(new, start..end, one.change);
-        assert!(rt;
-            new.len() == slow.flags.len() && new.as_slice() == one.words.as_slice(),
-            "{:?} of {start}..{end} of {}",
-            one.change,
-            set.len()
-        );
-    }
-    Ok(())
+    new.clone_from(set)?;
+    new.insert_range(start..end);
+    are_right &= has_words(new, length, &inserted);
+    new.clone_from(set)?;
+    new.remove_range(start..end);
+    are_right &= has_words(new, length, &removed);
+    new.clone_from(set)?;
+    new.toggle_range(start..end);
+    are_right &= has_words(new, length, &slow.changed(Change::Toggle));
+    new.clone_from(set)?;
+    new.set_range(start..end, true);
+    are_right &= has_words(new, length, &inserted);
+    new.clone_from(set)?;
+    new.set_range(start..end, false);
+    Ok(are_right && has_words(new, length, &removed))
 }
 
 #[test]
 fn every_range_of_every_length_to_130(rt: HostRuntime) -> Result<(), Fail> {
     for bits in 0..131 {
         let flags = chosen(rt.alloc(), bits)?;
-        let set = filled(rt.alloc(), &flags)?;
+        let (set, words) = (filled(rt.alloc(), &flags)?, words_of(&flags));
         assert!(rt; are_words(set.as_slice(), &flags));
         let mut new = set.clone()?;
         for start in 0..bits + 1 {
-            let mut slow = empty_range(rt.alloc(), &flags, set.as_slice(), start, &CHANGES)?;
+            let mut slow = Slow::empty(&flags, words, start);
             for end in start..bits + 1 {
                 slow.reach(end);
-                assert_range(&rt, &slow, &set, &mut new)?;
+                assert!(rt;
+                    are_right(&slow, &set, &mut new)?,
+                    "{start}..{end} of {bits}"
+                );
             }
         }
     }
     Ok(())
 }
 
-// Made one upon the other: each but the second is seen where the range has a position.
-const CHANGES_IN_TURN: [Change; 6] = [
-    Change::Toggle,
-    Change::Set(true),
-    Change::Remove,
-    Change::Insert,
-    Change::Set(false),
-    Change::Set(true),
-];
-
-// Each call on the range with its last position, as far as the slow one goes. The changes are made in the last set, and leave
-// the one that is wanted.
-fn assert_inclusive(
-    rt: &impl Abort,
+// Whether each call on the range with its last position, as far as the slow one goes, is right. The changes are made in the
+// last set, one upon the other, and leave the one that is wanted: each but the second is seen where the range has a position.
+fn are_right_inclusive(
     slow: &Slow<'_>,
     set: &FixedBitSet,
     wanted: &FixedBitSet,
     new: &mut FixedBitSet,
-) -> Result<(), AllocError> {
-    let (start, last, zeroes) = (slow.start, slow.end - 1, slow.zeroes());
-    let answers = set.range_is_valid(&(start..=last))
+) -> Result<bool, AllocError> {
+    let (start, last, zeroes, length) = (slow.start, slow.end - 1, slow.zeroes(), slow.flags.len());
+    let inserted = slow.changed(Change::Insert);
+    let removed = slow.changed(Change::Remove);
+    let mut are_right = set.range_is_valid(&(start..=last))
         && set.count_ones(start..=last) == slow.ones
         && set.count_zeroes(start..=last) == zeroes
         && set.contains_all_in_range(start..=last) == (zeroes == 0)
         && set.contains_any_in_range(start..=last) == (slow.ones != 0);
-    assert!(rt; answers, "{start}..={last} of {}", set.len());
     new.clone_from(set)?;
-    for one in &slow.all {
-        change_valid(new, start..=last, one.change);
-        assert!(rt;
-            new.len() == slow.flags.len() && new.as_slice() == one.words.as_slice(),
-            "{:?} of {start}..={last} of {}",
-            one.change,
-            set.len()
-        );
-    }
-    assert!(rt; *new == *wanted, "{start}..={last} of {}", set.len());
-    Ok(())
+    new.toggle_range(start..=last);
+    are_right &= has_words(new, length, &slow.changed(Change::Toggle));
+    new.set_range(start..=last, true);
+    are_right &= has_words(new, length, &inserted);
+    new.remove_range(start..=last);
+    are_right &= has_words(new, length, &removed);
+    new.insert_range(start..=last);
+    are_right &= has_words(new, length, &inserted);
+    new.set_range(start..=last, false);
+    are_right &= has_words(new, length, &removed);
+    new.set_range(start..=last, true);
+    Ok(are_right && has_words(new, length, &inserted) && *new == *wanted)
 }
 
 #[test]
 fn every_inclusive_range_of_every_length_to_130(rt: HostRuntime) -> Result<(), Fail> {
     for bits in 0..131 {
         let flags = chosen(rt.alloc(), bits)?;
-        let set = filled(rt.alloc(), &flags)?;
+        let (set, words) = (filled(rt.alloc(), &flags)?, words_of(&flags));
         let mut new = set.clone()?;
         for start in 0..bits + 1 {
-            let mut slow = empty_range(
-                rt.alloc(),
-                &flags,
-                set.as_slice(),
-                start,
-                &CHANGES_IN_TURN,
-            )?;
+            let mut slow = Slow::empty(&flags, words, start);
             let mut wanted = set.clone()?;
             for end in start.max(1)..bits + 1 {
                 slow.reach(end);
                 if start < end {
                     wanted.insert(end - 1);
                 }
-                assert_inclusive(&rt, &slow, &set, &wanted, &mut new)?;
+                assert!(rt;
+                    are_right_inclusive(&slow, &set, &wanted, &mut new)?,
+                    "{start}..={} of {bits}",
+                    end - 1
+                );
             }
         }
     }

@@ -39,26 +39,6 @@ pub enum Change {
     Set(bool),
 }
 
-/// What a position of the range is after the change.
-pub fn changed(was_set: bool, change: Change) -> bool {
-    match change {
-        Change::Insert => true,
-        Change::Remove => false,
-        Change::Toggle => !was_set,
-        Change::Set(enabled) => enabled,
-    }
-}
-
-/// Changes a range of the set.
-pub fn change_valid<R: IndexRange<usize> + Drop>(set: &mut FixedBitSet, range: R, change: Change) {
-    match change {
-        Change::Insert => set.insert_range(range),
-        Change::Remove => set.remove_range(range),
-        Change::Toggle => set.toggle_range(range),
-        Change::Set(enabled) => set.set_range(range, enabled),
-    }
-}
-
 /// Changes a range, which has to be valid.
 pub fn change_range<R: IndexRange<usize> + Drop>(
     rt: &impl Abort,
@@ -67,7 +47,12 @@ pub fn change_range<R: IndexRange<usize> + Drop>(
     change: Change,
 ) {
     assert!(rt; set.range_is_valid(&range));
-    change_valid(set, range, change);
+    match change {
+        Change::Insert => set.insert_range(range),
+        Change::Remove => set.remove_range(range),
+        Change::Toggle => set.toggle_range(range),
+        Change::Set(enabled) => set.set_range(range, enabled),
+    }
 }
 
 /// Changes the positions of a span.

@@ -1,8 +1,7 @@
 //! The calls of a set against the slow value, at every length up to 130.
 
-use bitlanes::word::{BITS, Block};
+use crate::slow::Slow;
 use fixedbitset::FixedBitSet;
-use std::alloc::{AllocError, Global};
 use std::process::Abort;
 use std::test::Fail;
 use test_values::slow::{filled, is_same, multiples};
@@ -36,80 +35,24 @@ fn call_at(rt: &impl Abort, set: &mut FixedBitSet, position: usize, call: Call) 
     }
 }
 
-// The words of these flags.
-fn words_of(alloc: Global, flags: &[bool]) -> Result<Vec<Block>, AllocError> {
-    let mut words = vec![in alloc; 0; flags.len().div_ceil(BITS)]?;
-    for position in 0..flags.len() {
-        if flags[position] {
-            words[position / BITS] |= 1 << (position % BITS);
-        }
-    }
-    Ok(words)
-}
-
-// A slow value that differs at one position: its words with that position, and without it.
-#[derive(Drop)]
-struct Wanted {
-    position: usize,
-    with: Vec<Block>,
-    without: Vec<Block>,
-}
-
-fn with_and_without(
-    alloc: Global,
-    flags: &mut [bool],
-    position: usize,
-) -> Result<Wanted, AllocError> {
-    flags[position] = true;
-    let with = words_of(alloc, flags)?;
-    flags[position] = false;
-    let without = words_of(alloc, flags)?;
-    Ok(Wanted {
-        position,
-        with,
-        without,
-    })
-}
-
 // The calls in order change this position alone, and leave it as the row says.
 fn assert_changes(
     rt: &impl Abort,
     set: &mut FixedBitSet,
-    flags: &mut [bool],
-    wanted: &Wanted,
+    wanted: &mut Slow,
+    position: usize,
     rows: &[(Call, bool)],
 ) {
-    let position = wanted.position;
     for (call, is_set) in rows {
         call_at(rt, set, position, *call);
-        flags[position] = *is_set;
-        let words = if *is_set {
-            &wanted.with
-        } else {
-            &wanted.without
-        };
-        assert!(rt;
-            set.len() == flags.len() && set.as_slice() == words.as_slice(),
-            "position {position} of {}",
-            flags.len()
-        );
+        wanted.set(position, *is_set);
+        assert!(rt; wanted.is(set), "position {position} of {}", set.len());
     }
-    assert!(rt;
-        is_same(set, flags),
-        "position {position} of {}",
-        flags.len()
-    );
 }
 
-// Changes one position by each call, and leaves every third position set.
-fn assert_each_changes(
-    rt: &impl Abort,
-    alloc: Global,
-    set: &mut FixedBitSet,
-    flags: &mut [bool],
-    position: usize,
-) -> Result<(), AllocError> {
-    let wanted = with_and_without(alloc, flags, position)?;
+// Changes one position by each call, and leaves every third position set. The set with the position is asked for each; the
+// one without it is the one that was there before.
+fn assert_each_changes(rt: &impl Abort, set: &mut FixedBitSet, wanted: &mut Slow, position: usize) {
     for enabled in [true, false] {
         let rows = [
             (Call::Put(!enabled), true),
@@ -118,22 +61,28 @@ fn assert_each_changes(
             (Call::Remove, false),
             (Call::Set(enabled), enabled),
         ];
-        assert_changes(rt, set, flags, &wanted, &rows);
+        assert_changes(rt, set, wanted, position, &rows);
+        if enabled {
+            assert!(rt;
+                wanted.is_at_each(set),
+                "position {position} of {}",
+                set.len()
+            );
+        }
     }
     if position % 3 == 0 {
-        assert_changes(rt, set, flags, &wanted, &[(Call::Insert, true)]);
+        assert_changes(rt, set, wanted, position, &[(Call::Insert, true)]);
     }
-    Ok(())
 }
 
 #[test]
 fn each_call_changes_its_position_alone(rt: HostRuntime) -> Result<(), Fail> {
     for length in 0..131 {
         let mut set = FixedBitSet::with_capacity(rt.alloc(), length)?;
-        let mut flags = vec![in rt.alloc(); false; length]?;
-        assert!(rt; is_same(&set, &flags));
+        let mut wanted = Slow::of(&[]).resized(length, false);
+        assert!(rt; wanted.is_at_each(&set));
         for position in 0..length {
-            assert_each_changes(&rt, rt.alloc(), &mut set, flags.as_mut_slice(), position)?;
+            assert_each_changes(&rt, &mut set, &mut wanted, position);
         }
     }
     Ok(())
@@ -145,13 +94,17 @@ fn each_call_changes_its_position_alone(rt: HostRuntime) -> Result<(), Fail> {
 fn growing_keeps_the_positions(rt: HostRuntime) -> Result<(), Fail> {
     for length in 0..131 {
         let fifths = multiples(rt.alloc(), length, 5)?;
-        let whole = filled(rt.alloc(), &fifths)?;
+        let (slow, whole) = (Slow::of(&fifths), filled(rt.alloc(), &fifths)?);
+        let mut last = slow;
+        assert!(rt; slow.is_at_each(&whole));
         for bits in 0..131 {
-            let mut flags = fifths.to_vec(rt.alloc())?;
             let mut set = whole.clone()?;
             set.grow(bits)?;
-            flags.resize(length.max(bits), false)?;
-            assert!(rt; is_same(&set, &flags), "{length} grown to {bits}");
+            let wanted = slow.resized(length.max(bits), false);
+            assert!(rt;
+                wanted.is_at_each_anew(&mut last, &set),
+                "{length} grown to {bits}"
+            );
         }
     }
     Ok(())

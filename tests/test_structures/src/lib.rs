@@ -8,6 +8,8 @@ mod ranks;
 #[cfg(test)]
 mod rows;
 #[cfg(test)]
+mod slow;
+#[cfg(test)]
 mod solver;
 #[cfg(test)]
 mod walks;

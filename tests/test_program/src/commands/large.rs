@@ -3,6 +3,7 @@
 use bitcommands::commands::{Change, Command, End, Look, Make, Walk, apply, run};
 use fixedbitset::FixedBitSet;
 use std::alloc::{AllocError, Global};
+use std::mem::ManuallyDrop;
 use std::test::Fail;
 
 // How many items a command has, and the greatest length.
@@ -10,19 +11,19 @@ const ITEMS: usize = 1_000_000;
 
 // Each position below the length.
 fn positions(alloc: Global) -> Result<Vec<usize>, AllocError> {
-    let mut positions = Vec::with_capacity(alloc, ITEMS)?;
+    let mut positions = Vec::new(alloc);
+    positions.resize(ITEMS, 0)?;
+    let places = positions.as_mut_slice();
     for position in 0..ITEMS {
-        positions.push(position)?;
+        places[position] = position;
     }
     Ok(positions)
 }
 
 // A call from the front for each of them.
 fn ends(alloc: Global) -> Result<Vec<End>, AllocError> {
-    let mut ends = Vec::with_capacity(alloc, ITEMS)?;
-    for _ in 0..ITEMS {
-        ends.push(End::Front)?;
-    }
+    let mut ends = Vec::new(alloc);
+    ends.resize_with(ITEMS, || End::Front)?;
     Ok(ends)
 }
 
@@ -30,9 +31,11 @@ fn ends(alloc: Global) -> Result<Vec<End>, AllocError> {
 fn commands(alloc: Global) -> Result<[(Command, usize); 7], AllocError> {
     let (target, source, set) = (0, 1, 0);
     let items = positions(alloc)?;
+    let made = Make::FromIter {
+        target,
+        items: items.to_vec(alloc)?,
+    };
     let added = Change::Extend { set: source, items };
-    let items = positions(alloc)?;
-    let made = Make::FromIter { target, items };
     let ends = ends(alloc)?;
     Ok([
         (Command::Change(added), 2),
@@ -45,12 +48,14 @@ fn commands(alloc: Global) -> Result<[(Command, usize); 7], AllocError> {
     ])
 }
 
+// To drop the commands and the output drops their items one by one, so they are left.
 #[test]
 fn commands_with_a_million_items(rt: HostRuntime) -> Result<(), Fail> {
     let alloc = rt.alloc();
     let mut sets = [FixedBitSet::new(alloc), FixedBitSet::new(alloc)];
-    for (command, length) in &commands(alloc)? {
-        let mut output = Vec::new(alloc);
+    let commands = ManuallyDrop::new(commands(alloc)?);
+    for (command, length) in commands.iter() {
+        let mut output = ManuallyDrop::new(Vec::new(alloc));
         apply(alloc, &mut sets, command, ITEMS).push_text(&mut output)?;
         assert_eq!(rt; output.len(), *length);
     }

@@ -1,114 +1,99 @@
 //! The commands over two sets, by every pair of fifteen lengths beside slow values.
 
+use crate::slow::Slow;
 use bitcommands::commands::{Command, Compare, Make, Reply, Whole, apply};
 use fixedbitset::FixedBitSet;
 use std::alloc::{AllocError, Global};
 use std::process::Abort;
 use std::test::Fail;
-use test_values::pairs::{Join, PAIRS, Pair, count_joined, every_pair, joined};
-use test_values::slow::{filled, is_same};
+use test_values::pairs::{Join, PAIRS, Pair, every_pair};
+use test_values::slow::filled;
 
-// The set of a slow value, found to be the same.
-fn known(rt: &impl Abort, alloc: Global, flags: &[bool]) -> Result<FixedBitSet, AllocError> {
-    let set = filled(alloc, flags)?;
-    assert!(rt; is_same(&set, flags), "{} flags", flags.len());
-    Ok(set)
-}
-
-// The sets of a pair, and those that several commands make of them.
+// The sets of a pair, their slow values, and those of the sets that several commands make of them.
 #[derive(Drop)]
 struct Joins {
-    a: FixedBitSet,
-    b: FixedBitSet,
-    either: FixedBitSet,
-    one: FixedBitSet,
-    none: FixedBitSet,
+    sets: [FixedBitSet; 2],
+    a: Slow,
+    b: Slow,
+    either: Slow,
+    one: Slow,
 }
 
-// The set of the positions of a join.
-fn known_join(
-    rt: &impl Abort,
-    alloc: Global,
-    pair: &Pair,
-    join: Join,
-    length: usize,
-) -> Result<FixedBitSet, AllocError> {
-    known(rt, alloc, &joined(alloc, length, &pair.a, &pair.b, join)?)
-}
-
+// The sets are found to be the same as their slow values.
 fn joins_of(rt: &impl Abort, alloc: Global, pair: &Pair) -> Result<Joins, AllocError> {
-    let longer = pair.a.len().max(pair.b.len());
+    let (a, b) = (Slow::of(&pair.a), Slow::of(&pair.b));
+    let sets = [filled(alloc, &pair.a)?, filled(alloc, &pair.b)?];
+    assert!(rt; a.is_at_each(&sets[0]) && b.is_at_each(&sets[1]));
+    let longer = a.length.max(b.length);
     Ok(Joins {
-        a: known(rt, alloc, &pair.a)?,
-        b: known(rt, alloc, &pair.b)?,
-        either: known_join(rt, alloc, pair, Join::Either, longer)?,
-        one: known_join(rt, alloc, pair, Join::One, longer)?,
-        none: known(rt, alloc, &[])?,
+        sets,
+        a,
+        b,
+        either: a.joined(&b, Join::Either, longer),
+        one: a.joined(&b, Join::One, longer),
     })
 }
 
-// The command is done, and leaves sets that are like these.
-fn assert_leaves(
+// The command is done, and leaves these sets, which are like those that are wanted.
+fn left_by(
     rt: &impl Abort,
     alloc: Global,
     joins: &Joins,
     command: &Command,
-    left: [&FixedBitSet; 3],
-) -> Result<(), AllocError> {
-    let mut sets = [joins.a.clone()?, joins.b.clone()?, FixedBitSet::new(alloc)];
+    wanted: [&Slow; 3],
+) -> Result<[FixedBitSet; 3], AllocError> {
+    let [a, b] = &joins.sets;
+    let mut sets = [a.clone()?, b.clone()?, FixedBitSet::new(alloc)];
     let reply = apply(alloc, &mut sets, command, 1_000_000);
     assert!(rt; matches!(reply, Reply::Done), "{command:?}");
-    for (set, wanted) in sets.iter().zip(left) {
+    for (set, wanted) in sets.iter().zip(wanted) {
         assert!(rt;
-            set.len() == wanted.len() && set.as_slice() == wanted.as_slice(),
+            wanted.is(set),
             "{command:?} at lengths {} and {}",
-            joins.a.len(),
-            joins.b.len()
+            a.len(),
+            b.len()
         );
     }
-    Ok(())
+    Ok(sets)
 }
 
-fn assert_changes(
-    rt: &impl Abort,
-    alloc: Global,
-    pair: &Pair,
-    joins: &Joins,
-) -> Result<(), AllocError> {
-    let first = pair.a.len();
-    let both = known_join(rt, alloc, pair, Join::Both, first)?;
-    let first_alone = known_join(rt, alloc, pair, Join::FirstAlone, first)?;
-    for (command, changed) in [
-        (Whole::UnionWith { a: 0, b: 1 }, &joins.either),
-        (Whole::BitorAssign { a: 0, b: 1 }, &joins.either),
-        (Whole::SymmetricDifferenceWith { a: 0, b: 1 }, &joins.one),
-        (Whole::BitxorAssign { a: 0, b: 1 }, &joins.one),
-        (Whole::IntersectWith { a: 0, b: 1 }, &both),
-        (Whole::BitandAssign { a: 0, b: 1 }, &both),
-        (Whole::DifferenceWith { a: 0, b: 1 }, &first_alone),
+// A row says whether the set that it changes is asked for each position: of those that are the same one is.
+fn assert_changes(rt: &impl Abort, alloc: Global, joins: &Joins) -> Result<(), AllocError> {
+    let (first, none) = (joins.a.length, Slow::of(&[]));
+    let both = joins.a.joined(&joins.b, Join::Both, first);
+    let first_alone = joins.a.joined(&joins.b, Join::FirstAlone, first);
+    for (command, changed, is_asked) in [
+        (Whole::UnionWith { a: 0, b: 1 }, &joins.either, true),
+        (Whole::BitorAssign { a: 0, b: 1 }, &joins.either, false),
+        (
+            Whole::SymmetricDifferenceWith { a: 0, b: 1 },
+            &joins.one,
+            true,
+        ),
+        (Whole::BitxorAssign { a: 0, b: 1 }, &joins.one, false),
+        (Whole::IntersectWith { a: 0, b: 1 }, &both, true),
+        (Whole::BitandAssign { a: 0, b: 1 }, &both, false),
+        (Whole::DifferenceWith { a: 0, b: 1 }, &first_alone, true),
     ] {
-        let left = [changed, &joins.b, &joins.none];
-        assert_leaves(rt, alloc, joins, &Command::Whole(command), left)?;
+        let command = Command::Whole(command);
+        let [set, _, _] = left_by(rt, alloc, joins, &command, [changed, &joins.b, &none])?;
+        assert!(rt; !is_asked || changed.is_at_each(&set), "{command:?}");
     }
     Ok(())
 }
 
-fn assert_makes(
-    rt: &impl Abort,
-    alloc: Global,
-    pair: &Pair,
-    joins: &Joins,
-) -> Result<(), AllocError> {
-    let shorter = pair.a.len().min(pair.b.len());
-    let both = known_join(rt, alloc, pair, Join::Both, shorter)?;
+fn assert_makes(rt: &impl Abort, alloc: Global, joins: &Joins) -> Result<(), AllocError> {
+    let shorter = joins.a.length.min(joins.b.length);
+    let both = joins.a.joined(&joins.b, Join::Both, shorter);
     let (target, a, b) = (2, 0, 1);
-    for (command, made) in [
-        (Make::Bitand { target, a, b }, &both),
-        (Make::Bitor { target, a, b }, &joins.either),
-        (Make::Bitxor { target, a, b }, &joins.one),
+    for (command, made, is_asked) in [
+        (Make::Bitand { target, a, b }, &both, true),
+        (Make::Bitor { target, a, b }, &joins.either, false),
+        (Make::Bitxor { target, a, b }, &joins.one, false),
     ] {
-        let left = [&joins.a, &joins.b, made];
-        assert_leaves(rt, alloc, joins, &Command::Make(command), left)?;
+        let command = Command::Make(command);
+        let [_, _, set] = left_by(rt, alloc, joins, &command, [&joins.a, &joins.b, made])?;
+        assert!(rt; !is_asked || made.is_at_each(&set), "{command:?}");
     }
     Ok(())
 }
@@ -119,8 +104,8 @@ fn every_pair_changed_by_a_command(rt: HostRuntime) -> Result<(), Fail> {
     assert_eq!(rt; pairs.len(), PAIRS);
     for pair in &pairs {
         let joins = joins_of(&rt, rt.alloc(), pair)?;
-        assert_changes(&rt, rt.alloc(), pair, &joins)?;
-        assert_makes(&rt, rt.alloc(), pair, &joins)?;
+        assert_changes(&rt, rt.alloc(), &joins)?;
+        assert_makes(&rt, rt.alloc(), &joins)?;
     }
     Ok(())
 }
@@ -137,15 +122,16 @@ fn compared(
 }
 
 fn assert_counts(rt: &impl Abort, alloc: Global, pair: &Pair) -> Result<(), AllocError> {
-    let (a, b) = (filled(alloc, &pair.a)?, filled(alloc, &pair.b)?);
+    let (set, other) = (filled(alloc, &pair.a)?, filled(alloc, &pair.b)?);
+    let (a, b) = (Slow::of(&pair.a), Slow::of(&pair.b));
     for (command, positions) in [
         (Compare::UnionCount { a: 0, b: 1 }, Join::Either),
         (Compare::IntersectionCount { a: 0, b: 1 }, Join::Both),
         (Compare::DifferenceCount { a: 0, b: 1 }, Join::FirstAlone),
         (Compare::SymmetricDifferenceCount { a: 0, b: 1 }, Join::One),
     ] {
-        let expected = count_joined(&pair.a, &pair.b, positions);
-        let reply = compared(alloc, &a, &b, command)?;
+        let expected = a.count_joined(&b, positions);
+        let reply = compared(alloc, &set, &other, command)?;
         assert!(rt; matches!(reply, Reply::Number(number) if number == expected));
     }
     Ok(())
@@ -153,14 +139,15 @@ fn assert_counts(rt: &impl Abort, alloc: Global, pair: &Pair) -> Result<(), Allo
 
 // Each answers whether there are none of these positions.
 fn assert_answers(rt: &impl Abort, alloc: Global, pair: &Pair) -> Result<(), AllocError> {
-    let (a, b) = (filled(alloc, &pair.a)?, filled(alloc, &pair.b)?);
+    let (set, other) = (filled(alloc, &pair.a)?, filled(alloc, &pair.b)?);
+    let (a, b) = (Slow::of(&pair.a), Slow::of(&pair.b));
     for (command, positions) in [
         (Compare::IsDisjoint { a: 0, b: 1 }, Join::Both),
         (Compare::IsSubset { a: 0, b: 1 }, Join::FirstAlone),
         (Compare::IsSuperset { a: 0, b: 1 }, Join::SecondAlone),
     ] {
-        let expected = count_joined(&pair.a, &pair.b, positions) == 0;
-        let reply = compared(alloc, &a, &b, command)?;
+        let expected = a.count_joined(&b, positions) == 0;
+        let reply = compared(alloc, &set, &other, command)?;
         assert!(rt; matches!(reply, Reply::Bool(answer) if answer == expected));
     }
     Ok(())

@@ -1,11 +1,12 @@
 //! The union with a difference, and the first position that is lacking, beside slow values.
 
+use crate::slow::Slow;
 use fixedbitset::FixedBitSet;
 use std::alloc::{AllocError, Global};
 use std::process::Abort;
 use std::test::Fail;
-use test_values::pairs::{Join, count_joined, joined};
-use test_values::slow::{filled, is_same, multiples};
+use test_values::pairs::Join;
+use test_values::slow::{filled, multiples};
 
 // The steps between the positions of a set, of what it takes in, and of what is killed.
 const STEPS: [[usize; 3]; 6] = [
@@ -23,7 +24,7 @@ const LENGTHS: [usize; 9] = [0, 1, 64, 65, 192, 256, 257, 511, 576];
 // A slow value and its set.
 #[derive(Drop)]
 struct Value {
-    flags: Vec<bool>,
+    slow: Slow,
     set: FixedBitSet,
 }
 
@@ -32,29 +33,28 @@ fn values(alloc: Global, lengths: &[usize], step: usize) -> Result<Vec<Value>, A
     let mut values = Vec::new(alloc);
     for length in lengths {
         let flags = multiples(alloc, *length, step.max(1))?;
-        let set = filled(alloc, &flags)?;
-        values.push(Value { flags, set })?;
+        let (slow, set) = (Slow::of(&flags), filled(alloc, &flags)?);
+        values.push(Value { slow, set })?;
     }
     Ok(values)
 }
 
-// The set takes in those of the first value that the second lacks, which are the ones that are left.
+// The set takes in those of the first value that the second lacks, which are the ones that are left. This is the first one.
 fn assert_taken(
     rt: &impl Abort,
-    alloc: Global,
     set: &Value,
     gens: &Value,
     kills: &Value,
-    left: &[bool],
+    left: &Slow,
+    first: Option<usize>,
 ) -> Result<(), AllocError> {
-    let length = set.flags.len().max(gens.flags.len());
-    let expected = joined(alloc, length, &set.flags, left, Join::Either)?;
-    let changes = count_joined(&set.flags, left, Join::SecondAlone) > 0;
+    let length = set.slow.length.max(left.length);
+    let expected = set.slow.joined(left, Join::Either, length);
+    let changes = set.slow.count_joined(left, Join::SecondAlone) > 0;
     let (mut made, gens, kills) = (set.set.clone()?, &gens.set, &kills.set);
     assert!(rt; made.union_with_difference(gens, kills)? == changes);
-    assert!(rt; is_same(&made, &expected));
+    assert!(rt; expected.is_at_each(&made));
     assert!(rt; !made.union_with_difference(gens, kills)?);
-    let first = left.iter().position(|is_left| *is_left);
     assert!(rt; kills.first_lacking(gens) == first);
     assert!(rt; first.is_none() == gens.is_subset(kills));
     Ok(())
@@ -63,17 +63,17 @@ fn assert_taken(
 // Each set with each two values.
 fn assert_all_taken(
     rt: &impl Abort,
-    alloc: Global,
     sets: &[Value],
     gens: &[Value],
     kills: &[Value],
 ) -> Result<(), AllocError> {
     for gens in gens {
         for kills in kills {
-            let (taken, killed) = (&gens.flags, &kills.flags);
-            let left = joined(alloc, taken.len(), taken, killed, Join::FirstAlone)?;
+            let (taken, killed) = (&gens.slow, &kills.slow);
+            let left = taken.joined(killed, Join::FirstAlone, taken.length);
+            let first = (0..left.length).find(|position| left.has(*position));
             for set in sets {
-                assert_taken(rt, alloc, set, gens, kills, &left)?;
+                assert_taken(rt, set, gens, kills, &left, first)?;
             }
         }
     }
@@ -85,7 +85,7 @@ fn assert_multiples(rt: &impl Abort, alloc: Global, lengths: &[usize]) -> Result
         let sets = values(alloc, lengths, step)?;
         let gens = values(alloc, lengths, gens_step)?;
         let kills = values(alloc, lengths, kills_step)?;
-        assert_all_taken(rt, alloc, &sets, &gens, &kills)?;
+        assert_all_taken(rt, &sets, &gens, &kills)?;
     }
     Ok(())
 }

@@ -1,11 +1,13 @@
 //! Every call on every pair of fifteen lengths, beside slow values.
 
 use crate::pairs::calls::{Changing, Counting, Joining, Question, change, count, is_so, join};
+use crate::slow::Slow;
+use fixedbitset::FixedBitSet;
 use std::alloc::{AllocError, Global};
 use std::process::Abort;
 use std::test::Fail;
-use test_values::pairs::{Join, PAIRS, Pair, count_joined, every_pair, joined};
-use test_values::slow::{filled, is_same};
+use test_values::pairs::{Join, PAIRS, Pair, every_pair};
+use test_values::slow::filled;
 
 // Which length a joined set has.
 #[derive(Clone, Copy)]
@@ -23,29 +25,28 @@ fn length_of(pair: &Pair, length: Length) -> usize {
     }
 }
 
-// The calls make this of every pair.
+// The calls of a row make this of every pair. One of the sets that they make, which are the same, is asked for each position.
 fn assert_joins(
     rt: &impl Abort,
     alloc: Global,
-    calls: &[(Joining, Join, Length)],
+    rows: &[(&[Joining], Join, Length)],
 ) -> Result<(), AllocError> {
     let pairs = every_pair(alloc)?;
     assert_eq!(rt; pairs.len(), PAIRS);
     for pair in &pairs {
+        let (a, b) = (Slow::of(&pair.a), Slow::of(&pair.b));
         let (set, other) = (filled(alloc, &pair.a)?, filled(alloc, &pair.b)?);
-        for (call, positions, length) in calls {
-            let made = join(set.clone()?, other.clone()?, *call)?;
-            let expected = joined(
-                alloc,
-                length_of(pair, *length),
-                &pair.a,
-                &pair.b,
-                *positions,
-            )?;
+        for (calls, positions, length) in rows {
+            let wanted = a.joined(&b, *positions, length_of(pair, *length));
+            let mut made = FixedBitSet::new(alloc);
+            for call in *calls {
+                made = join(set.clone()?, other.clone()?, *call)?;
+                assert!(rt; wanted.is(&made), "{call:?} at length {}", a.length);
+            }
             assert!(rt;
-                is_same(&made, &expected),
-                "{call:?} at length {}",
-                pair.a.len()
+                wanted.is_at_each(&made),
+                "{calls:?} at length {}",
+                a.length
             );
         }
     }
@@ -54,36 +55,40 @@ fn assert_joins(
 
 #[test]
 fn every_pair_changed(rt: HostRuntime) -> Result<(), Fail> {
-    let calls = [
-        (Joining::UnionWith, Join::Either, Length::Longer),
-        (Joining::BitorAssign, Join::Either, Length::Longer),
-        (Joining::SymmetricDifferenceWith, Join::One, Length::Longer),
-        (Joining::BitxorAssign, Join::One, Length::Longer),
+    let either = [Joining::UnionWith, Joining::BitorAssign];
+    let one = [Joining::SymmetricDifferenceWith, Joining::BitxorAssign];
+    let rows = [
+        (either.as_slice(), Join::Either, Length::Longer),
+        (one.as_slice(), Join::One, Length::Longer),
     ];
-    assert_joins(&rt, rt.alloc(), &calls)?;
+    assert_joins(&rt, rt.alloc(), &rows)?;
     Ok(())
 }
 
 #[test]
 fn every_pair_changed_at_one_length(rt: HostRuntime) -> Result<(), Fail> {
-    let calls = [
-        (Joining::IntersectWith, Join::Both, Length::First),
-        (Joining::BitandAssign, Join::Both, Length::First),
-        (Joining::BitandAssignOfValue, Join::Both, Length::First),
-        (Joining::DifferenceWith, Join::FirstAlone, Length::First),
+    let both = [
+        Joining::IntersectWith,
+        Joining::BitandAssign,
+        Joining::BitandAssignOfValue,
     ];
-    assert_joins(&rt, rt.alloc(), &calls)?;
+    let first_alone = [Joining::DifferenceWith];
+    let rows = [
+        (both.as_slice(), Join::Both, Length::First),
+        (first_alone.as_slice(), Join::FirstAlone, Length::First),
+    ];
+    assert_joins(&rt, rt.alloc(), &rows)?;
     Ok(())
 }
 
 #[test]
 fn every_pair_joined_anew(rt: HostRuntime) -> Result<(), Fail> {
-    let calls = [
-        (Joining::Bitand, Join::Both, Length::Shorter),
-        (Joining::Bitor, Join::Either, Length::Longer),
-        (Joining::Bitxor, Join::One, Length::Longer),
+    let rows = [
+        ([Joining::Bitand].as_slice(), Join::Both, Length::Shorter),
+        ([Joining::Bitor].as_slice(), Join::Either, Length::Longer),
+        ([Joining::Bitxor].as_slice(), Join::One, Length::Longer),
     ];
-    assert_joins(&rt, rt.alloc(), &calls)?;
+    assert_joins(&rt, rt.alloc(), &rows)?;
     Ok(())
 }
 
@@ -111,13 +116,14 @@ const CHANGES: [(Changing, Join, Length, Join); 3] = [
 
 // At the second time nothing changes.
 fn assert_changes(rt: &impl Abort, alloc: Global, pair: &Pair) -> Result<(), AllocError> {
+    let (a, b) = (Slow::of(&pair.a), Slow::of(&pair.b));
     let (whole, other) = (filled(alloc, &pair.a)?, filled(alloc, &pair.b)?);
     for (call, positions, length, changed) in CHANGES {
-        let expected = joined(alloc, length_of(pair, length), &pair.a, &pair.b, positions)?;
-        let changes = count_joined(&pair.a, &pair.b, changed) > 0;
+        let wanted = a.joined(&b, positions, length_of(pair, length));
+        let changes = a.count_joined(&b, changed) > 0;
         let mut set = whole.clone()?;
         assert!(rt; change(&mut set, &other, call)? == changes, "{call:?}");
-        assert!(rt; is_same(&set, &expected), "{call:?}");
+        assert!(rt; wanted.is_at_each(&set), "{call:?}");
         assert!(rt; !change(&mut set, &other, call)?, "{call:?}");
     }
     Ok(())
@@ -136,12 +142,13 @@ fn every_pair_changed_with_answer(rt: HostRuntime) -> Result<(), Fail> {
 fn every_pair_asked_for_the_next_common(rt: HostRuntime) -> Result<(), Fail> {
     for pair in &every_pair(rt.alloc())? {
         let (set, other) = (filled(rt.alloc(), &pair.a)?, filled(rt.alloc(), &pair.b)?);
-        let shorter = length_of(pair, Length::Shorter);
+        let (a, b) = (pair.a.as_slice(), pair.b.as_slice());
+        let shorter = a.len().min(b.len());
         let mut seen = None;
         assert!(rt; set.next_common(&other, shorter) == None);
         assert!(rt; set.next_common(&other, usize::MAX) == None);
         for position in (0..shorter).rev() {
-            if pair.a[position] && pair.b[position] {
+            if a[position] && b[position] {
                 seen = Some(position);
             }
             assert!(rt;
@@ -169,14 +176,14 @@ const QUESTIONS: [(Question, Join); 3] = [
 ];
 
 fn assert_answers(rt: &impl Abort, alloc: Global, pair: &Pair) -> Result<(), AllocError> {
-    let set = filled(alloc, &pair.a)?;
-    let other = filled(alloc, &pair.b)?;
+    let (a, b) = (Slow::of(&pair.a), Slow::of(&pair.b));
+    let (set, other) = (filled(alloc, &pair.a)?, filled(alloc, &pair.b)?);
     for (call, positions) in COUNTS {
-        let expected = count_joined(&pair.a, &pair.b, positions);
+        let expected = a.count_joined(&b, positions);
         assert!(rt; count(&set, &other, call) == expected, "{call:?}");
     }
     for (question, positions) in QUESTIONS {
-        let expected = count_joined(&pair.a, &pair.b, positions) == 0;
+        let expected = a.count_joined(&b, positions) == 0;
         assert!(rt; is_so(&set, &other, question) == expected, "{question:?}");
     }
     Ok(())

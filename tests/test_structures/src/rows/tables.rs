@@ -3,6 +3,7 @@
 use crate::rows::slow::{flag, join, rows};
 use bitrows::BitRows;
 use std::alloc::{AllocError, Global};
+use std::mem::ManuallyDrop;
 use std::process::Abort;
 use std::test::Fail;
 
@@ -97,7 +98,7 @@ fn no_rows_and_too_many(rt: HostRuntime) -> Result<(), Fail> {
     Ok(())
 }
 
-// Where memory is there, a new table refuses no number of its own choice.
+// Where memory is there, a new table refuses no number of its own choice. To drop it drops its words one by one, so it is left.
 #[test]
 fn of_more_than_a_million_rows(rt: HostRuntime) -> Result<(), Fail> {
     let (rows, columns) = (1_000_001, 300);
@@ -106,5 +107,6 @@ fn of_more_than_a_million_rows(rt: HostRuntime) -> Result<(), Fail> {
     table.set(rows - 1, columns - 1, true);
     assert!(rt; table.get(rows - 1, columns - 1) && !table.get(rows - 2, columns - 1));
     assert!(rt; table.row(rows - 1).eq([columns - 1]));
+    let _ = ManuallyDrop::new(table);
     Ok(())
 }

@@ -2,6 +2,7 @@
 
 use fixedbitset::{FixedBitSet, Steps};
 use flow::{is_problem, solve};
+use std::mem::ManuallyDrop;
 use std::test::Fail;
 
 // How many nodes and how many facts there are.
@@ -31,14 +32,16 @@ fn a_chain_of_many_nodes(rt: HostRuntime) -> Result<(), Fail> {
     Ok(())
 }
 
-// Sets of no facts take no memory, so that the test takes few seconds.
+// Sets of no facts take no memory, so that the test takes few seconds. They are left, for to drop them takes as long as a call.
 #[test]
 fn more_than_a_million_nodes(rt: HostRuntime) -> Result<(), Fail> {
     let alloc = rt.alloc();
-    let none = vec![in alloc; FixedBitSet::new(alloc); 1_000_001]?;
+    let mut none = Vec::new(alloc);
+    none.resize_with(1_000_001, || FixedBitSet::new(alloc))?;
     let edges = [(0, 1_000_000)];
     assert!(rt; is_problem(0, &edges, &none, &none));
     let answer = solve(alloc, 0, &edges, &none, &none, &mut Steps::new())?;
     assert!(rt; answer.ins.len() == 1_000_001 && answer.outs.len() == 1_000_001);
+    let _ = ManuallyDrop::new((none, answer));
     Ok(())
 }

@@ -22,6 +22,11 @@ pub struct Sets {
 
 /// The intersection of all solutions, where it is itself one.
 pub fn least(problem: &Small) -> Option<Sets> {
+    let outs = [
+        outs_of(problem, 0),
+        outs_of(problem, 1),
+        outs_of(problem, 2),
+    ];
     let mut all = Sets {
         ins: [7; NODES],
         outs: [7; NODES],
@@ -29,39 +34,56 @@ pub fn least(problem: &Small) -> Option<Sets> {
     for first in 0..8 {
         for second in 0..8 {
             for third in 0..8 {
-                let sets = with_outs(problem, [first, second, third]);
-                if is_solution(problem, &sets) {
+                let sets = Sets {
+                    ins: [first as u8, second as u8, third as u8],
+                    outs: [outs[0][first], outs[1][second], outs[2][third]],
+                };
+                if is_in(problem, &sets, 0) && are_ins(problem, &sets) {
                     all = common(&all, &sets);
                 }
             }
         }
     }
-    is_solution(problem, &all).then_some(all)
+    (are_ins(problem, &all) && are_outs(&outs, &all)).then_some(all)
 }
 
-// The sets where these are In: Out is what the second equation says.
-fn with_outs(problem: &Small, ins: [u8; NODES]) -> Sets {
-    let mut outs = [0; NODES];
-    for node in 0..NODES {
-        outs[node] = problem.gens[node] | (ins[node] & !problem.kills[node]);
+// What the second equation says is Out of a node, for each set In.
+fn outs_of(problem: &Small, node: usize) -> [u8; 8] {
+    let mut outs = [0; 8];
+    for number in 0..8 {
+        outs[number] = problem.gens[node] | (number as u8 & !problem.kills[node]);
     }
-    Sets { ins, outs }
+    outs
 }
 
-// Whether these are In and Out.
-fn is_solution(problem: &Small, sets: &Sets) -> bool {
+// Whether Out is what the second equation says.
+fn are_outs(outs: &[[u8; 8]; NODES], sets: &Sets) -> bool {
     for node in 0..NODES {
-        let mut come = 0;
-        for from in 0..NODES {
-            if problem.edges[from][node] {
-                come |= sets.outs[from];
-            }
-        }
-        if sets.ins[node] != come || sets.outs != with_outs(problem, sets.ins).outs {
+        if sets.outs[node] != outs[node][usize::from(sets.ins[node])] {
             return false;
         }
     }
     true
+}
+
+// Whether In is what the first equation says.
+fn are_ins(problem: &Small, sets: &Sets) -> bool {
+    is_in(problem, sets, 0) && is_in(problem, sets, 1) && is_in(problem, sets, 2)
+}
+
+// Whether In of this node is what comes to it.
+fn is_in(problem: &Small, sets: &Sets, node: usize) -> bool {
+    let mut come = 0;
+    if problem.edges[0][node] {
+        come |= sets.outs[0];
+    }
+    if problem.edges[1][node] {
+        come |= sets.outs[1];
+    }
+    if problem.edges[2][node] {
+        come |= sets.outs[2];
+    }
+    sets.ins[node] == come
 }
 
 // What both have.

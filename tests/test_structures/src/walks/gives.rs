@@ -3,9 +3,8 @@
 use std::process::Abort;
 
 // No walk promises an item, and none has more left than it says.
-fn assert_within(rt: &impl Abort, hint: (usize, Option<usize>), left: usize) {
-    let (lower, upper) = hint;
-    assert!(rt; lower == 0 && upper >= Some(left));
+fn is_within((lower, upper): (usize, Option<usize>), left: usize) -> bool {
+    lower == 0 && matches!(upper, Some(most) if most >= left)
 }
 
 /// The walk gives these items, and then `None` for good. The ends are called in turn, `true` is the front.
@@ -15,28 +14,21 @@ pub fn assert_gives<I: DoubleEndedIterator<Item = usize>>(
     items: &[usize],
     ends: [bool; 2],
 ) {
-    let mut left = items;
+    let (mut start, mut end) = (0, items.len());
     for step in 0..items.len() {
-        assert_within(rt, walk.size_hint(), left.len());
-        if ends[step % 2] {
-            let Some((first, others)) = left.split_first() else {
-                break;
-            };
-            assert_eq!(rt; walk.next(), Some(*first));
-            left = others;
+        assert!(rt; is_within(walk.size_hint(), end - start));
+        let is_given = if ends[step % 2] {
+            start += 1;
+            matches!(walk.next(), Some(item) if item == items[start - 1])
         } else {
-            let Some((last, others)) = left.split_last() else {
-                break;
-            };
-            assert_eq!(rt; walk.next_back(), Some(*last));
-            left = others;
-        }
+            end -= 1;
+            matches!(walk.next_back(), Some(item) if item == items[end])
+        };
+        assert!(rt; is_given, "item {step} of {}", items.len());
     }
-    assert_eq!(rt; left.len(), 0);
     for _ in 0..3 {
-        assert_within(rt, walk.size_hint(), 0);
-        assert_eq!(rt; walk.next(), None);
-        assert_eq!(rt; walk.next_back(), None);
+        assert!(rt; is_within(walk.size_hint(), 0));
+        assert!(rt; walk.next().is_none() && walk.next_back().is_none());
     }
 }
 

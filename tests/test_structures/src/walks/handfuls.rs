@@ -63,10 +63,10 @@ fn a_word_gives_its_positions(rt: HostRuntime) {
 // At each number of places the first positions are given, the others are left, and places that no position reaches stay.
 #[test]
 fn words_give_their_first_positions(rt: HostRuntime) {
-    for room in 0..600 {
-        for begin in 0..WORDS.len() {
-            let words = &WORDS[begin..];
-            let (wanted, all) = slow(words);
+    for begin in 0..WORDS.len() {
+        let words = &WORDS[begin..];
+        let (wanted, all) = slow(words);
+        for room in 0..600 {
             let mut places = [MARK; 600];
             let mut held = Cursor::over(Plain { words }).into_held();
             let count = give_words(&mut held, &mut places[..room]);
@@ -82,11 +82,14 @@ fn words_give_their_first_positions(rt: HostRuntime) {
                     assert_eq!(rt; places[index], MARK, "{index} of {room} from {begin}");
                 }
             }
-            let rest = Cursor::of_held(held);
-            assert!(rt;
-                rest.eq(wanted[count..all].iter().copied()),
-                "{room} places from {begin}"
-            );
+            let mut rest = Cursor::of_held(held);
+            for index in count..all {
+                assert!(rt;
+                    matches!(rest.next(), Some(position) if position == wanted[index]),
+                    "{room} places from {begin}"
+                );
+            }
+            assert!(rt; rest.next().is_none(), "{room} places from {begin}");
         }
     }
 }

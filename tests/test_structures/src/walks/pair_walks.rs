@@ -1,33 +1,24 @@
 //! The walks over two sets against slow lists, on every pair of fifteen lengths.
 
+use crate::slow::Slow;
 use crate::walks::gives::{ORDERS, assert_gives};
 use std::alloc::{AllocError, Global};
 use std::test::Fail;
-use test_values::pairs::{Join, PAIRS, Pair, every_pair, joined};
+use test_values::pairs::{Join, PAIRS, Pair, every_pair};
 use test_values::slow::filled;
 
-// Puts the positions of the join behind the list, in ascending order.
-fn push_joined(
-    alloc: Global,
-    list: &mut Vec<usize>,
-    a: &[bool],
-    b: &[bool],
-    join: Join,
-) -> Result<(), AllocError> {
-    let flags = joined(alloc, a.len().max(b.len()), a, b, join)?;
-    for (position, flag) in flags.iter().enumerate() {
-        if *flag {
-            list.push(position)?;
-        }
-    }
-    Ok(())
-}
-
-// The positions of one join, and then those of another.
+// The positions of one join, in ascending order, and then those of another.
 fn listed(alloc: Global, pair: &Pair, joins: &[Join]) -> Result<Vec<usize>, AllocError> {
+    let (a, b) = (Slow::of(&pair.a), Slow::of(&pair.b));
+    let length = a.length.max(b.length);
     let mut list = Vec::new(alloc);
     for join in joins {
-        push_joined(alloc, &mut list, &pair.a, &pair.b, *join)?;
+        let joined = a.joined(&b, *join, length);
+        for position in 0..length {
+            if joined.has(position) {
+                list.push(position)?;
+            }
+        }
     }
     Ok(list)
 }
