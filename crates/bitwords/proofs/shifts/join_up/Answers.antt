@@ -50,3 +50,6 @@ returns-clause-bits g c =
     inr (leaves_up c.args.other.now _ _ _ by k (omega arith)
     (inl (c.requires.keeps, kept ∙ get_or-set_other old at k c.word.result 0 other))))
     (cases_eq k at))
+
+pub returns-clause-cost : goal.returns-clause-cost
+returns-clause-cost g c = search rules steps 2000000
