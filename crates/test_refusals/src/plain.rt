@@ -100,7 +100,7 @@ fn values(json: &Value) -> bool {
 }
 
 fn looks(alloc: Global, set: &mut FixedBitSet) -> bool {
-    makes_empty(alloc) && sees(set) && sees_nearest(set) && sees_walks(set) && replaces(set)
+    makes_empty(alloc) && sees_all(set) && replaces(set)
 }
 
 fn makes_empty(alloc: Global) -> bool {
@@ -117,6 +117,10 @@ fn replaces(set: &mut FixedBitSet) -> bool {
     let is_set = is_value(set, 10, &[1, 2]);
     set.clear();
     is_set && is_value(set, 10, &[])
+}
+
+fn sees_all(set: &FixedBitSet) -> bool {
+    sees(set) && sees_nearest(set) && sees_walks(set) && sees_gaps(set)
 }
 
 fn sees(set: &FixedBitSet) -> bool {
@@ -144,6 +148,10 @@ fn sees_walks(set: &FixedBitSet) -> bool {
         && set.zeroes_in(..4).next_back() == Some(2)
         && set.runs().next() == Some((3, 4))
         && set.zero_runs().next_back() == Some((4, 10))
+}
+
+fn sees_gaps(set: &FixedBitSet) -> bool {
+    set.len() == 10
         && set.first_gap(5, 0) == Some(4)
         && set.first_aligned_gap(5, 5, 1..) == Some(5)
         && set.as_slice() == [8].as_slice()
@@ -397,24 +405,38 @@ fn are_counted(short: &FixedBitSet, long: &FixedBitSet) -> bool {
 }
 
 fn are_found(short: &FixedBitSet, long: &FixedBitSet) -> bool {
-    let (bits, others) = (short.as_bits(), long.as_bits());
+    are_told(short.as_bits(), long.as_bits())
+        && are_compared(short, long)
+        && ones_are_found(short.as_bits(), short)
+        && others_are_found(short.as_bits(), short)
+}
+
+// The bits are those of a short set and of a long one.
+fn are_told(bits: Bits<'_>, others: Bits<'_>) -> bool {
     let steps = &mut Steps::new();
-    bits.minimum(steps) == short.minimum()
-        && others.maximum(steps) == long.maximum()
-        && bits.first_lacking(others, steps) == Some(LONG - 1)
-        && bits.compare(others, steps) == short.cmp(long)
+    bits.first_lacking(others, steps) == Some(LONG - 1)
         && !bits.is_equal(others, steps)
         && !bits.is_full(steps)
         && !bits.is_clear(steps)
-        && are_found_near(bits, short)
 }
 
-fn are_found_near(bits: Bits<'_>, set: &FixedBitSet) -> bool {
+fn are_compared(short: &FixedBitSet, long: &FixedBitSet) -> bool {
+    let (bits, others, steps) = (short.as_bits(), long.as_bits(), &mut Steps::new());
+    bits.minimum(steps) == short.minimum()
+        && others.maximum(steps) == long.maximum()
+        && bits.compare(others, steps) == short.cmp(long)
+}
+
+fn ones_are_found(bits: Bits<'_>, set: &FixedBitSet) -> bool {
     let steps = &mut Steps::new();
     bits.next_one(0, steps) == set.next_one(0)
-        && bits.next_zero(0, steps) == set.next_zero(0)
         && bits.next_common(bits, 0, steps) == set.next_common(set, 0)
         && bits.nth_one(0, steps) == set.nth_one(0)
+}
+
+fn others_are_found(bits: Bits<'_>, set: &FixedBitSet) -> bool {
+    let steps = &mut Steps::new();
+    bits.next_zero(0, steps) == set.next_zero(0)
         && bits.previous_one(10, steps) == set.previous_one(10)
         && bits.previous_zero(10, steps) == set.previous_zero(10)
 }
