@@ -7,7 +7,7 @@ TOOLS = pathlib.Path(__file__).resolve().parent.parent
 SOURCE = """//! A few functions to edit.
 #![tactic(auto)]
 
-ghost use Rattle.std.specs.Prelude.{◌≡◌, ◌+◌, ◌<◌, ◌^◌};
+ghost use Rattle.core.specs.Prelude.{◌≡◌, ◌+◌, ◌<◌, ◌^◌};
 
 const LIMIT: u64 = 10;
 
@@ -87,7 +87,7 @@ pub fn eleven() -> u64
 }
 """
 SIZES = """-- Numbers by their size.
-use Rattle.std.specs.Prelude.{◌≡◌, ◌+◌, ◌<◌, ℕ}
+use Rattle.core.specs.Prelude.{◌≡◌, ◌+◌, ◌<◌, ℕ}
 
 -- the least number
 abbrev pub least : ℕ
@@ -108,7 +108,7 @@ IsLarge n = 9 < n
 PART = """//! A part of a number.
 #![tactic(auto)]
 
-ghost use Rattle.std.specs.Prelude.{◌≡◌, ◌/◌};
+ghost use Rattle.core.specs.Prelude.{◌≡◌, ◌/◌};
 
 /// The part.
 pub fn part(number: u64) -> u64

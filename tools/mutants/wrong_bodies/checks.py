@@ -34,7 +34,7 @@ class Checks:
         kit, crates = self.project.kit, copy.crates
         name, root = ("top_of_edits", "top/src/lib.rt") if copy.is_source else (crates[0].name, crates[0].root)
         words = [f"{kit}/bin/rattle", "check", "--jobs=1", f"--crate-name={name}", root, f"--links={name}="]
-        of_kit = ["core", "std"] if copy.is_source else ["std"]
+        of_kit = ["core", *(["std"] if any(crate.names_std for crate in crates) else [])]
         for library in dict.fromkeys([*of_kit, *(dep for crate in crates for dep in crate.deps)]):
             words.append(f"--extern={library}={self.folder_of(library)}/{library}.rlib")
         words += [f"-Ldependency={folder}" for folder in self.folders_of_libraries(crates)]

@@ -62,6 +62,11 @@ class Crate:
         return {path: BOUND.sub("", text) if path.startswith("proofs/") else text for path, text in texts.items()}
 
     @functools.cached_property
+    def names_std(self):
+        """Whether a text of the crate names std. A check reads std for two seconds."""
+        return any(re.search(r"\bstd\b", text) for text in self.sources.values())
+
+    @functools.cached_property
     def functions(self):
         return [function for path, text in self.sources.items() for function in rattle.functions_of(path, text)]
 
