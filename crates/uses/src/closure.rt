@@ -6,7 +6,8 @@
 //! line is not as said here, or names a node that there is not, nothing is answered but one
 //! sentence on standard error with the number of that line, and the status is 1.
 
-use crate::text::{Fault, Wrong};
+use crate::text::first::{Said, first_number};
+use crate::text::{Fault, Row};
 use graph::closure;
 use std::alloc::Global;
 use std::fmt::Write;
@@ -19,23 +20,20 @@ const LIMIT: usize = 10_000;
 /// What is printed for this text.
 pub(crate) fn output(alloc: Global, text: &str) -> Result<String, Fault> {
     let rows = crate::text::rows(alloc, text)?;
-    let Some((first, edges)) = rows.split_first() else {
-        return Err(Fault::Line(1, Wrong::Form("the number of nodes is missing")));
+    let said = Said {
+        missing: "the number of nodes is missing",
+        form: "the number of nodes has to be one number",
+        name: "the number of nodes",
     };
-    let nodes = match *first.numbers.as_slice() {
-        [nodes @ 0..=LIMIT] => nodes,
-        [nodes] => {
-            let wrong = Wrong::Above("the number of nodes", nodes, LIMIT);
-            return Err(Fault::Line(first.line, wrong));
-        }
-        _ => return Err(Fault::Line(
-            first.line,
-            Wrong::Form("the number of nodes has to be one number"),
-        )),
-    };
-    let mut answer = String::new(alloc);
+    let (nodes, edges) = first_number(&rows, LIMIT, &said)?;
+    lines_of(alloc, nodes, edges)
+}
+
+// The pairs of nodes that a path of these edges joins, one a line.
+fn lines_of(alloc: Global, nodes: usize, edges: &[Row]) -> Result<String, Fault> {
+    let mut lines = String::new(alloc);
     for (from, to) in &closure(alloc, nodes, edges)? {
-        writeln!(answer, "{from} {to}")?;
+        writeln!(lines, "{from} {to}")?;
     }
-    Ok(answer)
+    Ok(lines)
 }

@@ -5,10 +5,12 @@
 //! empty part among them, in ascending order. Where some line is not as said here, nothing is
 //! answered but one sentence on standard error with the number of that line, and the status is 1.
 
-ghost use Rattle.std.specs.Prelude.{◌≡◌, IfOk};
+ghost use Rattle.std.specs.Prelude.{◌≡◌, ◌≤◌, IfOk};
 ghost use Rattle.std.specs.List.{flat_map};
 
-use crate::text::{Fault, Row, Wrong};
+use crate::text::first::{Said, first_number};
+use crate::text::{Fault, Row};
+use fixedbitset::FixedBitSet;
 use parts::totals;
 use std::alloc::{AllocError, Global};
 use std::fmt::Write;
@@ -21,27 +23,34 @@ const LIMIT: usize = 10_000_000;
 /// What is printed for this text.
 pub(crate) fn output(alloc: Global, text: &str) -> Result<String, Fault> {
     let rows = crate::text::rows(alloc, text)?;
-    let Some((first, others)) = rows.split_first() else {
-        return Err(Fault::Line(1, Wrong::Form("the limit is missing")));
+    let said = Said {
+        missing: "the limit is missing",
+        form: "the limit has to be one number",
+        name: "the limit",
     };
-    let limit = match *first.numbers.as_slice() {
-        [limit @ 0..=LIMIT] => limit,
-        [limit] => {
-            let wrong = Wrong::Above("the limit", limit, LIMIT);
-            return Err(Fault::Line(first.line, wrong));
+    let (limit, others) = first_number(&rows, LIMIT, &said)?;
+    Ok(totals_of(alloc, others, limit)?)
+}
+
+// The totals up to the limit that parts of the numbers of these rows have, in one line.
+fn totals_of(alloc: Global, rows: &[Row], limit: usize) -> Result<String, AllocError>
+    requires { limit ≤ LIMIT }
+{
+    let numbers = numbers_of(alloc, rows)?;
+    line_of(alloc, &totals(alloc, &numbers, limit)?)
+}
+
+// The positions of a set in one line.
+fn line_of(alloc: Global, set: &FixedBitSet) -> Result<String, AllocError> {
+    let mut line = String::new(alloc);
+    for position in set.ones() {
+        if position > 0 {
+            line.push_str(" ")?;
         }
-        _ => return Err(Fault::Line(first.line, Wrong::Form("the limit has to be one number"))),
-    };
-    let numbers = numbers_of(alloc, others)?;
-    let mut answer = String::new(alloc);
-    for total in totals(alloc, &numbers, limit)?.ones() {
-        if total > 0 {
-            answer.push_str(" ")?;
-        }
-        write!(answer, "{total}")?;
+        write!(line, "{position}")?;
     }
-    answer.push_str("\n")?;
-    Ok(answer)
+    line.push_str("\n")?;
+    Ok(line)
 }
 
 // The numbers of all rows, row after row.

@@ -1,5 +1,5 @@
-//! Rows of numbers in a text, sets of such numbers, and how a program reads its input and ends:
-//! what the worked uses share.
+//! Rows of numbers in a text, the one number of a first row, sets of such numbers, and how a
+//! program reads its input and ends: what the worked uses share.
 //!
 //! Each line of the text is a row. Its words stand between spaces, and each of them has to be a
 //! number: one or more decimal digits and nothing else, of a value below 2 ^ 64
@@ -17,6 +17,7 @@ ghost use Rattle.uses.specs.Faults.{IsFaultOfLine};
 use std::alloc::{AllocError, AllocFailed, Global};
 use thiserror::Error;
 
+pub mod first;
 pub mod program;
 pub mod sets;
 

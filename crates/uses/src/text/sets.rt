@@ -1,10 +1,11 @@
-//! Sets of the numbers of a row.
+//! Sets of the numbers of a row, and their lines.
 
 ghost use Rattle.std.specs.Prelude.{MatchOption, IfOk};
 ghost use Rattle.uses.specs.Sets.{AreBelow, IsSetOf};
 
 use fixedbitset::FixedBitSet;
 use std::alloc::{AllocError, Global};
+use std::fmt::Write;
 
 /// The set of this length that has these positions and no other. `None` comes exactly where some
 /// is not below the length.
@@ -25,4 +26,13 @@ pub fn set_of(
         set.insert(*position);
     }
     Ok(Some(set))
+}
+
+/// The positions of a set, one a line.
+pub fn as_lines(alloc: Global, set: &FixedBitSet) -> Result<String, AllocError> {
+    let mut lines = String::new(alloc);
+    for position in set.ones() {
+        writeln!(lines, "{position}")?;
+    }
+    Ok(lines)
 }
