@@ -16,11 +16,12 @@
 //! Where some line is not as said here, nothing is answered but one sentence on standard error with
 //! the number of that line, and the status is 1.
 
-ghost use Rattle.std.specs.Prelude.{◌+◌, ◌≤◌, OnOk, IfErr, IfSome};
+ghost use Rattle.std.specs.Prelude.{◌+◌, ◌≤◌, OnOk, IfErr, IfSome, MatchOption};
 ghost use Rattle.uses.specs.Faults.{AreAll, IsFaultOfRow};
 ghost use Rattle.uses.specs.Commands.{IsCommand};
 ghost use Rattle.uses.specs.Pool.{IsTakenStretch};
 
+use crate::text::first::{Said, first_number};
 use crate::text::{Fault, Row, Wrong};
 use pool::{Slots, never_twice, take_two};
 use std::alloc::{AllocError, Global};
@@ -34,24 +35,21 @@ const LIMIT: usize = 1_000_000;
 /// What is printed for this text.
 pub(crate) fn output(alloc: Global, text: &str) -> Result<String, Fault> {
     let rows = crate::text::rows(alloc, text)?;
-    let Some((first, others)) = rows.split_first() else {
-        return Err(Fault::Line(1, Wrong::Form("the number of slots is missing")));
+    let said = Said {
+        missing: "the number of slots is missing",
+        form: "the number of slots has to be one number",
+        name: "the number of slots",
     };
-    let many = match *first.numbers.as_slice() {
-        [many @ 0..=LIMIT] => many,
-        [many] => {
-            let wrong = Wrong::Above("the number of slots", many, LIMIT);
-            return Err(Fault::Line(first.line, wrong));
-        }
-        _ => {
-            let wanted = "the number of slots has to be one number";
-            return Err(Fault::Line(first.line, Wrong::Form(wanted)));
-        }
-    };
+    let (many, others) = first_number(&rows, LIMIT, &said)?;
+    answers_of(alloc, many, others)
+}
+
+// The answers to these rows, of so many slots.
+fn answers_of(alloc: Global, many: usize, rows: &[Row]) -> Result<String, Fault> {
     let mut slots = Slots::new(alloc, many)?;
     // A law of the calls that the lines make. It does nothing.
     never_twice();
-    let mut answers = carry_out(alloc, &mut slots, others)?;
+    let mut answers = carry_out(alloc, &mut slots, rows)?;
     move_to_front(&mut slots, many, &mut answers)?;
     Ok(answers)
 }
@@ -64,31 +62,51 @@ fn carry_out(alloc: Global, slots: &mut Slots, rows: &[Row]) -> Result<String, F
 {
     let mut answers = String::new(alloc);
     for row in rows {
-        match *row.numbers.as_slice() {
-            [] => match slots.take() {
-                Some(slot) => writeln!(answers, "{slot}")?,
-                None => answers.push_str("full\n")?,
-            },
-            [slot] if slots.is_taken(slot) => {
-                slots.give_back(slot);
-                answers.push_str("ok\n")?;
-            }
-            [_] => answers.push_str("free\n")?,
-            [count, from] => match slots.take_stretch(count, from) {
-                Some(start) => writeln!(answers, "{start}")?,
-                None => answers.push_str("full\n")?,
-            },
-            [count, from, end] => match take_before(slots, count, from, end) {
-                Some(start) => writeln!(answers, "{start}")?,
-                None => answers.push_str("full\n")?,
-            },
-            _ => {
-                let wanted = "a command has to be three numbers at most";
-                return Err(Fault::Line(row.line, Wrong::Form(wanted)));
-            }
-        }
+        let Some(answer) = answer_to(slots, &row.numbers) else {
+            let wanted = "a command has to be three numbers at most";
+            return Err(Fault::Line(row.line, Wrong::Form(wanted)));
+        };
+        write_answer(&mut answers, answer)?;
     }
     Ok(answers)
+}
+
+// What the slots answer to a command.
+#[derive(Clone, Copy)]
+enum Answer {
+    // The slot that was taken, or the start of the stretch, or none where nothing was taken.
+    Taken(Option<usize>),
+    // The slot was given back.
+    Back,
+    // The slot was not taken.
+    Free,
+}
+
+// Carries out a command. `None` comes exactly where the numbers are none.
+fn answer_to(slots: &mut Slots, numbers: &[usize]) -> Option<Answer>
+    ensures { MatchOption result (¬ (IsCommand numbers.now)) (λ _. IsCommand numbers.now) }
+{
+    match *numbers {
+        [] => Some(Answer::Taken(slots.take())),
+        [slot] if slots.is_taken(slot) => {
+            slots.give_back(slot);
+            Some(Answer::Back)
+        }
+        [_] => Some(Answer::Free),
+        [count, from] => Some(Answer::Taken(slots.take_stretch(count, from))),
+        [count, from, end] => Some(Answer::Taken(take_before(slots, count, from, end))),
+        _ => None,
+    }
+}
+
+// Adds the line of an answer.
+fn write_answer(answers: &mut String, answer: Answer) -> Result<(), AllocError> {
+    match answer {
+        Answer::Taken(Some(slot)) => writeln!(answers, "{slot}"),
+        Answer::Taken(None) => answers.push_str("full\n"),
+        Answer::Back => answers.push_str("ok\n"),
+        Answer::Free => answers.push_str("free\n"),
+    }
 }
 
 // Takes the stretch that `take_stretch` takes, if it does not go past `end`.
@@ -114,10 +132,14 @@ fn move_to_front(slots: &mut Slots, many: usize, answers: &mut String) -> Result
             }
         }
     }
+    write_free(slots, answers)
+}
+
+// Adds how many slots are free, and takes and adds the two least of them where there are two.
+fn write_free(slots: &mut Slots, answers: &mut String) -> Result<(), AllocError> {
     write!(answers, "{} free", slots.free())?;
     if let Some((first, second)) = take_two(slots) {
         write!(answers, ": {first} {second}")?;
     }
-    answers.push_str("\n")?;
-    Ok(())
+    answers.push_str("\n")
 }
