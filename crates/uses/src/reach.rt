@@ -6,14 +6,14 @@
 //! there is not, nothing is answered but one sentence on standard error with the number of that
 //! line, and the status is 1.
 
-ghost use Rattle.std.specs.Prelude.{◌≡◌, IfOk, IfErr, map, length};
+ghost use Rattle.std.specs.Prelude.{◌≡◌, ◌<◌, IfOk, IfErr, map, length};
 ghost use Rattle.uses.specs.Faults.{IsFaultOfRow};
 ghost use Rattle.uses.specs.Reach.{IsGraph, AreNodes};
 
+use crate::text::sets::as_lines;
 use crate::text::{Fault, Row, Wrong};
 use fixedbitset::Steps;
-use std::alloc::Global;
-use std::fmt::Write;
+use std::alloc::{AllocError, Global};
 use walk::{are_nodes, is_graph, reachable};
 
 mod walk;
@@ -24,22 +24,30 @@ pub(crate) fn output(alloc: Global, text: &str) -> Result<String, Fault> {
     let Some((first, others)) = rows.split_first() else {
         return Err(Fault::Line(1, Wrong::Form("the start is missing")));
     };
-    let start = match *first.numbers.as_slice() {
-        [start] if start < others.len() => start,
-        [start] => {
-            let wrong = Wrong::NotBelow("the start", start, others.len());
-            return Err(Fault::Line(first.line, wrong));
-        }
-        _ => return Err(Fault::Line(first.line, Wrong::Form("the start has to be one number"))),
-    };
+    let start = start_of(first, others.len())?;
     let graph = graph_of(alloc, others)?;
     prove!(is_graph(&graph));
-    let reached = reachable(alloc, &graph, start, &mut Steps::new(), &mut Steps::new())?;
-    let mut answer = String::new(alloc);
-    for node in reached.ones() {
-        writeln!(answer, "{node}")?;
+    Ok(lines_of(alloc, &graph, start)?)
+}
+
+// The start that a row names, where there are so many nodes.
+fn start_of(row: &Row, nodes: usize) -> Result<usize, Fault>
+    ensures { IfOk result (λ start. start < nodes) }
+{
+    match *row.numbers.as_slice() {
+        [start] if start < nodes => Ok(start),
+        [start] => Err(Fault::Line(row.line, Wrong::NotBelow("the start", start, nodes))),
+        _ => Err(Fault::Line(row.line, Wrong::Form("the start has to be one number"))),
     }
-    Ok(answer)
+}
+
+// The nodes that a path from the start leads to, one a line.
+fn lines_of(alloc: Global, graph: &[Vec<usize>], start: usize) -> Result<String, AllocError>
+    requires graph { IsGraph graph.now }
+    requires start { start < length graph.now }
+{
+    let reached = reachable(alloc, graph, start, &mut Steps::new(), &mut Steps::new())?;
+    as_lines(alloc, &reached)
 }
 
 // The graph that has these rows. The fault has the first row with an edge to no node.
