@@ -7,9 +7,9 @@
 //! the number of that line, from 1 on, and the status is 1.
 
 ghost use Rattle.std.specs.Prelude.{◌≡◌, ℕ, ◌+◌, ◌<◌, ◌≤◌, ◌⊎◌, ◌↔◌, MatchOption};
-ghost use Rattle.std.specs.Prelude.{IfOk, IfSome, IsTrue, All, Contains};
+ghost use Rattle.std.specs.Prelude.{IfOk, OnOk, IfSome, IsTrue, All, Contains, length};
 ghost use Rattle.fixedbitset.specs.Bits.{contains};
-ghost use Rattle.flow.specs.Flow.{IsProblem};
+ghost use Rattle.flow.specs.Flow.{HaveLength, IsProblem};
 ghost use Rattle.uses.specs.Variables.{AreLetters, AreVariables};
 
 use crate::text::{Fault, Wrong, numbers_of};
@@ -49,18 +49,29 @@ pub(crate) fn output(alloc: Global, text: &str) -> Result<String, Fault> {
         next,
     } = program_of(alloc, text)?;
     let live = live_before(alloc, LETTERS.len(), &next, &uses, &defines)?;
-    let mut answers = String::new(alloc);
+    Ok(lines_of(alloc, &live)?)
+}
+
+// A line for each statement: its number, and the variables of its set.
+fn lines_of(alloc: Global, live: &[FixedBitSet]) -> Result<String, AllocError> {
+    let mut lines = String::new(alloc);
     for (number, variables) in live.iter().enumerate() {
-        write!(answers, "{number}:")?;
-        for (variable, letter) in LETTERS.iter().enumerate() {
-            if variables.contains(variable) {
-                let letter = char::from(*letter);
-                write!(answers, " {letter}")?;
-            }
-        }
-        answers.push('\n')?;
+        write!(lines, "{number}:")?;
+        write_letters(&mut lines, variables)?;
+        lines.push('\n')?;
     }
-    Ok(answers)
+    Ok(lines)
+}
+
+// Adds the letters of these variables.
+fn write_letters(line: &mut String, variables: &FixedBitSet) -> Result<(), AllocError> {
+    for (variable, letter) in LETTERS.iter().enumerate() {
+        if variables.contains(variable) {
+            let letter = char::from(*letter);
+            write!(line, " {letter}")?;
+        }
+    }
+    Ok(())
 }
 
 // The program of these lines. The fault has the first line that is no statement, or else the first
@@ -68,6 +79,20 @@ pub(crate) fn output(alloc: Global, text: &str) -> Result<String, Fault> {
 fn program_of(alloc: Global, text: &str) -> Result<Program, Fault>
     ensures { IfOk result (λ program.
         IsProblem 26 program.next.items program.uses.items program.defines.items) }
+{
+    let program = statements_of(alloc, text)?;
+    check_next(&program)?;
+    Ok(program)
+}
+
+// The statements of these lines. The fault has the first line that is none.
+fn statements_of(alloc: Global, text: &str) -> Result<Program, Fault>
+    ensures many { IfOk result (λ program.
+        length program.uses.items ≡ length program.defines.items) }
+    ensures uses { IfOk result (λ program. HaveLength 26 program.uses.items) }
+    ensures defines { IfOk result (λ program. HaveLength 26 program.defines.items) }
+    ensures from { IfOk result (λ program.
+        All (λ edge. edge.0 < length program.uses.items) program.next.items) }
 {
     let mut uses = Vec::new(alloc);
     let mut defines = Vec::new(alloc);
@@ -78,23 +103,41 @@ fn program_of(alloc: Global, text: &str) -> Result<Program, Fault>
             let wanted = "a statement has to be as in x = y z -> 2 3";
             return Err(Fault::Line(from + 1, Wrong::Form(wanted)));
         };
-        for to in &statement.next {
-            next.push((from, *to))?;
-        }
+        add_next(&mut next, from, &statement.next)?;
         uses.push(statement.uses)?;
         defines.push(statement.defines)?;
-    }
-    for (from, to) in &next {
-        if *to >= uses.len() {
-            let wrong = Wrong::NotBelow("the next statement", *to, uses.len());
-            return Err(Fault::Line(*from + 1, wrong));
-        }
     }
     Ok(Program {
         uses,
         defines,
         next,
     })
+}
+
+// Adds the pairs of a statement, which is past those before, and each that may come next.
+fn add_next(pairs: &mut Vec<(usize, usize)>, from: usize, next: &[usize]) -> Result<(), AllocError>
+    requires { All (λ pair. pair.0 ≤ from) pairs.old.items }
+    ensures { OnOk result (All (λ pair. pair.0 ≤ from) pairs.new.items) }
+{
+    for to in next {
+        pairs.push((from, *to))?;
+    }
+    Ok(())
+}
+
+// Whether each next statement is there. The fault has the first line with one that is not.
+fn check_next(program: &Program) -> Result<(), Fault>
+    requires { All (λ edge. edge.0 < length program.now.uses.items) program.now.next.items }
+    ensures { OnOk result
+        (All (λ edge. edge.1 < length program.now.uses.items) program.now.next.items) }
+{
+    for (from, to) in &program.next {
+        if *to >= program.uses.len() {
+            let wrong = Wrong::NotBelow("the next statement", *to, program.uses.len());
+            return Err(Fault::Line(*from + 1, wrong));
+        }
+    }
+    Ok(())
 }
 
 // The statement of a line, if it is one.

@@ -1,6 +1,6 @@
-use Rattle.std.proofs.Common.{◌≡◌, ◌+◌, ◌<◌, ℕ, length, take, All}
+use Rattle.std.proofs.Common.{◌≡◌, ◌<◌, ℕ, length, All}
 use Rattle.flow.specs.Flow.{HaveLength}
-use Rattle.uses.proofs.live.program_of.Given as goal
+use Rattle.uses.proofs.live.statements_of.Given as goal
 
 abbrev pub invariant-loop-line : goal.invariant-loop-line
 invariant-loop-line l = record {
@@ -11,9 +11,3 @@ invariant-loop-line l = record {
   defines : HaveLength 26 l.defines.items;
   from : All (λ (edge : ℕ × ℕ). edge.0 < length l.uses.items) l.next.items;
 }
-
-abbrev pub invariant-loop-to : goal.invariant-loop-to
-invariant-loop-to l = All (λ (edge : ℕ × ℕ). edge.0 < l.from + 1) l.next.items
-
-abbrev pub invariant-loop-from : goal.invariant-loop-from
-invariant-loop-from l = All (λ (edge : ℕ × ℕ). edge.1 < length l.uses.items) (take l.from-index l.from-items)
