@@ -18,7 +18,7 @@
 ghost use Rattle.std.specs.Prelude.{◌≡◌, [], ◌∷◌, MatchOption, IfOk, IfErr, All, map};
 ghost use Rattle.uses.specs.Faults.{IsFaultOfRow};
 ghost use Rattle.uses.specs.Sets.{AreBelow, IsSetOf};
-ghost use Rattle.uses.specs.Automata.{IsDfa};
+ghost use Rattle.uses.specs.Automata.{IsNfa, IsDfa};
 ghost use Rattle.uses.specs.AutomatonEdges.{IsEdge, IsBetween};
 
 use crate::text::sets::set_of;
@@ -40,26 +40,33 @@ const LETTERS: usize = 100;
 /// What is printed for this text.
 pub(crate) fn output(alloc: Global, text: &str) -> Result<String, Fault> {
     let rows = crate::text::rows(alloc, text)?;
-    let [size, start, accepting, others @ ..] = rows.as_slice() else {
-        return Err(Fault::Line(rows.len() + 1, Wrong::Form("a line is missing")));
+    output_of(alloc, &rows, rows.len() + 1)
+}
+
+// What is printed for these rows, behind which this line would stand.
+fn output_of(alloc: Global, rows: &[Row], line: usize) -> Result<String, Fault> {
+    let [size, start, accepting, others @ ..] = rows else {
+        return Err(Fault::Line(line, Wrong::Form("a line is missing")));
     };
     let (states, letters, limit) = sizes_of(size)?;
+    let ends = ends_of(alloc, states, start, accepting)?;
+    let (edges, words) = edges_and_words(others, line)?;
+    let nfa = automaton_of(alloc, states, letters, ends, edges)?;
+    answers_to(alloc, &nfa, limit, size.line, words)
+}
+
+// The sets of the start states and of the accepting states.
+fn ends_of(
+    alloc: Global,
+    states: usize,
+    start: &Row,
+    accepting: &Row,
+) -> Result<(FixedBitSet, FixedBitSet), Fault>
+    ensures { IfOk result (λ ends. (ends.0.length ≡ states) × (ends.1.length ≡ states)) }
+{
     let start = states_of(alloc, states, start)?;
     let accepting = states_of(alloc, states, accepting)?;
-    let (edges, words) = edges_and_words(others, rows.len() + 1)?;
-    let nfa = Nfa {
-        states,
-        letters,
-        edges: edges_of(alloc, states, letters, edges)?,
-        start,
-        accepting,
-    };
-    prove!(nfa.is_valid());
-    let Some(dfa) = determinize(alloc, &nfa, limit)? else {
-        let wrong = Wrong::Past("the automaton would have more states than", limit);
-        return Err(Fault::Line(size.line, wrong));
-    };
-    Ok(answers_of(alloc, &dfa, words)?)
+    Ok((start, accepting))
 }
 
 // The rows before the first empty one, and those behind it.
@@ -69,6 +76,49 @@ fn edges_and_words(rows: &[Row], line: usize) -> Result<(&[Row], &[Row]), Fault>
         (Some(edges), Some(words)) => Ok((edges, words)),
         _ => Err(Fault::Line(line, Wrong::Form("an empty line has to follow the edges"))),
     }
+}
+
+// The automaton of these start and accepting states, and of the edges of these rows.
+fn automaton_of(
+    alloc: Global,
+    states: usize,
+    letters: usize,
+    ends: (FixedBitSet, FixedBitSet),
+    rows: &[Row],
+) -> Result<Nfa, Fault>
+    requires start { ends.0.length ≡ states }
+    requires accepting { ends.1.length ≡ states }
+    ensures { IfOk result (λ nfa. IsNfa nfa) }
+{
+    let edges = edges_of(alloc, states, letters, rows)?;
+    let (start, accepting) = ends;
+    let nfa = Nfa {
+        states,
+        letters,
+        edges,
+        start,
+        accepting,
+    };
+    prove!(nfa.is_valid());
+    Ok(nfa)
+}
+
+// Makes the automaton deterministic, and answers for these words. Where it would have more states
+// than the limit, the fault has this line.
+fn answers_to(
+    alloc: Global,
+    nfa: &Nfa,
+    limit: usize,
+    line: usize,
+    words: &[Row],
+) -> Result<String, Fault>
+    requires { IsNfa nfa.now }
+{
+    let Some(dfa) = determinize(alloc, nfa, limit)? else {
+        let wrong = Wrong::Past("the automaton would have more states than", limit);
+        return Err(Fault::Line(line, wrong));
+    };
+    Ok(answers_of(alloc, &dfa, words)?)
 }
 
 // The automaton and which of these words it accepts, as they are printed.
