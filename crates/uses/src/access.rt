@@ -36,11 +36,32 @@ pub(crate) fn output(alloc: Global, text: &str) -> Result<String, Fault> {
     };
     let (roles, rights) = sizes_of(size)?;
     let (first, second, denied, questions) = parts_of(others, rows.len() + 1)?;
+    let both = both_of(alloc, roles, rights, first, second)?;
+    answers_without(alloc, both, denied, questions)
+}
+
+// The answers of a policy without what is denied.
+fn answers_without(
+    alloc: Global,
+    mut policy: Policy,
+    denied: &[Row],
+    questions: &[Row],
+) -> Result<String, Fault> {
+    deny(&mut policy, denied)?;
+    answers_of(alloc, &policy, questions)
+}
+
+// The policy of what both parts grant.
+fn both_of(
+    alloc: Global,
+    roles: usize,
+    rights: usize,
+    first: &[Row],
+    second: &[Row],
+) -> Result<Policy, Fault> {
     let first = policy_of(alloc, roles, rights, first)?;
     let second = policy_of(alloc, roles, rights, second)?;
-    let mut both = first.both(alloc, &second)?;
-    deny(&mut both, denied)?;
-    answers_of(alloc, &both, questions)
+    Ok(first.both(alloc, &second)?)
 }
 
 // The policy that gives exactly what these rows grant. The fault has the
@@ -154,13 +175,18 @@ fn answers_of(alloc: Global, policy: &Policy, rows: &[Row]) -> Result<String, Fa
         let Some((role, rights)) = row.numbers.split_first() else {
             return Err(Fault::Line(row.line, Wrong::Form("a question has to begin with a role")));
         };
-        match answer_to(alloc, policy, *role, rights)? {
-            Answer::Allowed => answers.push_str("yes\n")?,
-            Answer::Lacking(right) => writeln!(answers, "no {right}")?,
-            Answer::Unknown => answers.push_str("no\n")?,
-        }
+        write_answer(&mut answers, answer_to(alloc, policy, *role, rights)?)?;
     }
     Ok(answers)
+}
+
+// Adds the line of an answer.
+fn write_answer(answers: &mut String, answer: Answer) -> Result<(), AllocError> {
+    match answer {
+        Answer::Allowed => answers.push_str("yes\n"),
+        Answer::Lacking(right) => writeln!(answers, "no {right}"),
+        Answer::Unknown => answers.push_str("no\n"),
+    }
 }
 
 // What the policy says to the question for these rights of the role.

@@ -64,7 +64,12 @@ fn named_by(mut words: Args) -> Option<Use> {
     let (Some(name), None) = (words.next(), words.next()) else {
         return None;
     };
-    match name.as_str() {
+    use_of(name.as_str())
+}
+
+// The use that has this name.
+fn use_of(name: &str) -> Option<Use> {
+    match name {
         "access" => Some(Use::Access),
         "closure" => Some(Use::Closure),
         "live" => Some(Use::Live),
