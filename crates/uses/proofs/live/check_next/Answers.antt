@@ -10,7 +10,8 @@ loop-from-preserved c =
     let long = c.len.ensures in
     rw (take_more edges c.loop-from.from-index (0, 0) c.loop-from-test.true)
     (All-push (λ (edge : ℕ × ℕ).
-    edge.1 < length c.args.program.now.uses.items) (take c.loop-from.from-index edges) _ c.loop-from.invariant (omega arith))
+    edge.1 < length c.args.program.now.uses.items) (take c.loop-from.from-index edges) _ c.loop-from.invariant
+    (omega arith))
 
 pub returns : goal.returns
 returns c =
