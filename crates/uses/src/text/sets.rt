@@ -29,7 +29,7 @@ pub fn set_of(
 }
 
 /// The positions of a set, one a line.
-pub fn as_lines(alloc: Global, set: &FixedBitSet) -> Result<String, AllocError> {
+pub(crate) fn as_lines(alloc: Global, set: &FixedBitSet) -> Result<String, AllocError> {
     let mut lines = String::new(alloc);
     for position in set.ones() {
         writeln!(lines, "{position}")?;
