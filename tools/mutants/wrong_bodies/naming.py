@@ -20,7 +20,7 @@ def write_goal(edit, judges, said):
 def goal_found(edit, judge, said):
     """A goal with a stored answer that is false, or a lemma beside these, or else a goal that the tactics leave open, with the
     others of these; or None."""
-    said, function = verdicts.WRAPPED.sub(" ", said), judge.function
+    said, function = verdicts.in_whole_lines(said), judge.function
     path = goals.path_of_answers(edit.crate, function)
     text = edit.crate.sources.get(goals.path_of_answers(edit.crate, edit.functions[0]), "")
     answers = goals.answers_in(text, goals.DECLARATION)

@@ -1,5 +1,6 @@
-"""Judges by what a check says."""
+"""Judges by what a check says. A round says megabytes, of which each of its edits is judged, so they are read once."""
 import dataclasses
+import functools
 import re
 
 from . import goals
@@ -10,6 +11,8 @@ NAMES = re.compile(r"has no field|is not in scope|has no `|was not admitted")
 WRAPPED = re.compile(r"\n +(?=has no )")
 OPEN_GOAL = re.compile(r"(?m)^(?:note: |\./)?(\S+:\d+:\d+: it is not proved .*|proofs/\S+: error: .*)")
 ERROR_IN_PROOF = re.compile(r"(?m)^(?:\./)?(proofs/\S+?\.antt):(\d+):\d+: error: (.*)")
+# What is said of a place, with the lines that go on with it.
+BLOCK = re.compile(r"(?m)^(?:\./)?(\S+?):(\d+):.*(?:\n .*)*")
 NOTE = re.compile(r"note: (\S+?):(\d+):\d+: (it is not proved .*)")
 NOT_PROVED = re.compile(r"fn (\S+?): (?!proved)(.*)")
 # The line that a check ends with once the front end has taken the text.
@@ -48,6 +51,13 @@ class Unproved:
         return f"::{function.symbol}::" in f"{self.name}::"
 
 
+@functools.lru_cache(maxsize=16)
+def in_whole_lines(said):
+    """What a check says, with each error in one line that only says that a name is gone."""
+    return WRAPPED.sub(" ", said)
+
+
+@functools.lru_cache(maxsize=16)
 def unproved_in(said):
     """The functions that a check did not prove. The notes of a function stand above its line."""
     found, goals = [], []
@@ -61,6 +71,7 @@ def unproved_in(said):
     return found
 
 
+@functools.lru_cache(maxsize=16)
 def errors_in_proofs(said):
     """The places of the errors in proofs, but for those that say only that a name is gone."""
     places = [Place(path, int(line), text) for path, line, text in ERROR_IN_PROOF.findall(said)]
@@ -69,7 +80,7 @@ def errors_in_proofs(said):
 
 def open_goal(said):
     """The first goal that is open anywhere, as a check says it, or None."""
-    for found in OPEN_GOAL.findall(WRAPPED.sub(" ", said)):
+    for found in OPEN_GOAL.findall(in_whole_lines(said)):
         if not NAMES.search(found):
             return f"{found:.200}"
     return None
@@ -78,7 +89,7 @@ def open_goal(said):
 def judged(edit, judges, said, is_by_itself):
     """What a round says of an edit, by what it says of its judges and their closures: refused, waits or unclear, and why.
     Where an edit that changes more than a function is by itself, any open goal refuses it."""
-    said = WRAPPED.sub(" ", said)
+    said = in_whole_lines(said)
     if edit.is_lone and is_by_itself:
         goal = open_goal(said)
         return (REFUSED, f"refused: {goal}") if goal else (UNCLEAR, "")
@@ -100,7 +111,7 @@ def judged(edit, judges, said, is_by_itself):
 
 def judged_by_goal(edit, judge, said):
     """What a round says of an edit that it judges by the goal that its file names: refused, or unclear."""
-    said, function = WRAPPED.sub(" ", said), judge.function
+    said, function = in_whole_lines(said), judge.function
     path = goals.path_of_answers(edit.crate, function)
     for error in errors_in_proofs(said):
         if error.path == path and error.line in edit.lines_of_answer:
@@ -115,8 +126,12 @@ def judged_by_goal(edit, judge, said):
 
 def broke_off(said, error):
     """Whether the search at the place of an error ended before it had tried every way."""
-    blocks = re.findall(rf"(?m)^(?:\./)?{re.escape(error.path)}:{error.line}:.*(?:\n .*)*", said)
-    return any("broke off" in block for block in blocks)
+    return (error.path, error.line) in places_broken_off(said)
+
+
+@functools.lru_cache(maxsize=16)
+def places_broken_off(said):
+    return {(block[1], int(block[2])) for block in BLOCK.finditer(said) if "broke off" in block[0]}
 
 
 def place_of_refusal(unproved, judge, errors):
@@ -165,6 +180,7 @@ def is_taken(said):
     return bool(TAKEN.search(said))
 
 
+@functools.lru_cache(maxsize=16)
 def said_of(crate, said):
     """What a check of several crates says of one, with its paths as they stand in the crate."""
     own = re.sub(rf"(?m)^((?:note: )?(?:\./)?){crate.name}/", r"\1", said)
