@@ -40,14 +40,14 @@ fn totals_of(alloc: Global, rows: &[Row], limit: usize) -> Result<String, AllocE
     line_of(alloc, &totals(alloc, &numbers, limit)?)
 }
 
-// The positions of a set in one line.
-fn line_of(alloc: Global, set: &FixedBitSet) -> Result<String, AllocError> {
+// The totals in one line. The least is 0, that of the empty part.
+fn line_of(alloc: Global, totals: &FixedBitSet) -> Result<String, AllocError> {
     let mut line = String::new(alloc);
-    for position in set.ones() {
-        if position > 0 {
+    for total in totals.ones() {
+        if total > 0 {
             line.push_str(" ")?;
         }
-        write!(line, "{position}")?;
+        write!(line, "{total}")?;
     }
     line.push_str("\n")?;
     Ok(line)
