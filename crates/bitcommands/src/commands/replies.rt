@@ -99,16 +99,15 @@ impl fmt::Display for Reply {
     fn fmt<W: fmt::Write>(&self, f: &mut fmt::Formatter<W>) -> fmt::Result {
         match self {
             Reply::Done => f.write_str("ok"),
-            Reply::Bool(true) => f.write_str("true"),
-            Reply::Bool(false) => f.write_str("false"),
-            Reply::Number(number) => write!(f, "{number}"),
+            Reply::Bool(flag) => fmt::Display::fmt(flag, f),
+            Reply::Number(number) => fmt::Display::fmt(number, f),
             Reply::Position(position) => position.write_to(f),
             Reply::Items(items) => write_parts(items.as_slice(), f),
             Reply::Words(words) => write_words(words.as_slice(), f),
             Reply::Order(order) => f.write_str(order_name(*order)),
             Reply::Text(text) => f.write_str(text),
             Reply::Value(value) => write_value(value, f),
-            Reply::Refused(refusal) => write!(f, "{refusal}"),
+            Reply::Refused(refusal) => fmt::Display::fmt(refusal, f),
         }
     }
 }
