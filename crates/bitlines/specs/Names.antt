@@ -30,9 +30,9 @@ abbrev pub name_in : List (List ℕ × Name) → List ℕ → Option Name
 name_in [] word = None
 name_in (entry ∷ entries) word = if bytes_eq word entry.0 then Some entry.1 else name_in entries word
 
--- the names of up to eight letters, by their length
-abbrev pub short_names : List (List ℕ × Name)
-short_names =
+-- the names of up to five letters, by their length
+abbrev pub shortest_names : List (List ℕ × Name)
+shortest_names =
     (codes "eq", TwoSets Eq) ∷
     (codes "cmp", TwoSets Cmp) ∷
     (codes "len", OneSet Len) ∷
@@ -47,6 +47,11 @@ short_names =
     (codes "clone", TwoSets Clone) ∷
     (codes "index", SetAndNumber Index) ∷
     (codes "union", TwoSetsAndEnds Union) ∷
+    []
+
+-- those of six to eight letters
+abbrev pub short_names : List (List ℕ × Name)
+short_names =
     (codes "bitand", ThreeSets Bitand) ∷
     (codes "bitxor", ThreeSets Bitxor) ∷
     (codes "extend", SetAndList Extend) ∷
@@ -66,7 +71,7 @@ short_names =
     (codes "to_value", OneSet ToValue) ∷
     []
 
--- the longer ones, by their length
+-- those of nine to twelve
 abbrev pub long_names : List (List ℕ × Name)
 long_names =
     (codes "from_iter", SetAndList FromIter) ∷
@@ -88,6 +93,11 @@ long_names =
     (codes "intersection", TwoSetsAndEnds Intersection) ∷
     (codes "remove_range", SetAndRange RemoveRange) ∷
     (codes "toggle_range", SetAndRange ToggleRange) ∷
+    []
+
+-- those of more
+abbrev pub longest_names : List (List ℕ × Name)
+longest_names =
     (codes "bitand_assign", TwoSets BitandAssign) ∷
     (codes "bitxor_assign", TwoSets BitxorAssign) ∷
     (codes "with_capacity", SetAndNumber WithCapacity) ∷
@@ -107,4 +117,5 @@ long_names =
 
 -- the name that a word is, if it is one
 unfoldable pub name_of : List ℕ → Option Name
-name_of word = option_or (name_in short_names word) (name_in long_names word)
+name_of word = option_or (name_in shortest_names word) (option_or (name_in short_names word)
+    (option_or (name_in long_names word) (name_in longest_names word)))

@@ -1,6 +1,7 @@
 //! The names of commands.
 ghost use Rattle.std.specs.Prelude.{◌≡◌};
-ghost use Rattle.bitlines.specs.Names.{name_in, short_names, long_names, name_of};
+ghost use Rattle.bitlines.specs.Names.{name_in, name_of};
+ghost use Rattle.bitlines.specs.Names.{shortest_names, short_names, long_names, longest_names};
 
 use crate::words::is;
 
@@ -157,15 +158,21 @@ macro_rules! name_in {
 pub(crate) fn name_of(word: &[u8]) -> Option<Name>
     ensures { result ≡ name_of word.now }
 {
-    match short_name(word) {
+    if let Some(name) = shortest_name(word) {
+        return Some(name);
+    }
+    if let Some(name) = short_name(word) {
+        return Some(name);
+    }
+    match long_name(word) {
         Some(name) => Some(name),
-        None => long_name(word),
+        None => longest_name(word),
     }
 }
 
 #[inline]
-fn short_name(word: &[u8]) -> Option<Name>
-    ensures { result ≡ name_in short_names word.now }
+fn shortest_name(word: &[u8]) -> Option<Name>
+    ensures { result ≡ name_in shortest_names word.now }
 {
     name_in!(word;
         b"eq" => Name::TwoSets(TwoSets::Eq),
@@ -182,6 +189,14 @@ fn short_name(word: &[u8]) -> Option<Name>
         b"clone" => Name::TwoSets(TwoSets::Clone),
         b"index" => Name::SetAndNumber(SetAndNumber::Index),
         b"union" => Name::TwoSetsAndEnds(TwoSetsAndEnds::Union),
+    )
+}
+
+#[inline]
+fn short_name(word: &[u8]) -> Option<Name>
+    ensures { result ≡ name_in short_names word.now }
+{
+    name_in!(word;
         b"bitand" => Name::ThreeSets(ThreeSets::Bitand),
         b"bitxor" => Name::ThreeSets(ThreeSets::Bitxor),
         b"extend" => Name::SetAndList(SetAndList::Extend),
@@ -225,6 +240,13 @@ fn long_name(word: &[u8]) -> Option<Name>
         b"intersection" => Name::TwoSetsAndEnds(TwoSetsAndEnds::Intersection),
         b"remove_range" => Name::SetAndRange(SetAndRange::RemoveRange),
         b"toggle_range" => Name::SetAndRange(SetAndRange::ToggleRange),
+    )
+}
+
+fn longest_name(word: &[u8]) -> Option<Name>
+    ensures { result ≡ name_in longest_names word.now }
+{
+    name_in!(word;
         b"bitand_assign" => Name::TwoSets(TwoSets::BitandAssign),
         b"bitxor_assign" => Name::TwoSets(TwoSets::BitxorAssign),
         b"with_capacity" => Name::SetAndNumber(SetAndNumber::WithCapacity),
