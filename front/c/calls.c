@@ -328,7 +328,8 @@ static void walks(void) {
 }
 
 /* Handfuls of a set with stretches of many and of few positions, at each room: the positions in order, and the places behind
- * them as they were. */
+ * them as they were. (Those behind the room are compared behind the last handful: what a call leaves there stays. Under
+ * valgrind and emulators these comparisons took most of the time, where they were made for each handful.) */
 static void handfuls(void) {
     enum { LENGTH = 3000 };
     uint64_t words[BITS_WORDS(LENGTH)] = {0};
@@ -350,9 +351,10 @@ static void handfuls(void) {
                 const size_t left = many[is_set] - done, had = room < left ? room : left;
                 assert((is_set ? bits_ones_take : bits_zeroes_take)(&walk, taken, room) == had);
                 assert(!memcmp(taken, wanted[is_set] + done, had * sizeof *taken));
-                assert(!memcmp(taken + had, untaken + had, sizeof taken - had * sizeof *taken));
+                assert(!memcmp(taken + had, untaken + had, (room - had) * sizeof *taken));
                 memset(taken, 255, had * sizeof *taken);
             }
+            assert(!memcmp(taken + room, untaken + room, sizeof taken - room * sizeof *taken));
         }
 }
 
@@ -379,7 +381,7 @@ static void handfuls_of_32_bits(void) {
                 assert(bits_ones_take_u32(&other, narrow, room) == had);
                 for (size_t k = 0; k < had; k++)
                     assert(narrow[k] == wide[k]);
-                assert(!memcmp(narrow + had, untaken + had, sizeof narrow - had * sizeof *narrow));
+                assert(had <= room && !memcmp(narrow + had, untaken + had, (room - had) * sizeof *narrow));
                 memset(narrow, 255, had * sizeof *narrow);
                 if (turn % 3 == 1)
                     assert(bits_ones_next(&one, &first) == bits_ones_next(&other, &same) && first == same);
@@ -388,6 +390,7 @@ static void handfuls_of_32_bits(void) {
                     assert(bits_ones_next_back(&one, &last) == bits_ones_next_back(&other, &same) && last == same);
                 same = first;
             }
+            assert(!memcmp(narrow + room, untaken + room, sizeof narrow - room * sizeof *narrow));
             assert(room == 0 || !bits_ones_next(&other, &same));
         }
         free(set.words);
