@@ -29,3 +29,6 @@ loop-byte-preserved c =
             (letter_more _ _ _ (search rules) (search rules) before.variables);
       }
     ])
+
+pub returns-in_default : goal.returns-in_default
+returns-in_default c = search rules steps 300000
