@@ -1,4 +1,4 @@
-use Rattle.std.proofs.Common.{◌∙◌, ℕ, Bool, true, sym, arith, true≢false}
+use Rattle.std.proofs.Common.{◌∙◌, ℕ, Bool, true, sym, arith, true≢false, rules}
 use Rattle.bitwords.specs.Rows.{count_below, bit_test}
 use Rattle.bitwords.proofs.Counted.{grows_within, same-between, stays_upto}
 use Rattle.bitwords.proofs.ranges.none.Goals as goal
@@ -30,3 +30,6 @@ returns-then-none_whole-clause-none g c =
           ∙ w.none_whole.ensures.none ∙ same-between _ _ _ _ c.cut-low.ensures bits)
       | else-none_part w ↦ absurd (true≢false (sym c.if-none_whole.true ∙ w.value-is ∙ w.if-none_part.false))
     ]
+
+pub returns-else-none_whole-clause-stops : goal.returns-else-none_whole-clause-stops
+returns-else-none_whole-clause-stops g c = search rules steps 300000
