@@ -18,4 +18,4 @@ returns-else-self-other-clause-answer c =
     ∙ length-of_words c.args.other.length c.args.other.words.now)))
 
 pub returns-then-self-other-clause-exact_if_true : goal.returns-then-self-other-clause-exact_if_true
-returns-then-self-other-clause-exact_if_true c = search rules steps 2000000
+returns-then-self-other-clause-exact_if_true c = search rules steps 1000000
