@@ -8,7 +8,7 @@ use std::arch::asm;
 use std::sync::atomic::{AtomicUsize, Ordering};
 use std::time::Instant;
 
-/// Below so many additions a cycle the core does something else too. One that does not gives about four.
+/// Below so many additions a cycle the core does something else too. One that does not gives four or more.
 const ADDITIONS: f64 = 3.4;
 
 /// So many times the turns that are wanted are made where the core is never free for long enough.
@@ -28,19 +28,22 @@ pub fn is_shared() -> bool {
     (0..3).all(|_| gives_few())
 }
 
-/// At one look: each addition of the first loop waits for the one before, and four of the second do not.
+/// At one look: each addition of the first loop waits for the one before, and eight of the second do not. They add a register,
+/// for a number that stands in the instruction takes a newer processor no time.
 fn gives_few() -> bool {
     const LOOPS: u64 = 400;
     let one_by_one = seconds(|| unsafe {
-        asm!("2:", ".rept 64", "add {sum}, 1", ".endr", "dec {loops}", "jnz 2b",
-            sum = inout(reg) 0_u64 => _, loops = inout(reg) LOOPS => _);
+        asm!("2:", ".rept 64", "add {sum}, {one}", ".endr", "dec {loops}", "jnz 2b",
+            sum = inout(reg) 0_u64 => _, one = in(reg) 1_u64, loops = inout(reg) LOOPS => _);
     });
-    let four_at_once = seconds(|| unsafe {
-        asm!("2:", ".rept 16", "add {a}, 1", "add {b}, 1", "add {c}, 1", "add {d}, 1", ".endr", "dec {loops}", "jnz 2b",
+    let eight_at_once = seconds(|| unsafe {
+        asm!("2:", ".rept 8", "add {a}, {one}", "add {b}, {one}", "add {c}, {one}", "add {d}, {one}",
+            "add {e}, {one}", "add {f}, {one}", "add {g}, {one}", "add {h}, {one}", ".endr", "dec {loops}", "jnz 2b",
             a = inout(reg) 0_u64 => _, b = inout(reg) 0_u64 => _, c = inout(reg) 0_u64 => _, d = inout(reg) 0_u64 => _,
-            loops = inout(reg) LOOPS => _);
+            e = inout(reg) 0_u64 => _, f = inout(reg) 0_u64 => _, g = inout(reg) 0_u64 => _, h = inout(reg) 0_u64 => _,
+            one = in(reg) 1_u64, loops = inout(reg) LOOPS => _);
     });
-    one_by_one < ADDITIONS * four_at_once
+    one_by_one < ADDITIONS * eight_at_once
 }
 
 /// Turns until so many were made on a core that was free when they ended.
