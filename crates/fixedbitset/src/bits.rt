@@ -162,9 +162,9 @@ impl FixedBitSet {
     ///
     /// ```
     /// let mut set = FixedBitSet::from_iter(alloc, [3, 64])?;
-    /// assert!(rt; set.take(64));
+    /// assert_eq!(rt; set.len(), 65);
+    /// assert!(rt; set.take(64) && set.count_ones(..) == 1);
     /// assert!(rt; !set.take(64));
-    /// assert_eq!(rt; set.count_ones(..), 1);
     /// ```
     #[inline]
     #[tactic(auto, using(crate::proofs::Words::given_back, crate::proofs::Words::viewed_length))]
@@ -204,6 +204,7 @@ impl FixedBitSet {
     ///
     /// ```
     /// let mut set = FixedBitSet::from_iter(alloc, [3, 64, 69])?;
+    /// assert_eq!(rt; set.len(), 70);
     /// set.remove_all(&[69, 3, 69]);
     /// assert_eq!(rt; set.as_slice(), [0, 1].as_slice());
     /// ```

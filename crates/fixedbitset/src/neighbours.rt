@@ -118,7 +118,7 @@ impl FixedBitSet {
     ///
     /// ```
     /// let mut set = FixedBitSet::from_iter(alloc, [3, 6, 90])?;
-    /// assert_eq!(rt; set.first_aligned_gap(3, 4, 1..), Some(8));
+    /// assert!(rt; set.len() == 91 && set.first_aligned_gap(3, 4, 1..) == Some(8));
     /// assert_eq!(rt; set.first_aligned_gap(3, 4, 9..), Some(12));
     /// assert_eq!(rt; set.first_aligned_gap(3, 4, 9..14), None);
     /// ```

@@ -78,6 +78,7 @@ impl FixedBitSet {
     ///
     /// ```
     /// let set = FixedBitSet::from_iter(alloc, [1, 63, 65, 69])?;
+    /// assert_eq!(rt; set.len(), 70);
     /// assert_eq!(rt; set.load(62, 8), 138);
     /// assert_eq!(rt; set.load(70, 0), 0);
     /// ```
@@ -98,6 +99,7 @@ impl FixedBitSet {
     ///
     /// ```
     /// let mut set = FixedBitSet::from_iter(alloc, [1, 63, 65, 69])?;
+    /// assert_eq!(rt; set.len(), 70);
     /// set.store(62, 4, 5);
     /// assert!(rt; set.ones().eq([1, 62, 64, 69]));
     /// ```

@@ -1,7 +1,7 @@
 //! The examples in the docs of `fixedbitset::bits`.
 //! tools/docs/make_examples writes this file.
 
-use crate::calls::{cleared, equal, holds, set_of};
+use crate::calls::{cleared, equal, holds, known_equal, set_of};
 
 #[test]
 fn contains(rt: HostRuntime) {
@@ -84,12 +84,13 @@ fn put_unchecked(rt: HostRuntime) {
 }
 
 #[test]
+#[tactic(auto, using(fixedbitset::specs::BitsFacts::facts))]
 fn take(rt: HostRuntime) {
     let alloc = rt.alloc();
     let mut set = set_of(&rt, alloc, &[3, 64]);
-    holds(&rt, set.take(64));
+    known_equal(&rt, set.len(), 65);
+    holds(&rt, set.take(64) && set.count_ones(..) == 1);
     holds(&rt, !set.take(64));
-    equal(&rt, set.count_ones(..), 1);
 }
 
 #[test]
@@ -105,6 +106,7 @@ fn insert_all(rt: HostRuntime) {
 fn remove_all(rt: HostRuntime) {
     let alloc = rt.alloc();
     let mut set = set_of(&rt, alloc, &[3, 64, 69]);
+    known_equal(&rt, set.len(), 70);
     set.remove_all(&[69, 3, 69]);
     equal(&rt, set.as_slice(), [0, 1].as_slice());
 }

@@ -27,6 +27,7 @@ fn copy_range(rt: HostRuntime) {
 fn load(rt: HostRuntime) {
     let alloc = rt.alloc();
     let set = set_of(&rt, alloc, &[1, 63, 65, 69]);
+    known_equal(&rt, set.len(), 70);
     equal(&rt, set.load(62, 8), 138);
     equal(&rt, set.load(70, 0), 0);
 }
@@ -36,6 +37,7 @@ fn load(rt: HostRuntime) {
 fn store(rt: HostRuntime) {
     let alloc = rt.alloc();
     let mut set = set_of(&rt, alloc, &[1, 63, 65, 69]);
+    known_equal(&rt, set.len(), 70);
     set.store(62, 4, 5);
     gives(&rt, set.ones(), &[1, 62, 64, 69]);
 }

@@ -113,7 +113,7 @@ fn put(rt: HostRuntime) {
 }
 
 #[test]
-#[tactic(auto, using(fixedbitset::specs::WordsFacts::facts))]
+#[tactic(auto, using(fixedbitset::specs::BitsFacts::facts, fixedbitset::specs::WordsFacts::facts))]
 fn take(rt: HostRuntime) {
     let mut words = [9, 0, 0, 0];
     let mut set = BitsMut::settle(&mut words, 70, 70);
