@@ -131,6 +131,7 @@ impl Index<usize> for FixedBitSet {
 /// Proved: what each position leaves, once the length is great enough ([contract](crate::contracts#fixedbitsetbitsmutinsert)).
 impl Extend<usize> for FixedBitSet {
     /// Sets each position, and makes the length greater where one needs it. **Panics** at the position `usize::MAX`.
+    #[track_caller]
     fn extend<I: IntoIterator<Item = usize>>(&mut self, positions: I) {
         let mut positions = positions.into_iter();
         while let Some(past) = self.words.insert_each(&mut positions) {
@@ -142,6 +143,7 @@ impl Extend<usize> for FixedBitSet {
 /// Proved: what each position leaves, once the length is great enough ([contract](crate::contracts#fixedbitsetbitsmutinsert)).
 impl FromIterator<usize> for FixedBitSet {
     /// The set of these positions, with the least length that has them. **Panics** at the position `usize::MAX`.
+    #[track_caller]
     fn from_iter<I: IntoIterator<Item = usize>>(positions: I) -> Self {
         let mut set = Self::new();
         set.extend(positions);

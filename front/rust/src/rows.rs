@@ -37,6 +37,7 @@ impl BitRows {
     /// let table = BitRows::new(3, 70);
     /// assert!(!table.get(2, 69));
     /// ```
+    #[track_caller]
     pub fn new(rows: usize, columns: usize) -> Self {
         BitRows {
             table: Table::new(rows, columns),

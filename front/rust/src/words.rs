@@ -271,6 +271,7 @@ pub struct Table {
 
 impl Table {
     /// With no bit.
+    #[track_caller]
     pub fn new(rows: usize, columns: usize) -> Self {
         let count = rows.checked_mul(storage_words(columns));
         Table {

@@ -325,6 +325,12 @@ fn walks_and_the_order_of_two_sets_are_those_of_the_flags() {
         assert!(set.union(second).eq(behind(&ones_of(one))));
         assert!(set.symmetric_difference(second).eq(behind(&left)));
         assert_eq!(set == second, one == other);
+        let (mut words, mut others) = (words.clone(), others.clone());
+        let lent = BitsMut::over(&mut words, one.len());
+        assert_eq!(
+            lent == BitsMut::over(&mut others, other.len()),
+            one == other
+        );
         let by_words = words.cmp(&others);
         let order = one.len().cmp(&other.len()).then(by_words);
         assert_eq!(
@@ -545,88 +551,6 @@ fn unions_with_differences_are_those_of_the_flags() {
         let add = |set: &mut BitsMut| assert_eq!(set.union_with_difference(second, third), adds);
         check(flags, add, wanted);
     }
-}
-
-/// Does a call on a set of length 70, which has to panic with this text.
-fn refused(call: impl FnOnce(&mut BitsMut), text: &str) {
-    let mut words = [0; 4];
-    let mut set = BitsMut::over(&mut words, 70).unwrap();
-    assert_eq!(panic_of(|| call(&mut set)), text);
-    assert_eq!(words, [0; 4]);
-}
-
-#[test]
-fn what_no_call_takes_panics() {
-    let at = |call: &str, bit: usize| format!("{call} index {bit} exceeds fixedbitset size 70");
-    for bit in [70, 71, usize::MAX] {
-        refused(|set| set.insert(bit), &at("insert at", bit));
-        refused(|set| set.remove(bit), &at("remove at", bit));
-        refused(|set| set.toggle(bit), &at("toggle at", bit));
-        refused(|set| assert!(set.put(bit)), &at("put at", bit));
-        refused(|set| assert!(set.take(bit)), &at("take at", bit));
-        refused(|set| set.set(bit, true), &at("set at", bit));
-        refused(|set| set.copy_bit(0, bit), &at("copy to", bit));
-        refused(|set| set.insert_all(&[1, bit]), &at("insert at", bit));
-        refused(|set| set.remove_all(&[1, bit]), &at("remove at", bit));
-        refused(|set| set.set_block(bit, 1), &at("set block at", bit));
-    }
-    refused(|set| set.set_block(2, 1), &at("set block at", 2));
-    let wide = "65 positions for a number of 64 bits";
-    refused(|set| set.store(0, 65, 1), wide);
-    refused(|set| assert_eq!(set.as_bits().load(0, 65), 0), wide);
-    for (start, width) in [(7, 64), (70, 1), (71, 0), (usize::MAX, 2)] {
-        let end = start.saturating_add(width);
-        let text = format!("invalid range {start}..{end} for a fixedbitset of size 70");
-        refused(|set| set.store(start, width, 1), &text);
-        refused(|set| assert_eq!(set.as_bits().load(start, width), 0), &text);
-    }
-    for (start, end) in [(9, 8), (0, 71), (71, 71)] {
-        let text = format!("invalid range {start}..{end} for a fixedbitset of size 70");
-        refused(|set| set.insert_range(start..end), &text);
-        refused(|set| set.remove_range(start..end), &text);
-        refused(|set| set.toggle_range(start..end), &text);
-        refused(
-            |set| assert_eq!(set.as_bits().count_ones(start..end), 0),
-            &text,
-        );
-        refused(
-            |set| assert!(set.as_bits().ones_in(start..end).eq([])),
-            &text,
-        );
-        refused(
-            |set| assert!(set.as_bits().zeroes_in(start..end).eq([])),
-            &text,
-        );
-    }
-}
-
-#[test]
-fn sets_of_lengths_that_do_not_fit_panic() {
-    let other = FixedBitSet::with_capacity(71);
-    let longer = other.as_bits();
-    let join = "a join with size 71 exceeds fixedbitset size 70";
-    refused(|set| set.union_with(longer), join);
-    refused(|set| set.symmetric_difference_with(longer), join);
-    refused(|set| assert!(set.union_with_change(longer)), join);
-    refused(
-        |set| assert!(set.union_with_difference(longer, longer)),
-        join,
-    );
-    let one = Bits::over(&[9, 0, 0, 0], 69).unwrap();
-    let of = |size: usize| format!("a result of size {size} for a fixedbitset of size 70");
-    refused(|set| set.union_of(one, longer), &of(71));
-    refused(|set| set.union_of(one, one), &of(69));
-    refused(|set| set.symmetric_difference_of(longer, one), &of(71));
-    refused(|set| set.intersection_of(one, longer), &of(69));
-    refused(|set| set.difference_of(longer, one), &of(71));
-    let room = "copy at index 69 of 2 positions exceeds fixedbitset size 70";
-    refused(|set| set.copy_range(longer, 3..5, 69), room);
-    let panicked = panic_of(|| one.contains_each(&[1, 2], &mut [false]));
-    assert_eq!(panicked, "1 answers for 2 positions");
-    assert_eq!(
-        panic_of(|| one.contains_each(&[1], &mut [true; 2])),
-        "2 answers for 1 positions"
-    );
 }
 
 #[test]
