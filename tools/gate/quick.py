@@ -7,6 +7,7 @@ import subprocess
 import tempfile
 import time
 
+from groups import Groups
 from plan import EXAMPLES, Plan
 from wrong_bodies import crates as crates_of
 
@@ -66,6 +67,8 @@ class Quick:
     def __init__(self, top):
         self.top, self.ends = top, time.monotonic() + SECONDS
         self.passed, self.failed, self.not_reached = 0, 0, []
+        self.groups = Groups()
+        self.groups.end_on_signals()
 
     def step(self, name, words, folder="."):
         """Runs a command; a status other than 0 is a failure. What takes longer than is left is ended, and told."""
@@ -73,7 +76,7 @@ class Quick:
         if left < 1:
             return self.not_reached.append(name)
         print(f"== {name}", flush=True)
-        process = subprocess.Popen(words, cwd=self.top / folder, stdin=subprocess.DEVNULL, start_new_session=True)
+        process = self.groups.begin(words, cwd=self.top / folder, stdin=subprocess.DEVNULL)
         try:
             status = process.wait(timeout=left)
         except subprocess.TimeoutExpired:

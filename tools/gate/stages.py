@@ -7,6 +7,8 @@ import threading
 import time
 from dataclasses import dataclass
 
+from groups import Groups
+
 COUNTS = re.compile(r"(\d+) passed, (\d+) failed")
 # What a line has that tells of a failure, unless it ends with 'ok'.
 FAILURE = re.compile(r"(?!.*: ok$).*(?:FAILED|NOT PROVED|NOT REFUSED|BAD EDIT|UNCLEAR)")
@@ -47,8 +49,8 @@ class Run:
         self.stage, self.gate, self.is_beside, self.log = stage, gate, is_beside, log
         self.lines, self.status, self.began = [], None, time.monotonic()
         words = (["nice"] if nice else []) + stage.words(gate.anew)
-        self.process = subprocess.Popen(words, cwd=folder, stdout=subprocess.PIPE, stderr=subprocess.STDOUT,
-                                        stdin=subprocess.DEVNULL, text=True, errors="replace")
+        pipes = {"stdin": subprocess.DEVNULL, "stdout": subprocess.PIPE, "stderr": subprocess.STDOUT}
+        self.process = gate.groups.begin(words, cwd=folder, text=True, errors="replace", **pipes)
         self.reading = threading.Thread(target=self.read)
         self.reading.start()
 
@@ -92,7 +94,7 @@ class Gate:
     """The counts of all stages, and the first failure."""
     def __init__(self, anew=False):
         self.anew, self.passed, self.failed, self.first = anew, 0, 0, None
-        self.printing, self.began = threading.Lock(), time.monotonic()
+        self.printing, self.began, self.groups = threading.Lock(), time.monotonic(), Groups()
 
     def print(self, text):
         with self.printing:

@@ -47,6 +47,25 @@ tell() {
   echo "$crate: $1" >&2
 }
 
+# below PROCESS: the processes that it began, and those that they did
+below() {
+  local process
+  for process in $(cat "/proc/$1/task/"*/children 2>/dev/null); do
+    echo "$process"
+    below "$process"
+  done
+}
+
+# attend COMMAND..: runs a command. Where this script is told to end, all that the command began ends too.
+attend() {
+  trap 'kill $(below $$) 2>/dev/null || :' EXIT
+  trap 'exit 129' HUP
+  trap 'exit 130' INT
+  trap 'exit 143' TERM
+  "$@" <&0 &
+  wait "$!"
+}
+
 # progress TEXT: tells how far the proof of a crate is, by what the kit says: how many of its functions are checked, that it
 # waits for another run, and that a program is proved, which is then compiled. TEXT says which of the crates it is.
 progress() {
