@@ -21,7 +21,8 @@ pub extern "C" fn bits_bytes(length: usize) -> usize
 /// the length are dropped.
 #[unsafe(no_mangle)]
 pub extern "C" fn bits_from_bytes(set: &mut BitsMut<'_>, bytes: &[u8])
-    ensures { held set.new ≡ json.of_bytes set.old.length bytes.now }
+    ensures value { held set.new ≡ json.of_bytes set.old.length bytes.now }
+    ensures same { set.new.words.ghost_name ≡ set.old.words.ghost_name }
 {
     set.assign_bytes(bytes);
 }

@@ -23,6 +23,7 @@ pub extern "C" fn bits_copy(to: &mut Room<'_>, set: &Bits<'_>) -> bool
         → written to.new ≡ parts.resize (value set.now) to.old.length false }
     ensures stays { result ≡ false → to.new.words.now ≡ to.old.words.now }
     ensures length { to.new.length ≡ to.old.length }
+    ensures same { to.new.words.ghost_name ≡ to.old.words.ghost_name }
 {
     if to.words.len() == bits_words(to.length) {
         set.copy_to(to.words, to.length);
@@ -43,6 +44,7 @@ pub extern "C" fn bits_union_of(to: &mut Room<'_>, set: &Bits<'_>, other: &Bits<
         → written to.new ≡ sets.union (value set.now) (value other.now) }
     ensures stays { result ≡ false → to.new.words.now ≡ to.old.words.now }
     ensures length { to.new.length ≡ to.old.length }
+    ensures same { to.new.words.ghost_name ≡ to.old.words.ghost_name }
 {
     if to.words.len() == bits_words(to.length) && to.length == set.length.max(other.length) {
         set.union_to(*other, to.words);
@@ -67,6 +69,7 @@ pub extern "C" fn bits_symmetric_difference_of(
         → written to.new ≡ sets.symmetric_difference (value set.now) (value other.now) }
     ensures stays { result ≡ false → to.new.words.now ≡ to.old.words.now }
     ensures length { to.new.length ≡ to.old.length }
+    ensures same { to.new.words.ghost_name ≡ to.old.words.ghost_name }
 {
     if to.words.len() == bits_words(to.length) && to.length == set.length.max(other.length) {
         set.symmetric_difference_to(*other, to.words);
@@ -87,6 +90,7 @@ pub extern "C" fn bits_intersection_of(to: &mut Room<'_>, set: &Bits<'_>, other:
         → written to.new ≡ sets.bitand (value set.now) (value other.now) }
     ensures stays { result ≡ false → to.new.words.now ≡ to.old.words.now }
     ensures length { to.new.length ≡ to.old.length }
+    ensures same { to.new.words.ghost_name ≡ to.old.words.ghost_name }
 {
     if to.words.len() == bits_words(to.length) && to.length == set.length.min(other.length) {
         set.intersection_to(*other, to.words);
@@ -108,6 +112,7 @@ pub extern "C" fn bits_difference_of(to: &mut Room<'_>, set: &Bits<'_>, other: &
         → written to.new ≡ sets.difference (value set.now) (value other.now) }
     ensures stays { result ≡ false → to.new.words.now ≡ to.old.words.now }
     ensures length { to.new.length ≡ to.old.length }
+    ensures same { to.new.words.ghost_name ≡ to.old.words.ghost_name }
 {
     if to.words.len() == bits_words(to.length) && to.length == set.length {
         set.difference_to(*other, to.words);

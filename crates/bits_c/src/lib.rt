@@ -103,6 +103,7 @@ pub extern "C" fn bits_insert(set: &mut BitsMut<'_>, bit: usize) -> bool
     ensures answer { result ≡ nat_lt bit set.old.length }
     ensures value { held set.new
         ≡ (if result then model.insert (held set.old) bit else held set.old) }
+    ensures same { set.new.words.ghost_name ≡ set.old.words.ghost_name }
 {
     if bit < set.length {
         set.insert(bit);
@@ -118,6 +119,7 @@ pub extern "C" fn bits_remove(set: &mut BitsMut<'_>, bit: usize) -> bool
     ensures answer { result ≡ nat_lt bit set.old.length }
     ensures value { held set.new
         ≡ (if result then model.remove (held set.old) bit else held set.old) }
+    ensures same { set.new.words.ghost_name ≡ set.old.words.ghost_name }
 {
     if bit < set.length {
         set.remove(bit);
@@ -134,6 +136,7 @@ pub extern "C" fn bits_toggle(set: &mut BitsMut<'_>, bit: usize) -> bool
     ensures answer { result ≡ nat_lt bit set.old.length }
     ensures value { held set.new
         ≡ (if result then model.toggle (held set.old) bit else held set.old) }
+    ensures same { set.new.words.ghost_name ≡ set.old.words.ghost_name }
 {
     if bit < set.length {
         set.toggle(bit);
@@ -150,6 +153,7 @@ pub extern "C" fn bits_set(set: &mut BitsMut<'_>, bit: usize, enabled: bool) -> 
     ensures answer { result ≡ nat_lt bit set.old.length }
     ensures value { held set.new
         ≡ (if result then model.set_bit (held set.old) bit enabled else held set.old) }
+    ensures same { set.new.words.ghost_name ≡ set.old.words.ghost_name }
 {
     if bit < set.length {
         set.set(bit, enabled);
@@ -167,6 +171,7 @@ pub extern "C" fn bits_put(set: &mut BitsMut<'_>, bit: usize) -> bool
     ensures answer { result ≡ model.contains (held set.old) bit }
     ensures value { held set.new
         ≡ (if nat_lt bit set.old.length then model.insert (held set.old) bit else held set.old) }
+    ensures same { set.new.words.ghost_name ≡ set.old.words.ghost_name }
 {
     if bit < set.length {
         set.put(bit)
@@ -183,6 +188,7 @@ pub extern "C" fn bits_take(set: &mut BitsMut<'_>, bit: usize) -> bool
     ensures answer { result ≡ model.contains (held set.old) bit }
     ensures value { held set.new
         ≡ (if nat_lt bit set.old.length then model.remove (held set.old) bit else held set.old) }
+    ensures same { set.new.words.ghost_name ≡ set.old.words.ghost_name }
 {
     if bit < set.length {
         set.take(bit)
@@ -198,6 +204,7 @@ pub extern "C" fn bits_set_block(set: &mut BitsMut<'_>, index: usize, block: Blo
     ensures answer { result ≡ nat_lt index (model.words_needed set.old.length) }
     ensures value { held set.new
         ≡ (if result then model.set_block (held set.old) index block else held set.old) }
+    ensures same { set.new.words.ghost_name ≡ set.old.words.ghost_name }
 {
     if index < bits_blocks(set.length) {
         set.set_block(index, block);
@@ -210,7 +217,8 @@ pub extern "C" fn bits_set_block(set: &mut BitsMut<'_>, index: usize, block: Blo
 /// Clears all positions.
 #[unsafe(no_mangle)]
 pub extern "C" fn bits_clear(set: &mut BitsMut<'_>)
-    ensures { held set.new ≡ model.empty set.old.length }
+    ensures value { held set.new ≡ model.empty set.old.length }
+    ensures same { set.new.words.ghost_name ≡ set.old.words.ghost_name }
 {
     set.clear(&mut Steps::new());
 }

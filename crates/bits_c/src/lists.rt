@@ -15,6 +15,7 @@ pub extern "C" fn bits_insert_all(set: &mut BitsMut<'_>, positions: &[usize]) ->
     ensures answer { IsTrue result ↔ All (λ p. p < set.old.length) positions.now }
     ensures value { held set.new
         ≡ (if result then model.add_all (held set.old) positions.now else held set.old) }
+    ensures same { set.new.words.ghost_name ≡ set.old.words.ghost_name }
 {
     if all_below(positions, set.length) {
         set.insert_all(positions);
@@ -31,6 +32,7 @@ pub extern "C" fn bits_remove_all(set: &mut BitsMut<'_>, positions: &[usize]) ->
     ensures answer { IsTrue result ↔ All (λ p. p < set.old.length) positions.now }
     ensures value { held set.new
         ≡ (if result then model.remove_all (held set.old) positions.now else held set.old) }
+    ensures same { set.new.words.ghost_name ≡ set.old.words.ghost_name }
 {
     if all_below(positions, set.length) {
         set.remove_all(positions);

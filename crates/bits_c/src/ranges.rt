@@ -23,6 +23,7 @@ pub extern "C" fn bits_insert_range(set: &mut BitsMut<'_>, start: usize, end: us
     ensures answer { result ≡ is_valid (held set.old) start end }
     ensures value { held set.new
         ≡ (if result then model.insert_range (held set.old) start end else held set.old) }
+    ensures same { set.new.words.ghost_name ≡ set.old.words.ghost_name }
 {
     if set.as_bits().range_is_valid(start, end) {
         set.insert_range(start, end, &mut Steps::new());
@@ -38,6 +39,7 @@ pub extern "C" fn bits_remove_range(set: &mut BitsMut<'_>, start: usize, end: us
     ensures answer { result ≡ is_valid (held set.old) start end }
     ensures value { held set.new
         ≡ (if result then model.remove_range (held set.old) start end else held set.old) }
+    ensures same { set.new.words.ghost_name ≡ set.old.words.ghost_name }
 {
     if set.as_bits().range_is_valid(start, end) {
         set.remove_range(start, end, &mut Steps::new());
@@ -54,6 +56,7 @@ pub extern "C" fn bits_toggle_range(set: &mut BitsMut<'_>, start: usize, end: us
     ensures answer { result ≡ is_valid (held set.old) start end }
     ensures value { held set.new
         ≡ (if result then model.toggle_range (held set.old) start end else held set.old) }
+    ensures same { set.new.words.ghost_name ≡ set.old.words.ghost_name }
 {
     if set.as_bits().range_is_valid(start, end) {
         set.toggle_range(start, end, &mut Steps::new());

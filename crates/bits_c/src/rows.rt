@@ -74,6 +74,7 @@ pub extern "C" fn bits_rows_set(
     ensures answer { result ≡ (nat_lt row rows.old.rows && nat_lt column rows.old.columns) }
     ensures value { held rows.new
         ≡ (if result then set_at (held rows.old) row column enabled else held rows.old) }
+    ensures same { rows.new.words.ghost_name ≡ rows.old.words.ghost_name }
 {
     if row < rows.rows && column < rows.columns {
         rows.set(row, column, enabled);
@@ -101,6 +102,7 @@ pub extern "C" fn bits_rows_union(
     ensures changed { changed.new ≡ (if result
         then not (is_subset (row_of (held rows.old) from) (row_of (held rows.old) into))
         else changed.old) }
+    ensures same { rows.new.words.ghost_name ≡ rows.old.words.ghost_name }
 {
     if from < rows.rows && into < rows.rows {
         *changed = rows.union_rows(from, into);
@@ -137,6 +139,7 @@ pub extern "C" fn bits_rows_close(rows: &mut RowsMut<'_>)
     ensures size { HaveSameSize (held rows.old) (held rows.new) }
     ensures closed { (a b : ℕ) → HasEdge (held rows.new) a b
         ↔ IsConnected (HasEdge (held rows.old)) a b }
+    ensures same { rows.new.words.ghost_name ≡ rows.old.words.ghost_name }
 {
     rows.close(&mut Steps::new());
 }

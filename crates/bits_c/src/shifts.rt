@@ -13,7 +13,8 @@ use fixedbitset::views::{Bits, BitsMut};
 /// Moves each position up by `by`. Those that are not below the length then fall away.
 #[unsafe(no_mangle)]
 pub extern "C" fn bits_shift_up(set: &mut BitsMut<'_>, by: usize)
-    ensures { held set.new ≡ parts.shift_up (held set.old) by }
+    ensures value { held set.new ≡ parts.shift_up (held set.old) by }
+    ensures same { set.new.words.ghost_name ≡ set.old.words.ghost_name }
 {
     set.shift_up(by, &mut Steps::new());
 }
@@ -21,7 +22,8 @@ pub extern "C" fn bits_shift_up(set: &mut BitsMut<'_>, by: usize)
 /// Moves each position down by `by`. Those below `by` fall away.
 #[unsafe(no_mangle)]
 pub extern "C" fn bits_shift_down(set: &mut BitsMut<'_>, by: usize)
-    ensures { held set.new ≡ parts.shift_down (held set.old) by }
+    ensures value { held set.new ≡ parts.shift_down (held set.old) by }
+    ensures same { set.new.words.ghost_name ≡ set.old.words.ghost_name }
 {
     set.shift_down(by, &mut Steps::new());
 }
@@ -30,7 +32,8 @@ pub extern "C" fn bits_shift_down(set: &mut BitsMut<'_>, by: usize)
 /// below the length then.
 #[unsafe(no_mangle)]
 pub extern "C" fn bits_union_with_shifted(set: &mut BitsMut<'_>, other: &Bits<'_>, by: usize)
-    ensures { held set.new ≡ parts.union_with_shifted (held set.old) (value other.now) by }
+    ensures value { held set.new ≡ parts.union_with_shifted (held set.old) (value other.now) by }
+    ensures same { set.new.words.ghost_name ≡ set.old.words.ghost_name }
 {
     set.union_with_shifted(*other, by, &mut Steps::new());
 }
@@ -39,7 +42,8 @@ pub extern "C" fn bits_union_with_shifted(set: &mut BitsMut<'_>, other: &Bits<'_
 /// below the length then.
 #[unsafe(no_mangle)]
 pub extern "C" fn bits_union_with_own_shift(set: &mut BitsMut<'_>, by: usize)
-    ensures { held set.new ≡ parts.union_with_shifted (held set.old) (held set.old) by }
+    ensures value { held set.new ≡ parts.union_with_shifted (held set.old) (held set.old) by }
+    ensures same { set.new.words.ghost_name ≡ set.old.words.ghost_name }
 {
     set.union_with_own_shift(by, &mut Steps::new());
 }
@@ -57,6 +61,7 @@ pub extern "C" fn bits_slice(
         && part.old.length == end - start) }
     ensures value { held part.new
         ≡ (if result then parts.slice (value set.now) start end else held part.old) }
+    ensures same { part.new.words.ghost_name ≡ part.old.words.ghost_name }
 {
     if start <= end && end <= set.length && part.length == end - start {
         set.slice_to(start, end, part.words, &mut Steps::new());
@@ -82,6 +87,7 @@ pub extern "C" fn bits_copy_range(
     ensures value { held set.new ≡ (if result
         then parts.copy_range (held set.old) (value other.now) start end at
         else held set.old) }
+    ensures same { set.new.words.ghost_name ≡ set.old.words.ghost_name }
 {
     if start > end || end > other.length {
         return false;
@@ -123,6 +129,7 @@ pub extern "C" fn bits_store(
     ensures answer { result ≡ (nat_le width 64 && nat_le (start + width) set.old.length) }
     ensures value { held set.new
         ≡ (if result then parts.store (held set.old) start width number else held set.old) }
+    ensures same { set.new.words.ghost_name ≡ set.old.words.ghost_name }
 {
     if is_part(set.length, start, width) {
         set.store(start, width, number);

@@ -20,6 +20,7 @@ pub extern "C" fn bits_union_with(set: &mut BitsMut<'_>, other: &Bits<'_>) -> bo
     ensures answer { result ≡ nat_le other.now.length set.old.length }
     ensures value { held set.new
         ≡ (if result then sets.union (held set.old) (value other.now) else held set.old) }
+    ensures same { set.new.words.ghost_name ≡ set.old.words.ghost_name }
 {
     if other.length <= set.length {
         set.union_with(*other, &mut Steps::new());
@@ -36,6 +37,7 @@ pub extern "C" fn bits_symmetric_difference_with(set: &mut BitsMut<'_>, other: &
     ensures answer { result ≡ nat_le other.now.length set.old.length }
     ensures value { held set.new ≡ (if result
         then sets.symmetric_difference (held set.old) (value other.now) else held set.old) }
+    ensures same { set.new.words.ghost_name ≡ set.old.words.ghost_name }
 {
     if other.length <= set.length {
         set.symmetric_difference_with(*other, &mut Steps::new());
@@ -48,7 +50,8 @@ pub extern "C" fn bits_symmetric_difference_with(set: &mut BitsMut<'_>, other: &
 /// Leaves the positions of both sets, and the length.
 #[unsafe(no_mangle)]
 pub extern "C" fn bits_intersect_with(set: &mut BitsMut<'_>, other: &Bits<'_>)
-    ensures { held set.new ≡ sets.intersection (held set.old) (value other.now) }
+    ensures value { held set.new ≡ sets.intersection (held set.old) (value other.now) }
+    ensures same { set.new.words.ghost_name ≡ set.old.words.ghost_name }
 {
     set.intersect_with(*other, &mut Steps::new());
 }
@@ -56,7 +59,8 @@ pub extern "C" fn bits_intersect_with(set: &mut BitsMut<'_>, other: &Bits<'_>)
 /// Leaves the positions of the first set that the second lacks, and the length.
 #[unsafe(no_mangle)]
 pub extern "C" fn bits_difference_with(set: &mut BitsMut<'_>, other: &Bits<'_>)
-    ensures { held set.new ≡ sets.difference (held set.old) (value other.now) }
+    ensures value { held set.new ≡ sets.difference (held set.old) (value other.now) }
+    ensures same { set.new.words.ghost_name ≡ set.old.words.ghost_name }
 {
     set.difference_with(*other, &mut Steps::new());
 }
@@ -74,6 +78,7 @@ pub extern "C" fn bits_union_with_change(
         ≡ (if result then sets.union (held set.old) (value other.now) else held set.old) }
     ensures changed { changed.new ≡ (if result
         then not (sets.is_subset (value other.now) (held set.old)) else changed.old) }
+    ensures same { set.new.words.ghost_name ≡ set.old.words.ghost_name }
 {
     if other.length <= set.length {
         *changed = set.union_with_change(*other, &mut Steps::new());
@@ -88,6 +93,7 @@ pub extern "C" fn bits_union_with_change(
 pub extern "C" fn bits_intersect_with_change(set: &mut BitsMut<'_>, other: &Bits<'_>) -> bool
     ensures value { held set.new ≡ sets.intersection (held set.old) (value other.now) }
     ensures changed { result ≡ not (sets.is_subset (held set.old) (value other.now)) }
+    ensures same { set.new.words.ghost_name ≡ set.old.words.ghost_name }
 {
     set.intersect_with_change(*other, &mut Steps::new())
 }
@@ -98,6 +104,7 @@ pub extern "C" fn bits_intersect_with_change(set: &mut BitsMut<'_>, other: &Bits
 pub extern "C" fn bits_difference_with_change(set: &mut BitsMut<'_>, other: &Bits<'_>) -> bool
     ensures value { held set.new ≡ sets.difference (held set.old) (value other.now) }
     ensures changed { result ≡ not (sets.is_disjoint (held set.old) (value other.now)) }
+    ensures same { set.new.words.ghost_name ≡ set.old.words.ghost_name }
 {
     set.difference_with_change(*other, &mut Steps::new())
 }
@@ -118,6 +125,7 @@ pub extern "C" fn bits_union_with_difference(
         else held set.old) }
     ensures changed { changed.new ≡ (if result then not (sets.is_subset
         (sets.difference (value gens.now) (value kills.now)) (held set.old)) else changed.old) }
+    ensures same { set.new.words.ghost_name ≡ set.old.words.ghost_name }
 {
     if gens.length <= set.length {
         *changed = set.union_with_difference(*gens, *kills, &mut Steps::new());

@@ -1,5 +1,5 @@
 use Rattle.std.proofs.Common.{rules}
 use Rattle.bits_c.proofs.whole.bits_difference_with.Goals as goal
 
-pub returns : goal.returns
-returns c = search rules steps 300000
+pub returns-clause-value : goal.returns-clause-value
+returns-clause-value c = search rules steps 300000
