@@ -29,10 +29,12 @@ REFUSED = set("<<= >>= ..= ... *= /= %= abstract async await become box do dyn e
               "priv raw ref static super try typeof union unsafe unsized virtual where yield i8 i16 i32 i64 i128 isize u16 u64 u128 "
               "f16 f32 f64 f128 char str".split())
 ITEMS = {"const", "enum", "fn", "impl", "mod", "struct", "trait", "type", "use"}
-# The names that stand for themselves: types, variants and traits that Rust brings into each module, and numbers and flags.
-NAMES = {"Some", "None", "Option", "Iterator", "DoubleEndedIterator", "usize", "u8", "u32", "bool"}
-# What is dropped by its name where that stands for it: nothing else may have such a name.
-GONE = {"Model": "std::marker", "Global": "std::alloc", "Drop": "std::ops"}
+# The names that stand for themselves: types, variants and traits that Rust brings into each module, and types with paths.
+NAMES = {"Some", "None", "Option", "Iterator", "DoubleEndedIterator", "usize", "u32"}
+# The imports that go, with what they are of.
+GONE = {"Model": "std::marker", "Global": "std::alloc"}
+# What no item may be called, nor what a `use` brings, beside all these: it is dropped, added or written by this name.
+RESERVED = set("Clone Copy Drop Sized alloc bool core shim std u8".split())
 # The types whose last parameter is the allocator `Global`, and the types of others that have a trait of these modules, none of
 # whose methods has the name of a method that such a type has by itself.
 ALLOCATED = {"IntoIter"}
@@ -65,7 +67,7 @@ OF_ITERATORS = set(
 @dataclasses.dataclass
 class Target:
     """Modules that are made in one folder: their crates, the crates that they name beside these, and what the tables have for
-    them beside all that: members, methods, words that are refused elsewhere, and closures."""
+    them beside all that: members, methods, words and marks that are refused elsewhere, and closures."""
 
     crates: dict
     home: str
