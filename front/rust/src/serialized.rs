@@ -1,16 +1,13 @@
 //! `Serialize` and `Deserialize`, in the form that upstream writes: a struct of the length and the bytes of the words.
 use crate::words::Words;
 use crate::FixedBitSet;
-use alloc::vec::Vec;
+use alloc::{collections::TryReserveError, vec::Vec};
 use core::fmt::{Formatter, Result as Written};
 use serde::de::{Deserialize, Deserializer, Error, MapAccess, SeqAccess, Visitor};
 use serde::ser::{Serialize, SerializeStruct, Serializer};
 
 const NAME: &str = "FixedBitset";
 const FIELDS: &[&str] = &["length", "data"];
-
-/// How many bytes of a list are asked for at once at most, for its length is only claimed.
-const AT_ONCE: usize = 4096;
 
 /// Proved: the bytes, for all sets ([contract](crate::contracts#fixedbitsetbitsto_bytes)). The form around them is not.
 impl Serialize for FixedBitSet {
@@ -27,7 +24,8 @@ impl Serialize for FixedBitSet {
 impl<'de> Deserialize<'de> for FixedBitSet {
     /// Reads what upstream's crate and this one write, and a list in place of the struct and of the bytes. Bytes that are
     /// missing are 0, and bits past the length are dropped. Anything else is an error, and so is a length that no memory
-    /// holds.
+    /// holds. Memory is bounded by the bytes that come, but for zeros that nothing writes. How many bytes a format asks for
+    /// is its own: bincode over a reader takes as many as are claimed, up to its `with_limit`.
     fn deserialize<D: Deserializer<'de>>(deserializer: D) -> Result<Self, D::Error> {
         deserializer.deserialize_struct(NAME, FIELDS, Form)
     }
@@ -35,9 +33,8 @@ impl<'de> Deserialize<'de> for FixedBitSet {
 
 /// The set of this length with these bytes.
 fn set_of<E: Error>(length: u64, bytes: &Bytes) -> Result<FixedBitSet, E> {
-    let words = usize::try_from(length)
-        .ok()
-        .and_then(Words::try_with_length);
+    let length = usize::try_from(length).ok();
+    let words = length.and_then(|bits| Words::try_with_length(bits, bytes.0.len()));
     let mut words = words.ok_or_else(|| E::custom("no memory holds a set of this length"))?;
     words.read_bytes(&bytes.0);
     Ok(FixedBitSet { words })
@@ -132,6 +129,11 @@ impl<'de> Deserialize<'de> for Bytes {
     }
 }
 
+/// The error where memory for bytes that came is refused.
+fn refused<E: Error>(_: TryReserveError) -> E {
+    E::custom("no memory holds these bytes")
+}
+
 struct ByteList;
 
 impl<'de> Visitor<'de> for ByteList {
@@ -142,7 +144,10 @@ impl<'de> Visitor<'de> for ByteList {
     }
 
     fn visit_bytes<E: Error>(self, bytes: &[u8]) -> Result<Bytes, E> {
-        Ok(Bytes(bytes.to_vec()))
+        let mut copy = Vec::new();
+        copy.try_reserve_exact(bytes.len()).map_err(refused)?;
+        copy.extend_from_slice(bytes);
+        Ok(Bytes(copy))
     }
 
     fn visit_byte_buf<E: Error>(self, bytes: Vec<u8>) -> Result<Bytes, E> {
@@ -150,9 +155,9 @@ impl<'de> Visitor<'de> for ByteList {
     }
 
     fn visit_seq<A: SeqAccess<'de>>(self, mut list: A) -> Result<Bytes, A::Error> {
-        let claimed = list.size_hint().unwrap_or(0);
-        let mut bytes = Vec::with_capacity(claimed.min(AT_ONCE));
+        let mut bytes = Vec::new(); // (a hint of its length is only claimed)
         while let Some(byte) = list.next_element()? {
+            bytes.try_reserve(1).map_err(refused)?;
             bytes.push(byte);
         }
         Ok(Bytes(bytes))

@@ -13,7 +13,7 @@ use crate::proved::bitwords::cursors::{Beside, Cursor, Inverted, Middle, Plain};
 use crate::proved::bitwords::joins;
 use crate::proved::fixedbitset::views::{storage_words, Bits, BitsMut};
 use crate::Block;
-use alloc::{vec, vec::Vec};
+use alloc::{boxed::Box, vec, vec::Vec};
 
 /// The walks.
 pub type OnesLeft<'a> = Cursor<Plain<'a>>;
@@ -23,6 +23,9 @@ pub type LackedLeft<'a> = Cursor<Beside<'a, AndNot>>;
 pub type JoinedLeft<'a> = InTurn<OnesLeft<'a>, LackedLeft<'a>>;
 pub type SplitLeft<'a> = InTurn<LackedLeft<'a>, LackedLeft<'a>>;
 pub type OwnedLeft = Cursor<vec::IntoIter<Block>>;
+
+/// From so many words on a new set takes them as zeros from the allocator.
+const MANY: usize = 8192;
 
 /// The words of a set, and its length.
 #[derive(Clone)]
@@ -106,17 +109,29 @@ impl Words {
     #[inline]
     pub fn with_length(length: usize) -> Self {
         let count = storage_words(length);
+        if count >= MANY {
+            let row = zeros(count).into_vec();
+            return Words { row, length };
+        }
         let mut row = Vec::with_capacity(count);
         row.resize(count, 0);
         Words { row, length }
     }
 
-    /// The same, or nothing where there is no memory for them.
+    /// The same for so many bytes to read, or nothing where there is no memory for them. Where the length is that of the bytes
+    /// the words are written here. Where it claims far more they are zeros from the allocator, which no safe call gives or
+    /// refuses: so the memory is asked for, given back and taken as zeros. (Without `black_box` the compiler may leave the
+    /// question out. If another thread takes the memory in between, the program ends, as at `with_length`.)
     #[cfg(feature = "serde")]
-    pub fn try_with_length(length: usize) -> Option<Self> {
+    pub fn try_with_length(length: usize, bytes: usize) -> Option<Self> {
         let (count, mut row) = (storage_words(length), Vec::new());
         row.try_reserve_exact(count).ok()?;
-        row.resize(count, 0);
+        if count < MANY.max(bytes / 4) {
+            row.resize(count, 0);
+            return Some(Words { row, length });
+        }
+        drop(core::hint::black_box(row));
+        let row = zeros(count).into_vec();
         Some(Words { row, length })
     }
 
@@ -129,9 +144,11 @@ impl Words {
         words
     }
 
-    /// Leaves the positions that the bytes say.
+    /// Sets the positions that the bytes say, where there are none. Words past the bytes are not written.
     pub fn read_bytes(&mut self, bytes: &[u8]) {
-        self.as_bits_mut().assign_bytes(bytes);
+        let length = self.length.min(bytes.len().saturating_mul(8));
+        let words = &mut self.row[..storage_words(length)];
+        BitsMut { words, length }.assign_bytes(bytes);
     }
 
     /// The bytes of the set.
@@ -209,6 +226,13 @@ impl Words {
     pub fn select(&self, entries: &[usize], index: usize) -> Option<usize> {
         directory::select(self.as_bits().as_slice(), entries, index, &mut Steps::new())
     }
+}
+
+/// So many zeros from the allocator. No word is written, and a page takes memory once one of it is.
+#[cold]
+#[inline(never)]
+fn zeros(count: usize) -> Box<[Block]> {
+    vec![0; count].into_boxed_slice()
 }
 
 /// Words between the ends of a walk.
