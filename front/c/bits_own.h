@@ -218,17 +218,22 @@ static inline bool bits_from_text(bits *set, const char *text, size_t size, size
 }
 
 /* Makes the positions of the set those that the text says, and the set longer where they need it; a set that is long enough
- * keeps its length. Unless the answer is BITS_TOLD nothing is changed; of BITS_FAULT alone `*fault` is written, as above.
- * A position of SIZE_MAX or more is a fault. */
-static inline bits_told bits_own_from_text(bits_own *own, const char *text, size_t size, size_t *fault) {
+ * keeps its length. A position that is not below `longest` is a fault, so that no text makes the set longer than that. Unless
+ * the answer is BITS_TOLD nothing is changed; of BITS_FAULT alone `*fault` is written, as above. */
+static inline bits_told bits_own_from_text_within(bits_own *own, const char *text, size_t size, size_t longest, size_t *fault) {
     size_t needed = 0;
-    if (!bits_text_is_valid(text, size, SIZE_MAX, &needed, fault))
+    if (!bits_text_is_valid(text, size, longest, &needed, fault))
         return BITS_FAULT;
     if (!bits_own_grow(own, needed))
         return BITS_NO_MEMORY;
     bits_clear(&own->set);
     bits_text_add(&own->set, text, size);
     return BITS_TOLD;
+}
+
+/* The same for a text that is trusted: any position below SIZE_MAX is read, so that few characters may take gigabytes. */
+static inline bits_told bits_own_from_text(bits_own *own, const char *text, size_t size, size_t *fault) {
+    return bits_own_from_text_within(own, text, size, SIZE_MAX, fault);
 }
 
 #endif

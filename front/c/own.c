@@ -182,6 +182,27 @@ static void texts_that_grow(void) {
     assert(out == 0);
 }
 
+/* A position past the limit is a fault before any memory is asked for. */
+static void texts_within(void) {
+    bits_own own = BITS_OWN;
+    size_t fault = 77;
+    refuses = true;
+    assert(bits_own_from_text_within(&own, "4294967295", 10, 1000, &fault) == BITS_FAULT && fault == 0);
+    assert(bits_own_from_text_within(&own, "8,3-1000", 8, 1000, &fault) == BITS_FAULT && fault == 4);
+    assert(bits_own_from_text_within(&own, "0", 1, 0, &fault) == BITS_FAULT && fault == 0);
+    assert(bits_own_from_text_within(&own, "", 0, 0, &fault) == BITS_TOLD && own.set.length == 0);
+    refuses = false;
+    most = BITS_WORDS(1000) * sizeof(uint64_t);
+    assert(bits_own_from_text_within(&own, "8,999", 5, 1000, &fault) == BITS_TOLD && own.set.length == 1000);
+    most = (size_t)1 << 40;
+    assert(bits_own_from_text_within(&own, "99", 2, 99, &fault) == BITS_FAULT && fault == 0);
+    IS(own.set, "8,999");
+    assert(bits_own_from_text_within(&own, "98", 2, 99, &fault) == BITS_TOLD && own.set.length == 1000);
+    IS(own.set, "98");
+    bits_own_free(&own);
+    assert(out == 0);
+}
+
 int main(void) {
     sets_that_grow();
     growth();
@@ -190,5 +211,6 @@ int main(void) {
     texts_written();
     texts_read();
     texts_that_grow();
+    texts_within();
     return 0;
 }
