@@ -79,12 +79,14 @@ bits part_of(const bits *set, size_t at) {
     return BITS_OF(length == 0 ? set->words : set->words + bits_blocks(at), length);
 }
 
-/* The set with no position. */
+/* The set with no position. A whole part that is zeros already is not written: the system gives new memory as zeros, and a page
+ * takes memory once it is written. So a length that a text claims takes none by itself. */
 bits new_set(size_t length) {
     bits set = room_for(length);
     FOR_PARTS(at, 0, length) {
         bits part = part_of(&set, at);
-        sure(bits_settle(part.words, part.count, part.length, 0));
+        if (part.length < PART || !bits_is_clear(&part))
+            sure(bits_settle(part.words, part.count, part.length, 0));
     }
     return set;
 }
