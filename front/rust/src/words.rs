@@ -24,8 +24,8 @@ pub type JoinedLeft<'a> = InTurn<OnesLeft<'a>, LackedLeft<'a>>;
 pub type SplitLeft<'a> = InTurn<LackedLeft<'a>, LackedLeft<'a>>;
 pub type OwnedLeft = Cursor<vec::IntoIter<Block>>;
 
-/// From so many words on a new set takes them as zeros from the allocator.
-const MANY: usize = 8192;
+/// From this length on, of 8,192 words, a new set takes its words as zeros from the allocator.
+const LONG: usize = 8192 * BITS;
 
 /// The words of a set, and its length.
 #[derive(Clone)]
@@ -108,11 +108,11 @@ impl Words {
     #[allow(clippy::slow_vector_initialization)]
     #[inline]
     pub fn with_length(length: usize) -> Self {
-        let count = storage_words(length);
-        if count >= MANY {
-            let row = zeros(count).into_vec();
+        if length >= LONG {
+            let row = zeros(length).into_vec();
             return Words { row, length };
         }
+        let count = storage_words(length);
         let mut row = Vec::with_capacity(count);
         row.resize(count, 0);
         Words { row, length }
@@ -126,12 +126,12 @@ impl Words {
     pub fn try_with_length(length: usize, bytes: usize) -> Option<Self> {
         let (count, mut row) = (storage_words(length), Vec::new());
         row.try_reserve_exact(count).ok()?;
-        if count < MANY.max(bytes / 4) {
+        if length < LONG.max(bytes.saturating_mul(16)) {
             row.resize(count, 0);
             return Some(Words { row, length });
         }
         drop(core::hint::black_box(row));
-        let row = zeros(count).into_vec();
+        let row = zeros(length).into_vec();
         Some(Words { row, length })
     }
 
@@ -228,11 +228,11 @@ impl Words {
     }
 }
 
-/// So many zeros from the allocator. No word is written, and a page takes memory once one of it is.
+/// The words of a length as zeros from the allocator. None is written, and a page takes memory once one of its words is.
 #[cold]
 #[inline(never)]
-fn zeros(count: usize) -> Box<[Block]> {
-    vec![0; count].into_boxed_slice()
+fn zeros(length: usize) -> Box<[Block]> {
+    vec![0; storage_words(length)].into_boxed_slice()
 }
 
 /// Words between the ends of a walk.
