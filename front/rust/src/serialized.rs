@@ -24,8 +24,8 @@ impl Serialize for FixedBitSet {
 impl<'de> Deserialize<'de> for FixedBitSet {
     /// Reads what upstream's crate and this one write, and a list in place of the struct and of the bytes. Bytes that are
     /// missing are 0, and bits past the length are dropped. Anything else is an error, and so is a length that no memory
-    /// holds. Memory is bounded by the bytes that come, but for zeros that nothing writes. How many bytes a format asks for
-    /// is its own: bincode over a reader takes as many as are claimed, up to its `with_limit`.
+    /// holds. Memory is bounded by the bytes that come, but for zeros of the allocator, which are not written. How many
+    /// bytes a format asks for is its own: bincode over a reader takes as many as are claimed, up to its `with_limit`.
     fn deserialize<D: Deserializer<'de>>(deserializer: D) -> Result<Self, D::Error> {
         deserializer.deserialize_struct(NAME, FIELDS, Form)
     }

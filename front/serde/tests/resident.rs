@@ -25,7 +25,7 @@ fn is_right(set: &FixedBitSet) -> bool {
 #[test]
 fn a_claimed_length_makes_no_memory_resident() {
     stays_below(
-        16 * MEBIBYTE,
+        64 * MEBIBYTE,
         &[
             ("24 bytes that claim 2^32 positions", &|| {
                 let set: FixedBitSet = bincode::deserialize(&with_length(1 << 32)).unwrap();

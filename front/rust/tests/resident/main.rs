@@ -10,7 +10,7 @@ const MEBIBYTE: usize = 1 << 20;
 #[test]
 fn a_word_that_is_not_written_takes_no_memory() {
     stays_below(
-        16 * MEBIBYTE,
+        64 * MEBIBYTE,
         &[
             ("with_capacity", &|| {
                 let mut set = FixedBitSet::with_capacity(LONG);
@@ -28,7 +28,7 @@ fn a_word_that_is_not_written_takes_no_memory() {
         ],
     );
     // The reading tells memory that is written.
-    let (before, written) = (peak(), vec![1_u8; 32 * MEBIBYTE]);
-    assert!(written.iter().all(|&byte| byte == 1));
-    assert!(peak() >= before.map(|bytes| bytes + 16 * MEBIBYTE));
+    let (before, written) = (peak(), vec![1_u8; 128 * MEBIBYTE]);
+    assert_eq!(std::hint::black_box(&written).last(), Some(&1));
+    assert!(peak() >= before.map(|bytes| bytes + 32 * MEBIBYTE));
 }
