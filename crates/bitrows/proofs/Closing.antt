@@ -1,17 +1,18 @@
 -- The closure of a table: whether a path leads from one node to another whose nodes between its ends are all below a
 -- bound, and a table on its way, with a pass for each node, and in a pass the rows one after the other.
-use Rattle.std.proofs.Common.{◌≡◌, ◌∙◌, ℕ, zero, suc, ◌+◌, ◌*◌, ◌<◌, ◌≤◌, ◌↔◌, Bool, true, false, ◌&&◌, ◌||◌}
-use Rattle.std.proofs.Common.{IsTrue, [], ◌∷◌, length, sum_by, refl, sym, subst, arith, ⊎_elim, add-one, zero-add}
+use Rattle.std.proofs.Common.{◌≡◌, ◌∙◌, ℕ, zero, suc, ◌+◌, ◌-◌, ◌*◌, ◌<◌, ◌≤◌, ◌↔◌, Bool, true, false, ◌&&◌, ◌||◌}
+use Rattle.std.proofs.Common.{IsTrue, All, min, [], ◌∷◌, length, sum_by, refl, sym, ap, subst, arith, ⊎_elim}
+use Rattle.std.proofs.Common.{add-one, zero-add}
 use Rattle.std.specs.List.{range_with_len}
-use Rattle.std.proofs.lemmas.Bool.{or_cases, or_left, and_parts}
+use Rattle.std.proofs.lemmas.Bool.{or_cases, or_left, and_parts, false_from_ne_true}
 use Rattle.std.proofs.lemmas.Bool.Decides.{nat_tests}
 use Rattle.std.proofs.lemmas.List.FromFn.{length-range_with_len}
 use Rattle.std.proofs.lemmas.List.Sums.{sum_by-append, sum_by-le}
 use Rattle.bitwords.specs.Rows.{count_below}
-use Rattle.bitwords.specs.CountFacts.{indicator, range-push, count-suc, count-le}
+use Rattle.bitwords.specs.CountFacts.{indicator, range-push, count-suc, count-none, count-le}
 use Rattle.fixedbitset.specs.TwoSets.{union}
 use Rattle.bitrows.specs.Tables.{Table, row_of, has, with_row}
-use Rattle.bitrows.specs.TableFacts.{has-past, has_row, has-joined}
+use Rattle.bitrows.specs.TableFacts.{has-past, has_row, has_below, has-joined}
 use Rattle.bitrows.specs.Paths.{HasPath, HasEdge, IsConnected, HasPathBelow, IsConnectedBelow, IsPairCount}
 
 -- ---- the paths
@@ -72,16 +73,17 @@ module _ (edge : ℕ → ℕ → Bool) where
   pub through_below : (k a b : ℕ) → IsTrue (through edge k a b) ↔ IsConnectedBelow Edge k a b
   through_below k a b = (path_of k a b, λ path. of_path k path.0 a b path.1)
 
-  -- ---- all nodes with an edge are below the bound
+  -- ---- all nodes with an edge to them and one from them are below the bound
 
   unbound : (k n a b : ℕ) → HasPathBelow Edge k n a b → HasPath Edge (suc n) a b
   unbound k zero a b one = (a, refl, one)
   unbound k (suc n) a b path = (path.0, unbound k n a path.0 path.1, path.2)
 
-  module _ (k : ℕ) (below : (a b : ℕ) → edge a b ≡ true → a < k) where
+  module _ (k : ℕ) (below : (a c b : ℕ) → edge a c ≡ true → edge c b ≡ true → c < k) where
     bound : (n a b : ℕ) → HasPath Edge (suc n) a b → HasPathBelow Edge k n a b
     bound zero a b path = subst (λ c. edge c b ≡ true) (sym path.1) path.2
-    bound (suc n) a b path = (path.0, bound n a path.0 path.1, path.2, below path.0 b path.2)
+    bound (suc n) a b path =
+        (path.0, bound n a path.0 path.1, path.2, below path.1.0 path.0 b path.1.2 path.2)
 
     pub through_all : (a b : ℕ) → IsTrue (through edge k a b) ↔ IsConnected Edge a b
     through_all a b = (
@@ -130,10 +132,11 @@ module _ (edge : ℕ → ℕ → Bool) (k r : ℕ) (t : Table) (so_far : IsPasse
   pub passed_all : length t.rows ≤ r → IsThrough edge (k + 1) t
   passed_all past a b = rw add-one (grind (arith, so_far.done a b, so_far.due a b, so_far.due a k, has-past t a k))
 
-pub closed : (t new : Table) → IsThrough (has t) (length t.rows) new → (a b : ℕ)
-    → HasEdge new a b ↔ IsConnected (HasEdge t) a b
-closed t new all a b =
-    let is = through_all (has t) (length t.rows) (has_row t) a b in
+pub closed : (t new : Table) (k : ℕ) → k ≡ min (length t.rows) t.columns → All (λ row. row.length ≡ t.columns) t.rows
+    → IsThrough (has t) k new → (a b : ℕ) → HasEdge new a b ↔ IsConnected (HasEdge t) a b
+closed t new k is_least sized all a b =
+    let is = through_all (has t) k
+    (λ x c y into from. omega (arith, is_least, has_row t c y from, has_below t x c sized into)) a b in
     (λ one. is.0 (sym (all a b) ∙ one), λ path. all a b ∙ is.1 path)
 
 -- ---- the joins
@@ -156,9 +159,32 @@ joins_passed edge n k =
     rw (add-one, range-push 0 k, zero-add k, sum_by-append (λ j. joins_in edge j n) (range_with_len 0 k) (k ∷ []))
     (omega arith)
 
-pub joins_bound : (edge : ℕ → ℕ → Bool) (n k : ℕ) → joins_before edge n k ≤ k * n
+pub joins_bound : (edge : ℕ → ℕ → Bool) (n k : ℕ) → joins_before edge n k ≤ n * k
 joins_bound edge n k =
-    simp length-range_with_len at (sum_by-le (λ j. joins_in edge j n) n (range_with_len 0 k) (λ i d _. count-le _ n))
+    let most = sum_by-le (λ j. joins_in edge j n) n (range_with_len 0 k) (λ i d _. count-le _ n) in
+    omega (arith, simp length-range_with_len at most)
 
-pub pairs : (t : Table) (n : ℕ) → IsPairCount (HasEdge t) n (joins_before (has t) n n)
-pairs t n = (λ k a. through (has t) k a k, λ k a. through_below (has t) k a k, refl)
+-- where no edge leads to a node, no path does
+through_none : (edge : ℕ → ℕ → Bool) (k a b : ℕ) → ((x : ℕ) → edge x b ≡ false) → through edge k a b ≡ false
+through_none edge zero a b none = none a
+through_none edge (suc k) a b none = grind (arith, through_none edge k a b none, through_none edge k k b none)
+
+-- the passes of such nodes have no joins
+joins_past : (edge : ℕ → ℕ → Bool) (n k more : ℕ) → ((x b : ℕ) → k ≤ b → b < k + more → edge x b ≡ false)
+    → joins_before edge n (k + more) ≡ joins_before edge n k
+joins_past edge n k zero none = let same : k + 0 ≡ k = omega arith in ap (joins_before edge n) same
+joins_past edge n k (suc more) none =
+    let next : k + suc more ≡ k + more + 1 = omega arith in
+    let here : joins_in edge (k + more) n ≡ 0 =
+    count-none (λ a. through edge (k + more) a (k + more)) n
+    (λ a below. through_none edge (k + more) a (k + more) (λ x. none x (k + more) (omega arith) (omega arith))) in
+    let before = joins_past edge n k more (λ x b above below. none x b above (omega arith)) in
+    ap (joins_before edge n) next ∙ omega (arith, joins_passed edge n (k + more), here, before)
+
+pub pairs : (t : Table) (n k : ℕ) → k ≡ min n t.columns → All (λ row. row.length ≡ t.columns) t.rows
+    → IsPairCount (HasEdge t) n (joins_before (has t) n k)
+pairs t n k is_least sized =
+    let all : k + (n - k) ≡ n = omega (arith, is_least) in
+    let past = joins_past (has t) n k (n - k)
+    (λ x b above below. false_from_ne_true (has t x b) (λ one. omega (arith, is_least, has_below t x b sized one))) in
+    (λ j a. through (has t) j a j, λ j a. through_below (has t) j a j, sym past ∙ ap (joins_before (has t) n) all)

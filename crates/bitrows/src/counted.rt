@@ -1,6 +1,6 @@
 //! The call with a counter: it is the call of that name of the table, with one argument more.
 
-ghost use Rattle.std.specs.Prelude.{◌≡◌, ◌≤◌, ◌↔◌, ◌+◌, ◌*◌, ℕ, length};
+ghost use Rattle.std.specs.Prelude.{◌≡◌, ◌≤◌, ◌↔◌, ◌+◌, ◌*◌, ℕ, min, length};
 ghost use Rattle.bitrows.specs.Tables.{HaveSameSize};
 ghost use Rattle.bitrows.specs.Paths.{HasEdge, IsConnected, IsPairCount};
 
@@ -23,7 +23,8 @@ pub fn close(table: &mut BitRows, joins: &mut Steps)
     ensures closed { (a b : ℕ) → HasEdge table.new a b ↔ IsConnected (HasEdge table.old) a b }
     ensures cost { (pairs : ℕ) × IsPairCount (HasEdge table.old) (length table.old.rows) pairs
         × (joins.new ≡ joins.old + pairs) }
-    ensures bound { joins.new ≤ joins.old + length table.old.rows * length table.old.rows }
+    ensures bound { joins.new
+        ≤ joins.old + length table.old.rows * min (length table.old.rows) table.old.columns }
 {
     let (words, rows, columns) = (&mut *table.words.as_mut_slice(), table.rows, table.columns);
     RowsMut {

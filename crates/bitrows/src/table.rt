@@ -216,8 +216,8 @@ impl BitRows {
     /// the row has a bit: afterwards row `a` has a bit at column `b` exactly if some path of one or
     /// more edges led from `a` to `b`.
     ///
-    /// Nothing leads on from a column that is no row. It takes no memory. With `n` rows it looks at
-    /// `n * n` bits, and joins two rows for each bit that it finds set, at most `n * n` times
+    /// Nothing leads on from a column that is no row. It takes no memory. With `n` rows and `m`
+    /// columns it looks at `n * min(n, m)` bits, and joins two rows for each bit that it finds set
     /// ([`counted::close`](crate::counted::close)).
     ///
     /// ```

@@ -1,6 +1,6 @@
 //! Tables made and changed, and the closure of a graph.
 
-ghost use Rattle.std.specs.Prelude.{◌≡◌, ◌≢◌, ◌<◌, ◌≤◌, ◌↔◌, ◌+◌, ◌*◌, ℕ, not, length};
+ghost use Rattle.std.specs.Prelude.{◌≡◌, ◌≢◌, ◌<◌, ◌≤◌, ◌↔◌, ◌+◌, ◌*◌, ℕ, min, not, length};
 ghost use Rattle.bitrows.specs.Paths.{HasEdge, IsConnected, IsPairCount};
 ghost use Rattle.bitrows.specs.Stored.{AreRows, IsRowJoined};
 ghost use Rattle.bitrows.specs.Tables.{row_of, blank, with_row, set_at};
@@ -112,7 +112,8 @@ impl<'a> RowsMut<'a> {
 
     /// The transitive closure of the graph that has an edge from each row to each column at which
     /// the row has a bit, with the joins of two rows that it makes: one for each pair of nodes `a`
-    /// and `k` with a path from `a` to `k` whose nodes between its ends are all below `k`.
+    /// and `k` with a path from `a` to `k` whose nodes between its ends are all below `k`. With `n`
+    /// rows and `m` columns it looks at `n * min(n, m)` bits.
     ///
     /// ```
     /// let mut words = [7; 12];
@@ -127,10 +128,10 @@ impl<'a> RowsMut<'a> {
             ↔ IsConnected (HasEdge (held self.old)) a b }
         ensures cost { (pairs : ℕ) × IsPairCount (HasEdge (held self.old)) self.old.rows pairs
             × (joins.new ≡ joins.old + pairs) }
-        ensures bound { joins.new ≤ joins.old + self.old.rows * self.old.rows }
+        ensures bound { joins.new ≤ joins.old + self.old.rows * min self.old.rows self.old.columns }
         ensures words { Becomes self.old self.new (held self.new) }
     {
-        for through in 0..self.rows {
+        for through in 0..self.rows.min(self.columns) {
             for row in 0..self.rows {
                 if self.as_rows().get(row, through) {
                     joins.tick();

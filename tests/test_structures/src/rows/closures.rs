@@ -24,14 +24,15 @@ impl Drawn {
     }
 }
 
-// Closes the graph with these edges, and compares each bit.
+// Closes the graph with these edges in a table of so many rows and columns, and compares each bit.
 fn assert_closed(
     rt: &impl Abort,
     alloc: Global,
-    nodes: usize,
+    (rows, columns): (usize, usize),
     edges: &[(usize, usize)],
 ) -> Result<(), AllocError> {
-    let mut table = BitRows::new(alloc, nodes, nodes)?;
+    let nodes = rows.max(columns);
+    let mut table = BitRows::new(alloc, rows, columns)?;
     for (from, to) in edges {
         assert!(rt; *from < table.rows() && *to < table.columns());
         table.set(*from, *to, true);
@@ -41,9 +42,9 @@ fn assert_closed(
     for node in 0..nodes {
         wanted.push(reached(alloc, nodes, edges, node)?)?;
     }
-    assert!(rt; table.rows() == nodes && table.columns() == nodes);
-    for from in 0..nodes {
-        for to in 0..nodes {
+    assert!(rt; table.rows() == rows && table.columns() == columns);
+    for from in 0..rows {
+        for to in 0..columns {
             assert!(rt; from < table.rows());
             assert_eq!(rt; table.get(from, to), flag(&wanted, from, to), "{edges:?}");
         }
@@ -61,7 +62,7 @@ fn each_graph_of_three_nodes(rt: HostRuntime) -> Result<(), Fail> {
                 edges.push((pair / 3, pair % 3))?;
             }
         }
-        assert_closed(&rt, alloc, 3, &edges)?;
+        assert_closed(&rt, alloc, (3, 3), &edges)?;
     }
     Ok(())
 }
@@ -76,7 +77,26 @@ fn graphs_by_chance(rt: HostRuntime) -> Result<(), Fail> {
             for _ in 0..count {
                 edges.push((drawn.below(nodes), drawn.below(nodes)))?;
             }
-            assert_closed(&rt, alloc, nodes, &edges)?;
+            assert_closed(&rt, alloc, (nodes, nodes), &edges)?;
+        }
+    }
+    Ok(())
+}
+
+// Rows that are no column, and columns that are no row.
+#[test]
+fn tables_that_are_not_square(rt: HostRuntime) -> Result<(), Fail> {
+    let alloc = rt.alloc();
+    let mut drawn = Drawn(2);
+    for (rows, columns) in [(0, 3), (3, 0), (40, 3), (3, 40), (64, 130), (300, 65)] {
+        for count in [rows.min(columns), 2 * rows.max(columns)] {
+            let mut edges = Vec::new(alloc);
+            if rows.min(columns) > 0 {
+                for _ in 0..count {
+                    edges.push((drawn.below(rows), drawn.below(columns)))?;
+                }
+            }
+            assert_closed(&rt, alloc, (rows, columns), &edges)?;
         }
     }
     Ok(())
@@ -90,9 +110,9 @@ fn a_chain_and_a_ring(rt: HostRuntime) -> Result<(), Fail> {
     for node in 1..nodes {
         edges.push((node, node - 1))?;
     }
-    assert_closed(&rt, alloc, nodes, &edges)?;
+    assert_closed(&rt, alloc, (nodes, nodes), &edges)?;
     edges.push((0, 69))?;
-    assert_closed(&rt, alloc, nodes, &edges)?;
+    assert_closed(&rt, alloc, (nodes, nodes), &edges)?;
     Ok(())
 }
 

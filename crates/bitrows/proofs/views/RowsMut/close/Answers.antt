@@ -1,10 +1,14 @@
-use Rattle.std.proofs.Common.{◌≡◌, ◌∙◌, ◌+◌, ◌<◌, ℕ, length, Bool, true, false, refl, sym, ap, subst, arith, rules}
+use Rattle.std.proofs.Common.{◌≡◌, ◌∙◌, ◌+◌, ◌*◌, ◌<◌, ℕ, All, min, length, Bool, true, false}
+use Rattle.std.proofs.Common.{refl, sym, ap, arith, rules}
 use Rattle.bitwords.specs.CountFacts.{count-zero}
+use Rattle.fixedbitset.specs.Bits.{storage_words}
 use Rattle.fixedbitset.specs.TwoSets.{union}
 use Rattle.bitrows.specs.Tables.{Table, row_of, has, with_row}
-use Rattle.bitrows.specs.StoredFacts.{length-table}
+use Rattle.bitrows.specs.StoredFacts.{length-table, columns-table}
 use Rattle.bitrows.specs.Views.{held}
-use Rattle.bitrows.proofs.Closing.{IsThrough, through, passed_joined, passed_kept, passed_all, closed}
+use Rattle.bitrows.specs.declared.views.RowsMut.{RowsMut}
+use Rattle.bitrows.proofs.RowWords.{viewed_all}
+use Rattle.bitrows.proofs.Closing.{through, passed_joined, passed_kept, passed_all, closed}
 use Rattle.bitrows.proofs.Closing.{joins_in, joins_before, joins_more, joins_passed, joins_bound, pairs}
 use Rattle.bitrows.proofs.views.RowsMut.close.Goals.{then-get, else-get}
 use Rattle.bitrows.proofs.views.RowsMut.close.Goals as goal
@@ -64,30 +68,34 @@ loop-through-preserved c =
           ∙ sym (joins_passed edge c.args.self.now.rows k));
     }
 
-all_nodes : (c : goal.After-loop-through) → c.loop-through.through ≡ c.args.self.now.rows
+all_nodes : (c : goal.After-loop-through) → c.loop-through.through ≡ min c.args.self.now.rows c.args.self.now.columns
 all_nodes c = omega (arith, c.loop-through-test.false, c.loop-through.auto.through-end)
+
+-- the nodes of the passes are those with a row and a column
+least : (c : goal.After-loop-through) → c.loop-through.through
+    ≡ min (length (held c.args.self.now).rows) (held c.args.self.now).columns
+least c = rw (length-table, columns-table) (all_nodes c)
+
+sized : (view : RowsMut) → All (λ row. row.length ≡ (held view).columns) (held view).rows
+sized view = rw columns-table
+    (viewed_all view.columns (storage_words view.columns) view.rows view.words.now (held view) refl)
 
 pub returns-clause-closed : goal.returns-clause-closed
 returns-clause-closed c =
-    let first : Table = held c.args.self.now in
-    let last : Table = held c.loop-through.self in
-    closed first
-    last (subst (λ k. IsThrough (has first) k last)
-    (all_nodes c ∙ sym (length-table c.args.self.now.columns _ c.args.self.now.rows c.args.self.now.words.now))
-    c.loop-through.invariant.bits)
-
-joined : (c : goal.After-loop-through)
-    → c.loop-through.joins ≡ c.args.joins.now + joins_before (has (held c.args.self.now)) c.args.self.now.rows
-    c.args.self.now.rows
-joined c =
-    let edge : ℕ → ℕ → Bool = has (held c.args.self.now) in
-    c.loop-through.invariant.joins ∙ ap (λ k. c.args.joins.now + joins_before edge c.args.self.now.rows k) (all_nodes c)
+    closed (held c.args.self.now) (held c.loop-through.self) c.loop-through.through (least c) (sized c.args.self.now)
+    c.loop-through.invariant.bits
 
 pub returns-clause-cost : goal.returns-clause-cost
 returns-clause-cost c =
     let first : Table = held c.args.self.now in
-    (joins_before (has first) c.args.self.now.rows c.args.self.now.rows, pairs first c.args.self.now.rows, joined c)
+    let rows = c.args.self.now.rows in (
+      joins_before (has first) rows c.loop-through.through,
+      pairs first rows c.loop-through.through (rw columns-table (all_nodes c)) (sized c.args.self.now),
+      c.loop-through.invariant.joins,
+    )
 
 pub returns-clause-bound : goal.returns-clause-bound
 returns-clause-bound c =
-    omega (arith, joined c, joins_bound (has (held c.args.self.now)) c.args.self.now.rows c.args.self.now.rows)
+    let rows = c.args.self.now.rows in
+    let bound = joins_bound (has (held c.args.self.now)) rows c.loop-through.through in
+    omega (arith, c.loop-through.invariant.joins, bound, ap (λ k. rows * k) (all_nodes c))

@@ -83,7 +83,8 @@ impl<'a> RowsMut<'a> {
 
     /// The transitive closure of the graph that has an edge from each row to each column at which
     /// the row has a bit, with the joins of two rows that it makes: one for each pair of nodes `a`
-    /// and `k` with a path from `a` to `k` whose nodes between its ends are all below `k`.
+    /// and `k` with a path from `a` to `k` whose nodes between its ends are all below `k`. With `n`
+    /// rows and `m` columns it looks at `n * min(n, m)` bits.
     ///
     /// ```text
     /// let mut words = [7; 12];
@@ -94,7 +95,7 @@ impl<'a> RowsMut<'a> {
     /// assert_eq!(words, [6, 0, 0, 0, 4, 0, 0, 0, 0, 0, 0, 0]);
     /// ```
     pub fn close(&mut self, joins: &mut Steps) {
-        for through in 0..self.rows {
+        for through in 0..self.rows.min(self.columns) {
             for row in 0..self.rows {
                 if self.as_rows().get(row, through) {
                     joins.tick();
