@@ -132,6 +132,15 @@ behind-kept a k m xs ys within long same =
     ∙ same-behind m ys (take k (drop a xs)) (drop k (drop a xs)) long same
     ∙ ap (drop m) (take-append-drop k (drop a xs)) ∙ drop-drop m a xs
 
+-- where more are given to a part of the places behind, those that stand seven behind them stay too
+pub others-more : (before out ys : List ℕ) (a k n e : ℕ) → a ≤ length out → length ys ≡ length (take k (drop a out))
+    → e ≤ n + 7 → drop e ys ≡ drop e (take k (drop a out)) → drop (a + 7) out ≡ drop (a + 7) before
+    → drop (a + n + 7) (put_mid a k out ys) ≡ drop (a + n + 7) before
+others-more before out ys a k n e within long few behind so_far =
+    drop-from (a + e) (a + n + 7) (put_mid a k out ys) out (omega (arith, few))
+    (behind-kept a k e out ys within long behind)
+    ∙ drop-from (a + 7) (a + n + 7) out before (omega arith) so_far
+
 -- some are given, and then some of those left to a part of the places behind
 pub gives-more : (all before out ys left rest : List ℕ) (a k n : ℕ) → length out ≡ length before
     → length ys ≡ length (take k (drop a out))

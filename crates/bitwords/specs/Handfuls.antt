@@ -17,6 +17,10 @@ abbrev pub ones_ahead : List ℕ → ℕ
 ones_ahead words = length (word_positions 0 (get_or words 0 0)) + length (word_positions 0 (get_or words 1 0))
     + length (word_positions 0 (get_or words 2 0)) + length (word_positions 0 (get_or words 3 0))
 
+-- there are four words or more, and the first four have eight positions or more
+abbrev pub AreMany : List ℕ → Type 0
+AreMany words = (4 ≤ length words) × (8 ≤ ones_ahead words)
+
 -- A call wrote the first `count` of these items to the front of the places, and left those that the items do not reach.
 pub record GivesSome (items before : List ℕ) (count : ℕ) (after left : List ℕ) : Type 0 where
   pub at_most : count ≤ length items

@@ -12,7 +12,7 @@ ghost use Rattle.std.specs.Prelude.{take, drop, get_or, map, reverse};
 ghost use Rattle.std.specs.Int.RustNames.{count_ones};
 ghost use Rattle.bitlanes.specs.Bits.{bit};
 ghost use Rattle.bitwords.specs.Handfuls.{word_positions, in_eights, ones_ahead, GivesSome};
-ghost use Rattle.bitwords.specs.Handfuls.{ArePairs};
+ghost use Rattle.bitwords.specs.Handfuls.{AreMany, ArePairs};
 ghost use Rattle.bitwords.specs.WalkedWords.{held_items, IsSpaced};
 
 use crate::cursors::{Held, Seen};
@@ -156,6 +156,12 @@ pub fn give_words<M: Seen + Drop>(held: &mut Held<M>, places: &mut [usize]) -> u
         (held_items held.old.front_at held.old.front (M.words held.old.middle) held.old.back)
         places.old result places.new
         (held_items held.new.front_at held.new.front (M.words held.new.middle) held.new.back) }
+    ensures gives_first { AreMany (M.words held.old.middle)
+        → count_ones held.old.front + 7 ≤ length places.old
+        → (held.old.front_at < held.new.front_at) × (count_ones held.old.front ≤ result) }
+    ensures until { AreMany (M.words held.new.middle)
+        → length places.old < result + count_ones held.new.front + 7 }
+    ensures others { drop (result + 7) places.new ≡ drop (result + 7) places.old }
 {
     let mut count = 0;
     while are_many_ahead(&held.middle) {
@@ -201,6 +207,12 @@ pub fn give_words_back<M: Seen + Drop>(held: &mut Held<M>, places: &mut [usize])
         places.old result places.new
         (reverse (held_items held.new.front_at held.new.front (M.words held.new.middle)
         held.new.back)) }
+    ensures gives_last { AreMany (drop (length (M.words held.old.middle) - 4)
+        (M.words held.old.middle)) → count_ones held.old.back + 7 ≤ length places.old
+        → (held.new.back_at < held.old.back_at) × (count_ones held.old.back ≤ result) }
+    ensures until { AreMany (drop (length (M.words held.new.middle) - 4) (M.words held.new.middle))
+        → length places.old < result + count_ones held.new.back + 7 }
+    ensures others { drop (result + 7) places.new ≡ drop (result + 7) places.old }
 {
     let mut count = 0;
     while are_many_behind(&held.middle) {
@@ -224,6 +236,7 @@ pub fn give_words_back<M: Seen + Drop>(held: &mut Held<M>, places: &mut [usize])
 fn are_many_ahead<M: Seen>(middle: &M) -> bool
     ensures long { IsTrue result → 4 ≤ length (M.words middle.now) }
     ensures many { IsTrue result → 8 ≤ ones_ahead (M.words middle.now) }
+    ensures found { AreMany (M.words middle.now) → IsTrue result }
 {
     middle.left() >= AHEAD && ones_of_four(middle, 0) >= MANY
 }
@@ -234,6 +247,8 @@ fn are_many_behind<M: Seen>(middle: &M) -> bool
     ensures long { IsTrue result → 4 ≤ length (M.words middle.now) }
     ensures many { IsTrue result
         → 8 ≤ ones_ahead (drop (length (M.words middle.now) - 4) (M.words middle.now)) }
+    ensures found { AreMany (drop (length (M.words middle.now) - 4) (M.words middle.now))
+        → IsTrue result }
 {
     let left = middle.left();
     left >= AHEAD && ones_of_four(middle, left - AHEAD) >= MANY

@@ -1,13 +1,19 @@
 use Rattle.std.proofs.Common.{◌≡◌, ℕ, ◌+◌, ◌-◌, ◌<◌, ◌≤◌, List, [], ◌∷◌, ◌++◌, length}
-use Rattle.std.proofs.Common.{take, drop, count_ones, refl, sym, ap, ◌∙◌, arith}
+use Rattle.std.proofs.Common.{take, drop, count_ones, inl, inr, refl, sym, ap, subst, ◌∙◌, arith}
 use Rattle.std.proofs.lemmas.List.{length-take-le, length-drop}
-use Rattle.bitwords.specs.Handfuls.{word_positions, in_eights}
+use Rattle.std.proofs.lemmas.Bool.{false≢true}
+use Rattle.bitwords.specs.Handfuls.{word_positions, in_eights, AreMany}
 use Rattle.bitwords.specs.WalkedWords.{held_items, ones_from}
-use Rattle.bitwords.proofs.Places.{ones_from-word, most-in, gives-first, gives-more, gives-none}
+use Rattle.bitwords.proofs.Places.{ones_from-word, most-in, gives-first, gives-more, gives-none, others-more}
 use Rattle.bitwords.proofs.handfuls.give_words.Goals as goal
 
 pub loop-room-init : goal.loop-room-init
-loop-room-init g c = record { spaced = c.requires; gives = gives-none _ c.args.places.now }
+loop-room-init g c = record {
+  spaced = c.requires;
+  gives = gives-none _ c.args.places.now;
+  first = inl (refl, refl, refl, refl);
+  others = refl;
+}
 
 pub overflow_sub-room : goal.overflow_sub-room
 overflow_sub-room g c = omega (arith, c.loop-room.invariant.gives.room, c.loop-room.auto.places)
@@ -73,6 +79,13 @@ loop-room-preserved g c =
           };
       gives = gives-more _ c.args.places.now c.loop-room.places places (held_items at front middle back)
           (held_items (at + 64) c.in-Some.word after back) count room given c.loop-room.auto.places long inv.gives more;
+      first = inr (elim inv.first [
+        | inl same ↦ (omega (arith, same.0), omega (arith, gave.count, ap count_ones same.1))
+        | inr one ↦ (omega (arith, one.0), omega (arith, one.1))
+      ]);
+      others = others-more c.args.places.now c.loop-room.places places count room given (in_eights (count_ones front))
+          (omega (arith, inv.gives.room, c.loop-room.auto.places)) long (omega (arith, gave.count)) gave.behind
+          inv.others;
     }
 
 pub returns-after-loop-room-clause-spaced : goal.returns-after-loop-room-clause-spaced
@@ -86,3 +99,25 @@ returns-then-room-held-clause-spaced g c = c.loop-room.invariant.spaced
 
 pub returns-then-room-held-clause-gives : goal.returns-then-room-held-clause-gives
 returns-then-room-held-clause-gives g c = c.loop-room.invariant.gives
+
+pub returns-after-loop-room-clause-gives_first : goal.returns-after-loop-room-clause-gives_first
+returns-after-loop-room-clause-gives_first g c many room =
+    elim c.loop-room.invariant.first [
+      | inl same ↦
+          let still = subst AreMany (sym same.2) many in absurd (false≢true (c.loop-room-test.ensures.found still))
+      | inr one ↦ one
+    ]
+
+pub returns-then-room-held-clause-gives_first : goal.returns-then-room-held-clause-gives_first
+returns-then-room-held-clause-gives_first g c many room =
+    elim c.loop-room.invariant.first [
+      | inl same ↦ absurd
+          (omega (arith, c.if-room-held.true, c.loop-room.auto.places, room, same.3, ap count_ones same.1))
+      | inr one ↦ one
+    ]
+
+pub returns-after-loop-room-clause-others : goal.returns-after-loop-room-clause-others
+returns-after-loop-room-clause-others g c = c.loop-room.invariant.others
+
+pub returns-then-room-held-clause-others : goal.returns-then-room-held-clause-others
+returns-then-room-held-clause-others g c = c.loop-room.invariant.others
