@@ -11,7 +11,7 @@ use Rattle.bitwords.specs.GapsFacts.{pass-fails}
 use Rattle.bitwords.specs.Gaps.{is_multiple, has_room_in, first_room, first_aligned_room, aligned_steps}
 use Rattle.bitwords.specs.Neighbours.{NonePasses, IsNext}
 use Rattle.bitwords.specs.NextFacts.{first_is, first_tells}
-use Rattle.bitwords.proofs.Multiples.{none_of_zero, multiples_apart}
+use Rattle.bitwords.proofs.Multiples.{none_of_zero, all_of_one, multiples_apart}
 use Rattle.bitwords.proofs.RunStarts.{pass-holds}
 
 module _ (taken : ℕ → Bool) (end count align from : ℕ) where
@@ -92,28 +92,37 @@ room_tells taken end count at found is =
 
 -- ---- the steps
 
+-- the words behind the first of those that hold a position of the range
+abbrev words_behind : ℕ → ℕ → ℕ
+words_behind start end = (end - 1) / 64 - start / 64
+
 -- those of one search
-turn_most : (at end : ℕ) → 256 * lane_steps (range_words at end) ≤ end - at + 318
-turn_most at end = elim (cases_lt at end) [
+search_most : (at end : ℕ) → 4 * lane_steps (range_words at end) ≤ words_behind at end + 4
+search_most at end = elim (cases_lt at end) [
   | inl some ↦ rw (lt-ltb at end some) (omega (arith, some))
   | inr none ↦ rw (le-ltb at end none) (omega arith)
 ]
 
-no_turn : (at end : ℕ) → end ≤ at → lane_steps (range_words at end) ≡ 0
-no_turn at end none = rw (le-ltb at end none) (omega arith)
+no_search : (at end : ℕ) → end ≤ at → lane_steps (range_words at end) ≡ 0
+no_search at end none = rw (le-ltb at end none) (omega arith)
 
 -- a search that begins later takes no more
 fewer_later : (at p end : ℕ) → at ≤ p → lane_steps (range_words p end) ≤ lane_steps (range_words at end)
 fewer_later at p end later = elim (cases_lt p end) [
   | inl some ↦ rw (lt-ltb p end some, lt-ltb at end (omega (arith, some, later))) (omega (arith, later))
-  | inr none ↦ omega (arith, no_turn p end none)
+  | inr none ↦ omega (arith, no_search p end none)
 ]
 
-range_least : (from end : ℕ) → end - from ≤ 256 * lane_steps (range_words from end)
-range_least from end = elim (cases_lt from end) [
-  | inl some ↦ rw (lt-ltb from end some) (omega (arith, some))
-  | inr none ↦ omega (arith, none)
-]
+-- the words of one search lie behind those that were looked at before it, but for those of the last stretch
+words_add : (from at p count reach next end : ℕ) → from ≤ at → at ≤ p → p < next → p < end → reach ≤ p
+    → words_behind from (min (at + 1) end) + words_behind from reach + words_behind at (p + count)
+    ≤ words_behind from (min (next + 1) end) + words_behind from (p + count)
+words_add from at p count reach next end begins later more inside behind = omega arith
+
+-- each word twice, and one step more for a search, is so much in all
+twice_all : (from end all rest : ℕ) → from < end → 4 * all ≤ 4 * rest + 4 + 2 * words_behind from end
+    → all ≤ rest + 2 * lane_steps (range_words from end)
+twice_all from end all rest some most = rw (lt-ltb from end some) (omega (arith, some, most))
 
 module _ (taken : ℕ → Bool) (end count align from : ℕ) where
   room_clear : (p q : ℕ) → has_room_in taken end count p ≡ true → p ≤ q → q < p + count → not (taken q) ≡ true
@@ -134,18 +143,20 @@ module _ (taken : ℕ → Bool) (end count align from : ℕ) where
       let free = pass-holds (λ x. not (taken x)) count p clear in
       λ j. fits j && free j
 
-  -- what so many searches took, where the last stretch found ends at `reach`, and
+  -- what the searches before took, of which so many found no multiple: the last stretch found ends at `reach`, and
   -- the next search begins at the multiple `at`
   pub record IsSpent (before at after turns reach : ℕ) : Type 0 where
     pub multiple : is_multiple align at ≡ true
     pub behind : from ≤ at
     pub within : reach ≤ max from end
     pub clear : (q : ℕ) → at ≤ q → q < reach → not (taken q) ≡ true
-    pub positive : 0 < turns → 0 < align
+    pub wide : 0 < turns → 1 < align
+    pub some : 0 < turns → from < end
     pub apart : turns * align ≤ at - from
     pub few : turns ≤ (end - from) / align + 1
     pub grown : before ≤ after
-    pub cost : 256 * after ≤ 256 * before + (min at end - from) + (reach - from) + 318 * turns
+    pub none : turns ≡ 0 → after ≤ before
+    pub cost : 4 * after ≤ 4 * before + 4 * turns + words_behind from (min (at + 1) end) + words_behind from reach
 
   pub none_spent : (steps at : ℕ) → is_multiple align at ≡ true → from ≤ at → IsSpent steps at steps 0 from
   none_spent steps at multiple behind = record {
@@ -153,41 +164,53 @@ module _ (taken : ℕ → Bool) (end count align from : ℕ) where
     behind = behind;
     within = omega arith;
     clear = λ q above below. absurd (omega (arith, behind, above, below));
-    positive = λ some. absurd (omega (arith, some));
+    wide = λ one. absurd (omega (arith, one));
+    some = λ one. absurd (omega (arith, one));
     apart = omega arith;
     few = omega arith;
     grown = omega arith;
+    none = λ _. omega arith;
     cost = omega arith;
   }
 
   module _ (before at steps turns reach : ℕ) (spent : IsSpent before at steps turns reach) where
     -- so many multiples are at most in the range
-    few_at : at ≤ end → turns + 1 ≤ (end - from) / align + 1
+    few_at : at ≤ end → turns ≤ (end - from) / align
     few_at order = elim (cases_lt 0 turns) [
-      | inl some ↦
-          let most : turns ≤ (end - from) / align =
-          le-div turns (end - from) align (spent.positive some) (omega (arith, spent.apart, order)) in
-          omega (arith, most)
+      | inl one ↦ le-div turns (end - from) align (omega (arith, spent.wide one)) (omega (arith, spent.apart, order))
       | inr none ↦ omega (arith, none)
+    ]
+
+    -- with a search that goes on to the end
+    spent_wide : (new : ℕ) → new ≤ steps + lane_steps (range_words at end)
+        → new ≤ before + (2 * lane_steps (range_words from end) + (end - from) / align)
+    spent_wide new most = elim (cases_lt at end) [
+      | inl inside ↦
+          let all = twice_all from end new (before + turns) (omega (arith, inside, spent.behind))
+          (omega (arith, most, spent.cost, search_most at end, spent.within, spent.behind, inside)) in
+          omega (arith, all, few_at (omega (arith, inside)))
+      | inr past ↦
+          let last : new ≤ steps = omega (arith, most, no_search at end past) in
+          elim (cases_lt 0 turns) [
+            | inl one ↦
+                let all = twice_all from end new (before + (turns - 1)) (spent.some one)
+                (omega (arith, last, spent.cost, spent.within, spent.some one, past, one)) in
+                omega (arith, all, spent.few, one)
+            | inr none ↦ omega (arith, last, spent.none (omega (arith, none)))
+          ]
     ]
 
     pub spent_in_all : (new : ℕ) → new ≤ steps + lane_steps (range_words at end)
         → new ≤ before + aligned_steps align from end
-    spent_in_all new most = elim (cases_lt end at) [
-      | inl past ↦ omega
-          (arith, most, no_turn at end (omega (arith, past)), spent.cost, spent.few, range_least from end, spent.within)
-      | inr order ↦
-          omega (
-            arith,
-            most,
-            spent.cost,
-            few_at order,
-            turn_most at end,
-            range_least from end,
-            spent.within,
-            order,
-            spent.behind,
-          )
+    spent_in_all new most = elim (cases_lt 1 align) [
+      | inl wide ↦ rw (lt-ltb 1 align wide) (spent_wide new most)
+      | inr narrow ↦
+          let none : turns ≡ 0 = elim (cases_lt 0 turns) [
+            | inl one ↦ absurd (omega (arith, narrow, spent.wide one))
+            | inr none ↦ omega (arith, none)
+          ] in
+          rw (le-ltb 1 align narrow)
+          (omega (arith, most, spent.none none, fewer_later from at end spent.behind))
     ]
 
   module _ (before at steps turns reach p : ℕ) (spent : IsSpent before at steps turns reach)
@@ -200,12 +223,12 @@ module _ (taken : ℕ → Bool) (end count align from : ℕ) where
     ends : p + count ≤ end
     ends = room_within taken end count align from p found.passes
 
-    -- where the stretch begins within the last one, it begins at the multiple
-    at_multiple : p < reach → p ≡ at
-    at_multiple inside = elim (cases_lt at p) [
+    -- where none before the stretch is taken of as many as are wanted at the multiple, it begins there
+    at_multiple : ((q : ℕ) → at ≤ q → q < p → q < at + count → not (taken q) ≡ true) → p ≡ at
+    at_multiple clear = elim (cases_lt at p) [
       | inl early ↦
           absurd (true≢false (sym (clear_room at (omega (arith, early, ends)) (λ q above below. elim (cases_lt q p) [
-            | inl before_p ↦ spent.clear q above (omega (arith, before_p, inside))
+            | inl before_p ↦ clear q above before_p below
             | inr from_p ↦ room_clear p q found.passes from_p (omega (arith, below, early))
           ])) ∙ found.none at (omega arith) early))
       | inr late ↦ omega (arith, late, found.after)
@@ -213,20 +236,36 @@ module _ (taken : ℕ → Bool) (end count align from : ℕ) where
 
     module _ (next new : ℕ) (multiple : IsNext (is_multiple align) p (2 ^ 64) next) (other : next ≢ p)
         (is : new ≡ steps + lane_steps (range_words at (p + count))) where
+      no_multiple : is_multiple align p ≡ true → ⊥
+      no_multiple here =
+          true≢false (sym here ∙ multiple.none p (omega arith) (omega (arith, multiple.after, other)))
+
+      elsewhere : p ≡ at → ⊥
+      elsewhere same = no_multiple (ap (is_multiple align) same ∙ spent.multiple)
+
       not_inside : reach ≤ p
       not_inside = elim (cases_lt p reach) [
         | inl inside ↦
-            let here : is_multiple align p ≡ true = ap (is_multiple align) (at_multiple inside) ∙ spent.multiple in
-            absurd (true≢false (sym here ∙ multiple.none p (omega arith) (omega (arith, multiple.after, other))))
+            absurd (elsewhere (at_multiple (λ q above early _. spent.clear q above (omega (arith, early, inside)))))
         | inr behind ↦ behind
       ]
 
-      positive : 0 < align
-      positive = elim (cases_eq align 0) [
+      inside : p < end
+      inside = elim (cases_eq count 0) [
+        | inl nothing ↦
+            absurd (elsewhere (at_multiple (λ q above _ below. absurd (omega (arith, nothing, above, below)))))
+        | inr some ↦ omega (arith, some, ends)
+      ]
+
+      wide : 1 < align
+      wide = elim (cases_eq align 0) [
         | inl zeros ↦
             absurd (true≢false (sym multiple.passes ∙ ap (λ a. is_multiple a next) zeros
             ∙ none_of_zero next (omega (arith, multiple.after, other))))
-        | inr some ↦ omega (arith, some)
+        | inr some ↦ elim (cases_eq align 1) [
+          | inl one ↦ absurd (no_multiple (ap (λ a. is_multiple a p) one ∙ all_of_one p))
+          | inr more ↦ omega (arith, some, more)
+        ]
       ]
 
       pub more_spent : IsSpent before next new (turns + 1) (p + count)
@@ -235,23 +274,19 @@ module _ (taken : ℕ → Bool) (end count align from : ℕ) where
         behind = omega (arith, spent.behind, found.after, multiple.after);
         within = omega (arith, ends);
         clear = λ q above below. room_clear p q found.passes (omega (arith, multiple.after, above)) below;
-        positive = λ _. positive;
+        wide = λ _. wide;
+        some = λ _. omega (arith, inside, spent.behind, found.after);
         apart =
             (let far = multiples_apart align at next spent.multiple multiple.passes
             (omega (arith, found.after, multiple.after, other)) in omega (arith, far, spent.apart, spent.behind));
-        few = few_at before at steps turns reach spent (omega (arith, found.after, ends));
+        few =
+            (let most = few_at before at steps turns reach spent (omega (arith, found.after, inside)) in
+            omega (arith, most));
         grown = omega (arith, spent.grown, is);
+        none = λ zero. absurd (omega (arith, zero));
         cost =
-            omega (
-              arith,
-              spent.cost,
-              is,
-              turn_most at (p + count),
-              not_inside,
-              ends,
-              found.after,
-              multiple.after,
-              other,
-              spent.behind,
-            );
+            (let words = words_add from at p count reach next end spent.behind found.after
+            (omega (arith, multiple.after, other)) inside not_inside in
+            let most = search_most at (p + count) in
+            omega (arith, spent.cost, is, most, words));
       }

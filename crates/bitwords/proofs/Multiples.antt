@@ -78,6 +78,10 @@ module _ (align number : ℕ) (some : 0 < align) where
 pub none_of_zero : (i : ℕ) → 0 < i → is_multiple 0 i ≡ false
 none_of_zero i some = ne_eqb _ _ (λ is. omega (arith, is, mod-zero i))
 
+-- and each number one of 1
+pub all_of_one : (i : ℕ) → is_multiple 1 i ≡ true
+all_of_one i = eq-eqb _ _ (omega arith)
+
 pub rounded_up : (align number : ℕ) (result : Option ℕ) → number ≢ 0
     → SomeIff result ((0 < align) × (next_multiple_of number align < 2 ^ 64)) (next_multiple_of number align)
     → MatchOption result (NonePasses (is_multiple align) number (2 ^ 64)) (IsNext (is_multiple align) number (2 ^ 64))

@@ -1,6 +1,6 @@
 -- Numbers that pass a test and follow each other, and the first place with room for so many.
 use Rattle.std.specs.Prelude.{ℕ, suc, zero, ◌+◌, ◌-◌, ◌*◌, ◌/◌, ◌%◌, ◌==◌}
-use Rattle.std.specs.Prelude.{Bool, true, not, ◌&&◌, nat_le, Option, slice_get}
+use Rattle.std.specs.Prelude.{Bool, true, not, ◌&&◌, nat_le, nat_lt, if◌then◌else◌, Option, slice_get}
 use Rattle.bitlanes.specs.Bits.{bit}
 use Rattle.bitlanes.specs.Words.{lane_steps}
 use Rattle.bitwords.specs.Ascending.{ascending}
@@ -32,6 +32,9 @@ unfoldable pub first_aligned_room : (ℕ → Bool) → (end count align from : �
 first_aligned_room taken end count align from =
     slice_get (ascending (λ p. is_multiple align p && has_room_in taken end count p) from (end + 1 - from)) 0
 
--- the steps of such a search at most: two for each lane of the range, and two for each multiple that may stand there
+-- the steps of such a search at most: two for each lane and one for each multiple; where align ≤ 1, one for each lane
 abbrev pub aligned_steps : (align start end : ℕ) → ℕ
-aligned_steps align start end = 2 * lane_steps (range_words start end) + 2 * ((end - start) / align + 1)
+aligned_steps align start end =
+    if nat_lt 1 align
+    then 2 * lane_steps (range_words start end) + (end - start) / align
+    else lane_steps (range_words start end)
