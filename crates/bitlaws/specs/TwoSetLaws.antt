@@ -39,6 +39,17 @@ StepsBound = (keep take : Bool) (n m : ℕ)
     → (join_steps keep (storage_words n) (storage_words m) ≤ most_steps (words_needed n) (words_needed m))
     × (both_steps keep take (storage_words n) (storage_words m) ≤ most_steps (words_needed n) (words_needed m))
 
+-- the two parts apart: over the words that both lengths need, and over those that only the longer one needs
+abbrev pub PartsBound : Type 0
+PartsBound = (n m : ℕ)
+    → (lane_steps (min (storage_words n) (storage_words m)) ≤ min (words_needed n) (words_needed m) / 4 + 3)
+    × (lane_steps (storage_words n - storage_words m) ≤ (words_needed n - words_needed m) / 4 + 3)
+
+-- `next_common` goes over words that both lengths need alone
+abbrev pub NextCommonBound : Type 0
+NextCommonBound = (n m from : ℕ)
+    → 1 + lane_steps (storage_words (min n m) - 1 - from / 64) ≤ min (words_needed n) (words_needed m) / 4 + 3
+
 -- one kernel over the words of the second set takes no more: it is what a call
 -- that grows takes, and a copy or a comparison
 abbrev pub WholeStepsBound : Type 0

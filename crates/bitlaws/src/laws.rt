@@ -21,6 +21,7 @@ ghost use Rattle.bitlaws.specs.SetLaws.{StoredReadsBack, LoadedStays};
 ghost use Rattle.bitlaws.specs.TwoSetLaws.{CountsAddUp, SymmetricDifferenceIsSum};
 ghost use Rattle.bitlaws.specs.TwoSetLaws.{SubsetBothWays, IsSubsetTells};
 ghost use Rattle.bitlaws.specs.TwoSetLaws.{IsDisjointTells, StepsBound, WholeStepsBound};
+ghost use Rattle.bitlaws.specs.TwoSetLaws.{PartsBound, NextCommonBound};
 ghost use Rattle.bitlaws.specs.TwoSetLaws.{MovedStepsBound, CopyStepsBound, StepsOfEqual};
 ghost use Rattle.bitlaws.specs.WalkLaws.{PartsAreTheList, TurnsOfCalls};
 ghost use Rattle.bitlaws.specs.WalkLaws.{LooksUpOnce, JoinsOnce, SplitsOnce};
@@ -296,8 +297,9 @@ pub fn tests_of_two_sets()
 {}
 
 /// With `m` words that both lengths need and `t` that only the longer needs, a call over two sets
-/// takes at most `m / 4 + 3` steps for the first and `t / 4 + 3` for the second. Over as many
-/// words, `m` each, a join, a count or a test that nothing stops takes exactly `m / 4`, rounded up.
+/// takes at most `m / 4 + 3` steps for the first and `t / 4 + 3` for the second, and `next_common`
+/// none for the second. Over as many words, `m` each, a join, a count or a test that nothing stops
+/// takes exactly `m / 4`, rounded up.
 ///
 /// ```
 /// let mut set = FixedBitSet::with_capacity(alloc, 448)?;
@@ -308,6 +310,8 @@ pub fn tests_of_two_sets()
 /// ```
 pub fn steps_of_two_sets()
     ensures bound { StepsBound }
+    ensures parts { PartsBound }
+    ensures next_common { NextCommonBound }
     ensures whole { WholeStepsBound }
     ensures moved { MovedStepsBound }
     ensures copied { CopyStepsBound }
