@@ -32,6 +32,8 @@ impl<'a> Bits<'a> {
     pub fn ones(self) -> Cursor<Plain<'a>>
         ensures items { result.items ≡ model.asc (value self.entry) }
         ensures words { result.words ≡ between_ends (model.words (value self.entry)) }
+        ensures turns { result.turns ≡ 0 }
+        ensures taken { result.taken ≡ 0 }
     {
         let words = self.as_slice();
         Cursor::over(Plain { words })
@@ -52,6 +54,8 @@ impl<'a> Bits<'a> {
             ≡ model.asc (sets.intersection (value self.entry) (value other.entry)) }
         ensures words { result.words
             ≡ between_ends (model.words (sets.bitand (value self.entry) (value other.entry))) }
+        ensures turns { result.turns ≡ 0 }
+        ensures taken { result.taken ≡ 0 }
     {
         let words = self.as_slice();
         let other = other.as_slice();
@@ -73,6 +77,8 @@ impl<'a> Bits<'a> {
             ≡ model.asc (sets.difference (value self.entry) (value other.entry)) }
         ensures words { result.words
             ≡ between_ends (model.words (sets.difference (value self.entry) (value other.entry))) }
+        ensures turns { result.turns ≡ 0 }
+        ensures taken { result.taken ≡ 0 }
     {
         let words = self.as_slice();
         let other = all(other.words);
@@ -91,6 +97,8 @@ impl<'a> Bits<'a> {
         ensures items { result.items ≡ model.asc (model.complement (value self.entry)) }
         ensures words { result.words
             ≡ between_ends (map (bit_not w64) (model.words (value self.entry))) }
+        ensures turns { result.turns ≡ 0 }
+        ensures taken { result.taken ≡ 0 }
     {
         zeroes_within(self.as_slice(), 0, self.length)
     }
@@ -145,6 +153,8 @@ impl<'a> Bits<'a> {
         requires { IsTrue (is_valid (value self) start end) }
         ensures items { result.items ≡ ones_of (value self.entry) start end }
         ensures words { result.words ≡ words_of (value self.entry) start end }
+        ensures turns { result.turns ≡ 0 }
+        ensures taken { result.taken ≡ 0 }
     {
         ones_within(self.as_slice(), start, end)
     }
@@ -162,6 +172,8 @@ impl<'a> Bits<'a> {
         requires { IsTrue (is_valid (value self) start end) }
         ensures items { result.items ≡ zeroes_of (value self.entry) start end }
         ensures words { result.words ≡ zero_words_of (value self.entry) start end }
+        ensures turns { result.turns ≡ 0 }
+        ensures taken { result.taken ≡ 0 }
     {
         zeroes_within(self.as_slice(), start, end)
     }
