@@ -47,8 +47,8 @@ pub fn first(
 /// not be past the words.
 ///
 /// It looks for a stretch by [`first`], and where that begins at no multiple, again from the next
-/// multiple on. So it takes at most two steps for each lane of four words up to `end`, and two for
-/// each multiple that may stand there.
+/// multiple on. So it takes at most two steps for each lane of four words up to `end`, and one for
+/// each multiple that may stand there; where `align` is 0 or 1, at most one for each lane.
 ///
 /// ```text
 /// let mut steps = Steps::new();

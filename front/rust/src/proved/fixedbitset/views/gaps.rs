@@ -28,8 +28,9 @@ impl Bits<'_> {
     /// on, all below `end`, or `None` where there is none. The only multiple of 0 is 0. The
     /// range has to be valid.
     ///
-    /// It takes at most two steps for each lane of the range, and two for each multiple that may
-    /// stand in it. Where there is such a gap they are at least those of its own lanes.
+    /// It takes at most two steps for each lane of the range, and one for each multiple that may
+    /// stand in it; where `align` is 0 or 1, at most one for each lane. Where there is such a gap
+    /// they are at least those of its own lanes.
     ///
     /// ```text
     /// let mut words = [9, 2, 0, 0];
