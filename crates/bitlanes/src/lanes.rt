@@ -7,12 +7,13 @@
 //! The kernels and the searches of module `search` are the only loops of calls on whole sets.
 //!
 //! Of two slices a kernel reads as many words as the shorter one has.
-ghost use Rattle.std.specs.Prelude.{◌≡◌, ◌+◌, ◌-◌, ◌*◌, ◌^◌, ◌<◌, ◌≤◌, ◌==◌, length, min};
+ghost use Rattle.std.specs.Prelude.{◌≡◌, ℕ, ◌+◌, ◌-◌, ◌*◌, ◌^◌, ◌<◌, ◌≤◌, ◌==◌, length, min};
 ghost use Rattle.std.specs.Prelude.{slice_index, sum_by, replicate, take, map, true, false, IsTrue};
 ghost use Rattle.std.specs.List.{list_all};
 ghost use Rattle.std.specs.Int.RustNames.{count_ones};
 ghost use Rattle.std.specs.Simd.Lanes.{zip2, chunk, put_chunk};
 ghost use Rattle.bitlanes.specs.Ones.{ones_up_to};
+ghost use Rattle.bitlanes.specs.Search.{IsFirstOne};
 ghost use Rattle.bitlanes.specs.Words.{zip_longest, filled, lane_steps};
 
 use crate::carries::{EIGHT, count_eights};
@@ -83,9 +84,9 @@ pub fn count<O: WordOp>(a: &[Block], b: &[Block], steps: &mut Steps) -> usize
 
 /// Whether no bit is set in the words of `a` joined with those of `b` by `O`, as far as both go.
 ///
-/// It stops at the first lane with a bit, so it takes at most `m / 4` steps, rounded up, `m` being
-/// the number of words of the shorter slice; where it answers `true` it takes exactly as many, and
-/// where it answers `false` at least one.
+/// It stops at the first lane with a bit: where it answers `false` it takes exactly one step for
+/// each lane up to that one, and where it answers `true` exactly `m / 4` steps, rounded up, `m`
+/// being the number of words of the shorter slice.
 ///
 /// ```
 /// assert!(rt; lanes::none::<And>(&[1, 2], &[2, 1, 255], &mut Steps::new()));
@@ -98,6 +99,8 @@ pub fn none<O: WordOp>(a: &[Block], b: &[Block], steps: &mut Steps) -> bool
     ensures cost { steps.new ≤ steps.old + lane_steps (min (length a.now) (length b.now)) }
     ensures exact_if_true { IsTrue result
         → steps.new ≡ steps.old + lane_steps (min (length a.now) (length b.now)) }
+    ensures exact_if_stopped { (at : ℕ) → IsFirstOne (zip2 O.joined a.now b.now) at
+        → steps.new ≡ steps.old + lane_steps (at + 1) }
     ensures stops { result ≡ false → steps.old < steps.new }
 {
     let common = a.len().min(b.len());
@@ -163,9 +166,9 @@ pub fn count_one(a: &[Block], steps: &mut Steps) -> usize
 
 /// Whether no bit is set in the words.
 ///
-/// It stops at the first lane with a bit, so it takes at most `m / 4` steps, rounded up, `m`
-/// being the number of words; where it answers `true` it takes exactly as many, and where it
-/// answers `false` at least one.
+/// It stops at the first lane with a bit: where it answers `false` it takes exactly one step for
+/// each lane up to that one, and where it answers `true` exactly `m / 4` steps, rounded up, `m`
+/// being the number of words.
 ///
 /// ```
 /// assert!(rt; lanes::none_one(&[0; 9], &mut Steps::new()));
@@ -177,6 +180,8 @@ pub fn none_one(a: &[Block], steps: &mut Steps) -> bool
     ensures zero { result ≡ list_all (λ word. word == 0) a.now }
     ensures cost { steps.new ≤ steps.old + lane_steps (length a.now) }
     ensures exact_if_true { IsTrue result → steps.new ≡ steps.old + lane_steps (length a.now) }
+    ensures exact_if_stopped { (at : ℕ) → IsFirstOne a.now at
+        → steps.new ≡ steps.old + lane_steps (at + 1) }
     ensures stops { result ≡ false → steps.old < steps.new }
 {
     let words = a.len();
@@ -198,9 +203,9 @@ pub fn none_one(a: &[Block], steps: &mut Steps) -> bool
 
 /// Whether no bit is set in the word `mask` joined with each word of `words` by `O`.
 ///
-/// It stops at the first lane with a bit, so it takes at most `m / 4` steps, rounded up, `m`
-/// being the number of words; where it answers `true` it takes exactly as many, and where it
-/// answers `false` at least one.
+/// It stops at the first lane with a bit: where it answers `false` it takes exactly one step for
+/// each lane up to that one, and where it answers `true` exactly `m / 4` steps, rounded up, `m`
+/// being the number of words.
 ///
 /// ```
 /// assert!(rt; lanes::none_masked::<And>(4, &[3, 8, 1], &mut Steps::new()));
@@ -212,6 +217,8 @@ pub fn none_masked<O: WordOp>(mask: Block, words: &[Block], steps: &mut Steps) -
     ensures zero { result ≡ list_all (λ word. word == 0) (map (O.joined mask) words.now) }
     ensures cost { steps.new ≤ steps.old + lane_steps (length words.now) }
     ensures exact_if_true { IsTrue result → steps.new ≡ steps.old + lane_steps (length words.now) }
+    ensures exact_if_stopped { (at : ℕ) → IsFirstOne (map (O.joined mask) words.now) at
+        → steps.new ≡ steps.old + lane_steps (at + 1) }
     ensures stops { result ≡ false → steps.old < steps.new }
 {
     let count = words.len();
