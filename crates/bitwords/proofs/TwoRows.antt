@@ -23,7 +23,7 @@ use Rattle.bitlanes.specs.Changes.{changed_bits, changes}
 use Rattle.bitlanes.specs.ChangeFacts.{laws_of_changes}
 
 -- the joined words, and then the rest of the longer row
-zip_longest-parts : (f : ℕ → ℕ → ℕ) (keep take : Bool) (xs ys : List ℕ)
+pub zip_longest-parts : (f : ℕ → ℕ → ℕ) (keep take : Bool) (xs ys : List ℕ)
     → zip_longest f keep take xs ys
     ≡ zip2 f xs ys ++ ((if keep then drop (length ys) xs else []) ++ (if take then drop (length xs) ys else []))
 zip_longest-parts f keep take [] ys = rw drop-nil (grind arith)
@@ -34,7 +34,7 @@ zip_longest-parts f keep take (x ∷ xs) (y ∷ ys) = ap (λ t. f x y ∷ t) (zi
 pub longest_of_both : (f : ℕ → ℕ → ℕ) (xs ys : List ℕ) → zip_longest f false false xs ys ≡ zip2 f xs ys
 longest_of_both f xs ys = zip_longest-parts f false false xs ys ∙ append-nil (zip2 f xs ys)
 
-zip_longest-like : (f : ℕ → ℕ → ℕ) (keep take : Bool) (xs ys : List ℕ) → length xs ≡ length ys
+pub zip_longest-like : (f : ℕ → ℕ → ℕ) (keep take : Bool) (xs ys : List ℕ) → length xs ≡ length ys
     → zip_longest f keep take xs ys ≡ zip2 f xs ys
 zip_longest-like f keep take xs ys e = rw zip_longest-parts (grind (arith, drop_all, append-nil))
 

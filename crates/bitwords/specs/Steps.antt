@@ -1,5 +1,5 @@
 -- The steps of a call. A step is one lane of four words, or one word.
-use Rattle.std.specs.Prelude.{ℕ, ◌+◌, ◌-◌, ◌/◌, ◌%◌, min, Bool, nat_lt, if◌then◌else◌}
+use Rattle.std.specs.Prelude.{ℕ, ◌+◌, ◌-◌, ◌*◌, ◌/◌, ◌%◌, min, Bool, nat_lt, if◌then◌else◌}
 use Rattle.std.specs.Int.{div_ceil}
 use Rattle.bitlanes.specs.Shifts.{up_steps}
 use Rattle.bitlanes.specs.Words.{lane_steps}
@@ -15,6 +15,10 @@ whole_words start end = end / 64 - div_ceil start 64
 -- to search the words of a range: by lanes over those that are wholly in it, and one by one over the others
 abbrev pub search_steps : ℕ → ℕ → ℕ
 search_steps start end = lane_steps (whole_words start end) + (range_words start end - whole_words start end)
+
+-- the end of the word of position p
+abbrev pub word_end : ℕ → ℕ
+word_end p = 64 * (p / 64 + 1)
 
 -- to join n words with m others: over those that both have, and over the rest of the first where it is cleared
 abbrev pub join_steps : Bool → ℕ → ℕ → ℕ

@@ -4,7 +4,7 @@
 //! The words that both rows have are joined by a kernel of `bitlanes`, by lanes of four; the rest
 //! of the longer row is cleared, counted or left, as the operation says.
 ghost use Rattle.std.specs.Prelude.{◌≡◌, ◌<◌, ◌≤◌, ◌+◌, ◌-◌, ◌*◌, ◌/◌, ◌^◌, ◌==◌, ◌&&◌, ◌||◌};
-ghost use Rattle.std.specs.Prelude.{not, IsTrue, IfSome, IfNone, true, false, length, min};
+ghost use Rattle.std.specs.Prelude.{ℕ, not, IsTrue, IfSome, IfNone, true, false, [], length, min};
 ghost use Rattle.std.specs.Prelude.{max, drop, slice_get, slice_index, sum_by, if◌then◌else◌};
 ghost use Rattle.std.specs.Int.RustNames.{count_ones};
 ghost use Rattle.std.specs.List.{list_all};
@@ -157,8 +157,9 @@ pub fn count<O: WordOp>(a: &[Block], b: &[Block], steps: &mut Steps) -> usize
 
 /// Whether `count` is 0, whether or not it fits `usize`.
 ///
-/// It stops at the first lane that decides, so it takes at most the steps of `count`; where it
-/// answers `true` it takes exactly as many, and where it answers `false` at least one.
+/// It stops at the first lane that decides: where it answers `true` it takes exactly the steps of
+/// `count`, and where it answers `false` exactly those of `count` over the words up to the one that
+/// has the first position that counts.
 ///
 /// ```
 /// assert!(rt; joins::none::<AndNot>(&[2], &[3, 1], &mut Steps::new()));
@@ -171,6 +172,9 @@ pub fn none<O: WordOp>(a: &[Block], b: &[Block], steps: &mut Steps) -> bool
     ensures cost { steps.new ≤ steps.old + both_steps O.KEEP O.TAKE (length a.now) (length b.now) }
     ensures exact_if_true { IsTrue result
         → steps.new ≡ steps.old + both_steps O.KEEP O.TAKE (length a.now) (length b.now) }
+    ensures exact_if_stopped { (p : ℕ) → IsNext (bits_test O.truth a.now b.now)
+        0 (64 * max (length a.now) (length b.now)) p → steps.new ≡ steps.old + both_steps
+        O.KEEP O.TAKE (min (p / 64 + 1) (length a.now)) (min (p / 64 + 1) (length b.now)) }
     ensures stops { result ≡ false → steps.old < steps.new }
 {
     none_words::<O>(a, b, steps)
@@ -300,6 +304,8 @@ fn none_rest(words: &[Block], from: usize, counts: bool, steps: &mut Steps) -> b
         + (if counts then lane_steps (length words.now - from) else 0) }
     ensures exact_if_true { IsTrue result
         → steps.new ≡ steps.old + (if counts then lane_steps (length words.now - from) else 0) }
+    ensures exact_if_stopped { (at : ℕ) → IsFirstOne (if counts then drop from words.now else []) at
+        → steps.new ≡ steps.old + lane_steps (at + 1) }
     ensures stops { result ≡ false → steps.old < steps.new }
 {
     if counts && from < words.len() {
@@ -318,6 +324,10 @@ fn none_words<O: WordOp>(a: &[Block], b: &[Block], steps: &mut Steps) -> bool
     ensures cost { steps.new ≤ steps.old + both_steps O.KEEP O.TAKE (length a.now) (length b.now) }
     ensures exact_if_true { IsTrue result
         → steps.new ≡ steps.old + both_steps O.KEEP O.TAKE (length a.now) (length b.now) }
+    ensures exact_if_stopped { (at : ℕ)
+        → IsFirstOne (zip_longest O.joined O.KEEP O.TAKE a.now b.now) at
+        → steps.new ≡ steps.old + both_steps
+        O.KEEP O.TAKE (min (at + 1) (length a.now)) (min (at + 1) (length b.now)) }
     ensures stops { result ≡ false → steps.old < steps.new }
 {
     if a.len() == b.len() {
@@ -337,6 +347,10 @@ fn none_unlike<O: WordOp>(a: &[Block], b: &[Block], steps: &mut Steps) -> bool
     ensures cost { steps.new ≤ steps.old + both_steps O.KEEP O.TAKE (length a.now) (length b.now) }
     ensures exact_if_true { IsTrue result
         → steps.new ≡ steps.old + both_steps O.KEEP O.TAKE (length a.now) (length b.now) }
+    ensures exact_if_stopped { (at : ℕ)
+        → IsFirstOne (zip_longest O.joined O.KEEP O.TAKE a.now b.now) at
+        → steps.new ≡ steps.old + both_steps
+        O.KEEP O.TAKE (min (at + 1) (length a.now)) (min (at + 1) (length b.now)) }
     ensures stops { result ≡ false → steps.old < steps.new }
 {
     lanes::none::<O>(a, b, steps)

@@ -5,12 +5,13 @@
 //! words, and positions of its last word. Each part may be empty. So no word but the first
 //! and the last is masked.
 ghost use Rattle.std.specs.Prelude.{◌≡◌, ℕ, ◌<◌, ◌≤◌, ◌+◌, ◌-◌, ◌*◌, ◌/◌, ◌^◌};
-ghost use Rattle.std.specs.Prelude.{length, ◌==◌, IsTrue, true, false, ◌&&◌, nat_lt, [], ◌∷◌};
+ghost use Rattle.std.specs.Prelude.{length, min, ◌==◌, IsTrue, true, false, ◌&&◌, nat_lt, [], ◌∷◌};
 ghost use Rattle.bitlanes.specs.Bits.{bit};
 ghost use Rattle.bitlanes.specs.Words.{lane_steps};
 ghost use Rattle.bitwords.specs.Cuts.{IsCut};
+ghost use Rattle.bitwords.specs.Neighbours.{IsNext};
 ghost use Rattle.bitwords.specs.Rows.{has_bit, in_range, IsJoined, IsCopied, count_below, bit_test};
-ghost use Rattle.bitwords.specs.Steps.{range_words, search_steps};
+ghost use Rattle.bitwords.specs.Steps.{range_words, search_steps, word_end};
 
 use crate::shifts::join_down;
 use bitlanes::ops::{Second, WordOp};
@@ -69,10 +70,10 @@ pub fn count<O: WordOp>(words: &[Block], start: usize, end: usize, steps: &mut S
 
 /// Whether `count` is 0.
 ///
-/// It stops at the first lane or word that decides, so it takes at most `search_steps`: one step
-/// for each lane of four of the words that are wholly in the range, the last of which may have
-/// fewer, and one for each other word that holds a position of it. Where it answers `true` it takes
-/// exactly as many, and where it answers `false` at least one.
+/// It stops at the first lane or word that decides. Where it answers `true` it takes exactly
+/// `search_steps`: one step for each lane of four of the words that are wholly in the range, the
+/// last of which may have fewer, and one for each other word that holds a position of it. Where it
+/// answers `false` it takes exactly those of the range up to the end of the word that decides.
 ///
 /// ```
 /// assert!(rt; ranges::none::<And>(&[0, 8], 0, 67, &mut Steps::new()));
@@ -87,6 +88,8 @@ pub fn none<O: WordOp>(words: &[Block], start: usize, end: usize, steps: &mut St
         == count_below (bit_test (O.truth true) words.now) start) }
     ensures cost { steps.new ≤ steps.old + search_steps start end }
     ensures exact_if_true { IsTrue result → steps.new ≡ steps.old + search_steps start end }
+    ensures exact_if_stopped { (p : ℕ) → IsNext (bit_test (O.truth true) words.now) start end p
+        → steps.new ≡ steps.old + search_steps start (min end (word_end p)) }
     ensures stops { result ≡ false → steps.old < steps.new }
 {
     let (low, high) = cut(start, end);
@@ -305,6 +308,9 @@ fn none_whole<O: WordOp>(words: &[Block], first: usize, last: usize, steps: &mut
         == count_below (bit_test (O.truth true) words.now) (64 * first)) }
     ensures cost { steps.new ≤ steps.old + lane_steps (last - first) }
     ensures exact_if_true { IsTrue result → steps.new ≡ steps.old + lane_steps (last - first) }
+    ensures exact_if_stopped { (p : ℕ)
+        → IsNext (bit_test (O.truth true) words.now) (64 * first) (64 * last) p
+        → steps.new ≡ steps.old + lane_steps (p / 64 + 1 - first) }
     ensures stops { result ≡ false → steps.old < steps.new }
 {
     // A single word is tested by itself: as a lane with zeros it would go

@@ -1,6 +1,7 @@
-use Rattle.std.proofs.Common.{◌≡◌, ◌+◌, ◌-◌, ◌*◌, ◌^◌, ◌==◌, ℕ, List, map, take, drop, rules, true, ap, ◌∙◌, arith}
+use Rattle.std.proofs.Common.{◌≡◌, ◌+◌, ◌-◌, ◌*◌, ◌/◌, ◌^◌, ◌==◌, ℕ, List, map, take, drop, rules, true, ap, ◌∙◌, arith}
 use Rattle.bitwords.specs.Rows.{bit_test, count_below}
 use Rattle.bitwords.proofs.Counted.{count-whole, count-wholes, all-ones, ones-zero, sum_is_start}
+use Rattle.bitwords.proofs.Stopping.{word_of_next}
 use Rattle.bitwords.proofs.ranges.none_whole.Goals as goal
 
 pub returns-clause-none : goal.returns-clause-none
@@ -23,3 +24,13 @@ returns-then-last-first-eq1-clause-none g c =
 
 pub returns-clause-exact_if_true : goal.returns-clause-exact_if_true
 returns-clause-exact_if_true g c = omega (arith, c.none_masked.ensures.exact_if_true)
+
+pub returns-clause-exact_if_stopped : goal.returns-clause-exact_if_stopped
+returns-clause-exact_if_stopped g c p next =
+    omega (
+      arith,
+      next.after,
+      c.none_masked.ensures.exact_if_stopped (p / 64 - c.args.first)
+          (word_of_next g.met.O.WordOp.laws c.requires.drops c.args.words.now (λ k. search rules) c.args.first
+          c.args.last c.requires.order c.requires.within p next),
+    )
