@@ -5,6 +5,7 @@ pub mod JoinedValues
 pub mod JoinedChanges
 pub mod JoinedCounts
 pub mod Lacking
+pub mod Stopping
 pub mod Positions
 pub mod Stretches
 pub mod Gaps

@@ -330,8 +330,8 @@ impl FixedBitSet {
 
     /// Whether no position is in both sets. The lengths are not compared.
     ///
-    /// It stops at the first lane with a position of both, and takes at most one step for
-    /// each lane that both have.
+    /// It stops at the first lane with a position of both, and takes exactly one step for each
+    /// lane up to that one, or for all lanes that both have.
     ///
     /// ```
     /// let set = FixedBitSet::from_iter(alloc, [1, 64])?;
@@ -347,8 +347,8 @@ impl FixedBitSet {
 
     /// Whether `other` has each position of this set. The lengths are not compared.
     ///
-    /// It stops at the first lane with a position that `other` lacks, and takes at most one step
-    /// for each lane of this set.
+    /// It stops at the first lane with a position that `other` lacks, and takes exactly one step
+    /// for each lane up to that one, or for all of this set.
     ///
     /// ```
     /// let mut set = FixedBitSet::with_capacity(alloc, 200)?;
@@ -381,8 +381,8 @@ impl FixedBitSet {
     /// `other` is a subset of it. The lengths are not compared, and it takes no memory.
     /// Upstream has no such call.
     ///
-    /// It stops at the first lane with such a position, and takes at most one step
-    /// for each lane of `other`.
+    /// It stops at the first lane with such a position, and takes exactly one step for each lane
+    /// up to that one, or for all of `other`.
     ///
     /// ```
     /// let set = FixedBitSet::from_iter(alloc, [1, 3])?;

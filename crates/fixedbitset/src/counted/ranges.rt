@@ -3,13 +3,14 @@
 //! A change or a count takes exactly one step for each word that holds a position of the range: so
 //! none for an empty range, and never more than `(end - start) / 64 + 2`. A test takes no more: one
 //! step for each lane of four of the words that are wholly in the range, and one for each other
-//! word that holds a position of it. It stops at the first that decides, which takes one step at
-//! least, and takes exactly as many where none does.
+//! word that holds a position of it. It stops at the first that decides, and takes exactly those up
+//! to that one, or exactly all where none does.
 
-ghost use Rattle.std.specs.Prelude.{◌≡◌, ◌<◌, ◌≤◌, ◌+◌, IsTrue, false, not};
-ghost use Rattle.bitwords.specs.Steps.{range_words, search_steps};
+ghost use Rattle.std.specs.Prelude.{◌≡◌, ◌<◌, ◌≤◌, ◌+◌, IsTrue, IfSome, min, false, not};
+ghost use Rattle.bitwords.specs.Steps.{range_words, search_steps, word_end};
+ghost use Rattle.fixedbitset.specs.Neighbours as neighbours;
 ghost use Rattle.fixedbitset.specs.Ranges as ranges;
-ghost use Rattle.fixedbitset.specs.Ranges.{over};
+ghost use Rattle.fixedbitset.specs.Ranges.{over, start_of, end_of};
 
 use crate::set::FixedBitSet;
 use crate::views::BitsMut;
@@ -150,6 +151,10 @@ pub fn contains_all_in_range<R: IndexRange<usize> + Drop>(
     ensures exact_if_true { IsTrue result
         → steps.new ≡ steps.old
         + over (λ _. search_steps) set.now (R.start_of range) (R.end_of range) }
+    ensures exact_if_stopped { let start = start_of (R.start_of range) in
+        let end = end_of (R.end_of range) set.now.length in
+        IfSome (neighbours.next_zero set.now start) (λ p.
+        p < end → steps.new ≡ steps.old + search_steps start (min end (word_end p))) }
     ensures stops { result ≡ false → steps.old < steps.new }
 {
     let start = range.start().unwrap_or(0);
@@ -178,6 +183,10 @@ pub fn contains_any_in_range<R: IndexRange<usize> + Drop>(
     ensures exact_if_false { IsTrue (not result)
         → steps.new ≡ steps.old
         + over (λ _. search_steps) set.now (R.start_of range) (R.end_of range) }
+    ensures exact_if_stopped { let start = start_of (R.start_of range) in
+        let end = end_of (R.end_of range) set.now.length in
+        IfSome (neighbours.next_one set.now start) (λ p.
+        p < end → steps.new ≡ steps.old + search_steps start (min end (word_end p))) }
     ensures stops { IsTrue result → steps.old < steps.new }
 {
     let start = range.start().unwrap_or(0);

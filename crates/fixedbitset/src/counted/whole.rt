@@ -3,9 +3,9 @@
 //! A step is one lane of four words in one turn of a kernel. A set of `n` positions has `n / 256`
 //! lanes, rounded up. A change or a count takes exactly one step for each lane that both sets have,
 //! and one for each that only one of them has, where these are cleared or counted. A comparison
-//! takes at most as many, since it stops at the first lane that decides; where it answers `true`
-//! exactly as many, and where it answers `false` one at least. `first_lacking` takes exactly those
-//! up to the lane of the position, or all where there is none. What `grow` writes is not counted.
+//! that answers `true` takes exactly as many, and one that answers `false` exactly those up to the
+//! lane that decides. `first_lacking` takes exactly those up to the lane of the position, or all
+//! where there is none. What `grow` writes is not counted.
 
 ghost use Rattle.std.specs.Prelude.{◌≡◌, ◌≢◌, ◌<◌, ◌≤◌, ◌↔◌, ◌+◌, ◌/◌, IsTrue};
 ghost use Rattle.std.specs.Prelude.{IsOk, OnOk, OnErr, IfSome, IfNone, true, false};
@@ -243,6 +243,8 @@ pub fn is_disjoint(set: &FixedBitSet, other: &FixedBitSet, steps: &mut Steps) ->
     ensures exact_if_true { IsTrue result → steps.new ≡ steps.old
         + both_steps false false (model.storage_words set.now.length)
         (model.storage_words other.now.length) }
+    ensures exact_if_stopped { IfSome (model.minimum (sets.intersection set.now other.now))
+        (λ p. steps.new ≡ steps.old + lane_steps (p / 64 + 1)) }
     ensures stops { result ≡ false → steps.old < steps.new }
 {
     set.as_bits().is_disjoint(other.as_bits(), steps)
@@ -265,6 +267,9 @@ pub fn is_subset(set: &FixedBitSet, other: &FixedBitSet, steps: &mut Steps) -> b
     ensures exact_if_true { IsTrue result → steps.new ≡ steps.old
         + both_steps true false (model.storage_words set.now.length)
         (model.storage_words other.now.length) }
+    ensures exact_if_stopped { IfSome (model.minimum (sets.difference set.now other.now))
+        (λ p. steps.new ≡ steps.old
+        + both_steps true false (p / 64 + 1) (model.storage_words other.now.length)) }
     ensures stops { result ≡ false → steps.old < steps.new }
 {
     set.as_bits().is_subset(other.as_bits(), steps)

@@ -4,12 +4,16 @@
 //! A change or a count takes exactly one step for each word that holds a position of the range: so
 //! none for an empty range, and never more than `(end - start) / 64 + 2`. A test takes no more: one
 //! step for each lane of four of the words that are wholly in the range, and one for each other
-//! word that holds a position of it. It stops at the first that decides, which takes one step at
-//! least, and takes exactly as many where none does.
+//! word that holds a position of it. It stops at the first that decides, and takes exactly those up
+//! to that one, or exactly all where none does.
 
-ghost use Rattle.std.specs.Prelude.{◌≡◌, ◌<◌, ◌≤◌, ◌+◌, ◌==◌, IsTrue, not, true, false};
-ghost use Rattle.bitwords.specs.Steps.{range_words, search_steps};
+ghost use Rattle.std.specs.Prelude.{◌≡◌, ℕ, ◌<◌, ◌≤◌, ◌+◌, ◌==◌, IsTrue, IfSome, not, true, false};
+ghost use Rattle.std.specs.Prelude.{min};
+ghost use Rattle.bitwords.specs.Neighbours.{IsNext};
+ghost use Rattle.bitwords.specs.Rows.{bit_test};
+ghost use Rattle.bitwords.specs.Steps.{range_words, search_steps, word_end};
 ghost use Rattle.fixedbitset.specs.Bits as model;
+ghost use Rattle.fixedbitset.specs.Neighbours as neighbours;
 ghost use Rattle.fixedbitset.specs.Ranges as ranges;
 ghost use Rattle.fixedbitset.specs.Ranges.{is_valid};
 ghost use Rattle.fixedbitset.specs.Stored.{joined, count_joined, range_set};
@@ -153,6 +157,8 @@ impl Bits<'_> {
         ensures answer { result ≡ ranges.contains_all (value self.entry) start end }
         ensures cost { steps.new ≤ steps.old + search_steps start end }
         ensures exact_if_true { IsTrue result → steps.new ≡ steps.old + search_steps start end }
+        ensures exact_if_stopped { IfSome (neighbours.next_zero (value self.entry) start) (λ p.
+            p < end → steps.new ≡ steps.old + search_steps start (min end (word_end p))) }
         ensures stops { result ≡ false → steps.old < steps.new }
     {
         self.none_in::<AndNot>(start, end, steps)
@@ -172,6 +178,8 @@ impl Bits<'_> {
         ensures cost { steps.new ≤ steps.old + search_steps 0 self.entry.length }
         ensures exact_if_true { IsTrue result
             → steps.new ≡ steps.old + search_steps 0 self.entry.length }
+        ensures exact_if_stopped { IfSome (model.minimum (model.complement (value self.entry)))
+            (λ p. steps.new ≡ steps.old + search_steps 0 (min self.entry.length (word_end p))) }
         ensures stops { result ≡ false → steps.old < steps.new }
     {
         self.contains_all_in_range(0, self.length, steps)
@@ -192,6 +200,8 @@ impl Bits<'_> {
         ensures cost { steps.new ≤ steps.old + search_steps start end }
         ensures exact_if_false { IsTrue (not result)
             → steps.new ≡ steps.old + search_steps start end }
+        ensures exact_if_stopped { IfSome (neighbours.next_one (value self.entry) start) (λ p.
+            p < end → steps.new ≡ steps.old + search_steps start (min end (word_end p))) }
         ensures stops { IsTrue result → steps.old < steps.new }
     {
         !self.none_in::<And>(start, end, steps)
@@ -217,6 +227,9 @@ impl Bits<'_> {
             ≡ (count_joined O.truth (range_set start end) (value self.entry) == 0) }
         ensures cost { steps.new ≤ steps.old + search_steps start end }
         ensures exact_if_true { IsTrue result → steps.new ≡ steps.old + search_steps start end }
+        ensures exact_if_stopped { (p : ℕ)
+            → IsNext (bit_test (O.truth true) self.entry.words.now) start end p
+            → steps.new ≡ steps.old + search_steps start (min end (word_end p)) }
         ensures stops { result ≡ false → steps.old < steps.new }
     {
         bitwords::ranges::none::<O>(self.words, start, end, steps)

@@ -1,14 +1,15 @@
 //! Two whole sets, of any two lengths.
 //!
 //! A change or a count takes exactly one step for each lane that both sets have, and one for each
-//! that only one of them has, where these are cleared or counted. A comparison takes at most as
-//! many, since it stops at the first lane that decides; where it answers `true` exactly as many,
-//! and where it answers `false` one at least.
+//! that only one of them has, where these are cleared or counted. A comparison that answers `true`
+//! takes exactly as many, and one that answers `false` exactly those up to the lane that decides.
 
-ghost use Rattle.std.specs.Prelude.{◌≡◌, ◌≢◌, ◌<◌, ◌≤◌, ◌+◌, ◌/◌, ◌==◌};
-ghost use Rattle.std.specs.Prelude.{IsTrue, IfSome, IfNone, true, false};
+ghost use Rattle.std.specs.Prelude.{◌≡◌, ◌≢◌, ℕ, ◌<◌, ◌≤◌, ◌+◌, ◌*◌, ◌/◌, ◌==◌};
+ghost use Rattle.std.specs.Prelude.{IsTrue, IfSome, IfNone, length, max, min, true, false};
 ghost use Rattle.std.specs.declared.cmp.Ordering.TheVariants.{Equal};
 ghost use Rattle.bitlanes.specs.Words.{lane_steps};
+ghost use Rattle.bitwords.specs.Neighbours.{IsNext};
+ghost use Rattle.bitwords.specs.Rows.{bits_test};
 ghost use Rattle.bitwords.specs.Steps.{join_steps, both_steps};
 ghost use Rattle.fixedbitset.specs.Bits as model;
 ghost use Rattle.fixedbitset.specs.Bits.{storage_words};
@@ -210,6 +211,9 @@ impl Bits<'_> {
             (storage_words self.entry.length) (storage_words other.entry.length) }
         ensures exact_if_true { IsTrue result → steps.new ≡ steps.old + both_steps false false
             (storage_words self.entry.length) (storage_words other.entry.length) }
+        ensures exact_if_stopped { IfSome
+            (model.minimum (sets.intersection (value self.entry) (value other.entry)))
+            (λ p. steps.new ≡ steps.old + lane_steps (p / 64 + 1)) }
         ensures stops { result ≡ false → steps.old < steps.new }
     {
         self.none::<And>(other, steps)
@@ -231,6 +235,10 @@ impl Bits<'_> {
             (storage_words self.entry.length) (storage_words other.entry.length) }
         ensures exact_if_true { IsTrue result → steps.new ≡ steps.old + both_steps true false
             (storage_words self.entry.length) (storage_words other.entry.length) }
+        ensures exact_if_stopped { IfSome
+            (model.minimum (sets.difference (value self.entry) (value other.entry)))
+            (λ p. steps.new ≡ steps.old
+            + both_steps true false (p / 64 + 1) (storage_words other.entry.length)) }
         ensures stops { result ≡ false → steps.old < steps.new }
     {
         self.none::<AndNot>(other, steps)
@@ -276,6 +284,10 @@ impl Bits<'_> {
         ensures cost { steps.new ≤ steps.old + lane_steps (storage_words self.entry.length) }
         ensures exact_if_true { IsTrue result
             → steps.new ≡ steps.old + lane_steps (storage_words self.entry.length) }
+        ensures exact_if_stopped { IfSome
+            (model.minimum (sets.symmetric_difference (value self.entry) (value other.entry)))
+            (λ p. self.entry.length ≡ other.entry.length
+            → steps.new ≡ steps.old + lane_steps (p / 64 + 1)) }
         ensures unlike { self.entry.length ≢ other.entry.length → steps.new ≡ steps.old }
         ensures stops { result ≡ false → self.entry.length ≡ other.entry.length
             → steps.old < steps.new }
@@ -350,6 +362,12 @@ impl Bits<'_> {
             (storage_words self.entry.length) (storage_words other.entry.length) }
         ensures exact_if_true { IsTrue result → steps.new ≡ steps.old + both_steps O.KEEP O.TAKE
             (storage_words self.entry.length) (storage_words other.entry.length) }
+        ensures exact_if_stopped { (p : ℕ)
+            → IsNext (bits_test O.truth self.entry.words.now other.entry.words.now) 0
+            (64 * max (length self.entry.words.now) (length other.entry.words.now)) p
+            → steps.new ≡ steps.old + both_steps O.KEEP O.TAKE
+            (min (p / 64 + 1) (storage_words self.entry.length))
+            (min (p / 64 + 1) (storage_words other.entry.length)) }
         ensures stops { result ≡ false → steps.old < steps.new }
     {
         joins::none::<O>(self.words, other.words, steps)
