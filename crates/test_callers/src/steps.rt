@@ -4,6 +4,11 @@
 ghost use Rattle.std.specs.Prelude.{◌≡◌, ◌+◌, ◌<◌, ◌≤◌, ◌^◌, length, sum_by, bit_and};
 ghost use Rattle.std.specs.Int.RustNames.{count_ones};
 ghost use Rattle.std.specs.Simd.Lanes.{zip2};
+ghost use Rattle.std.specs.declared.option.Option.TheVariants.{Some};
+ghost use Rattle.bitlanes.specs.Search.{IsFirstOne};
+ghost use Rattle.fixedbitset.specs.Bits.{minimum};
+ghost use Rattle.fixedbitset.specs.Neighbours.{next_one};
+ghost use Rattle.fixedbitset.specs.TwoSets.{intersection, difference};
 
 use bitlanes::lanes;
 use bitlanes::ops::{And, Or};
@@ -78,4 +83,40 @@ pub fn count_steps(a: &[Block], b: &[Block], steps: &mut Steps) -> usize
     ensures of_9 { length a.now ≡ 9 → steps.new ≡ steps.old + 3 }
 {
     lanes::count::<And>(a, b, steps)
+}
+
+/// How many steps a test takes that the first word that is not 0 stops.
+pub fn none_steps(words: &[Block], steps: &mut Steps) -> bool
+    ensures of_first { IsFirstOne words.now 0 → steps.new ≡ steps.old + 1 }
+    ensures of_fourth { IsFirstOne words.now 3 → steps.new ≡ steps.old + 1 }
+    ensures of_fifth { IsFirstOne words.now 4 → steps.new ≡ steps.old + 2 }
+    ensures of_ninth { IsFirstOne words.now 8 → steps.new ≡ steps.old + 3 }
+{
+    lanes::none_one(words, steps)
+}
+
+/// Sets of any lengths whose least common position is 300: it stands in the second lane.
+pub fn disjoint_up_to_300(set: &FixedBitSet, other: &FixedBitSet, steps: &mut Steps) -> bool
+    requires { minimum (intersection set.now other.now) ≡ Some 300 }
+    ensures { steps.new ≡ steps.old + 2 }
+{
+    counted::is_disjoint(set, other, steps)
+}
+
+/// A set whose least position that the other one lacks is 300, behind the one lane of the other.
+pub fn subset_up_to_300(set: &FixedBitSet, other: &FixedBitSet, steps: &mut Steps) -> bool
+    requires shorter { other.now.length ≡ 100 }
+    requires least { minimum (difference set.now other.now) ≡ Some 300 }
+    ensures { steps.new ≡ steps.old + 2 }
+{
+    counted::is_subset(set, other, steps)
+}
+
+/// A range that begins within a word: that word, and one lane with the word of position 70.
+pub fn any_up_to_70(set: &FixedBitSet, steps: &mut Steps) -> bool
+    requires long { 2000 ≤ set.now.length }
+    requires next { next_one set.now 60 ≡ Some 70 }
+    ensures { steps.new ≡ steps.old + 2 }
+{
+    counted::contains_any_in_range(set, 60..2000, steps)
 }
