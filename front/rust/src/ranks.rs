@@ -23,7 +23,7 @@ pub struct Ranks<'a> {
 }
 
 impl<'a> Ranks<'a> {
-    /// The ranks of a set. It looks at each word of the set once.
+    /// The ranks of a set. It looks once at each word of the set but those of the last entry, at which it does not look.
     ///
     /// Proved: the directory, for all sets ([contract](crate::contracts#bitranksdirectoryfill)).
     ///

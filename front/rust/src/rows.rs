@@ -72,7 +72,7 @@ impl BitRows {
 
     /// Whether the row has a bit at the column: `false` past the rows and past the columns.
     ///
-    /// Proved: the answer, for all tables ([contract](crate::contracts#bitrowsrowsget)).
+    /// Proved: the answer, for each row of the table ([contract](crate::contracts#bitrowsrowsget)). Past the rows it is not.
     ///
     /// ```
     /// # use fixedbitset::BitRows;

@@ -95,7 +95,8 @@ impl<'a> Bits<'a> {
 impl<'a> BitsMut<'a> {
     /// [`Bits::over`], to be changed. [`settle`](Self::settle) clears what this refuses.
     ///
-    /// Proved: the answer, for all words and all numbers ([contract](crate::contracts#fixedbitsetbitsover)).
+    /// Proved: which words it refuses, for all numbers ([contract](crate::contracts#fixedbitsetbitsover)). The view is not:
+    /// it is made here.
     ///
     /// ```
     /// # use fixedbitset::BitsMut;

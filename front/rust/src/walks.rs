@@ -330,8 +330,9 @@ walks!(
 /// The traits of two walks in turn.
 macro_rules! walks_in_turn {
     ($($name:ty),*) => { $(
-        /// Proved: each item and the hint of size, for any mix of calls from both ends
-        /// ([contract](crate::contracts#bitwalksin_turninturntake_first)). The other calls are put together from these.
+        /// Proved: each item, for any mix of calls from both ends ([contract](crate::contracts#bitwalksin_turninturntake_first)),
+        /// and the hint of size ([contract](crate::contracts#bitwalksin_turninturnmost)). The other calls are put together from
+        /// these.
         impl Iterator for $name {
             type Item = usize;
 
