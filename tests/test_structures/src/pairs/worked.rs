@@ -251,6 +251,17 @@ fn exactly_one_of_listed_positions(rt: HostRuntime) -> Result<(), Fail> {
     Ok(())
 }
 
+// The same, by the call that stands for the operator.
+#[test]
+fn exactly_one_is_assigned(rt: HostRuntime) -> Result<(), Fail> {
+    let mut set = FixedBitSet::from_iter(rt.alloc(), FEW).expect(&rt, "memory for a word");
+    let other = FixedBitSet::from_iter(rt.alloc(), OTHERS).expect(&rt, "memory for two words");
+    set.bitxor_assign(&other)?;
+    assert!(rt; set.ones().eq(IN_ONE));
+    assert_eq!(rt; set.len(), 102);
+    Ok(())
+}
+
 // Sets of so many words that a new one is written as it is joined, and that a count goes by carries.
 const MANY: Spanned = Spanned {
     length: 200_000,
