@@ -27,3 +27,4 @@ pub mod Totals
 -- text
 pub mod Read
 pub mod Members
+pub mod Answered

@@ -78,7 +78,7 @@ module _ (a : ℕ) (ys : List ℕ) where
       (subst (λ p. IsBefore p (a, get_or ys j 0)) (sym (place i d 0 (omega arith)))
       (inr (refl, rising i j 0 less within)))
 
-asc_rises : (v : Bits) → AllPairs (λ x y. x < y) (asc v)
+pub asc_rises : (v : Bits) → AllPairs (λ x y. x < y) (asc v)
 unfolding asc
 asc_rises v =
     AllPairs-filter (λ x y. x < y) (contains v) (range_with_len 0 v.length) (λ i j d less inside.

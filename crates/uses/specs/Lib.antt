@@ -23,5 +23,6 @@ pub mod Sums
 -- text
 pub mod Rows
 pub mod Faults
+pub mod Texts
 pub mod Sets
 pub mod FaultFacts

@@ -6,6 +6,13 @@
 //! line is not as said here, or names a node that there is not, nothing is answered but one
 //! sentence on standard error with the number of that line, and the status is 1.
 
+ghost use Rattle.std.specs.Prelude.{ℕ, ◌∷◌, [], List, Contains};
+ghost use Rattle.std.specs.Prelude.{IfOk, IfErr, OnOk, string_bytes};
+ghost use Rattle.bitrows.specs.Paths.{IsConnected};
+ghost use Rattle.uses.specs.Edges.{HasEdges, HasEdge, IsEdge, PrintsPairs};
+ghost use Rattle.uses.specs.Faults.{AreAll, IsFaultOfRow};
+ghost use Rattle.uses.specs.Texts.{IsRefusal};
+
 use crate::text::first::{Said, first_number};
 use crate::text::{Fault, Row};
 use graph::closure;
@@ -18,7 +25,13 @@ mod graph;
 const LIMIT: usize = 10_000;
 
 /// What is printed for this text.
-pub(crate) fn output(alloc: Global, text: &str) -> Result<String, Fault> {
+pub(crate) fn output(alloc: Global, text: &str) -> Result<String, Fault>
+    ensures printed { IfOk result (λ printed. (nodes : ℕ) × (edges : List (List ℕ))
+        × HasEdges LIMIT text.now nodes edges × PrintsPairs
+        (IsConnected (λ a b. Contains edges (a ∷ b ∷ []))) (string_bytes printed)) }
+    ensures fault { IfErr result
+        (IsRefusal ((nodes : ℕ) × (edges : List (List ℕ)) × HasEdges LIMIT text.now nodes edges)) }
+{
     let rows = crate::text::rows(alloc, text)?;
     let said = Said {
         missing: "the number of nodes is missing",
@@ -30,7 +43,12 @@ pub(crate) fn output(alloc: Global, text: &str) -> Result<String, Fault> {
 }
 
 // The pairs of nodes that a path of these edges joins, one a line.
-fn lines_of(alloc: Global, nodes: usize, edges: &[Row]) -> Result<String, Fault> {
+fn lines_of(alloc: Global, nodes: usize, edges: &[Row]) -> Result<String, Fault>
+    ensures printed { IfOk result
+        (λ text. PrintsPairs (IsConnected (HasEdge edges.now)) (string_bytes text)) }
+    ensures each { OnOk result (AreAll (IsEdge nodes) edges.now) }
+    ensures fault { IfErr result (IsFaultOfRow (IsEdge nodes) edges.now) }
+{
     let mut lines = String::new(alloc);
     for (from, to) in &closure(alloc, nodes, edges)? {
         writeln!(lines, "{from} {to}")?;

@@ -6,9 +6,11 @@
 //! there is not, nothing is answered but one sentence on standard error with the number of that
 //! line, and the status is 1.
 
-ghost use Rattle.std.specs.Prelude.{◌≡◌, ◌<◌, IfOk, IfErr, map, length};
-ghost use Rattle.uses.specs.Faults.{IsFaultOfRow};
-ghost use Rattle.uses.specs.Reach.{IsGraph, AreNodes};
+ghost use Rattle.std.specs.Prelude.{◌≡◌, ℕ, ◌<◌, ◌∷◌, [], IfOk, IfErr};
+ghost use Rattle.std.specs.Prelude.{map, length, string_bytes};
+ghost use Rattle.uses.specs.Faults.{HasLine, IsFaultOfRow};
+ghost use Rattle.uses.specs.Reach.{Graph, HasGraph, IsGraph, AreNodes, IsReachable};
+ghost use Rattle.uses.specs.Texts.{IsOne, IsRefusal, Prints, one_a_line};
 
 use crate::text::sets::as_lines;
 use crate::text::{Fault, Row, Wrong};
@@ -19,7 +21,13 @@ use walk::{are_nodes, is_graph, reachable};
 mod walk;
 
 /// What is printed for this text.
-pub(crate) fn output(alloc: Global, text: &str) -> Result<String, Fault> {
+pub(crate) fn output(alloc: Global, text: &str) -> Result<String, Fault>
+    ensures printed { IfOk result (λ printed. (start : ℕ) × (graph : Graph)
+        × HasGraph text.now start graph
+        × Prints one_a_line (IsReachable graph start) (string_bytes printed)) }
+    ensures fault { IfErr result
+        (IsRefusal ((start : ℕ) × (graph : Graph) × HasGraph text.now start graph)) }
+{
     let rows = crate::text::rows(alloc, text)?;
     let Some((first, others)) = rows.split_first() else {
         return Err(Fault::Line(1, Wrong::Form("the start is missing")));
@@ -32,7 +40,10 @@ pub(crate) fn output(alloc: Global, text: &str) -> Result<String, Fault> {
 
 // The start that a row names, where there are so many nodes.
 fn start_of(row: &Row, nodes: usize) -> Result<usize, Fault>
-    ensures { IfOk result (λ start. start < nodes) }
+    ensures found { IfOk result (λ start. row.now.numbers.items ≡ start ∷ []) }
+    ensures node { IfOk result (λ start. start < nodes) }
+    ensures fault { IfErr result (λ fault. (¬ (IsOne (λ start. start < nodes)
+        row.now.numbers.items)) × HasLine fault row.now.line) }
 {
     match *row.numbers.as_slice() {
         [start] if start < nodes => Ok(start),
@@ -42,9 +53,12 @@ fn start_of(row: &Row, nodes: usize) -> Result<usize, Fault>
 }
 
 // The nodes that a path from the start leads to, one a line.
+#[tactic(auto, using(crate::proofs::Answered::prints))]
 fn lines_of(alloc: Global, graph: &[Vec<usize>], start: usize) -> Result<String, AllocError>
     requires graph { IsGraph graph.now }
     requires start { start < length graph.now }
+    ensures { IfOk result
+        (λ text. Prints one_a_line (IsReachable graph.now start) (string_bytes text)) }
 {
     let reached = reachable(alloc, graph, start, &mut Steps::new(), &mut Steps::new())?;
     as_lines(alloc, &reached)

@@ -5,8 +5,11 @@
 //! empty part among them, in ascending order. Where some line is not as said here, nothing is
 //! answered but one sentence on standard error with the number of that line, and the status is 1.
 
-ghost use Rattle.std.specs.Prelude.{◌≡◌, ◌≤◌, IfOk};
+ghost use Rattle.std.specs.Prelude.{◌≡◌, ℕ, ◌≤◌, List, IfOk, IfErr, string_bytes};
 ghost use Rattle.std.specs.List.{flat_map};
+ghost use Rattle.fixedbitset.specs.Bits.{asc};
+ghost use Rattle.uses.specs.Sums.{HasList, HasTotal};
+ghost use Rattle.uses.specs.Texts.{IsRefusal, Prints, in_one_line};
 
 use crate::text::first::{Said, first_number};
 use crate::text::{Fault, Row};
@@ -21,7 +24,13 @@ mod parts;
 const LIMIT: usize = 10_000_000;
 
 /// What is printed for this text.
-pub(crate) fn output(alloc: Global, text: &str) -> Result<String, Fault> {
+pub(crate) fn output(alloc: Global, text: &str) -> Result<String, Fault>
+    ensures printed { IfOk result (λ printed. (limit : ℕ) × (numbers : List ℕ)
+        × HasList LIMIT text.now limit numbers × Prints in_one_line
+        (λ total. (total ≤ limit) × HasTotal numbers total) (string_bytes printed)) }
+    ensures fault { IfErr result
+        (IsRefusal ((limit : ℕ) × (numbers : List ℕ) × HasList LIMIT text.now limit numbers)) }
+{
     let rows = crate::text::rows(alloc, text)?;
     let said = Said {
         missing: "the limit is missing",
@@ -33,21 +42,27 @@ pub(crate) fn output(alloc: Global, text: &str) -> Result<String, Fault> {
 }
 
 // The totals up to the limit that parts of the numbers of these rows have, in one line.
+#[tactic(auto, using(crate::proofs::Answered::prints))]
 fn totals_of(alloc: Global, rows: &[Row], limit: usize) -> Result<String, AllocError>
     requires { limit ≤ LIMIT }
+    ensures { IfOk result (λ text. Prints in_one_line (λ total. (total ≤ limit)
+        × HasTotal (flat_map (λ row. row.numbers.items) rows.now) total) (string_bytes text)) }
 {
     let numbers = numbers_of(alloc, rows)?;
     line_of(alloc, &totals(alloc, &numbers, limit)?)
 }
 
-// The totals in one line. The least is 0, that of the empty part.
-fn line_of(alloc: Global, totals: &FixedBitSet) -> Result<String, AllocError> {
+// The totals in one line.
+fn line_of(alloc: Global, totals: &FixedBitSet) -> Result<String, AllocError>
+    ensures { IfOk result (λ text. string_bytes text ≡ in_one_line (asc totals.now)) }
+{
     let mut line = String::new(alloc);
-    for total in totals.ones() {
-        if total > 0 {
-            line.push_str(" ")?;
-        }
-        write!(line, "{total}")?;
+    let mut left = totals.ones();
+    if let Some(least) = left.next() {
+        write!(line, "{least}")?;
+    }
+    for total in left {
+        write!(line, " {total}")?;
     }
     line.push_str("\n")?;
     Ok(line)

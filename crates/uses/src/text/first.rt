@@ -1,6 +1,8 @@
 //! The one number of a first line.
 
-ghost use Rattle.std.specs.Prelude.{◌≤◌, IfOk};
+ghost use Rattle.std.specs.Prelude.{◌≡◌, ◌≤◌, ◌∷◌, [], IfOk, IfErr};
+ghost use Rattle.uses.specs.Faults.{HasLine};
+ghost use Rattle.uses.specs.Texts.{IsOne, HasFirst, IsFaultOfFirst};
 
 use crate::text::{Fault, Row, Wrong};
 
@@ -15,13 +17,16 @@ pub struct Said {
     pub name: &'static str,
 }
 
-/// The number of the first row, and the other rows.
+/// The number of the first row, and the other rows. The fault is that the first row is not one
+/// number up to the limit, or that there is none.
 pub fn first_number<'a>(
     rows: &'a [Row],
     limit: usize,
     said: &Said,
 ) -> Result<(usize, &'a [Row]), Fault>
-    ensures { IfOk result (λ found. found.0 ≤ limit) }
+    ensures found { IfOk result (λ found. HasFirst rows.now found.0 found.1.now) }
+    ensures limit { IfOk result (λ found. found.0 ≤ limit) }
+    ensures fault { IfErr result (IsFaultOfFirst (IsOne (λ number. number ≤ limit)) rows.now) }
 {
     let Some((first, others)) = rows.split_first() else {
         return Err(Fault::Line(1, Wrong::Form(said.missing)));
@@ -31,7 +36,10 @@ pub fn first_number<'a>(
 
 // The number of a row that is one number up to the limit.
 fn number_of(row: &Row, limit: usize, said: &Said) -> Result<usize, Fault>
-    ensures { IfOk result (λ number. number ≤ limit) }
+    ensures found { IfOk result (λ number. row.now.numbers.items ≡ number ∷ []) }
+    ensures limit { IfOk result (λ number. number ≤ limit) }
+    ensures fault { IfErr result (λ fault. (¬ (IsOne (λ number. number ≤ limit)
+        row.now.numbers.items)) × HasLine fault row.now.line) }
 {
     match *row.numbers.as_slice() {
         [number] if number <= limit => Ok(number),

@@ -1,7 +1,9 @@
 //! Sets of the numbers of a row, and their lines.
 
-ghost use Rattle.std.specs.Prelude.{MatchOption, IfOk};
+ghost use Rattle.std.specs.Prelude.{◌≡◌, MatchOption, IfOk, string_bytes};
+ghost use Rattle.fixedbitset.specs.Bits.{asc};
 ghost use Rattle.uses.specs.Sets.{AreBelow, IsSetOf};
+ghost use Rattle.uses.specs.Texts.{one_a_line};
 
 use fixedbitset::FixedBitSet;
 use std::alloc::{AllocError, Global};
@@ -29,7 +31,9 @@ pub fn set_of(
 }
 
 /// The positions of a set, one a line.
-pub(crate) fn as_lines(alloc: Global, set: &FixedBitSet) -> Result<String, AllocError> {
+pub(crate) fn as_lines(alloc: Global, set: &FixedBitSet) -> Result<String, AllocError>
+    ensures { IfOk result (λ text. string_bytes text ≡ one_a_line (asc set.now)) }
+{
     let mut lines = String::new(alloc);
     for position in set.ones() {
         writeln!(lines, "{position}")?;
