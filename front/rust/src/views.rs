@@ -10,7 +10,7 @@ use core::ops::Index;
 ///
 /// It has each call of a set that changes nothing and takes no memory. Its words are those of a set: whole lanes of four, as
 /// many as the length needs ([`storage_words`]), with no bit past the length. So a set can stand in words that were read from a
-/// file, with no copy of them.
+/// file, with no copy of them. Where the docs of a call count steps, each is one lane, but where they say that it is a word.
 ///
 /// Proved: of each call what its page says ([contract](crate::contracts#fixedbitsetbits)).
 ///
@@ -38,7 +38,7 @@ pub struct Bits<'a> {
 /// A set over lent words, to be changed: to a [`FixedBitSet`] what a slice `&mut [T]` is to a `Vec`.
 ///
 /// It has each call of a set that changes it and takes no memory, and [`as_bits`](Self::as_bits) lends it to those that read.
-/// Its length stays. What is lent cannot be made the words of no set:
+/// Its length stays. Steps are those of [`Bits`]. What is lent cannot be made the words of no set:
 ///
 /// ```compile_fail,E0616
 /// let mut words = [0; 4];
