@@ -1,5 +1,5 @@
-"""The tables of front/publish: what the calls that it makes ask, take and answer. They are closed: what they do not name is refused,
-and so is an entry that no call needs. The lines of Rust in them count as lines of glue, which are written by hand.
+"""The tables of front/publish: what the calls that it makes ask, take and answer. They are closed: what they do not name is
+refused, and so is an entry that no call needs. The lines of Rust in them count as lines of glue, which are written by hand.
 """
 import dataclasses
 
@@ -62,7 +62,8 @@ CALL = "self.view.{name}({handed})"
 FORMS = {
     ("bit < self.length",): Form('self.assert_below("{place}", bit);', "it is at or past the length"),
     ("All (λ p. p < self.length) positions",): Form(
-        'self.assert_all_below("{place}", positions);', "one is at or past the length, with the first that is; then nothing changes"),
+        'self.assert_all_below("{place}", positions);',
+        "one is at or past the length, with the first that is; then nothing changes"),
     ("index < model.words_needed self.length",): Form(
         'self.assert_needed("{place}", index);', "the length needs no word of this index"),
     ("IsTrue (is_valid (value self) start end)",): Form("let (start, end) = {bits}.part(&range);", "the range is not valid"),
@@ -103,9 +104,10 @@ RESULTS = {
     "Runs<'a>": Result("Runs<'a>", "let walk = {};\n        Runs {{ walk }}", "each stretch"),
 }
 
-# The proved calls that are not made public, each with the reason.
+# The proved calls that are not made public, by their type, where they are methods, each with the reason.
 WRITES = "it writes words that are no set yet: the calls of sets that are written give it these"
 HIDDEN = {
+    ("", "storage_words"): "views.rs hands it on",
     ("Bits", "over"): "views.rs makes the type by it, for `BitsMut` too",
     ("Bits", "contains_unchecked"): "upstream has it as an `unsafe fn` of a set, in unchecked.rs",
     ("Bits", "range_is_valid"): "`part` asks it of each range",

@@ -10,7 +10,7 @@ use core::ops::Index;
 ///
 /// It has each call of a set that changes nothing and takes no memory. Its words are those of a set: whole lanes of four, as
 /// many as the length needs ([`storage_words`]), with no bit past the length. So a set can stand in words that were read from a
-/// file, with no copy of them. Where the docs of a call count steps, each is one lane, but where they say that it is a word.
+/// file, with no copy of them. Where the docs of a call count steps, a step is a look at one lane, unless they say otherwise.
 ///
 /// Proved: of each call what its page says ([contract](crate::contracts#fixedbitsetbits)).
 ///
