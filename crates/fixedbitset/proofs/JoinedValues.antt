@@ -1,9 +1,11 @@
 -- The changes by another set or by a range are joins, and so are the new sets.
-use Rattle.std.proofs.Common.{◌≡◌, ℕ, ◌≤◌, max, not, ◌&&◌, ◌||◌, sym, ap, ◌∙◌, arith}
+use Rattle.std.proofs.Common.{◌≡◌, ℕ, ◌≤◌, max, Bool, not, ◌&&◌, ◌||◌, sym, ap, ◌∙◌, arith}
 use Rattle.std.proofs.lemmas.Bool.Decides.{nat_tests}
 use Rattle.bitlanes.specs.Bits.{either}
 use Rattle.fixedbitset.specs.Bits.{Bits, grow}
 use Rattle.fixedbitset.specs.BitsFacts.{contains-grow, length-grow}
+use Rattle.fixedbitset.specs.Parts.{resize}
+use Rattle.fixedbitset.specs.PartsFacts.{length-resize}
 use Rattle.fixedbitset.specs.Ranges.{insert_range, remove_range, toggle_range}
 use Rattle.fixedbitset.specs.RangesFacts.{length-insert_range, length-remove_range, length-toggle_range}
 use Rattle.fixedbitset.specs.RangesFacts.{contains-insert_range, contains-remove_range, contains-toggle_range}
@@ -22,6 +24,9 @@ grown_over v m = omega (arith, length-grow v m)
 
 pub grown_length : (v : Bits) (m : ℕ) → (grow v m).length ≡ max v.length m
 grown_length v m = length-grow v m
+
+pub resized_length : (v : Bits) (n : ℕ) (enabled : Bool) → (resize v n enabled).length ≡ n
+resized_length v n enabled = length-resize v n enabled
 
 pub union_grown : (v w : Bits) → joined (λ x y. x || y) (grow v w.length) w ≡ union v w
 union_grown v w =

@@ -10,6 +10,7 @@ pub mod counted;
 pub mod extend;
 pub mod json;
 pub mod neighbours;
+pub mod of_two;
 pub mod operators;
 pub mod order;
 pub mod pairs;

@@ -23,6 +23,8 @@ mod json;
 #[cfg(test)]
 mod neighbours;
 #[cfg(test)]
+mod of_two;
+#[cfg(test)]
 mod operators;
 #[cfg(test)]
 mod order;

@@ -53,3 +53,43 @@ fn difference_to(rt: HostRuntime) {
     set.as_bits().difference_to(other.as_bits(), &mut to);
     equal(&rt, to, [8, 1, 0, 0]);
 }
+
+#[test]
+#[tactic(auto, using(fixedbitset::specs::WordsFacts::facts))]
+fn union_of(rt: HostRuntime) {
+    let (mut to, mut words, mut other) = ([7; 4], [9, 1, 0, 0], [3, 0, 0, 0]);
+    let set = BitsMut::settle(&mut words, 70, 70);
+    let other = BitsMut::settle(&mut other, 9, 9);
+    BitsMut::settle(&mut to, 70, 0).union_of(set.as_bits(), other.as_bits());
+    equal(&rt, to, [11, 1, 0, 0]);
+}
+
+#[test]
+#[tactic(auto, using(fixedbitset::specs::WordsFacts::facts))]
+fn symmetric_difference_of(rt: HostRuntime) {
+    let (mut to, mut words, mut other) = ([7; 4], [9, 1, 0, 0], [3, 0, 0, 0]);
+    let set = BitsMut::settle(&mut words, 70, 70);
+    let other = BitsMut::settle(&mut other, 9, 9);
+    BitsMut::settle(&mut to, 70, 0).symmetric_difference_of(set.as_bits(), other.as_bits());
+    equal(&rt, to, [10, 1, 0, 0]);
+}
+
+#[test]
+#[tactic(auto, using(fixedbitset::specs::WordsFacts::facts))]
+fn intersection_of(rt: HostRuntime) {
+    let (mut to, mut words, mut other) = ([7; 4], [9, 1, 0, 0], [3, 0, 0, 0]);
+    let set = BitsMut::settle(&mut words, 70, 70);
+    let other = BitsMut::settle(&mut other, 9, 9);
+    BitsMut::settle(&mut to, 9, 0).intersection_of(set.as_bits(), other.as_bits());
+    equal(&rt, to, [1, 0, 0, 0]);
+}
+
+#[test]
+#[tactic(auto, using(fixedbitset::specs::WordsFacts::facts))]
+fn difference_of(rt: HostRuntime) {
+    let (mut to, mut words, mut other) = ([7; 4], [9, 1, 0, 0], [3, 0, 0, 0]);
+    let set = BitsMut::settle(&mut words, 70, 70);
+    let other = BitsMut::settle(&mut other, 9, 9);
+    BitsMut::settle(&mut to, 70, 0).difference_of(set.as_bits(), other.as_bits());
+    equal(&rt, to, [8, 1, 0, 0]);
+}

@@ -5,7 +5,7 @@ use crate::calls::{equal, holds};
 use fixedbitset::{Bits, BitsMut, Block, Steps, views};
 
 #[test]
-fn over(rt: HostRuntime) {
+fn bits_over(rt: HostRuntime) {
     holds(&rt, Bits::over(&[8, 63, 0, 0], 70).is_some());
     holds(&rt, Bits::over(&[8, 64, 0, 0], 70).is_none());
     holds(&rt, Bits::over(&[8, 63], 70).is_none());
@@ -69,6 +69,13 @@ fn settle(rt: HostRuntime) {
 }
 
 #[test]
+fn bits_mut_over(rt: HostRuntime) {
+    let mut words = [8, 64, 0, 0];
+    holds(&rt, BitsMut::over(&mut words, 70).is_none());
+    holds(&rt, BitsMut::over(&mut words, 71).is_some());
+}
+
+#[test]
 #[tactic(auto, using(fixedbitset::specs::WordsFacts::facts))]
 fn as_bits(rt: HostRuntime) {
     let mut words = [8, 1, 0, 0];
@@ -129,6 +136,16 @@ fn set(rt: HostRuntime) {
     let mut set = BitsMut::settle(&mut words, 70, 70);
     set.set(0, false);
     equal(&rt, words, [8, 0, 0, 0]);
+}
+
+#[test]
+#[tactic(auto, using(fixedbitset::specs::WordsFacts::facts))]
+fn copy_bit(rt: HostRuntime) {
+    let mut words = [9, 0, 0, 0];
+    let mut set = BitsMut::settle(&mut words, 70, 70);
+    set.copy_bit(3, 65);
+    set.copy_bit(500, 0);
+    equal(&rt, words, [8, 2, 0, 0]);
 }
 
 #[test]

@@ -32,6 +32,15 @@ fn toggle_range(rt: HostRuntime) {
 }
 
 #[test]
+#[tactic(auto, using(fixedbitset::specs::RangesFacts::facts, fixedbitset::specs::WordsFacts::facts))]
+fn set_range(rt: HostRuntime) {
+    let mut words = [9, 1, 0, 0];
+    let mut set = BitsMut::settle(&mut words, 70, 70);
+    set.set_range(1, 4, true, &mut Steps::new());
+    equal(&rt, words, [15, 1, 0, 0]);
+}
+
+#[test]
 #[tactic(auto, using(fixedbitset::specs::WordsFacts::facts))]
 fn range_is_valid(rt: HostRuntime) {
     let mut words = [9, 0, 0, 0];

@@ -126,6 +126,19 @@ fn is_subset(rt: HostRuntime) {
 
 #[test]
 #[tactic(auto, using(fixedbitset::specs::WordsFacts::facts))]
+fn is_superset(rt: HostRuntime) {
+    let (mut words, mut other) = ([11, 0, 0, 0], [9, 0, 0, 0]);
+    let set = BitsMut::settle(&mut words, 9, 9);
+    let other = BitsMut::settle(&mut other, 70, 70);
+    holds(
+        &rt,
+        set.as_bits()
+            .is_superset(other.as_bits(), &mut Steps::new()),
+    );
+}
+
+#[test]
+#[tactic(auto, using(fixedbitset::specs::WordsFacts::facts))]
 fn first_lacking(rt: HostRuntime) {
     let (mut words, mut other) = ([9, 0, 0, 0], [11, 1, 0, 0]);
     let set = BitsMut::settle(&mut words, 9, 9);

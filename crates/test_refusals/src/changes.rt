@@ -8,7 +8,7 @@ use fixedbitset::{FixedBitSet, Steps, counted};
 use std::alloc::AllocError;
 
 /// A change of a set. A name that ends in `WithSecond` is a change by the second of two others. The
-/// two `..UnionWithDifference` are changes by both. `ShiftUp`, `ShiftDown`, `UnionWithOwnShift`,
+/// two `..UnionWithDifference`, and those that end in `Of`, are changes by both. `ShiftUp`, `ShiftDown`, `UnionWithOwnShift`,
 /// `Truncate` and `CountedClear` take no other set. All the rest are changes by the first.
 #[derive(Clone, Copy)]
 pub enum Change {
@@ -17,6 +17,10 @@ pub enum Change {
     BitorAssign,
     BitxorAssign,
     CloneFrom,
+    UnionOf,
+    SymmetricDifferenceOf,
+    IntersectionOf,
+    DifferenceOf,
     UnionWithChange,
     UnionWithDifference,
     DifferenceWithChange,
@@ -64,8 +68,8 @@ pub const SHIFTS: &[Row; 6] = &[
     (Change::CopyRange, 7, &[5]),
 ];
 
-/// Of a long set: joined with the short one, and in the end made a copy of it.
-pub const JOINS: &[Row; 10] = &[
+/// Of a long set: joined with the short one, made of both, and in the end made a copy of the short one.
+pub const JOINS: &[Row; 14] = &[
     (Change::UnionWith, LONG, BOTH),
     (Change::SymmetricDifferenceWith, LONG, LAST),
     (Change::BitorAssign, LONG, BOTH),
@@ -75,6 +79,10 @@ pub const JOINS: &[Row; 10] = &[
     (Change::UnionWithDifference, LONG, BOTH),
     (Change::DifferenceWithChange, LONG, LAST),
     (Change::IntersectChangeWithSecond, LONG, LAST),
+    (Change::UnionOf, LONG, BOTH),
+    (Change::SymmetricDifferenceOf, LONG, BOTH),
+    (Change::DifferenceOf, 10, SHORT),
+    (Change::IntersectionOf, 10, &[]),
     (Change::CloneFrom, 10, SHORT),
 ];
 
@@ -128,6 +136,10 @@ pub fn make_change(
         Change::BitorAssign => set.bitor_assign(first),
         Change::BitxorAssign => set.bitxor_assign(first),
         Change::CloneFrom => set.clone_from(first),
+        Change::UnionOf => set.union_of(first, second),
+        Change::SymmetricDifferenceOf => set.symmetric_difference_of(first, second),
+        Change::IntersectionOf => set.intersection_of(first, second),
+        Change::DifferenceOf => set.difference_of(first, second),
         Change::CountedUnionWith => counted::union_with(set, first, &mut Steps::new()),
         Change::CountedSymmetricDifferenceWith => {
             counted::symmetric_difference_with(set, first, &mut Steps::new())

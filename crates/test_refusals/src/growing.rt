@@ -6,7 +6,7 @@ ghost use Rattle.std.specs.Iterator.{at_most};
 use crate::calls::Call;
 use crate::changes::{Change, make_change};
 use crate::outcome::Fault;
-use crate::starts::{BOTH, LONG, SHORT, Starts, is_long, is_short, is_value};
+use crate::starts::{BOTH, LAST, LONG, SHORT, Starts, is_long, is_short, is_value};
 use fixedbitset::FixedBitSet;
 use std::alloc::AllocError;
 
@@ -17,11 +17,11 @@ pub enum Growing {
     Extend,
     Append,
     Resize,
-    /// A change by the long set.
+    /// A change by the long set, or by that and the short one.
     By(Change),
 }
 
-pub const CALLS: &[(&str, Call); 17] = &[
+pub const CALLS: &[(&str, Call); 20] = &[
     ("grow", Call::Growing(Growing::Grow)),
     ("grow_and_insert", Call::Growing(Growing::GrowAndInsert)),
     ("extend", Call::Growing(Growing::Extend)),
@@ -46,6 +46,15 @@ pub const CALLS: &[(&str, Call); 17] = &[
     (
         "union_with_difference",
         Call::Growing(Growing::By(Change::UnionWithDifference)),
+    ),
+    ("union_of", Call::Growing(Growing::By(Change::UnionOf))),
+    (
+        "symmetric_difference_of",
+        Call::Growing(Growing::By(Change::SymmetricDifferenceOf)),
+    ),
+    (
+        "difference_of",
+        Call::Growing(Growing::By(Change::DifferenceOf)),
     ),
     ("append", Call::Growing(Growing::Append)),
     ("resize", Call::Growing(Growing::Resize)),
@@ -79,6 +88,9 @@ fn is_grown(set: &FixedBitSet, call: Growing) -> bool {
         Growing::GrowAndInsert => is_value(set, LONG + 1, &[3, LONG]),
         Growing::Extend => is_value(set, LONG + 1, &[3, 4, 5, LONG]),
         Growing::By(Change::CloneFrom | Change::CountedCloneFrom) => is_long(set),
+        Growing::By(Change::SymmetricDifferenceOf | Change::DifferenceOf) => {
+            is_value(set, LONG, LAST)
+        }
         Growing::By(_) => is_value(set, LONG, BOTH),
     }
 }

@@ -7,9 +7,9 @@ ghost use Rattle.fixedbitset.specs.Bits.{of_words, storage_words};
 ghost use Rattle.fixedbitset.specs.Parts as parts;
 ghost use Rattle.fixedbitset.specs.Stored.{IsClean, joined};
 ghost use Rattle.fixedbitset.specs.TwoSets as sets;
-ghost use Rattle.fixedbitset.specs.Views.{value};
+ghost use Rattle.fixedbitset.specs.Views.{value, Becomes};
 
-use crate::views::Bits;
+use crate::views::{Bits, BitsMut};
 use bitlanes::ops::{And, AndNot, Or, Second, WordOp, Xor};
 use bitlanes::{Block, Steps};
 use bitwords::{joins, positions};
@@ -138,5 +138,81 @@ impl Bits<'_> {
         ensures clean { IsClean self.entry.length to.new }
     {
         joins::join_to::<O>(to, self.words, other.words, &mut Steps::new());
+    }
+}
+
+impl BitsMut<'_> {
+    /// Makes this set the union of two others. Its length has to be the greater of theirs; which
+    /// positions it had does not matter.
+    ///
+    /// ```
+    /// let (mut to, mut words, mut other) = ([7; 4], [9, 1, 0, 0], [3, 0, 0, 0]);
+    /// let set = BitsMut::settle(&mut words, 70, 70);
+    /// let other = BitsMut::settle(&mut other, 9, 9);
+    /// BitsMut::settle(&mut to, 70, 0).union_of(set.as_bits(), other.as_bits());
+    /// assert_eq!(rt; to, [11, 1, 0, 0]);
+    /// ```
+    #[inline]
+    pub fn union_of(&mut self, one: Bits<'_>, other: Bits<'_>)
+        requires { self.old.length ≡ max one.length other.length }
+        ensures { Becomes self.old self.new (sets.union (value one.entry) (value other.entry)) }
+    {
+        one.union_to(other, self.words);
+    }
+
+    /// Makes this set the positions of exactly one of two others. Its length has to be the greater
+    /// of theirs.
+    ///
+    /// ```
+    /// let (mut to, mut words, mut other) = ([7; 4], [9, 1, 0, 0], [3, 0, 0, 0]);
+    /// let set = BitsMut::settle(&mut words, 70, 70);
+    /// let other = BitsMut::settle(&mut other, 9, 9);
+    /// BitsMut::settle(&mut to, 70, 0).symmetric_difference_of(set.as_bits(), other.as_bits());
+    /// assert_eq!(rt; to, [10, 1, 0, 0]);
+    /// ```
+    #[inline]
+    pub fn symmetric_difference_of(&mut self, one: Bits<'_>, other: Bits<'_>)
+        requires { self.old.length ≡ max one.length other.length }
+        ensures { Becomes self.old self.new
+            (sets.symmetric_difference (value one.entry) (value other.entry)) }
+    {
+        one.symmetric_difference_to(other, self.words);
+    }
+
+    /// Makes this set the positions of both of two others. Its length has to be the lesser
+    /// of theirs.
+    ///
+    /// ```
+    /// let (mut to, mut words, mut other) = ([7; 4], [9, 1, 0, 0], [3, 0, 0, 0]);
+    /// let set = BitsMut::settle(&mut words, 70, 70);
+    /// let other = BitsMut::settle(&mut other, 9, 9);
+    /// BitsMut::settle(&mut to, 9, 0).intersection_of(set.as_bits(), other.as_bits());
+    /// assert_eq!(rt; to, [1, 0, 0, 0]);
+    /// ```
+    #[inline]
+    pub fn intersection_of(&mut self, one: Bits<'_>, other: Bits<'_>)
+        requires { self.old.length ≡ min one.length other.length }
+        ensures { Becomes self.old self.new (sets.bitand (value one.entry) (value other.entry)) }
+    {
+        one.intersection_to(other, self.words);
+    }
+
+    /// Makes this set the positions of the first of two others that the second lacks. Its length
+    /// has to be that of the first.
+    ///
+    /// ```
+    /// let (mut to, mut words, mut other) = ([7; 4], [9, 1, 0, 0], [3, 0, 0, 0]);
+    /// let set = BitsMut::settle(&mut words, 70, 70);
+    /// let other = BitsMut::settle(&mut other, 9, 9);
+    /// BitsMut::settle(&mut to, 70, 0).difference_of(set.as_bits(), other.as_bits());
+    /// assert_eq!(rt; to, [8, 1, 0, 0]);
+    /// ```
+    #[inline]
+    pub fn difference_of(&mut self, one: Bits<'_>, other: Bits<'_>)
+        requires { self.old.length ≡ one.length }
+        ensures { Becomes self.old self.new
+            (sets.difference (value one.entry) (value other.entry)) }
+    {
+        one.difference_to(other, self.words);
     }
 }

@@ -176,6 +176,24 @@ impl<'a> BitsMut<'a> {
         BitsMut { words, length }
     }
 
+    /// [`Bits::over`], to be changed: `None` where the words are not those of a set of `length`
+    /// positions as they stand.
+    ///
+    /// ```
+    /// let mut words = [8, 64, 0, 0];
+    /// assert!(rt; BitsMut::over(&mut words, 70).is_none());
+    /// assert!(rt; BitsMut::over(&mut words, 71).is_some());
+    /// ```
+    #[inline]
+    pub fn over(words: &'a mut [Block], length: usize) -> Option<Self>
+        ensures some { IfSome result (λ set. held set ≡ of_words length words.old) }
+        ensures clean { IsSome result ↔ IsClean length words.old }
+        ensures same { IfSome result (λ set. set.words.ghost_name ≡ words.entry.ghost_name) }
+    {
+        Bits::over(words, length)?;
+        Some(BitsMut { words, length })
+    }
+
     /// The set to be read.
     ///
     /// ```
@@ -304,6 +322,26 @@ impl<'a> BitsMut<'a> {
         } else {
             self.remove(bit);
         }
+    }
+
+    /// Makes position `to`, which has to be below the length, what position `from` is. Past the
+    /// length none is set.
+    ///
+    /// ```
+    /// let mut words = [9, 0, 0, 0];
+    /// let mut set = BitsMut::settle(&mut words, 70, 70);
+    /// set.copy_bit(3, 65);
+    /// set.copy_bit(500, 0);
+    /// assert_eq!(rt; words, [8, 2, 0, 0]);
+    /// ```
+    #[inline(always)]
+    #[tactic(auto, unfolding(crate::specs::Bits::copy_bit))]
+    pub fn copy_bit(&mut self, from: usize, to: usize)
+        requires { to < self.old.length }
+        ensures { Becomes self.old self.new (model.copy_bit (held self.old) from to) }
+    {
+        let enabled = self.as_bits().contains(from);
+        self.set(to, enabled);
     }
 
     /// Sets each position of the list. All of them have to be below the length. It writes one word

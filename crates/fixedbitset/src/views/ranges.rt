@@ -78,6 +78,29 @@ impl BitsMut<'_> {
         self.change_in::<Xor>(start, end, steps);
     }
 
+    /// Sets the positions of the range, or clears them where `enabled` is false.
+    ///
+    /// ```
+    /// let mut words = [9, 1, 0, 0];
+    /// let mut set = BitsMut::settle(&mut words, 70, 70);
+    /// set.set_range(1, 4, true, &mut Steps::new());
+    /// assert_eq!(rt; words, [15, 1, 0, 0]);
+    /// ```
+    #[inline(always)]
+    #[tactic(auto, unfolding(crate::specs::Ranges::set_range))]
+    pub fn set_range(&mut self, start: usize, end: usize, enabled: bool, steps: &mut Steps)
+        requires { IsTrue (is_valid (held self.old) start end) }
+        ensures value { Becomes self.old self.new
+            (ranges.set_range (held self.old) start end enabled) }
+        ensures cost { steps.new ≡ steps.old + range_words start end }
+    {
+        if enabled {
+            self.insert_range(start, end, steps);
+        } else {
+            self.remove_range(start, end, steps);
+        }
+    }
+
     // Joins the range, as the positions of a second set, to the set.
     #[inline(always)]
     fn change_in<O: WordOp>(&mut self, start: usize, end: usize, steps: &mut Steps)

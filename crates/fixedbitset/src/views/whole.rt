@@ -244,6 +244,30 @@ impl Bits<'_> {
         self.none::<AndNot>(other, steps)
     }
 
+    /// Whether each position of the second set is one of the first.
+    ///
+    /// ```
+    /// let (mut words, mut other) = ([11, 0, 0, 0], [9, 0, 0, 0]);
+    /// let set = BitsMut::settle(&mut words, 9, 9);
+    /// let other = BitsMut::settle(&mut other, 70, 70);
+    /// assert!(rt; set.as_bits().is_superset(other.as_bits(), &mut Steps::new()));
+    /// ```
+    #[inline(always)]
+    pub fn is_superset(self, other: Bits<'_>, steps: &mut Steps) -> bool
+        ensures answer { result ≡ sets.is_subset (value other.entry) (value self.entry) }
+        ensures cost { steps.new ≤ steps.old + both_steps true false
+            (storage_words other.entry.length) (storage_words self.entry.length) }
+        ensures exact_if_true { IsTrue result → steps.new ≡ steps.old + both_steps true false
+            (storage_words other.entry.length) (storage_words self.entry.length) }
+        ensures exact_if_stopped { IfSome
+            (model.minimum (sets.difference (value other.entry) (value self.entry)))
+            (λ p. steps.new ≡ steps.old
+            + both_steps true false (p / 64 + 1) (storage_words self.entry.length)) }
+        ensures stops { result ≡ false → steps.old < steps.new }
+    {
+        other.is_subset(self, steps)
+    }
+
     /// The least position of the second set that the first lacks, or `None` where it lacks none.
     ///
     /// It takes exactly the steps up to the lane of the position, or all where there is none.

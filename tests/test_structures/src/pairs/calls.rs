@@ -17,9 +17,14 @@ pub enum Joining {
     Bitand,
     Bitor,
     Bitxor,
+    UnionOf,
+    SymmetricDifferenceOf,
+    IntersectionOf,
+    DifferenceOf,
 }
 
-/// What the call makes of the sets: the first as it is left, or a new one.
+/// What the call makes of the sets: the first as it is left, or another one, which is a copy of the
+/// second before it is made of both.
 pub fn join(
     mut set: FixedBitSet,
     other: FixedBitSet,
@@ -37,8 +42,24 @@ pub fn join(
         Joining::Bitand => return set.bitand(&other),
         Joining::Bitor => return set.bitor(&other),
         Joining::Bitxor => return set.bitxor(&other),
+        _ => return made_of(&set, &other, call),
     }
     Ok(set)
+}
+
+fn made_of(
+    set: &FixedBitSet,
+    other: &FixedBitSet,
+    call: Joining,
+) -> Result<FixedBitSet, AllocError> {
+    let mut made = other.clone()?;
+    match call {
+        Joining::UnionOf => made.union_of(set, other)?,
+        Joining::SymmetricDifferenceOf => made.symmetric_difference_of(set, other)?,
+        Joining::IntersectionOf => made.intersection_of(set, other)?,
+        _ => made.difference_of(set, other)?,
+    }
+    Ok(made)
 }
 
 /// A call that joins two sets and answers whether a position of the first one changed.

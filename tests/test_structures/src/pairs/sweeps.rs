@@ -83,10 +83,15 @@ fn every_pair_changed_at_one_length(rt: HostRuntime) -> Result<(), Fail> {
 
 #[test]
 fn every_pair_joined_anew(rt: HostRuntime) -> Result<(), Fail> {
+    let both = [Joining::Bitand, Joining::IntersectionOf];
+    let either = [Joining::Bitor, Joining::UnionOf];
+    let one = [Joining::Bitxor, Joining::SymmetricDifferenceOf];
+    let first_alone = [Joining::DifferenceOf];
     let rows = [
-        ([Joining::Bitand].as_slice(), Join::Both, Length::Shorter),
-        ([Joining::Bitor].as_slice(), Join::Either, Length::Longer),
-        ([Joining::Bitxor].as_slice(), Join::One, Length::Longer),
+        (both.as_slice(), Join::Both, Length::Shorter),
+        (either.as_slice(), Join::Either, Length::Longer),
+        (one.as_slice(), Join::One, Length::Longer),
+        (first_alone.as_slice(), Join::FirstAlone, Length::First),
     ];
     assert_joins(&rt, rt.alloc(), &rows)?;
     Ok(())
