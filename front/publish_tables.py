@@ -57,10 +57,12 @@ METHOD = """\
 TRACK = "    #[track_caller]\n"
 CALL = "self.view.{name}({handed})"
 
+OF_RESULT = "the length is not that of the result"
 # What a call asks, by the clauses `requires` that stand next to each other. They speak of the values before the call alone, so
 # `.old` and `.now` do not stand here, and `value` stands for `held` too. A range takes the place of `start` and `end`.
 FORMS = {
     ("bit < self.length",): Form('self.assert_below("{place}", bit);', "it is at or past the length"),
+    ("to < self.length",): Form('self.assert_below("copy to", to);', "`to` is at or past the length"),
     ("All (λ p. p < self.length) positions",): Form(
         'self.assert_all_below("{place}", positions);',
         "one is at or past the length, with the first that is; then nothing changes"),
@@ -73,6 +75,9 @@ FORMS = {
     ("width ≤ 64", "start + width ≤ self.length"): Form(
         "{bits}.assert_part(start, width);", "the width is over 64, and where the positions are not all below the length"),
     ("other.length ≤ self.length",): Form("self.assert_no_longer(other);", "`other` is longer, as this set does not grow"),
+    ("self.length ≡ max one.length other.length",): Form("self.assert_length(one.len().max(other.len()));", OF_RESULT),
+    ("self.length ≡ min one.length other.length",): Form("self.assert_length(one.len().min(other.len()));", OF_RESULT),
+    ("self.length ≡ one.length",): Form("self.assert_length(one.len());", OF_RESULT),
     ("gens.length ≤ self.length",): Form("self.assert_no_longer(gens);", "`gens` is longer, as this set does not grow"),
 }
 
@@ -120,6 +125,7 @@ HIDDEN = {
     ("Bits", "difference_to"): WRITES,
     ("Bits", "slice_to"): WRITES,
     ("Bits", "to_bytes"): "it writes bytes that words.rs gives it",
+    ("BitsMut", "over"): "views.rs makes the type by it",
     ("BitsMut", "settle"): "views.rs makes the type by it",
     ("BitsMut", "as_bits"): "views.rs makes the other type by it",
 }

@@ -1,8 +1,8 @@
 //! A set made of two others, in the words that it has.
 //!
-//! Each word of the result is written once, a new one once before, and no set stands between. `Err` comes only where more
-//! words are needed than the old length has and memory for them was refused. The set is then as it
-//! was.
+//! Each word of the result is written once, a new one once before, and no set stands between.
+//! `Err` comes only where more words are needed than the old length has and memory for them was
+//! refused. The set is then as it was.
 
 ghost use Rattle.std.specs.Prelude.{◌≡◌, ◌≤◌, max, min, IsOk, OnOk, OnErr};
 ghost use Rattle.fixedbitset.specs.Bits as model;

@@ -7,9 +7,10 @@ use crate::starts::{BOTH, LAST, LONG, SHORT, is_value};
 use fixedbitset::{FixedBitSet, Steps, counted};
 use std::alloc::AllocError;
 
-/// A change of a set. A name that ends in `WithSecond` is a change by the second of two others. The
-/// two `..UnionWithDifference`, and those that end in `Of`, are changes by both. `ShiftUp`, `ShiftDown`, `UnionWithOwnShift`,
-/// `Truncate` and `CountedClear` take no other set. All the rest are changes by the first.
+/// A change of a set. A name that ends in `WithSecond` is a change by the second of two others.
+/// The two `..UnionWithDifference`, and those that end in `Of`, are changes by both. `ShiftUp`,
+/// `ShiftDown`, `UnionWithOwnShift`, `Truncate` and `CountedClear` take no other set. All the
+/// rest are changes by the first.
 #[derive(Clone, Copy)]
 pub enum Change {
     UnionWith,
@@ -68,7 +69,7 @@ pub const SHIFTS: &[Row; 6] = &[
     (Change::CopyRange, 7, &[5]),
 ];
 
-/// Of a long set: joined with the short one, made of both, and in the end made a copy of the short one.
+/// Of a long set: joined with the short one, made of both, and in the end a copy of the short one.
 pub const JOINS: &[Row; 14] = &[
     (Change::UnionWith, LONG, BOTH),
     (Change::SymmetricDifferenceWith, LONG, LAST),

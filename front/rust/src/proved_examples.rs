@@ -706,7 +706,7 @@ fn bitrows_views_changes_68() {
 }
 
 #[test]
-fn bitrows_views_changes_88() {
+fn bitrows_views_changes_89() {
     use crate::proved::bitlanes::ops::*;
     use crate::proved::bitlanes::{word, Block, Steps};
     use crate::proved::bitwords::cursors::*;
@@ -1153,7 +1153,7 @@ fn bitwords_joins_108() {
 }
 
 #[test]
-fn bitwords_joins_122() {
+fn bitwords_joins_123() {
     use crate::proved::bitlanes::ops::*;
     use crate::proved::bitlanes::{word, Block, Steps};
     use crate::proved::bitwords::cursors::*;
@@ -1167,7 +1167,7 @@ fn bitwords_joins_122() {
 }
 
 #[test]
-fn bitwords_joins_138() {
+fn bitwords_joins_139() {
     use crate::proved::bitlanes::ops::*;
     use crate::proved::bitlanes::{word, Block, Steps};
     use crate::proved::bitwords::cursors::*;
@@ -1182,7 +1182,7 @@ fn bitwords_joins_138() {
 }
 
 #[test]
-fn bitwords_joins_156() {
+fn bitwords_joins_157() {
     use crate::proved::bitlanes::ops::*;
     use crate::proved::bitlanes::{word, Block, Steps};
     use crate::proved::bitwords::cursors::*;
@@ -1655,6 +1655,74 @@ fn fixedbitset_views_copies_84() {
 }
 
 #[test]
+fn fixedbitset_views_copies_107() {
+    use crate::proved::bitlanes::ops::*;
+    use crate::proved::bitlanes::{word, Block, Steps};
+    use crate::proved::bitwords::cursors::*;
+    use crate::proved::fixedbitset::*;
+    use crate::shim::u64x4;
+    use core::cmp::Ordering;
+    use core::mem::{size_of, size_of_val};
+
+    let (mut to, mut words, mut other) = ([7; 4], [9, 1, 0, 0], [3, 0, 0, 0]);
+    let set = BitsMut::settle(&mut words, 70, 70);
+    let other = BitsMut::settle(&mut other, 9, 9);
+    BitsMut::settle(&mut to, 70, 0).union_of(set.as_bits(), other.as_bits());
+    assert_eq!(to, [11, 1, 0, 0]);
+}
+
+#[test]
+fn fixedbitset_views_copies_122() {
+    use crate::proved::bitlanes::ops::*;
+    use crate::proved::bitlanes::{word, Block, Steps};
+    use crate::proved::bitwords::cursors::*;
+    use crate::proved::fixedbitset::*;
+    use crate::shim::u64x4;
+    use core::cmp::Ordering;
+    use core::mem::{size_of, size_of_val};
+
+    let (mut to, mut words, mut other) = ([7; 4], [9, 1, 0, 0], [3, 0, 0, 0]);
+    let set = BitsMut::settle(&mut words, 70, 70);
+    let other = BitsMut::settle(&mut other, 9, 9);
+    BitsMut::settle(&mut to, 70, 0).symmetric_difference_of(set.as_bits(), other.as_bits());
+    assert_eq!(to, [10, 1, 0, 0]);
+}
+
+#[test]
+fn fixedbitset_views_copies_137() {
+    use crate::proved::bitlanes::ops::*;
+    use crate::proved::bitlanes::{word, Block, Steps};
+    use crate::proved::bitwords::cursors::*;
+    use crate::proved::fixedbitset::*;
+    use crate::shim::u64x4;
+    use core::cmp::Ordering;
+    use core::mem::{size_of, size_of_val};
+
+    let (mut to, mut words, mut other) = ([7; 4], [9, 1, 0, 0], [3, 0, 0, 0]);
+    let set = BitsMut::settle(&mut words, 70, 70);
+    let other = BitsMut::settle(&mut other, 9, 9);
+    BitsMut::settle(&mut to, 9, 0).intersection_of(set.as_bits(), other.as_bits());
+    assert_eq!(to, [1, 0, 0, 0]);
+}
+
+#[test]
+fn fixedbitset_views_copies_152() {
+    use crate::proved::bitlanes::ops::*;
+    use crate::proved::bitlanes::{word, Block, Steps};
+    use crate::proved::bitwords::cursors::*;
+    use crate::proved::fixedbitset::*;
+    use crate::shim::u64x4;
+    use core::cmp::Ordering;
+    use core::mem::{size_of, size_of_val};
+
+    let (mut to, mut words, mut other) = ([7; 4], [9, 1, 0, 0], [3, 0, 0, 0]);
+    let set = BitsMut::settle(&mut words, 70, 70);
+    let other = BitsMut::settle(&mut other, 9, 9);
+    BitsMut::settle(&mut to, 70, 0).difference_of(set.as_bits(), other.as_bits());
+    assert_eq!(to, [8, 1, 0, 0]);
+}
+
+#[test]
 fn fixedbitset_views_gaps_16() {
     use crate::proved::bitlanes::ops::*;
     use crate::proved::bitlanes::{word, Block, Steps};
@@ -1671,7 +1739,7 @@ fn fixedbitset_views_gaps_16() {
 }
 
 #[test]
-fn fixedbitset_views_gaps_34() {
+fn fixedbitset_views_gaps_35() {
     use crate::proved::bitlanes::ops::*;
     use crate::proved::bitlanes::{word, Block, Steps};
     use crate::proved::bitwords::cursors::*;
@@ -1893,7 +1961,22 @@ fn fixedbitset_views_positions_121() {
 }
 
 #[test]
-fn fixedbitset_views_positions_134() {
+fn fixedbitset_views_positions_135() {
+    use crate::proved::bitlanes::ops::*;
+    use crate::proved::bitlanes::{word, Block, Steps};
+    use crate::proved::bitwords::cursors::*;
+    use crate::proved::fixedbitset::*;
+    use crate::shim::u64x4;
+    use core::cmp::Ordering;
+    use core::mem::{size_of, size_of_val};
+
+    let mut words = [8, 64, 0, 0];
+    assert!(BitsMut::over(&mut words, 70).is_none());
+    assert!(BitsMut::over(&mut words, 71).is_some());
+}
+
+#[test]
+fn fixedbitset_views_positions_148() {
     use crate::proved::bitlanes::ops::*;
     use crate::proved::bitlanes::{word, Block, Steps};
     use crate::proved::bitwords::cursors::*;
@@ -1908,7 +1991,7 @@ fn fixedbitset_views_positions_134() {
 }
 
 #[test]
-fn fixedbitset_views_positions_149() {
+fn fixedbitset_views_positions_163() {
     use crate::proved::bitlanes::ops::*;
     use crate::proved::bitlanes::{word, Block, Steps};
     use crate::proved::bitwords::cursors::*;
@@ -1924,7 +2007,7 @@ fn fixedbitset_views_positions_149() {
 }
 
 #[test]
-fn fixedbitset_views_positions_162() {
+fn fixedbitset_views_positions_176() {
     use crate::proved::bitlanes::ops::*;
     use crate::proved::bitlanes::{word, Block, Steps};
     use crate::proved::bitwords::cursors::*;
@@ -1940,7 +2023,7 @@ fn fixedbitset_views_positions_162() {
 }
 
 #[test]
-fn fixedbitset_views_positions_175() {
+fn fixedbitset_views_positions_189() {
     use crate::proved::bitlanes::ops::*;
     use crate::proved::bitlanes::{word, Block, Steps};
     use crate::proved::bitwords::cursors::*;
@@ -1956,7 +2039,7 @@ fn fixedbitset_views_positions_175() {
 }
 
 #[test]
-fn fixedbitset_views_positions_188() {
+fn fixedbitset_views_positions_202() {
     use crate::proved::bitlanes::ops::*;
     use crate::proved::bitlanes::{word, Block, Steps};
     use crate::proved::bitwords::cursors::*;
@@ -1972,7 +2055,7 @@ fn fixedbitset_views_positions_188() {
 }
 
 #[test]
-fn fixedbitset_views_positions_204() {
+fn fixedbitset_views_positions_218() {
     use crate::proved::bitlanes::ops::*;
     use crate::proved::bitlanes::{word, Block, Steps};
     use crate::proved::bitwords::cursors::*;
@@ -1989,7 +2072,7 @@ fn fixedbitset_views_positions_204() {
 }
 
 #[test]
-fn fixedbitset_views_positions_220() {
+fn fixedbitset_views_positions_234() {
     use crate::proved::bitlanes::ops::*;
     use crate::proved::bitlanes::{word, Block, Steps};
     use crate::proved::bitwords::cursors::*;
@@ -2005,7 +2088,24 @@ fn fixedbitset_views_positions_220() {
 }
 
 #[test]
-fn fixedbitset_views_positions_238() {
+fn fixedbitset_views_positions_252() {
+    use crate::proved::bitlanes::ops::*;
+    use crate::proved::bitlanes::{word, Block, Steps};
+    use crate::proved::bitwords::cursors::*;
+    use crate::proved::fixedbitset::*;
+    use crate::shim::u64x4;
+    use core::cmp::Ordering;
+    use core::mem::{size_of, size_of_val};
+
+    let mut words = [9, 0, 0, 0];
+    let mut set = BitsMut::settle(&mut words, 70, 70);
+    set.copy_bit(3, 65);
+    set.copy_bit(500, 0);
+    assert_eq!(words, [8, 2, 0, 0]);
+}
+
+#[test]
+fn fixedbitset_views_positions_268() {
     use crate::proved::bitlanes::ops::*;
     use crate::proved::bitlanes::{word, Block, Steps};
     use crate::proved::bitwords::cursors::*;
@@ -2021,7 +2121,7 @@ fn fixedbitset_views_positions_238() {
 }
 
 #[test]
-fn fixedbitset_views_positions_257() {
+fn fixedbitset_views_positions_287() {
     use crate::proved::bitlanes::ops::*;
     use crate::proved::bitlanes::{word, Block, Steps};
     use crate::proved::bitwords::cursors::*;
@@ -2037,7 +2137,7 @@ fn fixedbitset_views_positions_257() {
 }
 
 #[test]
-fn fixedbitset_views_positions_275() {
+fn fixedbitset_views_positions_305() {
     use crate::proved::bitlanes::ops::*;
     use crate::proved::bitlanes::{word, Block, Steps};
     use crate::proved::bitwords::cursors::*;
@@ -2053,7 +2153,7 @@ fn fixedbitset_views_positions_275() {
 }
 
 #[test]
-fn fixedbitset_views_positions_289() {
+fn fixedbitset_views_positions_319() {
     use crate::proved::bitlanes::ops::*;
     use crate::proved::bitlanes::{word, Block, Steps};
     use crate::proved::bitwords::cursors::*;
@@ -2069,7 +2169,7 @@ fn fixedbitset_views_positions_289() {
 }
 
 #[test]
-fn fixedbitset_views_positions_304() {
+fn fixedbitset_views_positions_334() {
     use crate::proved::bitlanes::ops::*;
     use crate::proved::bitlanes::{word, Block, Steps};
     use crate::proved::bitwords::cursors::*;
@@ -2131,7 +2231,23 @@ fn fixedbitset_views_ranges_44() {
 }
 
 #[test]
-fn fixedbitset_views_ranges_66() {
+fn fixedbitset_views_ranges_57() {
+    use crate::proved::bitlanes::ops::*;
+    use crate::proved::bitlanes::{word, Block, Steps};
+    use crate::proved::bitwords::cursors::*;
+    use crate::proved::fixedbitset::*;
+    use crate::shim::u64x4;
+    use core::cmp::Ordering;
+    use core::mem::{size_of, size_of_val};
+
+    let mut words = [9, 1, 0, 0];
+    let mut set = BitsMut::settle(&mut words, 70, 70);
+    set.set_range(1, 4, true, &mut Steps::new());
+    assert_eq!(words, [15, 1, 0, 0]);
+}
+
+#[test]
+fn fixedbitset_views_ranges_83() {
     use crate::proved::bitlanes::ops::*;
     use crate::proved::bitlanes::{word, Block, Steps};
     use crate::proved::bitwords::cursors::*;
@@ -2147,7 +2263,7 @@ fn fixedbitset_views_ranges_66() {
 }
 
 #[test]
-fn fixedbitset_views_ranges_79() {
+fn fixedbitset_views_ranges_96() {
     use crate::proved::bitlanes::ops::*;
     use crate::proved::bitlanes::{word, Block, Steps};
     use crate::proved::bitwords::cursors::*;
@@ -2162,7 +2278,7 @@ fn fixedbitset_views_ranges_79() {
 }
 
 #[test]
-fn fixedbitset_views_ranges_91() {
+fn fixedbitset_views_ranges_108() {
     use crate::proved::bitlanes::ops::*;
     use crate::proved::bitlanes::{word, Block, Steps};
     use crate::proved::bitwords::cursors::*;
@@ -2177,7 +2293,7 @@ fn fixedbitset_views_ranges_91() {
 }
 
 #[test]
-fn fixedbitset_views_ranges_103() {
+fn fixedbitset_views_ranges_120() {
     use crate::proved::bitlanes::ops::*;
     use crate::proved::bitlanes::{word, Block, Steps};
     use crate::proved::bitwords::cursors::*;
@@ -2192,7 +2308,7 @@ fn fixedbitset_views_ranges_103() {
 }
 
 #[test]
-fn fixedbitset_views_ranges_115() {
+fn fixedbitset_views_ranges_132() {
     use crate::proved::bitlanes::ops::*;
     use crate::proved::bitlanes::{word, Block, Steps};
     use crate::proved::bitwords::cursors::*;
@@ -2207,7 +2323,7 @@ fn fixedbitset_views_ranges_115() {
 }
 
 #[test]
-fn fixedbitset_views_ranges_127() {
+fn fixedbitset_views_ranges_144() {
     use crate::proved::bitlanes::ops::*;
     use crate::proved::bitlanes::{word, Block, Steps};
     use crate::proved::bitwords::cursors::*;
@@ -2476,7 +2592,7 @@ fn fixedbitset_views_walks_112() {
 }
 
 #[test]
-fn fixedbitset_views_whole_20() {
+fn fixedbitset_views_whole_19() {
     use crate::proved::bitlanes::ops::*;
     use crate::proved::bitlanes::{word, Block, Steps};
     use crate::proved::bitwords::cursors::*;
@@ -2493,7 +2609,7 @@ fn fixedbitset_views_whole_20() {
 }
 
 #[test]
-fn fixedbitset_views_whole_34() {
+fn fixedbitset_views_whole_33() {
     use crate::proved::bitlanes::ops::*;
     use crate::proved::bitlanes::{word, Block, Steps};
     use crate::proved::bitwords::cursors::*;
@@ -2510,7 +2626,7 @@ fn fixedbitset_views_whole_34() {
 }
 
 #[test]
-fn fixedbitset_views_whole_48() {
+fn fixedbitset_views_whole_47() {
     use crate::proved::bitlanes::ops::*;
     use crate::proved::bitlanes::{word, Block, Steps};
     use crate::proved::bitwords::cursors::*;
@@ -2527,7 +2643,7 @@ fn fixedbitset_views_whole_48() {
 }
 
 #[test]
-fn fixedbitset_views_whole_62() {
+fn fixedbitset_views_whole_61() {
     use crate::proved::bitlanes::ops::*;
     use crate::proved::bitlanes::{word, Block, Steps};
     use crate::proved::bitwords::cursors::*;
@@ -2544,7 +2660,7 @@ fn fixedbitset_views_whole_62() {
 }
 
 #[test]
-fn fixedbitset_views_whole_84() {
+fn fixedbitset_views_whole_83() {
     use crate::proved::bitlanes::ops::*;
     use crate::proved::bitlanes::{word, Block, Steps};
     use crate::proved::bitwords::cursors::*;
@@ -2560,7 +2676,7 @@ fn fixedbitset_views_whole_84() {
 }
 
 #[test]
-fn fixedbitset_views_whole_97() {
+fn fixedbitset_views_whole_96() {
     use crate::proved::bitlanes::ops::*;
     use crate::proved::bitlanes::{word, Block, Steps};
     use crate::proved::bitwords::cursors::*;
@@ -2576,7 +2692,7 @@ fn fixedbitset_views_whole_97() {
 }
 
 #[test]
-fn fixedbitset_views_whole_110() {
+fn fixedbitset_views_whole_109() {
     use crate::proved::bitlanes::ops::*;
     use crate::proved::bitlanes::{word, Block, Steps};
     use crate::proved::bitwords::cursors::*;
@@ -2592,7 +2708,7 @@ fn fixedbitset_views_whole_110() {
 }
 
 #[test]
-fn fixedbitset_views_whole_123() {
+fn fixedbitset_views_whole_122() {
     use crate::proved::bitlanes::ops::*;
     use crate::proved::bitlanes::{word, Block, Steps};
     use crate::proved::bitwords::cursors::*;
@@ -2609,7 +2725,7 @@ fn fixedbitset_views_whole_123() {
 }
 
 #[test]
-fn fixedbitset_views_whole_137() {
+fn fixedbitset_views_whole_136() {
     use crate::proved::bitlanes::ops::*;
     use crate::proved::bitlanes::{word, Block, Steps};
     use crate::proved::bitwords::cursors::*;
@@ -2625,7 +2741,7 @@ fn fixedbitset_views_whole_137() {
 }
 
 #[test]
-fn fixedbitset_views_whole_150() {
+fn fixedbitset_views_whole_149() {
     use crate::proved::bitlanes::ops::*;
     use crate::proved::bitlanes::{word, Block, Steps};
     use crate::proved::bitwords::cursors::*;
@@ -2641,7 +2757,23 @@ fn fixedbitset_views_whole_150() {
 }
 
 #[test]
-fn fixedbitset_views_whole_165() {
+fn fixedbitset_views_whole_162() {
+    use crate::proved::bitlanes::ops::*;
+    use crate::proved::bitlanes::{word, Block, Steps};
+    use crate::proved::bitwords::cursors::*;
+    use crate::proved::fixedbitset::*;
+    use crate::shim::u64x4;
+    use core::cmp::Ordering;
+    use core::mem::{size_of, size_of_val};
+
+    let (mut words, mut other) = ([11, 0, 0, 0], [9, 0, 0, 0]);
+    let set = BitsMut::settle(&mut words, 9, 9);
+    let other = BitsMut::settle(&mut other, 70, 70);
+    assert!(set.as_bits().is_superset(other.as_bits(), &mut Steps::new()));
+}
+
+#[test]
+fn fixedbitset_views_whole_177() {
     use crate::proved::bitlanes::ops::*;
     use crate::proved::bitlanes::{word, Block, Steps};
     use crate::proved::bitwords::cursors::*;
@@ -2658,7 +2790,7 @@ fn fixedbitset_views_whole_165() {
 }
 
 #[test]
-fn fixedbitset_views_whole_179() {
+fn fixedbitset_views_whole_191() {
     use crate::proved::bitlanes::ops::*;
     use crate::proved::bitlanes::{word, Block, Steps};
     use crate::proved::bitwords::cursors::*;
@@ -2674,7 +2806,7 @@ fn fixedbitset_views_whole_179() {
 }
 
 #[test]
-fn fixedbitset_views_whole_195() {
+fn fixedbitset_views_whole_207() {
     use crate::proved::bitlanes::ops::*;
     use crate::proved::bitlanes::{word, Block, Steps};
     use crate::proved::bitwords::cursors::*;

@@ -108,6 +108,98 @@ impl BitsMut<'_> {
             .union_with_difference(gens.view, kills.view, &mut Steps::new())
     }
 
+    /// Makes this set the union of two others. Its length has to be the greater of theirs; which
+    /// positions it had does not matter.
+    ///
+    /// **Panics** where the length is not that of the result.
+    ///
+    /// Proved: what it leaves, for any three sets, wherever it does not panic
+    /// ([contract](crate::contracts#fixedbitsetbitsmutunion_of)).
+    ///
+    /// ```
+    /// # use fixedbitset::BitsMut;
+    /// let (mut to, mut words, mut other) = ([7; 4], [9, 1, 0, 0], [3, 0, 0, 0]);
+    /// let set = BitsMut::settle(&mut words, 70, 70);
+    /// let other = BitsMut::settle(&mut other, 9, 9);
+    /// BitsMut::settle(&mut to, 70, 0).union_of(set.as_bits(), other.as_bits());
+    /// assert_eq!(to, [11, 1, 0, 0]);
+    /// ```
+    #[inline]
+    #[track_caller]
+    pub fn union_of(&mut self, one: Bits<'_>, other: Bits<'_>) {
+        self.assert_length(one.len().max(other.len()));
+        self.view.union_of(one.view, other.view);
+    }
+
+    /// Makes this set the positions of exactly one of two others. Its length has to be the greater
+    /// of theirs.
+    ///
+    /// **Panics** where the length is not that of the result.
+    ///
+    /// Proved: what it leaves, for any three sets, wherever it does not panic
+    /// ([contract](crate::contracts#fixedbitsetbitsmutsymmetric_difference_of)).
+    ///
+    /// ```
+    /// # use fixedbitset::BitsMut;
+    /// let (mut to, mut words, mut other) = ([7; 4], [9, 1, 0, 0], [3, 0, 0, 0]);
+    /// let set = BitsMut::settle(&mut words, 70, 70);
+    /// let other = BitsMut::settle(&mut other, 9, 9);
+    /// BitsMut::settle(&mut to, 70, 0).symmetric_difference_of(set.as_bits(), other.as_bits());
+    /// assert_eq!(to, [10, 1, 0, 0]);
+    /// ```
+    #[inline]
+    #[track_caller]
+    pub fn symmetric_difference_of(&mut self, one: Bits<'_>, other: Bits<'_>) {
+        self.assert_length(one.len().max(other.len()));
+        self.view.symmetric_difference_of(one.view, other.view);
+    }
+
+    /// Makes this set the positions of both of two others. Its length has to be the lesser
+    /// of theirs.
+    ///
+    /// **Panics** where the length is not that of the result.
+    ///
+    /// Proved: what it leaves, for any three sets, wherever it does not panic
+    /// ([contract](crate::contracts#fixedbitsetbitsmutintersection_of)).
+    ///
+    /// ```
+    /// # use fixedbitset::BitsMut;
+    /// let (mut to, mut words, mut other) = ([7; 4], [9, 1, 0, 0], [3, 0, 0, 0]);
+    /// let set = BitsMut::settle(&mut words, 70, 70);
+    /// let other = BitsMut::settle(&mut other, 9, 9);
+    /// BitsMut::settle(&mut to, 9, 0).intersection_of(set.as_bits(), other.as_bits());
+    /// assert_eq!(to, [1, 0, 0, 0]);
+    /// ```
+    #[inline]
+    #[track_caller]
+    pub fn intersection_of(&mut self, one: Bits<'_>, other: Bits<'_>) {
+        self.assert_length(one.len().min(other.len()));
+        self.view.intersection_of(one.view, other.view);
+    }
+
+    /// Makes this set the positions of the first of two others that the second lacks. Its length
+    /// has to be that of the first.
+    ///
+    /// **Panics** where the length is not that of the result.
+    ///
+    /// Proved: what it leaves, for any three sets, wherever it does not panic
+    /// ([contract](crate::contracts#fixedbitsetbitsmutdifference_of)).
+    ///
+    /// ```
+    /// # use fixedbitset::BitsMut;
+    /// let (mut to, mut words, mut other) = ([7; 4], [9, 1, 0, 0], [3, 0, 0, 0]);
+    /// let set = BitsMut::settle(&mut words, 70, 70);
+    /// let other = BitsMut::settle(&mut other, 9, 9);
+    /// BitsMut::settle(&mut to, 70, 0).difference_of(set.as_bits(), other.as_bits());
+    /// assert_eq!(to, [8, 1, 0, 0]);
+    /// ```
+    #[inline]
+    #[track_caller]
+    pub fn difference_of(&mut self, one: Bits<'_>, other: Bits<'_>) {
+        self.assert_length(one.len());
+        self.view.difference_of(one.view, other.view);
+    }
+
     /// Sets the position, which has to be below the length.
     ///
     /// **Panics** where it is at or past the length.
@@ -234,6 +326,29 @@ impl BitsMut<'_> {
     pub fn set(&mut self, bit: usize, enabled: bool) {
         self.assert_below("set at", bit);
         self.view.set(bit, enabled);
+    }
+
+    /// Makes position `to`, which has to be below the length, what position `from` is. Past the
+    /// length none is set.
+    ///
+    /// **Panics** where `to` is at or past the length.
+    ///
+    /// Proved: what it leaves, for all sets, wherever it does not panic
+    /// ([contract](crate::contracts#fixedbitsetbitsmutcopy_bit)).
+    ///
+    /// ```
+    /// # use fixedbitset::BitsMut;
+    /// let mut words = [9, 0, 0, 0];
+    /// let mut set = BitsMut::settle(&mut words, 70, 70);
+    /// set.copy_bit(3, 65);
+    /// set.copy_bit(500, 0);
+    /// assert_eq!(words, [8, 2, 0, 0]);
+    /// ```
+    #[inline]
+    #[track_caller]
+    pub fn copy_bit(&mut self, from: usize, to: usize) {
+        self.assert_below("copy to", to);
+        self.view.copy_bit(from, to);
     }
 
     /// Sets each position of the list. All of them have to be below the length. It writes one word
@@ -379,6 +494,27 @@ impl BitsMut<'_> {
     pub fn toggle_range<T: IndexRange>(&mut self, range: T) {
         let (start, end) = self.as_bits().part(&range);
         self.view.toggle_range(start, end, &mut Steps::new());
+    }
+
+    /// Sets the positions of the range, or clears them where `enabled` is false.
+    ///
+    /// **Panics** where the range is not valid.
+    ///
+    /// Proved: what it leaves, for all sets, wherever it does not panic
+    /// ([contract](crate::contracts#fixedbitsetbitsmutset_range)).
+    ///
+    /// ```
+    /// # use fixedbitset::BitsMut;
+    /// let mut words = [9, 1, 0, 0];
+    /// let mut set = BitsMut::settle(&mut words, 70, 70);
+    /// set.set_range(1..4, true);
+    /// assert_eq!(words, [15, 1, 0, 0]);
+    /// ```
+    #[inline]
+    #[track_caller]
+    pub fn set_range<T: IndexRange>(&mut self, range: T, enabled: bool) {
+        let (start, end) = self.as_bits().part(&range);
+        self.view.set_range(start, end, enabled, &mut Steps::new());
     }
 
     /// Moves each position up by `by`. Those that are not below the length then fall away.

@@ -30,8 +30,9 @@ impl<'a> Bits<'a> {
     /// on, all below `end`, or `None` where there is none. The only multiple of 0 is 0. The
     /// range has to be valid.
     ///
-    /// It takes at most two steps for each lane of the range, and two for each multiple that may
-    /// stand in it. Where there is such a gap they are at least those of its own lanes.
+    /// It takes at most two steps for each lane of the range, and one for each multiple that may
+    /// stand in it; where `align` is 0 or 1, at most one for each lane. Where there is such a gap
+    /// they are at least those of its own lanes.
     ///
     /// `start` and `end` are the ends of `range`.
     ///
@@ -635,6 +636,22 @@ impl<'a> Bits<'a> {
     #[inline]
     pub fn is_subset(self, other: Bits<'_>) -> bool {
         self.view.is_subset(other.view, &mut Steps::new())
+    }
+
+    /// Whether each position of the second set is one of the first.
+    ///
+    /// Proved: the answer, for any two sets ([contract](crate::contracts#fixedbitsetbitsis_superset)).
+    ///
+    /// ```
+    /// # use fixedbitset::BitsMut;
+    /// let (mut words, mut other) = ([11, 0, 0, 0], [9, 0, 0, 0]);
+    /// let set = BitsMut::settle(&mut words, 9, 9);
+    /// let other = BitsMut::settle(&mut other, 70, 70);
+    /// assert!(set.as_bits().is_superset(other.as_bits()));
+    /// ```
+    #[inline]
+    pub fn is_superset(self, other: Bits<'_>) -> bool {
+        self.view.is_superset(other.view, &mut Steps::new())
     }
 
     /// The least position of the second set that the first lacks, or `None` where it lacks none.

@@ -54,21 +54,6 @@ impl<'a> Bits<'a> {
         each.for_each(|(bit, answer)| *answer = self.contains(*bit));
     }
 
-    /// [`FixedBitSet::is_superset`](crate::FixedBitSet::is_superset).
-    ///
-    /// Proved: the answer, for any two sets ([contract](crate::contracts#fixedbitsetbitsis_subset)).
-    ///
-    /// ```
-    /// # use fixedbitset::Bits;
-    /// let set = Bits::over(&[9, 2, 0, 0], 70).unwrap();
-    /// let other = Bits::over(&[3, 0, 0, 0], 9).unwrap();
-    /// assert!(!set.is_superset(other) && set.is_superset(set));
-    /// ```
-    #[inline]
-    pub fn is_superset(self, other: Bits<'_>) -> bool {
-        other.is_subset(self)
-    }
-
     /// [`FixedBitSet::union`](crate::FixedBitSet::union).
     ///
     /// Proved: each item of both parts and their order, for any mix of calls from both ends

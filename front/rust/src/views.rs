@@ -95,8 +95,7 @@ impl<'a> Bits<'a> {
 impl<'a> BitsMut<'a> {
     /// [`Bits::over`], to be changed. [`settle`](Self::settle) clears what this refuses.
     ///
-    /// Proved: which words it refuses, for all numbers ([contract](crate::contracts#fixedbitsetbitsover)). The view is not:
-    /// it is made here.
+    /// Proved: the answer, for all words and all numbers ([contract](crate::contracts#fixedbitsetbitsmutover)).
     ///
     /// ```
     /// # use fixedbitset::BitsMut;
@@ -107,8 +106,7 @@ impl<'a> BitsMut<'a> {
     /// ```
     #[inline]
     pub fn over(words: &'a mut [Block], length: usize) -> Option<Self> {
-        views::Bits::over(words, length)?;
-        let view = views::BitsMut { words, length };
+        let view = views::BitsMut::over(words, length)?;
         Some(BitsMut { view })
     }
 

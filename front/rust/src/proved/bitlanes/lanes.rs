@@ -69,9 +69,9 @@ pub fn count<O: WordOp>(a: &[Block], b: &[Block], steps: &mut Steps) -> usize {
 
 /// Whether no bit is set in the words of `a` joined with those of `b` by `O`, as far as both go.
 ///
-/// It stops at the first lane with a bit, so it takes at most `m / 4` steps, rounded up, `m` being
-/// the number of words of the shorter slice; where it answers `true` it takes exactly as many, and
-/// where it answers `false` at least one.
+/// It stops at the first lane with a bit: where it answers `false` it takes exactly one step for
+/// each lane up to that one, and where it answers `true` exactly `m / 4` steps, rounded up, `m`
+/// being the number of words of the shorter slice.
 ///
 /// ```text
 /// assert!(lanes::none::<And>(&[1, 2], &[2, 1, 255], &mut Steps::new()));
@@ -133,9 +133,9 @@ pub fn count_one(a: &[Block], steps: &mut Steps) -> usize {
 
 /// Whether no bit is set in the words.
 ///
-/// It stops at the first lane with a bit, so it takes at most `m / 4` steps, rounded up, `m`
-/// being the number of words; where it answers `true` it takes exactly as many, and where it
-/// answers `false` at least one.
+/// It stops at the first lane with a bit: where it answers `false` it takes exactly one step for
+/// each lane up to that one, and where it answers `true` exactly `m / 4` steps, rounded up, `m`
+/// being the number of words.
 ///
 /// ```text
 /// assert!(lanes::none_one(&[0; 9], &mut Steps::new()));
@@ -162,9 +162,9 @@ pub fn none_one(a: &[Block], steps: &mut Steps) -> bool {
 
 /// Whether no bit is set in the word `mask` joined with each word of `words` by `O`.
 ///
-/// It stops at the first lane with a bit, so it takes at most `m / 4` steps, rounded up, `m`
-/// being the number of words; where it answers `true` it takes exactly as many, and where it
-/// answers `false` at least one.
+/// It stops at the first lane with a bit: where it answers `false` it takes exactly one step for
+/// each lane up to that one, and where it answers `true` exactly `m / 4` steps, rounded up, `m`
+/// being the number of words.
 ///
 /// ```text
 /// assert!(lanes::none_masked::<And>(4, &[3, 8, 1], &mut Steps::new()));

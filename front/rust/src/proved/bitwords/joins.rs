@@ -116,8 +116,9 @@ pub fn count<O: WordOp>(a: &[Block], b: &[Block], steps: &mut Steps) -> usize {
 
 /// Whether `count` is 0, whether or not it fits `usize`.
 ///
-/// It stops at the first lane that decides, so it takes at most the steps of `count`; where it
-/// answers `true` it takes exactly as many, and where it answers `false` at least one.
+/// It stops at the first lane that decides: where it answers `true` it takes exactly the steps of
+/// `count`, and where it answers `false` exactly those of `count` over the words up to the one that
+/// has the first position that counts.
 ///
 /// ```text
 /// assert!(joins::none::<AndNot>(&[2], &[3, 1], &mut Steps::new()));

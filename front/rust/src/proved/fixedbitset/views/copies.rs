@@ -2,7 +2,7 @@
 //! Sets written over words that stand for nothing yet: copies, and two sets joined. Each word is
 //! written once, and there have to be as many words as a set of the length keeps.
 
-use crate::proved::fixedbitset::views::Bits;
+use crate::proved::fixedbitset::views::{Bits, BitsMut};
 use crate::proved::bitlanes::ops::{And, AndNot, Or, Second, WordOp, Xor};
 use crate::proved::bitlanes::{Block, Steps};
 use crate::proved::bitwords::{joins, positions};
@@ -97,5 +97,67 @@ impl Bits<'_> {
     #[inline(always)]
     fn join_to<O: WordOp>(self, other: Bits<'_>, to: &mut [Block]) {
         joins::join_to::<O>(to, self.words, other.words, &mut Steps::new());
+    }
+}
+
+impl BitsMut<'_> {
+    /// Makes this set the union of two others. Its length has to be the greater of theirs; which
+    /// positions it had does not matter.
+    ///
+    /// ```text
+    /// let (mut to, mut words, mut other) = ([7; 4], [9, 1, 0, 0], [3, 0, 0, 0]);
+    /// let set = BitsMut::settle(&mut words, 70, 70);
+    /// let other = BitsMut::settle(&mut other, 9, 9);
+    /// BitsMut::settle(&mut to, 70, 0).union_of(set.as_bits(), other.as_bits());
+    /// assert_eq!(to, [11, 1, 0, 0]);
+    /// ```
+    #[inline]
+    pub fn union_of(&mut self, one: Bits<'_>, other: Bits<'_>) {
+        one.union_to(other, self.words);
+    }
+
+    /// Makes this set the positions of exactly one of two others. Its length has to be the greater
+    /// of theirs.
+    ///
+    /// ```text
+    /// let (mut to, mut words, mut other) = ([7; 4], [9, 1, 0, 0], [3, 0, 0, 0]);
+    /// let set = BitsMut::settle(&mut words, 70, 70);
+    /// let other = BitsMut::settle(&mut other, 9, 9);
+    /// BitsMut::settle(&mut to, 70, 0).symmetric_difference_of(set.as_bits(), other.as_bits());
+    /// assert_eq!(to, [10, 1, 0, 0]);
+    /// ```
+    #[inline]
+    pub fn symmetric_difference_of(&mut self, one: Bits<'_>, other: Bits<'_>) {
+        one.symmetric_difference_to(other, self.words);
+    }
+
+    /// Makes this set the positions of both of two others. Its length has to be the lesser
+    /// of theirs.
+    ///
+    /// ```text
+    /// let (mut to, mut words, mut other) = ([7; 4], [9, 1, 0, 0], [3, 0, 0, 0]);
+    /// let set = BitsMut::settle(&mut words, 70, 70);
+    /// let other = BitsMut::settle(&mut other, 9, 9);
+    /// BitsMut::settle(&mut to, 9, 0).intersection_of(set.as_bits(), other.as_bits());
+    /// assert_eq!(to, [1, 0, 0, 0]);
+    /// ```
+    #[inline]
+    pub fn intersection_of(&mut self, one: Bits<'_>, other: Bits<'_>) {
+        one.intersection_to(other, self.words);
+    }
+
+    /// Makes this set the positions of the first of two others that the second lacks. Its length
+    /// has to be that of the first.
+    ///
+    /// ```text
+    /// let (mut to, mut words, mut other) = ([7; 4], [9, 1, 0, 0], [3, 0, 0, 0]);
+    /// let set = BitsMut::settle(&mut words, 70, 70);
+    /// let other = BitsMut::settle(&mut other, 9, 9);
+    /// BitsMut::settle(&mut to, 70, 0).difference_of(set.as_bits(), other.as_bits());
+    /// assert_eq!(to, [8, 1, 0, 0]);
+    /// ```
+    #[inline]
+    pub fn difference_of(&mut self, one: Bits<'_>, other: Bits<'_>) {
+        one.difference_to(other, self.words);
     }
 }

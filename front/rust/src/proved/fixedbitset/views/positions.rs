@@ -129,6 +129,20 @@ impl<'a> BitsMut<'a> {
         BitsMut { words, length }
     }
 
+    /// [`Bits::over`], to be changed: `None` where the words are not those of a set of `length`
+    /// positions as they stand.
+    ///
+    /// ```text
+    /// let mut words = [8, 64, 0, 0];
+    /// assert!(BitsMut::over(&mut words, 70).is_none());
+    /// assert!(BitsMut::over(&mut words, 71).is_some());
+    /// ```
+    #[inline]
+    pub fn over(words: &'a mut [Block], length: usize) -> Option<Self> {
+        Bits::over(words, length)?;
+        Some(BitsMut { words, length })
+    }
+
     /// The set to be read.
     ///
     /// ```text
@@ -230,6 +244,22 @@ impl<'a> BitsMut<'a> {
         } else {
             self.remove(bit);
         }
+    }
+
+    /// Makes position `to`, which has to be below the length, what position `from` is. Past the
+    /// length none is set.
+    ///
+    /// ```text
+    /// let mut words = [9, 0, 0, 0];
+    /// let mut set = BitsMut::settle(&mut words, 70, 70);
+    /// set.copy_bit(3, 65);
+    /// set.copy_bit(500, 0);
+    /// assert_eq!(words, [8, 2, 0, 0]);
+    /// ```
+    #[inline(always)]
+    pub fn copy_bit(&mut self, from: usize, to: usize) {
+        let enabled = self.as_bits().contains(from);
+        self.set(to, enabled);
     }
 
     /// Sets each position of the list. All of them have to be below the length. It writes one word

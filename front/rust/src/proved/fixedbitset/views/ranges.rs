@@ -5,8 +5,8 @@
 //! A change or a count takes exactly one step for each word that holds a position of the range: so
 //! none for an empty range, and never more than `(end - start) / 64 + 2`. A test takes no more: one
 //! step for each lane of four of the words that are wholly in the range, and one for each other
-//! word that holds a position of it. It stops at the first that decides, which takes one step at
-//! least, and takes exactly as many where none does.
+//! word that holds a position of it. It stops at the first that decides, and takes exactly those up
+//! to that one, or exactly all where none does.
 
 use crate::proved::fixedbitset::views::{Bits, BitsMut};
 use crate::proved::bitlanes::Steps;
@@ -50,6 +50,23 @@ impl BitsMut<'_> {
     #[inline(always)]
     pub fn toggle_range(&mut self, start: usize, end: usize, steps: &mut Steps) {
         self.change_in::<Xor>(start, end, steps);
+    }
+
+    /// Sets the positions of the range, or clears them where `enabled` is false.
+    ///
+    /// ```text
+    /// let mut words = [9, 1, 0, 0];
+    /// let mut set = BitsMut::settle(&mut words, 70, 70);
+    /// set.set_range(1, 4, true, &mut Steps::new());
+    /// assert_eq!(words, [15, 1, 0, 0]);
+    /// ```
+    #[inline(always)]
+    pub fn set_range(&mut self, start: usize, end: usize, enabled: bool, steps: &mut Steps) {
+        if enabled {
+            self.insert_range(start, end, steps);
+        } else {
+            self.remove_range(start, end, steps);
+        }
     }
 
     // Joins the range, as the positions of a second set, to the set.

@@ -2,9 +2,8 @@
 //! Two whole sets, of any two lengths.
 //!
 //! A change or a count takes exactly one step for each lane that both sets have, and one for each
-//! that only one of them has, where these are cleared or counted. A comparison takes at most as
-//! many, since it stops at the first lane that decides; where it answers `true` exactly as many,
-//! and where it answers `false` one at least.
+//! that only one of them has, where these are cleared or counted. A comparison that answers `true`
+//! takes exactly as many, and one that answers `false` exactly those up to the lane that decides.
 
 use crate::proved::fixedbitset::views::{Bits, BitsMut};
 use crate::proved::bitlanes::Steps;
@@ -156,6 +155,19 @@ impl Bits<'_> {
     #[inline(always)]
     pub fn is_subset(self, other: Bits<'_>, steps: &mut Steps) -> bool {
         self.none::<AndNot>(other, steps)
+    }
+
+    /// Whether each position of the second set is one of the first.
+    ///
+    /// ```text
+    /// let (mut words, mut other) = ([11, 0, 0, 0], [9, 0, 0, 0]);
+    /// let set = BitsMut::settle(&mut words, 9, 9);
+    /// let other = BitsMut::settle(&mut other, 70, 70);
+    /// assert!(set.as_bits().is_superset(other.as_bits(), &mut Steps::new()));
+    /// ```
+    #[inline(always)]
+    pub fn is_superset(self, other: Bits<'_>, steps: &mut Steps) -> bool {
+        other.is_subset(self, steps)
     }
 
     /// The least position of the second set that the first lacks, or `None` where it lacks none.
