@@ -296,9 +296,10 @@ pub fn tests_of_two_sets()
     ensures disjoint { IsDisjointTells }
 {}
 
-/// With `m` words that both lengths need and `t` that only the longer needs, a call over two sets
-/// takes at most `m / 4 + 3` steps for the first and `t / 4 + 3` for the second, and `next_common`
-/// none for the second. Over as many words, `m` each, a join, a count or a test that nothing stops
+/// With `m` words that both lengths need and `t` that only the longer needs, a join, a count or a
+/// test of two sets takes at most `m / 4 + 3` steps for the first and `t / 4 + 3` for the second,
+/// and `next_common` none for the second. A shifted join, `append` and `copy_range` take at most
+/// the sum of both. Over as many words, `m` each, a join, a count or a test that nothing stops
 /// takes exactly `m / 4`, rounded up.
 ///
 /// ```
