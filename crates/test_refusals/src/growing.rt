@@ -88,9 +88,7 @@ fn is_grown(set: &FixedBitSet, call: Growing) -> bool {
         Growing::GrowAndInsert => is_value(set, LONG + 1, &[3, LONG]),
         Growing::Extend => is_value(set, LONG + 1, &[3, 4, 5, LONG]),
         Growing::By(Change::CloneFrom | Change::CountedCloneFrom) => is_long(set),
-        Growing::By(Change::SymmetricDifferenceOf | Change::DifferenceOf) => {
-            is_value(set, LONG, LAST)
-        }
+        Growing::By(Change::DifferenceOf) => is_value(set, LONG, LAST),
         Growing::By(_) => is_value(set, LONG, BOTH),
     }
 }
