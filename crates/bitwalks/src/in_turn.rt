@@ -1,12 +1,14 @@
 //! Two walks in turn: from the front the first and then the second, from the back the
 //! second and then the first.
 
-ghost use Rattle.std.specs.Prelude.{◌≡◌, ℕ, ◌+◌, ◌*◌, ◌^◌, ◌<◌, ◌++◌, List};
+ghost use Rattle.std.specs.Prelude.{◌≡◌, ℕ, ◌+◌, ◌*◌, ◌^◌, ◌<◌, ◌≤◌, ◌++◌, List};
 ghost use Rattle.std.specs.Prelude.{[], true, false, length, Some, IfSome};
 ghost use Rattle.std.specs.Iterator.{YieldsFirst, YieldsLast, UpTo, at_most};
+ghost use Rattle.bitlanes.specs.Words.{lane_steps};
 ghost use Rattle.bitwalks.specs.Pairs.{WalksFront, WalksBack};
 ghost use Rattle.bitwalks.specs.PairsFacts.{walk_stays, walk_stays_back};
 
+use bitlanes::counter::Steps;
 use bitwords::cursors::{Cursor, Middle};
 use std::marker::Model;
 
@@ -73,6 +75,27 @@ impl<M: Middle + Drop> Part for Cursor<M> {
     ghost front_stays = { walk_stays };
 
     ghost back_stays = { walk_stays_back };
+}
+
+/// A walk whose items left can be counted at once.
+pub trait Counted: Part {
+    /// How many steps a count takes at most.
+    ghost most_steps: { Self → ℕ };
+
+    /// How many items are left. It asks that this number fits `usize`.
+    fn count_items(self, steps: &mut Steps) -> usize
+        requires { length (Self.items self) < 2 ^ 64 }
+        ensures value { result ≡ length (Self.items self) }
+        ensures cost { steps.new ≤ steps.old + most_steps self };
+}
+
+impl<M: Middle + Drop> Counted for Cursor<M> {
+    ghost most_steps = { λ walk. lane_steps (length walk.words) + 2 };
+
+    #[inline]
+    fn count_items(self, steps: &mut Steps) -> usize {
+        self.count_left(steps)
+    }
 }
 
 /// The items of the first walk, and then those of the second.
@@ -181,5 +204,27 @@ impl<A: Part + Drop, B: Part + Drop> InTurn<A, B> {
             first_left: _,
         } = self;
         (first, second)
+    }
+}
+
+impl<A: Counted + Drop, B: Counted + Drop> InTurn<A, B> {
+    /// How many items both walks have left. It asks that this number fits `usize`, and takes at
+    /// most as many steps as a count of the one and of the other.
+    ///
+    /// ```
+    /// let first = Cursor::over(Plain { words: &[9, 1] });
+    /// let second = Cursor::over(Plain { words: &[7] });
+    /// let mut walks = InTurn::of(first, second);
+    /// assert_eq!(rt; walks.take_first(), Some(0));
+    /// assert_eq!(rt; walks.count_left(&mut Steps::new()), 5);
+    /// ```
+    #[inline]
+    pub fn count_left(self, steps: &mut Steps) -> usize
+        requires { length (A.items self.first ++ B.items self.second) < 2 ^ 64 }
+        ensures value { result ≡ length (A.items self.first ++ B.items self.second) }
+        ensures cost { steps.new ≤ steps.old + A.most_steps self.first + B.most_steps self.second }
+    {
+        let (first, second) = self.into_walks();
+        first.count_items(steps) + second.count_items(steps)
     }
 }

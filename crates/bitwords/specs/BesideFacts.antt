@@ -33,16 +33,24 @@ module _ (f : ℕ → ℕ → ℕ) where
   beside-push (first ∷ words) word (other ∷ others) = ap (λ rest. f first other ∷ rest) (beside-push words word others)
 
 -- the bit at a position is the truth function of the two bits there
+module _ {f : ℕ → ℕ → ℕ} {t : Bool → Bool → Bool} {keep take : Bool} (law : IsWordOp f t keep take)
+    (words others : List ℕ) (are_words : AreWords words) (are_others : AreWords others) (p : ℕ) where
+  pub has_bit-beside_within : p / 64 < length words
+      → has_bit (beside f words others) p ≡ t (has_bit words p) (has_bit others p)
+  unfolding has_bit
+  has_bit-beside_within within =
+      ap (λ w. bit w (p % 64)) (get_or-beside f words others (p / 64) within)
+      ∙ law.by_bits (get_or words (p / 64) 0) (get_or others (p / 64) 0) (p % 64) (are_words (p / 64))
+      (are_others (p / 64))
+
+-- past the words too, where nothing of the second is taken
 pub has_bit-beside : {f : ℕ → ℕ → ℕ} {t : Bool → Bool → Bool} {keep take : Bool} → IsWordOp f t keep take → take ≡ false
     → (words others : List ℕ) → AreWords words → AreWords others → (p : ℕ)
     → has_bit (beside f words others) p ≡ t (has_bit words p) (has_bit others p)
 unfolding has_bit
 has_bit-beside {f} {t} law drops words others are_words are_others p =
     ⊎_elim
-    (λ (within : p / 64 < length words).
-    ap (λ w. bit w (p % 64)) (get_or-beside f words others (p / 64) within)
-    ∙ law.by_bits (get_or words (p / 64) 0) (get_or others (p / 64) 0) (p % 64) (are_words (p / 64))
-    (are_others (p / 64)))
+    (has_bit-beside_within law words others are_words are_others p)
     (λ (past : length words ≤ p / 64).
     let none = ap (λ w. bit w (p % 64)) (get_or_past words (p / 64) 0 past) ∙ bit-zero (p % 64) in
     let also =

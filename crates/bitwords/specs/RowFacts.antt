@@ -1,10 +1,12 @@
 -- The bits of a row of words and the positions of a range, for those who see words as positions.
 use Rattle.std.proofs.Common.{◌≡◌, ℕ, ◌+◌, ◌*◌, ◌/◌, ◌%◌, ◌^◌, ◌<◌, ◌≤◌, false}
-use Rattle.std.proofs.Common.{◌==◌, List, length, get_or, ap, ◌∙◌, arith}
+use Rattle.std.proofs.Common.{◌==◌, List, length, get_or, ap, ◌∙◌, arith, map, not}
+use Rattle.std.specs.Int.{bit_not, w64}
 use Rattle.std.proofs.lemmas.Bool.Decides.{nat_tests}
-use Rattle.std.proofs.lemmas.List.{get_or_past}
+use Rattle.std.proofs.lemmas.List.{get_or-map, get_or_past}
 use Rattle.std.proofs.lemmas.Nat.Bits.{bit_at-zero}
 use Rattle.bitlanes.specs.Bits.{bit}
+use Rattle.bitlanes.specs.BitLaws.{bit-not}
 use Rattle.bitwords.specs.Rows.{has_bit, in_range}
 
 -- each number is a word
@@ -31,6 +33,14 @@ has_bit-at ws k i h =
 pub has_bit-same : (xs ys : List ℕ) → ((k : ℕ) → get_or xs k 0 ≡ get_or ys k 0) → (p : ℕ) → has_bit xs p ≡ has_bit ys p
 unfolding has_bit
 has_bit-same xs ys same p = ap (λ w. bit w (p % 64)) (same (p / 64))
+
+-- a bit of an inverted word
+pub has_bit-inverted : (ws : List ℕ) (p : ℕ) → AreWords ws → p < 64 * length ws
+    → has_bit (map (bit_not w64) ws) p ≡ not (has_bit ws p)
+unfolding has_bit
+has_bit-inverted ws p are below =
+    rw (get_or-map (bit_not w64) ws (p / 64) 0 0 (omega arith))
+    (bit-not (get_or ws (p / 64) 0) (p % 64) (are (p / 64)) (omega arith))
 
 -- ---- ranges
 

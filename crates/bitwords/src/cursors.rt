@@ -10,12 +10,15 @@ ghost use Rattle.std.specs.Int.{bit_not, w64};
 ghost use Rattle.std.specs.Iterator.{YieldsFirst, YieldsLast, item_count, UpTo};
 ghost use Rattle.std.specs.Iterator.SizeHint.{IsWithinCount};
 ghost use Rattle.std.specs.Vec.Iter.{into_iter_items};
-ghost use Rattle.bitwords.specs.Rows.{has_bit};
+ghost use Rattle.bitlanes.specs.Words.{lane_steps};
+ghost use Rattle.bitwords.specs.Rows.{has_bit, count_below};
 ghost use Rattle.bitwords.specs.Walk.{GivesFirst, GivesLast, between_ends};
 ghost use Rattle.bitwords.specs.Walk.{over_row, within_row, range_row};
 ghost use Rattle.bitwords.specs.WalkedWords.{beside, held_items, held_walk, IsSpaced};
 
+use crate::joins;
 use bitlanes::counter::Steps;
+use bitlanes::lanes;
 use bitlanes::ops::WordOp;
 use bitlanes::word::{BITS, Block, ones_below, stretch, take_highest_bit, take_lowest_bit};
 use std::alloc::Global;
@@ -29,6 +32,7 @@ use std::vec;
 /// assert_eq!(rt; Middle::take_first(&mut middle), Some(3));
 /// assert_eq!(rt; Middle::take_last(&mut middle), Some(7));
 /// assert_eq!(rt; Middle::left(&middle), 1);
+/// assert_eq!(rt; Middle::count_positions(middle, &mut Steps::new()), 2);
 /// ```
 pub trait Middle {
     /// The words, in order.
@@ -45,6 +49,15 @@ pub trait Middle {
     /// How many words are left.
     fn left(&self) -> usize
         ensures { result ≡ length (words self.now) };
+
+    /// How many positions the words left have. It asks that they are below 2 ^ 58.
+    ///
+    /// It goes over words, and over no positions: it takes at most one step for each lane of four
+    /// words, and one more.
+    fn count_positions(self, steps: &mut Steps) -> usize
+        requires { 64 * length (words self) < 2 ^ 64 }
+        ensures count { result ≡ count_below (has_bit (words self)) (64 * length (words self)) }
+        ensures cost { steps.new ≤ steps.old + lane_steps (length (words self)) + 1 };
 }
 
 /// Words that can be looked at before they are taken.
@@ -93,6 +106,11 @@ impl<'a> Middle for Plain<'a> {
     fn left(&self) -> usize {
         self.words.len()
     }
+
+    #[inline]
+    fn count_positions(self, steps: &mut Steps) -> usize {
+        count_of(self.words, steps)
+    }
 }
 
 impl<'a> Seen for Plain<'a> {
@@ -131,6 +149,11 @@ impl<'a> Middle for Inverted<'a> {
     #[inline]
     fn left(&self) -> usize {
         self.plain.left()
+    }
+
+    #[inline]
+    fn count_positions(self, steps: &mut Steps) -> usize {
+        count_lacking(self.plain.words, steps)
     }
 }
 
@@ -201,6 +224,11 @@ impl<'a, O: WordOp> Middle for Beside<'a, O> {
     fn left(&self) -> usize {
         self.plain.left()
     }
+
+    #[inline]
+    fn count_positions(self, steps: &mut Steps) -> usize {
+        count_beside::<O>(self.plain.words, self.other, steps)
+    }
 }
 
 /// Words that the cursor owns.
@@ -221,6 +249,50 @@ impl Middle for vec::IntoIter<Block, Global> {
     fn left(&self) -> usize {
         self.len()
     }
+
+    #[inline]
+    fn count_positions(self, steps: &mut Steps) -> usize {
+        let mut words = self;
+        steps.tick_lanes(words.left());
+        let mut total = 0;
+        while let Some(word) = words.take_first() {
+            total += word.count_ones() as usize;
+        }
+        total
+    }
+}
+
+// How many positions a row of words has.
+#[inline]
+fn count_of(words: &[Block], steps: &mut Steps) -> usize
+    requires { 64 * length words.now < 2 ^ 64 }
+    ensures count { result ≡ count_below (has_bit words.now) (64 * length words.now) }
+    ensures cost { steps.new ≡ steps.old + lane_steps (length words.now) }
+{
+    lanes::count_one(words, steps)
+}
+
+// How many positions it lacks.
+#[inline]
+fn count_lacking(words: &[Block], steps: &mut Steps) -> usize
+    requires { 64 * length words.now < 2 ^ 64 }
+    ensures count { result
+        ≡ count_below (has_bit (map (bit_not w64) words.now)) (64 * length words.now) }
+    ensures cost { steps.new ≡ steps.old + lane_steps (length words.now) }
+{
+    BITS * words.len() - lanes::count_one(words, steps)
+}
+
+// How many it has of which the other row, cut to its length, says so by `O`.
+#[inline]
+fn count_beside<O: WordOp>(words: &[Block], other: &[Block], steps: &mut Steps) -> usize
+    requires { 64 * length words.now < 2 ^ 64 }
+    ensures count { result
+        ≡ count_below (has_bit (beside O.joined words.now other.now)) (64 * length words.now) }
+    ensures cost { steps.new ≤ steps.old + lane_steps (length words.now) + 1 }
+{
+    let common = words.len().min(other.len());
+    joins::count::<O>(words, &other[..common], steps)
 }
 
 // A row of words, cut into its ends and those between. For a word that isn't there, an end has 0.
@@ -406,6 +478,27 @@ impl<M: Middle + Drop> Cursor<M> {
             turns: Steps::new(),
             taken: Steps::new(),
         }
+    }
+
+    /// How many positions are left. It asks that this number fits `usize`.
+    ///
+    /// It goes over the words and over no positions: with `m` words between the two that the cursor
+    /// holds it takes at most `m / 4` steps, rounded up, and two more.
+    ///
+    /// ```
+    /// let mut cursor = Cursor::over(Plain { words: &[9, 7, 1] });
+    /// assert_eq!(rt; cursor.next(), Some(0));
+    /// assert_eq!(rt; cursor.count_left(&mut Steps::new()), 5);
+    /// ```
+    #[inline]
+    pub fn count_left(self, steps: &mut Steps) -> usize
+        requires { length self.items < 2 ^ 64 }
+        ensures value { result ≡ length self.items }
+        ensures cost { steps.new ≤ steps.old + lane_steps (length self.words) + 2 }
+    {
+        let held = self.into_held();
+        let ends = [held.front, held.back];
+        held.middle.count_positions(steps) + lanes::count_one(&ends, steps)
     }
 
     // The words stand at these positions, the ones between the first and the
