@@ -7,7 +7,7 @@ use Rattle.std.proofs.Math.Seq.{drop-append-add, take-length, drop-length}
 use Rattle.std.proofs.lemmas.Bool.{cases_lt}
 use Rattle.std.proofs.lemmas.List.{drop_all, take-append-le, drop-append-le, length-take-le, drop-drop}
 use Rattle.std.proofs.lemmas.List.{take-append-drop, reverse-reverse, reverse-append, length-reverse}
-use Rattle.std.proofs.lemmas.List.{drop-map, take-map, map-append, length-map}
+use Rattle.std.proofs.lemmas.List.{map-append, length-map}
 use borrow.Rule.Slice.PartMut.{put_mid, same_len_mid}
 use Rattle.bitwords.specs.Handfuls.{GivesSome}
 use Rattle.bitwords.proofs.Places.{gives-more}
@@ -27,18 +27,6 @@ module _ {A : Type 0} (xs ps : List A) (k : ℕ) (room : k < length ps) where
       let tail : rest ≡ drop (k + 1) xs = rw add-one (cc) in
       let write = simp zero-add at (paste_more ps 0 xs k x (omega arith) below) in
       (omega arith, ap (set (take k xs ++ drop k ps) k) (sym head) ∙ write, tail)
-
--- the same, where a place takes what f makes of its item
-pub more_mapped : {A B : Type 0} (f : A → B) (items : List A) (places out : List B) (k : ℕ) (d : A)
-    → length items ≡ length places → k < length items → out ≡ map f (take k items) ++ drop k places
-    → set out k (f (get_or items k d)) ≡ map f (take (k + 1) items) ++ drop (k + 1) places
-more_mapped f items places out k d long lt is =
-    let left : drop k (map f items) ≡ f (get_or items k d) ∷ map f (drop (suc k) items) =
-    drop-map f k items ∙ ap (map f) (drop-cons items k d lt) in
-    let more = more_written (map f items) places k (omega arith) (f (get_or items k d)) _ left in
-    ap (λ ys. set ys k (f (get_or items k d)))
-    (is ∙ ap (λ ys. ys ++ drop k places) (sym (take-map f k items)))
-    ∙ more.1 ∙ ap (λ ys. ys ++ drop (k + 1) places) (take-map f (k + 1) items)
 
 -- what is taken of two lists in turn is taken of the two joined
 joined : (xs ys : List ℕ) (n m : ℕ) → n ≤ length xs → (n < length xs → m ≡ 0)

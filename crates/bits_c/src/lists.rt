@@ -57,9 +57,7 @@ pub extern "C" fn bits_contains_each(
     if positions.len() != answers.len() {
         return false;
     }
-    for (index, position) in positions.iter().enumerate() {
-        answers[index] = set.contains(*position);
-    }
+    set.contains_each(positions, answers);
     true
 }
 

@@ -35,3 +35,4 @@ pub mod JsonFacts
 pub mod BitsCode
 pub mod Stored
 pub mod Views
+pub mod Mapped

@@ -5,7 +5,7 @@
 //! they are `unsafe` upstream, where nobody tests it. Here the prover asks it of the caller, so
 //! that they are safe, and do what the calls without the ending do.
 
-ghost use Rattle.std.specs.Prelude.{◌≡◌, ◌<◌};
+ghost use Rattle.std.specs.Prelude.{◌≡◌, ◌<◌, map, length};
 ghost use Rattle.std.specs.List.{All};
 ghost use Rattle.fixedbitset.specs.Bits as model;
 
@@ -48,6 +48,25 @@ impl FixedBitSet {
         ensures { result ≡ model.contains self.now bit }
     {
         self.as_bits().contains_unchecked(bit)
+    }
+
+    /// Writes for each position of the list whether it is set: `false` at or past the length. There
+    /// have to be as many answers as positions. It looks at one word at most for each item.
+    ///
+    /// Upstream has no such call.
+    ///
+    /// ```
+    /// let set = FixedBitSet::from_iter(alloc, [3, 64])?;
+    /// let mut answers = [false; 3];
+    /// set.contains_each(&[64, 63, 500], &mut answers);
+    /// assert_eq!(rt; answers, [true, false, false]);
+    /// ```
+    #[inline]
+    pub fn contains_each(&self, positions: &[usize], answers: &mut [bool])
+        requires { length positions.now ≡ length answers.old }
+        ensures { answers.new ≡ map (model.contains self.now) positions.now }
+    {
+        self.as_bits().contains_each(positions, answers);
     }
 
     /// Sets the position, which has to be below the length.

@@ -23,6 +23,15 @@ fn contains_unchecked(rt: HostRuntime) {
 }
 
 #[test]
+fn contains_each(rt: HostRuntime) {
+    let alloc = rt.alloc();
+    let set = set_of(&rt, alloc, &[3, 64]);
+    let mut answers = [false; 3];
+    set.contains_each(&[64, 63, 500], &mut answers);
+    equal(&rt, answers, [true, false, false]);
+}
+
+#[test]
 #[tactic(auto, using(fixedbitset::specs::BitsFacts::facts))]
 fn insert(rt: HostRuntime) {
     let alloc = rt.alloc();

@@ -38,6 +38,16 @@ fn contains_unchecked(rt: HostRuntime) {
 
 #[test]
 #[tactic(auto, using(fixedbitset::specs::WordsFacts::facts))]
+fn contains_each(rt: HostRuntime) {
+    let mut words = [9, 2, 0, 0];
+    let set = BitsMut::settle(&mut words, 70, 70);
+    let mut answers = [false; 3];
+    set.as_bits().contains_each(&[65, 64, 500], &mut answers);
+    equal(&rt, answers, [true, false, false]);
+}
+
+#[test]
+#[tactic(auto, using(fixedbitset::specs::WordsFacts::facts))]
 fn is_clear(rt: HostRuntime) {
     let mut words = [0, 64, 0, 0];
     let set = BitsMut::settle(&mut words, 70, 70);

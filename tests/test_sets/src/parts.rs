@@ -376,6 +376,26 @@ fn lists_of_positions(rt: HostRuntime) -> Result<(), Fail> {
     Ok(())
 }
 
+// Lists of positions that are asked: the same twice, in any order, and at and past the length.
+#[test]
+fn lists_of_positions_asked(rt: HostRuntime) -> Result<(), Fail> {
+    for length in [0, 1, 64, 65, 200] {
+        let flags = multiples(rt.alloc(), length, 3)?;
+        let set = filled(rt.alloc(), &flags)?;
+        let asked = [length / 2, length, 0, length / 2, usize::MAX, length / 3 * 3];
+        for (turned, count) in [(false, 6), (true, 6), (true, 0)] {
+            let mut answers = [turned; 6];
+            set.contains_each(&asked[..count], &mut answers[..count]);
+            for (index, answer) in answers.iter().enumerate() {
+                let is_set = asked[index] < length && flags[asked[index]];
+                let wanted = if index < count { is_set } else { turned };
+                assert_eq!(rt; *answer, wanted, "{index} of {count} at {length}");
+            }
+        }
+    }
+    Ok(())
+}
+
 fn assert_resized(rt: &impl Abort, alloc: Global, flags: &[bool]) -> Result<(), AllocError> {
     let (whole, slow) = (filled(alloc, flags)?, Slow::of(flags));
     let mut last = Slow::of(&[]);

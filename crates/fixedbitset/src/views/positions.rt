@@ -1,7 +1,7 @@
 //! Views of words, and single positions.
 
 ghost use Rattle.std.specs.Prelude.{◌≡◌, ◌↔◌, ◌<◌, ◌≤◌, ◌+◌, ◌-◌, ◌*◌, ◌/◌};
-ghost use Rattle.std.specs.Prelude.{min, IsTrue, IfSome, IfNone, IsSome};
+ghost use Rattle.std.specs.Prelude.{min, map, IsTrue, IfSome, IfNone, IsSome};
 ghost use Rattle.std.specs.Prelude as prelude;
 ghost use Rattle.std.specs.List.{All};
 ghost use Rattle.bitlanes.specs.Words.{lane_steps};
@@ -85,6 +85,26 @@ impl<'a> Bits<'a> {
         ensures { result ≡ model.contains (value self.entry) bit }
     {
         self.words[bit / BITS] & (1 << (bit % BITS)) != 0
+    }
+
+    /// Writes for each position of the list whether it is set: `false` at or past the length. There
+    /// have to be as many answers as positions. It looks at one word at most for each item.
+    ///
+    /// ```
+    /// let mut words = [9, 2, 0, 0];
+    /// let set = BitsMut::settle(&mut words, 70, 70);
+    /// let mut answers = [false; 3];
+    /// set.as_bits().contains_each(&[65, 64, 500], &mut answers);
+    /// assert_eq!(rt; answers, [true, false, false]);
+    /// ```
+    #[inline]
+    pub fn contains_each(self, positions: &[usize], answers: &mut [bool])
+        requires { prelude.length positions.now ≡ prelude.length answers.old }
+        ensures { answers.new ≡ map (model.contains (value self.entry)) positions.now }
+    {
+        for index in 0..positions.len() {
+            answers[index] = self.contains(positions[index]);
+        }
     }
 
     /// Whether no position is set.

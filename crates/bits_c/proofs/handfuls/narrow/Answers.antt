@@ -1,8 +1,8 @@
 use Rattle.std.proofs.Common.{◌∙◌, ap, get_or, arith}
 use Rattle.std.proofs.Math.ListN.{set}
 use Rattle.std.proofs.lemmas.Nat.{and_mask}
+use Rattle.fixedbitset.specs.Mapped.{more_mapped}
 use Rattle.bits_c.specs.Walks.{low32}
-use Rattle.bits_c.proofs.Takes.{more_mapped}
 use Rattle.bits_c.proofs.handfuls.narrow.Goals as goal
 
 pub loop-index-preserved : goal.loop-index-preserved
