@@ -9,5 +9,6 @@ pub mod bytes;
 pub mod fault;
 pub mod fills;
 pub mod form;
+pub mod values;
 
 pub use fault::JsonFault;

@@ -2,7 +2,7 @@ use Rattle.std.proofs.Common.{◌≡◌, map, vec_len}
 use Rattle.std.specs.List.{range_with_len}
 use Rattle.bitjson.specs.Form.{item_byte}
 use Rattle.bitjson.specs.Bytes.{word_of}
-use Rattle.bitjson.proofs.bytes.words_of_items.Given as goal
+use Rattle.bitjson.proofs.values.words_of_items.Given as goal
 
 abbrev pub invariant-loop-index : goal.invariant-loop-index
 invariant-loop-index l = record {

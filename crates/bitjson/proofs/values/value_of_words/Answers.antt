@@ -4,7 +4,7 @@ use Rattle.std.proofs.lemmas.Simd.{map-map}
 use Rattle.serde_json.specs.Data.{number, unsigned}
 use Rattle.bitjson.specs.Form.{object_of}
 use Rattle.bitjson.specs.Bytes.{bytes_of, byte_of}
-use Rattle.bitjson.proofs.bytes.value_of_words.Goals as goal
+use Rattle.bitjson.proofs.values.value_of_words.Goals as goal
 
 pub returns : goal.returns
 unfolding bytes_of object_of

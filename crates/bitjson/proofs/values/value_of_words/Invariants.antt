@@ -3,7 +3,7 @@ use Rattle.std.specs.List.{range_with_len}
 use Rattle.serde_json.specs.Data.{number, unsigned}
 use Rattle.serde_json.specs.View.{view}
 use Rattle.bitjson.specs.Bytes.{byte_of}
-use Rattle.bitjson.proofs.bytes.value_of_words.Given as goal
+use Rattle.bitjson.proofs.values.value_of_words.Given as goal
 
 -- an item for each byte so far
 abbrev pub invariant-loop-index : goal.invariant-loop-index
