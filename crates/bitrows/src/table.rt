@@ -170,6 +170,7 @@ impl BitRows {
     /// assert!(rt; !table.union_rows(0, 2) && !table.union_rows(0, 0));
     /// assert!(rt; table.get(2, 69) && !table.get(1, 69));
     /// ```
+    #[inline]
     #[tactic(auto, using(crate::proofs::RowWords::given_back, crate::proofs::RowWords::viewed_rows, crate::proofs::RowWords::viewed_columns))]
     pub fn union_rows(&mut self, from: usize, into: usize) -> bool
         requires from { from < length self.old.rows }

@@ -13,12 +13,14 @@ ghost use Rattle.std.specs.Int.{bit_not, w64};
 ghost use Rattle.std.specs.Iterator.{item_count, UpTo};
 ghost use Rattle.std.specs.Iterator.SizeHint.{IsWithinCount};
 ghost use Rattle.bitlanes.specs.Word.{IsLowestBit, ClearsBit};
+ghost use Rattle.bitlanes.specs.Words.{lane_steps};
 ghost use Rattle.bitwords.specs.RowFacts.{AreWords};
 ghost use Rattle.bitwords.specs.Walk.{GivesFirst, GivesLast, over_row, range_row};
 ghost use Rattle.bitwalks.specs.Pairs.{WalksFront, WalksBack};
 ghost use Rattle.bitwalks.specs.PairsFacts.{walk_stays, walk_stays_back};
 
 use crate::in_turn::Part;
+use bitlanes::counter::Steps;
 use bitlanes::word::{Block, take_lowest_bit};
 use bitwords::cursors::{Cursor, Inverted, Plain, ones_within, zeroes_within};
 use std::alloc::Global;
@@ -198,6 +200,26 @@ impl IntoOnes {
         IntoOnes {
             owned: Cursor::over(words.into_iter()),
         }
+    }
+
+    /// How many positions are left. It asks that this number fits `usize`.
+    ///
+    /// It goes over the words and over no positions, in as many steps as
+    /// [`Cursor::count_left`](bitwords::cursors::Cursor::count_left).
+    ///
+    /// ```
+    /// let words = [8, 0, 1].to_vec(alloc)?;
+    /// let walk = IntoOnes::over(words);
+    /// assert_eq!(rt; walk.count_left(&mut Steps::new()), 2);
+    /// ```
+    #[inline]
+    pub fn count_left(self, steps: &mut Steps) -> usize
+        requires { length self.items < 2 ^ 64 }
+        ensures value { result ≡ length self.items }
+        ensures cost { steps.new ≤ steps.old + lane_steps (length self.words) + 2 }
+    {
+        let IntoOnes { owned } = self;
+        owned.count_left(steps)
     }
 
     /// The same as `Ones::last_positive_bit_and_unset`.

@@ -25,6 +25,7 @@ impl FixedBitSet {
     /// set.union_of(&one, &other)?;
     /// assert_eq!(rt; set.as_slice(), [10, 1].as_slice());
     /// ```
+    #[inline]
     #[tactic(auto, using(crate::proofs::Words::given_back, crate::proofs::Words::viewed_length))]
     pub fn union_of(&mut self, one: &Self, other: &Self) -> Result<(), AllocError>
         ensures ok { OnOk result (self.new ≡ sets.union one.now other.now) }
@@ -50,6 +51,7 @@ impl FixedBitSet {
     /// set.symmetric_difference_of(&one, &other)?;
     /// assert_eq!(rt; set.as_slice(), [2, 1].as_slice());
     /// ```
+    #[inline]
     #[tactic(auto, using(crate::proofs::Words::given_back, crate::proofs::Words::viewed_length))]
     pub fn symmetric_difference_of(&mut self, one: &Self, other: &Self) -> Result<(), AllocError>
         ensures ok { OnOk result (self.new ≡ sets.symmetric_difference one.now other.now) }
@@ -74,6 +76,7 @@ impl FixedBitSet {
     /// set.intersection_of(&one, &other)?;
     /// assert_eq!(rt; set.as_slice(), [8].as_slice());
     /// ```
+    #[inline]
     #[tactic(auto, using(crate::proofs::Words::given_back, crate::proofs::Words::viewed_length))]
     pub fn intersection_of(&mut self, one: &Self, other: &Self) -> Result<(), AllocError>
         ensures ok { OnOk result (self.new ≡ sets.bitand one.now other.now) }
@@ -99,6 +102,7 @@ impl FixedBitSet {
     /// set.difference_of(&one, &other)?;
     /// assert_eq!(rt; set.as_slice(), [2].as_slice());
     /// ```
+    #[inline]
     #[tactic(auto, using(crate::proofs::Words::given_back, crate::proofs::Words::viewed_length))]
     pub fn difference_of(&mut self, one: &Self, other: &Self) -> Result<(), AllocError>
         ensures ok { OnOk result (self.new ≡ sets.difference one.now other.now) }

@@ -34,6 +34,7 @@ impl FixedBitSet {
     /// let part = set.slice(alloc, 63..68)?;
     /// assert!(rt; part.ones().eq([0, 2]));
     /// ```
+    #[inline]
     pub fn slice<R: IndexRange<usize> + Drop>(
         &self,
         alloc: Global,
@@ -126,6 +127,7 @@ impl FixedBitSet {
     /// set.append(&other)?;
     /// assert!(rt; set.len() == 69 && set.contains(68));
     /// ```
+    #[inline]
     pub fn append(&mut self, other: &Self) -> Result<(), AllocError>
         requires { self.old.length + other.now.length < 2 ^ 64 }
         ensures ok { OnOk result (self.new ≡ parts.append self.old other.now) }
@@ -148,6 +150,7 @@ impl FixedBitSet {
     /// assert_eq!(rt; set.len(), 3);
     /// assert_eq!(rt; set.as_slice(), [2].as_slice());
     /// ```
+    #[inline]
     pub fn truncate(&mut self, bits: usize)
         ensures { self.new ≡ parts.truncate self.old bits }
     {
@@ -169,6 +172,7 @@ impl FixedBitSet {
     /// set.resize(3, true)?;
     /// assert!(rt; set.ones().eq([1]));
     /// ```
+    #[inline]
     pub fn resize(&mut self, bits: usize, enabled: bool) -> Result<(), AllocError>
         ensures ok { OnOk result (self.new ≡ parts.resize self.old bits enabled) }
         ensures err { OnErr result (self.new ≡ self.old) }

@@ -74,6 +74,7 @@ impl FixedBitSet {
     /// assert_eq!(rt; set.len(), 70);
     /// assert_eq!(rt; set.as_slice(), [0, 0].as_slice());
     /// ```
+    #[inline]
     pub fn with_capacity(alloc: Global, bits: usize) -> Result<Self, AllocError>
         ensures { IfOk result (λ set. set ≡ model.empty bits) }
     {
@@ -111,6 +112,7 @@ impl FixedBitSet {
     /// assert_eq!(rt; set.as_slice(), [1, 7].as_slice());
     /// assert!(rt; set.contains(66) && !set.contains(67));
     /// ```
+    #[inline]
     pub fn with_capacity_and_blocks<I: IntoIterator<Item = Block>>(
         alloc: Global,
         bits: usize,
@@ -175,6 +177,7 @@ impl FixedBitSet {
     /// assert_eq!(rt; set.len(), 3);
     /// assert_eq!(rt; set.as_slice(), [5].as_slice());
     /// ```
+    #[inline]
     pub fn clone_from(&mut self, source: &Self) -> Result<(), AllocError>
         ensures ok { OnOk result (self.new ≡ source.now) }
         ensures err { OnErr result (self.new ≡ self.old) }
@@ -200,6 +203,27 @@ impl FixedBitSet {
         steps.tick_lanes(source.words.len());
         self.length = source.length;
         Ok(())
+    }
+
+    /// A set of the length and the positions of a view, in memory of its own. It writes each word
+    /// once.
+    ///
+    /// `Err` comes only where memory for the words was refused. Upstream has no such call.
+    ///
+    /// ```
+    /// let mut words = [9, 2, 0, 0];
+    /// let lent = BitsMut::settle(&mut words, 70, 70);
+    /// let set = FixedBitSet::from_bits(alloc, lent.as_bits())?;
+    /// assert_eq!(rt; set.as_slice(), [9, 2].as_slice());
+    /// ```
+    #[inline]
+    pub fn from_bits(alloc: Global, bits: Bits<'_>) -> Result<Self, AllocError>
+        ensures { IfOk result (λ set. set ≡ value bits.entry) }
+    {
+        Ok(FixedBitSet {
+            words: copied(alloc, bits.words)?,
+            length: bits.length,
+        })
     }
 
     /// The set as a view, to be read: no word is copied.
@@ -251,6 +275,7 @@ impl FixedBitSet {
     /// assert_eq!(rt; set.len(), 70);
     /// assert_eq!(rt; set.as_slice(), [0, 0].as_slice());
     /// ```
+    #[inline]
     #[tactic(auto, using(crate::proofs::Words::given_back, crate::proofs::Words::viewed_length))]
     pub fn clear(&mut self)
         ensures { self.new ≡ model.empty self.old.length }
@@ -316,6 +341,7 @@ impl Clone for FixedBitSet {
     /// assert_eq!(rt; copy.len(), 65);
     /// assert!(rt; set.contains(64) && !copy.contains(64));
     /// ```
+    #[inline]
     fn clone(&self) -> Result<Self, AllocError> {
         Ok(FixedBitSet {
             words: copied(*self.words.allocator(), self.words.as_slice())?,
@@ -325,6 +351,7 @@ impl Clone for FixedBitSet {
 }
 
 // A row of words in memory of its own.
+#[inline]
 fn copied(alloc: Global, words: &[Block]) -> Result<Vec<Block>, AllocError>
     ensures { IfOk result (λ copy. copy.items ≡ words.now) }
 {

@@ -4,11 +4,13 @@
 ghost use Rattle.std.specs.Prelude.{◌≡◌, ℕ, ◌+◌, ◌<◌, Some, get_or};
 ghost use Rattle.std.specs.Int.{bit_at};
 ghost use Rattle.std.specs.Fmt.{WritesStyledOnOk, formatter_spec, spec_alternate};
+ghost use Rattle.std.specs.Str.{IsUtf8};
 ghost use Rattle.fixedbitset.specs.Text.{text, prefix, styled_text};
 
 use crate::set::FixedBitSet;
 use bitlanes::word::{BITS, Block};
-use std::fmt::{self, Binary, Display};
+use std::fmt;
+use std::fmt::{Binary, Display};
 
 impl Display for FixedBitSet {
     ghost output = { λ v. Some (text v) };
@@ -73,12 +75,19 @@ impl FixedBitSet {
         for word in self.as_slice() {
             put_digits(*word, &mut digits);
             let count = left.min(BITS);
-            // The digits are ASCII.
-            f.write_str(unsafe { str::from_utf8_unchecked(&digits[..count]) })?;
+            f.write_str(text_of(&digits[..count]))?;
             left -= count;
         }
         Ok(())
     }
+}
+
+// The digits as a text: they are ASCII.
+fn text_of(digits: &[u8]) -> &str
+    requires { IsUtf8 digits.now }
+    ensures { result.now ≡ digits.now }
+{
+    unsafe { str::from_utf8_unchecked(digits) }
 }
 
 // Makes the bits of a word characters, the lowest bit first.

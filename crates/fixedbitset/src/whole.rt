@@ -28,6 +28,7 @@ impl FixedBitSet {
     /// assert_eq!(rt; set.len(), 65);
     /// assert_eq!(rt; set.as_slice(), [10, 1].as_slice());
     /// ```
+    #[inline]
     pub fn union_with(&mut self, other: &Self) -> Result<(), AllocError>
         ensures ok { OnOk result (self.new ≡ sets.union self.old other.now) }
         ensures err { OnErr result (self.new ≡ self.old) }
@@ -48,6 +49,7 @@ impl FixedBitSet {
     /// assert_eq!(rt; set.len(), 65);
     /// assert_eq!(rt; set.as_slice(), [2, 1].as_slice());
     /// ```
+    #[inline]
     pub fn symmetric_difference_with(&mut self, other: &Self) -> Result<(), AllocError>
         ensures ok { OnOk result (self.new ≡ sets.symmetric_difference self.old other.now) }
         ensures err { OnErr result (self.new ≡ self.old) }
@@ -101,6 +103,7 @@ impl FixedBitSet {
     /// assert!(rt; set.union_with_change(&other)?);
     /// assert!(rt; !set.union_with_change(&other)?);
     /// ```
+    #[inline]
     pub fn union_with_change(&mut self, other: &Self) -> Result<bool, AllocError>
         ensures ok { OnOk result (self.new ≡ sets.union self.old other.now) }
         ensures changed { IfOk result
@@ -159,6 +162,7 @@ impl FixedBitSet {
     /// assert!(rt; set.union_with_difference(&gens, &kills)?);
     /// assert_eq!(rt; set.as_slice(), [10, 1].as_slice());
     /// ```
+    #[inline]
     pub fn union_with_difference(&mut self, gens: &Self, kills: &Self) -> Result<bool, AllocError>
         ensures ok { OnOk result
             (self.new ≡ sets.union self.old (sets.difference gens.now kills.now)) }
@@ -218,6 +222,7 @@ impl FixedBitSet {
     /// assert_eq!(rt; both.len(), 6);
     /// assert_eq!(rt; both.as_slice(), [8].as_slice());
     /// ```
+    #[inline]
     pub fn bitand(&self, other: &Self) -> Result<Self, AllocError>
         ensures { IfOk result (λ set. set ≡ sets.bitand self.now other.now) }
     {
@@ -237,6 +242,7 @@ impl FixedBitSet {
     /// assert_eq!(rt; either.len(), 65);
     /// assert_eq!(rt; either.as_slice(), [42, 1].as_slice());
     /// ```
+    #[inline]
     pub fn bitor(&self, other: &Self) -> Result<Self, AllocError>
         ensures { IfOk result (λ set. set ≡ sets.union self.now other.now) }
     {
@@ -256,6 +262,7 @@ impl FixedBitSet {
     /// assert_eq!(rt; one.len(), 65);
     /// assert_eq!(rt; one.as_slice(), [34, 1].as_slice());
     /// ```
+    #[inline]
     pub fn bitxor(&self, other: &Self) -> Result<Self, AllocError>
         ensures { IfOk result (λ set. set ≡ sets.symmetric_difference self.now other.now) }
     {

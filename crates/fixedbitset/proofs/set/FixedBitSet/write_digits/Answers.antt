@@ -6,8 +6,8 @@ use Rattle.fixedbitset.proofs.Texts.{AreDigits, characters, digits_are_text}
 use Rattle.fixedbitset.proofs.Texts.{characters_of_word, characters-append, text_is}
 use Rattle.fixedbitset.proofs.set.FixedBitSet.write_digits.Goals as goal
 
-pub from_utf8_unchecked-requires : goal.from_utf8_unchecked-requires
-from_utf8_unchecked-requires g c =
+pub text_of-requires : goal.text_of-requires
+text_of-requires g c =
     let d : AreDigits (get_or c.as_slice-word-items.result.now c.loop-word.word-index 0) c.put_digits.new.digits =
     record { count = c.put_digits.array_long; bits = c.put_digits.ensures } in
     digits_are_text _ _ d c.min-count.result (omega arith)
@@ -24,7 +24,7 @@ loop-word-preserved g c =
     ∙ get_or-words v k inside in
     let digits : AreDigits (word v k) c.put_digits.new.digits =
     record { count = c.put_digits.array_long; bits = rw read at c.put_digits.ensures } in
-    let text : c.from_utf8_unchecked.result.now ≡ characters v (64 * k) count = c.from_utf8_unchecked.ensures
+    let text : c.text_of.result.now ≡ characters v (64 * k) count = c.text_of.ensures
     ∙ characters_of_word v k count _ (omega arith) digits in
     let before : v.length - c.loop-word.left ≡ 64 * k = omega arith in
     let after : 64 * k + count ≡ v.length - (c.loop-word.left - count) = omega arith in
@@ -32,7 +32,7 @@ loop-word-preserved g c =
       left = omega arith;
       written = λ flush.
           let so_far = c.loop-word.invariant.written flush in
-          has_written_styled_of_eq _ _ _ _ _ (ap (λ n. characters v 0 n ++ c.from_utf8_unchecked.result.now) before
+          has_written_styled_of_eq _ _ _ _ _ (ap (λ n. characters v 0 n ++ c.text_of.result.now) before
           ∙ ap (λ t. characters v 0 (64 * k) ++ t) text ∙ characters-append v (64 * k) count _ after)
           (has_written_styled_append _ _ _ _ _ _ so_far (c.in_ok-write_str.ensures.styled so_far.flush refl));
     }
