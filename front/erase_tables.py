@@ -4,23 +4,41 @@ A construct is added with a reason, and with a case in front/check_erase. That a
 """
 import dataclasses
 
-# The modules of each crate.
+# The modules of each crate: all of a set but its JSON, but the walks over two sets that look up each item (the crate has those of
+# the views), and but the operators (a trait of Rust has another result).
 CRATES = {
-    "bitlanes": ["carries", "changes", "counter", "lanes", "ops", "search", "shifts", "word"],
-    "bitwords": ["cursors", "gaps", "handfuls", "joins", "positions", "ranges", "shifts"],
-    "bitwalks": ["in_turn", "runs"],
-    "bitjson": ["fills"],
-    "fixedbitset": ["views", *("views/" + name for name in (
-        "bytes", "changes", "copies", "gaps", "neighbours", "positions", "ranges", "shifts", "walks", "whole"))],
-    "bitranks": ["directory"],
-    "bitrows": ["views", "views/changes", "views/reads"],
+    "bitlanes": ["carries", "changes", "counter", "lanes", "ops", "range", "search", "shifts", "word"],
+    "bitwords": ["cursors", "gaps", "handfuls", "joins", "new_rows", "positions", "ranges", "shifts"],
+    "bitwalks": ["in_turn", "runs", "walks"],
+    "bitjson": ["bytes", "fills"],
+    "fixedbitset": [
+        "bits", "counted", *("counted/" + name for name in ("changes", "copies", "ranges", "shifts", "whole")), "extend",
+        "neighbours", "of_two", "order", "parts", "questions", "ranges", "set", "shifts", "text", "views",
+        *("views/" + name for name in (
+            "bytes", "changes", "copies", "gaps", "neighbours", "positions", "ranges", "shifts", "walks", "whole")),
+        "walks", "whole"],
+    "bitranks": ["counted", "directory", "ranks"],
+    "bitrows": ["counted", "table", "views", "views/changes", "views/reads"],
 }
 # The items that are written otherwise, by their source. `Block` is `usize` where that has 64 bits, as upstream's is, else `u64`.
-WRITTEN = {("crates/bitlanes/src/word.rt", "pub type Block = u64 ;"): "pub use shim::Block;"}
+# A text of ASCII digits is made with no test in Rattle, which in Rust is `unsafe`.
+WRITTEN = {
+    ("crates/bitlanes/src/word.rt", "pub type Block = u64 ;"): "pub use shim::Block;",
+    ("crates/fixedbitset/src/text.rt",
+     "fn text_of ( digits : & [ u8 ] ) -> & str { unsafe { str :: from_utf8_unchecked ( digits ) } }"): "use shim::text_of;",
+}
+# The names that Rattle's prelude brings into each module and that mean something else in Rust: the shim has them, and a module
+# that has one imports it. A type with an `impl Clone` copies itself by a call that may be refused memory.
+PRELUDE = {"Clone", "Vec"}
+# The macros, by what stands behind the name: `vec![in alloc; item; count]` makes a row, or says where memory is refused.
+MACROS = {"vec ! [ in": "crate::shim::row"}
 
 # The attributes that stay, and those that go beside `tactic`.
 ATTRIBUTES = {"[ inline ]", "[ inline ( always ) ]", "[ inline ( never ) ]", "[ cold ]", "[ derive ( Clone , Copy ) ]"}
-DROPPED = {"[ derive ( Drop ) ]", "[ repr ( C ) ]", "[ unsafe ( no_mangle ) ]"}
+DROPPED = {"[ derive ( Drop ) ]", "[ derive ( Debug , Drop ) ]", "[ repr ( C ) ]",
+           "[ unsafe ( no_mangle ) ]", '[ error ( "no memory" ) ]', '[ error ( "position too great" ) ]'}
+# Those of which `Drop` and the traits of other crates go.
+LIGHTER = {"[ derive ( Debug , Drop , Error ) ]": "#[derive(Debug)]"}
 KEYWORDS = set("as break const continue else enum fn for if impl in let loop match mod mut pub return self Self struct trait type "
                "use while true false crate".split())
 # Words and marks of Rust that may not stand in what stays: each would mean something else, or something that nobody has looked
@@ -30,27 +48,37 @@ REFUSED = set("<<= >>= ..= ... *= /= %= abstract async await become box do dyn e
               "f16 f32 f64 f128 char str".split())
 ITEMS = {"const", "enum", "fn", "impl", "mod", "struct", "trait", "type", "use"}
 # The names that stand for themselves: types, variants and traits that Rust brings into each module, and types with paths.
-NAMES = {"Some", "None", "Option", "Iterator", "DoubleEndedIterator", "usize", "u32"}
+NAMES = {"Some", "None", "Option", "Ok", "Err", "Result", "Iterator", "IntoIterator", "DoubleEndedIterator", "PartialEq", "Eq",
+         "PartialOrd", "Ord", "Copy", "usize", "u32"}
+# Those of them, and of std's, that may be bounds, with a parameter or without.
+BOUNDS = {"Copy", "Hasher", "IntoIterator", "Iterator"}
 # The imports that go, with what they are of.
-GONE = {"Model": "std::marker", "Global": "std::alloc"}
+GONE = {"Model": "std::marker", "Error": "thiserror"}
 # What no item may be called, nor what a `use` brings, beside all these: it is dropped, added or written by this name.
-RESERVED = set("Clone Copy Drop Sized alloc bool core shim std u8".split())
+RESERVED = set("Drop Global Sized alloc bool core shim std u8".split()) | PRELUDE
 # The types whose last parameter is the allocator `Global`, and the types of others that have a trait of these modules, none of
 # whose methods has the name of a method that such a type has by itself.
 ALLOCATED = {"IntoIter"}
-FOREIGN = {"Middle for IntoIter"}
+FOREIGN = {"Middle for IntoIter", *(f"IndexRange for {it}" for it in (
+    "Range", "RangeFrom", "RangeFull", "RangeInclusive", "RangeTo", "RangeToInclusive"))}
 # The modules of std that are used, and what stands for them.
-STD = {"cmp": "core", "iter": "core", "marker": "core", "mem": "core", "vec": "alloc", "simd": "crate::shim",
-       "snapshot": "crate::shim"}
+STD = {"alloc": "crate::shim", "cmp": "core", "fmt": "core", "hash": "core", "iter": "core", "marker": "core", "mem": "core",
+       "ops": "core", "vec": "alloc", "simd": "crate::shim", "snapshot": "crate::shim"}
 # What is named of modules and types that are not of these modules.
 MEMBERS = {"cmp": {"Ordering"}, "iter": {"FusedIterator"}, "marker": {"PhantomData"}, "mem": {"replace"}, "vec": {"IntoIter"},
-           "simd": {"prelude"}, "prelude": {"u64x4"}, "snapshot": {"Snapshot"}, "shim": {"Block"},
+           "alloc": {"AllocError", "Global"}, "fmt": {"Binary", "Display", "Formatter", "Result"}, "hash": {"Hash", "Hasher"},
+           "ops": {"Range", "RangeFrom", "RangeFull", "RangeInclusive", "RangeTo", "RangeToInclusive"},
+           "simd": {"prelude"}, "prelude": {"u64x4"}, "snapshot": {"Snapshot"}, "shim": {"Block", "text_of"},
            "Block": {"MAX", "from_le_bytes"}, "u64x4": {"from_array", "from_slice", "splat"}, "Snapshot": {"of"},
-           "Ordering": {"Equal"}}
+           "Vec": {"from_clones", "from_slice", "new", "with_capacity"}, "Binary": {"fmt"}, "usize": {"MAX"},
+           "RangeInclusive": {"end", "start"}, "Ordering": {"Equal"}}
 # Methods of Rust, and of the shim. Others have to be declared in these modules.
-METHODS = set("checked_add checked_mul checked_next_multiple_of checked_sub cmp div_ceil leading_zeros max min saturating_sub "
-              "trailing_zeros copied is_empty is_none len split_at_mut split_first split_last unwrap_or rev "
-              "copy_to_slice reduce_or to_array wrapping_add wrapping_sub".split())
+METHODS = set("checked_add checked_mul checked_next_multiple_of checked_sub cmp div_ceil leading_zeros max min saturating_add "
+              "saturating_sub trailing_zeros copied is_empty is_none len split_at_mut split_first split_last unwrap_or rev "
+              "copy_to_slice reduce_or to_array wrapping_add wrapping_sub count_ones iter enumerate zip map map_err take into_iter "
+              "allocator as_mut_slice copy_from_slice extend extend_from_slice resize truncate alternate write_str hash".split())
+# The closures that may stand.
+CLOSURES = {". map ( | ( word , other ) | O :: word ( * word , * other ) )", ". map_err ( | _ | ExtendFault :: Memory )"}
 # The methods that Rust finds by a trait that each type has, or each struct here has by its derive, those of edition 2024 too, and
 # those of its iterators. Rust takes one by value before one of these modules that borrows, so none here may have its name: the
 # first on no type, the others on no iterator and in no trait.
@@ -62,6 +90,9 @@ OF_ITERATORS = set(
     "map_windows max max_by max_by_key min min_by min_by_key ne next next_back next_chunk nth nth_back partial_cmp partial_cmp_by "
     "partition partition_in_place peekable position product reduce rev rfind rfold rposition scan size_hint skip skip_while "
     "step_by sum take take_while try_collect try_find try_fold try_for_each try_reduce try_rfold unzip zip".split())
+# The methods of the other traits of Rust that types here have.
+OF_TRAITS = {"Ord": {"clamp", "cmp", "max", "min"}, "PartialOrd": {"ge", "gt", "le", "lt", "partial_cmp"}, "PartialEq": {"eq", "ne"},
+             "Hash": {"hash"}, "Display": {"fmt", "to_string"}, "Binary": {"fmt"}}
 
 
 @dataclasses.dataclass
@@ -88,8 +119,8 @@ OF_C = Target(
                 "shifts", "sieves", "structs", "walks", "whole"]},
     "crate::",
     below=CRATES,
-    members={"usize": {"MAX"}, "u32": {"MAX"}, "Ordering": {"Greater", "Less"}},
-    methods=set("all enumerate is_some iter iter_mut reverse_bits".split()),
+    members={"u32": {"MAX"}, "Ordering": {"Greater", "Less"}},
+    methods=set("all is_some iter_mut reverse_bits".split()),
     words={"isize"},
     closures={". all ( | position | * position < length )"},
 )

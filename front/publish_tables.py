@@ -6,11 +6,12 @@ import dataclasses
 
 @dataclasses.dataclass(frozen=True)
 class File:
-    """A file of calls: their type, its first lines, and where the call has its set to be read."""
+    """A file of calls: their type, its first lines, where the call has its set to be read, and the modules of a set's calls."""
 
     owner: str
     head: str
     bits: str
+    modules: tuple = ()
 
 
 @dataclasses.dataclass(frozen=True)
@@ -23,18 +24,24 @@ class Form:
 
 @dataclasses.dataclass(frozen=True)
 class Result:
-    """What a call answers: its type, how that is made of the proved answer, and what the docs call it."""
+    """What a call answers: its type, how that is made of the proved answer, and what the docs call it; and both once more of the
+    call that says where memory is refused."""
 
     kind: str
     made: str
     said: str = "the answer"
+    tried: str = ""
+    try_made: str = "{}"
 
 
 FILES = {
     "published_reads.rs": File("Bits", """\
 //! The calls of the views that read a set over lent words.
 use crate::proved::bitlanes::Steps;
-use crate::{Bits, Block, Difference, IndexRange, Intersection, Ones, Runs, Zeroes};
+use crate::{
+    Bits, Block, Difference, IndexRange, Intersection, Ones, Runs, SymmetricDifference, Union,
+    Zeroes,
+};
 
 impl<'a> Bits<'a> {
 """, "self"),
@@ -45,17 +52,35 @@ use crate::{Bits, BitsMut, Block, IndexRange};
 
 impl BitsMut<'_> {
 """, "self.as_bits()"),
+    "published_sets.rs": File("FixedBitSet", """\
+//! The calls of a set, by those of views and by its own.
+use crate::memory::OrAbort;
+use crate::proved::bitlanes::Steps;
+use crate::proved::fixedbitset::set;
+use crate::shim::alloc::Global;
+use crate::{
+    AllocError, Block, Difference, FixedBitSet, IndexRange, Intersection, IntoOnes, Ones, Runs,
+    SymmetricDifference, Union, Zeroes,
+};
+use alloc::vec::Vec;
+
+impl FixedBitSet {
+""", "self.as_bits()", ("set", "bits", "ranges", "questions", "whole", "of_two", "parts", "shifts", "neighbours", "walks", "pairs",
+                        "extend")),
 }
 
 # The lines of a call, and its one call, which `made` of its result and `handed` of its parameters stand in.
 METHOD = """\
-    #[inline]
-{track}    pub fn {name}{generics}({parameters}){result} {{
+{inline}{track}    pub fn {name}{generics}({parameters}){result} {{
 {tests}        {made}
     }}
 """
+INLINE = "    #[inline]\n"
 TRACK = "    #[track_caller]\n"
 CALL = "self.view.{name}({handed})"
+# A call of a set by its own, on a set and on none, and what stands before one of a view that changes a range.
+SET, OF_SETS = "self.set.", "set::FixedBitSet::"
+DIRECT = "        let (start, end) = self.as_bits().part(&range);\n"
 
 OF_RESULT = "the length is not that of the result"
 # What a call asks, by the clauses `requires` that stand next to each other. They speak of the values before the call alone, so
@@ -78,6 +103,8 @@ FORMS = {
     ("self.length ≡ max one.length other.length",): Form("self.assert_length(one.len().max(other.len()));", OF_RESULT),
     ("self.length ≡ min one.length other.length",): Form("self.assert_length(one.len().min(other.len()));", OF_RESULT),
     ("self.length ≡ one.length",): Form("self.assert_length(one.len());", OF_RESULT),
+    ("prelude.length positions ≡ prelude.length answers",): Form(
+        "self.assert_like(positions, answers);", "there are not as many answers as positions"),
     ("gens.length ≤ self.length",): Form("self.assert_no_longer(gens);", "`gens` is longer, as this set does not grow"),
 }
 
@@ -87,6 +114,7 @@ PARAMETERS = {
     "bool": ("bool", "{}"),
     "&[usize]": ("&[usize]", "{}"),
     "&[u8]": ("&[u8]", "{}"),
+    "&mut [bool]": ("&mut [bool]", "{}"),
     "Bits<'_>": ("Bits<'_>", "{}.view"),
     "Bits<'a>": ("Bits<'a>", "{}.view"),
     "value: Block": ("Block", "{}"),
@@ -106,10 +134,54 @@ RESULTS = {
     "Cursor<Inverted<'a>>": Result("Zeroes<'a>", "let walk = {};\n        Zeroes {{ walk }}", "each item"),
     "Cursor<Beside<'a, And>>": Result("Intersection<'a>", "let walk = {};\n        Intersection {{ walk }}", "each item"),
     "Cursor<Beside<'a, AndNot>>": Result("Difference<'a>", "let walk = {};\n        Difference {{ walk }}", "each item"),
+    "InTurn<Cursor<Plain<'a>>, Cursor<Beside<'a, AndNot>>>": Result(
+        "Union<'a>", "let walk = {};\n        Union {{ walk }}", "each item"),
+    "InTurn<Cursor<Beside<'a, AndNot>>, Cursor<Beside<'a, AndNot>>>": Result(
+        "SymmetricDifference<'a>", "let walk = {};\n        SymmetricDifference {{ walk }}", "each item"),
     "Runs<'a>": Result("Runs<'a>", "let walk = {};\n        Runs {{ walk }}", "each stretch"),
 }
 
+# The same of a set's own calls.
+SET_FORMS = {
+    ("(it : I.IntoIter) → I.into_iter_gives blocks it → I.IntoIter.can_next it",): Form("", ""),
+    ("IsTrue (over ranges.is_valid self (R.start_of range) (R.end_of range))",): Form(
+        "let (start, end) = self.as_bits().part(&range);", "the range is not valid"),
+    ("self.length + other.length < 2 ^ 64",): Form("self.assert_sum(other);", "the sum of the lengths is past `usize::MAX`"),
+}
+# (`{}` in a type stands for the name.)
+SET_PARAMETERS = {
+    "alloc: Global": ("", "Global::{alloc}"),
+    "usize": ("{}: usize", "{}"),
+    "bool": ("{}: bool", "{}"),
+    "&[u8]": ("{}: &[u8]", "{}"),
+    "&Self": ("{}: &FixedBitSet", "&{}.set"),
+    "range: R": ("range: T", "start..end"),
+    "blocks: I": ("{}: I", "{}"),
+}
+SET_RESULTS = {
+    "bool": Result("bool", "{}"),
+    "usize": Result("usize", "{}"),
+    "": Result("", "{};", ""),
+    "IntoOnes": Result("IntoOnes", "let walk = {};\n        IntoOnes {{ walk }}", "each item"),
+    "Result<(), AllocError>": Result("", "{}.or_abort();", "", "Result<(), AllocError>"),
+    "Result<bool, AllocError>": Result("bool", "{}.or_abort()", "the answer", "Result<bool, AllocError>"),
+    "Result<Self, AllocError>": Result(
+        "Self", "let set = {}.or_abort();\n        FixedBitSet {{ set }}", "the set",
+        "Result<Self, AllocError>", "let set = {}?;\n        Ok(FixedBitSet {{ set }})"),
+    "Result<Vec<u8>, AllocError>": Result(
+        "Vec<u8>", "{}.or_abort().into_vec()", "the bytes", "Result<Vec<u8>, AllocError>", "Ok({}?.into_vec())"),
+}
+# Calls that go over words and are no part of the program of each that makes them.
+OUTLINED = {"union_with", "symmetric_difference_with", "union_with_change", "union_with_difference"}
+# Sentences with one of these speak of what the call of the crate has not.
+LEFT_OUT = ("`Err`", "The set is then as it was.", "(`range_is_valid`)", "`to_value`")
+
+# Calls of a walk in turn that have another name as Rust's traits have them.
+RENAMED = {"take_first": "next", "take_last": "next_back"}
+
 # The proved calls that are not made public, by their type, where they are methods, each with the reason.
+TRAIT = "it is a trait's"
+UNSAFE = "upstream has it as an `unsafe fn`, in unchecked.rs"
 WRITES = "it writes words that are no set yet: the calls of sets that are written give it these"
 HIDDEN = {
     ("", "storage_words"): "views.rs hands it on",
@@ -128,10 +200,26 @@ HIDDEN = {
     ("BitsMut", "over"): "views.rs makes the type by it",
     ("BitsMut", "settle"): "views.rs makes the type by it",
     ("BitsMut", "as_bits"): "views.rs makes the other type by it",
+    ("FixedBitSet", "new"): "it is a `const fn` in lib.rs",
+    ("FixedBitSet", "default"): TRAIT,
+    ("FixedBitSet", "from_iter"): "it is a trait's, and memory.rs has the call that says where memory is refused",
+    ("FixedBitSet", "extend"): "it is a trait's, and memory.rs has the call that says where memory is refused",
+    ("FixedBitSet", "clone_from"): "it is a trait's, and memory.rs has the call that says where memory is refused",
+    ("FixedBitSet", "from_bits"): "it is a trait's, and memory.rs has the call that says where memory is refused",
+    ("FixedBitSet", "bitor_assign"): TRAIT,
+    ("FixedBitSet", "bitxor_assign"): TRAIT,
+    ("FixedBitSet", "bitand"): TRAIT,
+    ("FixedBitSet", "bitor"): TRAIT,
+    ("FixedBitSet", "bitxor"): TRAIT,
+    ("FixedBitSet", "as_bits"): "views.rs makes the type by it",
+    ("FixedBitSet", "range_is_valid"): "`part` asks a view of each range",
+    ("FixedBitSet", "grow_and_insert"): "in lib.rs it is two calls, so that one with room saves no registers",
+    **{("FixedBitSet", f"{it}_unchecked"): UNSAFE for it in ("contains", "insert", "remove", "put", "toggle", "set", "copy_bit")},
 }
 
 # All text of Rust in these tables.
 TEMPLATES = [
-    METHOD, TRACK, CALL, *(it.head for it in FILES.values()), *(it.test for it in FORMS.values()),
+    METHOD, INLINE, TRACK, CALL, SET, OF_SETS, DIRECT, *(it.test for it in SET_FORMS.values()),
+    *(it for pair in SET_PARAMETERS.values() for it in pair), *(text for it in SET_RESULTS.values() for text in (it.made, it.try_made)), *(it.head for it in FILES.values()), *(it.test for it in FORMS.values()),
     *(handed for _, handed in PARAMETERS.values()), *(it.made for it in RESULTS.values()),
 ]

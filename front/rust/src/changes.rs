@@ -1,5 +1,5 @@
 //! The length of a set over lent words that may change, and the panics of the calls that change one.
-use crate::{panics, Bits, BitsMut};
+use crate::{panics, Bits, BitsMut, FixedBitSet};
 
 impl BitsMut<'_> {
     /// [`FixedBitSet::len`](crate::FixedBitSet::len).
@@ -82,5 +82,28 @@ impl BitsMut<'_> {
         if length != self.len() {
             panics::unfit(length, self.len());
         }
+    }
+}
+
+impl FixedBitSet {
+    /// The panic of a call that adds the lengths.
+    #[inline]
+    #[track_caller]
+    pub(crate) fn assert_sum(&self, other: &FixedBitSet) {
+        if self.len().checked_add(other.len()).is_none() {
+            panics::no_length();
+        }
+    }
+}
+
+#[cfg(test)]
+mod tests {
+    use crate::FixedBitSet;
+
+    #[test]
+    #[should_panic(expected = "no set has so great a length")]
+    fn a_length_past_the_greatest_panics() {
+        let mut set = FixedBitSet::of_length(usize::MAX);
+        set.append(&FixedBitSet::with_capacity(1));
     }
 }

@@ -1,6 +1,7 @@
 //! Operators, and sets from positions, put together from the calls.
 //!
 //! `|` and `^` join a copy of the longer set with the shorter one. So nothing has to grow, and the call refuses nothing.
+use crate::memory::OrAbort;
 use crate::FixedBitSet;
 use core::ops::{BitAnd, BitAndAssign, BitOr, BitOrAssign, BitXor, BitXorAssign, Index};
 
@@ -11,10 +12,8 @@ impl BitAnd for &FixedBitSet {
 
     /// The positions of both sets, with the length of the shorter.
     fn bitand(self, other: &FixedBitSet) -> FixedBitSet {
-        let (shorter, longer) = by_length(self, other);
-        let mut set = shorter.clone();
-        set.intersect_with(longer);
-        set
+        let set = self.set.bitand(&other.set).or_abort();
+        FixedBitSet { set }
     }
 }
 
@@ -25,10 +24,8 @@ impl BitOr for &FixedBitSet {
 
     /// The positions of either set, with the length of the longer.
     fn bitor(self, other: &FixedBitSet) -> FixedBitSet {
-        let (shorter, longer) = by_length(self, other);
-        let mut set = longer.clone();
-        set.as_bits_mut().union_with(shorter.as_bits());
-        set
+        let set = self.set.bitor(&other.set).or_abort();
+        FixedBitSet { set }
     }
 }
 
@@ -39,23 +36,8 @@ impl BitXor for &FixedBitSet {
 
     /// The positions of exactly one set, with the length of the longer.
     fn bitxor(self, other: &FixedBitSet) -> FixedBitSet {
-        let (shorter, longer) = by_length(self, other);
-        let mut set = longer.clone();
-        set.as_bits_mut()
-            .symmetric_difference_with(shorter.as_bits());
-        set
-    }
-}
-
-/// The shorter set, and the longer one.
-fn by_length<'a>(
-    set: &'a FixedBitSet,
-    other: &'a FixedBitSet,
-) -> (&'a FixedBitSet, &'a FixedBitSet) {
-    if set.len() <= other.len() {
-        (set, other)
-    } else {
-        (other, set)
+        let set = self.set.bitxor(&other.set).or_abort();
+        FixedBitSet { set }
     }
 }
 
@@ -133,10 +115,7 @@ impl Extend<usize> for FixedBitSet {
     /// Sets each position, and makes the length greater where one needs it. **Panics** at the position `usize::MAX`.
     #[track_caller]
     fn extend<I: IntoIterator<Item = usize>>(&mut self, positions: I) {
-        let mut positions = positions.into_iter();
-        while let Some(past) = self.words.insert_each(&mut positions) {
-            self.grow_and_insert(past);
-        }
+        self.try_extend(positions).or_abort();
     }
 }
 
@@ -145,8 +124,6 @@ impl FromIterator<usize> for FixedBitSet {
     /// The set of these positions, with the least length that has them. **Panics** at the position `usize::MAX`.
     #[track_caller]
     fn from_iter<I: IntoIterator<Item = usize>>(positions: I) -> Self {
-        let mut set = Self::new();
-        set.extend(positions);
-        set
+        Self::try_from_iter(positions).or_abort()
     }
 }

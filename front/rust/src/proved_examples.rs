@@ -5,6 +5,7 @@
 fn bitjson_fills_11() {
     use crate::proved::bitlanes::ops::*;
     use crate::proved::bitlanes::{word, Block, Steps};
+    use crate::proved::bitwalks::in_turn::*;
     use crate::proved::bitwords::cursors::*;
     use crate::proved::bitjson::*;
     use crate::shim::u64x4;
@@ -20,6 +21,7 @@ fn bitjson_fills_11() {
 fn bitjson_fills_28() {
     use crate::proved::bitlanes::ops::*;
     use crate::proved::bitlanes::{word, Block, Steps};
+    use crate::proved::bitwalks::in_turn::*;
     use crate::proved::bitwords::cursors::*;
     use crate::proved::bitjson::*;
     use crate::shim::u64x4;
@@ -35,6 +37,7 @@ fn bitjson_fills_28() {
 fn bitlanes_changes_16() {
     use crate::proved::bitlanes::ops::*;
     use crate::proved::bitlanes::{word, Block, Steps};
+    use crate::proved::bitwalks::in_turn::*;
     use crate::proved::bitwords::cursors::*;
     use crate::proved::bitlanes::*;
     use crate::shim::u64x4;
@@ -51,6 +54,7 @@ fn bitlanes_changes_16() {
 fn bitlanes_changes_47() {
     use crate::proved::bitlanes::ops::*;
     use crate::proved::bitlanes::{word, Block, Steps};
+    use crate::proved::bitwalks::in_turn::*;
     use crate::proved::bitwords::cursors::*;
     use crate::proved::bitlanes::*;
     use crate::shim::u64x4;
@@ -68,6 +72,7 @@ fn bitlanes_changes_47() {
 fn bitlanes_changes_84() {
     use crate::proved::bitlanes::ops::*;
     use crate::proved::bitlanes::{word, Block, Steps};
+    use crate::proved::bitwalks::in_turn::*;
     use crate::proved::bitwords::cursors::*;
     use crate::proved::bitlanes::*;
     use crate::shim::u64x4;
@@ -84,6 +89,7 @@ fn bitlanes_changes_84() {
 fn bitlanes_counter_26() {
     use crate::proved::bitlanes::ops::*;
     use crate::proved::bitlanes::{word, Block, Steps};
+    use crate::proved::bitwalks::in_turn::*;
     use crate::proved::bitwords::cursors::*;
     use crate::proved::bitlanes::*;
     use crate::shim::u64x4;
@@ -99,6 +105,7 @@ fn bitlanes_counter_26() {
 fn bitlanes_counter_40() {
     use crate::proved::bitlanes::ops::*;
     use crate::proved::bitlanes::{word, Block, Steps};
+    use crate::proved::bitwalks::in_turn::*;
     use crate::proved::bitwords::cursors::*;
     use crate::proved::bitlanes::*;
     use crate::shim::u64x4;
@@ -115,6 +122,7 @@ fn bitlanes_counter_40() {
 fn bitlanes_counter_55() {
     use crate::proved::bitlanes::ops::*;
     use crate::proved::bitlanes::{word, Block, Steps};
+    use crate::proved::bitwalks::in_turn::*;
     use crate::proved::bitwords::cursors::*;
     use crate::proved::bitlanes::*;
     use crate::shim::u64x4;
@@ -130,6 +138,7 @@ fn bitlanes_counter_55() {
 fn bitlanes_lanes_29() {
     use crate::proved::bitlanes::ops::*;
     use crate::proved::bitlanes::{word, Block, Steps};
+    use crate::proved::bitwalks::in_turn::*;
     use crate::proved::bitwords::cursors::*;
     use crate::proved::bitlanes::*;
     use crate::shim::u64x4;
@@ -145,6 +154,7 @@ fn bitlanes_lanes_29() {
 fn bitlanes_lanes_56() {
     use crate::proved::bitlanes::ops::*;
     use crate::proved::bitlanes::{word, Block, Steps};
+    use crate::proved::bitwalks::in_turn::*;
     use crate::proved::bitwords::cursors::*;
     use crate::proved::bitlanes::*;
     use crate::shim::u64x4;
@@ -159,6 +169,7 @@ fn bitlanes_lanes_56() {
 fn bitlanes_lanes_76() {
     use crate::proved::bitlanes::ops::*;
     use crate::proved::bitlanes::{word, Block, Steps};
+    use crate::proved::bitwalks::in_turn::*;
     use crate::proved::bitwords::cursors::*;
     use crate::proved::bitlanes::*;
     use crate::shim::u64x4;
@@ -173,6 +184,7 @@ fn bitlanes_lanes_76() {
 fn bitlanes_lanes_104() {
     use crate::proved::bitlanes::ops::*;
     use crate::proved::bitlanes::{word, Block, Steps};
+    use crate::proved::bitwalks::in_turn::*;
     use crate::proved::bitwords::cursors::*;
     use crate::proved::bitlanes::*;
     use crate::shim::u64x4;
@@ -188,6 +200,7 @@ fn bitlanes_lanes_104() {
 fn bitlanes_lanes_125() {
     use crate::proved::bitlanes::ops::*;
     use crate::proved::bitlanes::{word, Block, Steps};
+    use crate::proved::bitwalks::in_turn::*;
     use crate::proved::bitwords::cursors::*;
     use crate::proved::bitlanes::*;
     use crate::shim::u64x4;
@@ -202,6 +215,7 @@ fn bitlanes_lanes_125() {
 fn bitlanes_lanes_140() {
     use crate::proved::bitlanes::ops::*;
     use crate::proved::bitlanes::{word, Block, Steps};
+    use crate::proved::bitwalks::in_turn::*;
     use crate::proved::bitwords::cursors::*;
     use crate::proved::bitlanes::*;
     use crate::shim::u64x4;
@@ -216,6 +230,7 @@ fn bitlanes_lanes_140() {
 fn bitlanes_lanes_169() {
     use crate::proved::bitlanes::ops::*;
     use crate::proved::bitlanes::{word, Block, Steps};
+    use crate::proved::bitwalks::in_turn::*;
     use crate::proved::bitwords::cursors::*;
     use crate::proved::bitlanes::*;
     use crate::shim::u64x4;
@@ -230,6 +245,7 @@ fn bitlanes_lanes_169() {
 fn bitlanes_ops_11() {
     use crate::proved::bitlanes::ops::*;
     use crate::proved::bitlanes::{word, Block, Steps};
+    use crate::proved::bitwalks::in_turn::*;
     use crate::proved::bitwords::cursors::*;
     use crate::proved::bitlanes::*;
     use crate::shim::u64x4;
@@ -245,6 +261,7 @@ fn bitlanes_ops_11() {
 fn bitlanes_ops_33() {
     use crate::proved::bitlanes::ops::*;
     use crate::proved::bitlanes::{word, Block, Steps};
+    use crate::proved::bitwalks::in_turn::*;
     use crate::proved::bitwords::cursors::*;
     use crate::proved::bitlanes::*;
     use crate::shim::u64x4;
@@ -259,6 +276,7 @@ fn bitlanes_ops_33() {
 fn bitlanes_ops_58() {
     use crate::proved::bitlanes::ops::*;
     use crate::proved::bitlanes::{word, Block, Steps};
+    use crate::proved::bitwalks::in_turn::*;
     use crate::proved::bitwords::cursors::*;
     use crate::proved::bitlanes::*;
     use crate::shim::u64x4;
@@ -273,6 +291,7 @@ fn bitlanes_ops_58() {
 fn bitlanes_ops_83() {
     use crate::proved::bitlanes::ops::*;
     use crate::proved::bitlanes::{word, Block, Steps};
+    use crate::proved::bitwalks::in_turn::*;
     use crate::proved::bitwords::cursors::*;
     use crate::proved::bitlanes::*;
     use crate::shim::u64x4;
@@ -287,6 +306,7 @@ fn bitlanes_ops_83() {
 fn bitlanes_ops_108() {
     use crate::proved::bitlanes::ops::*;
     use crate::proved::bitlanes::{word, Block, Steps};
+    use crate::proved::bitwalks::in_turn::*;
     use crate::proved::bitwords::cursors::*;
     use crate::proved::bitlanes::*;
     use crate::shim::u64x4;
@@ -301,6 +321,7 @@ fn bitlanes_ops_108() {
 fn bitlanes_ops_133() {
     use crate::proved::bitlanes::ops::*;
     use crate::proved::bitlanes::{word, Block, Steps};
+    use crate::proved::bitwalks::in_turn::*;
     use crate::proved::bitwords::cursors::*;
     use crate::proved::bitlanes::*;
     use crate::shim::u64x4;
@@ -312,9 +333,28 @@ fn bitlanes_ops_133() {
 }
 
 #[test]
+fn bitlanes_range_12() {
+    use crate::proved::bitlanes::ops::*;
+    use crate::proved::bitlanes::{word, Block, Steps};
+    use crate::proved::bitwalks::in_turn::*;
+    use crate::proved::bitwords::cursors::*;
+    use crate::proved::bitlanes::*;
+    use crate::shim::u64x4;
+    use core::cmp::Ordering;
+    use core::mem::{size_of, size_of_val};
+
+    let range = 60..=69;
+    assert_eq!(IndexRange::start(&range), Some(60));
+    assert_eq!(IndexRange::end(&range), Some(70));
+    assert_eq!(IndexRange::end(&(60..)), None);
+    assert_eq!(IndexRange::end(&(0..=usize::MAX)), Some(usize::MAX));
+}
+
+#[test]
 fn bitlanes_search_23() {
     use crate::proved::bitlanes::ops::*;
     use crate::proved::bitlanes::{word, Block, Steps};
+    use crate::proved::bitwalks::in_turn::*;
     use crate::proved::bitwords::cursors::*;
     use crate::proved::bitlanes::*;
     use crate::shim::u64x4;
@@ -330,6 +370,7 @@ fn bitlanes_search_23() {
 fn bitlanes_search_39() {
     use crate::proved::bitlanes::ops::*;
     use crate::proved::bitlanes::{word, Block, Steps};
+    use crate::proved::bitwalks::in_turn::*;
     use crate::proved::bitwords::cursors::*;
     use crate::proved::bitlanes::*;
     use crate::shim::u64x4;
@@ -345,6 +386,7 @@ fn bitlanes_search_39() {
 fn bitlanes_search_52() {
     use crate::proved::bitlanes::ops::*;
     use crate::proved::bitlanes::{word, Block, Steps};
+    use crate::proved::bitwalks::in_turn::*;
     use crate::proved::bitwords::cursors::*;
     use crate::proved::bitlanes::*;
     use crate::shim::u64x4;
@@ -362,6 +404,7 @@ fn bitlanes_search_52() {
 fn bitlanes_search_85() {
     use crate::proved::bitlanes::ops::*;
     use crate::proved::bitlanes::{word, Block, Steps};
+    use crate::proved::bitwalks::in_turn::*;
     use crate::proved::bitwords::cursors::*;
     use crate::proved::bitlanes::*;
     use crate::shim::u64x4;
@@ -378,6 +421,7 @@ fn bitlanes_search_85() {
 fn bitlanes_search_108() {
     use crate::proved::bitlanes::ops::*;
     use crate::proved::bitlanes::{word, Block, Steps};
+    use crate::proved::bitwalks::in_turn::*;
     use crate::proved::bitwords::cursors::*;
     use crate::proved::bitlanes::*;
     use crate::shim::u64x4;
@@ -395,6 +439,7 @@ fn bitlanes_search_108() {
 fn bitlanes_search_145() {
     use crate::proved::bitlanes::ops::*;
     use crate::proved::bitlanes::{word, Block, Steps};
+    use crate::proved::bitwalks::in_turn::*;
     use crate::proved::bitwords::cursors::*;
     use crate::proved::bitlanes::*;
     use crate::shim::u64x4;
@@ -410,6 +455,7 @@ fn bitlanes_search_145() {
 fn bitlanes_shifts_19() {
     use crate::proved::bitlanes::ops::*;
     use crate::proved::bitlanes::{word, Block, Steps};
+    use crate::proved::bitwalks::in_turn::*;
     use crate::proved::bitwords::cursors::*;
     use crate::proved::bitlanes::*;
     use crate::shim::u64x4;
@@ -425,6 +471,7 @@ fn bitlanes_shifts_19() {
 fn bitlanes_shifts_52() {
     use crate::proved::bitlanes::ops::*;
     use crate::proved::bitlanes::{word, Block, Steps};
+    use crate::proved::bitwalks::in_turn::*;
     use crate::proved::bitwords::cursors::*;
     use crate::proved::bitlanes::*;
     use crate::shim::u64x4;
@@ -440,6 +487,7 @@ fn bitlanes_shifts_52() {
 fn bitlanes_shifts_83() {
     use crate::proved::bitlanes::ops::*;
     use crate::proved::bitlanes::{word, Block, Steps};
+    use crate::proved::bitwalks::in_turn::*;
     use crate::proved::bitwords::cursors::*;
     use crate::proved::bitlanes::*;
     use crate::shim::u64x4;
@@ -455,6 +503,7 @@ fn bitlanes_shifts_83() {
 fn bitlanes_shifts_117() {
     use crate::proved::bitlanes::ops::*;
     use crate::proved::bitlanes::{word, Block, Steps};
+    use crate::proved::bitwalks::in_turn::*;
     use crate::proved::bitwords::cursors::*;
     use crate::proved::bitlanes::*;
     use crate::shim::u64x4;
@@ -469,6 +518,7 @@ fn bitlanes_shifts_117() {
 fn bitlanes_word_12() {
     use crate::proved::bitlanes::ops::*;
     use crate::proved::bitlanes::{word, Block, Steps};
+    use crate::proved::bitwalks::in_turn::*;
     use crate::proved::bitwords::cursors::*;
     use crate::proved::bitlanes::*;
     use crate::shim::u64x4;
@@ -483,6 +533,7 @@ fn bitlanes_word_12() {
 fn bitlanes_word_23() {
     use crate::proved::bitlanes::ops::*;
     use crate::proved::bitlanes::{word, Block, Steps};
+    use crate::proved::bitwalks::in_turn::*;
     use crate::proved::bitwords::cursors::*;
     use crate::proved::bitlanes::*;
     use crate::shim::u64x4;
@@ -497,6 +548,7 @@ fn bitlanes_word_23() {
 fn bitlanes_word_34() {
     use crate::proved::bitlanes::ops::*;
     use crate::proved::bitlanes::{word, Block, Steps};
+    use crate::proved::bitwalks::in_turn::*;
     use crate::proved::bitwords::cursors::*;
     use crate::proved::bitlanes::*;
     use crate::shim::u64x4;
@@ -511,6 +563,7 @@ fn bitlanes_word_34() {
 fn bitlanes_word_46() {
     use crate::proved::bitlanes::ops::*;
     use crate::proved::bitlanes::{word, Block, Steps};
+    use crate::proved::bitwalks::in_turn::*;
     use crate::proved::bitwords::cursors::*;
     use crate::proved::bitlanes::*;
     use crate::shim::u64x4;
@@ -525,6 +578,7 @@ fn bitlanes_word_46() {
 fn bitlanes_word_57() {
     use crate::proved::bitlanes::ops::*;
     use crate::proved::bitlanes::{word, Block, Steps};
+    use crate::proved::bitwalks::in_turn::*;
     use crate::proved::bitwords::cursors::*;
     use crate::proved::bitlanes::*;
     use crate::shim::u64x4;
@@ -540,6 +594,7 @@ fn bitlanes_word_57() {
 fn bitlanes_word_71() {
     use crate::proved::bitlanes::ops::*;
     use crate::proved::bitlanes::{word, Block, Steps};
+    use crate::proved::bitwalks::in_turn::*;
     use crate::proved::bitwords::cursors::*;
     use crate::proved::bitlanes::*;
     use crate::shim::u64x4;
@@ -555,6 +610,7 @@ fn bitlanes_word_71() {
 fn bitlanes_word_85() {
     use crate::proved::bitlanes::ops::*;
     use crate::proved::bitlanes::{word, Block, Steps};
+    use crate::proved::bitwalks::in_turn::*;
     use crate::proved::bitwords::cursors::*;
     use crate::proved::bitlanes::*;
     use crate::shim::u64x4;
@@ -569,6 +625,7 @@ fn bitlanes_word_85() {
 fn bitlanes_word_103() {
     use crate::proved::bitlanes::ops::*;
     use crate::proved::bitlanes::{word, Block, Steps};
+    use crate::proved::bitwalks::in_turn::*;
     use crate::proved::bitwords::cursors::*;
     use crate::proved::bitlanes::*;
     use crate::shim::u64x4;
@@ -584,6 +641,7 @@ fn bitlanes_word_103() {
 fn bitranks_directory_22() {
     use crate::proved::bitlanes::ops::*;
     use crate::proved::bitlanes::{word, Block, Steps};
+    use crate::proved::bitwalks::in_turn::*;
     use crate::proved::bitwords::cursors::*;
     use crate::proved::bitranks::*;
     use crate::shim::u64x4;
@@ -599,6 +657,7 @@ fn bitranks_directory_22() {
 fn bitranks_directory_38() {
     use crate::proved::bitlanes::ops::*;
     use crate::proved::bitlanes::{word, Block, Steps};
+    use crate::proved::bitwalks::in_turn::*;
     use crate::proved::bitwords::cursors::*;
     use crate::proved::bitranks::*;
     use crate::shim::u64x4;
@@ -614,6 +673,7 @@ fn bitranks_directory_38() {
 fn bitranks_directory_61() {
     use crate::proved::bitlanes::ops::*;
     use crate::proved::bitlanes::{word, Block, Steps};
+    use crate::proved::bitwalks::in_turn::*;
     use crate::proved::bitwords::cursors::*;
     use crate::proved::bitranks::*;
     use crate::shim::u64x4;
@@ -630,6 +690,7 @@ fn bitranks_directory_61() {
 fn bitranks_directory_94() {
     use crate::proved::bitlanes::ops::*;
     use crate::proved::bitlanes::{word, Block, Steps};
+    use crate::proved::bitwalks::in_turn::*;
     use crate::proved::bitwords::cursors::*;
     use crate::proved::bitranks::*;
     use crate::shim::u64x4;
@@ -646,6 +707,7 @@ fn bitranks_directory_94() {
 fn bitrows_views_changes_16() {
     use crate::proved::bitlanes::ops::*;
     use crate::proved::bitlanes::{word, Block, Steps};
+    use crate::proved::bitwalks::in_turn::*;
     use crate::proved::bitwords::cursors::*;
     use crate::proved::bitrows::*;
     use crate::shim::u64x4;
@@ -661,6 +723,7 @@ fn bitrows_views_changes_16() {
 fn bitrows_views_changes_33() {
     use crate::proved::bitlanes::ops::*;
     use crate::proved::bitlanes::{word, Block, Steps};
+    use crate::proved::bitwalks::in_turn::*;
     use crate::proved::bitwords::cursors::*;
     use crate::proved::bitrows::*;
     use crate::shim::u64x4;
@@ -676,6 +739,7 @@ fn bitrows_views_changes_33() {
 fn bitrows_views_changes_50() {
     use crate::proved::bitlanes::ops::*;
     use crate::proved::bitlanes::{word, Block, Steps};
+    use crate::proved::bitwalks::in_turn::*;
     use crate::proved::bitwords::cursors::*;
     use crate::proved::bitrows::*;
     use crate::shim::u64x4;
@@ -692,6 +756,7 @@ fn bitrows_views_changes_50() {
 fn bitrows_views_changes_68() {
     use crate::proved::bitlanes::ops::*;
     use crate::proved::bitlanes::{word, Block, Steps};
+    use crate::proved::bitwalks::in_turn::*;
     use crate::proved::bitwords::cursors::*;
     use crate::proved::bitrows::*;
     use crate::shim::u64x4;
@@ -709,6 +774,7 @@ fn bitrows_views_changes_68() {
 fn bitrows_views_changes_89() {
     use crate::proved::bitlanes::ops::*;
     use crate::proved::bitlanes::{word, Block, Steps};
+    use crate::proved::bitwalks::in_turn::*;
     use crate::proved::bitwords::cursors::*;
     use crate::proved::bitrows::*;
     use crate::shim::u64x4;
@@ -727,6 +793,7 @@ fn bitrows_views_changes_89() {
 fn bitrows_views_reads_11() {
     use crate::proved::bitlanes::ops::*;
     use crate::proved::bitlanes::{word, Block, Steps};
+    use crate::proved::bitwalks::in_turn::*;
     use crate::proved::bitwords::cursors::*;
     use crate::proved::bitrows::*;
     use crate::shim::u64x4;
@@ -743,6 +810,7 @@ fn bitrows_views_reads_11() {
 fn bitrows_views_reads_30() {
     use crate::proved::bitlanes::ops::*;
     use crate::proved::bitlanes::{word, Block, Steps};
+    use crate::proved::bitwalks::in_turn::*;
     use crate::proved::bitwords::cursors::*;
     use crate::proved::bitrows::*;
     use crate::shim::u64x4;
@@ -757,9 +825,28 @@ fn bitrows_views_reads_30() {
 }
 
 #[test]
+fn bitwalks_in_turn_122() {
+    use crate::proved::bitlanes::ops::*;
+    use crate::proved::bitlanes::{word, Block, Steps};
+    use crate::proved::bitwalks::in_turn::*;
+    use crate::proved::bitwords::cursors::*;
+    use crate::proved::bitwalks::*;
+    use crate::shim::u64x4;
+    use core::cmp::Ordering;
+    use core::mem::{size_of, size_of_val};
+
+    let first = Cursor::over(Plain { words: &[9, 1] });
+    let second = Cursor::over(Plain { words: &[7] });
+    let mut walks = InTurn::of(first, second);
+    assert_eq!(walks.take_first(), Some(0));
+    assert_eq!(walks.count_left(&mut Steps::new()), 5);
+}
+
+#[test]
 fn bitwalks_runs_54() {
     use crate::proved::bitlanes::ops::*;
     use crate::proved::bitlanes::{word, Block, Steps};
+    use crate::proved::bitwalks::in_turn::*;
     use crate::proved::bitwords::cursors::*;
     use crate::proved::bitwalks::*;
     use crate::shim::u64x4;
@@ -775,6 +862,7 @@ fn bitwalks_runs_54() {
 fn bitwalks_runs_75() {
     use crate::proved::bitlanes::ops::*;
     use crate::proved::bitlanes::{word, Block, Steps};
+    use crate::proved::bitwalks::in_turn::*;
     use crate::proved::bitwords::cursors::*;
     use crate::proved::bitwalks::*;
     use crate::shim::u64x4;
@@ -791,6 +879,7 @@ fn bitwalks_runs_75() {
 fn bitwalks_runs_94() {
     use crate::proved::bitlanes::ops::*;
     use crate::proved::bitlanes::{word, Block, Steps};
+    use crate::proved::bitwalks::in_turn::*;
     use crate::proved::bitwords::cursors::*;
     use crate::proved::bitwalks::*;
     use crate::shim::u64x4;
@@ -802,9 +891,90 @@ fn bitwalks_runs_94() {
 }
 
 #[test]
-fn bitwords_cursors_16() {
+fn bitwalks_walks_74() {
     use crate::proved::bitlanes::ops::*;
     use crate::proved::bitlanes::{word, Block, Steps};
+    use crate::proved::bitwalks::in_turn::*;
+    use crate::proved::bitwords::cursors::*;
+    use crate::proved::bitwalks::*;
+    use crate::shim::u64x4;
+    use core::cmp::Ordering;
+    use core::mem::{size_of, size_of_val};
+
+    let words = [8, 0, 1];
+    let walk = Ones::over(&words);
+    assert!(walk.eq([3, 128]));
+}
+
+#[test]
+fn bitwalks_walks_89() {
+    use crate::proved::bitlanes::ops::*;
+    use crate::proved::bitlanes::{word, Block, Steps};
+    use crate::proved::bitwalks::in_turn::*;
+    use crate::proved::bitwords::cursors::*;
+    use crate::proved::bitwalks::*;
+    use crate::shim::u64x4;
+    use core::cmp::Ordering;
+    use core::mem::{size_of, size_of_val};
+
+    let words = [8, 0, 7];
+    let walk = Ones::within(&words, 4, 130);
+    assert!(walk.eq([128, 129]));
+}
+
+#[test]
+fn bitwalks_walks_104() {
+    use crate::proved::bitlanes::ops::*;
+    use crate::proved::bitlanes::{word, Block, Steps};
+    use crate::proved::bitwalks::in_turn::*;
+    use crate::proved::bitwords::cursors::*;
+    use crate::proved::bitwalks::*;
+    use crate::shim::u64x4;
+    use core::cmp::Ordering;
+    use core::mem::{size_of, size_of_val};
+
+    let mut bits = 12;
+    assert_eq!(Ones::last_positive_bit_and_unset(&mut bits), 2);
+    assert_eq!(bits, 8);
+}
+
+#[test]
+fn bitwalks_walks_149() {
+    use crate::proved::bitlanes::ops::*;
+    use crate::proved::bitlanes::{word, Block, Steps};
+    use crate::proved::bitwalks::in_turn::*;
+    use crate::proved::bitwords::cursors::*;
+    use crate::proved::bitwalks::*;
+    use crate::shim::u64x4;
+    use core::cmp::Ordering;
+    use core::mem::{size_of, size_of_val};
+
+    let mut bits = 1 << 63;
+    assert_eq!(IntoOnes::last_positive_bit_and_unset(&mut bits), 63);
+    assert_eq!(bits, 0);
+}
+
+#[test]
+fn bitwalks_walks_220() {
+    use crate::proved::bitlanes::ops::*;
+    use crate::proved::bitlanes::{word, Block, Steps};
+    use crate::proved::bitwalks::in_turn::*;
+    use crate::proved::bitwords::cursors::*;
+    use crate::proved::bitwalks::*;
+    use crate::shim::u64x4;
+    use core::cmp::Ordering;
+    use core::mem::{size_of, size_of_val};
+
+    let words = [Block::MAX, 5];
+    let walk = Zeroes::within(&words, 60, 68);
+    assert!(walk.eq([65, 67]));
+}
+
+#[test]
+fn bitwords_cursors_19() {
+    use crate::proved::bitlanes::ops::*;
+    use crate::proved::bitlanes::{word, Block, Steps};
+    use crate::proved::bitwalks::in_turn::*;
     use crate::proved::bitwords::cursors::*;
     use crate::proved::bitwords::*;
     use crate::shim::u64x4;
@@ -815,12 +985,14 @@ fn bitwords_cursors_16() {
     assert_eq!(Middle::take_first(&mut middle), Some(3));
     assert_eq!(Middle::take_last(&mut middle), Some(7));
     assert_eq!(Middle::left(&middle), 1);
+    assert_eq!(Middle::count_positions(middle, &mut Steps::new()), 2);
 }
 
 #[test]
-fn bitwords_cursors_35() {
+fn bitwords_cursors_45() {
     use crate::proved::bitlanes::ops::*;
     use crate::proved::bitlanes::{word, Block, Steps};
+    use crate::proved::bitwalks::in_turn::*;
     use crate::proved::bitwords::cursors::*;
     use crate::proved::bitwords::*;
     use crate::shim::u64x4;
@@ -833,9 +1005,10 @@ fn bitwords_cursors_35() {
 }
 
 #[test]
-fn bitwords_cursors_47() {
+fn bitwords_cursors_57() {
     use crate::proved::bitlanes::ops::*;
     use crate::proved::bitlanes::{word, Block, Steps};
+    use crate::proved::bitwalks::in_turn::*;
     use crate::proved::bitwords::cursors::*;
     use crate::proved::bitwords::*;
     use crate::shim::u64x4;
@@ -848,9 +1021,10 @@ fn bitwords_cursors_47() {
 }
 
 #[test]
-fn bitwords_cursors_87() {
+fn bitwords_cursors_102() {
     use crate::proved::bitlanes::ops::*;
     use crate::proved::bitlanes::{word, Block, Steps};
+    use crate::proved::bitwalks::in_turn::*;
     use crate::proved::bitwords::cursors::*;
     use crate::proved::bitwords::*;
     use crate::shim::u64x4;
@@ -864,9 +1038,10 @@ fn bitwords_cursors_87() {
 }
 
 #[test]
-fn bitwords_cursors_127() {
+fn bitwords_cursors_147() {
     use crate::proved::bitlanes::ops::*;
     use crate::proved::bitlanes::{word, Block, Steps};
+    use crate::proved::bitwalks::in_turn::*;
     use crate::proved::bitwords::cursors::*;
     use crate::proved::bitwords::*;
     use crate::shim::u64x4;
@@ -878,9 +1053,10 @@ fn bitwords_cursors_127() {
 }
 
 #[test]
-fn bitwords_cursors_141() {
+fn bitwords_cursors_161() {
     use crate::proved::bitlanes::ops::*;
     use crate::proved::bitlanes::{word, Block, Steps};
+    use crate::proved::bitwalks::in_turn::*;
     use crate::proved::bitwords::cursors::*;
     use crate::proved::bitwords::*;
     use crate::shim::u64x4;
@@ -892,9 +1068,10 @@ fn bitwords_cursors_141() {
 }
 
 #[test]
-fn bitwords_cursors_257() {
+fn bitwords_cursors_312() {
     use crate::proved::bitlanes::ops::*;
     use crate::proved::bitlanes::{word, Block, Steps};
+    use crate::proved::bitwalks::in_turn::*;
     use crate::proved::bitwords::cursors::*;
     use crate::proved::bitwords::*;
     use crate::shim::u64x4;
@@ -906,9 +1083,10 @@ fn bitwords_cursors_257() {
 }
 
 #[test]
-fn bitwords_cursors_271() {
+fn bitwords_cursors_326() {
     use crate::proved::bitlanes::ops::*;
     use crate::proved::bitlanes::{word, Block, Steps};
+    use crate::proved::bitwalks::in_turn::*;
     use crate::proved::bitwords::cursors::*;
     use crate::proved::bitwords::*;
     use crate::shim::u64x4;
@@ -920,9 +1098,10 @@ fn bitwords_cursors_271() {
 }
 
 #[test]
-fn bitwords_cursors_287() {
+fn bitwords_cursors_342() {
     use crate::proved::bitlanes::ops::*;
     use crate::proved::bitlanes::{word, Block, Steps};
+    use crate::proved::bitwalks::in_turn::*;
     use crate::proved::bitwords::cursors::*;
     use crate::proved::bitwords::*;
     use crate::shim::u64x4;
@@ -935,9 +1114,10 @@ fn bitwords_cursors_287() {
 }
 
 #[test]
-fn bitwords_cursors_314() {
+fn bitwords_cursors_369() {
     use crate::proved::bitlanes::ops::*;
     use crate::proved::bitlanes::{word, Block, Steps};
+    use crate::proved::bitwalks::in_turn::*;
     use crate::proved::bitwords::cursors::*;
     use crate::proved::bitwords::*;
     use crate::shim::u64x4;
@@ -950,9 +1130,26 @@ fn bitwords_cursors_314() {
 }
 
 #[test]
-fn bitwords_cursors_425() {
+fn bitwords_cursors_399() {
     use crate::proved::bitlanes::ops::*;
     use crate::proved::bitlanes::{word, Block, Steps};
+    use crate::proved::bitwalks::in_turn::*;
+    use crate::proved::bitwords::cursors::*;
+    use crate::proved::bitwords::*;
+    use crate::shim::u64x4;
+    use core::cmp::Ordering;
+    use core::mem::{size_of, size_of_val};
+
+    let mut cursor = Cursor::over(Plain { words: &[9, 7, 1] });
+    assert_eq!(cursor.next(), Some(0));
+    assert_eq!(cursor.count_left(&mut Steps::new()), 5);
+}
+
+#[test]
+fn bitwords_cursors_497() {
+    use crate::proved::bitlanes::ops::*;
+    use crate::proved::bitlanes::{word, Block, Steps};
+    use crate::proved::bitwalks::in_turn::*;
     use crate::proved::bitwords::cursors::*;
     use crate::proved::bitwords::*;
     use crate::shim::u64x4;
@@ -964,9 +1161,10 @@ fn bitwords_cursors_425() {
 }
 
 #[test]
-fn bitwords_cursors_440() {
+fn bitwords_cursors_512() {
     use crate::proved::bitlanes::ops::*;
     use crate::proved::bitlanes::{word, Block, Steps};
+    use crate::proved::bitwalks::in_turn::*;
     use crate::proved::bitwords::cursors::*;
     use crate::proved::bitwords::*;
     use crate::shim::u64x4;
@@ -981,6 +1179,7 @@ fn bitwords_cursors_440() {
 fn bitwords_gaps_22() {
     use crate::proved::bitlanes::ops::*;
     use crate::proved::bitlanes::{word, Block, Steps};
+    use crate::proved::bitwalks::in_turn::*;
     use crate::proved::bitwords::cursors::*;
     use crate::proved::bitwords::*;
     use crate::shim::u64x4;
@@ -997,6 +1196,7 @@ fn bitwords_gaps_22() {
 fn bitwords_gaps_53() {
     use crate::proved::bitlanes::ops::*;
     use crate::proved::bitlanes::{word, Block, Steps};
+    use crate::proved::bitwalks::in_turn::*;
     use crate::proved::bitwords::cursors::*;
     use crate::proved::bitwords::*;
     use crate::shim::u64x4;
@@ -1013,6 +1213,7 @@ fn bitwords_gaps_53() {
 fn bitwords_handfuls_57() {
     use crate::proved::bitlanes::ops::*;
     use crate::proved::bitlanes::{word, Block, Steps};
+    use crate::proved::bitwalks::in_turn::*;
     use crate::proved::bitwords::cursors::*;
     use crate::proved::bitwords::*;
     use crate::shim::u64x4;
@@ -1028,6 +1229,7 @@ fn bitwords_handfuls_57() {
 fn bitwords_handfuls_74() {
     use crate::proved::bitlanes::ops::*;
     use crate::proved::bitlanes::{word, Block, Steps};
+    use crate::proved::bitwalks::in_turn::*;
     use crate::proved::bitwords::cursors::*;
     use crate::proved::bitwords::*;
     use crate::shim::u64x4;
@@ -1044,6 +1246,7 @@ fn bitwords_handfuls_74() {
 fn bitwords_handfuls_107() {
     use crate::proved::bitlanes::ops::*;
     use crate::proved::bitlanes::{word, Block, Steps};
+    use crate::proved::bitwalks::in_turn::*;
     use crate::proved::bitwords::cursors::*;
     use crate::proved::bitwords::*;
     use crate::shim::u64x4;
@@ -1062,6 +1265,7 @@ fn bitwords_handfuls_107() {
 fn bitwords_handfuls_141() {
     use crate::proved::bitlanes::ops::*;
     use crate::proved::bitlanes::{word, Block, Steps};
+    use crate::proved::bitwalks::in_turn::*;
     use crate::proved::bitwords::cursors::*;
     use crate::proved::bitwords::*;
     use crate::shim::u64x4;
@@ -1080,6 +1284,7 @@ fn bitwords_handfuls_141() {
 fn bitwords_joins_18() {
     use crate::proved::bitlanes::ops::*;
     use crate::proved::bitlanes::{word, Block, Steps};
+    use crate::proved::bitwalks::in_turn::*;
     use crate::proved::bitwords::cursors::*;
     use crate::proved::bitwords::*;
     use crate::shim::u64x4;
@@ -1095,6 +1300,7 @@ fn bitwords_joins_18() {
 fn bitwords_joins_37() {
     use crate::proved::bitlanes::ops::*;
     use crate::proved::bitlanes::{word, Block, Steps};
+    use crate::proved::bitwalks::in_turn::*;
     use crate::proved::bitwords::cursors::*;
     use crate::proved::bitwords::*;
     use crate::shim::u64x4;
@@ -1110,6 +1316,7 @@ fn bitwords_joins_37() {
 fn bitwords_joins_59() {
     use crate::proved::bitlanes::ops::*;
     use crate::proved::bitlanes::{word, Block, Steps};
+    use crate::proved::bitwalks::in_turn::*;
     use crate::proved::bitwords::cursors::*;
     use crate::proved::bitwords::*;
     use crate::shim::u64x4;
@@ -1125,6 +1332,7 @@ fn bitwords_joins_59() {
 fn bitwords_joins_83() {
     use crate::proved::bitlanes::ops::*;
     use crate::proved::bitlanes::{word, Block, Steps};
+    use crate::proved::bitwalks::in_turn::*;
     use crate::proved::bitwords::cursors::*;
     use crate::proved::bitwords::*;
     use crate::shim::u64x4;
@@ -1142,6 +1350,7 @@ fn bitwords_joins_83() {
 fn bitwords_joins_108() {
     use crate::proved::bitlanes::ops::*;
     use crate::proved::bitlanes::{word, Block, Steps};
+    use crate::proved::bitwalks::in_turn::*;
     use crate::proved::bitwords::cursors::*;
     use crate::proved::bitwords::*;
     use crate::shim::u64x4;
@@ -1156,6 +1365,7 @@ fn bitwords_joins_108() {
 fn bitwords_joins_123() {
     use crate::proved::bitlanes::ops::*;
     use crate::proved::bitlanes::{word, Block, Steps};
+    use crate::proved::bitwalks::in_turn::*;
     use crate::proved::bitwords::cursors::*;
     use crate::proved::bitwords::*;
     use crate::shim::u64x4;
@@ -1170,6 +1380,7 @@ fn bitwords_joins_123() {
 fn bitwords_joins_139() {
     use crate::proved::bitlanes::ops::*;
     use crate::proved::bitlanes::{word, Block, Steps};
+    use crate::proved::bitwalks::in_turn::*;
     use crate::proved::bitwords::cursors::*;
     use crate::proved::bitwords::*;
     use crate::shim::u64x4;
@@ -1185,6 +1396,7 @@ fn bitwords_joins_139() {
 fn bitwords_joins_157() {
     use crate::proved::bitlanes::ops::*;
     use crate::proved::bitlanes::{word, Block, Steps};
+    use crate::proved::bitwalks::in_turn::*;
     use crate::proved::bitwords::cursors::*;
     use crate::proved::bitwords::*;
     use crate::shim::u64x4;
@@ -1201,6 +1413,7 @@ fn bitwords_joins_157() {
 fn bitwords_positions_12() {
     use crate::proved::bitlanes::ops::*;
     use crate::proved::bitlanes::{word, Block, Steps};
+    use crate::proved::bitwalks::in_turn::*;
     use crate::proved::bitwords::cursors::*;
     use crate::proved::bitwords::*;
     use crate::shim::u64x4;
@@ -1216,6 +1429,7 @@ fn bitwords_positions_12() {
 fn bitwords_positions_30() {
     use crate::proved::bitlanes::ops::*;
     use crate::proved::bitlanes::{word, Block, Steps};
+    use crate::proved::bitwalks::in_turn::*;
     use crate::proved::bitwords::cursors::*;
     use crate::proved::bitwords::*;
     use crate::shim::u64x4;
@@ -1231,6 +1445,7 @@ fn bitwords_positions_30() {
 fn bitwords_positions_46() {
     use crate::proved::bitlanes::ops::*;
     use crate::proved::bitlanes::{word, Block, Steps};
+    use crate::proved::bitwalks::in_turn::*;
     use crate::proved::bitwords::cursors::*;
     use crate::proved::bitwords::*;
     use crate::shim::u64x4;
@@ -1246,6 +1461,7 @@ fn bitwords_positions_46() {
 fn bitwords_positions_66() {
     use crate::proved::bitlanes::ops::*;
     use crate::proved::bitlanes::{word, Block, Steps};
+    use crate::proved::bitwalks::in_turn::*;
     use crate::proved::bitwords::cursors::*;
     use crate::proved::bitwords::*;
     use crate::shim::u64x4;
@@ -1263,6 +1479,7 @@ fn bitwords_positions_66() {
 fn bitwords_positions_90() {
     use crate::proved::bitlanes::ops::*;
     use crate::proved::bitlanes::{word, Block, Steps};
+    use crate::proved::bitwalks::in_turn::*;
     use crate::proved::bitwords::cursors::*;
     use crate::proved::bitwords::*;
     use crate::shim::u64x4;
@@ -1280,6 +1497,7 @@ fn bitwords_positions_90() {
 fn bitwords_positions_118() {
     use crate::proved::bitlanes::ops::*;
     use crate::proved::bitlanes::{word, Block, Steps};
+    use crate::proved::bitwalks::in_turn::*;
     use crate::proved::bitwords::cursors::*;
     use crate::proved::bitwords::*;
     use crate::shim::u64x4;
@@ -1295,6 +1513,7 @@ fn bitwords_positions_118() {
 fn bitwords_positions_148() {
     use crate::proved::bitlanes::ops::*;
     use crate::proved::bitlanes::{word, Block, Steps};
+    use crate::proved::bitwalks::in_turn::*;
     use crate::proved::bitwords::cursors::*;
     use crate::proved::bitwords::*;
     use crate::shim::u64x4;
@@ -1310,6 +1529,7 @@ fn bitwords_positions_148() {
 fn bitwords_positions_161() {
     use crate::proved::bitlanes::ops::*;
     use crate::proved::bitlanes::{word, Block, Steps};
+    use crate::proved::bitwalks::in_turn::*;
     use crate::proved::bitwords::cursors::*;
     use crate::proved::bitwords::*;
     use crate::shim::u64x4;
@@ -1325,6 +1545,7 @@ fn bitwords_positions_161() {
 fn bitwords_ranges_19() {
     use crate::proved::bitlanes::ops::*;
     use crate::proved::bitlanes::{word, Block, Steps};
+    use crate::proved::bitwalks::in_turn::*;
     use crate::proved::bitwords::cursors::*;
     use crate::proved::bitwords::*;
     use crate::shim::u64x4;
@@ -1340,6 +1561,7 @@ fn bitwords_ranges_19() {
 fn bitwords_ranges_38() {
     use crate::proved::bitlanes::ops::*;
     use crate::proved::bitlanes::{word, Block, Steps};
+    use crate::proved::bitwalks::in_turn::*;
     use crate::proved::bitwords::cursors::*;
     use crate::proved::bitwords::*;
     use crate::shim::u64x4;
@@ -1354,6 +1576,7 @@ fn bitwords_ranges_38() {
 fn bitwords_ranges_58() {
     use crate::proved::bitlanes::ops::*;
     use crate::proved::bitlanes::{word, Block, Steps};
+    use crate::proved::bitwalks::in_turn::*;
     use crate::proved::bitwords::cursors::*;
     use crate::proved::bitwords::*;
     use crate::shim::u64x4;
@@ -1368,6 +1591,7 @@ fn bitwords_ranges_58() {
 fn bitwords_ranges_76() {
     use crate::proved::bitlanes::ops::*;
     use crate::proved::bitlanes::{word, Block, Steps};
+    use crate::proved::bitwalks::in_turn::*;
     use crate::proved::bitwords::cursors::*;
     use crate::proved::bitwords::*;
     use crate::shim::u64x4;
@@ -1383,6 +1607,7 @@ fn bitwords_ranges_76() {
 fn bitwords_ranges_108() {
     use crate::proved::bitlanes::ops::*;
     use crate::proved::bitlanes::{word, Block, Steps};
+    use crate::proved::bitwalks::in_turn::*;
     use crate::proved::bitwords::cursors::*;
     use crate::proved::bitwords::*;
     use crate::shim::u64x4;
@@ -1398,6 +1623,7 @@ fn bitwords_ranges_108() {
 fn bitwords_ranges_123() {
     use crate::proved::bitlanes::ops::*;
     use crate::proved::bitlanes::{word, Block, Steps};
+    use crate::proved::bitwalks::in_turn::*;
     use crate::proved::bitwords::cursors::*;
     use crate::proved::bitwords::*;
     use crate::shim::u64x4;
@@ -1413,6 +1639,7 @@ fn bitwords_ranges_123() {
 fn bitwords_shifts_16() {
     use crate::proved::bitlanes::ops::*;
     use crate::proved::bitlanes::{word, Block, Steps};
+    use crate::proved::bitwalks::in_turn::*;
     use crate::proved::bitwords::cursors::*;
     use crate::proved::bitwords::*;
     use crate::shim::u64x4;
@@ -1428,6 +1655,7 @@ fn bitwords_shifts_16() {
 fn bitwords_shifts_36() {
     use crate::proved::bitlanes::ops::*;
     use crate::proved::bitlanes::{word, Block, Steps};
+    use crate::proved::bitwalks::in_turn::*;
     use crate::proved::bitwords::cursors::*;
     use crate::proved::bitwords::*;
     use crate::shim::u64x4;
@@ -1443,6 +1671,7 @@ fn bitwords_shifts_36() {
 fn bitwords_shifts_62() {
     use crate::proved::bitlanes::ops::*;
     use crate::proved::bitlanes::{word, Block, Steps};
+    use crate::proved::bitwalks::in_turn::*;
     use crate::proved::bitwords::cursors::*;
     use crate::proved::bitwords::*;
     use crate::shim::u64x4;
@@ -1458,6 +1687,7 @@ fn bitwords_shifts_62() {
 fn bitwords_shifts_81() {
     use crate::proved::bitlanes::ops::*;
     use crate::proved::bitlanes::{word, Block, Steps};
+    use crate::proved::bitwalks::in_turn::*;
     use crate::proved::bitwords::cursors::*;
     use crate::proved::bitwords::*;
     use crate::shim::u64x4;
@@ -1473,6 +1703,7 @@ fn bitwords_shifts_81() {
 fn fixedbitset_views_bytes_14() {
     use crate::proved::bitlanes::ops::*;
     use crate::proved::bitlanes::{word, Block, Steps};
+    use crate::proved::bitwalks::in_turn::*;
     use crate::proved::bitwords::cursors::*;
     use crate::proved::fixedbitset::*;
     use crate::shim::u64x4;
@@ -1489,6 +1720,7 @@ fn fixedbitset_views_bytes_14() {
 fn fixedbitset_views_bytes_31() {
     use crate::proved::bitlanes::ops::*;
     use crate::proved::bitlanes::{word, Block, Steps};
+    use crate::proved::bitwalks::in_turn::*;
     use crate::proved::bitwords::cursors::*;
     use crate::proved::fixedbitset::*;
     use crate::shim::u64x4;
@@ -1505,6 +1737,7 @@ fn fixedbitset_views_bytes_31() {
 fn fixedbitset_views_changes_13() {
     use crate::proved::bitlanes::ops::*;
     use crate::proved::bitlanes::{word, Block, Steps};
+    use crate::proved::bitwalks::in_turn::*;
     use crate::proved::bitwords::cursors::*;
     use crate::proved::fixedbitset::*;
     use crate::shim::u64x4;
@@ -1522,6 +1755,7 @@ fn fixedbitset_views_changes_13() {
 fn fixedbitset_views_changes_27() {
     use crate::proved::bitlanes::ops::*;
     use crate::proved::bitlanes::{word, Block, Steps};
+    use crate::proved::bitwalks::in_turn::*;
     use crate::proved::bitwords::cursors::*;
     use crate::proved::fixedbitset::*;
     use crate::shim::u64x4;
@@ -1539,6 +1773,7 @@ fn fixedbitset_views_changes_27() {
 fn fixedbitset_views_changes_41() {
     use crate::proved::bitlanes::ops::*;
     use crate::proved::bitlanes::{word, Block, Steps};
+    use crate::proved::bitwalks::in_turn::*;
     use crate::proved::bitwords::cursors::*;
     use crate::proved::fixedbitset::*;
     use crate::shim::u64x4;
@@ -1556,6 +1791,7 @@ fn fixedbitset_views_changes_41() {
 fn fixedbitset_views_changes_56() {
     use crate::proved::bitlanes::ops::*;
     use crate::proved::bitlanes::{word, Block, Steps};
+    use crate::proved::bitwalks::in_turn::*;
     use crate::proved::bitwords::cursors::*;
     use crate::proved::fixedbitset::*;
     use crate::shim::u64x4;
@@ -1574,6 +1810,7 @@ fn fixedbitset_views_changes_56() {
 fn fixedbitset_views_copies_14() {
     use crate::proved::bitlanes::ops::*;
     use crate::proved::bitlanes::{word, Block, Steps};
+    use crate::proved::bitwalks::in_turn::*;
     use crate::proved::bitwords::cursors::*;
     use crate::proved::fixedbitset::*;
     use crate::shim::u64x4;
@@ -1590,6 +1827,7 @@ fn fixedbitset_views_copies_14() {
 fn fixedbitset_views_copies_28() {
     use crate::proved::bitlanes::ops::*;
     use crate::proved::bitlanes::{word, Block, Steps};
+    use crate::proved::bitwalks::in_turn::*;
     use crate::proved::bitwords::cursors::*;
     use crate::proved::fixedbitset::*;
     use crate::shim::u64x4;
@@ -1607,6 +1845,7 @@ fn fixedbitset_views_copies_28() {
 fn fixedbitset_views_copies_47() {
     use crate::proved::bitlanes::ops::*;
     use crate::proved::bitlanes::{word, Block, Steps};
+    use crate::proved::bitwalks::in_turn::*;
     use crate::proved::bitwords::cursors::*;
     use crate::proved::fixedbitset::*;
     use crate::shim::u64x4;
@@ -1624,6 +1863,7 @@ fn fixedbitset_views_copies_47() {
 fn fixedbitset_views_copies_65() {
     use crate::proved::bitlanes::ops::*;
     use crate::proved::bitlanes::{word, Block, Steps};
+    use crate::proved::bitwalks::in_turn::*;
     use crate::proved::bitwords::cursors::*;
     use crate::proved::fixedbitset::*;
     use crate::shim::u64x4;
@@ -1641,6 +1881,7 @@ fn fixedbitset_views_copies_65() {
 fn fixedbitset_views_copies_84() {
     use crate::proved::bitlanes::ops::*;
     use crate::proved::bitlanes::{word, Block, Steps};
+    use crate::proved::bitwalks::in_turn::*;
     use crate::proved::bitwords::cursors::*;
     use crate::proved::fixedbitset::*;
     use crate::shim::u64x4;
@@ -1658,6 +1899,7 @@ fn fixedbitset_views_copies_84() {
 fn fixedbitset_views_copies_107() {
     use crate::proved::bitlanes::ops::*;
     use crate::proved::bitlanes::{word, Block, Steps};
+    use crate::proved::bitwalks::in_turn::*;
     use crate::proved::bitwords::cursors::*;
     use crate::proved::fixedbitset::*;
     use crate::shim::u64x4;
@@ -1675,6 +1917,7 @@ fn fixedbitset_views_copies_107() {
 fn fixedbitset_views_copies_122() {
     use crate::proved::bitlanes::ops::*;
     use crate::proved::bitlanes::{word, Block, Steps};
+    use crate::proved::bitwalks::in_turn::*;
     use crate::proved::bitwords::cursors::*;
     use crate::proved::fixedbitset::*;
     use crate::shim::u64x4;
@@ -1692,6 +1935,7 @@ fn fixedbitset_views_copies_122() {
 fn fixedbitset_views_copies_137() {
     use crate::proved::bitlanes::ops::*;
     use crate::proved::bitlanes::{word, Block, Steps};
+    use crate::proved::bitwalks::in_turn::*;
     use crate::proved::bitwords::cursors::*;
     use crate::proved::fixedbitset::*;
     use crate::shim::u64x4;
@@ -1709,6 +1953,7 @@ fn fixedbitset_views_copies_137() {
 fn fixedbitset_views_copies_152() {
     use crate::proved::bitlanes::ops::*;
     use crate::proved::bitlanes::{word, Block, Steps};
+    use crate::proved::bitwalks::in_turn::*;
     use crate::proved::bitwords::cursors::*;
     use crate::proved::fixedbitset::*;
     use crate::shim::u64x4;
@@ -1726,6 +1971,7 @@ fn fixedbitset_views_copies_152() {
 fn fixedbitset_views_gaps_16() {
     use crate::proved::bitlanes::ops::*;
     use crate::proved::bitlanes::{word, Block, Steps};
+    use crate::proved::bitwalks::in_turn::*;
     use crate::proved::bitwords::cursors::*;
     use crate::proved::fixedbitset::*;
     use crate::shim::u64x4;
@@ -1742,6 +1988,7 @@ fn fixedbitset_views_gaps_16() {
 fn fixedbitset_views_gaps_35() {
     use crate::proved::bitlanes::ops::*;
     use crate::proved::bitlanes::{word, Block, Steps};
+    use crate::proved::bitwalks::in_turn::*;
     use crate::proved::bitwords::cursors::*;
     use crate::proved::fixedbitset::*;
     use crate::shim::u64x4;
@@ -1759,6 +2006,7 @@ fn fixedbitset_views_gaps_35() {
 fn fixedbitset_views_neighbours_15() {
     use crate::proved::bitlanes::ops::*;
     use crate::proved::bitlanes::{word, Block, Steps};
+    use crate::proved::bitwalks::in_turn::*;
     use crate::proved::bitwords::cursors::*;
     use crate::proved::fixedbitset::*;
     use crate::shim::u64x4;
@@ -1776,6 +2024,7 @@ fn fixedbitset_views_neighbours_15() {
 fn fixedbitset_views_neighbours_30() {
     use crate::proved::bitlanes::ops::*;
     use crate::proved::bitlanes::{word, Block, Steps};
+    use crate::proved::bitwalks::in_turn::*;
     use crate::proved::bitwords::cursors::*;
     use crate::proved::fixedbitset::*;
     use crate::shim::u64x4;
@@ -1792,6 +2041,7 @@ fn fixedbitset_views_neighbours_30() {
 fn fixedbitset_views_neighbours_47() {
     use crate::proved::bitlanes::ops::*;
     use crate::proved::bitlanes::{word, Block, Steps};
+    use crate::proved::bitwalks::in_turn::*;
     use crate::proved::bitwords::cursors::*;
     use crate::proved::fixedbitset::*;
     use crate::shim::u64x4;
@@ -1809,6 +2059,7 @@ fn fixedbitset_views_neighbours_47() {
 fn fixedbitset_views_neighbours_68() {
     use crate::proved::bitlanes::ops::*;
     use crate::proved::bitlanes::{word, Block, Steps};
+    use crate::proved::bitwalks::in_turn::*;
     use crate::proved::bitwords::cursors::*;
     use crate::proved::fixedbitset::*;
     use crate::shim::u64x4;
@@ -1825,6 +2076,7 @@ fn fixedbitset_views_neighbours_68() {
 fn fixedbitset_views_neighbours_82() {
     use crate::proved::bitlanes::ops::*;
     use crate::proved::bitlanes::{word, Block, Steps};
+    use crate::proved::bitwalks::in_turn::*;
     use crate::proved::bitwords::cursors::*;
     use crate::proved::fixedbitset::*;
     use crate::shim::u64x4;
@@ -1842,6 +2094,7 @@ fn fixedbitset_views_neighbours_82() {
 fn fixedbitset_views_neighbours_97() {
     use crate::proved::bitlanes::ops::*;
     use crate::proved::bitlanes::{word, Block, Steps};
+    use crate::proved::bitwalks::in_turn::*;
     use crate::proved::bitwords::cursors::*;
     use crate::proved::fixedbitset::*;
     use crate::shim::u64x4;
@@ -1858,6 +2111,7 @@ fn fixedbitset_views_neighbours_97() {
 fn fixedbitset_views_positions_16() {
     use crate::proved::bitlanes::ops::*;
     use crate::proved::bitlanes::{word, Block, Steps};
+    use crate::proved::bitwalks::in_turn::*;
     use crate::proved::bitwords::cursors::*;
     use crate::proved::fixedbitset::*;
     use crate::shim::u64x4;
@@ -1873,6 +2127,7 @@ fn fixedbitset_views_positions_16() {
 fn fixedbitset_views_positions_45() {
     use crate::proved::bitlanes::ops::*;
     use crate::proved::bitlanes::{word, Block, Steps};
+    use crate::proved::bitwalks::in_turn::*;
     use crate::proved::bitwords::cursors::*;
     use crate::proved::fixedbitset::*;
     use crate::shim::u64x4;
@@ -1889,6 +2144,7 @@ fn fixedbitset_views_positions_45() {
 fn fixedbitset_views_positions_58() {
     use crate::proved::bitlanes::ops::*;
     use crate::proved::bitlanes::{word, Block, Steps};
+    use crate::proved::bitwalks::in_turn::*;
     use crate::proved::bitwords::cursors::*;
     use crate::proved::fixedbitset::*;
     use crate::shim::u64x4;
@@ -1901,9 +2157,28 @@ fn fixedbitset_views_positions_58() {
 }
 
 #[test]
-fn fixedbitset_views_positions_72() {
+fn fixedbitset_views_positions_71() {
     use crate::proved::bitlanes::ops::*;
     use crate::proved::bitlanes::{word, Block, Steps};
+    use crate::proved::bitwalks::in_turn::*;
+    use crate::proved::bitwords::cursors::*;
+    use crate::proved::fixedbitset::*;
+    use crate::shim::u64x4;
+    use core::cmp::Ordering;
+    use core::mem::{size_of, size_of_val};
+
+    let mut words = [9, 2, 0, 0];
+    let set = BitsMut::settle(&mut words, 70, 70);
+    let mut answers = [false; 3];
+    set.as_bits().contains_each(&[65, 64, 500], &mut answers);
+    assert_eq!(answers, [true, false, false]);
+}
+
+#[test]
+fn fixedbitset_views_positions_89() {
+    use crate::proved::bitlanes::ops::*;
+    use crate::proved::bitlanes::{word, Block, Steps};
+    use crate::proved::bitwalks::in_turn::*;
     use crate::proved::bitwords::cursors::*;
     use crate::proved::fixedbitset::*;
     use crate::shim::u64x4;
@@ -1916,9 +2191,10 @@ fn fixedbitset_views_positions_72() {
 }
 
 #[test]
-fn fixedbitset_views_positions_87() {
+fn fixedbitset_views_positions_104() {
     use crate::proved::bitlanes::ops::*;
     use crate::proved::bitlanes::{word, Block, Steps};
+    use crate::proved::bitwalks::in_turn::*;
     use crate::proved::bitwords::cursors::*;
     use crate::proved::fixedbitset::*;
     use crate::shim::u64x4;
@@ -1931,9 +2207,10 @@ fn fixedbitset_views_positions_87() {
 }
 
 #[test]
-fn fixedbitset_views_positions_102() {
+fn fixedbitset_views_positions_119() {
     use crate::proved::bitlanes::ops::*;
     use crate::proved::bitlanes::{word, Block, Steps};
+    use crate::proved::bitwalks::in_turn::*;
     use crate::proved::bitwords::cursors::*;
     use crate::proved::fixedbitset::*;
     use crate::shim::u64x4;
@@ -1946,9 +2223,10 @@ fn fixedbitset_views_positions_102() {
 }
 
 #[test]
-fn fixedbitset_views_positions_121() {
+fn fixedbitset_views_positions_138() {
     use crate::proved::bitlanes::ops::*;
     use crate::proved::bitlanes::{word, Block, Steps};
+    use crate::proved::bitwalks::in_turn::*;
     use crate::proved::bitwords::cursors::*;
     use crate::proved::fixedbitset::*;
     use crate::shim::u64x4;
@@ -1961,9 +2239,10 @@ fn fixedbitset_views_positions_121() {
 }
 
 #[test]
-fn fixedbitset_views_positions_135() {
+fn fixedbitset_views_positions_152() {
     use crate::proved::bitlanes::ops::*;
     use crate::proved::bitlanes::{word, Block, Steps};
+    use crate::proved::bitwalks::in_turn::*;
     use crate::proved::bitwords::cursors::*;
     use crate::proved::fixedbitset::*;
     use crate::shim::u64x4;
@@ -1976,9 +2255,10 @@ fn fixedbitset_views_positions_135() {
 }
 
 #[test]
-fn fixedbitset_views_positions_148() {
+fn fixedbitset_views_positions_165() {
     use crate::proved::bitlanes::ops::*;
     use crate::proved::bitlanes::{word, Block, Steps};
+    use crate::proved::bitwalks::in_turn::*;
     use crate::proved::bitwords::cursors::*;
     use crate::proved::fixedbitset::*;
     use crate::shim::u64x4;
@@ -1991,9 +2271,10 @@ fn fixedbitset_views_positions_148() {
 }
 
 #[test]
-fn fixedbitset_views_positions_163() {
+fn fixedbitset_views_positions_180() {
     use crate::proved::bitlanes::ops::*;
     use crate::proved::bitlanes::{word, Block, Steps};
+    use crate::proved::bitwalks::in_turn::*;
     use crate::proved::bitwords::cursors::*;
     use crate::proved::fixedbitset::*;
     use crate::shim::u64x4;
@@ -2007,9 +2288,10 @@ fn fixedbitset_views_positions_163() {
 }
 
 #[test]
-fn fixedbitset_views_positions_176() {
+fn fixedbitset_views_positions_193() {
     use crate::proved::bitlanes::ops::*;
     use crate::proved::bitlanes::{word, Block, Steps};
+    use crate::proved::bitwalks::in_turn::*;
     use crate::proved::bitwords::cursors::*;
     use crate::proved::fixedbitset::*;
     use crate::shim::u64x4;
@@ -2023,9 +2305,10 @@ fn fixedbitset_views_positions_176() {
 }
 
 #[test]
-fn fixedbitset_views_positions_189() {
+fn fixedbitset_views_positions_206() {
     use crate::proved::bitlanes::ops::*;
     use crate::proved::bitlanes::{word, Block, Steps};
+    use crate::proved::bitwalks::in_turn::*;
     use crate::proved::bitwords::cursors::*;
     use crate::proved::fixedbitset::*;
     use crate::shim::u64x4;
@@ -2039,9 +2322,10 @@ fn fixedbitset_views_positions_189() {
 }
 
 #[test]
-fn fixedbitset_views_positions_202() {
+fn fixedbitset_views_positions_219() {
     use crate::proved::bitlanes::ops::*;
     use crate::proved::bitlanes::{word, Block, Steps};
+    use crate::proved::bitwalks::in_turn::*;
     use crate::proved::bitwords::cursors::*;
     use crate::proved::fixedbitset::*;
     use crate::shim::u64x4;
@@ -2055,9 +2339,10 @@ fn fixedbitset_views_positions_202() {
 }
 
 #[test]
-fn fixedbitset_views_positions_218() {
+fn fixedbitset_views_positions_235() {
     use crate::proved::bitlanes::ops::*;
     use crate::proved::bitlanes::{word, Block, Steps};
+    use crate::proved::bitwalks::in_turn::*;
     use crate::proved::bitwords::cursors::*;
     use crate::proved::fixedbitset::*;
     use crate::shim::u64x4;
@@ -2072,9 +2357,10 @@ fn fixedbitset_views_positions_218() {
 }
 
 #[test]
-fn fixedbitset_views_positions_234() {
+fn fixedbitset_views_positions_251() {
     use crate::proved::bitlanes::ops::*;
     use crate::proved::bitlanes::{word, Block, Steps};
+    use crate::proved::bitwalks::in_turn::*;
     use crate::proved::bitwords::cursors::*;
     use crate::proved::fixedbitset::*;
     use crate::shim::u64x4;
@@ -2088,9 +2374,10 @@ fn fixedbitset_views_positions_234() {
 }
 
 #[test]
-fn fixedbitset_views_positions_252() {
+fn fixedbitset_views_positions_269() {
     use crate::proved::bitlanes::ops::*;
     use crate::proved::bitlanes::{word, Block, Steps};
+    use crate::proved::bitwalks::in_turn::*;
     use crate::proved::bitwords::cursors::*;
     use crate::proved::fixedbitset::*;
     use crate::shim::u64x4;
@@ -2105,9 +2392,10 @@ fn fixedbitset_views_positions_252() {
 }
 
 #[test]
-fn fixedbitset_views_positions_268() {
+fn fixedbitset_views_positions_285() {
     use crate::proved::bitlanes::ops::*;
     use crate::proved::bitlanes::{word, Block, Steps};
+    use crate::proved::bitwalks::in_turn::*;
     use crate::proved::bitwords::cursors::*;
     use crate::proved::fixedbitset::*;
     use crate::shim::u64x4;
@@ -2121,9 +2409,10 @@ fn fixedbitset_views_positions_268() {
 }
 
 #[test]
-fn fixedbitset_views_positions_287() {
+fn fixedbitset_views_positions_304() {
     use crate::proved::bitlanes::ops::*;
     use crate::proved::bitlanes::{word, Block, Steps};
+    use crate::proved::bitwalks::in_turn::*;
     use crate::proved::bitwords::cursors::*;
     use crate::proved::fixedbitset::*;
     use crate::shim::u64x4;
@@ -2137,9 +2426,10 @@ fn fixedbitset_views_positions_287() {
 }
 
 #[test]
-fn fixedbitset_views_positions_305() {
+fn fixedbitset_views_positions_322() {
     use crate::proved::bitlanes::ops::*;
     use crate::proved::bitlanes::{word, Block, Steps};
+    use crate::proved::bitwalks::in_turn::*;
     use crate::proved::bitwords::cursors::*;
     use crate::proved::fixedbitset::*;
     use crate::shim::u64x4;
@@ -2153,9 +2443,10 @@ fn fixedbitset_views_positions_305() {
 }
 
 #[test]
-fn fixedbitset_views_positions_319() {
+fn fixedbitset_views_positions_336() {
     use crate::proved::bitlanes::ops::*;
     use crate::proved::bitlanes::{word, Block, Steps};
+    use crate::proved::bitwalks::in_turn::*;
     use crate::proved::bitwords::cursors::*;
     use crate::proved::fixedbitset::*;
     use crate::shim::u64x4;
@@ -2169,9 +2460,10 @@ fn fixedbitset_views_positions_319() {
 }
 
 #[test]
-fn fixedbitset_views_positions_334() {
+fn fixedbitset_views_positions_351() {
     use crate::proved::bitlanes::ops::*;
     use crate::proved::bitlanes::{word, Block, Steps};
+    use crate::proved::bitwalks::in_turn::*;
     use crate::proved::bitwords::cursors::*;
     use crate::proved::fixedbitset::*;
     use crate::shim::u64x4;
@@ -2186,6 +2478,7 @@ fn fixedbitset_views_positions_334() {
 fn fixedbitset_views_ranges_18() {
     use crate::proved::bitlanes::ops::*;
     use crate::proved::bitlanes::{word, Block, Steps};
+    use crate::proved::bitwalks::in_turn::*;
     use crate::proved::bitwords::cursors::*;
     use crate::proved::fixedbitset::*;
     use crate::shim::u64x4;
@@ -2202,6 +2495,7 @@ fn fixedbitset_views_ranges_18() {
 fn fixedbitset_views_ranges_31() {
     use crate::proved::bitlanes::ops::*;
     use crate::proved::bitlanes::{word, Block, Steps};
+    use crate::proved::bitwalks::in_turn::*;
     use crate::proved::bitwords::cursors::*;
     use crate::proved::fixedbitset::*;
     use crate::shim::u64x4;
@@ -2218,6 +2512,7 @@ fn fixedbitset_views_ranges_31() {
 fn fixedbitset_views_ranges_44() {
     use crate::proved::bitlanes::ops::*;
     use crate::proved::bitlanes::{word, Block, Steps};
+    use crate::proved::bitwalks::in_turn::*;
     use crate::proved::bitwords::cursors::*;
     use crate::proved::fixedbitset::*;
     use crate::shim::u64x4;
@@ -2234,6 +2529,7 @@ fn fixedbitset_views_ranges_44() {
 fn fixedbitset_views_ranges_57() {
     use crate::proved::bitlanes::ops::*;
     use crate::proved::bitlanes::{word, Block, Steps};
+    use crate::proved::bitwalks::in_turn::*;
     use crate::proved::bitwords::cursors::*;
     use crate::proved::fixedbitset::*;
     use crate::shim::u64x4;
@@ -2250,6 +2546,7 @@ fn fixedbitset_views_ranges_57() {
 fn fixedbitset_views_ranges_83() {
     use crate::proved::bitlanes::ops::*;
     use crate::proved::bitlanes::{word, Block, Steps};
+    use crate::proved::bitwalks::in_turn::*;
     use crate::proved::bitwords::cursors::*;
     use crate::proved::fixedbitset::*;
     use crate::shim::u64x4;
@@ -2266,6 +2563,7 @@ fn fixedbitset_views_ranges_83() {
 fn fixedbitset_views_ranges_96() {
     use crate::proved::bitlanes::ops::*;
     use crate::proved::bitlanes::{word, Block, Steps};
+    use crate::proved::bitwalks::in_turn::*;
     use crate::proved::bitwords::cursors::*;
     use crate::proved::fixedbitset::*;
     use crate::shim::u64x4;
@@ -2281,6 +2579,7 @@ fn fixedbitset_views_ranges_96() {
 fn fixedbitset_views_ranges_108() {
     use crate::proved::bitlanes::ops::*;
     use crate::proved::bitlanes::{word, Block, Steps};
+    use crate::proved::bitwalks::in_turn::*;
     use crate::proved::bitwords::cursors::*;
     use crate::proved::fixedbitset::*;
     use crate::shim::u64x4;
@@ -2296,6 +2595,7 @@ fn fixedbitset_views_ranges_108() {
 fn fixedbitset_views_ranges_120() {
     use crate::proved::bitlanes::ops::*;
     use crate::proved::bitlanes::{word, Block, Steps};
+    use crate::proved::bitwalks::in_turn::*;
     use crate::proved::bitwords::cursors::*;
     use crate::proved::fixedbitset::*;
     use crate::shim::u64x4;
@@ -2311,6 +2611,7 @@ fn fixedbitset_views_ranges_120() {
 fn fixedbitset_views_ranges_132() {
     use crate::proved::bitlanes::ops::*;
     use crate::proved::bitlanes::{word, Block, Steps};
+    use crate::proved::bitwalks::in_turn::*;
     use crate::proved::bitwords::cursors::*;
     use crate::proved::fixedbitset::*;
     use crate::shim::u64x4;
@@ -2326,6 +2627,7 @@ fn fixedbitset_views_ranges_132() {
 fn fixedbitset_views_ranges_144() {
     use crate::proved::bitlanes::ops::*;
     use crate::proved::bitlanes::{word, Block, Steps};
+    use crate::proved::bitwalks::in_turn::*;
     use crate::proved::bitwords::cursors::*;
     use crate::proved::fixedbitset::*;
     use crate::shim::u64x4;
@@ -2341,6 +2643,7 @@ fn fixedbitset_views_ranges_144() {
 fn fixedbitset_views_shifts_18() {
     use crate::proved::bitlanes::ops::*;
     use crate::proved::bitlanes::{word, Block, Steps};
+    use crate::proved::bitwalks::in_turn::*;
     use crate::proved::bitwords::cursors::*;
     use crate::proved::fixedbitset::*;
     use crate::shim::u64x4;
@@ -2358,6 +2661,7 @@ fn fixedbitset_views_shifts_18() {
 fn fixedbitset_views_shifts_34() {
     use crate::proved::bitlanes::ops::*;
     use crate::proved::bitlanes::{word, Block, Steps};
+    use crate::proved::bitwalks::in_turn::*;
     use crate::proved::bitwords::cursors::*;
     use crate::proved::fixedbitset::*;
     use crate::shim::u64x4;
@@ -2374,6 +2678,7 @@ fn fixedbitset_views_shifts_34() {
 fn fixedbitset_views_shifts_50() {
     use crate::proved::bitlanes::ops::*;
     use crate::proved::bitlanes::{word, Block, Steps};
+    use crate::proved::bitwalks::in_turn::*;
     use crate::proved::bitwords::cursors::*;
     use crate::proved::fixedbitset::*;
     use crate::shim::u64x4;
@@ -2391,6 +2696,7 @@ fn fixedbitset_views_shifts_50() {
 fn fixedbitset_views_shifts_69() {
     use crate::proved::bitlanes::ops::*;
     use crate::proved::bitlanes::{word, Block, Steps};
+    use crate::proved::bitwalks::in_turn::*;
     use crate::proved::bitwords::cursors::*;
     use crate::proved::fixedbitset::*;
     use crate::shim::u64x4;
@@ -2408,6 +2714,7 @@ fn fixedbitset_views_shifts_69() {
 fn fixedbitset_views_shifts_90() {
     use crate::proved::bitlanes::ops::*;
     use crate::proved::bitlanes::{word, Block, Steps};
+    use crate::proved::bitwalks::in_turn::*;
     use crate::proved::bitwords::cursors::*;
     use crate::proved::fixedbitset::*;
     use crate::shim::u64x4;
@@ -2425,6 +2732,7 @@ fn fixedbitset_views_shifts_90() {
 fn fixedbitset_views_shifts_116() {
     use crate::proved::bitlanes::ops::*;
     use crate::proved::bitlanes::{word, Block, Steps};
+    use crate::proved::bitwalks::in_turn::*;
     use crate::proved::bitwords::cursors::*;
     use crate::proved::fixedbitset::*;
     use crate::shim::u64x4;
@@ -2441,6 +2749,7 @@ fn fixedbitset_views_shifts_116() {
 fn fixedbitset_views_shifts_147() {
     use crate::proved::bitlanes::ops::*;
     use crate::proved::bitlanes::{word, Block, Steps};
+    use crate::proved::bitwalks::in_turn::*;
     use crate::proved::bitwords::cursors::*;
     use crate::proved::fixedbitset::*;
     use crate::shim::u64x4;
@@ -2457,6 +2766,7 @@ fn fixedbitset_views_shifts_147() {
 fn fixedbitset_views_shifts_164() {
     use crate::proved::bitlanes::ops::*;
     use crate::proved::bitlanes::{word, Block, Steps};
+    use crate::proved::bitwalks::in_turn::*;
     use crate::proved::bitwords::cursors::*;
     use crate::proved::fixedbitset::*;
     use crate::shim::u64x4;
@@ -2470,9 +2780,10 @@ fn fixedbitset_views_shifts_164() {
 }
 
 #[test]
-fn fixedbitset_views_walks_16() {
+fn fixedbitset_views_walks_17() {
     use crate::proved::bitlanes::ops::*;
     use crate::proved::bitlanes::{word, Block, Steps};
+    use crate::proved::bitwalks::in_turn::*;
     use crate::proved::bitwords::cursors::*;
     use crate::proved::fixedbitset::*;
     use crate::shim::u64x4;
@@ -2485,9 +2796,10 @@ fn fixedbitset_views_walks_16() {
 }
 
 #[test]
-fn fixedbitset_views_walks_30() {
+fn fixedbitset_views_walks_31() {
     use crate::proved::bitlanes::ops::*;
     use crate::proved::bitlanes::{word, Block, Steps};
+    use crate::proved::bitwalks::in_turn::*;
     use crate::proved::bitwords::cursors::*;
     use crate::proved::fixedbitset::*;
     use crate::shim::u64x4;
@@ -2501,9 +2813,10 @@ fn fixedbitset_views_walks_30() {
 }
 
 #[test]
-fn fixedbitset_views_walks_46() {
+fn fixedbitset_views_walks_47() {
     use crate::proved::bitlanes::ops::*;
     use crate::proved::bitlanes::{word, Block, Steps};
+    use crate::proved::bitwalks::in_turn::*;
     use crate::proved::bitwords::cursors::*;
     use crate::proved::fixedbitset::*;
     use crate::shim::u64x4;
@@ -2517,9 +2830,46 @@ fn fixedbitset_views_walks_46() {
 }
 
 #[test]
-fn fixedbitset_views_walks_61() {
+fn fixedbitset_views_walks_63() {
     use crate::proved::bitlanes::ops::*;
     use crate::proved::bitlanes::{word, Block, Steps};
+    use crate::proved::bitwalks::in_turn::*;
+    use crate::proved::bitwords::cursors::*;
+    use crate::proved::fixedbitset::*;
+    use crate::shim::u64x4;
+    use core::cmp::Ordering;
+    use core::mem::{size_of, size_of_val};
+
+    let (mut words, mut other) = ([9, 2, 0, 0], [3, 0, 0, 0]);
+    let set = BitsMut::settle(&mut words, 70, 70);
+    let other = BitsMut::settle(&mut other, 9, 9);
+    let mut walk = set.as_bits().union(other.as_bits());
+    assert_eq!((walk.take_first(), walk.take_last()), (Some(0), Some(1)));
+}
+
+#[test]
+fn fixedbitset_views_walks_78() {
+    use crate::proved::bitlanes::ops::*;
+    use crate::proved::bitlanes::{word, Block, Steps};
+    use crate::proved::bitwalks::in_turn::*;
+    use crate::proved::bitwords::cursors::*;
+    use crate::proved::fixedbitset::*;
+    use crate::shim::u64x4;
+    use core::cmp::Ordering;
+    use core::mem::{size_of, size_of_val};
+
+    let (mut words, mut other) = ([9, 2, 0, 0], [3, 0, 0, 0]);
+    let set = BitsMut::settle(&mut words, 70, 70);
+    let other = BitsMut::settle(&mut other, 9, 9);
+    let mut walk = set.as_bits().symmetric_difference(other.as_bits());
+    assert_eq!((walk.take_first(), walk.take_last()), (Some(3), Some(1)));
+}
+
+#[test]
+fn fixedbitset_views_walks_95() {
+    use crate::proved::bitlanes::ops::*;
+    use crate::proved::bitlanes::{word, Block, Steps};
+    use crate::proved::bitwalks::in_turn::*;
     use crate::proved::bitwords::cursors::*;
     use crate::proved::fixedbitset::*;
     use crate::shim::u64x4;
@@ -2532,9 +2882,10 @@ fn fixedbitset_views_walks_61() {
 }
 
 #[test]
-fn fixedbitset_views_walks_73() {
+fn fixedbitset_views_walks_107() {
     use crate::proved::bitlanes::ops::*;
     use crate::proved::bitlanes::{word, Block, Steps};
+    use crate::proved::bitwalks::in_turn::*;
     use crate::proved::bitwords::cursors::*;
     use crate::proved::fixedbitset::*;
     use crate::shim::u64x4;
@@ -2547,9 +2898,10 @@ fn fixedbitset_views_walks_73() {
 }
 
 #[test]
-fn fixedbitset_views_walks_86() {
+fn fixedbitset_views_walks_120() {
     use crate::proved::bitlanes::ops::*;
     use crate::proved::bitlanes::{word, Block, Steps};
+    use crate::proved::bitwalks::in_turn::*;
     use crate::proved::bitwords::cursors::*;
     use crate::proved::fixedbitset::*;
     use crate::shim::u64x4;
@@ -2562,9 +2914,10 @@ fn fixedbitset_views_walks_86() {
 }
 
 #[test]
-fn fixedbitset_views_walks_99() {
+fn fixedbitset_views_walks_133() {
     use crate::proved::bitlanes::ops::*;
     use crate::proved::bitlanes::{word, Block, Steps};
+    use crate::proved::bitwalks::in_turn::*;
     use crate::proved::bitwords::cursors::*;
     use crate::proved::fixedbitset::*;
     use crate::shim::u64x4;
@@ -2577,9 +2930,10 @@ fn fixedbitset_views_walks_99() {
 }
 
 #[test]
-fn fixedbitset_views_walks_112() {
+fn fixedbitset_views_walks_146() {
     use crate::proved::bitlanes::ops::*;
     use crate::proved::bitlanes::{word, Block, Steps};
+    use crate::proved::bitwalks::in_turn::*;
     use crate::proved::bitwords::cursors::*;
     use crate::proved::fixedbitset::*;
     use crate::shim::u64x4;
@@ -2595,6 +2949,7 @@ fn fixedbitset_views_walks_112() {
 fn fixedbitset_views_whole_19() {
     use crate::proved::bitlanes::ops::*;
     use crate::proved::bitlanes::{word, Block, Steps};
+    use crate::proved::bitwalks::in_turn::*;
     use crate::proved::bitwords::cursors::*;
     use crate::proved::fixedbitset::*;
     use crate::shim::u64x4;
@@ -2612,6 +2967,7 @@ fn fixedbitset_views_whole_19() {
 fn fixedbitset_views_whole_33() {
     use crate::proved::bitlanes::ops::*;
     use crate::proved::bitlanes::{word, Block, Steps};
+    use crate::proved::bitwalks::in_turn::*;
     use crate::proved::bitwords::cursors::*;
     use crate::proved::fixedbitset::*;
     use crate::shim::u64x4;
@@ -2629,6 +2985,7 @@ fn fixedbitset_views_whole_33() {
 fn fixedbitset_views_whole_47() {
     use crate::proved::bitlanes::ops::*;
     use crate::proved::bitlanes::{word, Block, Steps};
+    use crate::proved::bitwalks::in_turn::*;
     use crate::proved::bitwords::cursors::*;
     use crate::proved::fixedbitset::*;
     use crate::shim::u64x4;
@@ -2646,6 +3003,7 @@ fn fixedbitset_views_whole_47() {
 fn fixedbitset_views_whole_61() {
     use crate::proved::bitlanes::ops::*;
     use crate::proved::bitlanes::{word, Block, Steps};
+    use crate::proved::bitwalks::in_turn::*;
     use crate::proved::bitwords::cursors::*;
     use crate::proved::fixedbitset::*;
     use crate::shim::u64x4;
@@ -2663,6 +3021,7 @@ fn fixedbitset_views_whole_61() {
 fn fixedbitset_views_whole_83() {
     use crate::proved::bitlanes::ops::*;
     use crate::proved::bitlanes::{word, Block, Steps};
+    use crate::proved::bitwalks::in_turn::*;
     use crate::proved::bitwords::cursors::*;
     use crate::proved::fixedbitset::*;
     use crate::shim::u64x4;
@@ -2679,6 +3038,7 @@ fn fixedbitset_views_whole_83() {
 fn fixedbitset_views_whole_96() {
     use crate::proved::bitlanes::ops::*;
     use crate::proved::bitlanes::{word, Block, Steps};
+    use crate::proved::bitwalks::in_turn::*;
     use crate::proved::bitwords::cursors::*;
     use crate::proved::fixedbitset::*;
     use crate::shim::u64x4;
@@ -2695,6 +3055,7 @@ fn fixedbitset_views_whole_96() {
 fn fixedbitset_views_whole_109() {
     use crate::proved::bitlanes::ops::*;
     use crate::proved::bitlanes::{word, Block, Steps};
+    use crate::proved::bitwalks::in_turn::*;
     use crate::proved::bitwords::cursors::*;
     use crate::proved::fixedbitset::*;
     use crate::shim::u64x4;
@@ -2711,6 +3072,7 @@ fn fixedbitset_views_whole_109() {
 fn fixedbitset_views_whole_122() {
     use crate::proved::bitlanes::ops::*;
     use crate::proved::bitlanes::{word, Block, Steps};
+    use crate::proved::bitwalks::in_turn::*;
     use crate::proved::bitwords::cursors::*;
     use crate::proved::fixedbitset::*;
     use crate::shim::u64x4;
@@ -2728,6 +3090,7 @@ fn fixedbitset_views_whole_122() {
 fn fixedbitset_views_whole_136() {
     use crate::proved::bitlanes::ops::*;
     use crate::proved::bitlanes::{word, Block, Steps};
+    use crate::proved::bitwalks::in_turn::*;
     use crate::proved::bitwords::cursors::*;
     use crate::proved::fixedbitset::*;
     use crate::shim::u64x4;
@@ -2744,6 +3107,7 @@ fn fixedbitset_views_whole_136() {
 fn fixedbitset_views_whole_149() {
     use crate::proved::bitlanes::ops::*;
     use crate::proved::bitlanes::{word, Block, Steps};
+    use crate::proved::bitwalks::in_turn::*;
     use crate::proved::bitwords::cursors::*;
     use crate::proved::fixedbitset::*;
     use crate::shim::u64x4;
@@ -2760,6 +3124,7 @@ fn fixedbitset_views_whole_149() {
 fn fixedbitset_views_whole_162() {
     use crate::proved::bitlanes::ops::*;
     use crate::proved::bitlanes::{word, Block, Steps};
+    use crate::proved::bitwalks::in_turn::*;
     use crate::proved::bitwords::cursors::*;
     use crate::proved::fixedbitset::*;
     use crate::shim::u64x4;
@@ -2776,6 +3141,7 @@ fn fixedbitset_views_whole_162() {
 fn fixedbitset_views_whole_177() {
     use crate::proved::bitlanes::ops::*;
     use crate::proved::bitlanes::{word, Block, Steps};
+    use crate::proved::bitwalks::in_turn::*;
     use crate::proved::bitwords::cursors::*;
     use crate::proved::fixedbitset::*;
     use crate::shim::u64x4;
@@ -2793,6 +3159,7 @@ fn fixedbitset_views_whole_177() {
 fn fixedbitset_views_whole_191() {
     use crate::proved::bitlanes::ops::*;
     use crate::proved::bitlanes::{word, Block, Steps};
+    use crate::proved::bitwalks::in_turn::*;
     use crate::proved::bitwords::cursors::*;
     use crate::proved::fixedbitset::*;
     use crate::shim::u64x4;
@@ -2809,6 +3176,7 @@ fn fixedbitset_views_whole_191() {
 fn fixedbitset_views_whole_207() {
     use crate::proved::bitlanes::ops::*;
     use crate::proved::bitlanes::{word, Block, Steps};
+    use crate::proved::bitwalks::in_turn::*;
     use crate::proved::bitwords::cursors::*;
     use crate::proved::fixedbitset::*;
     use crate::shim::u64x4;

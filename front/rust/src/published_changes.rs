@@ -1,4 +1,4 @@
-// Made by front/publish from crates/fixedbitset/src/views: change that, and not this.
+// Made by front/publish from crates/fixedbitset/src: change that, and not this.
 //! The calls of the views that change a set over lent words.
 use crate::proved::bitlanes::Steps;
 use crate::{Bits, BitsMut, Block, IndexRange};

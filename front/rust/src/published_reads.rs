@@ -1,7 +1,10 @@
-// Made by front/publish from crates/fixedbitset/src/views: change that, and not this.
+// Made by front/publish from crates/fixedbitset/src: change that, and not this.
 //! The calls of the views that read a set over lent words.
 use crate::proved::bitlanes::Steps;
-use crate::{Bits, Block, Difference, IndexRange, Intersection, Ones, Runs, Zeroes};
+use crate::{
+    Bits, Block, Difference, IndexRange, Intersection, Ones, Runs, SymmetricDifference, Union,
+    Zeroes,
+};
 
 impl<'a> Bits<'a> {
     /// The least number at or past `from` with `count` clear positions from there on, or
@@ -208,6 +211,29 @@ impl<'a> Bits<'a> {
     #[inline]
     pub fn contains(self, bit: usize) -> bool {
         self.view.contains(bit)
+    }
+
+    /// Writes for each position of the list whether it is set: `false` at or past the length. There
+    /// have to be as many answers as positions. It looks at one word at most for each item.
+    ///
+    /// **Panics** where there are not as many answers as positions.
+    ///
+    /// Proved: , for all sets, wherever it does not panic
+    /// ([contract](crate::contracts#fixedbitsetbitscontains_each)).
+    ///
+    /// ```
+    /// # use fixedbitset::BitsMut;
+    /// let mut words = [9, 2, 0, 0];
+    /// let set = BitsMut::settle(&mut words, 70, 70);
+    /// let mut answers = [false; 3];
+    /// set.as_bits().contains_each(&[65, 64, 500], &mut answers);
+    /// assert_eq!(answers, [true, false, false]);
+    /// ```
+    #[inline]
+    #[track_caller]
+    pub fn contains_each(self, positions: &[usize], answers: &mut [bool]) {
+        self.assert_like(positions, answers);
+        self.view.contains_each(positions, answers);
     }
 
     /// Whether no position is set.
@@ -436,6 +462,46 @@ impl<'a> Bits<'a> {
     pub fn difference(self, other: Bits<'a>) -> Difference<'a> {
         let walk = self.view.difference(other.view);
         Difference { walk }
+    }
+
+    /// The positions of the first set, and then those of the second that the first lacks, each part
+    /// in ascending order.
+    ///
+    /// Proved: each item, for any two sets and any mix of calls from both ends
+    /// ([contract](crate::contracts#fixedbitsetbitsunion)).
+    ///
+    /// ```
+    /// # use fixedbitset::BitsMut;
+    /// let (mut words, mut other) = ([9, 2, 0, 0], [3, 0, 0, 0]);
+    /// let set = BitsMut::settle(&mut words, 70, 70);
+    /// let other = BitsMut::settle(&mut other, 9, 9);
+    /// let mut walk = set.as_bits().union(other.as_bits());
+    /// assert_eq!((walk.next(), walk.next_back()), (Some(0), Some(1)));
+    /// ```
+    #[inline]
+    pub fn union(self, other: Bits<'a>) -> Union<'a> {
+        let walk = self.view.union(other.view);
+        Union { walk }
+    }
+
+    /// The positions of the first set that the second lacks, and then those of the second that the
+    /// first lacks, each part in ascending order.
+    ///
+    /// Proved: each item, for any two sets and any mix of calls from both ends
+    /// ([contract](crate::contracts#fixedbitsetbitssymmetric_difference)).
+    ///
+    /// ```
+    /// # use fixedbitset::BitsMut;
+    /// let (mut words, mut other) = ([9, 2, 0, 0], [3, 0, 0, 0]);
+    /// let set = BitsMut::settle(&mut words, 70, 70);
+    /// let other = BitsMut::settle(&mut other, 9, 9);
+    /// let mut walk = set.as_bits().symmetric_difference(other.as_bits());
+    /// assert_eq!((walk.next(), walk.next_back()), (Some(3), Some(1)));
+    /// ```
+    #[inline]
+    pub fn symmetric_difference(self, other: Bits<'a>) -> SymmetricDifference<'a> {
+        let walk = self.view.symmetric_difference(other.view);
+        SymmetricDifference { walk }
     }
 
     /// The positions below the length that are not set, in ascending order.

@@ -1,7 +1,9 @@
 //! How many positions stand below a given one, and which is the k-th. The crate of this name has no such calls.
-use crate::FixedBitSet;
-use alloc::vec::Vec;
-use core::fmt::{Debug, Formatter, Result};
+use crate::memory::OrAbort;
+use crate::proved::bitranks;
+use crate::shim::alloc::Global;
+use crate::{AllocError, FixedBitSet};
+use core::fmt::{Debug, Formatter, Result as Written};
 
 /// A set that is lent, with a directory that answers how many positions stand below a given one.
 ///
@@ -19,7 +21,7 @@ use core::fmt::{Debug, Formatter, Result};
 /// ```
 pub struct Ranks<'a> {
     set: &'a FixedBitSet,
-    directory: Vec<usize>,
+    ranks: bitranks::Ranks<'a>,
 }
 
 impl<'a> Ranks<'a> {
@@ -33,10 +35,23 @@ impl<'a> Ranks<'a> {
     /// assert_eq!(Ranks::of(&set).rank(usize::MAX), 3);
     /// ```
     pub fn of(set: &'a FixedBitSet) -> Self {
-        Ranks {
-            set,
-            directory: set.words.directory(),
-        }
+        let ranks = bitranks::Ranks::of(Global::Abort, &set.set).or_abort();
+        Ranks { set, ranks }
+    }
+
+    /// [`of`](Self::of), which says where memory is refused.
+    ///
+    /// Proved: the ranks, for all sets ([contract](crate::contracts#bitranksranksof)).
+    ///
+    /// ```
+    /// # use fixedbitset::{FixedBitSet, Ranks};
+    /// let set: FixedBitSet = [3, 64, 70].into_iter().collect();
+    /// assert_eq!(Ranks::try_of(&set)?.rank(70), 2);
+    /// # Ok::<(), fixedbitset::AllocError>(())
+    /// ```
+    pub fn try_of(set: &'a FixedBitSet) -> Result<Self, AllocError> {
+        let ranks = bitranks::Ranks::of(Global::Try, &set.set)?;
+        Ok(Ranks { set, ranks })
     }
 
     /// The set.
@@ -66,7 +81,7 @@ impl<'a> Ranks<'a> {
     /// ```
     #[inline]
     pub fn rank(&self, position: usize) -> usize {
-        self.set.words.rank(&self.directory, position)
+        self.ranks.rank(position)
     }
 
     /// The position with so many positions of the set below it: the first has index 0. `None` where the set has no more
@@ -82,14 +97,14 @@ impl<'a> Ranks<'a> {
     /// ```
     #[inline]
     pub fn select(&self, index: usize) -> Option<usize> {
-        self.set.words.select(&self.directory, index)
+        self.ranks.select(index)
     }
 }
 
 /// Not proved: it prints the set.
 impl Debug for Ranks<'_> {
     /// The set.
-    fn fmt(&self, f: &mut Formatter<'_>) -> Result {
+    fn fmt(&self, f: &mut Formatter<'_>) -> Written {
         f.debug_struct("Ranks").field("set", self.set).finish()
     }
 }

@@ -1,8 +1,7 @@
-//! Calls that read a set over lent words and are put together of others. Those of `FixedBitSet` hand over to them.
-use crate::proved::bitwalks::in_turn::InTurn;
-use crate::{panics, Bits, SymmetricDifference, Union};
+//! The length of a set over lent words, the ends of a range of it, and the panics of the calls that read one.
+use crate::{panics, Bits, IndexRange};
 
-impl<'a> Bits<'a> {
+impl Bits<'_> {
     /// [`FixedBitSet::len`](crate::FixedBitSet::len).
     ///
     /// Not proved: it answers the number that is kept.
@@ -30,67 +29,44 @@ impl<'a> Bits<'a> {
         self.len() == 0
     }
 
-    /// [`FixedBitSet::contains_each`](crate::FixedBitSet::contains_each).
-    ///
-    /// **Panics** where there are not as many answers as positions.
-    ///
-    /// Proved: each of the answers ([contract](crate::contracts#fixedbitsetbitscontains)).
-    ///
-    /// ```
-    /// # use fixedbitset::Bits;
-    /// let set = Bits::over(&[9, 2, 0, 0], 70).unwrap();
-    /// let mut answers = [false; 3];
-    /// set.contains_each(&[65, 64, 1000], &mut answers);
-    /// assert_eq!(answers, [true, false, false]);
-    /// ```
+    /// The panic of a list of answers that is not as long as that of the positions.
     #[inline]
     #[track_caller]
-    pub fn contains_each(self, positions: &[usize], answers: &mut [bool]) {
-        let (count, places) = (positions.len(), answers.len());
-        if count != places {
-            panics::unlike(places, count);
-        }
-        let each = positions.iter().zip(answers);
-        each.for_each(|(bit, answer)| *answer = self.contains(*bit));
-    }
-
-    /// [`FixedBitSet::union`](crate::FixedBitSet::union).
-    ///
-    /// Proved: each item of both parts and their order, for any mix of calls from both ends
-    /// ([first](crate::contracts#bitwalksin_turninturntake_first),
-    /// [last](crate::contracts#bitwalksin_turninturntake_last)).
-    ///
-    /// ```
-    /// # use fixedbitset::Bits;
-    /// let set = Bits::over(&[9, 2, 0, 0], 70).unwrap();
-    /// let other = Bits::over(&[3, 0, 0, 0], 9).unwrap();
-    /// assert!(set.union(other).eq([0, 3, 65, 1]));
-    /// ```
-    #[inline]
-    pub fn union(self, other: Bits<'a>) -> Union<'a> {
-        let (all, alone) = (self.view.ones(), other.view.difference(self.view));
-        Union {
-            walk: InTurn::of(all, alone),
+    pub(crate) fn assert_like(self, positions: &[usize], answers: &[bool]) {
+        if positions.len() != answers.len() {
+            panics::unlike(answers.len(), positions.len());
         }
     }
 
-    /// [`FixedBitSet::symmetric_difference`](crate::FixedBitSet::symmetric_difference).
-    ///
-    /// Proved: each item of both parts and their order, for any mix of calls from both ends
-    /// ([first](crate::contracts#bitwalksin_turninturntake_first),
-    /// [last](crate::contracts#bitwalksin_turninturntake_last)).
-    ///
-    /// ```
-    /// # use fixedbitset::Bits;
-    /// let set = Bits::over(&[9, 2, 0, 0], 70).unwrap();
-    /// let other = Bits::over(&[3, 0, 0, 0], 9).unwrap();
-    /// assert!(set.symmetric_difference(other).eq([3, 65, 1]));
-    /// ```
     #[inline]
-    pub fn symmetric_difference(self, other: Bits<'a>) -> SymmetricDifference<'a> {
-        let (set, other) = (self.view, other.view);
-        SymmetricDifference {
-            walk: InTurn::of(set.difference(other), other.difference(set)),
+    pub(crate) fn ends<T: IndexRange>(self, range: &T) -> (usize, usize) {
+        (
+            range.start().unwrap_or(0),
+            range.end().unwrap_or(self.len()),
+        )
+    }
+
+    /// The ends of a range, which has to be valid.
+    #[inline]
+    #[track_caller]
+    pub(crate) fn part<T: IndexRange>(self, range: &T) -> (usize, usize) {
+        let (start, end) = self.ends(range);
+        if !self.view.range_is_valid(start, end) {
+            panics::not_valid(start, end, self.len());
+        }
+        (start, end)
+    }
+
+    /// Panics where so many positions from `start` on do not fit a number, or are not below the length.
+    #[inline]
+    #[track_caller]
+    pub(crate) fn assert_part(self, start: usize, width: usize) {
+        if width > 64 {
+            panics::wide(width);
+        }
+        let length = self.len();
+        if start > length || width > length - start {
+            panics::not_valid(start, start.saturating_add(width), length);
         }
     }
 }

@@ -1,8 +1,9 @@
 //! Tables of bits. The crate of this name has none.
-use crate::proved::bitlanes::Steps;
-use crate::words::Table;
-use crate::{panics, Ones};
-use core::fmt::{Debug, Formatter, Result};
+use crate::memory::OrAbort;
+use crate::proved::bitrows::table;
+use crate::shim::alloc::Global;
+use crate::{panics, AllocError, Ones};
+use core::fmt::{Debug, Formatter, Result as Written};
 
 /// A table of bits: so many rows of so many columns.
 ///
@@ -21,7 +22,7 @@ use core::fmt::{Debug, Formatter, Result};
 /// ```
 #[derive(Clone)]
 pub struct BitRows {
-    table: Table,
+    table: table::BitRows,
 }
 
 impl BitRows {
@@ -39,9 +40,23 @@ impl BitRows {
     /// ```
     #[track_caller]
     pub fn new(rows: usize, columns: usize) -> Self {
-        BitRows {
-            table: Table::new(rows, columns),
-        }
+        let table = table::BitRows::new(Global::Abort, rows, columns).or_abort();
+        BitRows { table }
+    }
+
+    /// [`new`](Self::new), which says where memory is refused.
+    ///
+    /// Proved: the table, for all numbers ([contract](crate::contracts#bitrowsbitrowsnew)).
+    ///
+    /// ```
+    /// # use fixedbitset::BitRows;
+    /// assert_eq!(BitRows::try_new(3, 70)?.columns(), 70);
+    /// assert!(BitRows::try_new(usize::MAX, 70).is_err());
+    /// # Ok::<(), fixedbitset::AllocError>(())
+    /// ```
+    pub fn try_new(rows: usize, columns: usize) -> Result<Self, AllocError> {
+        let table = table::BitRows::new(Global::Try, rows, columns)?;
+        Ok(BitRows { table })
     }
 
     /// How many rows there are.
@@ -54,7 +69,7 @@ impl BitRows {
     /// ```
     #[inline]
     pub fn rows(&self) -> usize {
-        self.table.as_rows().rows
+        self.table.rows()
     }
 
     /// How many columns there are.
@@ -67,7 +82,7 @@ impl BitRows {
     /// ```
     #[inline]
     pub fn columns(&self) -> usize {
-        self.table.as_rows().columns
+        self.table.columns()
     }
 
     /// Whether the row has a bit at the column: `false` past the rows and past the columns.
@@ -82,7 +97,7 @@ impl BitRows {
     /// ```
     #[inline]
     pub fn get(&self, row: usize, column: usize) -> bool {
-        row < self.rows() && self.table.as_rows().get(row, column)
+        row < self.rows() && self.table.get(row, column)
     }
 
     /// Sets the bit of the row at the column, or clears it where `enabled` is false.
@@ -106,7 +121,7 @@ impl BitRows {
         if row >= rows || column >= columns {
             panics::no_cell(row, column, rows, columns);
         }
-        self.table.as_rows_mut().set(row, column, enabled);
+        self.table.set(row, column, enabled);
     }
 
     /// Row `into` takes in the bits of row `from`, and the other rows stay. It answers whether a bit came in. Where the two
@@ -131,7 +146,7 @@ impl BitRows {
         if from >= rows || into >= rows {
             panics::no_pair(from, into, rows);
         }
-        self.table.as_rows_mut().union_rows(from, into)
+        self.table.union_rows(from, into)
     }
 
     /// The columns at which the row has a bit, in ascending order.
@@ -174,14 +189,14 @@ impl BitRows {
     /// assert_eq!(edges.row(0).collect::<Vec<_>>(), [0, 1]);
     /// ```
     pub fn close(&mut self) {
-        self.table.as_rows_mut().close(&mut Steps::new());
+        self.table.close();
     }
 }
 
 /// Proved: the columns of each row ([contract](crate::contracts#bitrowsrowsrow)). The text around them is not.
 impl Debug for BitRows {
     /// The columns of each row.
-    fn fmt(&self, f: &mut Formatter<'_>) -> Result {
+    fn fmt(&self, f: &mut Formatter<'_>) -> Written {
         f.debug_list()
             .entries((0..self.rows()).map(|row| self.row(row)))
             .finish()

@@ -1,5 +1,4 @@
 //! `Serialize` and `Deserialize`, in the form that upstream writes: a struct of the length and the bytes of the words.
-use crate::words::Words;
 use crate::FixedBitSet;
 use alloc::{collections::TryReserveError, vec::Vec};
 use core::fmt::{Formatter, Result as Written};
@@ -34,10 +33,8 @@ impl<'de> Deserialize<'de> for FixedBitSet {
 /// The set of this length with these bytes.
 fn set_of<E: Error>(length: u64, bytes: &Bytes) -> Result<FixedBitSet, E> {
     let length = usize::try_from(length).ok();
-    let words = length.and_then(|bits| Words::try_with_length(bits, bytes.0.len()));
-    let mut words = words.ok_or_else(|| E::custom("no memory holds a set of this length"))?;
-    words.read_bytes(&bytes.0);
-    Ok(FixedBitSet { words })
+    let set = length.and_then(|bits| FixedBitSet::try_from_bytes(bits, &bytes.0).ok());
+    set.ok_or_else(|| E::custom("no memory holds a set of this length"))
 }
 
 /// Reads the struct.

@@ -1,4 +1,5 @@
-//! What Rattle's `std` has and stable Rust has not: a lane of four words, and a snapshot of a value for proofs.
+//! What Rattle's `std` has and stable Rust has not: a lane of four words, a row of numbers whose calls say where memory is refused,
+//! and a snapshot of a value for proofs.
 
 /// A word. On a target of 64 bits it is `usize`, as upstream's is.
 #[cfg(target_pointer_width = "64")]
@@ -125,3 +126,209 @@ pub mod snapshot {
         }
     }
 }
+
+/// The text of bytes that are ASCII.
+#[inline]
+pub fn text_of(digits: &[u8]) -> &str {
+    core::str::from_utf8(digits).unwrap_or_default()
+}
+
+/// What `use std::alloc` names.
+pub mod alloc {
+    /// What a call does that takes memory of its own and is refused it. (Rattle's is the allocator.)
+    #[derive(Clone, Copy)]
+    pub enum Global {
+        /// The call says so.
+        Try,
+        /// The program ends, as by Rust's own collections.
+        Abort,
+    }
+
+    /// Memory was refused: by the allocator, or since no memory is so large.
+    ///
+    /// Not proved: it is a number.
+    ///
+    /// ```
+    /// # use fixedbitset::FixedBitSet;
+    /// let mut set = FixedBitSet::new();
+    /// let refused = set.try_grow(1 << 40).is_err_and(|error| error.bytes() == 1 << 37);
+    /// assert!(refused || set.len() == 1 << 40);
+    /// ```
+    #[derive(Clone, Copy, Debug, PartialEq, Eq)]
+    pub struct AllocError {
+        pub(crate) bytes: usize,
+    }
+
+    /// The error where there are more numbers than can be counted.
+    #[allow(non_upper_case_globals)]
+    pub const AllocError: AllocError = AllocError { bytes: usize::MAX };
+}
+
+/// What Rattle's prelude has and Rust's has not.
+pub mod prelude {
+    pub use super::row::Vec;
+
+    /// A value that is copied by a call which may be refused memory.
+    pub trait Clone: Sized {
+        fn clone(&self) -> Result<Self, super::alloc::AllocError>;
+    }
+}
+
+/// A row of numbers. A call that may take memory asks for all of it first, and what follows is that of Rust's own `Vec`.
+pub mod row {
+    use super::alloc::{AllocError, Global};
+    use alloc::vec::{self, IntoIter};
+    use core::ops::{Deref, DerefMut};
+
+    /// From so many numbers on a new row is zeroed by the allocator, which writes none of them. (For fewer that takes longer.)
+    const LONG: usize = 8192;
+
+    #[derive(Clone)]
+    pub struct Vec<T>(vec::Vec<T>);
+
+    impl<T> Vec<T> {
+        pub const EMPTY: Self = Vec(vec::Vec::new());
+    }
+
+    impl<T: Copy> Vec<T> {
+        #[inline]
+        pub fn new(_: Global) -> Self {
+            Self::EMPTY
+        }
+
+        #[inline]
+        pub fn with_capacity(alloc: Global, count: usize) -> Result<Self, AllocError> {
+            let mut row = Self::EMPTY;
+            match alloc {
+                Global::Abort => row.0.reserve_exact(count),
+                Global::Try => row.0.try_reserve_exact(count).map_err(|_| refused::<T>(count))?,
+            }
+            Ok(row)
+        }
+
+        /// What `vec![in alloc; item; count]` makes. No safe call of Rust gives zeroed memory or a refusal, so a long row is
+        /// asked for, given back and taken again. (If another thread takes the memory in between, the program ends.)
+        #[inline]
+        pub fn filled(alloc: Global, item: T, count: usize) -> Result<Self, AllocError> {
+            let mut row = Self::EMPTY;
+            if count < LONG {
+                row = Self::with_capacity(alloc, count)?;
+                row.0.resize(count, item);
+            } else {
+                if let Global::Try = alloc {
+                    drop(core::hint::black_box(Self::with_capacity(alloc, count)?));
+                }
+                row.0 = long(item, count);
+            }
+            Ok(row)
+        }
+
+        #[inline]
+        pub fn from_slice(alloc: Global, items: &[T]) -> Result<Self, AllocError> {
+            let mut row = Self::with_capacity(alloc, items.len())?;
+            row.0.extend_from_slice(items);
+            Ok(row)
+        }
+
+        #[inline]
+        pub fn from_clones(alloc: Global, items: &[T]) -> Result<Self, AllocError> {
+            Self::from_slice(alloc, items)
+        }
+
+        #[inline]
+        pub fn allocator(&self) -> &Global {
+            &Global::Abort
+        }
+
+        #[inline]
+        pub fn as_slice(&self) -> &[T] {
+            &self.0
+        }
+
+        #[inline]
+        pub fn as_mut_slice(&mut self) -> &mut [T] {
+            &mut self.0
+        }
+
+        #[inline]
+        pub fn truncate(&mut self, count: usize) {
+            self.0.truncate(count);
+        }
+
+        #[inline]
+        pub fn resize(&mut self, count: usize, item: T) -> Result<(), AllocError> {
+            self.reserve(count.saturating_sub(self.0.len()))?;
+            self.0.resize(count, item);
+            Ok(())
+        }
+
+        #[inline]
+        pub fn extend_from_slice(&mut self, items: &[T]) -> Result<(), AllocError> {
+            self.reserve(items.len())?;
+            self.0.extend_from_slice(items);
+            Ok(())
+        }
+
+        /// Of items whose hint says how many they are at most, as that of two rows side by side does.
+        #[inline]
+        pub fn extend<I: Iterator<Item = T>>(&mut self, items: I) -> Result<(), AllocError> {
+            self.reserve(items.size_hint().1.unwrap_or(usize::MAX))?;
+            self.0.extend(items);
+            Ok(())
+        }
+
+        #[inline]
+        pub fn into_vec(self) -> vec::Vec<T> {
+            self.0
+        }
+
+        #[inline]
+        pub fn into_iter(self) -> IntoIter<T> {
+            self.0.into_iter()
+        }
+
+        #[inline]
+        fn reserve(&mut self, more: usize) -> Result<(), AllocError> {
+            let count = self.0.len().saturating_add(more);
+            self.0.try_reserve(more).map_err(|_| refused::<T>(count))
+        }
+    }
+
+    #[cold]
+    #[inline(never)]
+    fn long<T: Clone>(item: T, count: usize) -> vec::Vec<T> {
+        alloc::vec![item; count]
+    }
+
+    /// The error where there is no memory for so many.
+    fn refused<T>(count: usize) -> AllocError {
+        let bytes = count.saturating_mul(core::mem::size_of::<T>());
+        AllocError { bytes }
+    }
+
+    impl<T> Deref for Vec<T> {
+        type Target = [T];
+
+        #[inline]
+        fn deref(&self) -> &[T] {
+            &self.0
+        }
+    }
+
+    impl<T> DerefMut for Vec<T> {
+        #[inline]
+        fn deref_mut(&mut self) -> &mut [T] {
+            &mut self.0
+        }
+    }
+
+    /// What `vec![in alloc; item; count]` is in the proved modules.
+    macro_rules! row {
+        (in $alloc:expr; $item:expr; $count:expr) => {
+            crate::shim::row::Vec::filled($alloc, $item, $count)
+        };
+    }
+    pub(crate) use row;
+}
+
+pub(crate) use row::row;

@@ -1,7 +1,8 @@
 //! Sets over words that someone else keeps. The crate of this name has none.
+use crate::memory::OrAbort;
 use crate::proved::bitlanes::Steps;
-use crate::proved::fixedbitset::views;
-use crate::words::Words;
+use crate::proved::fixedbitset::{set, views};
+use crate::shim::alloc::Global;
 use crate::{panics, Block, FixedBitSet};
 use core::cmp::Ordering;
 use core::ops::Index;
@@ -167,7 +168,7 @@ impl FixedBitSet {
     /// ```
     #[inline]
     pub fn as_bits(&self) -> Bits<'_> {
-        let view = self.words.as_bits();
+        let view = self.set.as_bits();
         Bits { view }
     }
 
@@ -183,7 +184,8 @@ impl FixedBitSet {
     /// ```
     #[inline]
     pub fn as_bits_mut(&mut self) -> BitsMut<'_> {
-        let view = self.words.as_bits_mut();
+        let (words, length) = (&mut *self.set.words, self.set.length);
+        let view = views::BitsMut { words, length };
         BitsMut { view }
     }
 }
@@ -192,9 +194,8 @@ impl FixedBitSet {
 impl From<Bits<'_>> for FixedBitSet {
     /// A copy.
     fn from(set: Bits<'_>) -> Self {
-        FixedBitSet {
-            words: Words::of(set.view),
-        }
+        let set = set::FixedBitSet::from_bits(Global::Abort, set.view).or_abort();
+        FixedBitSet { set }
     }
 }
 

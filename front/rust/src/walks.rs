@@ -1,158 +1,12 @@
 //! The walks over positions. Each call of one is a call of a proved walk.
+use crate::proved::bitlanes::ops::{And, AndNot};
 use crate::proved::bitlanes::word::take_lowest_bit;
-use crate::words::{
-    JoinedLeft, LackedLeft, OnesLeft, OwnedLeft, SharedLeft, SplitLeft, ZeroesLeft,
-};
-use crate::{panics, words, Block, FixedBitSet, IndexRange};
+use crate::proved::bitlanes::Steps;
+use crate::proved::bitwalks::{self, in_turn::InTurn};
+use crate::proved::bitwords::cursors::{Beside, Cursor, Inverted, Plain};
+use crate::{panics, Block};
 use core::fmt::{Debug, Formatter, Result};
 use core::iter::FusedIterator;
-
-impl FixedBitSet {
-    /// The positions that are set, in ascending order.
-    ///
-    /// Proved: each item, for all sets and any mix of calls from both ends
-    /// ([contract](crate::contracts#fixedbitsetbitsones)).
-    ///
-    /// ```
-    /// # use fixedbitset::FixedBitSet;
-    /// let set: FixedBitSet = [9, 3, 70].into_iter().collect();
-    /// assert_eq!(set.ones().collect::<Vec<_>>(), [3, 9, 70]);
-    /// ```
-    #[inline]
-    pub fn ones(&self) -> Ones<'_> {
-        self.as_bits().ones()
-    }
-
-    /// The positions that are set, in ascending order. The walk owns the set.
-    ///
-    /// Proved: each item, for all words and any mix of calls from both ends
-    /// ([contract](crate::contracts#bitwordscursorscursorover)).
-    ///
-    /// ```
-    /// # use fixedbitset::FixedBitSet;
-    /// let set: FixedBitSet = [9, 3, 70].into_iter().collect();
-    /// assert_eq!(set.into_ones().rev().collect::<Vec<_>>(), [70, 9, 3]);
-    /// ```
-    #[inline]
-    pub fn into_ones(self) -> IntoOnes {
-        IntoOnes {
-            walk: self.words.into_ones(),
-        }
-    }
-
-    /// The positions below the length that are not set, in ascending order.
-    ///
-    /// Proved: each item, for all sets and any mix of calls from both ends
-    /// ([contract](crate::contracts#fixedbitsetbitszeroes)).
-    ///
-    /// ```
-    /// # use fixedbitset::FixedBitSet;
-    /// let set: FixedBitSet = [1, 3].into_iter().collect();
-    /// assert_eq!(set.zeroes().collect::<Vec<_>>(), [0, 2]);
-    /// ```
-    #[inline]
-    pub fn zeroes(&self) -> Zeroes<'_> {
-        self.as_bits().zeroes()
-    }
-
-    /// The positions of the range that are set, in ascending order. It takes only the words that hold a position of the
-    /// range.
-    ///
-    /// **Panics** where the range is not valid.
-    ///
-    /// Proved: each item, for all sets, each valid range, and any mix of calls from both ends
-    /// ([contract](crate::contracts#fixedbitsetbitsones_in)).
-    ///
-    /// ```
-    /// # use fixedbitset::FixedBitSet;
-    /// let set: FixedBitSet = [9, 3, 70].into_iter().collect();
-    /// assert_eq!(set.ones_in(4..70).collect::<Vec<_>>(), [9]);
-    /// ```
-    #[inline]
-    #[track_caller]
-    pub fn ones_in<T: IndexRange>(&self, range: T) -> Ones<'_> {
-        self.as_bits().ones_in(range)
-    }
-
-    /// The positions of the range that are not set, in ascending order. It takes only the words that hold a position of
-    /// the range.
-    ///
-    /// **Panics** where the range is not valid.
-    ///
-    /// Proved: each item, for all sets, each valid range, and any mix of calls from both ends
-    /// ([contract](crate::contracts#fixedbitsetbitszeroes_in)).
-    ///
-    /// ```
-    /// # use fixedbitset::FixedBitSet;
-    /// let set: FixedBitSet = [1, 3].into_iter().collect();
-    /// assert_eq!(set.zeroes_in(1..).collect::<Vec<_>>(), [2]);
-    /// ```
-    #[inline]
-    #[track_caller]
-    pub fn zeroes_in<T: IndexRange>(&self, range: T) -> Zeroes<'_> {
-        self.as_bits().zeroes_in(range)
-    }
-
-    /// The positions of both sets, in ascending order.
-    ///
-    /// Proved: each item, for any two sets and any mix of calls from both ends
-    /// ([contract](crate::contracts#fixedbitsetbitsintersection)).
-    ///
-    /// ```
-    /// # use fixedbitset::FixedBitSet;
-    /// let (set, other): (FixedBitSet, FixedBitSet) = ([1, 3].into_iter().collect(), [2, 3].into_iter().collect());
-    /// assert_eq!(set.intersection(&other).collect::<Vec<_>>(), [3]);
-    /// ```
-    #[inline]
-    pub fn intersection<'a>(&'a self, other: &'a FixedBitSet) -> Intersection<'a> {
-        self.as_bits().intersection(other.as_bits())
-    }
-
-    /// The positions of this set in ascending order, and then those that `other` alone has.
-    ///
-    /// Proved: each item of both parts and their order, for any mix of calls from both ends
-    /// ([first](crate::contracts#bitwalksin_turninturntake_first), [last](crate::contracts#bitwalksin_turninturntake_last)).
-    ///
-    /// ```
-    /// # use fixedbitset::FixedBitSet;
-    /// let (set, other): (FixedBitSet, FixedBitSet) = ([1, 3].into_iter().collect(), [2, 3].into_iter().collect());
-    /// assert_eq!(set.union(&other).collect::<Vec<_>>(), [1, 3, 2]);
-    /// ```
-    #[inline]
-    pub fn union<'a>(&'a self, other: &'a FixedBitSet) -> Union<'a> {
-        self.as_bits().union(other.as_bits())
-    }
-
-    /// The positions of this set that `other` lacks, in ascending order.
-    ///
-    /// Proved: each item, for any two sets and any mix of calls from both ends
-    /// ([contract](crate::contracts#fixedbitsetbitsdifference)).
-    ///
-    /// ```
-    /// # use fixedbitset::FixedBitSet;
-    /// let (set, other): (FixedBitSet, FixedBitSet) = ([1, 3].into_iter().collect(), [2, 3].into_iter().collect());
-    /// assert_eq!(set.difference(&other).collect::<Vec<_>>(), [1]);
-    /// ```
-    #[inline]
-    pub fn difference<'a>(&'a self, other: &'a FixedBitSet) -> Difference<'a> {
-        self.as_bits().difference(other.as_bits())
-    }
-
-    /// The positions that this set alone has in ascending order, and then those that `other` alone has.
-    ///
-    /// Proved: each item of both parts and their order, for any mix of calls from both ends
-    /// ([first](crate::contracts#bitwalksin_turninturntake_first), [last](crate::contracts#bitwalksin_turninturntake_last)).
-    ///
-    /// ```
-    /// # use fixedbitset::FixedBitSet;
-    /// let (set, other): (FixedBitSet, FixedBitSet) = ([1, 3].into_iter().collect(), [2, 3].into_iter().collect());
-    /// assert_eq!(set.symmetric_difference(&other).rev().collect::<Vec<_>>(), [2, 1]);
-    /// ```
-    #[inline]
-    pub fn symmetric_difference<'a>(&'a self, other: &'a FixedBitSet) -> SymmetricDifference<'a> {
-        self.as_bits().symmetric_difference(other.as_bits())
-    }
-}
 
 /// The walk of [`FixedBitSet::ones`] and of [`FixedBitSet::ones_in`].
 ///
@@ -167,7 +21,7 @@ impl FixedBitSet {
 /// ```
 #[derive(Clone)]
 pub struct Ones<'a> {
-    pub(crate) walk: OnesLeft<'a>,
+    pub(crate) walk: Cursor<Plain<'a>>,
 }
 
 /// The walk of [`FixedBitSet::into_ones`].
@@ -181,7 +35,7 @@ pub struct Ones<'a> {
 /// assert_eq!(walk.count(), 0);
 /// ```
 pub struct IntoOnes {
-    pub(crate) walk: OwnedLeft,
+    pub(crate) walk: bitwalks::IntoOnes,
 }
 
 /// The walk of [`FixedBitSet::zeroes`] and of [`FixedBitSet::zeroes_in`].
@@ -196,7 +50,7 @@ pub struct IntoOnes {
 /// ```
 #[derive(Clone)]
 pub struct Zeroes<'a> {
-    pub(crate) walk: ZeroesLeft<'a>,
+    pub(crate) walk: Cursor<Inverted<'a>>,
 }
 
 /// The walk of [`FixedBitSet::intersection`].
@@ -211,7 +65,7 @@ pub struct Zeroes<'a> {
 /// ```
 #[derive(Clone)]
 pub struct Intersection<'a> {
-    pub(crate) walk: SharedLeft<'a>,
+    pub(crate) walk: Cursor<Beside<'a, And>>,
 }
 
 /// The walk of [`FixedBitSet::difference`].
@@ -226,7 +80,7 @@ pub struct Intersection<'a> {
 /// ```
 #[derive(Clone)]
 pub struct Difference<'a> {
-    pub(crate) walk: LackedLeft<'a>,
+    pub(crate) walk: Cursor<Beside<'a, AndNot>>,
 }
 
 /// The walk of [`FixedBitSet::union`]. From the back it begins with what the second set alone has.
@@ -241,7 +95,7 @@ pub struct Difference<'a> {
 /// ```
 #[derive(Clone)]
 pub struct Union<'a> {
-    pub(crate) walk: JoinedLeft<'a>,
+    pub(crate) walk: InTurn<Cursor<Plain<'a>>, Cursor<Beside<'a, AndNot>>>,
 }
 
 /// The walk of [`FixedBitSet::symmetric_difference`]. From the back it begins with what the second set alone has.
@@ -256,7 +110,7 @@ pub struct Union<'a> {
 /// ```
 #[derive(Clone)]
 pub struct SymmetricDifference<'a> {
-    pub(crate) walk: SplitLeft<'a>,
+    pub(crate) walk: InTurn<Cursor<Beside<'a, AndNot>>, Cursor<Beside<'a, AndNot>>>,
 }
 
 /// The traits of a walk over one row of words, which ascends.
@@ -279,7 +133,7 @@ macro_rules! walks {
 
             #[inline]
             fn count(self) -> usize {
-                words::left_of(self.walk)
+                self.walk.count_left(&mut Steps::new())
             }
 
             #[inline]
@@ -348,7 +202,7 @@ macro_rules! walks_in_turn {
 
             #[inline]
             fn count(self) -> usize {
-                words::left_of_both(self.walk)
+                self.walk.count_left(&mut Steps::new())
             }
 
             #[inline]

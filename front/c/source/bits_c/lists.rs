@@ -35,9 +35,7 @@ pub fn bits_contains_each(
     if positions.len() != answers.len() {
         return false;
     }
-    for (index, position) in positions.iter().enumerate() {
-        answers[index] = set.contains(*position);
-    }
+    set.contains_each(positions, answers);
     true
 }
 

@@ -4,4 +4,5 @@
 //!
 //! The form is read from a value, its bytes are made words, and words are made a value. No
 //! call here knows a set.
+pub mod bytes;
 pub mod fills;

@@ -3,4 +3,7 @@
 //! which position is the k-th.
 //!
 //! Both are answered by a directory beside the words of the set: one number for eight words.
+pub mod counted;
 pub mod directory;
+pub mod ranks;
+pub use self::ranks::Ranks;

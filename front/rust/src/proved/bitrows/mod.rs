@@ -5,5 +5,8 @@
 //! at which it has a bit (`specs/Tables.antt`). Each row is kept in whole lanes of four words, as a
 //! set of `fixedbitset` is, so a call on rows is one of a set over the words of a row. The calls of
 //! `BitRows` hand over to those of `Rows` and `RowsMut`.
+pub mod counted;
+pub mod table;
 pub mod views;
+pub use self::table::BitRows;
 pub use self::views::{Rows, RowsMut};

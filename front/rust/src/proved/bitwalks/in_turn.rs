@@ -2,6 +2,7 @@
 //! Two walks in turn: from the front the first and then the second, from the back the
 //! second and then the first.
 
+use crate::proved::bitlanes::counter::Steps;
 use crate::proved::bitwords::cursors::{Cursor, Middle};
 
 /// A walk that may be one of two in turn.
@@ -30,6 +31,19 @@ impl<M: Middle> Part for Cursor<M> {
     #[inline]
     fn most(&self) -> Option<usize> {
         self.size_hint().1
+    }
+}
+
+/// A walk whose items left can be counted at once.
+pub trait Counted: Part {
+    /// How many items are left. It asks that this number fits `usize`.
+    fn count_items(self, steps: &mut Steps) -> usize;
+}
+
+impl<M: Middle> Counted for Cursor<M> {
+    #[inline]
+    fn count_items(self, steps: &mut Steps) -> usize {
+        self.count_left(steps)
     }
 }
 
@@ -98,5 +112,23 @@ impl<A: Part, B: Part> InTurn<A, B> {
             first_left: _,
         } = self;
         (first, second)
+    }
+}
+
+impl<A: Counted, B: Counted> InTurn<A, B> {
+    /// How many items both walks have left. It asks that this number fits `usize`, and takes at
+    /// most as many steps as a count of the one and of the other.
+    ///
+    /// ```text
+    /// let first = Cursor::over(Plain { words: &[9, 1] });
+    /// let second = Cursor::over(Plain { words: &[7] });
+    /// let mut walks = InTurn::of(first, second);
+    /// assert_eq!(walks.take_first(), Some(0));
+    /// assert_eq!(walks.count_left(&mut Steps::new()), 5);
+    /// ```
+    #[inline]
+    pub fn count_left(self, steps: &mut Steps) -> usize {
+        let (first, second) = self.into_walks();
+        first.count_items(steps) + second.count_items(steps)
     }
 }

@@ -3,4 +3,6 @@
 //! knows a set or its length.
 pub mod in_turn;
 pub mod runs;
+pub mod walks;
 pub use self::runs::Runs;
+pub use self::walks::{IntoOnes, Ones, Zeroes};

@@ -5,9 +5,12 @@
 //! between them stand in a `Middle`, which says where they come from: a slice, a slice of inverted
 //! words, two slices joined, or a vector that the cursor owns.
 
+use crate::proved::bitwords::joins;
 use crate::proved::bitlanes::counter::Steps;
+use crate::proved::bitlanes::lanes;
 use crate::proved::bitlanes::ops::WordOp;
 use crate::proved::bitlanes::word::{BITS, Block, ones_below, stretch, take_highest_bit, take_lowest_bit};
+use crate::shim::alloc::Global;
 use core::marker::PhantomData;
 use alloc::vec;
 
@@ -18,6 +21,7 @@ use alloc::vec;
 /// assert_eq!(Middle::take_first(&mut middle), Some(3));
 /// assert_eq!(Middle::take_last(&mut middle), Some(7));
 /// assert_eq!(Middle::left(&middle), 1);
+/// assert_eq!(Middle::count_positions(middle, &mut Steps::new()), 2);
 /// ```
 pub trait Middle {
     /// Takes the first word, if there is one.
@@ -28,6 +32,12 @@ pub trait Middle {
 
     /// How many words are left.
     fn left(&self) -> usize;
+
+    /// How many positions the words left have. It asks that they are below 2 ^ 58.
+    ///
+    /// It goes over words, and over no positions: it takes at most one step for each lane of four
+    /// words, and one more.
+    fn count_positions(self, steps: &mut Steps) -> usize;
 }
 
 /// Words that can be looked at before they are taken.
@@ -73,6 +83,11 @@ impl<'a> Middle for Plain<'a> {
     fn left(&self) -> usize {
         self.words.len()
     }
+
+    #[inline]
+    fn count_positions(self, steps: &mut Steps) -> usize {
+        count_of(self.words, steps)
+    }
 }
 
 impl<'a> Seen for Plain<'a> {
@@ -109,6 +124,11 @@ impl<'a> Middle for Inverted<'a> {
     #[inline]
     fn left(&self) -> usize {
         self.plain.left()
+    }
+
+    #[inline]
+    fn count_positions(self, steps: &mut Steps) -> usize {
+        count_lacking(self.plain.words, steps)
     }
 }
 
@@ -174,6 +194,11 @@ impl<'a, O: WordOp> Middle for Beside<'a, O> {
     fn left(&self) -> usize {
         self.plain.left()
     }
+
+    #[inline]
+    fn count_positions(self, steps: &mut Steps) -> usize {
+        count_beside::<O>(self.plain.words, self.other, steps)
+    }
 }
 
 /// Words that the cursor owns.
@@ -192,6 +217,36 @@ impl Middle for vec::IntoIter<Block> {
     fn left(&self) -> usize {
         self.len()
     }
+
+    #[inline]
+    fn count_positions(self, steps: &mut Steps) -> usize {
+        let mut words = self;
+        steps.tick_lanes(words.left());
+        let mut total = 0;
+        while let Some(word) = words.take_first() {
+            total += word.count_ones() as usize;
+        }
+        total
+    }
+}
+
+// How many positions a row of words has.
+#[inline]
+fn count_of(words: &[Block], steps: &mut Steps) -> usize {
+    lanes::count_one(words, steps)
+}
+
+// How many positions it lacks.
+#[inline]
+fn count_lacking(words: &[Block], steps: &mut Steps) -> usize {
+    BITS * words.len() - lanes::count_one(words, steps)
+}
+
+// How many it has of which the other row, cut to its length, says so by `O`.
+#[inline]
+fn count_beside<O: WordOp>(words: &[Block], other: &[Block], steps: &mut Steps) -> usize {
+    let common = words.len().min(other.len());
+    joins::count::<O>(words, &other[..common], steps)
 }
 
 // A row of words, cut into its ends and those between. For a word that isn't there, an end has 0.
@@ -334,6 +389,23 @@ impl<M: Middle> Cursor<M> {
             turns: Steps::new(),
             taken: Steps::new(),
         }
+    }
+
+    /// How many positions are left. It asks that this number fits `usize`.
+    ///
+    /// It goes over the words and over no positions: with `m` words between the two that the cursor
+    /// holds it takes at most `m / 4` steps, rounded up, and two more.
+    ///
+    /// ```text
+    /// let mut cursor = Cursor::over(Plain { words: &[9, 7, 1] });
+    /// assert_eq!(cursor.next(), Some(0));
+    /// assert_eq!(cursor.count_left(&mut Steps::new()), 5);
+    /// ```
+    #[inline]
+    pub fn count_left(self, steps: &mut Steps) -> usize {
+        let held = self.into_held();
+        let ends = [held.front, held.back];
+        held.middle.count_positions(steps) + lanes::count_one(&ends, steps)
     }
 
     // The words stand at these positions, the ones between the first and the

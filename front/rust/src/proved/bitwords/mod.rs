@@ -7,6 +7,7 @@ pub mod cursors;
 pub mod gaps;
 pub mod handfuls;
 pub mod joins;
+pub mod new_rows;
 pub mod positions;
 pub mod ranges;
 pub mod shifts;

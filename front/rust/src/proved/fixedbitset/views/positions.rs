@@ -65,6 +65,23 @@ impl<'a> Bits<'a> {
         self.words[bit / BITS] & (1 << (bit % BITS)) != 0
     }
 
+    /// Writes for each position of the list whether it is set: `false` at or past the length. There
+    /// have to be as many answers as positions. It looks at one word at most for each item.
+    ///
+    /// ```text
+    /// let mut words = [9, 2, 0, 0];
+    /// let set = BitsMut::settle(&mut words, 70, 70);
+    /// let mut answers = [false; 3];
+    /// set.as_bits().contains_each(&[65, 64, 500], &mut answers);
+    /// assert_eq!(answers, [true, false, false]);
+    /// ```
+    #[inline]
+    pub fn contains_each(self, positions: &[usize], answers: &mut [bool]) {
+        for index in 0..positions.len() {
+            answers[index] = self.contains(positions[index]);
+        }
+    }
+
     /// Whether no position is set.
     ///
     /// It takes one step for each lane up to the first position that is set, or for all of them.

@@ -7,6 +7,7 @@
 use crate::proved::fixedbitset::views::Bits;
 use crate::proved::bitlanes::Block;
 use crate::proved::bitlanes::ops::{And, AndNot};
+use crate::proved::bitwalks::in_turn::InTurn;
 use crate::proved::bitwalks::runs::Runs;
 use crate::proved::bitwords::cursors::{Beside, Cursor, Inverted, Plain, ones_within, zeroes_within};
 
@@ -54,6 +55,39 @@ impl<'a> Bits<'a> {
         let words = self.as_slice();
         let other = all(other.words);
         Cursor::over(Beside::of(words, other))
+    }
+
+    /// The positions of the first set, and then those of the second that the first lacks, each part
+    /// in ascending order.
+    ///
+    /// ```text
+    /// let (mut words, mut other) = ([9, 2, 0, 0], [3, 0, 0, 0]);
+    /// let set = BitsMut::settle(&mut words, 70, 70);
+    /// let other = BitsMut::settle(&mut other, 9, 9);
+    /// let mut walk = set.as_bits().union(other.as_bits());
+    /// assert_eq!((walk.take_first(), walk.take_last()), (Some(0), Some(1)));
+    /// ```
+    #[inline(always)]
+    pub fn union(self, other: Bits<'a>) -> InTurn<Cursor<Plain<'a>>, Cursor<Beside<'a, AndNot>>> {
+        InTurn::of(self.ones(), other.difference(self))
+    }
+
+    /// The positions of the first set that the second lacks, and then those of the second that the
+    /// first lacks, each part in ascending order.
+    ///
+    /// ```text
+    /// let (mut words, mut other) = ([9, 2, 0, 0], [3, 0, 0, 0]);
+    /// let set = BitsMut::settle(&mut words, 70, 70);
+    /// let other = BitsMut::settle(&mut other, 9, 9);
+    /// let mut walk = set.as_bits().symmetric_difference(other.as_bits());
+    /// assert_eq!((walk.take_first(), walk.take_last()), (Some(3), Some(1)));
+    /// ```
+    #[inline(always)]
+    pub fn symmetric_difference(
+        self,
+        other: Bits<'a>,
+    ) -> InTurn<Cursor<Beside<'a, AndNot>>, Cursor<Beside<'a, AndNot>>> {
+        InTurn::of(self.difference(other), other.difference(self))
     }
 
     /// The positions below the length that are not set, in ascending order.

@@ -1,0 +1,83 @@
+// Made by front/erase from crates/bitwords/src/new_rows.rt: change that, and not this.
+//! Two rows of words joined into a new one, which takes memory.
+
+use crate::shim::prelude::Vec;
+use crate::proved::bitwords::joins::join;
+use crate::proved::bitlanes::ops::WordOp;
+use crate::proved::bitlanes::{Block, Steps, lanes};
+use crate::shim::alloc::{AllocError, Global};
+
+// From how many words on a new row is written as it is joined. A shorter one is copied and then
+// joined, which is quicker while all three rows lie in the first cache.
+const LONG: usize = 2048;
+
+/// A new row, as long as `words`: each position of `words`, joined with that of `other` by `O`.
+///
+/// `Err` comes only where memory for the row was refused. It takes the steps of
+/// [`join`](crate::proved::bitwords::joins::join), and where memory was refused at most as many; what is copied
+/// before or behind the join is not counted.
+///
+/// ```text
+/// let new = new_rows::joined::<And>(alloc, &[11, 3, 1], &[9, 6], &mut Steps::new())?;
+/// assert_eq!(new.as_slice(), [9, 2, 0].as_slice());
+/// ```
+#[inline(always)]
+pub fn joined<O: WordOp>(
+    alloc: Global,
+    words: &[Block],
+    other: &[Block],
+    steps: &mut Steps,
+) -> Result<Vec<Block>, AllocError> {
+    if other.len() >= LONG && words.len() >= LONG && (O::KEEP || words.len() <= other.len()) {
+        return joined_long::<O>(alloc, words, other, steps);
+    }
+    let mut new = Vec::with_capacity(alloc, words.len())?;
+    new.extend_from_slice(words)?;
+    join::<O>(&mut new, other, steps);
+    Ok(new)
+}
+
+// `joined`, for long rows: each word is written as it is joined. It is a call of its own, so that
+// short rows save no registers for it.
+#[cold]
+#[inline(never)]
+fn joined_long<O: WordOp>(
+    alloc: Global,
+    words: &[Block],
+    other: &[Block],
+    steps: &mut Steps,
+) -> Result<Vec<Block>, AllocError> {
+    let mut new = Vec::with_capacity(alloc, words.len())?;
+    write_joined::<O>(&mut new, words, other, steps)?;
+    Ok(new)
+}
+
+// Writes the words joined as far as both rows go, and then the rest of `words`. The first eight are
+// copied and then joined: into an empty row `extend` writes one word by itself, and all that it
+// writes behind it would be unaligned.
+#[inline(always)]
+fn write_joined<O: WordOp>(
+    to: &mut Vec<Block>,
+    words: &[Block],
+    other: &[Block],
+    steps: &mut Steps,
+) -> Result<(), AllocError> {
+    to.extend_from_slice(&words[..8])?;
+    lanes::apply::<O>(to, &other[..8], steps);
+    append_joined::<O>(to, &words[8..], &other[8..], steps)?;
+    to.extend_from_slice(&words[other.len().min(words.len())..])
+}
+
+// Writes the joined words behind those of `to`, as far as both rows go. `extend` has the loop, so
+// the steps are counted beside it.
+#[inline(always)]
+fn append_joined<O: WordOp>(
+    to: &mut Vec<Block>,
+    words: &[Block],
+    other: &[Block],
+    steps: &mut Steps,
+) -> Result<(), AllocError> {
+    steps.tick_lanes(words.len().min(other.len()));
+    let pairs = words.iter().zip(other);
+    to.extend(pairs.map(|(word, other)| O::word(*word, *other)))
+}

@@ -1,0 +1,276 @@
+// Made by front/erase from crates/fixedbitset/src/bits.rt: change that, and not this.
+//! Single positions. No call looks at more than one word, and none takes memory.
+//!
+//! A position that is changed has to be below the length: test it by `len()`. Upstream panics past
+//! it. The calls whose names end in `_unchecked` ask the same of each position that they are given;
+//! they are `unsafe` upstream, where nobody tests it. Here the prover asks it of the caller, so
+//! that they are safe, and do what the calls without the ending do.
+
+use crate::proved::fixedbitset::set::FixedBitSet;
+use crate::proved::fixedbitset::views::BitsMut;
+
+impl FixedBitSet {
+    /// Whether the position is set: `false` at or past the length. Every position may be asked.
+    ///
+    /// ```text
+    /// let set = FixedBitSet::from_iter(alloc, [3, 64])?;
+    /// assert!(set.contains(64));
+    /// assert!(!set.contains(63));
+    /// assert!(!set.contains(usize::MAX));
+    /// ```
+    #[inline]
+    pub fn contains(&self, bit: usize) -> bool {
+        if bit < self.len() {
+            self.contains_unchecked(bit)
+        } else {
+            false
+        }
+    }
+
+    /// Whether the position, which has to be below the length, is set. The length is not looked at.
+    ///
+    /// ```text
+    /// let mut set = FixedBitSet::with_capacity(alloc, 70)?;
+    /// set.insert(69);
+    /// assert!(set.contains_unchecked(69));
+    /// assert!(!set.contains_unchecked(68));
+    /// ```
+    #[inline]
+    pub fn contains_unchecked(&self, bit: usize) -> bool {
+        self.as_bits().contains_unchecked(bit)
+    }
+
+    /// Writes for each position of the list whether it is set: `false` at or past the length. There
+    /// have to be as many answers as positions. It looks at one word at most for each item.
+    ///
+    /// Upstream has no such call.
+    ///
+    /// ```text
+    /// let set = FixedBitSet::from_iter(alloc, [3, 64])?;
+    /// let mut answers = [false; 3];
+    /// set.contains_each(&[64, 63, 500], &mut answers);
+    /// assert_eq!(answers, [true, false, false]);
+    /// ```
+    #[inline]
+    pub fn contains_each(&self, positions: &[usize], answers: &mut [bool]) {
+        self.as_bits().contains_each(positions, answers);
+    }
+
+    /// Sets the position, which has to be below the length.
+    ///
+    /// ```text
+    /// let mut set = FixedBitSet::with_capacity(alloc, 70)?;
+    /// set.insert(64);
+    /// assert!(set.contains(64));
+    /// assert_eq!(set.as_slice(), [0, 1].as_slice());
+    /// ```
+    #[inline]
+    pub fn insert(&mut self, bit: usize) {
+        self.insert_unchecked(bit);
+    }
+
+    /// The same as [`insert`](Self::insert).
+    ///
+    /// ```text
+    /// let mut set = FixedBitSet::with_capacity(alloc, 70)?;
+    /// set.insert_unchecked(69);
+    /// assert_eq!(set.maximum(), Some(69));
+    /// ```
+    #[inline]
+    pub fn insert_unchecked(&mut self, bit: usize) {
+        let (words, length) = (&mut *self.words.as_mut_slice(), self.length);
+        BitsMut { words, length }.insert(bit);
+    }
+
+    /// Clears the position, which has to be below the length.
+    ///
+    /// ```text
+    /// let mut set = FixedBitSet::with_capacity(alloc, 70)?;
+    /// set.insert_range(..);
+    /// set.remove(64);
+    /// assert!(!set.contains(64));
+    /// assert_eq!(set.count_ones(..), 69);
+    /// ```
+    #[inline]
+    pub fn remove(&mut self, bit: usize) {
+        self.remove_unchecked(bit);
+    }
+
+    /// The same as [`remove`](Self::remove).
+    ///
+    /// ```text
+    /// let mut set = FixedBitSet::with_capacity(alloc, 3)?;
+    /// set.insert_range(..);
+    /// set.remove_unchecked(1);
+    /// assert_eq!(set.as_slice(), [5].as_slice());
+    /// ```
+    #[inline]
+    pub fn remove_unchecked(&mut self, bit: usize) {
+        let (words, length) = (&mut *self.words.as_mut_slice(), self.length);
+        BitsMut { words, length }.remove(bit);
+    }
+
+    /// Sets the position, which has to be below the length, and answers whether it was set before.
+    ///
+    /// ```text
+    /// let mut set = FixedBitSet::with_capacity(alloc, 70)?;
+    /// assert!(!set.put(64));
+    /// assert!(set.put(64));
+    /// assert_eq!(set.count_ones(..), 1);
+    /// ```
+    #[inline]
+    pub fn put(&mut self, bit: usize) -> bool {
+        self.put_unchecked(bit)
+    }
+
+    /// The same as [`put`](Self::put).
+    ///
+    /// ```text
+    /// let mut set = FixedBitSet::with_capacity(alloc, 70)?;
+    /// set.insert(3);
+    /// assert!(set.put_unchecked(3));
+    /// assert!(!set.put_unchecked(69));
+    /// assert_eq!(set.count_ones(..), 2);
+    /// ```
+    #[inline]
+    pub fn put_unchecked(&mut self, bit: usize) -> bool {
+        let (words, length) = (&mut *self.words.as_mut_slice(), self.length);
+        BitsMut { words, length }.put(bit)
+    }
+
+    /// Clears the position, which has to be below the length, and answers
+    /// whether it was set before.
+    ///
+    /// Upstream has no such call; it is the counterpart of [`put`](Self::put).
+    ///
+    /// ```text
+    /// let mut set = FixedBitSet::from_iter(alloc, [3, 64])?;
+    /// assert_eq!(set.len(), 65);
+    /// assert!(set.take(64) && set.count_ones(..) == 1);
+    /// assert!(!set.take(64));
+    /// ```
+    #[inline]
+    pub fn take(&mut self, bit: usize) -> bool {
+        let (words, length) = (&mut *self.words.as_mut_slice(), self.length);
+        BitsMut { words, length }.take(bit)
+    }
+
+    /// Sets each position of the list. All of them have to be below the length. It writes one word
+    /// for each item.
+    ///
+    /// Upstream has no such call. `extend` does so for any iterator, and grows.
+    ///
+    /// ```text
+    /// let mut set = FixedBitSet::with_capacity(alloc, 70)?;
+    /// set.insert_all(&[64, 3, 64]);
+    /// assert_eq!(set.as_slice(), [8, 1].as_slice());
+    /// ```
+    pub fn insert_all(&mut self, positions: &[usize]) {
+        let (words, length) = (&mut *self.words.as_mut_slice(), self.length);
+        BitsMut { words, length }.insert_all(positions);
+    }
+
+    /// Clears each position of the list. All of them have to be below the length. It writes one
+    /// word for each item.
+    ///
+    /// Upstream has no such call.
+    ///
+    /// ```text
+    /// let mut set = FixedBitSet::from_iter(alloc, [3, 64, 69])?;
+    /// assert_eq!(set.len(), 70);
+    /// set.remove_all(&[69, 3, 69]);
+    /// assert_eq!(set.as_slice(), [0, 1].as_slice());
+    /// ```
+    pub fn remove_all(&mut self, positions: &[usize]) {
+        let (words, length) = (&mut *self.words.as_mut_slice(), self.length);
+        BitsMut { words, length }.remove_all(positions);
+    }
+
+    /// Sets the position if it is clear and clears it if it is set. It has to be below the length.
+    ///
+    /// ```text
+    /// let mut set = FixedBitSet::with_capacity(alloc, 70)?;
+    /// set.insert(1);
+    /// set.toggle(1);
+    /// set.toggle(64);
+    /// assert_eq!(set.as_slice(), [0, 1].as_slice());
+    /// ```
+    #[inline]
+    pub fn toggle(&mut self, bit: usize) {
+        self.toggle_unchecked(bit);
+    }
+
+    /// The same as [`toggle`](Self::toggle).
+    ///
+    /// ```text
+    /// let mut set = FixedBitSet::with_capacity(alloc, 70)?;
+    /// set.toggle_unchecked(69);
+    /// assert!(set.contains(69));
+    /// set.toggle_unchecked(69);
+    /// assert!(set.is_clear());
+    /// ```
+    #[inline]
+    pub fn toggle_unchecked(&mut self, bit: usize) {
+        let (words, length) = (&mut *self.words.as_mut_slice(), self.length);
+        BitsMut { words, length }.toggle(bit);
+    }
+
+    /// Sets the position, or clears it where `enabled` is false. It has to be below the length.
+    ///
+    /// ```text
+    /// let mut set = FixedBitSet::with_capacity(alloc, 70)?;
+    /// set.set(63, true);
+    /// set.set(64, true);
+    /// set.set(63, false);
+    /// assert_eq!(set.as_slice(), [0, 1].as_slice());
+    /// ```
+    #[inline]
+    pub fn set(&mut self, bit: usize, enabled: bool) {
+        self.set_unchecked(bit, enabled);
+    }
+
+    /// The same as [`set`](Self::set).
+    ///
+    /// ```text
+    /// let mut set = FixedBitSet::with_capacity(alloc, 70)?;
+    /// set.insert_range(..);
+    /// set.set_unchecked(69, false);
+    /// assert_eq!(set.maximum(), Some(68));
+    /// ```
+    #[inline]
+    pub fn set_unchecked(&mut self, bit: usize, enabled: bool) {
+        if enabled {
+            self.insert(bit);
+        } else {
+            self.remove(bit);
+        }
+    }
+
+    /// Makes position `to` what position `from` is. `to` has to be below the length; `from` need
+    /// not be, and past the length it is clear, so that `to` is cleared.
+    ///
+    /// ```text
+    /// let mut set = FixedBitSet::with_capacity(alloc, 70)?;
+    /// set.insert(1);
+    /// set.copy_bit(1, 64);
+    /// set.copy_bit(usize::MAX, 1);
+    /// assert_eq!(set.as_slice(), [0, 1].as_slice());
+    /// ```
+    #[inline]
+    pub fn copy_bit(&mut self, from: usize, to: usize) {
+        self.set(to, self.contains(from));
+    }
+
+    /// The same as [`copy_bit`](Self::copy_bit), for two positions below the length.
+    ///
+    /// ```text
+    /// let mut set = FixedBitSet::with_capacity(alloc, 70)?;
+    /// set.insert(1);
+    /// set.copy_bit_unchecked(1, 69);
+    /// assert_eq!(set.as_slice(), [2, 32].as_slice());
+    /// ```
+    #[inline]
+    pub fn copy_bit_unchecked(&mut self, from: usize, to: usize) {
+        self.set(to, self.contains_unchecked(from));
+    }
+}

@@ -1,0 +1,112 @@
+// Made by front/erase from crates/fixedbitset/src/counted/changes.rt: change that, and not this.
+//! The changes by other sets that answer whether a position changed, with a counter of steps. Each
+//! change by one set takes the steps of the call without the answer.
+
+use crate::proved::fixedbitset::set::FixedBitSet;
+use crate::proved::fixedbitset::views::BitsMut;
+use crate::proved::bitlanes::Steps;
+use crate::proved::bitlanes::ops::Or;
+use crate::shim::alloc::AllocError;
+
+/// [`FixedBitSet::union_with_change`], with the steps that it takes.
+///
+/// Where memory was refused the set is as it was.
+///
+/// ```text
+/// let mut set = FixedBitSet::from_iter(alloc, [1, 3])?;
+/// let other = FixedBitSet::from_iter(alloc, [3, 64])?;
+/// assert!(counted::union_with_change(&mut set, &other, &mut Steps::new())?);
+/// assert_eq!(set.as_slice(), [10, 1].as_slice());
+/// ```
+#[inline]
+pub fn union_with_change(
+    set: &mut FixedBitSet,
+    other: &FixedBitSet,
+    steps: &mut Steps,
+) -> Result<bool, AllocError> {
+    if set.len() < other.len() {
+        return grow_and_unite(set, other, steps);
+    }
+    let (words, length) = (&mut *set.words.as_mut_slice(), set.length);
+    Ok(BitsMut { words, length }.union_with_change(other.as_bits(), steps))
+}
+
+/// [`FixedBitSet::intersect_with_change`], with the steps that it takes.
+///
+/// ```text
+/// let mut set = FixedBitSet::from_iter(alloc, [1, 3, 64])?;
+/// let other = FixedBitSet::from_iter(alloc, [3, 5])?;
+/// assert!(counted::intersect_with_change(&mut set, &other, &mut Steps::new()));
+/// assert_eq!(set.as_slice(), [8, 0].as_slice());
+/// ```
+#[inline]
+pub fn intersect_with_change(set: &mut FixedBitSet, other: &FixedBitSet, steps: &mut Steps) -> bool {
+    let (words, length) = (&mut *set.words.as_mut_slice(), set.length);
+    BitsMut { words, length }.intersect_with_change(other.as_bits(), steps)
+}
+
+/// [`FixedBitSet::difference_with_change`], with the steps that it takes.
+///
+/// ```text
+/// let mut set = FixedBitSet::from_iter(alloc, [1, 3, 64])?;
+/// let other = FixedBitSet::from_iter(alloc, [3, 5])?;
+/// assert!(counted::difference_with_change(&mut set, &other, &mut Steps::new()));
+/// assert_eq!(set.as_slice(), [2, 1].as_slice());
+/// ```
+#[inline]
+pub fn difference_with_change(set: &mut FixedBitSet, other: &FixedBitSet, steps: &mut Steps) -> bool {
+    let (words, length) = (&mut *set.words.as_mut_slice(), set.length);
+    BitsMut { words, length }.difference_with_change(other.as_bits(), steps)
+}
+
+/// [`FixedBitSet::union_with_difference`], with the steps that it takes.
+///
+/// Where memory was refused the set is as it was.
+///
+/// ```text
+/// let mut set = FixedBitSet::from_iter(alloc, [1, 3])?;
+/// let gens = FixedBitSet::from_iter(alloc, [4, 64])?;
+/// let kills = FixedBitSet::from_iter(alloc, [4])?;
+/// assert!(counted::union_with_difference(&mut set, &gens, &kills, &mut Steps::new())?);
+/// assert_eq!(set.as_slice(), [10, 1].as_slice());
+/// ```
+#[inline]
+pub fn union_with_difference(
+    set: &mut FixedBitSet,
+    gens: &FixedBitSet,
+    kills: &FixedBitSet,
+    steps: &mut Steps,
+) -> Result<bool, AllocError> {
+    if set.len() < gens.len() {
+        return grow_and_take(set, gens, kills, steps);
+    }
+    let (words, length) = (&mut *set.words.as_mut_slice(), set.length);
+    Ok(BitsMut { words, length }.union_with_difference(gens.as_bits(), kills.as_bits(), steps))
+}
+
+// Unites `set`, which grows before, with the longer set `other`.
+#[cold]
+#[inline(never)]
+fn grow_and_unite(
+    set: &mut FixedBitSet,
+    other: &FixedBitSet,
+    steps: &mut Steps,
+) -> Result<bool, AllocError> {
+    set.grow(other.len())?;
+    let (words, length) = (&mut *set.words.as_mut_slice(), set.length);
+    Ok(BitsMut { words, length }.join_with_change::<Or>(other.as_bits(), steps))
+}
+
+// Takes into `set`, which grows before, what `kills` lacks of the longer set `gens`.
+#[cold]
+#[inline(never)]
+fn grow_and_take(
+    set: &mut FixedBitSet,
+    gens: &FixedBitSet,
+    kills: &FixedBitSet,
+    steps: &mut Steps,
+) -> Result<bool, AllocError> {
+    set.grow(gens.len())?;
+    let (words, length) = (&mut *set.words.as_mut_slice(), set.length);
+    Ok(BitsMut { words, length }.join_difference(gens.as_bits(), kills.as_bits(), steps))
+}

@@ -1,0 +1,97 @@
+// Made by front/erase from crates/fixedbitset/src/of_two.rt: change that, and not this.
+//! A set made of two others, in the words that it has.
+//!
+//! Each word of the result is written once, a new one once before, and no set stands between.
+//! `Err` comes only where more words are needed than the old length has and memory for them was
+//! refused. The set is then as it was.
+
+use crate::proved::fixedbitset::set::FixedBitSet;
+use crate::proved::fixedbitset::views::BitsMut;
+use crate::shim::alloc::AllocError;
+
+impl FixedBitSet {
+    /// Makes this set the union of two others: the greater of their lengths, and the positions of
+    /// either.
+    ///
+    /// A call that needs no more words is never refused. Upstream has no such call.
+    ///
+    /// ```text
+    /// let one = FixedBitSet::from_iter(alloc, [1, 3])?;
+    /// let other = FixedBitSet::from_iter(alloc, [3, 64])?;
+    /// let mut set = FixedBitSet::with_capacity(alloc, 200)?;
+    /// set.union_of(&one, &other)?;
+    /// assert_eq!(set.as_slice(), [10, 1].as_slice());
+    /// ```
+    #[inline]
+    pub fn union_of(&mut self, one: &Self, other: &Self) -> Result<(), AllocError> {
+        self.fit(one.length.max(other.length))?;
+        let (words, length) = (&mut *self.words.as_mut_slice(), self.length);
+        BitsMut { words, length }.union_of(one.as_bits(), other.as_bits());
+        Ok(())
+    }
+
+    /// Makes this set the greater of the lengths of two others, and the positions of exactly one of
+    /// them.
+    ///
+    /// Memory and errors are those of [`union_of`](Self::union_of).
+    ///
+    /// ```text
+    /// let one = FixedBitSet::from_iter(alloc, [1, 3])?;
+    /// let other = FixedBitSet::from_iter(alloc, [3, 64])?;
+    /// let mut set = FixedBitSet::with_capacity(alloc, 200)?;
+    /// set.symmetric_difference_of(&one, &other)?;
+    /// assert_eq!(set.as_slice(), [2, 1].as_slice());
+    /// ```
+    #[inline]
+    pub fn symmetric_difference_of(&mut self, one: &Self, other: &Self) -> Result<(), AllocError> {
+        self.fit(one.length.max(other.length))?;
+        let (words, length) = (&mut *self.words.as_mut_slice(), self.length);
+        BitsMut { words, length }.symmetric_difference_of(one.as_bits(), other.as_bits());
+        Ok(())
+    }
+
+    /// Makes this set the lesser of the lengths of two others, and the positions of both.
+    ///
+    /// Memory and errors are those of [`union_of`](Self::union_of).
+    ///
+    /// ```text
+    /// let one = FixedBitSet::from_iter(alloc, [1, 3])?;
+    /// let other = FixedBitSet::from_iter(alloc, [3, 64])?;
+    /// let mut set = FixedBitSet::with_capacity(alloc, 200)?;
+    /// set.intersection_of(&one, &other)?;
+    /// assert_eq!(set.as_slice(), [8].as_slice());
+    /// ```
+    #[inline]
+    pub fn intersection_of(&mut self, one: &Self, other: &Self) -> Result<(), AllocError> {
+        self.fit(one.length.min(other.length))?;
+        let (words, length) = (&mut *self.words.as_mut_slice(), self.length);
+        BitsMut { words, length }.intersection_of(one.as_bits(), other.as_bits());
+        Ok(())
+    }
+
+    /// Makes this set the first of two others without the positions of the second. The length is
+    /// that of the first.
+    ///
+    /// Memory and errors are those of [`union_of`](Self::union_of).
+    ///
+    /// ```text
+    /// let one = FixedBitSet::from_iter(alloc, [1, 3])?;
+    /// let other = FixedBitSet::from_iter(alloc, [3, 64])?;
+    /// let mut set = FixedBitSet::with_capacity(alloc, 200)?;
+    /// set.difference_of(&one, &other)?;
+    /// assert_eq!(set.as_slice(), [2].as_slice());
+    /// ```
+    #[inline]
+    pub fn difference_of(&mut self, one: &Self, other: &Self) -> Result<(), AllocError> {
+        self.fit(one.length)?;
+        let (words, length) = (&mut *self.words.as_mut_slice(), self.length);
+        BitsMut { words, length }.difference_of(one.as_bits(), other.as_bits());
+        Ok(())
+    }
+
+    // Makes the length `bits`, for a call that writes over all positions.
+    #[inline]
+    fn fit(&mut self, bits: usize) -> Result<(), AllocError> {
+        self.resize(bits, false)
+    }
+}

@@ -1,0 +1,183 @@
+// Made by front/erase from crates/fixedbitset/src/parts.rt: change that, and not this.
+//! Parts of a set, and sets put together: positions of a range as a set of their own or written
+//! over those of another set, at most 64 of them as a number, one set behind another, and other
+//! lengths.
+//!
+//! `Err` comes only where more words are needed than there are and memory for them was refused. The
+//! set is then as it was.
+
+use crate::shim::prelude::Vec;
+use crate::proved::fixedbitset::counted;
+use crate::proved::fixedbitset::set::FixedBitSet;
+use crate::proved::fixedbitset::views::{BitsMut, storage_words};
+use crate::proved::bitjson::bytes::{bytes_of_words, words_of_bytes};
+use crate::proved::bitlanes::{Block, IndexRange, Steps};
+use crate::proved::bitwords::positions;
+use crate::shim::alloc::{AllocError, Global};
+
+impl FixedBitSet {
+    /// A set of the length of the range: its positions that this set has, less its start.
+    ///
+    /// The range has to be valid (`range_is_valid`). It writes each word of the new set twice.
+    /// Upstream has no such call.
+    ///
+    /// ```text
+    /// let set = FixedBitSet::from_iter(alloc, [1, 63, 65, 69])?;
+    /// assert_eq!(set.len(), 70);
+    /// let part = set.slice(alloc, 63..68)?;
+    /// assert!(part.ones().eq([0, 2]));
+    /// ```
+    #[inline]
+    pub fn slice<R: IndexRange<usize>>(
+        &self,
+        alloc: Global,
+        range: R,
+    ) -> Result<Self, AllocError> {
+        counted::slice(self, alloc, range, &mut Steps::new())
+    }
+
+    /// Writes the positions of the range of `other` over those of this set from
+    /// `at` on. All others stay.
+    ///
+    /// The range has to be valid in `other` (`range_is_valid`), and to end within this set where it
+    /// begins at `at`. It writes each word that has one of these positions once, and takes no
+    /// memory. Upstream has no such call.
+    ///
+    /// ```text
+    /// let mut set = FixedBitSet::from_iter(alloc, [0, 2, 65, 69])?;
+    /// let other = FixedBitSet::from_iter(alloc, [1, 63, 65])?;
+    /// assert!(set.len() == 70 && other.len() == 66);
+    /// set.copy_range(&other, 62..66, 1);
+    /// assert!(set.ones().eq([0, 2, 4, 65, 69]));
+    /// ```
+    pub fn copy_range<R: IndexRange<usize>>(&mut self, other: &Self, range: R, at: usize) {
+        counted::copy_range(self, other, range, at, &mut Steps::new());
+    }
+
+    /// The `width` positions from `start` on as a number: its bit `i` is position `start + i`.
+    ///
+    /// The width may be 64 at most, and the positions have to be below the length. It looks at one
+    /// word, or at two. Upstream has no such call.
+    ///
+    /// ```text
+    /// let set = FixedBitSet::from_iter(alloc, [1, 63, 65, 69])?;
+    /// assert_eq!(set.len(), 70);
+    /// assert_eq!(set.load(62, 8), 138);
+    /// assert_eq!(set.load(70, 0), 0);
+    /// ```
+    pub fn load(&self, start: usize, width: usize) -> Block {
+        self.as_bits().load(start, width)
+    }
+
+    /// Makes the `width` positions from `start` on the lowest bits of the number: position
+    /// `start + i` becomes its bit `i`. All others stay.
+    ///
+    /// The width may be 64 at most, and the positions have to be below the length. It writes one
+    /// word, or two. Upstream has no such call.
+    ///
+    /// ```text
+    /// let mut set = FixedBitSet::from_iter(alloc, [1, 63, 65, 69])?;
+    /// assert_eq!(set.len(), 70);
+    /// set.store(62, 4, 5);
+    /// assert!(set.ones().eq([1, 62, 64, 69]));
+    /// ```
+    pub fn store(&mut self, start: usize, width: usize, number: Block) {
+        let (words, length) = (&mut *self.words.as_mut_slice(), self.length);
+        BitsMut { words, length }.store(start, width, number);
+    }
+
+    /// Puts the positions of `other` behind those of this set: the lengths are added,
+    /// which has to give a length.
+    ///
+    /// A call that needs no more words is never refused. It reads each word of `other` once.
+    /// Upstream has no such call.
+    ///
+    /// ```text
+    /// let mut set = FixedBitSet::with_capacity(alloc, 4)?;
+    /// let mut other = FixedBitSet::with_capacity(alloc, 65)?;
+    /// other.insert(64);
+    /// set.append(&other)?;
+    /// assert!(set.len() == 69 && set.contains(68));
+    /// ```
+    #[inline]
+    pub fn append(&mut self, other: &Self) -> Result<(), AllocError> {
+        counted::append(self, other, &mut Steps::new())
+    }
+
+    /// Makes the length the lesser of itself and `bits`. The positions that are
+    /// not below it fall away.
+    ///
+    /// It writes one word, and those up to a whole lane. Memory is kept. Upstream has no such call.
+    ///
+    /// ```text
+    /// let mut set = FixedBitSet::from_iter(alloc, [1, 3, 64])?;
+    /// set.truncate(3);
+    /// set.truncate(70);
+    /// assert_eq!(set.len(), 3);
+    /// assert_eq!(set.as_slice(), [2].as_slice());
+    /// ```
+    #[inline]
+    pub fn truncate(&mut self, bits: usize) {
+        if bits < self.length {
+            shorten(&mut self.words, bits);
+            self.length = bits;
+        }
+    }
+
+    /// Makes the length `bits`. Where it was greater, the positions that are not below `bits` fall
+    /// away; where it was less, each new position is set or not, as `enabled` says.
+    ///
+    /// A call that needs no more words is never refused. Upstream has no such call.
+    ///
+    /// ```text
+    /// let mut set = FixedBitSet::from_iter(alloc, [1, 3])?;
+    /// set.resize(66, true)?;
+    /// assert_eq!(set.count_ones(..), 64);
+    /// set.resize(3, true)?;
+    /// assert!(set.ones().eq([1]));
+    /// ```
+    #[inline]
+    pub fn resize(&mut self, bits: usize, enabled: bool) -> Result<(), AllocError> {
+        counted::resize(self, bits, enabled, &mut Steps::new())
+    }
+
+    /// A set of `bits` positions, set as bytes say: position `p` is set where bit `p % 8` of byte
+    /// `p / 8` is. Bytes that are missing count as 0, and bits past the length are dropped.
+    ///
+    /// It looks at each byte at most once, and writes each word once. Upstream has no such call.
+    ///
+    /// ```text
+    /// let set = FixedBitSet::from_bytes(alloc, 10, &[76, 255])?;
+    /// assert_eq!(set.len(), 10);
+    /// assert_eq!(set.as_slice(), [844].as_slice());
+    /// ```
+    pub fn from_bytes(alloc: Global, bits: usize, source: &[u8]) -> Result<Self, AllocError> {
+        let mut words = words_of_bytes(alloc, source, storage_words(bits))?;
+        positions::clear_from(&mut words, bits);
+        Ok(FixedBitSet {
+            words,
+            length: bits,
+        })
+    }
+
+    /// The bytes of the set, as [`to_value`](Self::to_value) writes them: position `p`
+    /// is bit `p % 8` of byte `p / 8`. There are eight for each word of `as_slice`, so
+    /// those at the end may be 0.
+    ///
+    /// It writes each byte once. Upstream has no such call.
+    ///
+    /// ```text
+    /// let set = FixedBitSet::from_iter(alloc, [2, 9])?;
+    /// let data = set.to_bytes(alloc)?;
+    /// assert_eq!(data.as_slice(), [4, 2, 0, 0, 0, 0, 0, 0].as_slice());
+    /// ```
+    pub fn to_bytes(&self, alloc: Global) -> Result<Vec<u8>, AllocError> {
+        bytes_of_words(alloc, self.as_slice())
+    }
+}
+
+// Keeps the words of `bits` positions, and clears those that are not below `bits`.
+fn shorten(words: &mut Vec<Block>, bits: usize) {
+    words.truncate(storage_words(bits));
+    positions::clear_from(words, bits);
+}

@@ -1,0 +1,80 @@
+// Made by front/erase from crates/fixedbitset/src/questions.rt: change that, and not this.
+//! Questions about one whole set: whether it has no position or all, and the first
+//! and the last that it has.
+//!
+//! No call takes memory. Each stops at the first lane that decides, from the end at which it
+//! begins; a search looks at up to sixteen words with that lane at once.
+
+use crate::proved::fixedbitset::set::FixedBitSet;
+use crate::proved::bitlanes::Steps;
+
+impl FixedBitSet {
+    /// Whether the length is 0. A set of another length is not empty, even where no position
+    /// is set: see `is_clear`.
+    ///
+    /// ```text
+    /// assert!(FixedBitSet::new(alloc).is_empty());
+    /// let set = FixedBitSet::with_capacity(alloc, 3)?;
+    /// assert!(set.is_clear() && !set.is_empty());
+    /// ```
+    #[inline]
+    pub fn is_empty(&self) -> bool {
+        self.len() == 0
+    }
+
+    /// Whether no position is set; so `true` at length 0. It looks at sixteen words at a time and
+    /// then at four, up to those that have one.
+    ///
+    /// ```text
+    /// let mut set = FixedBitSet::with_capacity(alloc, 70)?;
+    /// assert!(set.is_clear());
+    /// set.insert(69);
+    /// assert!(!set.is_clear());
+    /// ```
+    #[inline]
+    pub fn is_clear(&self) -> bool {
+        self.as_bits().is_clear(&mut Steps::new())
+    }
+
+    /// The first position that is set, or `None` where none is. It looks at four words at a time
+    /// from the first on, up to the one that has this position.
+    ///
+    /// ```text
+    /// let mut set = FixedBitSet::with_capacity(alloc, 200)?;
+    /// assert_eq!(set.minimum(), None);
+    /// set.insert_range(64..130);
+    /// assert_eq!(set.minimum(), Some(64));
+    /// ```
+    #[inline]
+    pub fn minimum(&self) -> Option<usize> {
+        self.as_bits().minimum(&mut Steps::new())
+    }
+
+    /// The last position that is set, or `None` where none is. It looks at four words at a time
+    /// from the last on, down to the one that has this position.
+    ///
+    /// ```text
+    /// let mut set = FixedBitSet::with_capacity(alloc, 200)?;
+    /// assert_eq!(set.maximum(), None);
+    /// set.insert_range(64..130);
+    /// assert_eq!(set.maximum(), Some(129));
+    /// ```
+    #[inline]
+    pub fn maximum(&self) -> Option<usize> {
+        self.as_bits().maximum(&mut Steps::new())
+    }
+
+    /// Whether each position below the length is set; so `true` at length 0.
+    ///
+    /// ```text
+    /// let mut set = FixedBitSet::with_capacity(alloc, 70)?;
+    /// set.insert_range(..69);
+    /// assert!(!set.is_full());
+    /// set.insert(69);
+    /// assert!(set.is_full());
+    /// ```
+    #[inline]
+    pub fn is_full(&self) -> bool {
+        self.as_bits().is_full(&mut Steps::new())
+    }
+}

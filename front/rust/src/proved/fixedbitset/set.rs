@@ -1,0 +1,308 @@
+// Made by front/erase from crates/fixedbitset/src/set.rt: change that, and not this.
+//! The set itself: making one, growing it, its length and its words.
+
+use crate::shim::prelude::{Clone, Vec};
+use crate::proved::fixedbitset::views::{Bits, BitsMut, storage_words};
+use crate::proved::bitlanes::Steps;
+use crate::proved::bitlanes::word::{BITS, Block};
+use crate::proved::bitwords::positions;
+use crate::shim::alloc::{AllocError, Global};
+
+// From how many words on a set is copied by one call of `memcpy`. A shorter one is copied
+// by a loop, with no call.
+const LONG: usize = 64;
+
+/// A set of bits: a length in bits, and a set of positions below it.
+///
+/// It keeps the words that the length needs, and up to three more, so that they make whole lanes of
+/// four. Bits past the length are always zero. Two sets are the same value exactly if their lengths
+/// and their positions are.
+pub struct FixedBitSet {
+    pub(crate) words: Vec<Block>,
+    pub(crate) length: usize,
+}
+
+impl FixedBitSet {
+    /// A set of length 0. It takes no memory.
+    ///
+    /// Upstream's `new` is a `const fn` and takes no allocator.
+    ///
+    /// ```text
+    /// let mut set = FixedBitSet::new(alloc);
+    /// assert_eq!(set.len(), 0);
+    /// set.grow_and_insert(64)?;
+    /// assert_eq!(set.as_slice(), [0, 1].as_slice());
+    /// ```
+    pub fn new(alloc: Global) -> Self {
+        FixedBitSet {
+            words: Vec::new(alloc),
+            length: 0,
+        }
+    }
+
+    /// A set of `bits` positions, none of them set. It writes `bits / 64` words, rounded up, and
+    /// those up to a whole lane of four.
+    ///
+    /// `Err` comes only where memory for the words was refused; upstream aborts there.
+    ///
+    /// ```text
+    /// let set = FixedBitSet::with_capacity(alloc, 70)?;
+    /// assert_eq!(set.len(), 70);
+    /// assert_eq!(set.as_slice(), [0, 0].as_slice());
+    /// ```
+    #[inline]
+    pub fn with_capacity(alloc: Global, bits: usize) -> Result<Self, AllocError> {
+        Ok(FixedBitSet {
+            words: crate::shim::row![in alloc; 0; storage_words(bits)]?,
+            length: bits,
+        })
+    }
+
+    /// A set of length 0, as `new` makes it.
+    ///
+    /// Upstream implements the trait `Default`, whose call takes no allocator.
+    ///
+    /// ```text
+    /// let set = FixedBitSet::default(alloc);
+    /// assert!(set == FixedBitSet::new(alloc));
+    /// ```
+    pub fn default(alloc: Global) -> Self {
+        Self::new(alloc)
+    }
+
+    /// A set of `bits` positions, whose words are the first items of `blocks`. Words that
+    /// no item comes for are 0.
+    ///
+    /// It takes no more items than there are words, which are `bits / 64`, rounded up. So `blocks`
+    /// need not end. Bits past the length are cleared; upstream keeps those of its last word.
+    ///
+    /// `Err` comes only where memory for the words was refused; no item is taken then. It writes
+    /// each word as 0, then the items, and then the last word.
+    ///
+    /// ```text
+    /// let set = FixedBitSet::with_capacity_and_blocks(alloc, 67, [1, 255])?;
+    /// assert_eq!(set.as_slice(), [1, 7].as_slice());
+    /// assert!(set.contains(66) && !set.contains(67));
+    /// ```
+    #[inline]
+    pub fn with_capacity_and_blocks<I: IntoIterator<Item = Block>>(
+        alloc: Global,
+        bits: usize,
+        blocks: I,
+    ) -> Result<Self, AllocError> {
+        let items = blocks.into_iter();
+        let mut words = crate::shim::row![in alloc; 0; storage_words(bits)]?;
+        fill(&mut words, bits.div_ceil(BITS), items);
+        positions::clear_from(&mut words, bits);
+        Ok(FixedBitSet {
+            words,
+            length: bits,
+        })
+    }
+
+    /// Makes the length the greater of itself and `bits`. The new positions are not
+    /// set; a set never shrinks.
+    ///
+    /// `Err` comes only where more words are needed than the old length has and memory for them was
+    /// refused. The set is then as it was. A call that needs no more words is never refused. It
+    /// writes the new words alone, and where memory has to move also the old ones.
+    ///
+    /// ```text
+    /// let mut set = FixedBitSet::with_capacity_and_blocks(alloc, 2, [3])?;
+    /// set.grow(70)?;
+    /// set.grow(9)?;
+    /// assert_eq!(set.len(), 70);
+    /// assert_eq!(set.as_slice(), [3, 0].as_slice());
+    /// ```
+    #[inline]
+    pub fn grow(&mut self, bits: usize) -> Result<(), AllocError> {
+        if bits > self.length {
+            lengthen(&mut self.words, storage_words(bits))?;
+            self.length = bits;
+        }
+        Ok(())
+    }
+
+    /// Copies `source` into this set, which takes its length and its positions. It uses
+    /// the words that are there.
+    ///
+    /// `Err` comes only where `source` has more words than the old set has and memory for
+    /// them was refused. The set is then as it was. It writes the words that are added, and
+    /// then as many as `source` has.
+    ///
+    /// Upstream aborts where memory is refused.
+    ///
+    /// ```text
+    /// let source = FixedBitSet::with_capacity_and_blocks(alloc, 3, [5])?;
+    /// let mut set = FixedBitSet::with_capacity_and_blocks(alloc, 70, [8, 1])?;
+    /// set.clone_from(&source)?;
+    /// assert_eq!(set.len(), 3);
+    /// assert_eq!(set.as_slice(), [5].as_slice());
+    /// ```
+    #[inline]
+    pub fn clone_from(&mut self, source: &Self) -> Result<(), AllocError> {
+        self.copy_from(source, &mut Steps::new())
+    }
+
+    // `clone_from`, with the steps that it takes. They are counted beside std's copy.
+    #[inline(always)]
+    pub(crate) fn copy_from(&mut self, source: &Self, steps: &mut Steps) -> Result<(), AllocError> {
+        self.words.resize(source.words.len(), 0)?;
+        self.words.copy_from_slice(&source.words);
+        steps.tick_lanes(source.words.len());
+        self.length = source.length;
+        Ok(())
+    }
+
+    /// A set of the length and the positions of a view, in memory of its own. It writes each word
+    /// once.
+    ///
+    /// `Err` comes only where memory for the words was refused. Upstream has no such call.
+    ///
+    /// ```text
+    /// let mut words = [9, 2, 0, 0];
+    /// let lent = BitsMut::settle(&mut words, 70, 70);
+    /// let set = FixedBitSet::from_bits(alloc, lent.as_bits())?;
+    /// assert_eq!(set.as_slice(), [9, 2].as_slice());
+    /// ```
+    #[inline]
+    pub fn from_bits(alloc: Global, bits: Bits<'_>) -> Result<Self, AllocError> {
+        Ok(FixedBitSet {
+            words: copied(alloc, bits.words)?,
+            length: bits.length,
+        })
+    }
+
+    /// The set as a view, to be read: no word is copied.
+    ///
+    /// Upstream has no such call.
+    ///
+    /// ```text
+    /// let set = FixedBitSet::from_iter(alloc, [3, 64])?;
+    /// assert!(set.as_bits().contains(64));
+    /// ```
+    #[inline(always)]
+    pub fn as_bits(&self) -> Bits<'_> {
+        Bits {
+            words: &self.words,
+            length: self.length,
+        }
+    }
+
+    /// Makes word `index` the given one. Bits past the length are dropped. It writes one word.
+    ///
+    /// The word has to be one of those that `as_slice` has. Upstream has no such call: there a
+    /// caller writes into `as_mut_slice`, and bits past the length stay.
+    ///
+    /// ```text
+    /// let mut set = FixedBitSet::with_capacity(alloc, 70)?;
+    /// assert_eq!(set.as_slice().len(), 2);
+    /// set.set_block(1, Block::MAX);
+    /// assert_eq!(set.as_slice(), [0, 63].as_slice());
+    /// ```
+    #[inline]
+    pub fn set_block(&mut self, index: usize, value: Block) {
+        let (words, length) = (&mut *self.words.as_mut_slice(), self.length);
+        BitsMut { words, length }.set_block(index, value);
+    }
+
+    /// Clears all positions, and keeps the length. It writes each word once.
+    ///
+    /// ```text
+    /// let mut set = FixedBitSet::with_capacity_and_blocks(alloc, 70, [8, 1])?;
+    /// set.clear();
+    /// assert_eq!(set.len(), 70);
+    /// assert_eq!(set.as_slice(), [0, 0].as_slice());
+    /// ```
+    #[inline]
+    pub fn clear(&mut self) {
+        let (words, length) = (&mut *self.words.as_mut_slice(), self.length);
+        BitsMut { words, length }.clear(&mut Steps::new());
+    }
+
+    /// The length in bits: set positions and others.
+    ///
+    /// ```text
+    /// let set = FixedBitSet::from_iter(alloc, [3, 70])?;
+    /// assert_eq!(set.len(), 71);
+    /// assert_eq!(set.count_ones(..), 2);
+    /// ```
+    #[inline]
+    pub fn len(&self) -> usize {
+        self.length
+    }
+
+    /// The words, `len() / 64` rounded up: position `p` is bit `p % 64` of word `p / 64`, and bits
+    /// past the length are 0.
+    ///
+    /// It is lent from the set and takes no memory.
+    ///
+    /// ```text
+    /// let set = FixedBitSet::from_iter(alloc, [63, 64, 65])?;
+    /// assert_eq!(set.as_slice(), [1 << 63, 3].as_slice());
+    /// ```
+    #[inline]
+    pub fn as_slice(&self) -> &[Block] {
+        self.used_words()
+    }
+
+    // The words that the length needs, without those behind them that make up a whole lane.
+    #[inline]
+    pub(crate) fn used_words(&self) -> &[Block] {
+        self.as_bits().as_slice()
+    }
+}
+
+impl Clone for FixedBitSet {
+    /// A set of the same length and positions, in memory of its own. It writes each word once.
+    ///
+    /// `Err` comes only where memory for the words was refused; upstream aborts there.
+    ///
+    /// ```text
+    /// let set = FixedBitSet::from_iter(alloc, [3, 64])?;
+    /// let mut copy = set.clone()?;
+    /// copy.clear();
+    /// assert_eq!(copy.len(), 65);
+    /// assert!(set.contains(64) && !copy.contains(64));
+    /// ```
+    #[inline]
+    fn clone(&self) -> Result<Self, AllocError> {
+        Ok(FixedBitSet {
+            words: copied(*self.words.allocator(), self.words.as_slice())?,
+            length: self.length,
+        })
+    }
+}
+
+// A row of words in memory of its own.
+#[inline]
+fn copied(alloc: Global, words: &[Block]) -> Result<Vec<Block>, AllocError> {
+    if words.len() < LONG {
+        Vec::from_clones(alloc, words)
+    } else {
+        Vec::from_slice(alloc, words)
+    }
+}
+
+// Writes the items that come over the words from the first on, `count` at most.
+fn fill<I: Iterator<Item = Block>>(words: &mut [Block], count: usize, blocks: I) {
+    for (at, block) in blocks.take(count).enumerate() {
+        words[at] = block;
+    }
+}
+
+// Adds words that are 0 until there are `count`.
+#[inline]
+fn lengthen(words: &mut Vec<Block>, count: usize) -> Result<(), AllocError> {
+    if count == words.len() {
+        return Ok(());
+    }
+    add_words(words, count)
+}
+
+// The same where words are added. It is never inlined, so that `grow` is short
+// where nothing has to grow.
+#[inline(never)]
+fn add_words(words: &mut Vec<Block>, count: usize) -> Result<(), AllocError> {
+    words.resize(count, 0)
+}

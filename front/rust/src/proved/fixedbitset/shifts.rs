@@ -1,0 +1,73 @@
+// Made by front/erase from crates/fixedbitset/src/shifts.rt: change that, and not this.
+//! Shifts: each position moved up or down by a number. The length stays, and what has no
+//! place below it falls away.
+
+use crate::proved::fixedbitset::counted;
+use crate::proved::fixedbitset::set::FixedBitSet;
+use crate::proved::bitlanes::Steps;
+
+impl FixedBitSet {
+    /// Moves each position up by `by`, any number. Those that are not below the
+    /// length then fall away.
+    ///
+    /// It reads and writes each word at most once, and takes no memory. Upstream has no such call.
+    ///
+    /// ```text
+    /// let mut set = FixedBitSet::from_iter(alloc, [0, 3, 69])?;
+    /// set.shift_up(64);
+    /// assert_eq!(set.as_slice(), [0, 9].as_slice());
+    /// set.shift_up(usize::MAX);
+    /// assert!(set.is_clear() && set.len() == 70);
+    /// ```
+    pub fn shift_up(&mut self, by: usize) {
+        counted::shift_up(self, by, &mut Steps::new());
+    }
+
+    /// Moves each position down by `by`, any number. Those below `by` fall away.
+    ///
+    /// It reads and writes each word at most once, and takes no memory. Upstream has no such call.
+    ///
+    /// ```text
+    /// let mut set = FixedBitSet::from_iter(alloc, [0, 3, 69])?;
+    /// set.shift_down(3);
+    /// assert_eq!(set.as_slice(), [1, 4].as_slice());
+    /// assert_eq!(set.len(), 70);
+    /// ```
+    pub fn shift_down(&mut self, by: usize) {
+        counted::shift_down(self, by, &mut Steps::new());
+    }
+
+    /// Takes in each position of `other` moved up by `by`, any number, as far as it is
+    /// below the length then.
+    ///
+    /// The length stays. It reads each word of `other` at most once, and takes no memory and makes
+    /// no copy. Upstream has no such call.
+    ///
+    /// ```text
+    /// let mut set = FixedBitSet::from_iter(alloc, [0, 69])?;
+    /// let other = FixedBitSet::from_iter(alloc, [0, 1, 5])?;
+    /// set.union_with_shifted(&other, 65);
+    /// assert!(set.ones().eq([0, 65, 66, 69]));
+    /// ```
+    pub fn union_with_shifted(&mut self, other: &Self, by: usize) {
+        counted::union_with_shifted(self, other, by, &mut Steps::new());
+    }
+
+    /// Takes in each position of this set moved up by `by`, any number, as far as it is
+    /// below the length then.
+    ///
+    /// So where the set has the sums that some numbers make, it then has those that these numbers
+    /// and `by` make. It reads and writes each word at most once, and takes no memory and makes no
+    /// copy. Upstream has no such call.
+    ///
+    /// ```text
+    /// let mut set = FixedBitSet::with_capacity(alloc, 100)?;
+    /// set.insert(0);
+    /// set.union_with_own_shift(3);
+    /// set.union_with_own_shift(70);
+    /// assert!(set.ones().eq([0, 3, 70, 73]));
+    /// ```
+    pub fn union_with_own_shift(&mut self, by: usize) {
+        counted::union_with_own_shift(self, by, &mut Steps::new());
+    }
+}
