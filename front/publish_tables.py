@@ -24,14 +24,16 @@ class Form:
 
 @dataclasses.dataclass(frozen=True)
 class Result:
-    """What a call answers: its type, how that is made of the proved answer, and what the docs call it; and both once more of the
-    call that says where memory is refused."""
+    """What a call answers: its type, how that is made of the proved answer, and what the docs call it; and of the call that says where
+    memory is refused its type, how that is made, what the docs say of it, and what then holds of a set that it changes."""
 
     kind: str
     made: str
     said: str = "the answer"
     tried: str = ""
     try_made: str = "{}"
+    told: str = "which says where memory is refused"
+    left: str = "The set is then as it was."
 
 
 FILES = {
@@ -59,7 +61,7 @@ use crate::proved::bitlanes::Steps;
 use crate::proved::fixedbitset::set;
 use crate::shim::alloc::Global;
 use crate::{
-    AllocError, Block, Difference, FixedBitSet, IndexRange, Intersection, IntoOnes, Ones, Runs,
+    AllocError, Bits, Block, Difference, ExtendFault, FixedBitSet, IndexRange, Intersection, IntoOnes, Ones, Runs,
     SymmetricDifference, Union, Zeroes,
 };
 use alloc::vec::Vec;
@@ -146,6 +148,8 @@ SET_FORMS = {
     ("(it : I.IntoIter) → I.into_iter_gives blocks it → I.IntoIter.can_next it",): Form("", ""),
     ("IsTrue (over ranges.is_valid self (R.start_of range) (R.end_of range))",): Form(
         "let (start, end) = self.as_bits().part(&range);", "the range is not valid"),
+    ("(it : I.IntoIter) → I.into_iter_gives items it → I.IntoIter.can_next it × IsFinite (I.IntoIter.remaining it)",): Form("", ""),
+    ("bits < 2 ^ 64 - 1",): Form("self.assert_position(bits);", "`bits` is `usize::MAX`"),
     ("self.length + other.length < 2 ^ 64",): Form("self.assert_sum(other);", "the sum of the lengths is past `usize::MAX`"),
 }
 # (`{}` in a type stands for the name.)
@@ -155,9 +159,11 @@ SET_PARAMETERS = {
     "bool": ("{}: bool", "{}"),
     "&[u8]": ("{}: &[u8]", "{}"),
     "&Self": ("{}: &FixedBitSet", "&{}.set"),
+    "Bits<'_>": ("{}: Bits<'_>", "{}.view"),
     "range: R": ("range: T", "start..end"),
-    "blocks: I": ("{}: I", "{}"),
+    "I": ("{}: I", "{}"),
 }
+STOPS = "which says what stops it: the position `usize::MAX`, or memory that is refused"
 SET_RESULTS = {
     "bool": Result("bool", "{}"),
     "usize": Result("usize", "{}"),
@@ -169,8 +175,15 @@ SET_RESULTS = {
         "Self", "let set = {}.or_abort();\n        FixedBitSet {{ set }}", "the set",
         "Result<Self, AllocError>", "let set = {}?;\n        Ok(FixedBitSet {{ set }})"),
     "Result<Vec<u8>, AllocError>": Result(
-        "Vec<u8>", "{}.or_abort().into_vec()", "the bytes", "Result<Vec<u8>, AllocError>", "Ok({}?.into_vec())"),
+        "Vec<u8>", "{}.or_abort().0", "the bytes", "Result<Vec<u8>, AllocError>", "Ok({}?.0)"),
+    "Result<(), ExtendFault>": Result(
+        "", "", "", "Result<(), ExtendFault>", "{}", STOPS, "The positions before it are then in the set."),
+    "Result<Self, ExtendFault>": Result(
+        "", "", "the set", "Result<Self, ExtendFault>", "let set = {}?;\n        Ok(FixedBitSet {{ set }})", STOPS),
 }
+# Calls of which the one alone is made that says where memory is refused. The other is a trait's, or in lib.rs two calls, so that one
+# with room saves no registers.
+TRIED = {"clone_from", "extend", "from_iter", "grow_and_insert"}
 # Calls that go over words and are no part of the program of each that makes them.
 OUTLINED = {"union_with", "symmetric_difference_with", "union_with_change", "union_with_difference"}
 # Sentences with one of these speak of what the call of the crate has not.
@@ -202,10 +215,6 @@ HIDDEN = {
     ("BitsMut", "as_bits"): "views.rs makes the other type by it",
     ("FixedBitSet", "new"): "it is a `const fn` in lib.rs",
     ("FixedBitSet", "default"): TRAIT,
-    ("FixedBitSet", "from_iter"): "it is a trait's, and memory.rs has the call that says where memory is refused",
-    ("FixedBitSet", "extend"): "it is a trait's, and memory.rs has the call that says where memory is refused",
-    ("FixedBitSet", "clone_from"): "it is a trait's, and memory.rs has the call that says where memory is refused",
-    ("FixedBitSet", "from_bits"): "it is a trait's, and memory.rs has the call that says where memory is refused",
     ("FixedBitSet", "bitor_assign"): TRAIT,
     ("FixedBitSet", "bitxor_assign"): TRAIT,
     ("FixedBitSet", "bitand"): TRAIT,
@@ -213,13 +222,14 @@ HIDDEN = {
     ("FixedBitSet", "bitxor"): TRAIT,
     ("FixedBitSet", "as_bits"): "views.rs makes the type by it",
     ("FixedBitSet", "range_is_valid"): "`part` asks a view of each range",
-    ("FixedBitSet", "grow_and_insert"): "in lib.rs it is two calls, so that one with room saves no registers",
     **{("FixedBitSet", f"{it}_unchecked"): UNSAFE for it in ("contains", "insert", "remove", "put", "toggle", "set", "copy_bit")},
 }
 
-# All text of Rust in these tables.
+# All text of Rust in these tables, but for what stands for another.
 TEMPLATES = [
-    METHOD, INLINE, TRACK, CALL, SET, OF_SETS, DIRECT, *(it.test for it in SET_FORMS.values()),
-    *(it for pair in SET_PARAMETERS.values() for it in pair), *(text for it in SET_RESULTS.values() for text in (it.made, it.try_made)), *(it.head for it in FILES.values()), *(it.test for it in FORMS.values()),
-    *(handed for _, handed in PARAMETERS.values()), *(it.made for it in RESULTS.values()),
+    METHOD, INLINE, TRACK, CALL, SET, OF_SETS, DIRECT, *(it.head for it in FILES.values()),
+    *(it.test for table in (FORMS, SET_FORMS) for it in table.values()),
+    *(handed for table in (PARAMETERS, SET_PARAMETERS) for *_, handed in table.values()),
+    *(text for table in (RESULTS, SET_RESULTS) for it in table.values() for text in (it.made, it.try_made)),
 ]
+TEMPLATES = [text for text in TEMPLATES if text.strip(";") != "{}"]

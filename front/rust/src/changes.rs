@@ -1,5 +1,19 @@
-//! The length of a set over lent words that may change, and the panics of the calls that change one.
+//! The length of a set over lent words that may change, and the panics of the calls that change a set.
 use crate::{panics, Bits, BitsMut, FixedBitSet};
+
+/// Declares a test of what a call asks, which panics where that does not hold.
+macro_rules! asserts {
+    ($($(#[$doc:meta])* $name:ident(&$set:ident, $($given:ident: $type:ty),*) $wrong:expr => $panic:expr;)*) => { $(
+        $(#[$doc])*
+        #[inline]
+        #[track_caller]
+        pub(crate) fn $name(&$set, $($given: $type),*) {
+            if $wrong {
+                $panic;
+            }
+        }
+    )* };
+}
 
 impl BitsMut<'_> {
     /// [`FixedBitSet::len`](crate::FixedBitSet::len).
@@ -29,16 +43,20 @@ impl BitsMut<'_> {
         self.len() == 0
     }
 
-    /// The panic of upstream's calls on a position at or past the length.
-    #[inline]
-    #[track_caller]
-    pub(crate) fn assert_below(&self, call: &str, bit: usize) {
-        if bit >= self.len() {
-            panics::past(call, bit, self.len());
-        }
+    asserts! {
+        assert_below(&self, call: &str, bit: usize)
+            bit >= self.len() => panics::past(call, bit, self.len());
+        assert_needed(&self, call: &str, index: usize)
+            index >= self.as_bits().as_slice().len() => panics::past(call, index, self.len());
+        assert_room(&self, at: usize, count: usize)
+            at > self.len() || count > self.len() - at => panics::no_room(at, count, self.len());
+        assert_no_longer(&self, other: Bits<'_>)
+            other.len() > self.len() => panics::longer(other.len(), self.len());
+        assert_length(&self, length: usize)
+            length != self.len() => panics::unfit(length, self.len());
     }
 
-    /// The same of each of the positions: it names the first that is at or past the length.
+    /// Names the first position past the length.
     #[inline]
     #[track_caller]
     pub(crate) fn assert_all_below(&self, call: &str, positions: &[usize]) {
@@ -46,53 +64,15 @@ impl BitsMut<'_> {
             self.assert_below(call, *past);
         }
     }
-
-    /// The panic of upstream's calls on a word that the length does not need.
-    #[inline]
-    #[track_caller]
-    pub(crate) fn assert_needed(&self, call: &str, index: usize) {
-        if index >= self.as_bits().as_slice().len() {
-            panics::past(call, index, self.len());
-        }
-    }
-
-    /// The panic of a call that writes so many positions from `at` on.
-    #[inline]
-    #[track_caller]
-    pub(crate) fn assert_room(&self, at: usize, count: usize) {
-        let length = self.len();
-        if at > length || count > length - at {
-            panics::no_room(at, count, length);
-        }
-    }
-
-    /// The panic of a join with a set that is longer.
-    #[inline]
-    #[track_caller]
-    pub(crate) fn assert_no_longer(&self, other: Bits<'_>) {
-        if other.len() > self.len() {
-            panics::longer(other.len(), self.len());
-        }
-    }
-
-    /// The panic of a call that writes a set of this length.
-    #[inline]
-    #[track_caller]
-    pub(crate) fn assert_length(&self, length: usize) {
-        if length != self.len() {
-            panics::unfit(length, self.len());
-        }
-    }
 }
 
 impl FixedBitSet {
-    /// The panic of a call that adds the lengths.
-    #[inline]
-    #[track_caller]
-    pub(crate) fn assert_sum(&self, other: &FixedBitSet) {
-        if self.len().checked_add(other.len()).is_none() {
-            panics::no_length();
-        }
+    asserts! {
+        /// (No length is greater than that position.)
+        assert_position(&self, bit: usize)
+            bit == usize::MAX => panics::no_position();
+        assert_sum(&self, other: &FixedBitSet)
+            self.len().checked_add(other.len()).is_none() => panics::no_length();
     }
 }
 

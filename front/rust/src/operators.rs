@@ -1,113 +1,66 @@
-//! Operators, and sets from positions, put together from the calls.
-//!
-//! `|` and `^` join a copy of the longer set with the shorter one. So nothing has to grow, and the call refuses nothing.
+//! Operators, and sets from positions. The proved calls are made, and nothing is put together.
 use crate::memory::OrAbort;
-use crate::FixedBitSet;
+use crate::{Bits, BitsMut, FixedBitSet};
 use core::ops::{BitAnd, BitAndAssign, BitOr, BitOrAssign, BitXor, BitXorAssign, Index};
 
-/// Proved: what the join leaves in a copy of the shorter set ([contract](crate::contracts#fixedbitsetbitsmutintersect_with)).
-/// The copy itself is not.
-impl BitAnd for &FixedBitSet {
-    type Output = FixedBitSet;
+/// Declares an operator that makes a set of two, and the one that changes a set.
+macro_rules! operators {
+    ($($name:ident $call:ident $changing:ident $change:ident $join:ident;)*) => { $(
+        /// Proved: the set, for any two sets ([contract](crate::contracts#fixedbitsetwhole)).
+        impl $name for &FixedBitSet {
+            type Output = FixedBitSet;
 
-    /// The positions of both sets, with the length of the shorter.
-    fn bitand(self, other: &FixedBitSet) -> FixedBitSet {
-        let set = self.set.bitand(&other.set).or_abort();
-        FixedBitSet { set }
-    }
-}
-
-/// Proved: what the join leaves in a copy of the longer set ([contract](crate::contracts#fixedbitsetbitsmutunion_with)). The
-/// copy itself is not.
-impl BitOr for &FixedBitSet {
-    type Output = FixedBitSet;
-
-    /// The positions of either set, with the length of the longer.
-    fn bitor(self, other: &FixedBitSet) -> FixedBitSet {
-        let set = self.set.bitor(&other.set).or_abort();
-        FixedBitSet { set }
-    }
-}
-
-/// Proved: what the join leaves in a copy of the longer set
-/// ([contract](crate::contracts#fixedbitsetbitsmutsymmetric_difference_with)). The copy itself is not.
-impl BitXor for &FixedBitSet {
-    type Output = FixedBitSet;
-
-    /// The positions of exactly one set, with the length of the longer.
-    fn bitxor(self, other: &FixedBitSet) -> FixedBitSet {
-        let set = self.set.bitxor(&other.set).or_abort();
-        FixedBitSet { set }
-    }
-}
-
-/// [`intersect_with`](Self::intersect_with).
-///
-/// Proved: what it leaves, for any two sets ([contract](crate::contracts#fixedbitsetbitsmutintersect_with)).
-impl BitAndAssign for FixedBitSet {
-    fn bitand_assign(&mut self, other: Self) {
-        self.intersect_with(&other);
-    }
-}
-
-/// [`intersect_with`](Self::intersect_with).
-///
-/// Proved: what it leaves, for any two sets ([contract](crate::contracts#fixedbitsetbitsmutintersect_with)).
-impl BitAndAssign<&Self> for FixedBitSet {
-    fn bitand_assign(&mut self, other: &Self) {
-        self.intersect_with(other);
-    }
-}
-
-/// [`union_with`](Self::union_with).
-///
-/// Proved: what it leaves, once the length is great enough ([contract](crate::contracts#fixedbitsetbitsmutunion_with)).
-impl BitOrAssign for FixedBitSet {
-    fn bitor_assign(&mut self, other: Self) {
-        self.union_with(&other);
-    }
-}
-
-/// [`union_with`](Self::union_with).
-///
-/// Proved: what it leaves, once the length is great enough ([contract](crate::contracts#fixedbitsetbitsmutunion_with)).
-impl BitOrAssign<&Self> for FixedBitSet {
-    fn bitor_assign(&mut self, other: &Self) {
-        self.union_with(other);
-    }
-}
-
-/// [`symmetric_difference_with`](Self::symmetric_difference_with).
-///
-/// Proved: what it leaves, once the length is great enough ([contract](crate::contracts#fixedbitsetbitsmutsymmetric_difference_with)).
-impl BitXorAssign for FixedBitSet {
-    fn bitxor_assign(&mut self, other: Self) {
-        self.symmetric_difference_with(&other);
-    }
-}
-
-/// [`symmetric_difference_with`](Self::symmetric_difference_with).
-///
-/// Proved: what it leaves, once the length is great enough ([contract](crate::contracts#fixedbitsetbitsmutsymmetric_difference_with)).
-impl BitXorAssign<&Self> for FixedBitSet {
-    fn bitxor_assign(&mut self, other: &Self) {
-        self.symmetric_difference_with(other);
-    }
-}
-
-/// Proved: the answer, for all sets and all numbers ([contract](crate::contracts#fixedbitsetbitscontains)).
-impl Index<usize> for FixedBitSet {
-    type Output = bool;
-
-    /// Whether the position is set. At or past the length none is.
-    #[inline]
-    fn index(&self, bit: usize) -> &bool {
-        if self.contains(bit) {
-            &true
-        } else {
-            &false
+            #[inline]
+            fn $call(self, other: &FixedBitSet) -> FixedBitSet {
+                let set = self.set.$call(&other.set).or_abort();
+                FixedBitSet { set }
+            }
         }
-    }
+
+        /// Proved: what it leaves, for any two sets ([contract](crate::contracts#fixedbitsetwhole)).
+        impl $changing for FixedBitSet {
+            fn $change(&mut self, other: Self) {
+                self.$join(&other);
+            }
+        }
+
+        /// Proved: what it leaves, for any two sets ([contract](crate::contracts#fixedbitsetwhole)).
+        impl $changing<&Self> for FixedBitSet {
+            fn $change(&mut self, other: &Self) {
+                self.$join(other);
+            }
+        }
+    )* };
+}
+operators! {
+    BitAnd bitand BitAndAssign bitand_assign intersect_with;
+    BitOr bitor BitOrAssign bitor_assign union_with;
+    BitXor bitxor BitXorAssign bitxor_assign symmetric_difference_with;
+}
+
+/// Declares that `set[bit]` is `set.contains(bit)`.
+macro_rules! indices {
+    ($($name:ty $(, $lent:ident)?;)*) => { $(
+        /// Proved: the answer, for all sets and all numbers ([contract](crate::contracts#fixedbitsetbitscontains)).
+        impl Index<usize> for $name {
+            type Output = bool;
+
+            /// Whether the position is set. At or past the length none is.
+            #[inline]
+            fn index(&self, bit: usize) -> &bool {
+                if self$(.$lent())?.contains(bit) {
+                    &true
+                } else {
+                    &false
+                }
+            }
+        }
+    )* };
+}
+indices! {
+    FixedBitSet;
+    Bits<'_>;
+    BitsMut<'_>, as_bits;
 }
 
 /// Proved: what each position leaves, once the length is great enough ([contract](crate::contracts#fixedbitsetbitsmutinsert)).

@@ -5,7 +5,7 @@ use crate::proved::bitlanes::Steps;
 use crate::proved::fixedbitset::set;
 use crate::shim::alloc::Global;
 use crate::{
-    AllocError, Block, Difference, FixedBitSet, IndexRange, Intersection, IntoOnes, Ones, Runs,
+    AllocError, Bits, Block, Difference, ExtendFault, FixedBitSet, IndexRange, Intersection, IntoOnes, Ones, Runs,
     SymmetricDifference, Union, Zeroes,
 };
 use alloc::vec::Vec;
@@ -136,6 +136,64 @@ impl FixedBitSet {
     #[inline]
     pub fn try_grow(&mut self, bits: usize) -> Result<(), AllocError> {
         self.set.grow(bits)
+    }
+
+    /// [`clone_from`](Self::clone_from), which says where memory is refused. The set is then as it was.
+    ///
+    /// Proved: what it leaves, also where memory is refused, for any two sets
+    /// ([contract](crate::contracts#fixedbitsetfixedbitsetclone_from)).
+    ///
+    /// ```
+    /// # use fixedbitset::FixedBitSet;
+    /// let source = FixedBitSet::with_capacity_and_blocks(3, [5]);
+    /// let mut set = FixedBitSet::with_capacity_and_blocks(70, [8, 1]);
+    /// set.try_clone_from(&source)?;
+    /// assert_eq!(set.len(), 3);
+    /// assert_eq!(set.as_slice(), [5].as_slice());
+    /// # Ok::<(), fixedbitset::AllocError>(())
+    /// ```
+    #[inline]
+    pub fn try_clone_from(&mut self, source: &FixedBitSet) -> Result<(), AllocError> {
+        self.set.clone_from(&source.set)
+    }
+
+    /// A set of the length and the positions of a view, in memory of its own. It writes each word once.
+    ///
+    /// Upstream has no such call.
+    ///
+    /// Where memory is refused the program ends; [`try_from_bits`](Self::try_from_bits) says so instead.
+    ///
+    /// Proved: the set, for all sets ([contract](crate::contracts#fixedbitsetfixedbitsetfrom_bits)).
+    ///
+    /// ```
+    /// # use fixedbitset::{BitsMut, FixedBitSet};
+    /// let mut words = [9, 2, 0, 0];
+    /// let lent = BitsMut::settle(&mut words, 70, 70);
+    /// let set = FixedBitSet::from_bits(lent.as_bits());
+    /// assert_eq!(set.as_slice(), [9, 2].as_slice());
+    /// ```
+    #[inline]
+    pub fn from_bits(bits: Bits<'_>) -> Self {
+        let set = set::FixedBitSet::from_bits(Global::Abort, bits.view).or_abort();
+        FixedBitSet { set }
+    }
+
+    /// [`from_bits`](Self::from_bits), which says where memory is refused.
+    ///
+    /// Proved: the set, for all sets ([contract](crate::contracts#fixedbitsetfixedbitsetfrom_bits)).
+    ///
+    /// ```
+    /// # use fixedbitset::{BitsMut, FixedBitSet};
+    /// let mut words = [9, 2, 0, 0];
+    /// let lent = BitsMut::settle(&mut words, 70, 70);
+    /// let set = FixedBitSet::try_from_bits(lent.as_bits())?;
+    /// assert_eq!(set.as_slice(), [9, 2].as_slice());
+    /// # Ok::<(), fixedbitset::AllocError>(())
+    /// ```
+    #[inline]
+    pub fn try_from_bits(bits: Bits<'_>) -> Result<Self, AllocError> {
+        let set = set::FixedBitSet::from_bits(Global::Try, bits.view)?;
+        Ok(FixedBitSet { set })
     }
 
     /// Makes word `index` the given one. Bits past the length are dropped. The word has to be one
@@ -1534,7 +1592,7 @@ impl FixedBitSet {
     /// ```
     #[inline]
     pub fn to_bytes(&self) -> Vec<u8> {
-        self.set.to_bytes(Global::Abort).or_abort().into_vec()
+        self.set.to_bytes(Global::Abort).or_abort().0
     }
 
     /// [`to_bytes`](Self::to_bytes), which says where memory is refused.
@@ -1550,7 +1608,7 @@ impl FixedBitSet {
     /// ```
     #[inline]
     pub fn try_to_bytes(&self) -> Result<Vec<u8>, AllocError> {
-        Ok(self.set.to_bytes(Global::Try)?.into_vec())
+        Ok(self.set.to_bytes(Global::Try)?.0)
     }
 
     /// Moves each position up by `by`. Those that are not below the length then fall away.
@@ -1993,5 +2051,69 @@ impl FixedBitSet {
     #[inline]
     pub fn symmetric_difference<'a>(&'a self, other: &'a FixedBitSet) -> SymmetricDifference<'a> {
         self.as_bits().symmetric_difference(other.as_bits())
+    }
+
+    /// [`grow_and_insert`](Self::grow_and_insert), which says where memory is refused. The set is then as
+    /// it was.
+    ///
+    /// **Panics** where `bits` is `usize::MAX`.
+    ///
+    /// Proved: what it leaves, also where memory is refused, for all sets, wherever it does not panic
+    /// ([contract](crate::contracts#fixedbitsetfixedbitsetgrow_and_insert)).
+    ///
+    /// ```
+    /// # use fixedbitset::FixedBitSet;
+    /// let mut set = FixedBitSet::with_capacity(2);
+    /// set.try_grow_and_insert(64)?;
+    /// set.try_grow_and_insert(0)?;
+    /// assert_eq!(set.len(), 65);
+    /// assert_eq!(set.as_slice(), [1, 1].as_slice());
+    /// # Ok::<(), fixedbitset::AllocError>(())
+    /// ```
+    #[inline]
+    #[track_caller]
+    pub fn try_grow_and_insert(&mut self, bits: usize) -> Result<(), AllocError> {
+        self.assert_position(bits);
+        self.set.grow_and_insert(bits)
+    }
+
+    /// [`extend`](Self::extend), which says what stops it: the position `usize::MAX`, or memory that is
+    /// refused. The positions before it are then in the set.
+    ///
+    /// Proved: what it leaves, also where it is stopped, for all sets
+    /// ([contract](crate::contracts#fixedbitsetfixedbitsetextend)).
+    ///
+    /// ```
+    /// # use fixedbitset::FixedBitSet;
+    /// let mut set = FixedBitSet::with_capacity(10);
+    /// set.try_extend([64, 3, 64])?;
+    /// assert_eq!(set.len(), 65);
+    /// assert_eq!(set.as_slice(), [8, 1].as_slice());
+    /// # Ok::<(), fixedbitset::ExtendFault>(())
+    /// ```
+    #[inline]
+    pub fn try_extend<I: IntoIterator<Item = usize>>(
+        &mut self,
+        items: I,
+    ) -> Result<(), ExtendFault> {
+        self.set.extend(items)
+    }
+
+    /// [`from_iter`](Self::from_iter), which says what stops it: the position `usize::MAX`, or memory that
+    /// is refused.
+    ///
+    /// Proved: the set, for all sets ([contract](crate::contracts#fixedbitsetfixedbitsetfrom_iter)).
+    ///
+    /// ```
+    /// # use fixedbitset::FixedBitSet;
+    /// let set = FixedBitSet::try_from_iter([64, 3])?;
+    /// assert_eq!(set.len(), 65);
+    /// assert_eq!(set.as_slice(), [8, 1].as_slice());
+    /// # Ok::<(), fixedbitset::ExtendFault>(())
+    /// ```
+    #[inline]
+    pub fn try_from_iter<I: IntoIterator<Item = usize>>(items: I) -> Result<Self, ExtendFault> {
+        let set = set::FixedBitSet::from_iter(Global::Try, items)?;
+        Ok(FixedBitSet { set })
     }
 }

@@ -9,7 +9,7 @@ use core::fmt::{Debug, Formatter, Result as Written};
 ///
 /// The directory takes one word of memory for eight words of the set. While it lives the set cannot change.
 ///
-/// Proved: what `rank` and `select` answer ([contract](crate::contracts#bitranksdirectoryrank)).
+/// Proved: what `rank` and `select` answer ([contract](crate::contracts#bitranksranksrank)).
 ///
 /// ```
 /// use fixedbitset::{FixedBitSet, Ranks};
@@ -27,7 +27,7 @@ pub struct Ranks<'a> {
 impl<'a> Ranks<'a> {
     /// The ranks of a set. It looks once at each word of the set but those of the last entry, at which it does not look.
     ///
-    /// Proved: the directory, for all sets ([contract](crate::contracts#bitranksdirectoryfill)).
+    /// Proved: the directory, for all sets ([contract](crate::contracts#bitranksranksof)).
     ///
     /// ```
     /// # use fixedbitset::{FixedBitSet, Ranks};
@@ -71,7 +71,7 @@ impl<'a> Ranks<'a> {
     /// How many positions below this one are set. The position may be any number; past the length all are below it. It looks
     /// at one entry of the directory and at eight words of the set at most.
     ///
-    /// Proved: the answer, for all sets and all numbers ([contract](crate::contracts#bitranksdirectoryrank)).
+    /// Proved: the answer, for all sets and all numbers ([contract](crate::contracts#bitranksranksrank)).
     ///
     /// ```
     /// # use fixedbitset::{FixedBitSet, Ranks};
@@ -87,7 +87,7 @@ impl<'a> Ranks<'a> {
     /// The position with so many positions of the set below it: the first has index 0. `None` where the set has no more
     /// positions than that.
     ///
-    /// Proved: the answer, for all sets and all numbers ([contract](crate::contracts#bitranksdirectoryselect)).
+    /// Proved: the answer, for all sets and all numbers ([contract](crate::contracts#bitranksranksselect)).
     ///
     /// ```
     /// # use fixedbitset::{FixedBitSet, Ranks};

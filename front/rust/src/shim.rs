@@ -177,6 +177,7 @@ pub mod prelude {
 /// A row of numbers. A call that may take memory asks for all of it first, and what follows is that of Rust's own `Vec`.
 pub mod row {
     use super::alloc::{AllocError, Global};
+    use alloc::collections::TryReserveError;
     use alloc::vec::{self, IntoIter};
     use core::ops::{Deref, DerefMut};
 
@@ -184,7 +185,7 @@ pub mod row {
     const LONG: usize = 8192;
 
     #[derive(Clone)]
-    pub struct Vec<T>(vec::Vec<T>);
+    pub struct Vec<T>(pub(crate) vec::Vec<T>);
 
     impl<T> Vec<T> {
         pub const EMPTY: Self = Vec(vec::Vec::new());
@@ -198,29 +199,27 @@ pub mod row {
 
         #[inline]
         pub fn with_capacity(alloc: Global, count: usize) -> Result<Self, AllocError> {
-            let mut row = Self::EMPTY;
+            let mut row = vec::Vec::new();
             match alloc {
-                Global::Abort => row.0.reserve_exact(count),
-                Global::Try => row.0.try_reserve_exact(count).map_err(|_| refused::<T>(count))?,
+                Global::Abort => row.reserve_exact(count),
+                Global::Try => row.try_reserve_exact(count).map_err(refused::<T>(count))?,
             }
-            Ok(row)
+            Ok(Vec(row))
         }
 
         /// What `vec![in alloc; item; count]` makes. No safe call of Rust gives zeroed memory or a refusal, so a long row is
         /// asked for, given back and taken again. (If another thread takes the memory in between, the program ends.)
         #[inline]
         pub fn filled(alloc: Global, item: T, count: usize) -> Result<Self, AllocError> {
-            let mut row = Self::EMPTY;
             if count < LONG {
-                row = Self::with_capacity(alloc, count)?;
+                let mut row = Self::with_capacity(alloc, count)?;
                 row.0.resize(count, item);
-            } else {
-                if let Global::Try = alloc {
-                    drop(core::hint::black_box(Self::with_capacity(alloc, count)?));
-                }
-                row.0 = long(item, count);
+                return Ok(row);
             }
-            Ok(row)
+            if let Global::Try = alloc {
+                drop(core::hint::black_box(Self::with_capacity(alloc, count)?));
+            }
+            Ok(Vec(long(item, count)))
         }
 
         #[inline]
@@ -238,21 +237,6 @@ pub mod row {
         #[inline]
         pub fn allocator(&self) -> &Global {
             &Global::Abort
-        }
-
-        #[inline]
-        pub fn as_slice(&self) -> &[T] {
-            &self.0
-        }
-
-        #[inline]
-        pub fn as_mut_slice(&mut self) -> &mut [T] {
-            &mut self.0
-        }
-
-        #[inline]
-        pub fn truncate(&mut self, count: usize) {
-            self.0.truncate(count);
         }
 
         #[inline]
@@ -278,11 +262,6 @@ pub mod row {
         }
 
         #[inline]
-        pub fn into_vec(self) -> vec::Vec<T> {
-            self.0
-        }
-
-        #[inline]
         pub fn into_iter(self) -> IntoIter<T> {
             self.0.into_iter()
         }
@@ -290,7 +269,7 @@ pub mod row {
         #[inline]
         fn reserve(&mut self, more: usize) -> Result<(), AllocError> {
             let count = self.0.len().saturating_add(more);
-            self.0.try_reserve(more).map_err(|_| refused::<T>(count))
+            self.0.try_reserve(more).map_err(refused::<T>(count))
         }
     }
 
@@ -300,24 +279,24 @@ pub mod row {
         alloc::vec![item; count]
     }
 
-    /// The error where there is no memory for so many.
-    fn refused<T>(count: usize) -> AllocError {
+    /// What makes the error where there is no memory for so many.
+    fn refused<T>(count: usize) -> impl FnOnce(TryReserveError) -> AllocError {
         let bytes = count.saturating_mul(core::mem::size_of::<T>());
-        AllocError { bytes }
+        move |_| AllocError { bytes }
     }
 
     impl<T> Deref for Vec<T> {
-        type Target = [T];
+        type Target = vec::Vec<T>;
 
         #[inline]
-        fn deref(&self) -> &[T] {
+        fn deref(&self) -> &vec::Vec<T> {
             &self.0
         }
     }
 
     impl<T> DerefMut for Vec<T> {
         #[inline]
-        fn deref_mut(&mut self) -> &mut [T] {
+        fn deref_mut(&mut self) -> &mut vec::Vec<T> {
             &mut self.0
         }
     }

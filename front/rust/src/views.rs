@@ -1,11 +1,8 @@
 //! Sets over words that someone else keeps. The crate of this name has none.
-use crate::memory::OrAbort;
 use crate::proved::bitlanes::Steps;
-use crate::proved::fixedbitset::{set, views};
-use crate::shim::alloc::Global;
+use crate::proved::fixedbitset::views;
 use crate::{panics, Block, FixedBitSet};
 use core::cmp::Ordering;
-use core::ops::Index;
 
 /// A set over lent words, to be read: to a [`FixedBitSet`] what a slice is to a `Vec`.
 ///
@@ -194,8 +191,7 @@ impl FixedBitSet {
 impl From<Bits<'_>> for FixedBitSet {
     /// A copy.
     fn from(set: Bits<'_>) -> Self {
-        let set = set::FixedBitSet::from_bits(Global::Abort, set.view).or_abort();
-        FixedBitSet { set }
+        FixedBitSet::from_bits(set)
     }
 }
 
@@ -238,33 +234,3 @@ impl PartialEq for BitsMut<'_> {
 /// Proved: that sets are equal exactly where their lengths and their positions are
 /// ([contract](crate::contracts#fixedbitsetbitsis_equal)).
 impl Eq for BitsMut<'_> {}
-
-/// Proved: the answer, for all sets and all numbers ([contract](crate::contracts#fixedbitsetbitscontains)).
-impl Index<usize> for Bits<'_> {
-    type Output = bool;
-
-    /// Whether the position is set. At or past the length none is.
-    #[inline]
-    fn index(&self, bit: usize) -> &bool {
-        if self.contains(bit) {
-            &true
-        } else {
-            &false
-        }
-    }
-}
-
-/// Proved: the answer, for all sets and all numbers ([contract](crate::contracts#fixedbitsetbitscontains)).
-impl Index<usize> for BitsMut<'_> {
-    type Output = bool;
-
-    /// Whether the position is set. At or past the length none is.
-    #[inline]
-    fn index(&self, bit: usize) -> &bool {
-        if self.as_bits().contains(bit) {
-            &true
-        } else {
-            &false
-        }
-    }
-}

@@ -113,51 +113,122 @@ pub struct SymmetricDifference<'a> {
     pub(crate) walk: InTurn<Cursor<Beside<'a, AndNot>>, Cursor<Beside<'a, AndNot>>>,
 }
 
-/// The traits of a walk over one row of words, which ascends.
-macro_rules! walks {
-    ($($name:ty),*) => { $(
-        /// Proved: each item and the hint of size, for any mix of calls from both ends
-        /// ([contract](crate::contracts#bitwordscursorscursor-as-iterator)). The other calls are put together from these.
-        impl Iterator for $name {
-            type Item = usize;
+/// The walk of [`FixedBitSet::runs`] and of [`FixedBitSet::zero_runs`].
+///
+/// Proved: each stretch that it gives, in any mix of calls from both ends
+/// ([contract](crate::contracts#fixedbitsetbitsruns)).
+///
+/// ```
+/// # use fixedbitset::FixedBitSet;
+/// let set: FixedBitSet = [3, 4, 9].into_iter().collect();
+/// let mut walk = set.runs();
+/// assert_eq!((walk.next_back(), format!("{walk:?}")), (Some((9, 10)), "[(3, 5)]".to_string()));
+/// ```
+#[derive(Clone)]
+pub struct Runs<'a> {
+    pub(crate) walk: bitwalks::Runs<'a>,
+}
 
-            #[inline]
-            fn next(&mut self) -> Option<usize> {
-                self.walk.next()
-            }
-
-            #[inline]
-            fn size_hint(&self) -> (usize, Option<usize>) {
-                self.walk.size_hint()
-            }
-
-            #[inline]
-            fn count(self) -> usize {
-                self.walk.count_left(&mut Steps::new())
-            }
-
-            #[inline]
-            fn last(self) -> Option<usize> {
-                self.max()
-            }
-
-            #[inline]
-            fn min(mut self) -> Option<usize> {
-                self.next()
-            }
-
-            #[inline]
-            fn max(mut self) -> Option<usize> {
-                self.next_back()
-            }
+/// The calls of a walk that ascends. `last` and `max` are one call from the back.
+macro_rules! ascending {
+    () => {
+        #[inline]
+        fn size_hint(&self) -> (usize, Option<usize>) {
+            self.walk.size_hint()
         }
 
-        /// Proved: each item, for any mix of calls from both ends
-        /// ([contract](crate::contracts#bitwordscursorscursor-as-doubleendediterator)).
+        #[inline]
+        fn count(self) -> usize {
+            self.walk.count_left(&mut Steps::new())
+        }
+
+        #[inline]
+        fn last(mut self) -> Option<usize> {
+            self.next_back()
+        }
+
+        #[inline]
+        fn min(mut self) -> Option<usize> {
+            self.next()
+        }
+
+        #[inline]
+        fn max(mut self) -> Option<usize> {
+            self.next_back()
+        }
+    };
+}
+
+/// The calls of two walks in turn, each of which ascends.
+macro_rules! in_turn {
+    () => {
+        #[inline]
+        fn size_hint(&self) -> (usize, Option<usize>) {
+            (0, self.walk.most())
+        }
+
+        #[inline]
+        fn count(self) -> usize {
+            self.walk.count_left(&mut Steps::new())
+        }
+
+        #[inline]
+        fn last(mut self) -> Option<usize> {
+            self.next_back()
+        }
+
+        #[inline]
+        fn min(self) -> Option<usize> {
+            let (first, second) = self.walk.into_walks();
+            first.take(1).chain(second.take(1)).min()
+        }
+
+        #[inline]
+        fn max(self) -> Option<usize> {
+            let (mut first, mut second) = self.walk.into_walks();
+            first.next_back().max(second.next_back())
+        }
+
+        #[inline]
+        fn fold<B, F: FnMut(B, usize) -> B>(self, init: B, mut f: F) -> B {
+            let (first, second) = self.walk.into_walks();
+            let begun = first.fold(init, &mut f);
+            second.fold(begun, f)
+        }
+    };
+}
+
+/// The calls of a walk that are Rust's own.
+macro_rules! as_rust_has_them {
+    () => {};
+}
+
+/// The traits of walks: of each its item, the calls from its ends, how its text lists the items, and its other calls.
+macro_rules! walks {
+    ($($name:ty: $item:ty, $first:ident, $last:ident, $listed:ident, $others:ident;)*) => { $(
+        /// Proved: each item, the hint of size and the count, for any mix of calls from both ends: of
+        /// [one walk](crate::contracts#bitwordscursorscursor-as-iterator), of
+        /// [two in turn](crate::contracts#bitwalksin_turninturntake_first), of
+        /// [stretches](crate::contracts#bitwalksruns-as-iterator). Other calls are put together from these.
+        impl Iterator for $name {
+            type Item = $item;
+
+            #[inline]
+            fn next(&mut self) -> Option<$item> {
+                self.walk.$first()
+            }
+
+            $others!();
+        }
+
+        /// Proved: each item, for any mix of calls from both ends: of
+        /// [one walk](crate::contracts#bitwordscursorscursor-as-doubleendediterator), of
+        /// [two in turn](crate::contracts#bitwalksin_turninturntake_last), of
+        /// [stretches](crate::contracts#bitwalksruns-as-doubleendediterator).
         impl DoubleEndedIterator for $name {
             #[inline]
-            fn next_back(&mut self) -> Option<usize> {
-                self.walk.next_back()
+            fn next_back(&mut self) -> Option<$item> {
+                self.walk.$last()
             }
         }
 
@@ -166,91 +237,24 @@ macro_rules! walks {
 
         /// Proved: the items ([contract](crate::contracts#bitwordscursorscursor-as-iterator)). The text around them is not.
         impl Debug for $name {
-            /// The positions that are left.
+            /// The items that are left.
             fn fmt(&self, f: &mut Formatter<'_>) -> Result {
-                f.debug_set().entries(self.walk.clone()).finish()
+                let walk = self.walk.clone();
+                f.$listed().entries(Self { walk }).finish()
             }
         }
     )* };
 }
-walks!(
-    Ones<'_>,
-    Zeroes<'_>,
-    Intersection<'_>,
-    Difference<'_>,
-    IntoOnes
-);
-
-/// The traits of two walks in turn.
-macro_rules! walks_in_turn {
-    ($($name:ty),*) => { $(
-        /// Proved: each item, for any mix of calls from both ends ([contract](crate::contracts#bitwalksin_turninturntake_first)),
-        /// and the hint of size ([contract](crate::contracts#bitwalksin_turninturnmost)). The other calls are put together from
-        /// these.
-        impl Iterator for $name {
-            type Item = usize;
-
-            #[inline]
-            fn next(&mut self) -> Option<usize> {
-                self.walk.take_first()
-            }
-
-            #[inline]
-            fn size_hint(&self) -> (usize, Option<usize>) {
-                (0, self.walk.most())
-            }
-
-            #[inline]
-            fn count(self) -> usize {
-                self.walk.count_left(&mut Steps::new())
-            }
-
-            #[inline]
-            fn last(mut self) -> Option<usize> {
-                self.next_back()
-            }
-
-            #[inline]
-            fn min(self) -> Option<usize> {
-                let (first, second) = self.walk.into_walks();
-                first.take(1).chain(second.take(1)).min()
-            }
-
-            #[inline]
-            fn max(self) -> Option<usize> {
-                let (mut first, mut second) = self.walk.into_walks();
-                first.next_back().max(second.next_back())
-            }
-
-            #[inline]
-            fn fold<B, F: FnMut(B, usize) -> B>(self, init: B, mut f: F) -> B {
-                let (first, second) = self.walk.into_walks();
-                let begun = first.fold(init, &mut f);
-                second.fold(begun, f)
-            }
-        }
-
-        /// Proved: each item, for any mix of calls from both ends ([contract](crate::contracts#bitwalksin_turninturntake_last)).
-        impl DoubleEndedIterator for $name {
-            #[inline]
-            fn next_back(&mut self) -> Option<usize> {
-                self.walk.take_last()
-            }
-        }
-
-        /// Proved: that no item follows the first `None` ([contract](crate::contracts#bitwalksin_turninturntake_first)).
-        impl FusedIterator for $name {}
-
-        /// Proved: the items ([contract](crate::contracts#bitwalksin_turninturntake_first)). The text around them is not.
-        impl Debug for $name {
-            /// The positions that are left.
-            fn fmt(&self, f: &mut Formatter<'_>) -> Result {
-                f.debug_set().entries(self.clone()).finish()
-            }
-        }
-    )* };
+walks! {
+    Ones<'_>: usize, next, next_back, debug_set, ascending;
+    Zeroes<'_>: usize, next, next_back, debug_set, ascending;
+    Intersection<'_>: usize, next, next_back, debug_set, ascending;
+    Difference<'_>: usize, next, next_back, debug_set, ascending;
+    IntoOnes: usize, next, next_back, debug_set, ascending;
+    Union<'_>: usize, take_first, take_last, debug_set, in_turn;
+    SymmetricDifference<'_>: usize, take_first, take_last, debug_set, in_turn;
+    Runs<'_>: (usize, usize), next, next_back, debug_list, as_rust_has_them;
 }
-walks_in_turn!(Union<'_>, SymmetricDifference<'_>);
 
 impl Ones<'_> {
     /// Clears the lowest bit of the word that is set, and answers its index.
