@@ -125,6 +125,9 @@ impl FixedBitSet {
         ensures succeeds { model.words_needed bits ≤ model.words_needed self.old.length
             → IsOk result }
     {
+        if bits == self.length {
+            return Ok(());
+        }
         self.resize(bits, false)
     }
 }

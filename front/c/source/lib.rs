@@ -12,6 +12,7 @@ extern crate alloc;
 
 #[path = "../../rust/src/shim.rs"]
 mod shim;
+#[allow(unused_imports)]
 #[path = "../../rust/src/proved/mod.rs"]
 mod proved;
 

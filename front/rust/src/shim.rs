@@ -197,19 +197,19 @@ pub mod row {
             Self::EMPTY
         }
 
-        #[inline]
+        #[inline(always)]
         pub fn with_capacity(alloc: Global, count: usize) -> Result<Self, AllocError> {
-            let mut row = vec::Vec::new();
-            match alloc {
-                Global::Abort => row.reserve_exact(count),
-                Global::Try => row.try_reserve_exact(count).map_err(refused::<T>(count))?,
+            if let Global::Abort = alloc {
+                return Ok(Vec(vec::Vec::with_capacity(count)));
             }
+            let mut row = vec::Vec::new();
+            row.try_reserve_exact(count).map_err(refused::<T>(count))?;
             Ok(Vec(row))
         }
 
         /// What `vec![in alloc; item; count]` makes. No safe call of Rust gives zeroed memory or a refusal, so a long row is
         /// asked for, given back and taken again. (If another thread takes the memory in between, the program ends.)
-        #[inline]
+        #[inline(always)]
         pub fn filled(alloc: Global, item: T, count: usize) -> Result<Self, AllocError> {
             if count < LONG {
                 let mut row = Self::with_capacity(alloc, count)?;
@@ -222,8 +222,11 @@ pub mod row {
             Ok(Vec(long(item, count)))
         }
 
-        #[inline]
+        #[inline(always)]
         pub fn from_slice(alloc: Global, items: &[T]) -> Result<Self, AllocError> {
+            if let Global::Abort = alloc {
+                return Ok(Vec(items.to_vec()));
+            }
             let mut row = Self::with_capacity(alloc, items.len())?;
             row.0.extend_from_slice(items);
             Ok(row)
@@ -239,10 +242,14 @@ pub mod row {
             &Global::Abort
         }
 
-        #[inline]
+        #[inline(always)]
         pub fn resize(&mut self, count: usize, item: T) -> Result<(), AllocError> {
-            self.reserve(count.saturating_sub(self.0.len()))?;
-            self.0.resize(count, item);
+            if count > self.0.len() {
+                self.reserve(count - self.0.len())?;
+                self.0.resize(count, item);
+            } else {
+                self.0.truncate(count);
+            }
             Ok(())
         }
 

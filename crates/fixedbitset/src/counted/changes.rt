@@ -23,7 +23,7 @@ use std::alloc::AllocError;
 /// assert!(rt; counted::union_with_change(&mut set, &other, &mut Steps::new())?);
 /// assert_eq!(rt; set.as_slice(), [10, 1].as_slice());
 /// ```
-#[inline]
+#[inline(always)]
 #[tactic(auto, using(crate::proofs::JoinedValues::union_longer, crate::proofs::JoinedChanges::union_changes, crate::proofs::Words::given_back, crate::proofs::Words::viewed_length))]
 pub fn union_with_change(
     set: &mut FixedBitSet,
@@ -99,7 +99,7 @@ pub fn difference_with_change(set: &mut FixedBitSet, other: &FixedBitSet, steps:
 /// assert!(rt; counted::union_with_difference(&mut set, &gens, &kills, &mut Steps::new())?);
 /// assert_eq!(rt; set.as_slice(), [10, 1].as_slice());
 /// ```
-#[inline]
+#[inline(always)]
 #[tactic(auto, using(crate::proofs::JoinedValues::union_longer, crate::proofs::JoinedChanges::union_changes, crate::proofs::Words::given_back, crate::proofs::Words::viewed_length, crate::proofs::JoinedValues::left_length))]
 pub fn union_with_difference(
     set: &mut FixedBitSet,

@@ -51,7 +51,7 @@ pub fn clear(set: &mut FixedBitSet, steps: &mut Steps)
 /// counted::union_with(&mut set, &other, &mut Steps::new())?;
 /// assert_eq!(rt; set.as_slice(), [10, 1].as_slice());
 /// ```
-#[inline]
+#[inline(always)]
 #[tactic(auto, using(crate::proofs::JoinedValues::union_grown, crate::proofs::JoinedValues::union_longer, crate::proofs::Words::given_back, crate::proofs::Words::viewed_length))]
 pub fn union_with(
     set: &mut FixedBitSet,
@@ -84,7 +84,7 @@ pub fn union_with(
 /// counted::symmetric_difference_with(&mut set, &other, &mut Steps::new())?;
 /// assert_eq!(rt; set.as_slice(), [2, 1].as_slice());
 /// ```
-#[inline]
+#[inline(always)]
 #[tactic(auto, using(crate::proofs::JoinedValues::symmetric_difference_grown, crate::proofs::JoinedValues::symmetric_difference_longer, crate::proofs::Words::given_back, crate::proofs::Words::viewed_length))]
 pub fn symmetric_difference_with(
     set: &mut FixedBitSet,

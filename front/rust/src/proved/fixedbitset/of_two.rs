@@ -92,6 +92,9 @@ impl FixedBitSet {
     // Makes the length `bits`, for a call that writes over all positions.
     #[inline]
     fn fit(&mut self, bits: usize) -> Result<(), AllocError> {
+        if bits == self.length {
+            return Ok(());
+        }
         self.resize(bits, false)
     }
 }

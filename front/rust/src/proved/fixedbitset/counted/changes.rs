@@ -18,7 +18,7 @@ use crate::shim::alloc::AllocError;
 /// assert!(counted::union_with_change(&mut set, &other, &mut Steps::new())?);
 /// assert_eq!(set.as_slice(), [10, 1].as_slice());
 /// ```
-#[inline]
+#[inline(always)]
 pub fn union_with_change(
     set: &mut FixedBitSet,
     other: &FixedBitSet,
@@ -70,7 +70,7 @@ pub fn difference_with_change(set: &mut FixedBitSet, other: &FixedBitSet, steps:
 /// assert!(counted::union_with_difference(&mut set, &gens, &kills, &mut Steps::new())?);
 /// assert_eq!(set.as_slice(), [10, 1].as_slice());
 /// ```
-#[inline]
+#[inline(always)]
 pub fn union_with_difference(
     set: &mut FixedBitSet,
     gens: &FixedBitSet,

@@ -38,7 +38,7 @@ pub fn clear(set: &mut FixedBitSet, steps: &mut Steps) {
 /// counted::union_with(&mut set, &other, &mut Steps::new())?;
 /// assert_eq!(set.as_slice(), [10, 1].as_slice());
 /// ```
-#[inline]
+#[inline(always)]
 pub fn union_with(
     set: &mut FixedBitSet,
     other: &FixedBitSet,
@@ -62,7 +62,7 @@ pub fn union_with(
 /// counted::symmetric_difference_with(&mut set, &other, &mut Steps::new())?;
 /// assert_eq!(set.as_slice(), [2, 1].as_slice());
 /// ```
-#[inline]
+#[inline(always)]
 pub fn symmetric_difference_with(
     set: &mut FixedBitSet,
     other: &FixedBitSet,
