@@ -902,7 +902,7 @@ impl FixedBitSet {
         self.set.union_with_change(&other.set)
     }
 
-    /// [`intersect_with`](BitsMut::intersect_with), with the answer whether a position went.
+    /// [`intersect_with`](Self::intersect_with), with the answer whether a position went.
     ///
     /// Proved: the answer and what it leaves, for any two sets
     /// ([contract](crate::contracts#fixedbitsetbitsmutintersect_with_change)).
@@ -919,7 +919,7 @@ impl FixedBitSet {
         self.as_bits_mut().intersect_with_change(other.as_bits())
     }
 
-    /// [`difference_with`](BitsMut::difference_with), with the answer whether a position went.
+    /// [`difference_with`](Self::difference_with), with the answer whether a position went.
     ///
     /// Proved: the answer and what it leaves, for any two sets
     /// ([contract](crate::contracts#fixedbitsetbitsmutdifference_with_change)).

@@ -28,10 +28,10 @@ pub struct BitRows {
 impl BitRows {
     /// The table of so many rows and columns with no bit.
     ///
-    /// **Panics** where its words would be more than a vector can have.
+    /// **Panics** where its words would be more than a vector can have. Where memory is refused the program ends;
+    /// [`try_new`](Self::try_new) says so instead.
     ///
-    /// Not proved: it makes words that are 0. How many a row has is proved
-    /// ([contract](crate::contracts#fixedbitsetviewsstorage_words)).
+    /// Proved: the table, for all numbers, wherever it does not panic ([contract](crate::contracts#bitrowsbitrowsnew)).
     ///
     /// ```
     /// # use fixedbitset::BitRows;
@@ -61,7 +61,7 @@ impl BitRows {
 
     /// How many rows there are.
     ///
-    /// Not proved: it answers the number that is kept.
+    /// Proved: the number, for all tables ([contract](crate::contracts#bitrowsbitrowsrows)).
     ///
     /// ```
     /// # use fixedbitset::BitRows;
@@ -74,7 +74,7 @@ impl BitRows {
 
     /// How many columns there are.
     ///
-    /// Not proved: it answers the number that is kept.
+    /// Proved: the number, for all tables ([contract](crate::contracts#bitrowsbitrowscolumns)).
     ///
     /// ```
     /// # use fixedbitset::BitRows;

@@ -161,7 +161,7 @@ pub mod alloc {
 
     /// The error where there are more numbers than can be counted.
     #[allow(non_upper_case_globals)]
-    pub const AllocError: AllocError = AllocError { bytes: usize::MAX };
+    pub(crate) const AllocError: AllocError = AllocError { bytes: usize::MAX };
 }
 
 /// What Rattle's prelude has and Rust's has not.

@@ -156,7 +156,7 @@ impl<'a> BitsMut<'a> {
 impl FixedBitSet {
     /// The set as one over lent words, to be read.
     ///
-    /// Not proved: it lends the words that are kept.
+    /// Proved: the view, for all sets ([contract](crate::contracts#fixedbitsetfixedbitsetas_bits)).
     ///
     /// ```
     /// # use fixedbitset::{Bits, FixedBitSet};
@@ -187,7 +187,7 @@ impl FixedBitSet {
     }
 }
 
-/// Not proved: `Vec` copies the words.
+/// Proved: the set, for all sets ([contract](crate::contracts#fixedbitsetfixedbitsetfrom_bits)).
 impl From<Bits<'_>> for FixedBitSet {
     /// A copy.
     fn from(set: Bits<'_>) -> Self {

@@ -8,7 +8,7 @@ use crate::{panics, Block};
 use core::fmt::{Debug, Formatter, Result};
 use core::iter::FusedIterator;
 
-/// The walk of [`FixedBitSet::ones`] and of [`FixedBitSet::ones_in`].
+/// The walk of [`FixedBitSet::ones`](crate::FixedBitSet::ones) and of [`FixedBitSet::ones_in`](crate::FixedBitSet::ones_in).
 ///
 /// Proved: each item that it gives, in any mix of calls from both ends
 /// ([contract](crate::contracts#fixedbitsetbitsones)).
@@ -24,7 +24,7 @@ pub struct Ones<'a> {
     pub(crate) walk: Cursor<Plain<'a>>,
 }
 
-/// The walk of [`FixedBitSet::into_ones`].
+/// The walk of [`FixedBitSet::into_ones`](crate::FixedBitSet::into_ones).
 ///
 /// Proved: each item that it gives, in any mix of calls from both ends
 /// ([contract](crate::contracts#bitwordscursorscursorover)).
@@ -38,7 +38,7 @@ pub struct IntoOnes {
     pub(crate) walk: bitwalks::IntoOnes,
 }
 
-/// The walk of [`FixedBitSet::zeroes`] and of [`FixedBitSet::zeroes_in`].
+/// The walk of [`FixedBitSet::zeroes`](crate::FixedBitSet::zeroes) and of [`FixedBitSet::zeroes_in`](crate::FixedBitSet::zeroes_in).
 ///
 /// Proved: each item that it gives, in any mix of calls from both ends
 /// ([contract](crate::contracts#fixedbitsetbitszeroes)).
@@ -53,7 +53,7 @@ pub struct Zeroes<'a> {
     pub(crate) walk: Cursor<Inverted<'a>>,
 }
 
-/// The walk of [`FixedBitSet::intersection`].
+/// The walk of [`FixedBitSet::intersection`](crate::FixedBitSet::intersection).
 ///
 /// Proved: each item that it gives, in any mix of calls from both ends
 /// ([contract](crate::contracts#fixedbitsetbitsintersection)).
@@ -68,7 +68,7 @@ pub struct Intersection<'a> {
     pub(crate) walk: Cursor<Beside<'a, And>>,
 }
 
-/// The walk of [`FixedBitSet::difference`].
+/// The walk of [`FixedBitSet::difference`](crate::FixedBitSet::difference).
 ///
 /// Proved: each item that it gives, in any mix of calls from both ends
 /// ([contract](crate::contracts#fixedbitsetbitsdifference)).
@@ -83,7 +83,7 @@ pub struct Difference<'a> {
     pub(crate) walk: Cursor<Beside<'a, AndNot>>,
 }
 
-/// The walk of [`FixedBitSet::union`]. From the back it begins with what the second set alone has.
+/// The walk of [`FixedBitSet::union`](crate::FixedBitSet::union). From the back it begins with what the second set alone has.
 ///
 /// Proved: each item that it gives, in any mix of calls from both ends
 /// ([first](crate::contracts#bitwalksin_turninturntake_first), [last](crate::contracts#bitwalksin_turninturntake_last)).
@@ -98,7 +98,7 @@ pub struct Union<'a> {
     pub(crate) walk: InTurn<Cursor<Plain<'a>>, Cursor<Beside<'a, AndNot>>>,
 }
 
-/// The walk of [`FixedBitSet::symmetric_difference`]. From the back it begins with what the second set alone has.
+/// The walk of [`FixedBitSet::symmetric_difference`](crate::FixedBitSet::symmetric_difference). From the back it begins with what the second set alone has.
 ///
 /// Proved: each item that it gives, in any mix of calls from both ends
 /// ([first](crate::contracts#bitwalksin_turninturntake_first), [last](crate::contracts#bitwalksin_turninturntake_last)).
@@ -113,7 +113,7 @@ pub struct SymmetricDifference<'a> {
     pub(crate) walk: InTurn<Cursor<Beside<'a, AndNot>>, Cursor<Beside<'a, AndNot>>>,
 }
 
-/// The walk of [`FixedBitSet::runs`] and of [`FixedBitSet::zero_runs`].
+/// The walk of [`FixedBitSet::runs`](crate::FixedBitSet::runs) and of [`FixedBitSet::zero_runs`](crate::FixedBitSet::zero_runs).
 ///
 /// Proved: each stretch that it gives, in any mix of calls from both ends
 /// ([contract](crate::contracts#fixedbitsetbitsruns)).
