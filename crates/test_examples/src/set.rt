@@ -2,7 +2,7 @@
 //! tools/docs/make_examples writes this file.
 
 use crate::calls::{cleared, equal, holds, known_equal, ok, set_of};
-use fixedbitset::{Block, FixedBitSet};
+use fixedbitset::{BitsMut, Block, FixedBitSet};
 
 #[test]
 fn new(rt: HostRuntime) {
@@ -61,6 +61,16 @@ fn clone_from(rt: HostRuntime) {
     ok(&rt, set.clone_from(&source));
     known_equal(&rt, set.len(), 3);
     equal(&rt, set.as_slice(), [5].as_slice());
+}
+
+#[test]
+#[tactic(auto, using(fixedbitset::specs::WordsFacts::facts))]
+fn from_bits(rt: HostRuntime) {
+    let alloc = rt.alloc();
+    let mut words = [9, 2, 0, 0];
+    let lent = BitsMut::settle(&mut words, 70, 70);
+    let set = ok(&rt, FixedBitSet::from_bits(alloc, lent.as_bits()));
+    equal(&rt, set.as_slice(), [9, 2].as_slice());
 }
 
 #[test]

@@ -3,30 +3,6 @@
 
 use crate::calls::{equal, ok};
 use bitjson::bytes;
-use serde_json::Value;
-
-#[test]
-fn words_of_items(rt: HostRuntime) {
-    let alloc = rt.alloc();
-    let value = ok(&rt, Value::from_str(alloc, "[1,2]"));
-    let items = ok(&rt, value.as_array().ok_or("no list"));
-    let words = ok(&rt, bytes::words_of_items(alloc, items.as_slice(), 2));
-    equal(&rt, words.as_slice(), [513, 0].as_slice());
-}
-
-#[test]
-fn value_of_words(rt: HostRuntime) {
-    let alloc = rt.alloc();
-    let text = ok(
-        &rt,
-        ok(&rt, bytes::value_of_words(alloc, 10, &[513])).to_string(alloc),
-    );
-    equal(
-        &rt,
-        text.as_str(),
-        "{\"data\":[1,2,0,0,0,0,0,0],\"length\":10}",
-    );
-}
 
 #[test]
 fn words_of_bytes(rt: HostRuntime) {

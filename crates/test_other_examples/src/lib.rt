@@ -80,6 +80,8 @@ mod sieve;
 #[cfg(test)]
 mod table;
 #[cfg(test)]
+mod values;
+#[cfg(test)]
 mod views_changes;
 #[cfg(test)]
 mod views_reads;

@@ -3,7 +3,7 @@
 
 use crate::calls::{equal, gives, ok, set_of};
 use bitwalks::{IntoOnes, Ones, Zeroes};
-use fixedbitset::Block;
+use fixedbitset::{Block, Steps};
 
 #[test]
 fn ones(rt: HostRuntime) {
@@ -62,6 +62,14 @@ fn into_ones_over(rt: HostRuntime) {
     let words = ok(&rt, [8, 0, 1].to_vec(alloc));
     let walk = IntoOnes::over(words);
     gives(&rt, walk, &[3, 128]);
+}
+
+#[test]
+fn count_left(rt: HostRuntime) {
+    let alloc = rt.alloc();
+    let words = ok(&rt, [8, 0, 1].to_vec(alloc));
+    let walk = IntoOnes::over(words);
+    equal(&rt, walk.count_left(&mut Steps::new()), 2);
 }
 
 #[test]

@@ -24,6 +24,7 @@ pub enum Making {
     CountedBitxor,
     Slice,
     FromBytes,
+    FromBits,
     ToBytes,
     RanksOf,
     BitRowsNew,
@@ -34,7 +35,7 @@ pub enum Making {
     Run,
 }
 
-pub const CALLS: &[(&str, Call); 20] = &[
+pub const CALLS: &[(&str, Call); 21] = &[
     ("with_capacity", Call::Making(Making::WithCapacity)),
     (
         "with_capacity_and_blocks",
@@ -50,6 +51,7 @@ pub const CALLS: &[(&str, Call); 20] = &[
     ("counted::bitxor", Call::Making(Making::CountedBitxor)),
     ("slice", Call::Making(Making::Slice)),
     ("from_bytes", Call::Making(Making::FromBytes)),
+    ("from_bits", Call::Making(Making::FromBits)),
     ("to_bytes", Call::Making(Making::ToBytes)),
     ("Ranks::of", Call::Making(Making::RanksOf)),
     ("BitRows::new", Call::Making(Making::BitRowsNew)),
@@ -96,7 +98,7 @@ fn is_made(set: &FixedBitSet, call: Making) -> bool {
     match call {
         Making::WithCapacity => is_value(set, LONG, &[]),
         Making::FromBytes => is_short(set),
-        Making::Clone => is_long(set),
+        Making::Clone | Making::FromBits => is_long(set),
         Making::Slice => is_value(set, 70, &[69]),
         Making::Bitand | Making::CountedBitand => is_value(set, 10, &[]),
         Making::Bitor | Making::Bitxor | Making::CountedBitor | Making::CountedBitxor => {
@@ -112,6 +114,7 @@ fn make_set(alloc: Global, starts: &Starts, call: Making) -> Result<FixedBitSet,
     let outcome: Result<FixedBitSet, AllocError> = match call {
         Making::WithCapacity => FixedBitSet::with_capacity(alloc, LONG),
         Making::FromBytes => FixedBitSet::from_bytes(alloc, 10, &[8]),
+        Making::FromBits => FixedBitSet::from_bits(alloc, long.as_bits()),
         Making::Clone => long.clone(),
         Making::Slice if long.len() == LONG => long.slice(alloc, LONG - 70..),
         Making::Bitand => long.bitand(short),

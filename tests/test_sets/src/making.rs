@@ -98,6 +98,19 @@ fn a_set_is_made_again_of_its_words(rt: HostRuntime) -> Result<(), Fail> {
 }
 
 #[test]
+fn a_set_is_made_of_a_view(rt: HostRuntime) -> Result<(), Fail> {
+    for length in 0..131 {
+        let flags = multiples(rt.alloc(), length, 3)?;
+        let set = filled(rt.alloc(), &flags)?;
+        let mut again = FixedBitSet::from_bits(rt.alloc(), set.as_bits())?;
+        assert!(rt; is_same(&again, &flags), "length {length}");
+        again.clear();
+        assert!(rt; is_same(&set, &flags), "length {length}");
+    }
+    Ok(())
+}
+
+#[test]
 fn a_word_is_set(rt: HostRuntime) -> Result<(), Fail> {
     let mut set = FixedBitSet::with_capacity(rt.alloc(), 70)?;
     assert!(rt; set.as_slice().len() == 2);
