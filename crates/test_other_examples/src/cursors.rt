@@ -5,7 +5,7 @@ use crate::calls::{equal, gives, ok};
 use bitlanes::ops::{And, AndNot};
 use bitwords::cursors;
 use bitwords::cursors::{Beside, Cursor, Inverted, Middle, Plain, Seen};
-use fixedbitset::Block;
+use fixedbitset::{Block, Steps};
 
 #[test]
 fn middle(rt: HostRuntime) {
@@ -13,6 +13,7 @@ fn middle(rt: HostRuntime) {
     equal(&rt, Middle::take_first(&mut middle), Some(3));
     equal(&rt, Middle::take_last(&mut middle), Some(7));
     equal(&rt, Middle::left(&middle), 1);
+    equal(&rt, Middle::count_positions(middle, &mut Steps::new()), 2);
 }
 
 #[test]
@@ -82,6 +83,13 @@ fn of_held(rt: HostRuntime) {
     let cursor = Cursor::over(Plain { words: &[9, 0, 1] });
     let held = cursor.into_held();
     gives(&rt, Cursor::of_held(held), &[0, 3, 128]);
+}
+
+#[test]
+fn count_left(rt: HostRuntime) {
+    let mut cursor = Cursor::over(Plain { words: &[9, 7, 1] });
+    equal(&rt, cursor.next(), Some(0));
+    equal(&rt, cursor.count_left(&mut Steps::new()), 5);
 }
 
 #[test]
