@@ -2,6 +2,7 @@
 //! of positions, from both ends, and the kernels of `bitlanes` beside plain loops.
 
 mod chains;
+mod counts;
 mod ends;
 mod fills;
 mod gives;

@@ -24,3 +24,12 @@ overflow_add-result g c =
       count-held held.front_at held.front (g.M.Middle.words held.middle) held.back (search rules) (search rules),
       ap length c.into_held-held.ensures.items,
     )
+
+pub returns-clause-cost : goal.returns-clause-cost
+returns-clause-cost g c =
+    omega (
+      arith,
+      c.count_positions.ensures.cost,
+      c.count_one.ensures.cost,
+      ap length c.into_held-held.ensures.words,
+    )

@@ -34,3 +34,6 @@ loop-word-preserved c =
 pub returns-clause-count : goal.returns-clause-count
 returns-clause-count c =
     omega (arith, c.loop-word.invariant.counted, ap row_count c.in_default.ensures.0, count-zero (has_bit []))
+
+pub returns-clause-cost : goal.returns-clause-cost
+returns-clause-cost c = omega (arith, c.left.ensures, c.tick_lanes.ensures)
