@@ -1,7 +1,7 @@
 //! The examples in the docs of `fixedbitset::views::walks`.
 //! tools/docs/make_examples writes this file.
 
-use crate::calls::gives;
+use crate::calls::{equal, gives};
 use fixedbitset::{BitsMut, Block};
 
 #[test]
@@ -28,6 +28,34 @@ fn difference(rt: HostRuntime) {
     let set = BitsMut::settle(&mut words, 70, 70);
     let other = BitsMut::settle(&mut other, 66, 66);
     gives(&rt, set.as_bits().difference(other.as_bits()), &[3]);
+}
+
+#[test]
+#[tactic(auto, using(fixedbitset::specs::WordsFacts::facts))]
+fn union(rt: HostRuntime) {
+    let (mut words, mut other) = ([9, 2, 0, 0], [3, 0, 0, 0]);
+    let set = BitsMut::settle(&mut words, 70, 70);
+    let other = BitsMut::settle(&mut other, 9, 9);
+    let mut walk = set.as_bits().union(other.as_bits());
+    equal(
+        &rt,
+        (walk.take_first(), walk.take_last()),
+        (Some(0), Some(1)),
+    );
+}
+
+#[test]
+#[tactic(auto, using(fixedbitset::specs::WordsFacts::facts))]
+fn symmetric_difference(rt: HostRuntime) {
+    let (mut words, mut other) = ([9, 2, 0, 0], [3, 0, 0, 0]);
+    let set = BitsMut::settle(&mut words, 70, 70);
+    let other = BitsMut::settle(&mut other, 9, 9);
+    let mut walk = set.as_bits().symmetric_difference(other.as_bits());
+    equal(
+        &rt,
+        (walk.take_first(), walk.take_last()),
+        (Some(3), Some(1)),
+    );
 }
 
 #[test]

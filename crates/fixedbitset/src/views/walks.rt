@@ -3,7 +3,7 @@
 //! A walk goes over the words that the length needs, and not over those behind them that make up a
 //! whole lane. It has read the first and the last of them, and those between are not yet taken.
 
-ghost use Rattle.std.specs.Prelude.{◌≡◌, IsTrue, map};
+ghost use Rattle.std.specs.Prelude.{◌≡◌, ◌^◌, ◌<◌, ◌++◌, IsTrue, true, map, length};
 ghost use Rattle.std.specs.Int.{bit_not, w64};
 ghost use Rattle.bitwords.specs.RowFacts.{AreWords};
 ghost use Rattle.bitwords.specs.Walk.{between_ends};
@@ -12,11 +12,12 @@ ghost use Rattle.fixedbitset.specs.Ranges.{is_valid};
 ghost use Rattle.fixedbitset.specs.Runs as stretches;
 ghost use Rattle.fixedbitset.specs.TwoSets as sets;
 ghost use Rattle.fixedbitset.specs.Views.{value};
-ghost use Rattle.fixedbitset.specs.Walks.{ones_of, zeroes_of, words_of, zero_words_of};
+ghost use Rattle.fixedbitset.specs.Walks.{begun, ones_of, zeroes_of, words_of, zero_words_of};
 
 use crate::views::Bits;
 use bitlanes::Block;
 use bitlanes::ops::{And, AndNot};
+use bitwalks::in_turn::InTurn;
 use bitwalks::runs::Runs;
 use bitwords::cursors::{Beside, Cursor, Inverted, Plain, ones_within, zeroes_within};
 
@@ -83,6 +84,58 @@ impl<'a> Bits<'a> {
         let words = self.as_slice();
         let other = all(other.words);
         Cursor::over(Beside::of(words, other))
+    }
+
+    /// The positions of the first set, and then those of the second that the first lacks, each part
+    /// in ascending order.
+    ///
+    /// ```
+    /// let (mut words, mut other) = ([9, 2, 0, 0], [3, 0, 0, 0]);
+    /// let set = BitsMut::settle(&mut words, 70, 70);
+    /// let other = BitsMut::settle(&mut other, 9, 9);
+    /// let mut walk = set.as_bits().union(other.as_bits());
+    /// assert_eq!(rt; (walk.take_first(), walk.take_last()), (Some(0), Some(1)));
+    /// ```
+    #[inline(always)]
+    pub fn union(self, other: Bits<'a>) -> InTurn<Cursor<Plain<'a>>, Cursor<Beside<'a, AndNot>>>
+        ensures items { result.first.items ++ result.second.items
+            ≡ model.asc (value self.entry)
+            ++ model.asc (sets.difference (value other.entry) (value self.entry)) }
+        ensures fits { length (result.first.items ++ result.second.items) < 2 ^ 64 }
+        ensures first { result.first ≡ begun (value self.entry) }
+        ensures second { result.second
+            ≡ begun (sets.difference (value other.entry) (value self.entry)) }
+        ensures left { result.first_left ≡ true }
+    {
+        InTurn::of(self.ones(), other.difference(self))
+    }
+
+    /// The positions of the first set that the second lacks, and then those of the second that the
+    /// first lacks, each part in ascending order.
+    ///
+    /// ```
+    /// let (mut words, mut other) = ([9, 2, 0, 0], [3, 0, 0, 0]);
+    /// let set = BitsMut::settle(&mut words, 70, 70);
+    /// let other = BitsMut::settle(&mut other, 9, 9);
+    /// let mut walk = set.as_bits().symmetric_difference(other.as_bits());
+    /// assert_eq!(rt; (walk.take_first(), walk.take_last()), (Some(3), Some(1)));
+    /// ```
+    #[inline(always)]
+    pub fn symmetric_difference(
+        self,
+        other: Bits<'a>,
+    ) -> InTurn<Cursor<Beside<'a, AndNot>>, Cursor<Beside<'a, AndNot>>>
+        ensures items { result.first.items ++ result.second.items
+            ≡ model.asc (sets.difference (value self.entry) (value other.entry))
+            ++ model.asc (sets.difference (value other.entry) (value self.entry)) }
+        ensures fits { length (result.first.items ++ result.second.items) < 2 ^ 64 }
+        ensures first { result.first
+            ≡ begun (sets.difference (value self.entry) (value other.entry)) }
+        ensures second { result.second
+            ≡ begun (sets.difference (value other.entry) (value self.entry)) }
+        ensures left { result.first_left ≡ true }
+    {
+        InTurn::of(self.difference(other), other.difference(self))
     }
 
     /// The positions below the length that are not set, in ascending order.
