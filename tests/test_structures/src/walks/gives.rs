@@ -32,5 +32,31 @@ pub fn assert_gives<I: DoubleEndedIterator<Item = usize>>(
     }
 }
 
+/// The same of a walk that is no iterator: `take` gives its first item left, or the last one for `false`.
+pub fn assert_takes(
+    rt: &impl Abort,
+    mut take: impl FnMut(bool) -> Option<usize>,
+    items: &[usize],
+    ends: [bool; 2],
+) {
+    let (mut start, mut end) = (0, items.len());
+    for step in 0..items.len() {
+        let is_front = ends[step % 2];
+        let wanted = if is_front {
+            start += 1;
+            items[start - 1]
+        } else {
+            end -= 1;
+            items[end]
+        };
+        let given = take(is_front);
+        assert_eq!(rt; given, Some(wanted), "item {step} of {}", items.len());
+    }
+    for _ in 0..3 {
+        let (first, last) = (take(true), take(false));
+        assert!(rt; first.is_none() && last.is_none());
+    }
+}
+
 /// From the front alone, from the back alone, and from both in turn.
 pub const ORDERS: [[bool; 2]; 4] = [[true, true], [false, false], [true, false], [false, true]];

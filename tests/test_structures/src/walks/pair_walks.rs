@@ -1,7 +1,7 @@
 //! The walks over two sets against slow lists, on every pair of fifteen lengths.
 
 use crate::slow::Slow;
-use crate::walks::gives::{ORDERS, assert_gives};
+use crate::walks::gives::{ORDERS, assert_gives, assert_takes};
 use std::alloc::{AllocError, Global};
 use std::test::Fail;
 use test_values::pairs::{Join, PAIRS, Pair, every_pair};
@@ -79,6 +79,38 @@ fn symmetric_differences_of_every_pair(rt: HostRuntime) -> Result<(), Fail> {
         let items = listed(rt.alloc(), pair, &[Join::FirstAlone, Join::SecondAlone])?;
         for ends in ORDERS {
             assert_gives(&rt, set.symmetric_difference(&other), &items, ends);
+        }
+    }
+    Ok(())
+}
+
+// Those of sets over lent words, which are no iterators.
+#[test]
+fn views_of_every_pair_in_turn(rt: HostRuntime) -> Result<(), Fail> {
+    for pair in &every_pair(rt.alloc())? {
+        let set = filled(rt.alloc(), &pair.a)?;
+        let other = filled(rt.alloc(), &pair.b)?;
+        let all = listed(rt.alloc(), pair, &[Join::First, Join::SecondAlone])?;
+        let alone = listed(rt.alloc(), pair, &[Join::FirstAlone, Join::SecondAlone])?;
+        for ends in ORDERS {
+            let mut walk = set.as_bits().union(other.as_bits());
+            let take = |is_front: bool| {
+                if is_front {
+                    walk.take_first()
+                } else {
+                    walk.take_last()
+                }
+            };
+            assert_takes(&rt, take, &all, ends);
+            let mut walk = set.as_bits().symmetric_difference(other.as_bits());
+            let take = |is_front: bool| {
+                if is_front {
+                    walk.take_first()
+                } else {
+                    walk.take_last()
+                }
+            };
+            assert_takes(&rt, take, &alone, ends);
         }
     }
     Ok(())
