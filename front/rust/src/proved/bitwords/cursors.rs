@@ -242,7 +242,7 @@ fn count_lacking(words: &[Block], steps: &mut Steps) -> usize {
     BITS * words.len() - lanes::count_one(words, steps)
 }
 
-// How many it has of which the other row, cut to its length, says so by `O`.
+// How many it has once each word is joined by `O` with the word at its place of the other row.
 #[inline]
 fn count_beside<O: WordOp>(words: &[Block], other: &[Block], steps: &mut Steps) -> usize {
     let common = words.len().min(other.len());
