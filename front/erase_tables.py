@@ -71,12 +71,12 @@ MEMBERS = {"cmp": {"Ordering"}, "iter": {"FusedIterator"}, "marker": {"PhantomDa
            "simd": {"prelude"}, "prelude": {"u64x4"}, "snapshot": {"Snapshot"}, "shim": {"Block", "text_of"},
            "Block": {"MAX", "from_le_bytes"}, "u64x4": {"from_array", "from_slice", "splat"}, "Snapshot": {"of"},
            "Vec": {"from_clones", "from_slice", "new", "with_capacity"}, "Binary": {"fmt"}, "usize": {"MAX"},
-           "RangeInclusive": {"end", "start"}, "Ordering": {"Equal"}}
-# Methods of Rust, and of the shim. Others have to be declared in these modules.
-METHODS = set("checked_add checked_mul checked_next_multiple_of checked_sub cmp div_ceil leading_zeros max min saturating_add "
-              "saturating_sub trailing_zeros copied is_empty is_none len split_at_mut split_first split_last unwrap_or rev "
-              "copy_to_slice reduce_or to_array wrapping_add wrapping_sub count_ones iter enumerate zip map map_err take into_iter "
-              "allocator as_mut_slice copy_from_slice extend extend_from_slice resize truncate alternate write_str hash".split())
+           "Ordering": {"Equal"}}
+# Methods of Rust, and of the shim. Others have to be declared in these modules, as some that Rust has too are.
+METHODS = set("checked_add checked_mul checked_next_multiple_of checked_sub div_ceil leading_zeros max min saturating_add "
+              "saturating_sub trailing_zeros copied is_none split_at_mut split_first split_last unwrap_or rev copy_to_slice reduce_or "
+              "to_array wrapping_add wrapping_sub iter enumerate zip map map_err into_iter allocator as_mut_slice "
+              "copy_from_slice extend_from_slice alternate write_str".split())
 # The closures that may stand.
 CLOSURES = {". map ( | ( word , other ) | O :: word ( * word , * other ) )", ". map_err ( | _ | ExtendFault :: Memory )"}
 # The methods that Rust finds by a trait that each type has, or each struct here has by its derive, those of edition 2024 too, and
