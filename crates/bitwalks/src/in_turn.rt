@@ -13,6 +13,12 @@ use bitwords::cursors::{Cursor, Middle};
 use std::marker::Model;
 
 /// A walk that may be one of two in turn.
+///
+/// ```
+/// let mut walk = Cursor::over(Plain { words: &[9, 1] });
+/// assert_eq!(rt; Part::take_first(&mut walk), Some(0));
+/// assert_eq!(rt; Part::take_last(&mut walk), Some(64));
+/// ```
 pub trait Part {
     /// The items left.
     ghost items: { Self → List ℕ };
@@ -78,6 +84,11 @@ impl<M: Middle + Drop> Part for Cursor<M> {
 }
 
 /// A walk whose items left can be counted at once.
+///
+/// ```
+/// let walk = Cursor::over(Plain { words: &[9, 1] });
+/// assert_eq!(rt; Counted::count_items(walk, &mut Steps::new()), 3);
+/// ```
 pub trait Counted: Part {
     /// How many steps a count takes at most.
     ghost most_steps: { Self → ℕ };
@@ -99,6 +110,13 @@ impl<M: Middle + Drop> Counted for Cursor<M> {
 }
 
 /// The items of the first walk, and then those of the second.
+///
+/// ```
+/// let first = Cursor::over(Plain { words: &[9, 1] });
+/// let second = Cursor::over(Plain { words: &[6] });
+/// let mut walks = InTurn::of(first, second);
+/// assert_eq!(rt; (walks.take_first(), walks.take_last()), (Some(0), Some(2)));
+/// ```
 #[derive(Drop)]
 pub struct InTurn<A: Part + Drop, B: Part + Drop> {
     first: A,
@@ -125,6 +143,12 @@ impl<A: Part + Drop, B: Part + Drop> Model for InTurn<A, B> {
 
 impl<A: Part + Drop, B: Part + Drop> InTurn<A, B> {
     /// These two walks, the first before the second.
+    ///
+    /// ```
+    /// let first = Cursor::over(Plain { words: &[9, 1] });
+    /// let second = Cursor::over(Plain { words: &[6] });
+    /// assert_eq!(rt; InTurn::of(first, second).take_first(), Some(0));
+    /// ```
     #[inline]
     pub fn of(first: A, second: B) -> InTurn<A, B>
         ensures first { result.first ≡ first }
@@ -140,6 +164,13 @@ impl<A: Part + Drop, B: Part + Drop> InTurn<A, B> {
 
     /// The first item that the first walk has left, and once it has none, the first of the second.
     /// A first walk that gave none is not asked again.
+    ///
+    /// ```
+    /// let first = Cursor::over(Plain { words: &[8] });
+    /// let second = Cursor::over(Plain { words: &[6] });
+    /// let mut walks = InTurn::of(first, second);
+    /// assert_eq!(rt; (walks.take_first(), walks.take_first()), (Some(3), Some(1)));
+    /// ```
     #[inline]
     pub fn take_first(&mut self) -> Option<usize>
         ensures gives { YieldsFirst
@@ -161,6 +192,13 @@ impl<A: Part + Drop, B: Part + Drop> InTurn<A, B> {
 
     /// The last item that the second walk has left, and where it has none, the last of the first. A
     /// first walk that gave none from the front is not asked again.
+    ///
+    /// ```
+    /// let first = Cursor::over(Plain { words: &[8] });
+    /// let second = Cursor::over(Plain { words: &[2] });
+    /// let mut walks = InTurn::of(first, second);
+    /// assert_eq!(rt; (walks.take_last(), walks.take_last()), (Some(1), Some(3)));
+    /// ```
     #[inline]
     pub fn take_last(&mut self) -> Option<usize>
         ensures gives { YieldsLast
@@ -182,6 +220,12 @@ impl<A: Part + Drop, B: Part + Drop> InTurn<A, B> {
 
     /// The sum of what both have, which is not below the number of items left,
     /// where it is a `usize`.
+    ///
+    /// ```
+    /// let first = Cursor::over(Plain { words: &[9, 1] });
+    /// let second = Cursor::over(Plain { words: &[6] });
+    /// assert_eq!(rt; InTurn::of(first, second).most(), Some(256));
+    /// ```
     #[inline]
     pub fn most(&self) -> Option<usize>
         ensures upper { IfSome result
@@ -193,6 +237,13 @@ impl<A: Part + Drop, B: Part + Drop> InTurn<A, B> {
     }
 
     /// The two walks, each with the items that it has left.
+    ///
+    /// ```
+    /// let first = Cursor::over(Plain { words: &[9, 1] });
+    /// let second = Cursor::over(Plain { words: &[6] });
+    /// let (first, _) = InTurn::of(first, second).into_walks();
+    /// assert!(rt; first.eq([0, 3, 64]));
+    /// ```
     #[inline]
     pub fn into_walks(self) -> (A, B)
         ensures first { result.0 ≡ self.first }

@@ -2,7 +2,7 @@
 //! knows a set or its length.
 #![tactic(auto)]
 
-mod in_turn;
+pub mod in_turn;
 pub mod pairs;
 pub mod runs;
 pub mod sieve;

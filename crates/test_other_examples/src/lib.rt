@@ -44,6 +44,8 @@ mod gaps;
 #[cfg(test)]
 mod handfuls;
 #[cfg(test)]
+mod in_turn;
+#[cfg(test)]
 mod joins;
 #[cfg(test)]
 mod lanes;

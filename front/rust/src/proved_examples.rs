@@ -825,7 +825,138 @@ fn bitrows_views_reads_30() {
 }
 
 #[test]
-fn bitwalks_in_turn_122() {
+fn bitwalks_in_turn_10() {
+    use crate::proved::bitlanes::ops::*;
+    use crate::proved::bitlanes::{word, Block, Steps};
+    use crate::proved::bitwalks::in_turn::*;
+    use crate::proved::bitwords::cursors::*;
+    use crate::proved::bitwalks::*;
+    use crate::shim::u64x4;
+    use core::cmp::Ordering;
+    use core::mem::{size_of, size_of_val};
+
+    let mut walk = Cursor::over(Plain { words: &[9, 1] });
+    assert_eq!(Part::take_first(&mut walk), Some(0));
+    assert_eq!(Part::take_last(&mut walk), Some(64));
+}
+
+#[test]
+fn bitwalks_in_turn_45() {
+    use crate::proved::bitlanes::ops::*;
+    use crate::proved::bitlanes::{word, Block, Steps};
+    use crate::proved::bitwalks::in_turn::*;
+    use crate::proved::bitwords::cursors::*;
+    use crate::proved::bitwalks::*;
+    use crate::shim::u64x4;
+    use core::cmp::Ordering;
+    use core::mem::{size_of, size_of_val};
+
+    let walk = Cursor::over(Plain { words: &[9, 1] });
+    assert_eq!(Counted::count_items(walk, &mut Steps::new()), 3);
+}
+
+#[test]
+fn bitwalks_in_turn_63() {
+    use crate::proved::bitlanes::ops::*;
+    use crate::proved::bitlanes::{word, Block, Steps};
+    use crate::proved::bitwalks::in_turn::*;
+    use crate::proved::bitwords::cursors::*;
+    use crate::proved::bitwalks::*;
+    use crate::shim::u64x4;
+    use core::cmp::Ordering;
+    use core::mem::{size_of, size_of_val};
+
+    let first = Cursor::over(Plain { words: &[9, 1] });
+    let second = Cursor::over(Plain { words: &[6] });
+    let mut walks = InTurn::of(first, second);
+    assert_eq!((walks.take_first(), walks.take_last()), (Some(0), Some(2)));
+}
+
+#[test]
+fn bitwalks_in_turn_81() {
+    use crate::proved::bitlanes::ops::*;
+    use crate::proved::bitlanes::{word, Block, Steps};
+    use crate::proved::bitwalks::in_turn::*;
+    use crate::proved::bitwords::cursors::*;
+    use crate::proved::bitwalks::*;
+    use crate::shim::u64x4;
+    use core::cmp::Ordering;
+    use core::mem::{size_of, size_of_val};
+
+    let first = Cursor::over(Plain { words: &[9, 1] });
+    let second = Cursor::over(Plain { words: &[6] });
+    assert_eq!(InTurn::of(first, second).take_first(), Some(0));
+}
+
+#[test]
+fn bitwalks_in_turn_98() {
+    use crate::proved::bitlanes::ops::*;
+    use crate::proved::bitlanes::{word, Block, Steps};
+    use crate::proved::bitwalks::in_turn::*;
+    use crate::proved::bitwords::cursors::*;
+    use crate::proved::bitwalks::*;
+    use crate::shim::u64x4;
+    use core::cmp::Ordering;
+    use core::mem::{size_of, size_of_val};
+
+    let first = Cursor::over(Plain { words: &[8] });
+    let second = Cursor::over(Plain { words: &[6] });
+    let mut walks = InTurn::of(first, second);
+    assert_eq!((walks.take_first(), walks.take_first()), (Some(3), Some(1)));
+}
+
+#[test]
+fn bitwalks_in_turn_119() {
+    use crate::proved::bitlanes::ops::*;
+    use crate::proved::bitlanes::{word, Block, Steps};
+    use crate::proved::bitwalks::in_turn::*;
+    use crate::proved::bitwords::cursors::*;
+    use crate::proved::bitwalks::*;
+    use crate::shim::u64x4;
+    use core::cmp::Ordering;
+    use core::mem::{size_of, size_of_val};
+
+    let first = Cursor::over(Plain { words: &[8] });
+    let second = Cursor::over(Plain { words: &[2] });
+    let mut walks = InTurn::of(first, second);
+    assert_eq!((walks.take_last(), walks.take_last()), (Some(1), Some(3)));
+}
+
+#[test]
+fn bitwalks_in_turn_140() {
+    use crate::proved::bitlanes::ops::*;
+    use crate::proved::bitlanes::{word, Block, Steps};
+    use crate::proved::bitwalks::in_turn::*;
+    use crate::proved::bitwords::cursors::*;
+    use crate::proved::bitwalks::*;
+    use crate::shim::u64x4;
+    use core::cmp::Ordering;
+    use core::mem::{size_of, size_of_val};
+
+    let first = Cursor::over(Plain { words: &[9, 1] });
+    let second = Cursor::over(Plain { words: &[6] });
+    assert_eq!(InTurn::of(first, second).most(), Some(256));
+}
+
+#[test]
+fn bitwalks_in_turn_152() {
+    use crate::proved::bitlanes::ops::*;
+    use crate::proved::bitlanes::{word, Block, Steps};
+    use crate::proved::bitwalks::in_turn::*;
+    use crate::proved::bitwords::cursors::*;
+    use crate::proved::bitwalks::*;
+    use crate::shim::u64x4;
+    use core::cmp::Ordering;
+    use core::mem::{size_of, size_of_val};
+
+    let first = Cursor::over(Plain { words: &[9, 1] });
+    let second = Cursor::over(Plain { words: &[6] });
+    let (first, _) = InTurn::of(first, second).into_walks();
+    assert!(first.eq([0, 3, 64]));
+}
+
+#[test]
+fn bitwalks_in_turn_173() {
     use crate::proved::bitlanes::ops::*;
     use crate::proved::bitlanes::{word, Block, Steps};
     use crate::proved::bitwalks::in_turn::*;

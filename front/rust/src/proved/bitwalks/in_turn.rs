@@ -6,6 +6,12 @@ use crate::proved::bitlanes::counter::Steps;
 use crate::proved::bitwords::cursors::{Cursor, Middle};
 
 /// A walk that may be one of two in turn.
+///
+/// ```text
+/// let mut walk = Cursor::over(Plain { words: &[9, 1] });
+/// assert_eq!(Part::take_first(&mut walk), Some(0));
+/// assert_eq!(Part::take_last(&mut walk), Some(64));
+/// ```
 pub trait Part {
     /// The first item left.
     fn take_first(&mut self) -> Option<usize>;
@@ -35,6 +41,11 @@ impl<M: Middle> Part for Cursor<M> {
 }
 
 /// A walk whose items left can be counted at once.
+///
+/// ```text
+/// let walk = Cursor::over(Plain { words: &[9, 1] });
+/// assert_eq!(Counted::count_items(walk, &mut Steps::new()), 3);
+/// ```
 pub trait Counted: Part {
     /// How many items are left. It asks that this number fits `usize`.
     fn count_items(self, steps: &mut Steps) -> usize;
@@ -48,6 +59,13 @@ impl<M: Middle> Counted for Cursor<M> {
 }
 
 /// The items of the first walk, and then those of the second.
+///
+/// ```text
+/// let first = Cursor::over(Plain { words: &[9, 1] });
+/// let second = Cursor::over(Plain { words: &[6] });
+/// let mut walks = InTurn::of(first, second);
+/// assert_eq!((walks.take_first(), walks.take_last()), (Some(0), Some(2)));
+/// ```
 #[derive(Clone)]
 pub struct InTurn<A: Part, B: Part> {
     first: A,
@@ -59,6 +77,12 @@ pub struct InTurn<A: Part, B: Part> {
 
 impl<A: Part, B: Part> InTurn<A, B> {
     /// These two walks, the first before the second.
+    ///
+    /// ```text
+    /// let first = Cursor::over(Plain { words: &[9, 1] });
+    /// let second = Cursor::over(Plain { words: &[6] });
+    /// assert_eq!(InTurn::of(first, second).take_first(), Some(0));
+    /// ```
     #[inline]
     pub fn of(first: A, second: B) -> InTurn<A, B> {
         InTurn {
@@ -70,6 +94,13 @@ impl<A: Part, B: Part> InTurn<A, B> {
 
     /// The first item that the first walk has left, and once it has none, the first of the second.
     /// A first walk that gave none is not asked again.
+    ///
+    /// ```text
+    /// let first = Cursor::over(Plain { words: &[8] });
+    /// let second = Cursor::over(Plain { words: &[6] });
+    /// let mut walks = InTurn::of(first, second);
+    /// assert_eq!((walks.take_first(), walks.take_first()), (Some(3), Some(1)));
+    /// ```
     #[inline]
     pub fn take_first(&mut self) -> Option<usize> {
         // A loop of one turn at most, so that the compiler keeps the caller's numbers in registers.
@@ -84,6 +115,13 @@ impl<A: Part, B: Part> InTurn<A, B> {
 
     /// The last item that the second walk has left, and where it has none, the last of the first. A
     /// first walk that gave none from the front is not asked again.
+    ///
+    /// ```text
+    /// let first = Cursor::over(Plain { words: &[8] });
+    /// let second = Cursor::over(Plain { words: &[2] });
+    /// let mut walks = InTurn::of(first, second);
+    /// assert_eq!((walks.take_last(), walks.take_last()), (Some(1), Some(3)));
+    /// ```
     #[inline]
     pub fn take_last(&mut self) -> Option<usize> {
         if let Some(position) = self.second.take_last() {
@@ -98,12 +136,25 @@ impl<A: Part, B: Part> InTurn<A, B> {
 
     /// The sum of what both have, which is not below the number of items left,
     /// where it is a `usize`.
+    ///
+    /// ```text
+    /// let first = Cursor::over(Plain { words: &[9, 1] });
+    /// let second = Cursor::over(Plain { words: &[6] });
+    /// assert_eq!(InTurn::of(first, second).most(), Some(256));
+    /// ```
     #[inline]
     pub fn most(&self) -> Option<usize> {
         self.first.most()?.checked_add(self.second.most()?)
     }
 
     /// The two walks, each with the items that it has left.
+    ///
+    /// ```text
+    /// let first = Cursor::over(Plain { words: &[9, 1] });
+    /// let second = Cursor::over(Plain { words: &[6] });
+    /// let (first, _) = InTurn::of(first, second).into_walks();
+    /// assert!(first.eq([0, 3, 64]));
+    /// ```
     #[inline]
     pub fn into_walks(self) -> (A, B) {
         let InTurn {
