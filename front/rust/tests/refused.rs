@@ -440,7 +440,7 @@ fn has<T: Copy + Debug + PartialEq>(mut row: Row<T>, items: &[T]) {
     assert_eq!(&*row, items);
     assert_eq!(&mut *row, items);
     assert_eq!(row.as_mut_slice(), items);
-    assert_eq!(row.clone().into_vec(), items);
+    assert_eq!(row.clone().0, items);
     assert!(row.into_iter().eq(items.iter().copied()));
 }
 
@@ -453,7 +453,7 @@ fn is_made<T: Copy + Debug + PartialEq>((name, make): Makes<T>, items: &[T], wan
         has(made.map_err(|_| name).unwrap(), wanted);
     }
     let (made, asked) = refusing(0, || make(Global::Try, items));
-    let told = made.map(Row::into_vec).map_err(|error| error.bytes);
+    let told = made.map(|row| row.0).map_err(|error| error.bytes);
     let is_refused = asked.requests > 0;
     assert_eq!(is_refused, bytes > 0, "{name}, {}", items.len());
     let answer = if is_refused {
@@ -587,6 +587,15 @@ fn a_row_is_changed_or_refused() {
                 row: &|row| row.extend(more.iter().zip(&items).map(|(a, b)| a ^ b)),
                 own: &|own| own.extend(more.iter().zip(&items).map(|(a, b)| a ^ b)),
                 most: count + other.min(count),
+            },
+        );
+        is_changed(
+            &items,
+            Change {
+                name: "extend by some",
+                row: &|row| row.extend(more.iter().copied().filter(|item| item % 3 > 0)),
+                own: &|own| own.extend(more.iter().filter(|item| **item % 3 > 0)),
+                most: count + other,
             },
         );
         is_changed(
