@@ -74,8 +74,8 @@ MEMBERS = {"cmp": {"Ordering"}, "iter": {"FusedIterator"}, "marker": {"PhantomDa
            "Ordering": {"Equal"}}
 # Methods of Rust, and of the shim. Others have to be declared in these modules, as some that Rust has too are.
 METHODS = set("checked_add checked_mul checked_next_multiple_of checked_sub div_ceil leading_zeros max min saturating_add "
-              "saturating_sub trailing_zeros copied is_none split_at_mut split_first split_last unwrap_or rev copy_to_slice reduce_or "
-              "to_array wrapping_add wrapping_sub iter enumerate zip map map_err into_iter allocator as_mut_slice "
+              "saturating_sub trailing_zeros copied is_none split_at_mut split_first split_last unwrap_or rev copy_to_slice "
+              "reduce_or to_array wrapping_add wrapping_sub iter enumerate zip map map_err into_iter allocator as_mut_slice "
               "copy_from_slice extend_from_slice alternate write_str".split())
 # The closures that may stand.
 CLOSURES = {". map ( | ( word , other ) | O :: word ( * word , * other ) )", ". map_err ( | _ | ExtendFault :: Memory )"}

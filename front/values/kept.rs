@@ -2,6 +2,7 @@
 ghost use Rattle.std.specs.Prelude.{ℕ, ◌≡◌, ◌≤◌};
 
 use std::marker::{Model, PhantomData};
+use std::ops::{Range, RangeTo, RangeToInclusive};
 
 /// What is looked at by a method alone.
 pub trait Looked {
@@ -88,4 +89,41 @@ pub enum Way {
     Up,
     Down,
     By(usize),
+}
+
+/// Two ends, each of which may be absent.
+pub trait IndexRange<T> {
+    fn start(&self) -> Option<T>;
+
+    fn end(&self) -> Option<T>;
+}
+
+impl<T: Copy> IndexRange<T> for Range<T> {
+    fn start(&self) -> Option<T> {
+        Some(self.start)
+    }
+
+    fn end(&self) -> Option<T> {
+        Some(self.end)
+    }
+}
+
+impl<T: Copy> IndexRange<T> for RangeTo<T> {
+    fn start(&self) -> Option<T> {
+        None
+    }
+
+    fn end(&self) -> Option<T> {
+        Some(self.end)
+    }
+}
+
+impl IndexRange<usize> for RangeToInclusive<usize> {
+    fn start(&self) -> Option<usize> {
+        None
+    }
+
+    fn end(&self) -> Option<usize> {
+        Some(self.end.saturating_add(1))
+    }
 }

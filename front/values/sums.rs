@@ -1,9 +1,11 @@
 //! Functions whose values Rattle and Rust have to agree on: each has what Rust might read otherwise.
 ghost use Rattle.std.specs.Prelude.{◌≡◌};
 
-use crate::kept::{Kept, Looked, Walk, Way};
+use crate::kept::{IndexRange, Kept, Looked, Walk, Way};
+use std::alloc::AllocError;
 use std::cmp::Ordering;
 use std::marker::PhantomData;
+use std::ops::{RangeTo, RangeToInclusive};
 use std::simd::prelude::*;
 
 pub const FOUR: usize = 4;
@@ -139,4 +141,104 @@ pub fn parted() -> usize {
         return 2
     };
     first * 100 + last / 8 + middle.len()
+}
+
+fn ends_of<R: IndexRange<usize> + Drop>(range: R) -> usize {
+    range.start().unwrap_or(7) + range.end().unwrap_or(9) / 2
+}
+
+/// The ends of ranges, one of which ends with the last number.
+pub fn ended() -> usize {
+    let most = ends_of(RangeToInclusive { end: usize::MAX }) >> 60;
+    let some = ends_of(RangeTo { end: 12 }) * 100 + ends_of(RangeToInclusive { end: 5 }) * 100_000;
+    ends_of(3..FOUR) + most * 10_000 + some
+}
+
+/// Bits that are counted, and a number at its greatest.
+pub fn counted() -> usize {
+    let words = words();
+    let bits = words[4].count_ones() + (!words[3]).count_ones() * 10;
+    let most = usize::MAX.saturating_add(words[0]) >> 58;
+    bits as usize + most * 1000 + words[5].leading_zeros() as usize * 100_000
+}
+
+/// The bytes of characters, and the lengths of texts.
+pub fn lettered() -> usize {
+    let words = words();
+    let mut digits = [b'0'; 6];
+    for index in 0..6 {
+        digits[index] = b'0' + (words[1] >> index & 1) as u8;
+    }
+    let mut sum = (b'z' - b'A') as usize;
+    for digit in digits.iter() {
+        sum = sum * 3 + *digit as usize;
+    }
+    sum * 100 + "a b 9".len() * 10 + "0b".len() + "".len()
+}
+
+fn halved(from: usize) -> Result<usize, Way> {
+    if from == 0 {
+        return Err(Way::Down);
+    }
+    if from & 1 == 1 {
+        return Err(Way::By(from));
+    }
+    Ok(from / 2)
+}
+
+fn quartered(from: usize) -> Result<usize, Way> {
+    let half = halved(from)?;
+    halved(half)
+}
+
+fn held(count: usize) -> Result<usize, AllocError> {
+    if count > 99 {
+        return Err(AllocError);
+    }
+    Ok(count)
+}
+
+/// What is refused, and the answer that ends a function with a fault.
+pub fn refused() -> usize {
+    let words = words();
+    let mut sum = 0;
+    for at in 0..6 {
+        sum = sum * 10
+            + match quartered(words[at]) {
+                Ok(quarter) => quarter % 7,
+                Err(Way::By(odd)) => odd % 5,
+                Err(_) => 6,
+            };
+        sum = match held(words[at]) {
+            Ok(count) => sum + count,
+            Err(_) => sum * 2,
+        };
+    }
+    sum
+}
+
+fn total<I: IntoIterator<Item = usize>>(items: I) -> usize {
+    let mut sum = 0;
+    for item in items {
+        sum = sum * 3 + item;
+    }
+    sum
+}
+
+fn both<T: Copy>(item: T) -> (T, T) {
+    (item, item)
+}
+
+/// Items with their places, of two rows side by side, and of what becomes an iterator.
+pub fn placed() -> usize {
+    let words = words();
+    let mut sum = total(2..FOUR) + total(words);
+    for (at, word) in words.iter().take(4).enumerate() {
+        sum = sum * 2 + *word * at;
+    }
+    for (one, other) in words[1..].iter().zip(&words[..3]) {
+        sum += *one * *other;
+    }
+    let (one, other) = both(sum);
+    one * 3 + other
 }
