@@ -14,6 +14,7 @@ use shim::row::Vec as Row;
 use std::alloc::{GlobalAlloc, Layout, System};
 use std::cell::Cell;
 use std::fmt::Debug;
+use std::hint::black_box;
 use std::mem::size_of;
 use std::process::Command;
 
@@ -75,7 +76,7 @@ static ALLOCATOR: Refusing = Refusing;
 /// What a call answers whose request of this index is refused, and what it has asked for.
 fn refusing<T>(refused: usize, call: impl FnOnce() -> T) -> (T, Asked) {
     ASKED.set(Asked { refused, ..NOTHING });
-    let made = call();
+    let made = black_box(call());
     let asked = ASKED.replace(NOTHING);
     (made, asked)
 }
@@ -625,10 +626,15 @@ fn a_row_is_changed_or_refused() {
 fn a_row_that_is_not_to_say_so_ends_the_program() {
     let items = numbers(9_000);
     let calls: [fn(&[u64]); 4] = [
-        |items| drop(Row::<u64>::with_capacity(Global::Abort, items.len())),
-        |items| drop(Row::filled(Global::Abort, 7_u64, items.len())),
-        |items| drop(Row::from_slice(Global::Abort, items)),
-        |items| drop(Row::from_clones(Global::Abort, items)),
+        |items| {
+            drop(black_box(Row::<u64>::with_capacity(
+                Global::Abort,
+                items.len(),
+            )))
+        },
+        |items| drop(black_box(Row::filled(Global::Abort, 7_u64, items.len()))),
+        |items| drop(black_box(Row::from_slice(Global::Abort, items))),
+        |items| drop(black_box(Row::from_clones(Global::Abort, items))),
     ];
     for (index, call) in calls.iter().enumerate() {
         if asked_for() == Some(index) {
