@@ -570,6 +570,14 @@ fn sets_are_printed_by_their_positions() {
         (short.to_string(), format!("{short:#b}")),
         ("10010".to_string(), "0b10010".to_string())
     );
+    for flags in Numbers(14).sets() {
+        let words = words_of(&flags);
+        let digits = flags.iter().map(|flag| if *flag { '1' } else { '0' });
+        let text: String = digits.collect();
+        let set = set_of(&words, &flags);
+        assert_eq!(format!("{set} {set:#}"), format!("{text} 0b{text}"));
+        assert_eq!(format!("{set:b} {set:#b}"), format!("{text} 0b{text}"));
+    }
 }
 
 #[test]
