@@ -144,7 +144,7 @@ pub mod alloc {
         Abort,
     }
 
-    /// Memory was refused: by the allocator, or since no memory is so large.
+    /// Memory was refused: by the allocator, or since no memory is so large. Two of these cannot be compared: in Rattle all are equal.
     ///
     /// Not proved: it is a number.
     ///
@@ -154,7 +154,7 @@ pub mod alloc {
     /// let refused = set.try_grow(1 << 40).is_err_and(|error| error.bytes() == 1 << 37);
     /// assert!(refused || set.len() == 1 << 40);
     /// ```
-    #[derive(Clone, Copy, Debug, PartialEq, Eq)]
+    #[derive(Clone, Copy, Debug)]
     pub struct AllocError {
         pub(crate) bytes: usize,
     }
@@ -197,36 +197,39 @@ pub mod row {
             Self::EMPTY
         }
 
-        #[inline(always)]
+        #[inline]
         pub fn with_capacity(alloc: Global, count: usize) -> Result<Self, AllocError> {
-            if let Global::Abort = alloc {
-                return Ok(Vec(vec::Vec::with_capacity(count)));
+            match alloc {
+                Global::Abort => Ok(Vec(vec::Vec::with_capacity(count))),
+                Global::Try => Self::try_with_capacity(count),
             }
+        }
+
+        /// What `vec![in alloc; item; count]` makes. No safe call of Rust gives zeroed memory or a refusal, so a long row is
+        /// asked for, given back and taken again. (If another thread takes the memory in between, the program ends.)
+        #[inline]
+        pub fn filled(alloc: Global, item: T, count: usize) -> Result<Self, AllocError> {
+            if count >= LONG {
+                if let Global::Try = alloc {
+                    drop(core::hint::black_box(Self::try_with_capacity(count)?));
+                }
+                return Ok(Vec(long(item, count)));
+            }
+            let mut row = Self::with_capacity(alloc, count)?;
+            row.0.resize(count, item);
+            Ok(row)
+        }
+
+        #[cold]
+        #[inline(never)]
+        fn try_with_capacity(count: usize) -> Result<Self, AllocError> {
             let mut row = vec::Vec::new();
             row.try_reserve_exact(count).map_err(refused::<T>(count))?;
             Ok(Vec(row))
         }
 
-        /// What `vec![in alloc; item; count]` makes. No safe call of Rust gives zeroed memory or a refusal, so a long row is
-        /// asked for, given back and taken again. (If another thread takes the memory in between, the program ends.)
-        #[inline(always)]
-        pub fn filled(alloc: Global, item: T, count: usize) -> Result<Self, AllocError> {
-            if count < LONG {
-                let mut row = Self::with_capacity(alloc, count)?;
-                row.0.resize(count, item);
-                return Ok(row);
-            }
-            if let Global::Try = alloc {
-                drop(core::hint::black_box(Self::with_capacity(alloc, count)?));
-            }
-            Ok(Vec(long(item, count)))
-        }
-
-        #[inline(always)]
+        #[inline]
         pub fn from_slice(alloc: Global, items: &[T]) -> Result<Self, AllocError> {
-            if let Global::Abort = alloc {
-                return Ok(Vec(items.to_vec()));
-            }
             let mut row = Self::with_capacity(alloc, items.len())?;
             row.0.extend_from_slice(items);
             Ok(row)
