@@ -359,10 +359,7 @@ fn a_refusal_is_told_in_words() {
     let (refused, _) = refusing(0, || set.try_grow(300));
     let error = refused.unwrap_err();
     assert_eq!(error.to_string(), "memory of 64 bytes was refused");
-    assert_eq!(
-        (error, format!("{error:?}")),
-        (error, "AllocError { bytes: 64 }".to_string())
-    );
+    assert_eq!(format!("{error:?}"), "AllocError { bytes: 64 }");
     let told = |fault: ExtendFault| (fault.to_string(), format!("{fault:?}"));
     let words = ("memory was refused".to_string(), "Memory".to_string());
     assert_eq!(told(ExtendFault::Memory), words);
