@@ -125,7 +125,7 @@ impl FixedBitSet {
         ensures succeeds { model.words_needed bits ≤ model.words_needed self.old.length
             → IsOk result }
     {
-        if bits == self.length {
+        if bits == self.len() {
             return Ok(());
         }
         self.resize(bits, false)

@@ -92,7 +92,7 @@ impl FixedBitSet {
     // Makes the length `bits`, for a call that writes over all positions.
     #[inline]
     fn fit(&mut self, bits: usize) -> Result<(), AllocError> {
-        if bits == self.length {
+        if bits == self.len() {
             return Ok(());
         }
         self.resize(bits, false)
