@@ -17,7 +17,7 @@ impl FixedBitSet {
     /// Where memory is refused the program ends; [`try_with_capacity`](Self::try_with_capacity) says so
     /// instead.
     ///
-    /// Proved: the set, for all sets ([contract](crate::contracts#fixedbitsetfixedbitsetwith_capacity)).
+    /// Proved: the set, for all numbers ([contract](crate::contracts#fixedbitsetfixedbitsetwith_capacity)).
     ///
     /// ```
     /// # use fixedbitset::FixedBitSet;
@@ -33,7 +33,7 @@ impl FixedBitSet {
 
     /// [`with_capacity`](Self::with_capacity), which says where memory is refused.
     ///
-    /// Proved: the set, for all sets ([contract](crate::contracts#fixedbitsetfixedbitsetwith_capacity)).
+    /// Proved: the set, for all numbers ([contract](crate::contracts#fixedbitsetfixedbitsetwith_capacity)).
     ///
     /// ```
     /// # use fixedbitset::FixedBitSet;
@@ -59,7 +59,7 @@ impl FixedBitSet {
     /// Where memory is refused the program ends;
     /// [`try_with_capacity_and_blocks`](Self::try_with_capacity_and_blocks) says so instead.
     ///
-    /// Proved: the set, for all sets
+    /// Proved: the set, for all numbers
     /// ([contract](crate::contracts#fixedbitsetfixedbitsetwith_capacity_and_blocks)).
     ///
     /// ```
@@ -76,7 +76,7 @@ impl FixedBitSet {
 
     /// [`with_capacity_and_blocks`](Self::with_capacity_and_blocks), which says where memory is refused.
     ///
-    /// Proved: the set, for all sets
+    /// Proved: the set, for all numbers
     /// ([contract](crate::contracts#fixedbitsetfixedbitsetwith_capacity_and_blocks)).
     ///
     /// ```
@@ -103,8 +103,7 @@ impl FixedBitSet {
     ///
     /// Where memory is refused the program ends; [`try_grow`](Self::try_grow) says so instead.
     ///
-    /// Proved: what it leaves, also where memory is refused, for all sets
-    /// ([contract](crate::contracts#fixedbitsetfixedbitsetgrow)).
+    /// Proved: what it leaves, for all sets ([contract](crate::contracts#fixedbitsetfixedbitsetgrow)).
     ///
     /// ```
     /// # use fixedbitset::FixedBitSet;
@@ -163,7 +162,7 @@ impl FixedBitSet {
     ///
     /// Where memory is refused the program ends; [`try_from_bits`](Self::try_from_bits) says so instead.
     ///
-    /// Proved: the set, for all sets ([contract](crate::contracts#fixedbitsetfixedbitsetfrom_bits)).
+    /// Proved: the set, for all views ([contract](crate::contracts#fixedbitsetfixedbitsetfrom_bits)).
     ///
     /// ```
     /// # use fixedbitset::{BitsMut, FixedBitSet};
@@ -180,7 +179,7 @@ impl FixedBitSet {
 
     /// [`from_bits`](Self::from_bits), which says where memory is refused.
     ///
-    /// Proved: the set, for all sets ([contract](crate::contracts#fixedbitsetfixedbitsetfrom_bits)).
+    /// Proved: the set, for all views ([contract](crate::contracts#fixedbitsetfixedbitsetfrom_bits)).
     ///
     /// ```
     /// # use fixedbitset::{BitsMut, FixedBitSet};
@@ -754,7 +753,7 @@ impl FixedBitSet {
     ///
     /// Where memory is refused the program ends; [`try_union_with`](Self::try_union_with) says so instead.
     ///
-    /// Proved: what it leaves, also where memory is refused, for any two sets
+    /// Proved: what it leaves, for any two sets
     /// ([contract](crate::contracts#fixedbitsetfixedbitsetunion_with)).
     ///
     /// ```
@@ -794,7 +793,7 @@ impl FixedBitSet {
     /// Where memory is refused the program ends;
     /// [`try_symmetric_difference_with`](Self::try_symmetric_difference_with) says so instead.
     ///
-    /// Proved: what it leaves, also where memory is refused, for any two sets
+    /// Proved: what it leaves, for any two sets
     /// ([contract](crate::contracts#fixedbitsetfixedbitsetsymmetric_difference_with)).
     ///
     /// ```
@@ -870,7 +869,7 @@ impl FixedBitSet {
     /// Where memory is refused the program ends; [`try_union_with_change`](Self::try_union_with_change)
     /// says so instead.
     ///
-    /// Proved: the answer and what it leaves, also where memory is refused, for any two sets
+    /// Proved: the answer and what it leaves, for any two sets
     /// ([contract](crate::contracts#fixedbitsetfixedbitsetunion_with_change)).
     ///
     /// ```
@@ -946,7 +945,7 @@ impl FixedBitSet {
     /// Where memory is refused the program ends;
     /// [`try_union_with_difference`](Self::try_union_with_difference) says so instead.
     ///
-    /// Proved: the answer and what it leaves, also where memory is refused, for any three sets
+    /// Proved: the answer and what it leaves, for any three sets
     /// ([contract](crate::contracts#fixedbitsetfixedbitsetunion_with_difference)).
     ///
     /// ```
@@ -1120,7 +1119,7 @@ impl FixedBitSet {
     ///
     /// Where memory is refused the program ends; [`try_union_of`](Self::try_union_of) says so instead.
     ///
-    /// Proved: what it leaves, also where memory is refused, for any three sets
+    /// Proved: what it leaves, for any three sets
     /// ([contract](crate::contracts#fixedbitsetfixedbitsetunion_of)).
     ///
     /// ```
@@ -1166,7 +1165,7 @@ impl FixedBitSet {
     /// Where memory is refused the program ends;
     /// [`try_symmetric_difference_of`](Self::try_symmetric_difference_of) says so instead.
     ///
-    /// Proved: what it leaves, also where memory is refused, for any three sets
+    /// Proved: what it leaves, for any three sets
     /// ([contract](crate::contracts#fixedbitsetfixedbitsetsymmetric_difference_of)).
     ///
     /// ```
@@ -1213,7 +1212,7 @@ impl FixedBitSet {
     /// Where memory is refused the program ends; [`try_intersection_of`](Self::try_intersection_of) says so
     /// instead.
     ///
-    /// Proved: what it leaves, also where memory is refused, for any three sets
+    /// Proved: what it leaves, for any three sets
     /// ([contract](crate::contracts#fixedbitsetfixedbitsetintersection_of)).
     ///
     /// ```
@@ -1261,7 +1260,7 @@ impl FixedBitSet {
     /// Where memory is refused the program ends; [`try_difference_of`](Self::try_difference_of) says so
     /// instead.
     ///
-    /// Proved: what it leaves, also where memory is refused, for any three sets
+    /// Proved: what it leaves, for any three sets
     /// ([contract](crate::contracts#fixedbitsetfixedbitsetdifference_of)).
     ///
     /// ```
@@ -1436,7 +1435,7 @@ impl FixedBitSet {
     ///
     /// **Panics** where the sum of the lengths is past `usize::MAX`.
     ///
-    /// Proved: what it leaves, also where memory is refused, for any two sets, wherever it does not panic
+    /// Proved: what it leaves, for any two sets, wherever it does not panic
     /// ([contract](crate::contracts#fixedbitsetfixedbitsetappend)).
     ///
     /// ```
@@ -1503,8 +1502,7 @@ impl FixedBitSet {
     ///
     /// Where memory is refused the program ends; [`try_resize`](Self::try_resize) says so instead.
     ///
-    /// Proved: what it leaves, also where memory is refused, for all sets
-    /// ([contract](crate::contracts#fixedbitsetfixedbitsetresize)).
+    /// Proved: what it leaves, for all sets ([contract](crate::contracts#fixedbitsetfixedbitsetresize)).
     ///
     /// ```
     /// # use fixedbitset::FixedBitSet;
@@ -1545,7 +1543,7 @@ impl FixedBitSet {
     ///
     /// Where memory is refused the program ends; [`try_from_bytes`](Self::try_from_bytes) says so instead.
     ///
-    /// Proved: the set, for all sets ([contract](crate::contracts#fixedbitsetfixedbitsetfrom_bytes)).
+    /// Proved: the set, for all numbers ([contract](crate::contracts#fixedbitsetfixedbitsetfrom_bytes)).
     ///
     /// ```
     /// # use fixedbitset::FixedBitSet;
@@ -1561,7 +1559,7 @@ impl FixedBitSet {
 
     /// [`from_bytes`](Self::from_bytes), which says where memory is refused.
     ///
-    /// Proved: the set, for all sets ([contract](crate::contracts#fixedbitsetfixedbitsetfrom_bytes)).
+    /// Proved: the set, for all numbers ([contract](crate::contracts#fixedbitsetfixedbitsetfrom_bytes)).
     ///
     /// ```
     /// # use fixedbitset::FixedBitSet;
@@ -2102,7 +2100,7 @@ impl FixedBitSet {
     /// [`from_iter`](Self::from_iter), which says what stops it: the position `usize::MAX`, or memory that
     /// is refused.
     ///
-    /// Proved: the set, for all sets ([contract](crate::contracts#fixedbitsetfixedbitsetfrom_iter)).
+    /// Proved: the set, for all positions ([contract](crate::contracts#fixedbitsetfixedbitsetfrom_iter)).
     ///
     /// ```
     /// # use fixedbitset::FixedBitSet;
