@@ -382,7 +382,14 @@ fn lists_of_positions_asked(rt: HostRuntime) -> Result<(), Fail> {
     for length in [0, 1, 64, 65, 200] {
         let flags = multiples(rt.alloc(), length, 3)?;
         let set = filled(rt.alloc(), &flags)?;
-        let asked = [length / 2, length, 0, length / 2, usize::MAX, length / 3 * 3];
+        let asked = [
+            length / 2,
+            length,
+            0,
+            length / 2,
+            usize::MAX,
+            length / 3 * 3,
+        ];
         for (turned, count) in [(false, 6), (true, 6), (true, 0)] {
             let mut answers = [turned; 6];
             set.contains_each(&asked[..count], &mut answers[..count]);

@@ -35,7 +35,10 @@ fn into_ones_at_every_length(rt: HostRuntime) -> Result<(), Fail> {
             }
             let mut walk = set_of(rt.alloc(), length, &items)?.into_ones();
             assert_eq!(rt; walk.next(), items.first().copied());
-            assert_eq!(rt; walk.count_left(&mut Steps::new()), items.len().saturating_sub(1));
+            assert_eq!(rt;
+                walk.count_left(&mut Steps::new()),
+                items.len().saturating_sub(1)
+            );
         }
     }
     Ok(())
