@@ -1,13 +1,66 @@
 // Made by front/erase_examples from the docs of the modules of `proved`: change those, and not this.
-#![allow(clippy::all, unused_imports, unused_mut)]
+#![allow(clippy::all, unused_imports, unused_mut, unused_variables)]
+
+/// The call of Rattle's iterators that collects their items into a row.
+trait CollectIn: Iterator<Item = usize> + Sized {
+    fn collect_in(self, alloc: crate::shim::alloc::Global) -> Result<crate::shim::row::Vec<usize>, crate::AllocError> {
+        crate::shim::row::Vec::from_slice(alloc, &self.collect::<alloc::vec::Vec<_>>())
+    }
+}
+
+impl<I: Iterator<Item = usize>> CollectIn for I {}
+
+#[test]
+fn bitjson_bytes_16() {
+    use crate::proved::bitlanes::ops::*;
+    use crate::proved::bitlanes::{word, Block, IndexRange, Steps};
+    use crate::proved::bitwalks::in_turn::*;
+    use crate::proved::bitwords::cursors::*;
+    use crate::proved::bitranks;
+    use crate::proved::fixedbitset::{Bits, BitsMut, ExtendFault, FixedBitSet};
+    use crate::proved::bitjson::*;
+    use crate::shim::alloc::Global;
+    use crate::shim::prelude::*;
+    use crate::shim::u64x4;
+    use core::cmp::Ordering;
+    use core::mem::{size_of, size_of_val};
+
+    let alloc = Global::Try;
+    let words = bytes::words_of_bytes(alloc, &[1, 2], 2).unwrap();
+    assert_eq!(words.as_slice(), [513, 0].as_slice());
+}
+
+#[test]
+fn bitjson_bytes_30() {
+    use crate::proved::bitlanes::ops::*;
+    use crate::proved::bitlanes::{word, Block, IndexRange, Steps};
+    use crate::proved::bitwalks::in_turn::*;
+    use crate::proved::bitwords::cursors::*;
+    use crate::proved::bitranks;
+    use crate::proved::fixedbitset::{Bits, BitsMut, ExtendFault, FixedBitSet};
+    use crate::proved::bitjson::*;
+    use crate::shim::alloc::Global;
+    use crate::shim::prelude::*;
+    use crate::shim::u64x4;
+    use core::cmp::Ordering;
+    use core::mem::{size_of, size_of_val};
+
+    let alloc = Global::Try;
+    let data = bytes::bytes_of_words(alloc, &[513]).unwrap();
+    assert_eq!(data.as_slice(), [1, 2, 0, 0, 0, 0, 0, 0].as_slice());
+}
 
 #[test]
 fn bitjson_fills_11() {
     use crate::proved::bitlanes::ops::*;
-    use crate::proved::bitlanes::{word, Block, Steps};
+    use crate::proved::bitlanes::{word, Block, IndexRange, Steps};
     use crate::proved::bitwalks::in_turn::*;
     use crate::proved::bitwords::cursors::*;
+    use crate::proved::bitranks;
+    use crate::proved::fixedbitset::{Bits, BitsMut, ExtendFault, FixedBitSet};
     use crate::proved::bitjson::*;
+    use crate::shim::alloc::Global;
+    use crate::shim::prelude::*;
     use crate::shim::u64x4;
     use core::cmp::Ordering;
     use core::mem::{size_of, size_of_val};
@@ -20,10 +73,14 @@ fn bitjson_fills_11() {
 #[test]
 fn bitjson_fills_28() {
     use crate::proved::bitlanes::ops::*;
-    use crate::proved::bitlanes::{word, Block, Steps};
+    use crate::proved::bitlanes::{word, Block, IndexRange, Steps};
     use crate::proved::bitwalks::in_turn::*;
     use crate::proved::bitwords::cursors::*;
+    use crate::proved::bitranks;
+    use crate::proved::fixedbitset::{Bits, BitsMut, ExtendFault, FixedBitSet};
     use crate::proved::bitjson::*;
+    use crate::shim::alloc::Global;
+    use crate::shim::prelude::*;
     use crate::shim::u64x4;
     use core::cmp::Ordering;
     use core::mem::{size_of, size_of_val};
@@ -36,10 +93,14 @@ fn bitjson_fills_28() {
 #[test]
 fn bitlanes_changes_16() {
     use crate::proved::bitlanes::ops::*;
-    use crate::proved::bitlanes::{word, Block, Steps};
+    use crate::proved::bitlanes::{word, Block, IndexRange, Steps};
     use crate::proved::bitwalks::in_turn::*;
     use crate::proved::bitwords::cursors::*;
+    use crate::proved::bitranks;
+    use crate::proved::fixedbitset::{Bits, BitsMut, ExtendFault, FixedBitSet};
     use crate::proved::bitlanes::*;
+    use crate::shim::alloc::Global;
+    use crate::shim::prelude::*;
     use crate::shim::u64x4;
     use core::cmp::Ordering;
     use core::mem::{size_of, size_of_val};
@@ -53,10 +114,14 @@ fn bitlanes_changes_16() {
 #[test]
 fn bitlanes_changes_47() {
     use crate::proved::bitlanes::ops::*;
-    use crate::proved::bitlanes::{word, Block, Steps};
+    use crate::proved::bitlanes::{word, Block, IndexRange, Steps};
     use crate::proved::bitwalks::in_turn::*;
     use crate::proved::bitwords::cursors::*;
+    use crate::proved::bitranks;
+    use crate::proved::fixedbitset::{Bits, BitsMut, ExtendFault, FixedBitSet};
     use crate::proved::bitlanes::*;
+    use crate::shim::alloc::Global;
+    use crate::shim::prelude::*;
     use crate::shim::u64x4;
     use core::cmp::Ordering;
     use core::mem::{size_of, size_of_val};
@@ -71,10 +136,14 @@ fn bitlanes_changes_47() {
 #[test]
 fn bitlanes_changes_84() {
     use crate::proved::bitlanes::ops::*;
-    use crate::proved::bitlanes::{word, Block, Steps};
+    use crate::proved::bitlanes::{word, Block, IndexRange, Steps};
     use crate::proved::bitwalks::in_turn::*;
     use crate::proved::bitwords::cursors::*;
+    use crate::proved::bitranks;
+    use crate::proved::fixedbitset::{Bits, BitsMut, ExtendFault, FixedBitSet};
     use crate::proved::bitlanes::*;
+    use crate::shim::alloc::Global;
+    use crate::shim::prelude::*;
     use crate::shim::u64x4;
     use core::cmp::Ordering;
     use core::mem::{size_of, size_of_val};
@@ -88,10 +157,14 @@ fn bitlanes_changes_84() {
 #[test]
 fn bitlanes_counter_26() {
     use crate::proved::bitlanes::ops::*;
-    use crate::proved::bitlanes::{word, Block, Steps};
+    use crate::proved::bitlanes::{word, Block, IndexRange, Steps};
     use crate::proved::bitwalks::in_turn::*;
     use crate::proved::bitwords::cursors::*;
+    use crate::proved::bitranks;
+    use crate::proved::fixedbitset::{Bits, BitsMut, ExtendFault, FixedBitSet};
     use crate::proved::bitlanes::*;
+    use crate::shim::alloc::Global;
+    use crate::shim::prelude::*;
     use crate::shim::u64x4;
     use core::cmp::Ordering;
     use core::mem::{size_of, size_of_val};
@@ -104,10 +177,14 @@ fn bitlanes_counter_26() {
 #[test]
 fn bitlanes_counter_40() {
     use crate::proved::bitlanes::ops::*;
-    use crate::proved::bitlanes::{word, Block, Steps};
+    use crate::proved::bitlanes::{word, Block, IndexRange, Steps};
     use crate::proved::bitwalks::in_turn::*;
     use crate::proved::bitwords::cursors::*;
+    use crate::proved::bitranks;
+    use crate::proved::fixedbitset::{Bits, BitsMut, ExtendFault, FixedBitSet};
     use crate::proved::bitlanes::*;
+    use crate::shim::alloc::Global;
+    use crate::shim::prelude::*;
     use crate::shim::u64x4;
     use core::cmp::Ordering;
     use core::mem::{size_of, size_of_val};
@@ -121,10 +198,14 @@ fn bitlanes_counter_40() {
 #[test]
 fn bitlanes_counter_55() {
     use crate::proved::bitlanes::ops::*;
-    use crate::proved::bitlanes::{word, Block, Steps};
+    use crate::proved::bitlanes::{word, Block, IndexRange, Steps};
     use crate::proved::bitwalks::in_turn::*;
     use crate::proved::bitwords::cursors::*;
+    use crate::proved::bitranks;
+    use crate::proved::fixedbitset::{Bits, BitsMut, ExtendFault, FixedBitSet};
     use crate::proved::bitlanes::*;
+    use crate::shim::alloc::Global;
+    use crate::shim::prelude::*;
     use crate::shim::u64x4;
     use core::cmp::Ordering;
     use core::mem::{size_of, size_of_val};
@@ -137,10 +218,14 @@ fn bitlanes_counter_55() {
 #[test]
 fn bitlanes_lanes_29() {
     use crate::proved::bitlanes::ops::*;
-    use crate::proved::bitlanes::{word, Block, Steps};
+    use crate::proved::bitlanes::{word, Block, IndexRange, Steps};
     use crate::proved::bitwalks::in_turn::*;
     use crate::proved::bitwords::cursors::*;
+    use crate::proved::bitranks;
+    use crate::proved::fixedbitset::{Bits, BitsMut, ExtendFault, FixedBitSet};
     use crate::proved::bitlanes::*;
+    use crate::shim::alloc::Global;
+    use crate::shim::prelude::*;
     use crate::shim::u64x4;
     use core::cmp::Ordering;
     use core::mem::{size_of, size_of_val};
@@ -153,10 +238,14 @@ fn bitlanes_lanes_29() {
 #[test]
 fn bitlanes_lanes_56() {
     use crate::proved::bitlanes::ops::*;
-    use crate::proved::bitlanes::{word, Block, Steps};
+    use crate::proved::bitlanes::{word, Block, IndexRange, Steps};
     use crate::proved::bitwalks::in_turn::*;
     use crate::proved::bitwords::cursors::*;
+    use crate::proved::bitranks;
+    use crate::proved::fixedbitset::{Bits, BitsMut, ExtendFault, FixedBitSet};
     use crate::proved::bitlanes::*;
+    use crate::shim::alloc::Global;
+    use crate::shim::prelude::*;
     use crate::shim::u64x4;
     use core::cmp::Ordering;
     use core::mem::{size_of, size_of_val};
@@ -168,10 +257,14 @@ fn bitlanes_lanes_56() {
 #[test]
 fn bitlanes_lanes_76() {
     use crate::proved::bitlanes::ops::*;
-    use crate::proved::bitlanes::{word, Block, Steps};
+    use crate::proved::bitlanes::{word, Block, IndexRange, Steps};
     use crate::proved::bitwalks::in_turn::*;
     use crate::proved::bitwords::cursors::*;
+    use crate::proved::bitranks;
+    use crate::proved::fixedbitset::{Bits, BitsMut, ExtendFault, FixedBitSet};
     use crate::proved::bitlanes::*;
+    use crate::shim::alloc::Global;
+    use crate::shim::prelude::*;
     use crate::shim::u64x4;
     use core::cmp::Ordering;
     use core::mem::{size_of, size_of_val};
@@ -183,10 +276,14 @@ fn bitlanes_lanes_76() {
 #[test]
 fn bitlanes_lanes_104() {
     use crate::proved::bitlanes::ops::*;
-    use crate::proved::bitlanes::{word, Block, Steps};
+    use crate::proved::bitlanes::{word, Block, IndexRange, Steps};
     use crate::proved::bitwalks::in_turn::*;
     use crate::proved::bitwords::cursors::*;
+    use crate::proved::bitranks;
+    use crate::proved::fixedbitset::{Bits, BitsMut, ExtendFault, FixedBitSet};
     use crate::proved::bitlanes::*;
+    use crate::shim::alloc::Global;
+    use crate::shim::prelude::*;
     use crate::shim::u64x4;
     use core::cmp::Ordering;
     use core::mem::{size_of, size_of_val};
@@ -199,10 +296,14 @@ fn bitlanes_lanes_104() {
 #[test]
 fn bitlanes_lanes_125() {
     use crate::proved::bitlanes::ops::*;
-    use crate::proved::bitlanes::{word, Block, Steps};
+    use crate::proved::bitlanes::{word, Block, IndexRange, Steps};
     use crate::proved::bitwalks::in_turn::*;
     use crate::proved::bitwords::cursors::*;
+    use crate::proved::bitranks;
+    use crate::proved::fixedbitset::{Bits, BitsMut, ExtendFault, FixedBitSet};
     use crate::proved::bitlanes::*;
+    use crate::shim::alloc::Global;
+    use crate::shim::prelude::*;
     use crate::shim::u64x4;
     use core::cmp::Ordering;
     use core::mem::{size_of, size_of_val};
@@ -214,10 +315,14 @@ fn bitlanes_lanes_125() {
 #[test]
 fn bitlanes_lanes_140() {
     use crate::proved::bitlanes::ops::*;
-    use crate::proved::bitlanes::{word, Block, Steps};
+    use crate::proved::bitlanes::{word, Block, IndexRange, Steps};
     use crate::proved::bitwalks::in_turn::*;
     use crate::proved::bitwords::cursors::*;
+    use crate::proved::bitranks;
+    use crate::proved::fixedbitset::{Bits, BitsMut, ExtendFault, FixedBitSet};
     use crate::proved::bitlanes::*;
+    use crate::shim::alloc::Global;
+    use crate::shim::prelude::*;
     use crate::shim::u64x4;
     use core::cmp::Ordering;
     use core::mem::{size_of, size_of_val};
@@ -229,10 +334,14 @@ fn bitlanes_lanes_140() {
 #[test]
 fn bitlanes_lanes_169() {
     use crate::proved::bitlanes::ops::*;
-    use crate::proved::bitlanes::{word, Block, Steps};
+    use crate::proved::bitlanes::{word, Block, IndexRange, Steps};
     use crate::proved::bitwalks::in_turn::*;
     use crate::proved::bitwords::cursors::*;
+    use crate::proved::bitranks;
+    use crate::proved::fixedbitset::{Bits, BitsMut, ExtendFault, FixedBitSet};
     use crate::proved::bitlanes::*;
+    use crate::shim::alloc::Global;
+    use crate::shim::prelude::*;
     use crate::shim::u64x4;
     use core::cmp::Ordering;
     use core::mem::{size_of, size_of_val};
@@ -244,10 +353,14 @@ fn bitlanes_lanes_169() {
 #[test]
 fn bitlanes_ops_11() {
     use crate::proved::bitlanes::ops::*;
-    use crate::proved::bitlanes::{word, Block, Steps};
+    use crate::proved::bitlanes::{word, Block, IndexRange, Steps};
     use crate::proved::bitwalks::in_turn::*;
     use crate::proved::bitwords::cursors::*;
+    use crate::proved::bitranks;
+    use crate::proved::fixedbitset::{Bits, BitsMut, ExtendFault, FixedBitSet};
     use crate::proved::bitlanes::*;
+    use crate::shim::alloc::Global;
+    use crate::shim::prelude::*;
     use crate::shim::u64x4;
     use core::cmp::Ordering;
     use core::mem::{size_of, size_of_val};
@@ -260,10 +373,14 @@ fn bitlanes_ops_11() {
 #[test]
 fn bitlanes_ops_33() {
     use crate::proved::bitlanes::ops::*;
-    use crate::proved::bitlanes::{word, Block, Steps};
+    use crate::proved::bitlanes::{word, Block, IndexRange, Steps};
     use crate::proved::bitwalks::in_turn::*;
     use crate::proved::bitwords::cursors::*;
+    use crate::proved::bitranks;
+    use crate::proved::fixedbitset::{Bits, BitsMut, ExtendFault, FixedBitSet};
     use crate::proved::bitlanes::*;
+    use crate::shim::alloc::Global;
+    use crate::shim::prelude::*;
     use crate::shim::u64x4;
     use core::cmp::Ordering;
     use core::mem::{size_of, size_of_val};
@@ -275,10 +392,14 @@ fn bitlanes_ops_33() {
 #[test]
 fn bitlanes_ops_58() {
     use crate::proved::bitlanes::ops::*;
-    use crate::proved::bitlanes::{word, Block, Steps};
+    use crate::proved::bitlanes::{word, Block, IndexRange, Steps};
     use crate::proved::bitwalks::in_turn::*;
     use crate::proved::bitwords::cursors::*;
+    use crate::proved::bitranks;
+    use crate::proved::fixedbitset::{Bits, BitsMut, ExtendFault, FixedBitSet};
     use crate::proved::bitlanes::*;
+    use crate::shim::alloc::Global;
+    use crate::shim::prelude::*;
     use crate::shim::u64x4;
     use core::cmp::Ordering;
     use core::mem::{size_of, size_of_val};
@@ -290,10 +411,14 @@ fn bitlanes_ops_58() {
 #[test]
 fn bitlanes_ops_83() {
     use crate::proved::bitlanes::ops::*;
-    use crate::proved::bitlanes::{word, Block, Steps};
+    use crate::proved::bitlanes::{word, Block, IndexRange, Steps};
     use crate::proved::bitwalks::in_turn::*;
     use crate::proved::bitwords::cursors::*;
+    use crate::proved::bitranks;
+    use crate::proved::fixedbitset::{Bits, BitsMut, ExtendFault, FixedBitSet};
     use crate::proved::bitlanes::*;
+    use crate::shim::alloc::Global;
+    use crate::shim::prelude::*;
     use crate::shim::u64x4;
     use core::cmp::Ordering;
     use core::mem::{size_of, size_of_val};
@@ -305,10 +430,14 @@ fn bitlanes_ops_83() {
 #[test]
 fn bitlanes_ops_108() {
     use crate::proved::bitlanes::ops::*;
-    use crate::proved::bitlanes::{word, Block, Steps};
+    use crate::proved::bitlanes::{word, Block, IndexRange, Steps};
     use crate::proved::bitwalks::in_turn::*;
     use crate::proved::bitwords::cursors::*;
+    use crate::proved::bitranks;
+    use crate::proved::fixedbitset::{Bits, BitsMut, ExtendFault, FixedBitSet};
     use crate::proved::bitlanes::*;
+    use crate::shim::alloc::Global;
+    use crate::shim::prelude::*;
     use crate::shim::u64x4;
     use core::cmp::Ordering;
     use core::mem::{size_of, size_of_val};
@@ -320,10 +449,14 @@ fn bitlanes_ops_108() {
 #[test]
 fn bitlanes_ops_133() {
     use crate::proved::bitlanes::ops::*;
-    use crate::proved::bitlanes::{word, Block, Steps};
+    use crate::proved::bitlanes::{word, Block, IndexRange, Steps};
     use crate::proved::bitwalks::in_turn::*;
     use crate::proved::bitwords::cursors::*;
+    use crate::proved::bitranks;
+    use crate::proved::fixedbitset::{Bits, BitsMut, ExtendFault, FixedBitSet};
     use crate::proved::bitlanes::*;
+    use crate::shim::alloc::Global;
+    use crate::shim::prelude::*;
     use crate::shim::u64x4;
     use core::cmp::Ordering;
     use core::mem::{size_of, size_of_val};
@@ -335,10 +468,14 @@ fn bitlanes_ops_133() {
 #[test]
 fn bitlanes_range_12() {
     use crate::proved::bitlanes::ops::*;
-    use crate::proved::bitlanes::{word, Block, Steps};
+    use crate::proved::bitlanes::{word, Block, IndexRange, Steps};
     use crate::proved::bitwalks::in_turn::*;
     use crate::proved::bitwords::cursors::*;
+    use crate::proved::bitranks;
+    use crate::proved::fixedbitset::{Bits, BitsMut, ExtendFault, FixedBitSet};
     use crate::proved::bitlanes::*;
+    use crate::shim::alloc::Global;
+    use crate::shim::prelude::*;
     use crate::shim::u64x4;
     use core::cmp::Ordering;
     use core::mem::{size_of, size_of_val};
@@ -353,10 +490,14 @@ fn bitlanes_range_12() {
 #[test]
 fn bitlanes_search_23() {
     use crate::proved::bitlanes::ops::*;
-    use crate::proved::bitlanes::{word, Block, Steps};
+    use crate::proved::bitlanes::{word, Block, IndexRange, Steps};
     use crate::proved::bitwalks::in_turn::*;
     use crate::proved::bitwords::cursors::*;
+    use crate::proved::bitranks;
+    use crate::proved::fixedbitset::{Bits, BitsMut, ExtendFault, FixedBitSet};
     use crate::proved::bitlanes::*;
+    use crate::shim::alloc::Global;
+    use crate::shim::prelude::*;
     use crate::shim::u64x4;
     use core::cmp::Ordering;
     use core::mem::{size_of, size_of_val};
@@ -369,10 +510,14 @@ fn bitlanes_search_23() {
 #[test]
 fn bitlanes_search_39() {
     use crate::proved::bitlanes::ops::*;
-    use crate::proved::bitlanes::{word, Block, Steps};
+    use crate::proved::bitlanes::{word, Block, IndexRange, Steps};
     use crate::proved::bitwalks::in_turn::*;
     use crate::proved::bitwords::cursors::*;
+    use crate::proved::bitranks;
+    use crate::proved::fixedbitset::{Bits, BitsMut, ExtendFault, FixedBitSet};
     use crate::proved::bitlanes::*;
+    use crate::shim::alloc::Global;
+    use crate::shim::prelude::*;
     use crate::shim::u64x4;
     use core::cmp::Ordering;
     use core::mem::{size_of, size_of_val};
@@ -385,10 +530,14 @@ fn bitlanes_search_39() {
 #[test]
 fn bitlanes_search_52() {
     use crate::proved::bitlanes::ops::*;
-    use crate::proved::bitlanes::{word, Block, Steps};
+    use crate::proved::bitlanes::{word, Block, IndexRange, Steps};
     use crate::proved::bitwalks::in_turn::*;
     use crate::proved::bitwords::cursors::*;
+    use crate::proved::bitranks;
+    use crate::proved::fixedbitset::{Bits, BitsMut, ExtendFault, FixedBitSet};
     use crate::proved::bitlanes::*;
+    use crate::shim::alloc::Global;
+    use crate::shim::prelude::*;
     use crate::shim::u64x4;
     use core::cmp::Ordering;
     use core::mem::{size_of, size_of_val};
@@ -403,10 +552,14 @@ fn bitlanes_search_52() {
 #[test]
 fn bitlanes_search_85() {
     use crate::proved::bitlanes::ops::*;
-    use crate::proved::bitlanes::{word, Block, Steps};
+    use crate::proved::bitlanes::{word, Block, IndexRange, Steps};
     use crate::proved::bitwalks::in_turn::*;
     use crate::proved::bitwords::cursors::*;
+    use crate::proved::bitranks;
+    use crate::proved::fixedbitset::{Bits, BitsMut, ExtendFault, FixedBitSet};
     use crate::proved::bitlanes::*;
+    use crate::shim::alloc::Global;
+    use crate::shim::prelude::*;
     use crate::shim::u64x4;
     use core::cmp::Ordering;
     use core::mem::{size_of, size_of_val};
@@ -420,10 +573,14 @@ fn bitlanes_search_85() {
 #[test]
 fn bitlanes_search_108() {
     use crate::proved::bitlanes::ops::*;
-    use crate::proved::bitlanes::{word, Block, Steps};
+    use crate::proved::bitlanes::{word, Block, IndexRange, Steps};
     use crate::proved::bitwalks::in_turn::*;
     use crate::proved::bitwords::cursors::*;
+    use crate::proved::bitranks;
+    use crate::proved::fixedbitset::{Bits, BitsMut, ExtendFault, FixedBitSet};
     use crate::proved::bitlanes::*;
+    use crate::shim::alloc::Global;
+    use crate::shim::prelude::*;
     use crate::shim::u64x4;
     use core::cmp::Ordering;
     use core::mem::{size_of, size_of_val};
@@ -438,10 +595,14 @@ fn bitlanes_search_108() {
 #[test]
 fn bitlanes_search_145() {
     use crate::proved::bitlanes::ops::*;
-    use crate::proved::bitlanes::{word, Block, Steps};
+    use crate::proved::bitlanes::{word, Block, IndexRange, Steps};
     use crate::proved::bitwalks::in_turn::*;
     use crate::proved::bitwords::cursors::*;
+    use crate::proved::bitranks;
+    use crate::proved::fixedbitset::{Bits, BitsMut, ExtendFault, FixedBitSet};
     use crate::proved::bitlanes::*;
+    use crate::shim::alloc::Global;
+    use crate::shim::prelude::*;
     use crate::shim::u64x4;
     use core::cmp::Ordering;
     use core::mem::{size_of, size_of_val};
@@ -454,10 +615,14 @@ fn bitlanes_search_145() {
 #[test]
 fn bitlanes_shifts_19() {
     use crate::proved::bitlanes::ops::*;
-    use crate::proved::bitlanes::{word, Block, Steps};
+    use crate::proved::bitlanes::{word, Block, IndexRange, Steps};
     use crate::proved::bitwalks::in_turn::*;
     use crate::proved::bitwords::cursors::*;
+    use crate::proved::bitranks;
+    use crate::proved::fixedbitset::{Bits, BitsMut, ExtendFault, FixedBitSet};
     use crate::proved::bitlanes::*;
+    use crate::shim::alloc::Global;
+    use crate::shim::prelude::*;
     use crate::shim::u64x4;
     use core::cmp::Ordering;
     use core::mem::{size_of, size_of_val};
@@ -470,10 +635,14 @@ fn bitlanes_shifts_19() {
 #[test]
 fn bitlanes_shifts_52() {
     use crate::proved::bitlanes::ops::*;
-    use crate::proved::bitlanes::{word, Block, Steps};
+    use crate::proved::bitlanes::{word, Block, IndexRange, Steps};
     use crate::proved::bitwalks::in_turn::*;
     use crate::proved::bitwords::cursors::*;
+    use crate::proved::bitranks;
+    use crate::proved::fixedbitset::{Bits, BitsMut, ExtendFault, FixedBitSet};
     use crate::proved::bitlanes::*;
+    use crate::shim::alloc::Global;
+    use crate::shim::prelude::*;
     use crate::shim::u64x4;
     use core::cmp::Ordering;
     use core::mem::{size_of, size_of_val};
@@ -486,10 +655,14 @@ fn bitlanes_shifts_52() {
 #[test]
 fn bitlanes_shifts_83() {
     use crate::proved::bitlanes::ops::*;
-    use crate::proved::bitlanes::{word, Block, Steps};
+    use crate::proved::bitlanes::{word, Block, IndexRange, Steps};
     use crate::proved::bitwalks::in_turn::*;
     use crate::proved::bitwords::cursors::*;
+    use crate::proved::bitranks;
+    use crate::proved::fixedbitset::{Bits, BitsMut, ExtendFault, FixedBitSet};
     use crate::proved::bitlanes::*;
+    use crate::shim::alloc::Global;
+    use crate::shim::prelude::*;
     use crate::shim::u64x4;
     use core::cmp::Ordering;
     use core::mem::{size_of, size_of_val};
@@ -502,10 +675,14 @@ fn bitlanes_shifts_83() {
 #[test]
 fn bitlanes_shifts_117() {
     use crate::proved::bitlanes::ops::*;
-    use crate::proved::bitlanes::{word, Block, Steps};
+    use crate::proved::bitlanes::{word, Block, IndexRange, Steps};
     use crate::proved::bitwalks::in_turn::*;
     use crate::proved::bitwords::cursors::*;
+    use crate::proved::bitranks;
+    use crate::proved::fixedbitset::{Bits, BitsMut, ExtendFault, FixedBitSet};
     use crate::proved::bitlanes::*;
+    use crate::shim::alloc::Global;
+    use crate::shim::prelude::*;
     use crate::shim::u64x4;
     use core::cmp::Ordering;
     use core::mem::{size_of, size_of_val};
@@ -517,10 +694,14 @@ fn bitlanes_shifts_117() {
 #[test]
 fn bitlanes_word_12() {
     use crate::proved::bitlanes::ops::*;
-    use crate::proved::bitlanes::{word, Block, Steps};
+    use crate::proved::bitlanes::{word, Block, IndexRange, Steps};
     use crate::proved::bitwalks::in_turn::*;
     use crate::proved::bitwords::cursors::*;
+    use crate::proved::bitranks;
+    use crate::proved::fixedbitset::{Bits, BitsMut, ExtendFault, FixedBitSet};
     use crate::proved::bitlanes::*;
+    use crate::shim::alloc::Global;
+    use crate::shim::prelude::*;
     use crate::shim::u64x4;
     use core::cmp::Ordering;
     use core::mem::{size_of, size_of_val};
@@ -532,10 +713,14 @@ fn bitlanes_word_12() {
 #[test]
 fn bitlanes_word_23() {
     use crate::proved::bitlanes::ops::*;
-    use crate::proved::bitlanes::{word, Block, Steps};
+    use crate::proved::bitlanes::{word, Block, IndexRange, Steps};
     use crate::proved::bitwalks::in_turn::*;
     use crate::proved::bitwords::cursors::*;
+    use crate::proved::bitranks;
+    use crate::proved::fixedbitset::{Bits, BitsMut, ExtendFault, FixedBitSet};
     use crate::proved::bitlanes::*;
+    use crate::shim::alloc::Global;
+    use crate::shim::prelude::*;
     use crate::shim::u64x4;
     use core::cmp::Ordering;
     use core::mem::{size_of, size_of_val};
@@ -547,10 +732,14 @@ fn bitlanes_word_23() {
 #[test]
 fn bitlanes_word_34() {
     use crate::proved::bitlanes::ops::*;
-    use crate::proved::bitlanes::{word, Block, Steps};
+    use crate::proved::bitlanes::{word, Block, IndexRange, Steps};
     use crate::proved::bitwalks::in_turn::*;
     use crate::proved::bitwords::cursors::*;
+    use crate::proved::bitranks;
+    use crate::proved::fixedbitset::{Bits, BitsMut, ExtendFault, FixedBitSet};
     use crate::proved::bitlanes::*;
+    use crate::shim::alloc::Global;
+    use crate::shim::prelude::*;
     use crate::shim::u64x4;
     use core::cmp::Ordering;
     use core::mem::{size_of, size_of_val};
@@ -562,10 +751,14 @@ fn bitlanes_word_34() {
 #[test]
 fn bitlanes_word_46() {
     use crate::proved::bitlanes::ops::*;
-    use crate::proved::bitlanes::{word, Block, Steps};
+    use crate::proved::bitlanes::{word, Block, IndexRange, Steps};
     use crate::proved::bitwalks::in_turn::*;
     use crate::proved::bitwords::cursors::*;
+    use crate::proved::bitranks;
+    use crate::proved::fixedbitset::{Bits, BitsMut, ExtendFault, FixedBitSet};
     use crate::proved::bitlanes::*;
+    use crate::shim::alloc::Global;
+    use crate::shim::prelude::*;
     use crate::shim::u64x4;
     use core::cmp::Ordering;
     use core::mem::{size_of, size_of_val};
@@ -577,10 +770,14 @@ fn bitlanes_word_46() {
 #[test]
 fn bitlanes_word_57() {
     use crate::proved::bitlanes::ops::*;
-    use crate::proved::bitlanes::{word, Block, Steps};
+    use crate::proved::bitlanes::{word, Block, IndexRange, Steps};
     use crate::proved::bitwalks::in_turn::*;
     use crate::proved::bitwords::cursors::*;
+    use crate::proved::bitranks;
+    use crate::proved::fixedbitset::{Bits, BitsMut, ExtendFault, FixedBitSet};
     use crate::proved::bitlanes::*;
+    use crate::shim::alloc::Global;
+    use crate::shim::prelude::*;
     use crate::shim::u64x4;
     use core::cmp::Ordering;
     use core::mem::{size_of, size_of_val};
@@ -593,10 +790,14 @@ fn bitlanes_word_57() {
 #[test]
 fn bitlanes_word_71() {
     use crate::proved::bitlanes::ops::*;
-    use crate::proved::bitlanes::{word, Block, Steps};
+    use crate::proved::bitlanes::{word, Block, IndexRange, Steps};
     use crate::proved::bitwalks::in_turn::*;
     use crate::proved::bitwords::cursors::*;
+    use crate::proved::bitranks;
+    use crate::proved::fixedbitset::{Bits, BitsMut, ExtendFault, FixedBitSet};
     use crate::proved::bitlanes::*;
+    use crate::shim::alloc::Global;
+    use crate::shim::prelude::*;
     use crate::shim::u64x4;
     use core::cmp::Ordering;
     use core::mem::{size_of, size_of_val};
@@ -609,10 +810,14 @@ fn bitlanes_word_71() {
 #[test]
 fn bitlanes_word_85() {
     use crate::proved::bitlanes::ops::*;
-    use crate::proved::bitlanes::{word, Block, Steps};
+    use crate::proved::bitlanes::{word, Block, IndexRange, Steps};
     use crate::proved::bitwalks::in_turn::*;
     use crate::proved::bitwords::cursors::*;
+    use crate::proved::bitranks;
+    use crate::proved::fixedbitset::{Bits, BitsMut, ExtendFault, FixedBitSet};
     use crate::proved::bitlanes::*;
+    use crate::shim::alloc::Global;
+    use crate::shim::prelude::*;
     use crate::shim::u64x4;
     use core::cmp::Ordering;
     use core::mem::{size_of, size_of_val};
@@ -624,10 +829,14 @@ fn bitlanes_word_85() {
 #[test]
 fn bitlanes_word_103() {
     use crate::proved::bitlanes::ops::*;
-    use crate::proved::bitlanes::{word, Block, Steps};
+    use crate::proved::bitlanes::{word, Block, IndexRange, Steps};
     use crate::proved::bitwalks::in_turn::*;
     use crate::proved::bitwords::cursors::*;
+    use crate::proved::bitranks;
+    use crate::proved::fixedbitset::{Bits, BitsMut, ExtendFault, FixedBitSet};
     use crate::proved::bitlanes::*;
+    use crate::shim::alloc::Global;
+    use crate::shim::prelude::*;
     use crate::shim::u64x4;
     use core::cmp::Ordering;
     use core::mem::{size_of, size_of_val};
@@ -638,12 +847,80 @@ fn bitlanes_word_103() {
 }
 
 #[test]
-fn bitranks_directory_22() {
+fn bitranks_counted_16() {
     use crate::proved::bitlanes::ops::*;
-    use crate::proved::bitlanes::{word, Block, Steps};
+    use crate::proved::bitlanes::{word, Block, IndexRange, Steps};
     use crate::proved::bitwalks::in_turn::*;
     use crate::proved::bitwords::cursors::*;
+    use crate::proved::bitranks;
+    use crate::proved::fixedbitset::{Bits, BitsMut, ExtendFault, FixedBitSet};
     use crate::proved::bitranks::*;
+    use crate::shim::alloc::Global;
+    use crate::shim::prelude::*;
+    use crate::shim::u64x4;
+    use core::cmp::Ordering;
+    use core::mem::{size_of, size_of_val};
+
+    let alloc = Global::Try;
+    let set = FixedBitSet::from_iter(alloc, [3, 64, 70]).unwrap();
+    let mut steps = Steps::new();
+    let ranks = bitranks::counted::of(alloc, &set, &mut steps).unwrap();
+    assert_eq!(bitranks::counted::rank(&ranks, 70, &mut steps), 2);
+}
+
+#[test]
+fn bitranks_counted_40() {
+    use crate::proved::bitlanes::ops::*;
+    use crate::proved::bitlanes::{word, Block, IndexRange, Steps};
+    use crate::proved::bitwalks::in_turn::*;
+    use crate::proved::bitwords::cursors::*;
+    use crate::proved::bitranks;
+    use crate::proved::fixedbitset::{Bits, BitsMut, ExtendFault, FixedBitSet};
+    use crate::proved::bitranks::*;
+    use crate::shim::alloc::Global;
+    use crate::shim::prelude::*;
+    use crate::shim::u64x4;
+    use core::cmp::Ordering;
+    use core::mem::{size_of, size_of_val};
+
+    let alloc = Global::Try;
+    let set = FixedBitSet::from_iter(alloc, [3, 64, 70]).unwrap();
+    let ranks = Ranks::of(alloc, &set).unwrap();
+    assert_eq!(bitranks::counted::rank(&ranks, 65, &mut Steps::new()), 2);
+}
+
+#[test]
+fn bitranks_counted_54() {
+    use crate::proved::bitlanes::ops::*;
+    use crate::proved::bitlanes::{word, Block, IndexRange, Steps};
+    use crate::proved::bitwalks::in_turn::*;
+    use crate::proved::bitwords::cursors::*;
+    use crate::proved::bitranks;
+    use crate::proved::fixedbitset::{Bits, BitsMut, ExtendFault, FixedBitSet};
+    use crate::proved::bitranks::*;
+    use crate::shim::alloc::Global;
+    use crate::shim::prelude::*;
+    use crate::shim::u64x4;
+    use core::cmp::Ordering;
+    use core::mem::{size_of, size_of_val};
+
+    let alloc = Global::Try;
+    let set = FixedBitSet::from_iter(alloc, [3, 64, 70]).unwrap();
+    let ranks = Ranks::of(alloc, &set).unwrap();
+    assert_eq!(bitranks::counted::select(&ranks, 1, &mut Steps::new()), Some(64));
+}
+
+#[test]
+fn bitranks_directory_22() {
+    use crate::proved::bitlanes::ops::*;
+    use crate::proved::bitlanes::{word, Block, IndexRange, Steps};
+    use crate::proved::bitwalks::in_turn::*;
+    use crate::proved::bitwords::cursors::*;
+    use crate::proved::bitranks;
+    use crate::proved::fixedbitset::{Bits, BitsMut, ExtendFault, FixedBitSet};
+    use crate::proved::bitranks::*;
+    use crate::shim::alloc::Global;
+    use crate::shim::prelude::*;
     use crate::shim::u64x4;
     use core::cmp::Ordering;
     use core::mem::{size_of, size_of_val};
@@ -656,10 +933,14 @@ fn bitranks_directory_22() {
 #[test]
 fn bitranks_directory_38() {
     use crate::proved::bitlanes::ops::*;
-    use crate::proved::bitlanes::{word, Block, Steps};
+    use crate::proved::bitlanes::{word, Block, IndexRange, Steps};
     use crate::proved::bitwalks::in_turn::*;
     use crate::proved::bitwords::cursors::*;
+    use crate::proved::bitranks;
+    use crate::proved::fixedbitset::{Bits, BitsMut, ExtendFault, FixedBitSet};
     use crate::proved::bitranks::*;
+    use crate::shim::alloc::Global;
+    use crate::shim::prelude::*;
     use crate::shim::u64x4;
     use core::cmp::Ordering;
     use core::mem::{size_of, size_of_val};
@@ -672,10 +953,14 @@ fn bitranks_directory_38() {
 #[test]
 fn bitranks_directory_61() {
     use crate::proved::bitlanes::ops::*;
-    use crate::proved::bitlanes::{word, Block, Steps};
+    use crate::proved::bitlanes::{word, Block, IndexRange, Steps};
     use crate::proved::bitwalks::in_turn::*;
     use crate::proved::bitwords::cursors::*;
+    use crate::proved::bitranks;
+    use crate::proved::fixedbitset::{Bits, BitsMut, ExtendFault, FixedBitSet};
     use crate::proved::bitranks::*;
+    use crate::shim::alloc::Global;
+    use crate::shim::prelude::*;
     use crate::shim::u64x4;
     use core::cmp::Ordering;
     use core::mem::{size_of, size_of_val};
@@ -689,10 +974,14 @@ fn bitranks_directory_61() {
 #[test]
 fn bitranks_directory_94() {
     use crate::proved::bitlanes::ops::*;
-    use crate::proved::bitlanes::{word, Block, Steps};
+    use crate::proved::bitlanes::{word, Block, IndexRange, Steps};
     use crate::proved::bitwalks::in_turn::*;
     use crate::proved::bitwords::cursors::*;
+    use crate::proved::bitranks;
+    use crate::proved::fixedbitset::{Bits, BitsMut, ExtendFault, FixedBitSet};
     use crate::proved::bitranks::*;
+    use crate::shim::alloc::Global;
+    use crate::shim::prelude::*;
     use crate::shim::u64x4;
     use core::cmp::Ordering;
     use core::mem::{size_of, size_of_val};
@@ -704,12 +993,323 @@ fn bitranks_directory_94() {
 }
 
 #[test]
-fn bitrows_views_changes_16() {
+fn bitranks_ranks_26() {
     use crate::proved::bitlanes::ops::*;
-    use crate::proved::bitlanes::{word, Block, Steps};
+    use crate::proved::bitlanes::{word, Block, IndexRange, Steps};
     use crate::proved::bitwalks::in_turn::*;
     use crate::proved::bitwords::cursors::*;
+    use crate::proved::bitranks;
+    use crate::proved::fixedbitset::{Bits, BitsMut, ExtendFault, FixedBitSet};
+    use crate::proved::bitranks::*;
+    use crate::shim::alloc::Global;
+    use crate::shim::prelude::*;
+    use crate::shim::u64x4;
+    use core::cmp::Ordering;
+    use core::mem::{size_of, size_of_val};
+
+    let alloc = Global::Try;
+    let set = FixedBitSet::from_iter(alloc, [3, 64, 70]).unwrap();
+    let ranks = Ranks::of(alloc, &set).unwrap();
+    assert_eq!(ranks.rank(70), 2);
+    assert_eq!(ranks.select(2), Some(70));
+}
+
+#[test]
+fn bitranks_ranks_38() {
+    use crate::proved::bitlanes::ops::*;
+    use crate::proved::bitlanes::{word, Block, IndexRange, Steps};
+    use crate::proved::bitwalks::in_turn::*;
+    use crate::proved::bitwords::cursors::*;
+    use crate::proved::bitranks;
+    use crate::proved::fixedbitset::{Bits, BitsMut, ExtendFault, FixedBitSet};
+    use crate::proved::bitranks::*;
+    use crate::shim::alloc::Global;
+    use crate::shim::prelude::*;
+    use crate::shim::u64x4;
+    use core::cmp::Ordering;
+    use core::mem::{size_of, size_of_val};
+
+    let alloc = Global::Try;
+    let set = FixedBitSet::from_iter(alloc, [3, 64]).unwrap();
+    let ranks = Ranks::of(alloc, &set).unwrap();
+    assert_eq!(ranks.set().len(), 65);
+}
+
+#[test]
+fn bitranks_ranks_53() {
+    use crate::proved::bitlanes::ops::*;
+    use crate::proved::bitlanes::{word, Block, IndexRange, Steps};
+    use crate::proved::bitwalks::in_turn::*;
+    use crate::proved::bitwords::cursors::*;
+    use crate::proved::bitranks;
+    use crate::proved::fixedbitset::{Bits, BitsMut, ExtendFault, FixedBitSet};
+    use crate::proved::bitranks::*;
+    use crate::shim::alloc::Global;
+    use crate::shim::prelude::*;
+    use crate::shim::u64x4;
+    use core::cmp::Ordering;
+    use core::mem::{size_of, size_of_val};
+
+    let alloc = Global::Try;
+    let set = FixedBitSet::from_iter(alloc, [3, 64, 70]).unwrap();
+    let ranks = Ranks::of(alloc, &set).unwrap();
+    assert_eq!(ranks.rank(64), 1);
+    assert_eq!(ranks.rank(65), 2);
+    assert_eq!(ranks.rank(usize::MAX), 3);
+}
+
+#[test]
+fn bitranks_ranks_71() {
+    use crate::proved::bitlanes::ops::*;
+    use crate::proved::bitlanes::{word, Block, IndexRange, Steps};
+    use crate::proved::bitwalks::in_turn::*;
+    use crate::proved::bitwords::cursors::*;
+    use crate::proved::bitranks;
+    use crate::proved::fixedbitset::{Bits, BitsMut, ExtendFault, FixedBitSet};
+    use crate::proved::bitranks::*;
+    use crate::shim::alloc::Global;
+    use crate::shim::prelude::*;
+    use crate::shim::u64x4;
+    use core::cmp::Ordering;
+    use core::mem::{size_of, size_of_val};
+
+    let alloc = Global::Try;
+    let set = FixedBitSet::from_iter(alloc, [3, 64, 70]).unwrap();
+    let ranks = Ranks::of(alloc, &set).unwrap();
+    assert_eq!(ranks.select(0), Some(3));
+    assert_eq!(ranks.select(1), Some(64));
+    assert_eq!(ranks.select(3), None);
+}
+
+#[test]
+fn bitrows_counted_11() {
+    use crate::proved::bitlanes::ops::*;
+    use crate::proved::bitlanes::{word, Block, IndexRange, Steps};
+    use crate::proved::bitwalks::in_turn::*;
+    use crate::proved::bitwords::cursors::*;
+    use crate::proved::bitranks;
+    use crate::proved::fixedbitset::{Bits, BitsMut, ExtendFault, FixedBitSet};
     use crate::proved::bitrows::*;
+    use crate::shim::alloc::Global;
+    use crate::shim::prelude::*;
+    use crate::shim::u64x4;
+    use core::cmp::Ordering;
+    use core::mem::{size_of, size_of_val};
+
+    let alloc = Global::Try;
+    let mut table = BitRows::new(alloc, 2, 2).unwrap();
+    table.set(0, 1, true);
+    counted::close(&mut table, &mut Steps::new());
+    assert!(table.row(0).eq([1]));
+}
+
+#[test]
+fn bitrows_table_32() {
+    use crate::proved::bitlanes::ops::*;
+    use crate::proved::bitlanes::{word, Block, IndexRange, Steps};
+    use crate::proved::bitwalks::in_turn::*;
+    use crate::proved::bitwords::cursors::*;
+    use crate::proved::bitranks;
+    use crate::proved::fixedbitset::{Bits, BitsMut, ExtendFault, FixedBitSet};
+    use crate::proved::bitrows::*;
+    use crate::shim::alloc::Global;
+    use crate::shim::prelude::*;
+    use crate::shim::u64x4;
+    use core::cmp::Ordering;
+    use core::mem::{size_of, size_of_val};
+
+    let alloc = Global::Try;
+    let table = BitRows::new(alloc, 3, 70).unwrap();
+    assert_eq!(table.rows(), 3);
+    assert_eq!(table.columns(), 70);
+    assert!(!table.get(2, 69));
+}
+
+#[test]
+fn bitrows_table_51() {
+    use crate::proved::bitlanes::ops::*;
+    use crate::proved::bitlanes::{word, Block, IndexRange, Steps};
+    use crate::proved::bitwalks::in_turn::*;
+    use crate::proved::bitwords::cursors::*;
+    use crate::proved::bitranks;
+    use crate::proved::fixedbitset::{Bits, BitsMut, ExtendFault, FixedBitSet};
+    use crate::proved::bitrows::*;
+    use crate::shim::alloc::Global;
+    use crate::shim::prelude::*;
+    use crate::shim::u64x4;
+    use core::cmp::Ordering;
+    use core::mem::{size_of, size_of_val};
+
+    let alloc = Global::Try;
+    let table = BitRows::new(alloc, 3, 70).unwrap();
+    assert_eq!(table.rows(), 3);
+}
+
+#[test]
+fn bitrows_table_62() {
+    use crate::proved::bitlanes::ops::*;
+    use crate::proved::bitlanes::{word, Block, IndexRange, Steps};
+    use crate::proved::bitwalks::in_turn::*;
+    use crate::proved::bitwords::cursors::*;
+    use crate::proved::bitranks;
+    use crate::proved::fixedbitset::{Bits, BitsMut, ExtendFault, FixedBitSet};
+    use crate::proved::bitrows::*;
+    use crate::shim::alloc::Global;
+    use crate::shim::prelude::*;
+    use crate::shim::u64x4;
+    use core::cmp::Ordering;
+    use core::mem::{size_of, size_of_val};
+
+    let alloc = Global::Try;
+    let table = BitRows::new(alloc, 3, 70).unwrap();
+    assert_eq!(table.columns(), 70);
+}
+
+#[test]
+fn bitrows_table_73() {
+    use crate::proved::bitlanes::ops::*;
+    use crate::proved::bitlanes::{word, Block, IndexRange, Steps};
+    use crate::proved::bitwalks::in_turn::*;
+    use crate::proved::bitwords::cursors::*;
+    use crate::proved::bitranks;
+    use crate::proved::fixedbitset::{Bits, BitsMut, ExtendFault, FixedBitSet};
+    use crate::proved::bitrows::*;
+    use crate::shim::alloc::Global;
+    use crate::shim::prelude::*;
+    use crate::shim::u64x4;
+    use core::cmp::Ordering;
+    use core::mem::{size_of, size_of_val};
+
+    let alloc = Global::Try;
+    let table = BitRows::new(alloc, 3, 70).unwrap();
+    assert!(table.as_rows().row(2).is_clear(&mut Steps::new()));
+}
+
+#[test]
+fn bitrows_table_89() {
+    use crate::proved::bitlanes::ops::*;
+    use crate::proved::bitlanes::{word, Block, IndexRange, Steps};
+    use crate::proved::bitwalks::in_turn::*;
+    use crate::proved::bitwords::cursors::*;
+    use crate::proved::bitranks;
+    use crate::proved::fixedbitset::{Bits, BitsMut, ExtendFault, FixedBitSet};
+    use crate::proved::bitrows::*;
+    use crate::shim::alloc::Global;
+    use crate::shim::prelude::*;
+    use crate::shim::u64x4;
+    use core::cmp::Ordering;
+    use core::mem::{size_of, size_of_val};
+
+    let alloc = Global::Try;
+    let mut table = BitRows::new(alloc, 3, 70).unwrap();
+    table.set(1, 69, true);
+    assert!(table.get(1, 69) && !table.get(2, 69));
+    assert!(!table.get(1, 500));
+}
+
+#[test]
+fn bitrows_table_103() {
+    use crate::proved::bitlanes::ops::*;
+    use crate::proved::bitlanes::{word, Block, IndexRange, Steps};
+    use crate::proved::bitwalks::in_turn::*;
+    use crate::proved::bitwords::cursors::*;
+    use crate::proved::bitranks;
+    use crate::proved::fixedbitset::{Bits, BitsMut, ExtendFault, FixedBitSet};
+    use crate::proved::bitrows::*;
+    use crate::shim::alloc::Global;
+    use crate::shim::prelude::*;
+    use crate::shim::u64x4;
+    use core::cmp::Ordering;
+    use core::mem::{size_of, size_of_val};
+
+    let alloc = Global::Try;
+    let mut table = BitRows::new(alloc, 3, 70).unwrap();
+    table.set(1, 69, true);
+    table.set(1, 3, true);
+    table.set(1, 69, false);
+    assert!(table.row(1).eq([3]));
+}
+
+#[test]
+fn bitrows_table_125() {
+    use crate::proved::bitlanes::ops::*;
+    use crate::proved::bitlanes::{word, Block, IndexRange, Steps};
+    use crate::proved::bitwalks::in_turn::*;
+    use crate::proved::bitwords::cursors::*;
+    use crate::proved::bitranks;
+    use crate::proved::fixedbitset::{Bits, BitsMut, ExtendFault, FixedBitSet};
+    use crate::proved::bitrows::*;
+    use crate::shim::alloc::Global;
+    use crate::shim::prelude::*;
+    use crate::shim::u64x4;
+    use core::cmp::Ordering;
+    use core::mem::{size_of, size_of_val};
+
+    let alloc = Global::Try;
+    let mut table = BitRows::new(alloc, 3, 70).unwrap();
+    table.set(0, 69, true);
+    assert!(table.union_rows(0, 2));
+    assert!(!table.union_rows(0, 2) && !table.union_rows(0, 0));
+    assert!(table.get(2, 69) && !table.get(1, 69));
+}
+
+#[test]
+fn bitrows_table_147() {
+    use crate::proved::bitlanes::ops::*;
+    use crate::proved::bitlanes::{word, Block, IndexRange, Steps};
+    use crate::proved::bitwalks::in_turn::*;
+    use crate::proved::bitwords::cursors::*;
+    use crate::proved::bitranks;
+    use crate::proved::fixedbitset::{Bits, BitsMut, ExtendFault, FixedBitSet};
+    use crate::proved::bitrows::*;
+    use crate::shim::alloc::Global;
+    use crate::shim::prelude::*;
+    use crate::shim::u64x4;
+    use core::cmp::Ordering;
+    use core::mem::{size_of, size_of_val};
+
+    let alloc = Global::Try;
+    let mut table = BitRows::new(alloc, 3, 70).unwrap();
+    table.set(1, 69, true);
+    table.set(1, 3, true);
+    assert!(table.row(1).eq([3, 69]));
+}
+
+#[test]
+fn bitrows_table_166() {
+    use crate::proved::bitlanes::ops::*;
+    use crate::proved::bitlanes::{word, Block, IndexRange, Steps};
+    use crate::proved::bitwalks::in_turn::*;
+    use crate::proved::bitwords::cursors::*;
+    use crate::proved::bitranks;
+    use crate::proved::fixedbitset::{Bits, BitsMut, ExtendFault, FixedBitSet};
+    use crate::proved::bitrows::*;
+    use crate::shim::alloc::Global;
+    use crate::shim::prelude::*;
+    use crate::shim::u64x4;
+    use core::cmp::Ordering;
+    use core::mem::{size_of, size_of_val};
+
+    let alloc = Global::Try;
+    let mut table = BitRows::new(alloc, 3, 3).unwrap();
+    table.set(0, 2, true);
+    table.set(2, 1, true);
+    table.close();
+    assert!(table.row(0).eq([1, 2]));
+    assert!(table.get(2, 1) && !table.get(1, 0));
+}
+
+#[test]
+fn bitrows_views_changes_16() {
+    use crate::proved::bitlanes::ops::*;
+    use crate::proved::bitlanes::{word, Block, IndexRange, Steps};
+    use crate::proved::bitwalks::in_turn::*;
+    use crate::proved::bitwords::cursors::*;
+    use crate::proved::bitranks;
+    use crate::proved::fixedbitset::{Bits, BitsMut, ExtendFault, FixedBitSet};
+    use crate::proved::bitrows::*;
+    use crate::shim::alloc::Global;
+    use crate::shim::prelude::*;
     use crate::shim::u64x4;
     use core::cmp::Ordering;
     use core::mem::{size_of, size_of_val};
@@ -722,10 +1322,14 @@ fn bitrows_views_changes_16() {
 #[test]
 fn bitrows_views_changes_33() {
     use crate::proved::bitlanes::ops::*;
-    use crate::proved::bitlanes::{word, Block, Steps};
+    use crate::proved::bitlanes::{word, Block, IndexRange, Steps};
     use crate::proved::bitwalks::in_turn::*;
     use crate::proved::bitwords::cursors::*;
+    use crate::proved::bitranks;
+    use crate::proved::fixedbitset::{Bits, BitsMut, ExtendFault, FixedBitSet};
     use crate::proved::bitrows::*;
+    use crate::shim::alloc::Global;
+    use crate::shim::prelude::*;
     use crate::shim::u64x4;
     use core::cmp::Ordering;
     use core::mem::{size_of, size_of_val};
@@ -738,10 +1342,14 @@ fn bitrows_views_changes_33() {
 #[test]
 fn bitrows_views_changes_50() {
     use crate::proved::bitlanes::ops::*;
-    use crate::proved::bitlanes::{word, Block, Steps};
+    use crate::proved::bitlanes::{word, Block, IndexRange, Steps};
     use crate::proved::bitwalks::in_turn::*;
     use crate::proved::bitwords::cursors::*;
+    use crate::proved::bitranks;
+    use crate::proved::fixedbitset::{Bits, BitsMut, ExtendFault, FixedBitSet};
     use crate::proved::bitrows::*;
+    use crate::shim::alloc::Global;
+    use crate::shim::prelude::*;
     use crate::shim::u64x4;
     use core::cmp::Ordering;
     use core::mem::{size_of, size_of_val};
@@ -755,10 +1363,14 @@ fn bitrows_views_changes_50() {
 #[test]
 fn bitrows_views_changes_68() {
     use crate::proved::bitlanes::ops::*;
-    use crate::proved::bitlanes::{word, Block, Steps};
+    use crate::proved::bitlanes::{word, Block, IndexRange, Steps};
     use crate::proved::bitwalks::in_turn::*;
     use crate::proved::bitwords::cursors::*;
+    use crate::proved::bitranks;
+    use crate::proved::fixedbitset::{Bits, BitsMut, ExtendFault, FixedBitSet};
     use crate::proved::bitrows::*;
+    use crate::shim::alloc::Global;
+    use crate::shim::prelude::*;
     use crate::shim::u64x4;
     use core::cmp::Ordering;
     use core::mem::{size_of, size_of_val};
@@ -773,10 +1385,14 @@ fn bitrows_views_changes_68() {
 #[test]
 fn bitrows_views_changes_89() {
     use crate::proved::bitlanes::ops::*;
-    use crate::proved::bitlanes::{word, Block, Steps};
+    use crate::proved::bitlanes::{word, Block, IndexRange, Steps};
     use crate::proved::bitwalks::in_turn::*;
     use crate::proved::bitwords::cursors::*;
+    use crate::proved::bitranks;
+    use crate::proved::fixedbitset::{Bits, BitsMut, ExtendFault, FixedBitSet};
     use crate::proved::bitrows::*;
+    use crate::shim::alloc::Global;
+    use crate::shim::prelude::*;
     use crate::shim::u64x4;
     use core::cmp::Ordering;
     use core::mem::{size_of, size_of_val};
@@ -792,10 +1408,14 @@ fn bitrows_views_changes_89() {
 #[test]
 fn bitrows_views_reads_11() {
     use crate::proved::bitlanes::ops::*;
-    use crate::proved::bitlanes::{word, Block, Steps};
+    use crate::proved::bitlanes::{word, Block, IndexRange, Steps};
     use crate::proved::bitwalks::in_turn::*;
     use crate::proved::bitwords::cursors::*;
+    use crate::proved::bitranks;
+    use crate::proved::fixedbitset::{Bits, BitsMut, ExtendFault, FixedBitSet};
     use crate::proved::bitrows::*;
+    use crate::shim::alloc::Global;
+    use crate::shim::prelude::*;
     use crate::shim::u64x4;
     use core::cmp::Ordering;
     use core::mem::{size_of, size_of_val};
@@ -809,10 +1429,14 @@ fn bitrows_views_reads_11() {
 #[test]
 fn bitrows_views_reads_30() {
     use crate::proved::bitlanes::ops::*;
-    use crate::proved::bitlanes::{word, Block, Steps};
+    use crate::proved::bitlanes::{word, Block, IndexRange, Steps};
     use crate::proved::bitwalks::in_turn::*;
     use crate::proved::bitwords::cursors::*;
+    use crate::proved::bitranks;
+    use crate::proved::fixedbitset::{Bits, BitsMut, ExtendFault, FixedBitSet};
     use crate::proved::bitrows::*;
+    use crate::shim::alloc::Global;
+    use crate::shim::prelude::*;
     use crate::shim::u64x4;
     use core::cmp::Ordering;
     use core::mem::{size_of, size_of_val};
@@ -827,10 +1451,14 @@ fn bitrows_views_reads_30() {
 #[test]
 fn bitwalks_in_turn_10() {
     use crate::proved::bitlanes::ops::*;
-    use crate::proved::bitlanes::{word, Block, Steps};
+    use crate::proved::bitlanes::{word, Block, IndexRange, Steps};
     use crate::proved::bitwalks::in_turn::*;
     use crate::proved::bitwords::cursors::*;
+    use crate::proved::bitranks;
+    use crate::proved::fixedbitset::{Bits, BitsMut, ExtendFault, FixedBitSet};
     use crate::proved::bitwalks::*;
+    use crate::shim::alloc::Global;
+    use crate::shim::prelude::*;
     use crate::shim::u64x4;
     use core::cmp::Ordering;
     use core::mem::{size_of, size_of_val};
@@ -843,10 +1471,14 @@ fn bitwalks_in_turn_10() {
 #[test]
 fn bitwalks_in_turn_45() {
     use crate::proved::bitlanes::ops::*;
-    use crate::proved::bitlanes::{word, Block, Steps};
+    use crate::proved::bitlanes::{word, Block, IndexRange, Steps};
     use crate::proved::bitwalks::in_turn::*;
     use crate::proved::bitwords::cursors::*;
+    use crate::proved::bitranks;
+    use crate::proved::fixedbitset::{Bits, BitsMut, ExtendFault, FixedBitSet};
     use crate::proved::bitwalks::*;
+    use crate::shim::alloc::Global;
+    use crate::shim::prelude::*;
     use crate::shim::u64x4;
     use core::cmp::Ordering;
     use core::mem::{size_of, size_of_val};
@@ -858,10 +1490,14 @@ fn bitwalks_in_turn_45() {
 #[test]
 fn bitwalks_in_turn_63() {
     use crate::proved::bitlanes::ops::*;
-    use crate::proved::bitlanes::{word, Block, Steps};
+    use crate::proved::bitlanes::{word, Block, IndexRange, Steps};
     use crate::proved::bitwalks::in_turn::*;
     use crate::proved::bitwords::cursors::*;
+    use crate::proved::bitranks;
+    use crate::proved::fixedbitset::{Bits, BitsMut, ExtendFault, FixedBitSet};
     use crate::proved::bitwalks::*;
+    use crate::shim::alloc::Global;
+    use crate::shim::prelude::*;
     use crate::shim::u64x4;
     use core::cmp::Ordering;
     use core::mem::{size_of, size_of_val};
@@ -875,10 +1511,14 @@ fn bitwalks_in_turn_63() {
 #[test]
 fn bitwalks_in_turn_81() {
     use crate::proved::bitlanes::ops::*;
-    use crate::proved::bitlanes::{word, Block, Steps};
+    use crate::proved::bitlanes::{word, Block, IndexRange, Steps};
     use crate::proved::bitwalks::in_turn::*;
     use crate::proved::bitwords::cursors::*;
+    use crate::proved::bitranks;
+    use crate::proved::fixedbitset::{Bits, BitsMut, ExtendFault, FixedBitSet};
     use crate::proved::bitwalks::*;
+    use crate::shim::alloc::Global;
+    use crate::shim::prelude::*;
     use crate::shim::u64x4;
     use core::cmp::Ordering;
     use core::mem::{size_of, size_of_val};
@@ -891,10 +1531,14 @@ fn bitwalks_in_turn_81() {
 #[test]
 fn bitwalks_in_turn_98() {
     use crate::proved::bitlanes::ops::*;
-    use crate::proved::bitlanes::{word, Block, Steps};
+    use crate::proved::bitlanes::{word, Block, IndexRange, Steps};
     use crate::proved::bitwalks::in_turn::*;
     use crate::proved::bitwords::cursors::*;
+    use crate::proved::bitranks;
+    use crate::proved::fixedbitset::{Bits, BitsMut, ExtendFault, FixedBitSet};
     use crate::proved::bitwalks::*;
+    use crate::shim::alloc::Global;
+    use crate::shim::prelude::*;
     use crate::shim::u64x4;
     use core::cmp::Ordering;
     use core::mem::{size_of, size_of_val};
@@ -908,10 +1552,14 @@ fn bitwalks_in_turn_98() {
 #[test]
 fn bitwalks_in_turn_119() {
     use crate::proved::bitlanes::ops::*;
-    use crate::proved::bitlanes::{word, Block, Steps};
+    use crate::proved::bitlanes::{word, Block, IndexRange, Steps};
     use crate::proved::bitwalks::in_turn::*;
     use crate::proved::bitwords::cursors::*;
+    use crate::proved::bitranks;
+    use crate::proved::fixedbitset::{Bits, BitsMut, ExtendFault, FixedBitSet};
     use crate::proved::bitwalks::*;
+    use crate::shim::alloc::Global;
+    use crate::shim::prelude::*;
     use crate::shim::u64x4;
     use core::cmp::Ordering;
     use core::mem::{size_of, size_of_val};
@@ -925,10 +1573,14 @@ fn bitwalks_in_turn_119() {
 #[test]
 fn bitwalks_in_turn_140() {
     use crate::proved::bitlanes::ops::*;
-    use crate::proved::bitlanes::{word, Block, Steps};
+    use crate::proved::bitlanes::{word, Block, IndexRange, Steps};
     use crate::proved::bitwalks::in_turn::*;
     use crate::proved::bitwords::cursors::*;
+    use crate::proved::bitranks;
+    use crate::proved::fixedbitset::{Bits, BitsMut, ExtendFault, FixedBitSet};
     use crate::proved::bitwalks::*;
+    use crate::shim::alloc::Global;
+    use crate::shim::prelude::*;
     use crate::shim::u64x4;
     use core::cmp::Ordering;
     use core::mem::{size_of, size_of_val};
@@ -941,10 +1593,14 @@ fn bitwalks_in_turn_140() {
 #[test]
 fn bitwalks_in_turn_152() {
     use crate::proved::bitlanes::ops::*;
-    use crate::proved::bitlanes::{word, Block, Steps};
+    use crate::proved::bitlanes::{word, Block, IndexRange, Steps};
     use crate::proved::bitwalks::in_turn::*;
     use crate::proved::bitwords::cursors::*;
+    use crate::proved::bitranks;
+    use crate::proved::fixedbitset::{Bits, BitsMut, ExtendFault, FixedBitSet};
     use crate::proved::bitwalks::*;
+    use crate::shim::alloc::Global;
+    use crate::shim::prelude::*;
     use crate::shim::u64x4;
     use core::cmp::Ordering;
     use core::mem::{size_of, size_of_val};
@@ -958,10 +1614,14 @@ fn bitwalks_in_turn_152() {
 #[test]
 fn bitwalks_in_turn_173() {
     use crate::proved::bitlanes::ops::*;
-    use crate::proved::bitlanes::{word, Block, Steps};
+    use crate::proved::bitlanes::{word, Block, IndexRange, Steps};
     use crate::proved::bitwalks::in_turn::*;
     use crate::proved::bitwords::cursors::*;
+    use crate::proved::bitranks;
+    use crate::proved::fixedbitset::{Bits, BitsMut, ExtendFault, FixedBitSet};
     use crate::proved::bitwalks::*;
+    use crate::shim::alloc::Global;
+    use crate::shim::prelude::*;
     use crate::shim::u64x4;
     use core::cmp::Ordering;
     use core::mem::{size_of, size_of_val};
@@ -974,12 +1634,39 @@ fn bitwalks_in_turn_173() {
 }
 
 #[test]
-fn bitwalks_runs_54() {
+fn bitwalks_runs_20() {
     use crate::proved::bitlanes::ops::*;
-    use crate::proved::bitlanes::{word, Block, Steps};
+    use crate::proved::bitlanes::{word, Block, IndexRange, Steps};
     use crate::proved::bitwalks::in_turn::*;
     use crate::proved::bitwords::cursors::*;
+    use crate::proved::bitranks;
+    use crate::proved::fixedbitset::{Bits, BitsMut, ExtendFault, FixedBitSet};
     use crate::proved::bitwalks::*;
+    use crate::shim::alloc::Global;
+    use crate::shim::prelude::*;
+    use crate::shim::u64x4;
+    use core::cmp::Ordering;
+    use core::mem::{size_of, size_of_val};
+
+    let alloc = Global::Try;
+    let set = FixedBitSet::from_iter(alloc, [3, 4, 9, 200]).unwrap();
+    let mut walk = set.runs();
+    assert_eq!(walk.next(), Some((3, 5)));
+    assert_eq!(walk.next_back(), Some((200, 201)));
+    assert!(walk.eq([(9, 10)]));
+}
+
+#[test]
+fn bitwalks_runs_54() {
+    use crate::proved::bitlanes::ops::*;
+    use crate::proved::bitlanes::{word, Block, IndexRange, Steps};
+    use crate::proved::bitwalks::in_turn::*;
+    use crate::proved::bitwords::cursors::*;
+    use crate::proved::bitranks;
+    use crate::proved::fixedbitset::{Bits, BitsMut, ExtendFault, FixedBitSet};
+    use crate::proved::bitwalks::*;
+    use crate::shim::alloc::Global;
+    use crate::shim::prelude::*;
     use crate::shim::u64x4;
     use core::cmp::Ordering;
     use core::mem::{size_of, size_of_val};
@@ -992,10 +1679,14 @@ fn bitwalks_runs_54() {
 #[test]
 fn bitwalks_runs_75() {
     use crate::proved::bitlanes::ops::*;
-    use crate::proved::bitlanes::{word, Block, Steps};
+    use crate::proved::bitlanes::{word, Block, IndexRange, Steps};
     use crate::proved::bitwalks::in_turn::*;
     use crate::proved::bitwords::cursors::*;
+    use crate::proved::bitranks;
+    use crate::proved::fixedbitset::{Bits, BitsMut, ExtendFault, FixedBitSet};
     use crate::proved::bitwalks::*;
+    use crate::shim::alloc::Global;
+    use crate::shim::prelude::*;
     use crate::shim::u64x4;
     use core::cmp::Ordering;
     use core::mem::{size_of, size_of_val};
@@ -1009,10 +1700,14 @@ fn bitwalks_runs_75() {
 #[test]
 fn bitwalks_runs_94() {
     use crate::proved::bitlanes::ops::*;
-    use crate::proved::bitlanes::{word, Block, Steps};
+    use crate::proved::bitlanes::{word, Block, IndexRange, Steps};
     use crate::proved::bitwalks::in_turn::*;
     use crate::proved::bitwords::cursors::*;
+    use crate::proved::bitranks;
+    use crate::proved::fixedbitset::{Bits, BitsMut, ExtendFault, FixedBitSet};
     use crate::proved::bitwalks::*;
+    use crate::shim::alloc::Global;
+    use crate::shim::prelude::*;
     use crate::shim::u64x4;
     use core::cmp::Ordering;
     use core::mem::{size_of, size_of_val};
@@ -1022,12 +1717,85 @@ fn bitwalks_runs_94() {
 }
 
 #[test]
-fn bitwalks_walks_74() {
+fn bitwalks_walks_25() {
     use crate::proved::bitlanes::ops::*;
-    use crate::proved::bitlanes::{word, Block, Steps};
+    use crate::proved::bitlanes::{word, Block, IndexRange, Steps};
     use crate::proved::bitwalks::in_turn::*;
     use crate::proved::bitwords::cursors::*;
+    use crate::proved::bitranks;
+    use crate::proved::fixedbitset::{Bits, BitsMut, ExtendFault, FixedBitSet};
     use crate::proved::bitwalks::*;
+    use crate::shim::alloc::Global;
+    use crate::shim::prelude::*;
+    use crate::shim::u64x4;
+    use core::cmp::Ordering;
+    use core::mem::{size_of, size_of_val};
+
+    let alloc = Global::Try;
+    let set = FixedBitSet::from_iter(alloc, [3, 9, 200]).unwrap();
+    let mut walk = set.ones();
+    assert_eq!(walk.next_back(), Some(200));
+    assert_eq!(walk.next(), Some(3));
+    assert!(walk.eq([9]));
+}
+
+#[test]
+fn bitwalks_walks_41() {
+    use crate::proved::bitlanes::ops::*;
+    use crate::proved::bitlanes::{word, Block, IndexRange, Steps};
+    use crate::proved::bitwalks::in_turn::*;
+    use crate::proved::bitwords::cursors::*;
+    use crate::proved::bitranks;
+    use crate::proved::fixedbitset::{Bits, BitsMut, ExtendFault, FixedBitSet};
+    use crate::proved::bitwalks::*;
+    use crate::shim::alloc::Global;
+    use crate::shim::prelude::*;
+    use crate::shim::u64x4;
+    use core::cmp::Ordering;
+    use core::mem::{size_of, size_of_val};
+
+    let alloc = Global::Try;
+    let set = FixedBitSet::from_iter(alloc, [3, 9, 200]).unwrap();
+    let mut walk = set.into_ones();
+    assert_eq!(walk.next_back(), Some(200));
+    assert_eq!(walk.next(), Some(3));
+    assert!(walk.eq([9]));
+}
+
+#[test]
+fn bitwalks_walks_58() {
+    use crate::proved::bitlanes::ops::*;
+    use crate::proved::bitlanes::{word, Block, IndexRange, Steps};
+    use crate::proved::bitwalks::in_turn::*;
+    use crate::proved::bitwords::cursors::*;
+    use crate::proved::bitranks;
+    use crate::proved::fixedbitset::{Bits, BitsMut, ExtendFault, FixedBitSet};
+    use crate::proved::bitwalks::*;
+    use crate::shim::alloc::Global;
+    use crate::shim::prelude::*;
+    use crate::shim::u64x4;
+    use core::cmp::Ordering;
+    use core::mem::{size_of, size_of_val};
+
+    let alloc = Global::Try;
+    let set = FixedBitSet::from_iter(alloc, [1, 4]).unwrap();
+    let mut walk = set.zeroes();
+    assert_eq!(walk.next_back(), Some(3));
+    assert_eq!(walk.next(), Some(0));
+    assert!(walk.eq([2]));
+}
+
+#[test]
+fn bitwalks_walks_74() {
+    use crate::proved::bitlanes::ops::*;
+    use crate::proved::bitlanes::{word, Block, IndexRange, Steps};
+    use crate::proved::bitwalks::in_turn::*;
+    use crate::proved::bitwords::cursors::*;
+    use crate::proved::bitranks;
+    use crate::proved::fixedbitset::{Bits, BitsMut, ExtendFault, FixedBitSet};
+    use crate::proved::bitwalks::*;
+    use crate::shim::alloc::Global;
+    use crate::shim::prelude::*;
     use crate::shim::u64x4;
     use core::cmp::Ordering;
     use core::mem::{size_of, size_of_val};
@@ -1040,10 +1808,14 @@ fn bitwalks_walks_74() {
 #[test]
 fn bitwalks_walks_89() {
     use crate::proved::bitlanes::ops::*;
-    use crate::proved::bitlanes::{word, Block, Steps};
+    use crate::proved::bitlanes::{word, Block, IndexRange, Steps};
     use crate::proved::bitwalks::in_turn::*;
     use crate::proved::bitwords::cursors::*;
+    use crate::proved::bitranks;
+    use crate::proved::fixedbitset::{Bits, BitsMut, ExtendFault, FixedBitSet};
     use crate::proved::bitwalks::*;
+    use crate::shim::alloc::Global;
+    use crate::shim::prelude::*;
     use crate::shim::u64x4;
     use core::cmp::Ordering;
     use core::mem::{size_of, size_of_val};
@@ -1056,10 +1828,14 @@ fn bitwalks_walks_89() {
 #[test]
 fn bitwalks_walks_104() {
     use crate::proved::bitlanes::ops::*;
-    use crate::proved::bitlanes::{word, Block, Steps};
+    use crate::proved::bitlanes::{word, Block, IndexRange, Steps};
     use crate::proved::bitwalks::in_turn::*;
     use crate::proved::bitwords::cursors::*;
+    use crate::proved::bitranks;
+    use crate::proved::fixedbitset::{Bits, BitsMut, ExtendFault, FixedBitSet};
     use crate::proved::bitwalks::*;
+    use crate::shim::alloc::Global;
+    use crate::shim::prelude::*;
     use crate::shim::u64x4;
     use core::cmp::Ordering;
     use core::mem::{size_of, size_of_val};
@@ -1072,10 +1848,14 @@ fn bitwalks_walks_104() {
 #[test]
 fn bitwalks_walks_149() {
     use crate::proved::bitlanes::ops::*;
-    use crate::proved::bitlanes::{word, Block, Steps};
+    use crate::proved::bitlanes::{word, Block, IndexRange, Steps};
     use crate::proved::bitwalks::in_turn::*;
     use crate::proved::bitwords::cursors::*;
+    use crate::proved::bitranks;
+    use crate::proved::fixedbitset::{Bits, BitsMut, ExtendFault, FixedBitSet};
     use crate::proved::bitwalks::*;
+    use crate::shim::alloc::Global;
+    use crate::shim::prelude::*;
     use crate::shim::u64x4;
     use core::cmp::Ordering;
     use core::mem::{size_of, size_of_val};
@@ -1088,10 +1868,14 @@ fn bitwalks_walks_149() {
 #[test]
 fn bitwalks_walks_220() {
     use crate::proved::bitlanes::ops::*;
-    use crate::proved::bitlanes::{word, Block, Steps};
+    use crate::proved::bitlanes::{word, Block, IndexRange, Steps};
     use crate::proved::bitwalks::in_turn::*;
     use crate::proved::bitwords::cursors::*;
+    use crate::proved::bitranks;
+    use crate::proved::fixedbitset::{Bits, BitsMut, ExtendFault, FixedBitSet};
     use crate::proved::bitwalks::*;
+    use crate::shim::alloc::Global;
+    use crate::shim::prelude::*;
     use crate::shim::u64x4;
     use core::cmp::Ordering;
     use core::mem::{size_of, size_of_val};
@@ -1104,10 +1888,14 @@ fn bitwalks_walks_220() {
 #[test]
 fn bitwords_cursors_19() {
     use crate::proved::bitlanes::ops::*;
-    use crate::proved::bitlanes::{word, Block, Steps};
+    use crate::proved::bitlanes::{word, Block, IndexRange, Steps};
     use crate::proved::bitwalks::in_turn::*;
     use crate::proved::bitwords::cursors::*;
+    use crate::proved::bitranks;
+    use crate::proved::fixedbitset::{Bits, BitsMut, ExtendFault, FixedBitSet};
     use crate::proved::bitwords::*;
+    use crate::shim::alloc::Global;
+    use crate::shim::prelude::*;
     use crate::shim::u64x4;
     use core::cmp::Ordering;
     use core::mem::{size_of, size_of_val};
@@ -1122,10 +1910,14 @@ fn bitwords_cursors_19() {
 #[test]
 fn bitwords_cursors_45() {
     use crate::proved::bitlanes::ops::*;
-    use crate::proved::bitlanes::{word, Block, Steps};
+    use crate::proved::bitlanes::{word, Block, IndexRange, Steps};
     use crate::proved::bitwalks::in_turn::*;
     use crate::proved::bitwords::cursors::*;
+    use crate::proved::bitranks;
+    use crate::proved::fixedbitset::{Bits, BitsMut, ExtendFault, FixedBitSet};
     use crate::proved::bitwords::*;
+    use crate::shim::alloc::Global;
+    use crate::shim::prelude::*;
     use crate::shim::u64x4;
     use core::cmp::Ordering;
     use core::mem::{size_of, size_of_val};
@@ -1138,10 +1930,14 @@ fn bitwords_cursors_45() {
 #[test]
 fn bitwords_cursors_57() {
     use crate::proved::bitlanes::ops::*;
-    use crate::proved::bitlanes::{word, Block, Steps};
+    use crate::proved::bitlanes::{word, Block, IndexRange, Steps};
     use crate::proved::bitwalks::in_turn::*;
     use crate::proved::bitwords::cursors::*;
+    use crate::proved::bitranks;
+    use crate::proved::fixedbitset::{Bits, BitsMut, ExtendFault, FixedBitSet};
     use crate::proved::bitwords::*;
+    use crate::shim::alloc::Global;
+    use crate::shim::prelude::*;
     use crate::shim::u64x4;
     use core::cmp::Ordering;
     use core::mem::{size_of, size_of_val};
@@ -1154,10 +1950,14 @@ fn bitwords_cursors_57() {
 #[test]
 fn bitwords_cursors_102() {
     use crate::proved::bitlanes::ops::*;
-    use crate::proved::bitlanes::{word, Block, Steps};
+    use crate::proved::bitlanes::{word, Block, IndexRange, Steps};
     use crate::proved::bitwalks::in_turn::*;
     use crate::proved::bitwords::cursors::*;
+    use crate::proved::bitranks;
+    use crate::proved::fixedbitset::{Bits, BitsMut, ExtendFault, FixedBitSet};
     use crate::proved::bitwords::*;
+    use crate::shim::alloc::Global;
+    use crate::shim::prelude::*;
     use crate::shim::u64x4;
     use core::cmp::Ordering;
     use core::mem::{size_of, size_of_val};
@@ -1171,10 +1971,14 @@ fn bitwords_cursors_102() {
 #[test]
 fn bitwords_cursors_147() {
     use crate::proved::bitlanes::ops::*;
-    use crate::proved::bitlanes::{word, Block, Steps};
+    use crate::proved::bitlanes::{word, Block, IndexRange, Steps};
     use crate::proved::bitwalks::in_turn::*;
     use crate::proved::bitwords::cursors::*;
+    use crate::proved::bitranks;
+    use crate::proved::fixedbitset::{Bits, BitsMut, ExtendFault, FixedBitSet};
     use crate::proved::bitwords::*;
+    use crate::shim::alloc::Global;
+    use crate::shim::prelude::*;
     use crate::shim::u64x4;
     use core::cmp::Ordering;
     use core::mem::{size_of, size_of_val};
@@ -1186,10 +1990,14 @@ fn bitwords_cursors_147() {
 #[test]
 fn bitwords_cursors_161() {
     use crate::proved::bitlanes::ops::*;
-    use crate::proved::bitlanes::{word, Block, Steps};
+    use crate::proved::bitlanes::{word, Block, IndexRange, Steps};
     use crate::proved::bitwalks::in_turn::*;
     use crate::proved::bitwords::cursors::*;
+    use crate::proved::bitranks;
+    use crate::proved::fixedbitset::{Bits, BitsMut, ExtendFault, FixedBitSet};
     use crate::proved::bitwords::*;
+    use crate::shim::alloc::Global;
+    use crate::shim::prelude::*;
     use crate::shim::u64x4;
     use core::cmp::Ordering;
     use core::mem::{size_of, size_of_val};
@@ -1201,10 +2009,14 @@ fn bitwords_cursors_161() {
 #[test]
 fn bitwords_cursors_312() {
     use crate::proved::bitlanes::ops::*;
-    use crate::proved::bitlanes::{word, Block, Steps};
+    use crate::proved::bitlanes::{word, Block, IndexRange, Steps};
     use crate::proved::bitwalks::in_turn::*;
     use crate::proved::bitwords::cursors::*;
+    use crate::proved::bitranks;
+    use crate::proved::fixedbitset::{Bits, BitsMut, ExtendFault, FixedBitSet};
     use crate::proved::bitwords::*;
+    use crate::shim::alloc::Global;
+    use crate::shim::prelude::*;
     use crate::shim::u64x4;
     use core::cmp::Ordering;
     use core::mem::{size_of, size_of_val};
@@ -1216,10 +2028,14 @@ fn bitwords_cursors_312() {
 #[test]
 fn bitwords_cursors_326() {
     use crate::proved::bitlanes::ops::*;
-    use crate::proved::bitlanes::{word, Block, Steps};
+    use crate::proved::bitlanes::{word, Block, IndexRange, Steps};
     use crate::proved::bitwalks::in_turn::*;
     use crate::proved::bitwords::cursors::*;
+    use crate::proved::bitranks;
+    use crate::proved::fixedbitset::{Bits, BitsMut, ExtendFault, FixedBitSet};
     use crate::proved::bitwords::*;
+    use crate::shim::alloc::Global;
+    use crate::shim::prelude::*;
     use crate::shim::u64x4;
     use core::cmp::Ordering;
     use core::mem::{size_of, size_of_val};
@@ -1231,10 +2047,14 @@ fn bitwords_cursors_326() {
 #[test]
 fn bitwords_cursors_342() {
     use crate::proved::bitlanes::ops::*;
-    use crate::proved::bitlanes::{word, Block, Steps};
+    use crate::proved::bitlanes::{word, Block, IndexRange, Steps};
     use crate::proved::bitwalks::in_turn::*;
     use crate::proved::bitwords::cursors::*;
+    use crate::proved::bitranks;
+    use crate::proved::fixedbitset::{Bits, BitsMut, ExtendFault, FixedBitSet};
     use crate::proved::bitwords::*;
+    use crate::shim::alloc::Global;
+    use crate::shim::prelude::*;
     use crate::shim::u64x4;
     use core::cmp::Ordering;
     use core::mem::{size_of, size_of_val};
@@ -1247,10 +2067,14 @@ fn bitwords_cursors_342() {
 #[test]
 fn bitwords_cursors_369() {
     use crate::proved::bitlanes::ops::*;
-    use crate::proved::bitlanes::{word, Block, Steps};
+    use crate::proved::bitlanes::{word, Block, IndexRange, Steps};
     use crate::proved::bitwalks::in_turn::*;
     use crate::proved::bitwords::cursors::*;
+    use crate::proved::bitranks;
+    use crate::proved::fixedbitset::{Bits, BitsMut, ExtendFault, FixedBitSet};
     use crate::proved::bitwords::*;
+    use crate::shim::alloc::Global;
+    use crate::shim::prelude::*;
     use crate::shim::u64x4;
     use core::cmp::Ordering;
     use core::mem::{size_of, size_of_val};
@@ -1263,10 +2087,14 @@ fn bitwords_cursors_369() {
 #[test]
 fn bitwords_cursors_399() {
     use crate::proved::bitlanes::ops::*;
-    use crate::proved::bitlanes::{word, Block, Steps};
+    use crate::proved::bitlanes::{word, Block, IndexRange, Steps};
     use crate::proved::bitwalks::in_turn::*;
     use crate::proved::bitwords::cursors::*;
+    use crate::proved::bitranks;
+    use crate::proved::fixedbitset::{Bits, BitsMut, ExtendFault, FixedBitSet};
     use crate::proved::bitwords::*;
+    use crate::shim::alloc::Global;
+    use crate::shim::prelude::*;
     use crate::shim::u64x4;
     use core::cmp::Ordering;
     use core::mem::{size_of, size_of_val};
@@ -1279,10 +2107,14 @@ fn bitwords_cursors_399() {
 #[test]
 fn bitwords_cursors_497() {
     use crate::proved::bitlanes::ops::*;
-    use crate::proved::bitlanes::{word, Block, Steps};
+    use crate::proved::bitlanes::{word, Block, IndexRange, Steps};
     use crate::proved::bitwalks::in_turn::*;
     use crate::proved::bitwords::cursors::*;
+    use crate::proved::bitranks;
+    use crate::proved::fixedbitset::{Bits, BitsMut, ExtendFault, FixedBitSet};
     use crate::proved::bitwords::*;
+    use crate::shim::alloc::Global;
+    use crate::shim::prelude::*;
     use crate::shim::u64x4;
     use core::cmp::Ordering;
     use core::mem::{size_of, size_of_val};
@@ -1294,10 +2126,14 @@ fn bitwords_cursors_497() {
 #[test]
 fn bitwords_cursors_512() {
     use crate::proved::bitlanes::ops::*;
-    use crate::proved::bitlanes::{word, Block, Steps};
+    use crate::proved::bitlanes::{word, Block, IndexRange, Steps};
     use crate::proved::bitwalks::in_turn::*;
     use crate::proved::bitwords::cursors::*;
+    use crate::proved::bitranks;
+    use crate::proved::fixedbitset::{Bits, BitsMut, ExtendFault, FixedBitSet};
     use crate::proved::bitwords::*;
+    use crate::shim::alloc::Global;
+    use crate::shim::prelude::*;
     use crate::shim::u64x4;
     use core::cmp::Ordering;
     use core::mem::{size_of, size_of_val};
@@ -1309,10 +2145,14 @@ fn bitwords_cursors_512() {
 #[test]
 fn bitwords_gaps_22() {
     use crate::proved::bitlanes::ops::*;
-    use crate::proved::bitlanes::{word, Block, Steps};
+    use crate::proved::bitlanes::{word, Block, IndexRange, Steps};
     use crate::proved::bitwalks::in_turn::*;
     use crate::proved::bitwords::cursors::*;
+    use crate::proved::bitranks;
+    use crate::proved::fixedbitset::{Bits, BitsMut, ExtendFault, FixedBitSet};
     use crate::proved::bitwords::*;
+    use crate::shim::alloc::Global;
+    use crate::shim::prelude::*;
     use crate::shim::u64x4;
     use core::cmp::Ordering;
     use core::mem::{size_of, size_of_val};
@@ -1326,10 +2166,14 @@ fn bitwords_gaps_22() {
 #[test]
 fn bitwords_gaps_53() {
     use crate::proved::bitlanes::ops::*;
-    use crate::proved::bitlanes::{word, Block, Steps};
+    use crate::proved::bitlanes::{word, Block, IndexRange, Steps};
     use crate::proved::bitwalks::in_turn::*;
     use crate::proved::bitwords::cursors::*;
+    use crate::proved::bitranks;
+    use crate::proved::fixedbitset::{Bits, BitsMut, ExtendFault, FixedBitSet};
     use crate::proved::bitwords::*;
+    use crate::shim::alloc::Global;
+    use crate::shim::prelude::*;
     use crate::shim::u64x4;
     use core::cmp::Ordering;
     use core::mem::{size_of, size_of_val};
@@ -1343,10 +2187,14 @@ fn bitwords_gaps_53() {
 #[test]
 fn bitwords_handfuls_57() {
     use crate::proved::bitlanes::ops::*;
-    use crate::proved::bitlanes::{word, Block, Steps};
+    use crate::proved::bitlanes::{word, Block, IndexRange, Steps};
     use crate::proved::bitwalks::in_turn::*;
     use crate::proved::bitwords::cursors::*;
+    use crate::proved::bitranks;
+    use crate::proved::fixedbitset::{Bits, BitsMut, ExtendFault, FixedBitSet};
     use crate::proved::bitwords::*;
+    use crate::shim::alloc::Global;
+    use crate::shim::prelude::*;
     use crate::shim::u64x4;
     use core::cmp::Ordering;
     use core::mem::{size_of, size_of_val};
@@ -1359,10 +2207,14 @@ fn bitwords_handfuls_57() {
 #[test]
 fn bitwords_handfuls_74() {
     use crate::proved::bitlanes::ops::*;
-    use crate::proved::bitlanes::{word, Block, Steps};
+    use crate::proved::bitlanes::{word, Block, IndexRange, Steps};
     use crate::proved::bitwalks::in_turn::*;
     use crate::proved::bitwords::cursors::*;
+    use crate::proved::bitranks;
+    use crate::proved::fixedbitset::{Bits, BitsMut, ExtendFault, FixedBitSet};
     use crate::proved::bitwords::*;
+    use crate::shim::alloc::Global;
+    use crate::shim::prelude::*;
     use crate::shim::u64x4;
     use core::cmp::Ordering;
     use core::mem::{size_of, size_of_val};
@@ -1376,10 +2228,14 @@ fn bitwords_handfuls_74() {
 #[test]
 fn bitwords_handfuls_107() {
     use crate::proved::bitlanes::ops::*;
-    use crate::proved::bitlanes::{word, Block, Steps};
+    use crate::proved::bitlanes::{word, Block, IndexRange, Steps};
     use crate::proved::bitwalks::in_turn::*;
     use crate::proved::bitwords::cursors::*;
+    use crate::proved::bitranks;
+    use crate::proved::fixedbitset::{Bits, BitsMut, ExtendFault, FixedBitSet};
     use crate::proved::bitwords::*;
+    use crate::shim::alloc::Global;
+    use crate::shim::prelude::*;
     use crate::shim::u64x4;
     use core::cmp::Ordering;
     use core::mem::{size_of, size_of_val};
@@ -1395,10 +2251,14 @@ fn bitwords_handfuls_107() {
 #[test]
 fn bitwords_handfuls_141() {
     use crate::proved::bitlanes::ops::*;
-    use crate::proved::bitlanes::{word, Block, Steps};
+    use crate::proved::bitlanes::{word, Block, IndexRange, Steps};
     use crate::proved::bitwalks::in_turn::*;
     use crate::proved::bitwords::cursors::*;
+    use crate::proved::bitranks;
+    use crate::proved::fixedbitset::{Bits, BitsMut, ExtendFault, FixedBitSet};
     use crate::proved::bitwords::*;
+    use crate::shim::alloc::Global;
+    use crate::shim::prelude::*;
     use crate::shim::u64x4;
     use core::cmp::Ordering;
     use core::mem::{size_of, size_of_val};
@@ -1414,10 +2274,14 @@ fn bitwords_handfuls_141() {
 #[test]
 fn bitwords_joins_18() {
     use crate::proved::bitlanes::ops::*;
-    use crate::proved::bitlanes::{word, Block, Steps};
+    use crate::proved::bitlanes::{word, Block, IndexRange, Steps};
     use crate::proved::bitwalks::in_turn::*;
     use crate::proved::bitwords::cursors::*;
+    use crate::proved::bitranks;
+    use crate::proved::fixedbitset::{Bits, BitsMut, ExtendFault, FixedBitSet};
     use crate::proved::bitwords::*;
+    use crate::shim::alloc::Global;
+    use crate::shim::prelude::*;
     use crate::shim::u64x4;
     use core::cmp::Ordering;
     use core::mem::{size_of, size_of_val};
@@ -1430,10 +2294,14 @@ fn bitwords_joins_18() {
 #[test]
 fn bitwords_joins_37() {
     use crate::proved::bitlanes::ops::*;
-    use crate::proved::bitlanes::{word, Block, Steps};
+    use crate::proved::bitlanes::{word, Block, IndexRange, Steps};
     use crate::proved::bitwalks::in_turn::*;
     use crate::proved::bitwords::cursors::*;
+    use crate::proved::bitranks;
+    use crate::proved::fixedbitset::{Bits, BitsMut, ExtendFault, FixedBitSet};
     use crate::proved::bitwords::*;
+    use crate::shim::alloc::Global;
+    use crate::shim::prelude::*;
     use crate::shim::u64x4;
     use core::cmp::Ordering;
     use core::mem::{size_of, size_of_val};
@@ -1446,10 +2314,14 @@ fn bitwords_joins_37() {
 #[test]
 fn bitwords_joins_59() {
     use crate::proved::bitlanes::ops::*;
-    use crate::proved::bitlanes::{word, Block, Steps};
+    use crate::proved::bitlanes::{word, Block, IndexRange, Steps};
     use crate::proved::bitwalks::in_turn::*;
     use crate::proved::bitwords::cursors::*;
+    use crate::proved::bitranks;
+    use crate::proved::fixedbitset::{Bits, BitsMut, ExtendFault, FixedBitSet};
     use crate::proved::bitwords::*;
+    use crate::shim::alloc::Global;
+    use crate::shim::prelude::*;
     use crate::shim::u64x4;
     use core::cmp::Ordering;
     use core::mem::{size_of, size_of_val};
@@ -1462,10 +2334,14 @@ fn bitwords_joins_59() {
 #[test]
 fn bitwords_joins_83() {
     use crate::proved::bitlanes::ops::*;
-    use crate::proved::bitlanes::{word, Block, Steps};
+    use crate::proved::bitlanes::{word, Block, IndexRange, Steps};
     use crate::proved::bitwalks::in_turn::*;
     use crate::proved::bitwords::cursors::*;
+    use crate::proved::bitranks;
+    use crate::proved::fixedbitset::{Bits, BitsMut, ExtendFault, FixedBitSet};
     use crate::proved::bitwords::*;
+    use crate::shim::alloc::Global;
+    use crate::shim::prelude::*;
     use crate::shim::u64x4;
     use core::cmp::Ordering;
     use core::mem::{size_of, size_of_val};
@@ -1480,10 +2356,14 @@ fn bitwords_joins_83() {
 #[test]
 fn bitwords_joins_108() {
     use crate::proved::bitlanes::ops::*;
-    use crate::proved::bitlanes::{word, Block, Steps};
+    use crate::proved::bitlanes::{word, Block, IndexRange, Steps};
     use crate::proved::bitwalks::in_turn::*;
     use crate::proved::bitwords::cursors::*;
+    use crate::proved::bitranks;
+    use crate::proved::fixedbitset::{Bits, BitsMut, ExtendFault, FixedBitSet};
     use crate::proved::bitwords::*;
+    use crate::shim::alloc::Global;
+    use crate::shim::prelude::*;
     use crate::shim::u64x4;
     use core::cmp::Ordering;
     use core::mem::{size_of, size_of_val};
@@ -1495,10 +2375,14 @@ fn bitwords_joins_108() {
 #[test]
 fn bitwords_joins_123() {
     use crate::proved::bitlanes::ops::*;
-    use crate::proved::bitlanes::{word, Block, Steps};
+    use crate::proved::bitlanes::{word, Block, IndexRange, Steps};
     use crate::proved::bitwalks::in_turn::*;
     use crate::proved::bitwords::cursors::*;
+    use crate::proved::bitranks;
+    use crate::proved::fixedbitset::{Bits, BitsMut, ExtendFault, FixedBitSet};
     use crate::proved::bitwords::*;
+    use crate::shim::alloc::Global;
+    use crate::shim::prelude::*;
     use crate::shim::u64x4;
     use core::cmp::Ordering;
     use core::mem::{size_of, size_of_val};
@@ -1510,10 +2394,14 @@ fn bitwords_joins_123() {
 #[test]
 fn bitwords_joins_139() {
     use crate::proved::bitlanes::ops::*;
-    use crate::proved::bitlanes::{word, Block, Steps};
+    use crate::proved::bitlanes::{word, Block, IndexRange, Steps};
     use crate::proved::bitwalks::in_turn::*;
     use crate::proved::bitwords::cursors::*;
+    use crate::proved::bitranks;
+    use crate::proved::fixedbitset::{Bits, BitsMut, ExtendFault, FixedBitSet};
     use crate::proved::bitwords::*;
+    use crate::shim::alloc::Global;
+    use crate::shim::prelude::*;
     use crate::shim::u64x4;
     use core::cmp::Ordering;
     use core::mem::{size_of, size_of_val};
@@ -1526,10 +2414,14 @@ fn bitwords_joins_139() {
 #[test]
 fn bitwords_joins_157() {
     use crate::proved::bitlanes::ops::*;
-    use crate::proved::bitlanes::{word, Block, Steps};
+    use crate::proved::bitlanes::{word, Block, IndexRange, Steps};
     use crate::proved::bitwalks::in_turn::*;
     use crate::proved::bitwords::cursors::*;
+    use crate::proved::bitranks;
+    use crate::proved::fixedbitset::{Bits, BitsMut, ExtendFault, FixedBitSet};
     use crate::proved::bitwords::*;
+    use crate::shim::alloc::Global;
+    use crate::shim::prelude::*;
     use crate::shim::u64x4;
     use core::cmp::Ordering;
     use core::mem::{size_of, size_of_val};
@@ -1541,12 +2433,36 @@ fn bitwords_joins_157() {
 }
 
 #[test]
-fn bitwords_positions_12() {
+fn bitwords_new_rows_20() {
     use crate::proved::bitlanes::ops::*;
-    use crate::proved::bitlanes::{word, Block, Steps};
+    use crate::proved::bitlanes::{word, Block, IndexRange, Steps};
     use crate::proved::bitwalks::in_turn::*;
     use crate::proved::bitwords::cursors::*;
+    use crate::proved::bitranks;
+    use crate::proved::fixedbitset::{Bits, BitsMut, ExtendFault, FixedBitSet};
     use crate::proved::bitwords::*;
+    use crate::shim::alloc::Global;
+    use crate::shim::prelude::*;
+    use crate::shim::u64x4;
+    use core::cmp::Ordering;
+    use core::mem::{size_of, size_of_val};
+
+    let alloc = Global::Try;
+    let new = new_rows::joined::<And>(alloc, &[11, 3, 1], &[9, 6], &mut Steps::new()).unwrap();
+    assert_eq!(new.as_slice(), [9, 2, 0].as_slice());
+}
+
+#[test]
+fn bitwords_positions_12() {
+    use crate::proved::bitlanes::ops::*;
+    use crate::proved::bitlanes::{word, Block, IndexRange, Steps};
+    use crate::proved::bitwalks::in_turn::*;
+    use crate::proved::bitwords::cursors::*;
+    use crate::proved::bitranks;
+    use crate::proved::fixedbitset::{Bits, BitsMut, ExtendFault, FixedBitSet};
+    use crate::proved::bitwords::*;
+    use crate::shim::alloc::Global;
+    use crate::shim::prelude::*;
     use crate::shim::u64x4;
     use core::cmp::Ordering;
     use core::mem::{size_of, size_of_val};
@@ -1559,10 +2475,14 @@ fn bitwords_positions_12() {
 #[test]
 fn bitwords_positions_30() {
     use crate::proved::bitlanes::ops::*;
-    use crate::proved::bitlanes::{word, Block, Steps};
+    use crate::proved::bitlanes::{word, Block, IndexRange, Steps};
     use crate::proved::bitwalks::in_turn::*;
     use crate::proved::bitwords::cursors::*;
+    use crate::proved::bitranks;
+    use crate::proved::fixedbitset::{Bits, BitsMut, ExtendFault, FixedBitSet};
     use crate::proved::bitwords::*;
+    use crate::shim::alloc::Global;
+    use crate::shim::prelude::*;
     use crate::shim::u64x4;
     use core::cmp::Ordering;
     use core::mem::{size_of, size_of_val};
@@ -1575,10 +2495,14 @@ fn bitwords_positions_30() {
 #[test]
 fn bitwords_positions_46() {
     use crate::proved::bitlanes::ops::*;
-    use crate::proved::bitlanes::{word, Block, Steps};
+    use crate::proved::bitlanes::{word, Block, IndexRange, Steps};
     use crate::proved::bitwalks::in_turn::*;
     use crate::proved::bitwords::cursors::*;
+    use crate::proved::bitranks;
+    use crate::proved::fixedbitset::{Bits, BitsMut, ExtendFault, FixedBitSet};
     use crate::proved::bitwords::*;
+    use crate::shim::alloc::Global;
+    use crate::shim::prelude::*;
     use crate::shim::u64x4;
     use core::cmp::Ordering;
     use core::mem::{size_of, size_of_val};
@@ -1591,10 +2515,14 @@ fn bitwords_positions_46() {
 #[test]
 fn bitwords_positions_66() {
     use crate::proved::bitlanes::ops::*;
-    use crate::proved::bitlanes::{word, Block, Steps};
+    use crate::proved::bitlanes::{word, Block, IndexRange, Steps};
     use crate::proved::bitwalks::in_turn::*;
     use crate::proved::bitwords::cursors::*;
+    use crate::proved::bitranks;
+    use crate::proved::fixedbitset::{Bits, BitsMut, ExtendFault, FixedBitSet};
     use crate::proved::bitwords::*;
+    use crate::shim::alloc::Global;
+    use crate::shim::prelude::*;
     use crate::shim::u64x4;
     use core::cmp::Ordering;
     use core::mem::{size_of, size_of_val};
@@ -1609,10 +2537,14 @@ fn bitwords_positions_66() {
 #[test]
 fn bitwords_positions_90() {
     use crate::proved::bitlanes::ops::*;
-    use crate::proved::bitlanes::{word, Block, Steps};
+    use crate::proved::bitlanes::{word, Block, IndexRange, Steps};
     use crate::proved::bitwalks::in_turn::*;
     use crate::proved::bitwords::cursors::*;
+    use crate::proved::bitranks;
+    use crate::proved::fixedbitset::{Bits, BitsMut, ExtendFault, FixedBitSet};
     use crate::proved::bitwords::*;
+    use crate::shim::alloc::Global;
+    use crate::shim::prelude::*;
     use crate::shim::u64x4;
     use core::cmp::Ordering;
     use core::mem::{size_of, size_of_val};
@@ -1627,10 +2559,14 @@ fn bitwords_positions_90() {
 #[test]
 fn bitwords_positions_118() {
     use crate::proved::bitlanes::ops::*;
-    use crate::proved::bitlanes::{word, Block, Steps};
+    use crate::proved::bitlanes::{word, Block, IndexRange, Steps};
     use crate::proved::bitwalks::in_turn::*;
     use crate::proved::bitwords::cursors::*;
+    use crate::proved::bitranks;
+    use crate::proved::fixedbitset::{Bits, BitsMut, ExtendFault, FixedBitSet};
     use crate::proved::bitwords::*;
+    use crate::shim::alloc::Global;
+    use crate::shim::prelude::*;
     use crate::shim::u64x4;
     use core::cmp::Ordering;
     use core::mem::{size_of, size_of_val};
@@ -1643,10 +2579,14 @@ fn bitwords_positions_118() {
 #[test]
 fn bitwords_positions_148() {
     use crate::proved::bitlanes::ops::*;
-    use crate::proved::bitlanes::{word, Block, Steps};
+    use crate::proved::bitlanes::{word, Block, IndexRange, Steps};
     use crate::proved::bitwalks::in_turn::*;
     use crate::proved::bitwords::cursors::*;
+    use crate::proved::bitranks;
+    use crate::proved::fixedbitset::{Bits, BitsMut, ExtendFault, FixedBitSet};
     use crate::proved::bitwords::*;
+    use crate::shim::alloc::Global;
+    use crate::shim::prelude::*;
     use crate::shim::u64x4;
     use core::cmp::Ordering;
     use core::mem::{size_of, size_of_val};
@@ -1659,10 +2599,14 @@ fn bitwords_positions_148() {
 #[test]
 fn bitwords_positions_161() {
     use crate::proved::bitlanes::ops::*;
-    use crate::proved::bitlanes::{word, Block, Steps};
+    use crate::proved::bitlanes::{word, Block, IndexRange, Steps};
     use crate::proved::bitwalks::in_turn::*;
     use crate::proved::bitwords::cursors::*;
+    use crate::proved::bitranks;
+    use crate::proved::fixedbitset::{Bits, BitsMut, ExtendFault, FixedBitSet};
     use crate::proved::bitwords::*;
+    use crate::shim::alloc::Global;
+    use crate::shim::prelude::*;
     use crate::shim::u64x4;
     use core::cmp::Ordering;
     use core::mem::{size_of, size_of_val};
@@ -1675,10 +2619,14 @@ fn bitwords_positions_161() {
 #[test]
 fn bitwords_ranges_19() {
     use crate::proved::bitlanes::ops::*;
-    use crate::proved::bitlanes::{word, Block, Steps};
+    use crate::proved::bitlanes::{word, Block, IndexRange, Steps};
     use crate::proved::bitwalks::in_turn::*;
     use crate::proved::bitwords::cursors::*;
+    use crate::proved::bitranks;
+    use crate::proved::fixedbitset::{Bits, BitsMut, ExtendFault, FixedBitSet};
     use crate::proved::bitwords::*;
+    use crate::shim::alloc::Global;
+    use crate::shim::prelude::*;
     use crate::shim::u64x4;
     use core::cmp::Ordering;
     use core::mem::{size_of, size_of_val};
@@ -1691,10 +2639,14 @@ fn bitwords_ranges_19() {
 #[test]
 fn bitwords_ranges_38() {
     use crate::proved::bitlanes::ops::*;
-    use crate::proved::bitlanes::{word, Block, Steps};
+    use crate::proved::bitlanes::{word, Block, IndexRange, Steps};
     use crate::proved::bitwalks::in_turn::*;
     use crate::proved::bitwords::cursors::*;
+    use crate::proved::bitranks;
+    use crate::proved::fixedbitset::{Bits, BitsMut, ExtendFault, FixedBitSet};
     use crate::proved::bitwords::*;
+    use crate::shim::alloc::Global;
+    use crate::shim::prelude::*;
     use crate::shim::u64x4;
     use core::cmp::Ordering;
     use core::mem::{size_of, size_of_val};
@@ -1706,10 +2658,14 @@ fn bitwords_ranges_38() {
 #[test]
 fn bitwords_ranges_58() {
     use crate::proved::bitlanes::ops::*;
-    use crate::proved::bitlanes::{word, Block, Steps};
+    use crate::proved::bitlanes::{word, Block, IndexRange, Steps};
     use crate::proved::bitwalks::in_turn::*;
     use crate::proved::bitwords::cursors::*;
+    use crate::proved::bitranks;
+    use crate::proved::fixedbitset::{Bits, BitsMut, ExtendFault, FixedBitSet};
     use crate::proved::bitwords::*;
+    use crate::shim::alloc::Global;
+    use crate::shim::prelude::*;
     use crate::shim::u64x4;
     use core::cmp::Ordering;
     use core::mem::{size_of, size_of_val};
@@ -1721,10 +2677,14 @@ fn bitwords_ranges_58() {
 #[test]
 fn bitwords_ranges_76() {
     use crate::proved::bitlanes::ops::*;
-    use crate::proved::bitlanes::{word, Block, Steps};
+    use crate::proved::bitlanes::{word, Block, IndexRange, Steps};
     use crate::proved::bitwalks::in_turn::*;
     use crate::proved::bitwords::cursors::*;
+    use crate::proved::bitranks;
+    use crate::proved::fixedbitset::{Bits, BitsMut, ExtendFault, FixedBitSet};
     use crate::proved::bitwords::*;
+    use crate::shim::alloc::Global;
+    use crate::shim::prelude::*;
     use crate::shim::u64x4;
     use core::cmp::Ordering;
     use core::mem::{size_of, size_of_val};
@@ -1737,10 +2697,14 @@ fn bitwords_ranges_76() {
 #[test]
 fn bitwords_ranges_108() {
     use crate::proved::bitlanes::ops::*;
-    use crate::proved::bitlanes::{word, Block, Steps};
+    use crate::proved::bitlanes::{word, Block, IndexRange, Steps};
     use crate::proved::bitwalks::in_turn::*;
     use crate::proved::bitwords::cursors::*;
+    use crate::proved::bitranks;
+    use crate::proved::fixedbitset::{Bits, BitsMut, ExtendFault, FixedBitSet};
     use crate::proved::bitwords::*;
+    use crate::shim::alloc::Global;
+    use crate::shim::prelude::*;
     use crate::shim::u64x4;
     use core::cmp::Ordering;
     use core::mem::{size_of, size_of_val};
@@ -1753,10 +2717,14 @@ fn bitwords_ranges_108() {
 #[test]
 fn bitwords_ranges_123() {
     use crate::proved::bitlanes::ops::*;
-    use crate::proved::bitlanes::{word, Block, Steps};
+    use crate::proved::bitlanes::{word, Block, IndexRange, Steps};
     use crate::proved::bitwalks::in_turn::*;
     use crate::proved::bitwords::cursors::*;
+    use crate::proved::bitranks;
+    use crate::proved::fixedbitset::{Bits, BitsMut, ExtendFault, FixedBitSet};
     use crate::proved::bitwords::*;
+    use crate::shim::alloc::Global;
+    use crate::shim::prelude::*;
     use crate::shim::u64x4;
     use core::cmp::Ordering;
     use core::mem::{size_of, size_of_val};
@@ -1769,10 +2737,14 @@ fn bitwords_ranges_123() {
 #[test]
 fn bitwords_shifts_16() {
     use crate::proved::bitlanes::ops::*;
-    use crate::proved::bitlanes::{word, Block, Steps};
+    use crate::proved::bitlanes::{word, Block, IndexRange, Steps};
     use crate::proved::bitwalks::in_turn::*;
     use crate::proved::bitwords::cursors::*;
+    use crate::proved::bitranks;
+    use crate::proved::fixedbitset::{Bits, BitsMut, ExtendFault, FixedBitSet};
     use crate::proved::bitwords::*;
+    use crate::shim::alloc::Global;
+    use crate::shim::prelude::*;
     use crate::shim::u64x4;
     use core::cmp::Ordering;
     use core::mem::{size_of, size_of_val};
@@ -1785,10 +2757,14 @@ fn bitwords_shifts_16() {
 #[test]
 fn bitwords_shifts_36() {
     use crate::proved::bitlanes::ops::*;
-    use crate::proved::bitlanes::{word, Block, Steps};
+    use crate::proved::bitlanes::{word, Block, IndexRange, Steps};
     use crate::proved::bitwalks::in_turn::*;
     use crate::proved::bitwords::cursors::*;
+    use crate::proved::bitranks;
+    use crate::proved::fixedbitset::{Bits, BitsMut, ExtendFault, FixedBitSet};
     use crate::proved::bitwords::*;
+    use crate::shim::alloc::Global;
+    use crate::shim::prelude::*;
     use crate::shim::u64x4;
     use core::cmp::Ordering;
     use core::mem::{size_of, size_of_val};
@@ -1801,10 +2777,14 @@ fn bitwords_shifts_36() {
 #[test]
 fn bitwords_shifts_62() {
     use crate::proved::bitlanes::ops::*;
-    use crate::proved::bitlanes::{word, Block, Steps};
+    use crate::proved::bitlanes::{word, Block, IndexRange, Steps};
     use crate::proved::bitwalks::in_turn::*;
     use crate::proved::bitwords::cursors::*;
+    use crate::proved::bitranks;
+    use crate::proved::fixedbitset::{Bits, BitsMut, ExtendFault, FixedBitSet};
     use crate::proved::bitwords::*;
+    use crate::shim::alloc::Global;
+    use crate::shim::prelude::*;
     use crate::shim::u64x4;
     use core::cmp::Ordering;
     use core::mem::{size_of, size_of_val};
@@ -1817,10 +2797,14 @@ fn bitwords_shifts_62() {
 #[test]
 fn bitwords_shifts_81() {
     use crate::proved::bitlanes::ops::*;
-    use crate::proved::bitlanes::{word, Block, Steps};
+    use crate::proved::bitlanes::{word, Block, IndexRange, Steps};
     use crate::proved::bitwalks::in_turn::*;
     use crate::proved::bitwords::cursors::*;
+    use crate::proved::bitranks;
+    use crate::proved::fixedbitset::{Bits, BitsMut, ExtendFault, FixedBitSet};
     use crate::proved::bitwords::*;
+    use crate::shim::alloc::Global;
+    use crate::shim::prelude::*;
     use crate::shim::u64x4;
     use core::cmp::Ordering;
     use core::mem::{size_of, size_of_val};
@@ -1831,12 +2815,2445 @@ fn bitwords_shifts_81() {
 }
 
 #[test]
-fn fixedbitset_views_bytes_14() {
+fn fixedbitset_bits_15() {
     use crate::proved::bitlanes::ops::*;
-    use crate::proved::bitlanes::{word, Block, Steps};
+    use crate::proved::bitlanes::{word, Block, IndexRange, Steps};
     use crate::proved::bitwalks::in_turn::*;
     use crate::proved::bitwords::cursors::*;
+    use crate::proved::bitranks;
+    use crate::proved::fixedbitset::{Bits, BitsMut, ExtendFault, FixedBitSet};
     use crate::proved::fixedbitset::*;
+    use crate::shim::alloc::Global;
+    use crate::shim::prelude::*;
+    use crate::shim::u64x4;
+    use core::cmp::Ordering;
+    use core::mem::{size_of, size_of_val};
+
+    let alloc = Global::Try;
+    let set = FixedBitSet::from_iter(alloc, [3, 64]).unwrap();
+    assert!(set.contains(64));
+    assert!(!set.contains(63));
+    assert!(!set.contains(usize::MAX));
+}
+
+#[test]
+fn fixedbitset_bits_32() {
+    use crate::proved::bitlanes::ops::*;
+    use crate::proved::bitlanes::{word, Block, IndexRange, Steps};
+    use crate::proved::bitwalks::in_turn::*;
+    use crate::proved::bitwords::cursors::*;
+    use crate::proved::bitranks;
+    use crate::proved::fixedbitset::{Bits, BitsMut, ExtendFault, FixedBitSet};
+    use crate::proved::fixedbitset::*;
+    use crate::shim::alloc::Global;
+    use crate::shim::prelude::*;
+    use crate::shim::u64x4;
+    use core::cmp::Ordering;
+    use core::mem::{size_of, size_of_val};
+
+    let alloc = Global::Try;
+    let mut set = FixedBitSet::with_capacity(alloc, 70).unwrap();
+    set.insert(69);
+    assert!(set.contains_unchecked(69));
+    assert!(!set.contains_unchecked(68));
+}
+
+#[test]
+fn fixedbitset_bits_48() {
+    use crate::proved::bitlanes::ops::*;
+    use crate::proved::bitlanes::{word, Block, IndexRange, Steps};
+    use crate::proved::bitwalks::in_turn::*;
+    use crate::proved::bitwords::cursors::*;
+    use crate::proved::bitranks;
+    use crate::proved::fixedbitset::{Bits, BitsMut, ExtendFault, FixedBitSet};
+    use crate::proved::fixedbitset::*;
+    use crate::shim::alloc::Global;
+    use crate::shim::prelude::*;
+    use crate::shim::u64x4;
+    use core::cmp::Ordering;
+    use core::mem::{size_of, size_of_val};
+
+    let alloc = Global::Try;
+    let set = FixedBitSet::from_iter(alloc, [3, 64]).unwrap();
+    let mut answers = [false; 3];
+    set.contains_each(&[64, 63, 500], &mut answers);
+    assert_eq!(answers, [true, false, false]);
+}
+
+#[test]
+fn fixedbitset_bits_61() {
+    use crate::proved::bitlanes::ops::*;
+    use crate::proved::bitlanes::{word, Block, IndexRange, Steps};
+    use crate::proved::bitwalks::in_turn::*;
+    use crate::proved::bitwords::cursors::*;
+    use crate::proved::bitranks;
+    use crate::proved::fixedbitset::{Bits, BitsMut, ExtendFault, FixedBitSet};
+    use crate::proved::fixedbitset::*;
+    use crate::shim::alloc::Global;
+    use crate::shim::prelude::*;
+    use crate::shim::u64x4;
+    use core::cmp::Ordering;
+    use core::mem::{size_of, size_of_val};
+
+    let alloc = Global::Try;
+    let mut set = FixedBitSet::with_capacity(alloc, 70).unwrap();
+    set.insert(64);
+    assert!(set.contains(64));
+    assert_eq!(set.as_slice(), [0, 1].as_slice());
+}
+
+#[test]
+fn fixedbitset_bits_74() {
+    use crate::proved::bitlanes::ops::*;
+    use crate::proved::bitlanes::{word, Block, IndexRange, Steps};
+    use crate::proved::bitwalks::in_turn::*;
+    use crate::proved::bitwords::cursors::*;
+    use crate::proved::bitranks;
+    use crate::proved::fixedbitset::{Bits, BitsMut, ExtendFault, FixedBitSet};
+    use crate::proved::fixedbitset::*;
+    use crate::shim::alloc::Global;
+    use crate::shim::prelude::*;
+    use crate::shim::u64x4;
+    use core::cmp::Ordering;
+    use core::mem::{size_of, size_of_val};
+
+    let alloc = Global::Try;
+    let mut set = FixedBitSet::with_capacity(alloc, 70).unwrap();
+    set.insert_unchecked(69);
+    assert_eq!(set.maximum(), Some(69));
+}
+
+#[test]
+fn fixedbitset_bits_87() {
+    use crate::proved::bitlanes::ops::*;
+    use crate::proved::bitlanes::{word, Block, IndexRange, Steps};
+    use crate::proved::bitwalks::in_turn::*;
+    use crate::proved::bitwords::cursors::*;
+    use crate::proved::bitranks;
+    use crate::proved::fixedbitset::{Bits, BitsMut, ExtendFault, FixedBitSet};
+    use crate::proved::fixedbitset::*;
+    use crate::shim::alloc::Global;
+    use crate::shim::prelude::*;
+    use crate::shim::u64x4;
+    use core::cmp::Ordering;
+    use core::mem::{size_of, size_of_val};
+
+    let alloc = Global::Try;
+    let mut set = FixedBitSet::with_capacity(alloc, 70).unwrap();
+    set.insert_range(..);
+    set.remove(64);
+    assert!(!set.contains(64));
+    assert_eq!(set.count_ones(..), 69);
+}
+
+#[test]
+fn fixedbitset_bits_101() {
+    use crate::proved::bitlanes::ops::*;
+    use crate::proved::bitlanes::{word, Block, IndexRange, Steps};
+    use crate::proved::bitwalks::in_turn::*;
+    use crate::proved::bitwords::cursors::*;
+    use crate::proved::bitranks;
+    use crate::proved::fixedbitset::{Bits, BitsMut, ExtendFault, FixedBitSet};
+    use crate::proved::fixedbitset::*;
+    use crate::shim::alloc::Global;
+    use crate::shim::prelude::*;
+    use crate::shim::u64x4;
+    use core::cmp::Ordering;
+    use core::mem::{size_of, size_of_val};
+
+    let alloc = Global::Try;
+    let mut set = FixedBitSet::with_capacity(alloc, 3).unwrap();
+    set.insert_range(..);
+    set.remove_unchecked(1);
+    assert_eq!(set.as_slice(), [5].as_slice());
+}
+
+#[test]
+fn fixedbitset_bits_115() {
+    use crate::proved::bitlanes::ops::*;
+    use crate::proved::bitlanes::{word, Block, IndexRange, Steps};
+    use crate::proved::bitwalks::in_turn::*;
+    use crate::proved::bitwords::cursors::*;
+    use crate::proved::bitranks;
+    use crate::proved::fixedbitset::{Bits, BitsMut, ExtendFault, FixedBitSet};
+    use crate::proved::fixedbitset::*;
+    use crate::shim::alloc::Global;
+    use crate::shim::prelude::*;
+    use crate::shim::u64x4;
+    use core::cmp::Ordering;
+    use core::mem::{size_of, size_of_val};
+
+    let alloc = Global::Try;
+    let mut set = FixedBitSet::with_capacity(alloc, 70).unwrap();
+    assert!(!set.put(64));
+    assert!(set.put(64));
+    assert_eq!(set.count_ones(..), 1);
+}
+
+#[test]
+fn fixedbitset_bits_128() {
+    use crate::proved::bitlanes::ops::*;
+    use crate::proved::bitlanes::{word, Block, IndexRange, Steps};
+    use crate::proved::bitwalks::in_turn::*;
+    use crate::proved::bitwords::cursors::*;
+    use crate::proved::bitranks;
+    use crate::proved::fixedbitset::{Bits, BitsMut, ExtendFault, FixedBitSet};
+    use crate::proved::fixedbitset::*;
+    use crate::shim::alloc::Global;
+    use crate::shim::prelude::*;
+    use crate::shim::u64x4;
+    use core::cmp::Ordering;
+    use core::mem::{size_of, size_of_val};
+
+    let alloc = Global::Try;
+    let mut set = FixedBitSet::with_capacity(alloc, 70).unwrap();
+    set.insert(3);
+    assert!(set.put_unchecked(3));
+    assert!(!set.put_unchecked(69));
+    assert_eq!(set.count_ones(..), 2);
+}
+
+#[test]
+fn fixedbitset_bits_146() {
+    use crate::proved::bitlanes::ops::*;
+    use crate::proved::bitlanes::{word, Block, IndexRange, Steps};
+    use crate::proved::bitwalks::in_turn::*;
+    use crate::proved::bitwords::cursors::*;
+    use crate::proved::bitranks;
+    use crate::proved::fixedbitset::{Bits, BitsMut, ExtendFault, FixedBitSet};
+    use crate::proved::fixedbitset::*;
+    use crate::shim::alloc::Global;
+    use crate::shim::prelude::*;
+    use crate::shim::u64x4;
+    use core::cmp::Ordering;
+    use core::mem::{size_of, size_of_val};
+
+    let alloc = Global::Try;
+    let mut set = FixedBitSet::from_iter(alloc, [3, 64]).unwrap();
+    assert_eq!(set.len(), 65);
+    assert!(set.take(64) && set.count_ones(..) == 1);
+    assert!(!set.take(64));
+}
+
+#[test]
+fn fixedbitset_bits_163() {
+    use crate::proved::bitlanes::ops::*;
+    use crate::proved::bitlanes::{word, Block, IndexRange, Steps};
+    use crate::proved::bitwalks::in_turn::*;
+    use crate::proved::bitwords::cursors::*;
+    use crate::proved::bitranks;
+    use crate::proved::fixedbitset::{Bits, BitsMut, ExtendFault, FixedBitSet};
+    use crate::proved::fixedbitset::*;
+    use crate::shim::alloc::Global;
+    use crate::shim::prelude::*;
+    use crate::shim::u64x4;
+    use core::cmp::Ordering;
+    use core::mem::{size_of, size_of_val};
+
+    let alloc = Global::Try;
+    let mut set = FixedBitSet::with_capacity(alloc, 70).unwrap();
+    set.insert_all(&[64, 3, 64]);
+    assert_eq!(set.as_slice(), [8, 1].as_slice());
+}
+
+#[test]
+fn fixedbitset_bits_178() {
+    use crate::proved::bitlanes::ops::*;
+    use crate::proved::bitlanes::{word, Block, IndexRange, Steps};
+    use crate::proved::bitwalks::in_turn::*;
+    use crate::proved::bitwords::cursors::*;
+    use crate::proved::bitranks;
+    use crate::proved::fixedbitset::{Bits, BitsMut, ExtendFault, FixedBitSet};
+    use crate::proved::fixedbitset::*;
+    use crate::shim::alloc::Global;
+    use crate::shim::prelude::*;
+    use crate::shim::u64x4;
+    use core::cmp::Ordering;
+    use core::mem::{size_of, size_of_val};
+
+    let alloc = Global::Try;
+    let mut set = FixedBitSet::from_iter(alloc, [3, 64, 69]).unwrap();
+    assert_eq!(set.len(), 70);
+    set.remove_all(&[69, 3, 69]);
+    assert_eq!(set.as_slice(), [0, 1].as_slice());
+}
+
+#[test]
+fn fixedbitset_bits_191() {
+    use crate::proved::bitlanes::ops::*;
+    use crate::proved::bitlanes::{word, Block, IndexRange, Steps};
+    use crate::proved::bitwalks::in_turn::*;
+    use crate::proved::bitwords::cursors::*;
+    use crate::proved::bitranks;
+    use crate::proved::fixedbitset::{Bits, BitsMut, ExtendFault, FixedBitSet};
+    use crate::proved::fixedbitset::*;
+    use crate::shim::alloc::Global;
+    use crate::shim::prelude::*;
+    use crate::shim::u64x4;
+    use core::cmp::Ordering;
+    use core::mem::{size_of, size_of_val};
+
+    let alloc = Global::Try;
+    let mut set = FixedBitSet::with_capacity(alloc, 70).unwrap();
+    set.insert(1);
+    set.toggle(1);
+    set.toggle(64);
+    assert_eq!(set.as_slice(), [0, 1].as_slice());
+}
+
+#[test]
+fn fixedbitset_bits_205() {
+    use crate::proved::bitlanes::ops::*;
+    use crate::proved::bitlanes::{word, Block, IndexRange, Steps};
+    use crate::proved::bitwalks::in_turn::*;
+    use crate::proved::bitwords::cursors::*;
+    use crate::proved::bitranks;
+    use crate::proved::fixedbitset::{Bits, BitsMut, ExtendFault, FixedBitSet};
+    use crate::proved::fixedbitset::*;
+    use crate::shim::alloc::Global;
+    use crate::shim::prelude::*;
+    use crate::shim::u64x4;
+    use core::cmp::Ordering;
+    use core::mem::{size_of, size_of_val};
+
+    let alloc = Global::Try;
+    let mut set = FixedBitSet::with_capacity(alloc, 70).unwrap();
+    set.toggle_unchecked(69);
+    assert!(set.contains(69));
+    set.toggle_unchecked(69);
+    assert!(set.is_clear());
+}
+
+#[test]
+fn fixedbitset_bits_220() {
+    use crate::proved::bitlanes::ops::*;
+    use crate::proved::bitlanes::{word, Block, IndexRange, Steps};
+    use crate::proved::bitwalks::in_turn::*;
+    use crate::proved::bitwords::cursors::*;
+    use crate::proved::bitranks;
+    use crate::proved::fixedbitset::{Bits, BitsMut, ExtendFault, FixedBitSet};
+    use crate::proved::fixedbitset::*;
+    use crate::shim::alloc::Global;
+    use crate::shim::prelude::*;
+    use crate::shim::u64x4;
+    use core::cmp::Ordering;
+    use core::mem::{size_of, size_of_val};
+
+    let alloc = Global::Try;
+    let mut set = FixedBitSet::with_capacity(alloc, 70).unwrap();
+    set.set(63, true);
+    set.set(64, true);
+    set.set(63, false);
+    assert_eq!(set.as_slice(), [0, 1].as_slice());
+}
+
+#[test]
+fn fixedbitset_bits_234() {
+    use crate::proved::bitlanes::ops::*;
+    use crate::proved::bitlanes::{word, Block, IndexRange, Steps};
+    use crate::proved::bitwalks::in_turn::*;
+    use crate::proved::bitwords::cursors::*;
+    use crate::proved::bitranks;
+    use crate::proved::fixedbitset::{Bits, BitsMut, ExtendFault, FixedBitSet};
+    use crate::proved::fixedbitset::*;
+    use crate::shim::alloc::Global;
+    use crate::shim::prelude::*;
+    use crate::shim::u64x4;
+    use core::cmp::Ordering;
+    use core::mem::{size_of, size_of_val};
+
+    let alloc = Global::Try;
+    let mut set = FixedBitSet::with_capacity(alloc, 70).unwrap();
+    set.insert_range(..);
+    set.set_unchecked(69, false);
+    assert_eq!(set.maximum(), Some(68));
+}
+
+#[test]
+fn fixedbitset_bits_252() {
+    use crate::proved::bitlanes::ops::*;
+    use crate::proved::bitlanes::{word, Block, IndexRange, Steps};
+    use crate::proved::bitwalks::in_turn::*;
+    use crate::proved::bitwords::cursors::*;
+    use crate::proved::bitranks;
+    use crate::proved::fixedbitset::{Bits, BitsMut, ExtendFault, FixedBitSet};
+    use crate::proved::fixedbitset::*;
+    use crate::shim::alloc::Global;
+    use crate::shim::prelude::*;
+    use crate::shim::u64x4;
+    use core::cmp::Ordering;
+    use core::mem::{size_of, size_of_val};
+
+    let alloc = Global::Try;
+    let mut set = FixedBitSet::with_capacity(alloc, 70).unwrap();
+    set.insert(1);
+    set.copy_bit(1, 64);
+    set.copy_bit(usize::MAX, 1);
+    assert_eq!(set.as_slice(), [0, 1].as_slice());
+}
+
+#[test]
+fn fixedbitset_bits_266() {
+    use crate::proved::bitlanes::ops::*;
+    use crate::proved::bitlanes::{word, Block, IndexRange, Steps};
+    use crate::proved::bitwalks::in_turn::*;
+    use crate::proved::bitwords::cursors::*;
+    use crate::proved::bitranks;
+    use crate::proved::fixedbitset::{Bits, BitsMut, ExtendFault, FixedBitSet};
+    use crate::proved::fixedbitset::*;
+    use crate::shim::alloc::Global;
+    use crate::shim::prelude::*;
+    use crate::shim::u64x4;
+    use core::cmp::Ordering;
+    use core::mem::{size_of, size_of_val};
+
+    let alloc = Global::Try;
+    let mut set = FixedBitSet::with_capacity(alloc, 70).unwrap();
+    set.insert(1);
+    set.copy_bit_unchecked(1, 69);
+    assert_eq!(set.as_slice(), [2, 32].as_slice());
+}
+
+#[test]
+fn fixedbitset_counted_changes_15() {
+    use crate::proved::bitlanes::ops::*;
+    use crate::proved::bitlanes::{word, Block, IndexRange, Steps};
+    use crate::proved::bitwalks::in_turn::*;
+    use crate::proved::bitwords::cursors::*;
+    use crate::proved::bitranks;
+    use crate::proved::fixedbitset::{Bits, BitsMut, ExtendFault, FixedBitSet};
+    use crate::proved::fixedbitset::*;
+    use crate::shim::alloc::Global;
+    use crate::shim::prelude::*;
+    use crate::shim::u64x4;
+    use core::cmp::Ordering;
+    use core::mem::{size_of, size_of_val};
+
+    let alloc = Global::Try;
+    let mut set = FixedBitSet::from_iter(alloc, [1, 3]).unwrap();
+    let other = FixedBitSet::from_iter(alloc, [3, 64]).unwrap();
+    assert!(counted::union_with_change(&mut set, &other, &mut Steps::new()).unwrap());
+    assert_eq!(set.as_slice(), [10, 1].as_slice());
+}
+
+#[test]
+fn fixedbitset_counted_changes_36() {
+    use crate::proved::bitlanes::ops::*;
+    use crate::proved::bitlanes::{word, Block, IndexRange, Steps};
+    use crate::proved::bitwalks::in_turn::*;
+    use crate::proved::bitwords::cursors::*;
+    use crate::proved::bitranks;
+    use crate::proved::fixedbitset::{Bits, BitsMut, ExtendFault, FixedBitSet};
+    use crate::proved::fixedbitset::*;
+    use crate::shim::alloc::Global;
+    use crate::shim::prelude::*;
+    use crate::shim::u64x4;
+    use core::cmp::Ordering;
+    use core::mem::{size_of, size_of_val};
+
+    let alloc = Global::Try;
+    let mut set = FixedBitSet::from_iter(alloc, [1, 3, 64]).unwrap();
+    let other = FixedBitSet::from_iter(alloc, [3, 5]).unwrap();
+    assert!(counted::intersect_with_change(&mut set, &other, &mut Steps::new()));
+    assert_eq!(set.as_slice(), [8, 0].as_slice());
+}
+
+#[test]
+fn fixedbitset_counted_changes_50() {
+    use crate::proved::bitlanes::ops::*;
+    use crate::proved::bitlanes::{word, Block, IndexRange, Steps};
+    use crate::proved::bitwalks::in_turn::*;
+    use crate::proved::bitwords::cursors::*;
+    use crate::proved::bitranks;
+    use crate::proved::fixedbitset::{Bits, BitsMut, ExtendFault, FixedBitSet};
+    use crate::proved::fixedbitset::*;
+    use crate::shim::alloc::Global;
+    use crate::shim::prelude::*;
+    use crate::shim::u64x4;
+    use core::cmp::Ordering;
+    use core::mem::{size_of, size_of_val};
+
+    let alloc = Global::Try;
+    let mut set = FixedBitSet::from_iter(alloc, [1, 3, 64]).unwrap();
+    let other = FixedBitSet::from_iter(alloc, [3, 5]).unwrap();
+    assert!(counted::difference_with_change(&mut set, &other, &mut Steps::new()));
+    assert_eq!(set.as_slice(), [2, 1].as_slice());
+}
+
+#[test]
+fn fixedbitset_counted_changes_66() {
+    use crate::proved::bitlanes::ops::*;
+    use crate::proved::bitlanes::{word, Block, IndexRange, Steps};
+    use crate::proved::bitwalks::in_turn::*;
+    use crate::proved::bitwords::cursors::*;
+    use crate::proved::bitranks;
+    use crate::proved::fixedbitset::{Bits, BitsMut, ExtendFault, FixedBitSet};
+    use crate::proved::fixedbitset::*;
+    use crate::shim::alloc::Global;
+    use crate::shim::prelude::*;
+    use crate::shim::u64x4;
+    use core::cmp::Ordering;
+    use core::mem::{size_of, size_of_val};
+
+    let alloc = Global::Try;
+    let mut set = FixedBitSet::from_iter(alloc, [1, 3]).unwrap();
+    let gens = FixedBitSet::from_iter(alloc, [4, 64]).unwrap();
+    let kills = FixedBitSet::from_iter(alloc, [4]).unwrap();
+    assert!(counted::union_with_difference(&mut set, &gens, &kills, &mut Steps::new()).unwrap());
+    assert_eq!(set.as_slice(), [10, 1].as_slice());
+}
+
+#[test]
+fn fixedbitset_counted_copies_18() {
+    use crate::proved::bitlanes::ops::*;
+    use crate::proved::bitlanes::{word, Block, IndexRange, Steps};
+    use crate::proved::bitwalks::in_turn::*;
+    use crate::proved::bitwords::cursors::*;
+    use crate::proved::bitranks;
+    use crate::proved::fixedbitset::{Bits, BitsMut, ExtendFault, FixedBitSet};
+    use crate::proved::fixedbitset::*;
+    use crate::shim::alloc::Global;
+    use crate::shim::prelude::*;
+    use crate::shim::u64x4;
+    use core::cmp::Ordering;
+    use core::mem::{size_of, size_of_val};
+
+    let alloc = Global::Try;
+    let source = FixedBitSet::from_iter(alloc, [3, 64]).unwrap();
+    let mut set = FixedBitSet::with_capacity(alloc, 200).unwrap();
+    counted::clone_from(&mut set, &source, &mut Steps::new()).unwrap();
+    assert_eq!(set.as_slice(), [8, 1].as_slice());
+}
+
+#[test]
+fn fixedbitset_counted_copies_35() {
+    use crate::proved::bitlanes::ops::*;
+    use crate::proved::bitlanes::{word, Block, IndexRange, Steps};
+    use crate::proved::bitwalks::in_turn::*;
+    use crate::proved::bitwords::cursors::*;
+    use crate::proved::bitranks;
+    use crate::proved::fixedbitset::{Bits, BitsMut, ExtendFault, FixedBitSet};
+    use crate::proved::fixedbitset::*;
+    use crate::shim::alloc::Global;
+    use crate::shim::prelude::*;
+    use crate::shim::u64x4;
+    use core::cmp::Ordering;
+    use core::mem::{size_of, size_of_val};
+
+    let alloc = Global::Try;
+    let set = FixedBitSet::from_iter(alloc, [1, 3, 64]).unwrap();
+    let other = FixedBitSet::from_iter(alloc, [3, 5]).unwrap();
+    let both = counted::bitand(&set, &other, &mut Steps::new()).unwrap();
+    assert_eq!(both.as_slice(), [8].as_slice());
+}
+
+#[test]
+fn fixedbitset_counted_copies_56() {
+    use crate::proved::bitlanes::ops::*;
+    use crate::proved::bitlanes::{word, Block, IndexRange, Steps};
+    use crate::proved::bitwalks::in_turn::*;
+    use crate::proved::bitwords::cursors::*;
+    use crate::proved::bitranks;
+    use crate::proved::fixedbitset::{Bits, BitsMut, ExtendFault, FixedBitSet};
+    use crate::proved::fixedbitset::*;
+    use crate::shim::alloc::Global;
+    use crate::shim::prelude::*;
+    use crate::shim::u64x4;
+    use core::cmp::Ordering;
+    use core::mem::{size_of, size_of_val};
+
+    let alloc = Global::Try;
+    let set = FixedBitSet::from_iter(alloc, [1, 3, 64]).unwrap();
+    let other = FixedBitSet::from_iter(alloc, [3, 5]).unwrap();
+    let either = counted::bitor(&set, &other, &mut Steps::new()).unwrap();
+    assert_eq!(either.as_slice(), [42, 1].as_slice());
+}
+
+#[test]
+fn fixedbitset_counted_copies_77() {
+    use crate::proved::bitlanes::ops::*;
+    use crate::proved::bitlanes::{word, Block, IndexRange, Steps};
+    use crate::proved::bitwalks::in_turn::*;
+    use crate::proved::bitwords::cursors::*;
+    use crate::proved::bitranks;
+    use crate::proved::fixedbitset::{Bits, BitsMut, ExtendFault, FixedBitSet};
+    use crate::proved::fixedbitset::*;
+    use crate::shim::alloc::Global;
+    use crate::shim::prelude::*;
+    use crate::shim::u64x4;
+    use core::cmp::Ordering;
+    use core::mem::{size_of, size_of_val};
+
+    let alloc = Global::Try;
+    let set = FixedBitSet::from_iter(alloc, [1, 3, 64]).unwrap();
+    let other = FixedBitSet::from_iter(alloc, [3, 5]).unwrap();
+    let one = counted::bitxor(&set, &other, &mut Steps::new()).unwrap();
+    assert_eq!(one.as_slice(), [34, 1].as_slice());
+}
+
+#[test]
+fn fixedbitset_counted_ranges_16() {
+    use crate::proved::bitlanes::ops::*;
+    use crate::proved::bitlanes::{word, Block, IndexRange, Steps};
+    use crate::proved::bitwalks::in_turn::*;
+    use crate::proved::bitwords::cursors::*;
+    use crate::proved::bitranks;
+    use crate::proved::fixedbitset::{Bits, BitsMut, ExtendFault, FixedBitSet};
+    use crate::proved::fixedbitset::*;
+    use crate::shim::alloc::Global;
+    use crate::shim::prelude::*;
+    use crate::shim::u64x4;
+    use core::cmp::Ordering;
+    use core::mem::{size_of, size_of_val};
+
+    let alloc = Global::Try;
+    let mut set = FixedBitSet::with_capacity(alloc, 200).unwrap();
+    let mut steps = Steps::new();
+    counted::insert_range(&mut set, 63..66, &mut steps);
+    assert_eq!(counted::count_ones(&set, .., &mut steps), 3);
+}
+
+#[test]
+fn fixedbitset_counted_ranges_32() {
+    use crate::proved::bitlanes::ops::*;
+    use crate::proved::bitlanes::{word, Block, IndexRange, Steps};
+    use crate::proved::bitwalks::in_turn::*;
+    use crate::proved::bitwords::cursors::*;
+    use crate::proved::bitranks;
+    use crate::proved::fixedbitset::{Bits, BitsMut, ExtendFault, FixedBitSet};
+    use crate::proved::fixedbitset::*;
+    use crate::shim::alloc::Global;
+    use crate::shim::prelude::*;
+    use crate::shim::u64x4;
+    use core::cmp::Ordering;
+    use core::mem::{size_of, size_of_val};
+
+    let alloc = Global::Try;
+    let mut set = FixedBitSet::with_capacity(alloc, 200).unwrap();
+    let mut steps = Steps::new();
+    counted::insert_range(&mut set, .., &mut steps);
+    counted::remove_range(&mut set, 1..=198, &mut steps);
+    assert_eq!(set.count_ones(..), 2);
+}
+
+#[test]
+fn fixedbitset_counted_ranges_49() {
+    use crate::proved::bitlanes::ops::*;
+    use crate::proved::bitlanes::{word, Block, IndexRange, Steps};
+    use crate::proved::bitwalks::in_turn::*;
+    use crate::proved::bitwords::cursors::*;
+    use crate::proved::bitranks;
+    use crate::proved::fixedbitset::{Bits, BitsMut, ExtendFault, FixedBitSet};
+    use crate::proved::fixedbitset::*;
+    use crate::shim::alloc::Global;
+    use crate::shim::prelude::*;
+    use crate::shim::u64x4;
+    use core::cmp::Ordering;
+    use core::mem::{size_of, size_of_val};
+
+    let alloc = Global::Try;
+    let mut set = FixedBitSet::with_capacity(alloc, 200).unwrap();
+    let mut steps = Steps::new();
+    counted::toggle_range(&mut set, 60..66, &mut steps);
+    counted::toggle_range(&mut set, 62.., &mut steps);
+    assert_eq!(set.minimum(), Some(60));
+}
+
+#[test]
+fn fixedbitset_counted_ranges_66() {
+    use crate::proved::bitlanes::ops::*;
+    use crate::proved::bitlanes::{word, Block, IndexRange, Steps};
+    use crate::proved::bitwalks::in_turn::*;
+    use crate::proved::bitwords::cursors::*;
+    use crate::proved::bitranks;
+    use crate::proved::fixedbitset::{Bits, BitsMut, ExtendFault, FixedBitSet};
+    use crate::proved::fixedbitset::*;
+    use crate::shim::alloc::Global;
+    use crate::shim::prelude::*;
+    use crate::shim::u64x4;
+    use core::cmp::Ordering;
+    use core::mem::{size_of, size_of_val};
+
+    let alloc = Global::Try;
+    let mut set = FixedBitSet::with_capacity(alloc, 200).unwrap();
+    set.insert_range(60..130);
+    assert_eq!(counted::count_ones(&set, 63..=64, &mut Steps::new()), 2);
+}
+
+#[test]
+fn fixedbitset_counted_ranges_84() {
+    use crate::proved::bitlanes::ops::*;
+    use crate::proved::bitlanes::{word, Block, IndexRange, Steps};
+    use crate::proved::bitwalks::in_turn::*;
+    use crate::proved::bitwords::cursors::*;
+    use crate::proved::bitranks;
+    use crate::proved::fixedbitset::{Bits, BitsMut, ExtendFault, FixedBitSet};
+    use crate::proved::fixedbitset::*;
+    use crate::shim::alloc::Global;
+    use crate::shim::prelude::*;
+    use crate::shim::u64x4;
+    use core::cmp::Ordering;
+    use core::mem::{size_of, size_of_val};
+
+    let alloc = Global::Try;
+    let mut set = FixedBitSet::with_capacity(alloc, 200).unwrap();
+    set.insert_range(60..130);
+    assert_eq!(counted::count_zeroes(&set, 59..=64, &mut Steps::new()), 1);
+}
+
+#[test]
+fn fixedbitset_counted_ranges_102() {
+    use crate::proved::bitlanes::ops::*;
+    use crate::proved::bitlanes::{word, Block, IndexRange, Steps};
+    use crate::proved::bitwalks::in_turn::*;
+    use crate::proved::bitwords::cursors::*;
+    use crate::proved::bitranks;
+    use crate::proved::fixedbitset::{Bits, BitsMut, ExtendFault, FixedBitSet};
+    use crate::proved::fixedbitset::*;
+    use crate::shim::alloc::Global;
+    use crate::shim::prelude::*;
+    use crate::shim::u64x4;
+    use core::cmp::Ordering;
+    use core::mem::{size_of, size_of_val};
+
+    let alloc = Global::Try;
+    let mut set = FixedBitSet::with_capacity(alloc, 200).unwrap();
+    set.insert_range(60..130);
+    assert!(counted::contains_all_in_range(&set, 60..130, &mut Steps::new()));
+    assert!(!counted::contains_all_in_range(&set, 59..130, &mut Steps::new()));
+}
+
+#[test]
+fn fixedbitset_counted_ranges_121() {
+    use crate::proved::bitlanes::ops::*;
+    use crate::proved::bitlanes::{word, Block, IndexRange, Steps};
+    use crate::proved::bitwalks::in_turn::*;
+    use crate::proved::bitwords::cursors::*;
+    use crate::proved::bitranks;
+    use crate::proved::fixedbitset::{Bits, BitsMut, ExtendFault, FixedBitSet};
+    use crate::proved::fixedbitset::*;
+    use crate::shim::alloc::Global;
+    use crate::shim::prelude::*;
+    use crate::shim::u64x4;
+    use core::cmp::Ordering;
+    use core::mem::{size_of, size_of_val};
+
+    let alloc = Global::Try;
+    let mut set = FixedBitSet::with_capacity(alloc, 200).unwrap();
+    set.insert_range(60..130);
+    assert!(counted::contains_any_in_range(&set, ..=60, &mut Steps::new()));
+    assert!(!counted::contains_any_in_range(&set, ..60, &mut Steps::new()));
+}
+
+#[test]
+fn fixedbitset_counted_shifts_16() {
+    use crate::proved::bitlanes::ops::*;
+    use crate::proved::bitlanes::{word, Block, IndexRange, Steps};
+    use crate::proved::bitwalks::in_turn::*;
+    use crate::proved::bitwords::cursors::*;
+    use crate::proved::bitranks;
+    use crate::proved::fixedbitset::{Bits, BitsMut, ExtendFault, FixedBitSet};
+    use crate::proved::fixedbitset::*;
+    use crate::shim::alloc::Global;
+    use crate::shim::prelude::*;
+    use crate::shim::u64x4;
+    use core::cmp::Ordering;
+    use core::mem::{size_of, size_of_val};
+
+    let alloc = Global::Try;
+    let mut set = FixedBitSet::from_iter(alloc, [0, 3, 69]).unwrap();
+    counted::shift_up(&mut set, 64, &mut Steps::new());
+    assert_eq!(set.as_slice(), [0, 9].as_slice());
+}
+
+#[test]
+fn fixedbitset_counted_shifts_29() {
+    use crate::proved::bitlanes::ops::*;
+    use crate::proved::bitlanes::{word, Block, IndexRange, Steps};
+    use crate::proved::bitwalks::in_turn::*;
+    use crate::proved::bitwords::cursors::*;
+    use crate::proved::bitranks;
+    use crate::proved::fixedbitset::{Bits, BitsMut, ExtendFault, FixedBitSet};
+    use crate::proved::fixedbitset::*;
+    use crate::shim::alloc::Global;
+    use crate::shim::prelude::*;
+    use crate::shim::u64x4;
+    use core::cmp::Ordering;
+    use core::mem::{size_of, size_of_val};
+
+    let alloc = Global::Try;
+    let mut set = FixedBitSet::from_iter(alloc, [0, 3, 69]).unwrap();
+    counted::shift_down(&mut set, 3, &mut Steps::new());
+    assert_eq!(set.as_slice(), [1, 4].as_slice());
+}
+
+#[test]
+fn fixedbitset_counted_shifts_42() {
+    use crate::proved::bitlanes::ops::*;
+    use crate::proved::bitlanes::{word, Block, IndexRange, Steps};
+    use crate::proved::bitwalks::in_turn::*;
+    use crate::proved::bitwords::cursors::*;
+    use crate::proved::bitranks;
+    use crate::proved::fixedbitset::{Bits, BitsMut, ExtendFault, FixedBitSet};
+    use crate::proved::fixedbitset::*;
+    use crate::shim::alloc::Global;
+    use crate::shim::prelude::*;
+    use crate::shim::u64x4;
+    use core::cmp::Ordering;
+    use core::mem::{size_of, size_of_val};
+
+    let alloc = Global::Try;
+    let mut set = FixedBitSet::from_iter(alloc, [0, 69]).unwrap();
+    let other = FixedBitSet::from_iter(alloc, [0, 1, 5]).unwrap();
+    counted::union_with_shifted(&mut set, &other, 65, &mut Steps::new());
+    assert_eq!(set.as_slice(), [1, 38].as_slice());
+}
+
+#[test]
+fn fixedbitset_counted_shifts_56() {
+    use crate::proved::bitlanes::ops::*;
+    use crate::proved::bitlanes::{word, Block, IndexRange, Steps};
+    use crate::proved::bitwalks::in_turn::*;
+    use crate::proved::bitwords::cursors::*;
+    use crate::proved::bitranks;
+    use crate::proved::fixedbitset::{Bits, BitsMut, ExtendFault, FixedBitSet};
+    use crate::proved::fixedbitset::*;
+    use crate::shim::alloc::Global;
+    use crate::shim::prelude::*;
+    use crate::shim::u64x4;
+    use core::cmp::Ordering;
+    use core::mem::{size_of, size_of_val};
+
+    let alloc = Global::Try;
+    let mut set = FixedBitSet::from_iter(alloc, [0, 69]).unwrap();
+    counted::union_with_own_shift(&mut set, 3, &mut Steps::new());
+    assert_eq!(set.as_slice(), [9, 32].as_slice());
+}
+
+#[test]
+fn fixedbitset_counted_shifts_70() {
+    use crate::proved::bitlanes::ops::*;
+    use crate::proved::bitlanes::{word, Block, IndexRange, Steps};
+    use crate::proved::bitwalks::in_turn::*;
+    use crate::proved::bitwords::cursors::*;
+    use crate::proved::bitranks;
+    use crate::proved::fixedbitset::{Bits, BitsMut, ExtendFault, FixedBitSet};
+    use crate::proved::fixedbitset::*;
+    use crate::shim::alloc::Global;
+    use crate::shim::prelude::*;
+    use crate::shim::u64x4;
+    use core::cmp::Ordering;
+    use core::mem::{size_of, size_of_val};
+
+    let alloc = Global::Try;
+    let set = FixedBitSet::from_iter(alloc, [1, 63, 65, 69]).unwrap();
+    assert_eq!(set.len(), 70);
+    let part = counted::slice(&set, alloc, 63..68, &mut Steps::new()).unwrap();
+    assert_eq!(part.as_slice(), [5].as_slice());
+}
+
+#[test]
+fn fixedbitset_counted_shifts_98() {
+    use crate::proved::bitlanes::ops::*;
+    use crate::proved::bitlanes::{word, Block, IndexRange, Steps};
+    use crate::proved::bitwalks::in_turn::*;
+    use crate::proved::bitwords::cursors::*;
+    use crate::proved::bitranks;
+    use crate::proved::fixedbitset::{Bits, BitsMut, ExtendFault, FixedBitSet};
+    use crate::proved::fixedbitset::*;
+    use crate::shim::alloc::Global;
+    use crate::shim::prelude::*;
+    use crate::shim::u64x4;
+    use core::cmp::Ordering;
+    use core::mem::{size_of, size_of_val};
+
+    let alloc = Global::Try;
+    let mut set = FixedBitSet::from_iter(alloc, [0, 2, 65, 69]).unwrap();
+    let other = FixedBitSet::from_iter(alloc, [1, 63, 65]).unwrap();
+    assert!(set.len() == 70 && other.len() == 66);
+    counted::copy_range(&mut set, &other, 62.., 1, &mut Steps::new());
+    assert_eq!(set.as_slice(), [21, 34].as_slice());
+}
+
+#[test]
+fn fixedbitset_counted_shifts_121() {
+    use crate::proved::bitlanes::ops::*;
+    use crate::proved::bitlanes::{word, Block, IndexRange, Steps};
+    use crate::proved::bitwalks::in_turn::*;
+    use crate::proved::bitwords::cursors::*;
+    use crate::proved::bitranks;
+    use crate::proved::fixedbitset::{Bits, BitsMut, ExtendFault, FixedBitSet};
+    use crate::proved::fixedbitset::*;
+    use crate::shim::alloc::Global;
+    use crate::shim::prelude::*;
+    use crate::shim::u64x4;
+    use core::cmp::Ordering;
+    use core::mem::{size_of, size_of_val};
+
+    let alloc = Global::Try;
+    let mut set = FixedBitSet::with_capacity(alloc, 4).unwrap();
+    let mut other = FixedBitSet::with_capacity(alloc, 65).unwrap();
+    other.insert(64);
+    counted::append(&mut set, &other, &mut Steps::new()).unwrap();
+    assert_eq!(set.as_slice(), [0, 16].as_slice());
+}
+
+#[test]
+fn fixedbitset_counted_shifts_142() {
+    use crate::proved::bitlanes::ops::*;
+    use crate::proved::bitlanes::{word, Block, IndexRange, Steps};
+    use crate::proved::bitwalks::in_turn::*;
+    use crate::proved::bitwords::cursors::*;
+    use crate::proved::bitranks;
+    use crate::proved::fixedbitset::{Bits, BitsMut, ExtendFault, FixedBitSet};
+    use crate::proved::fixedbitset::*;
+    use crate::shim::alloc::Global;
+    use crate::shim::prelude::*;
+    use crate::shim::u64x4;
+    use core::cmp::Ordering;
+    use core::mem::{size_of, size_of_val};
+
+    let alloc = Global::Try;
+    let mut set = FixedBitSet::from_iter(alloc, [1, 3]).unwrap();
+    counted::resize(&mut set, 66, true, &mut Steps::new()).unwrap();
+    assert_eq!(set.as_slice(), [!5, 3].as_slice());
+}
+
+#[test]
+fn fixedbitset_counted_whole_20() {
+    use crate::proved::bitlanes::ops::*;
+    use crate::proved::bitlanes::{word, Block, IndexRange, Steps};
+    use crate::proved::bitwalks::in_turn::*;
+    use crate::proved::bitwords::cursors::*;
+    use crate::proved::bitranks;
+    use crate::proved::fixedbitset::{Bits, BitsMut, ExtendFault, FixedBitSet};
+    use crate::proved::fixedbitset::*;
+    use crate::shim::alloc::Global;
+    use crate::shim::prelude::*;
+    use crate::shim::u64x4;
+    use core::cmp::Ordering;
+    use core::mem::{size_of, size_of_val};
+
+    let alloc = Global::Try;
+    let mut set = FixedBitSet::from_iter(alloc, [3, 64]).unwrap();
+    counted::clear(&mut set, &mut Steps::new());
+    assert_eq!(set.as_slice(), [0, 0].as_slice());
+}
+
+#[test]
+fn fixedbitset_counted_whole_35() {
+    use crate::proved::bitlanes::ops::*;
+    use crate::proved::bitlanes::{word, Block, IndexRange, Steps};
+    use crate::proved::bitwalks::in_turn::*;
+    use crate::proved::bitwords::cursors::*;
+    use crate::proved::bitranks;
+    use crate::proved::fixedbitset::{Bits, BitsMut, ExtendFault, FixedBitSet};
+    use crate::proved::fixedbitset::*;
+    use crate::shim::alloc::Global;
+    use crate::shim::prelude::*;
+    use crate::shim::u64x4;
+    use core::cmp::Ordering;
+    use core::mem::{size_of, size_of_val};
+
+    let alloc = Global::Try;
+    let mut set = FixedBitSet::from_iter(alloc, [1, 3]).unwrap();
+    let other = FixedBitSet::from_iter(alloc, [3, 64]).unwrap();
+    counted::union_with(&mut set, &other, &mut Steps::new()).unwrap();
+    assert_eq!(set.as_slice(), [10, 1].as_slice());
+}
+
+#[test]
+fn fixedbitset_counted_whole_59() {
+    use crate::proved::bitlanes::ops::*;
+    use crate::proved::bitlanes::{word, Block, IndexRange, Steps};
+    use crate::proved::bitwalks::in_turn::*;
+    use crate::proved::bitwords::cursors::*;
+    use crate::proved::bitranks;
+    use crate::proved::fixedbitset::{Bits, BitsMut, ExtendFault, FixedBitSet};
+    use crate::proved::fixedbitset::*;
+    use crate::shim::alloc::Global;
+    use crate::shim::prelude::*;
+    use crate::shim::u64x4;
+    use core::cmp::Ordering;
+    use core::mem::{size_of, size_of_val};
+
+    let alloc = Global::Try;
+    let mut set = FixedBitSet::from_iter(alloc, [1, 3]).unwrap();
+    let other = FixedBitSet::from_iter(alloc, [3, 64]).unwrap();
+    counted::symmetric_difference_with(&mut set, &other, &mut Steps::new()).unwrap();
+    assert_eq!(set.as_slice(), [2, 1].as_slice());
+}
+
+#[test]
+fn fixedbitset_counted_whole_81() {
+    use crate::proved::bitlanes::ops::*;
+    use crate::proved::bitlanes::{word, Block, IndexRange, Steps};
+    use crate::proved::bitwalks::in_turn::*;
+    use crate::proved::bitwords::cursors::*;
+    use crate::proved::bitranks;
+    use crate::proved::fixedbitset::{Bits, BitsMut, ExtendFault, FixedBitSet};
+    use crate::proved::fixedbitset::*;
+    use crate::shim::alloc::Global;
+    use crate::shim::prelude::*;
+    use crate::shim::u64x4;
+    use core::cmp::Ordering;
+    use core::mem::{size_of, size_of_val};
+
+    let alloc = Global::Try;
+    let mut set = FixedBitSet::from_iter(alloc, [1, 3, 64]).unwrap();
+    let other = FixedBitSet::from_iter(alloc, [3, 5]).unwrap();
+    counted::intersect_with(&mut set, &other, &mut Steps::new());
+    assert_eq!(set.as_slice(), [8, 0].as_slice());
+}
+
+#[test]
+fn fixedbitset_counted_whole_95() {
+    use crate::proved::bitlanes::ops::*;
+    use crate::proved::bitlanes::{word, Block, IndexRange, Steps};
+    use crate::proved::bitwalks::in_turn::*;
+    use crate::proved::bitwords::cursors::*;
+    use crate::proved::bitranks;
+    use crate::proved::fixedbitset::{Bits, BitsMut, ExtendFault, FixedBitSet};
+    use crate::proved::fixedbitset::*;
+    use crate::shim::alloc::Global;
+    use crate::shim::prelude::*;
+    use crate::shim::u64x4;
+    use core::cmp::Ordering;
+    use core::mem::{size_of, size_of_val};
+
+    let alloc = Global::Try;
+    let mut set = FixedBitSet::from_iter(alloc, [1, 3, 64]).unwrap();
+    let other = FixedBitSet::from_iter(alloc, [3, 5]).unwrap();
+    counted::difference_with(&mut set, &other, &mut Steps::new());
+    assert_eq!(set.as_slice(), [2, 1].as_slice());
+}
+
+#[test]
+fn fixedbitset_counted_whole_109() {
+    use crate::proved::bitlanes::ops::*;
+    use crate::proved::bitlanes::{word, Block, IndexRange, Steps};
+    use crate::proved::bitwalks::in_turn::*;
+    use crate::proved::bitwords::cursors::*;
+    use crate::proved::bitranks;
+    use crate::proved::fixedbitset::{Bits, BitsMut, ExtendFault, FixedBitSet};
+    use crate::proved::fixedbitset::*;
+    use crate::shim::alloc::Global;
+    use crate::shim::prelude::*;
+    use crate::shim::u64x4;
+    use core::cmp::Ordering;
+    use core::mem::{size_of, size_of_val};
+
+    let alloc = Global::Try;
+    let set = FixedBitSet::from_iter(alloc, [1, 3, 64]).unwrap();
+    let other = FixedBitSet::from_iter(alloc, [3, 5]).unwrap();
+    let count = counted::union_count(&set, &other, &mut Steps::new());
+    assert_eq!(count, 4);
+}
+
+#[test]
+fn fixedbitset_counted_whole_122() {
+    use crate::proved::bitlanes::ops::*;
+    use crate::proved::bitlanes::{word, Block, IndexRange, Steps};
+    use crate::proved::bitwalks::in_turn::*;
+    use crate::proved::bitwords::cursors::*;
+    use crate::proved::bitranks;
+    use crate::proved::fixedbitset::{Bits, BitsMut, ExtendFault, FixedBitSet};
+    use crate::proved::fixedbitset::*;
+    use crate::shim::alloc::Global;
+    use crate::shim::prelude::*;
+    use crate::shim::u64x4;
+    use core::cmp::Ordering;
+    use core::mem::{size_of, size_of_val};
+
+    let alloc = Global::Try;
+    let set = FixedBitSet::from_iter(alloc, [1, 3, 64]).unwrap();
+    let other = FixedBitSet::from_iter(alloc, [3, 5]).unwrap();
+    let count = counted::intersection_count(&set, &other, &mut Steps::new());
+    assert_eq!(count, 1);
+}
+
+#[test]
+fn fixedbitset_counted_whole_135() {
+    use crate::proved::bitlanes::ops::*;
+    use crate::proved::bitlanes::{word, Block, IndexRange, Steps};
+    use crate::proved::bitwalks::in_turn::*;
+    use crate::proved::bitwords::cursors::*;
+    use crate::proved::bitranks;
+    use crate::proved::fixedbitset::{Bits, BitsMut, ExtendFault, FixedBitSet};
+    use crate::proved::fixedbitset::*;
+    use crate::shim::alloc::Global;
+    use crate::shim::prelude::*;
+    use crate::shim::u64x4;
+    use core::cmp::Ordering;
+    use core::mem::{size_of, size_of_val};
+
+    let alloc = Global::Try;
+    let set = FixedBitSet::from_iter(alloc, [1, 3, 64]).unwrap();
+    let other = FixedBitSet::from_iter(alloc, [3, 5]).unwrap();
+    let count = counted::difference_count(&set, &other, &mut Steps::new());
+    assert_eq!(count, 2);
+}
+
+#[test]
+fn fixedbitset_counted_whole_148() {
+    use crate::proved::bitlanes::ops::*;
+    use crate::proved::bitlanes::{word, Block, IndexRange, Steps};
+    use crate::proved::bitwalks::in_turn::*;
+    use crate::proved::bitwords::cursors::*;
+    use crate::proved::bitranks;
+    use crate::proved::fixedbitset::{Bits, BitsMut, ExtendFault, FixedBitSet};
+    use crate::proved::fixedbitset::*;
+    use crate::shim::alloc::Global;
+    use crate::shim::prelude::*;
+    use crate::shim::u64x4;
+    use core::cmp::Ordering;
+    use core::mem::{size_of, size_of_val};
+
+    let alloc = Global::Try;
+    let set = FixedBitSet::from_iter(alloc, [1, 3, 64]).unwrap();
+    let other = FixedBitSet::from_iter(alloc, [3, 5]).unwrap();
+    let count = counted::symmetric_difference_count(&set, &other, &mut Steps::new());
+    assert_eq!(count, 3);
+}
+
+#[test]
+fn fixedbitset_counted_whole_165() {
+    use crate::proved::bitlanes::ops::*;
+    use crate::proved::bitlanes::{word, Block, IndexRange, Steps};
+    use crate::proved::bitwalks::in_turn::*;
+    use crate::proved::bitwords::cursors::*;
+    use crate::proved::bitranks;
+    use crate::proved::fixedbitset::{Bits, BitsMut, ExtendFault, FixedBitSet};
+    use crate::proved::fixedbitset::*;
+    use crate::shim::alloc::Global;
+    use crate::shim::prelude::*;
+    use crate::shim::u64x4;
+    use core::cmp::Ordering;
+    use core::mem::{size_of, size_of_val};
+
+    let alloc = Global::Try;
+    let set = FixedBitSet::from_iter(alloc, [1, 64]).unwrap();
+    let other = FixedBitSet::from_iter(alloc, [3, 65, 200]).unwrap();
+    assert!(counted::is_disjoint(&set, &other, &mut Steps::new()));
+}
+
+#[test]
+fn fixedbitset_counted_whole_177() {
+    use crate::proved::bitlanes::ops::*;
+    use crate::proved::bitlanes::{word, Block, IndexRange, Steps};
+    use crate::proved::bitwalks::in_turn::*;
+    use crate::proved::bitwords::cursors::*;
+    use crate::proved::bitranks;
+    use crate::proved::fixedbitset::{Bits, BitsMut, ExtendFault, FixedBitSet};
+    use crate::proved::fixedbitset::*;
+    use crate::shim::alloc::Global;
+    use crate::shim::prelude::*;
+    use crate::shim::u64x4;
+    use core::cmp::Ordering;
+    use core::mem::{size_of, size_of_val};
+
+    let alloc = Global::Try;
+    let set = FixedBitSet::from_iter(alloc, [3, 64]).unwrap();
+    let other = FixedBitSet::from_iter(alloc, [3, 64, 200]).unwrap();
+    assert!(counted::is_subset(&set, &other, &mut Steps::new()));
+    assert!(!counted::is_subset(&other, &set, &mut Steps::new()));
+}
+
+#[test]
+fn fixedbitset_extend_27() {
+    use crate::proved::bitlanes::ops::*;
+    use crate::proved::bitlanes::{word, Block, IndexRange, Steps};
+    use crate::proved::bitwalks::in_turn::*;
+    use crate::proved::bitwords::cursors::*;
+    use crate::proved::bitranks;
+    use crate::proved::fixedbitset::{Bits, BitsMut, ExtendFault, FixedBitSet};
+    use crate::proved::fixedbitset::*;
+    use crate::shim::alloc::Global;
+    use crate::shim::prelude::*;
+    use crate::shim::u64x4;
+    use core::cmp::Ordering;
+    use core::mem::{size_of, size_of_val};
+
+    let alloc = Global::Try;
+    let mut set = FixedBitSet::with_capacity(alloc, 2).unwrap();
+    set.grow_and_insert(64).unwrap();
+    set.grow_and_insert(0).unwrap();
+    assert_eq!(set.len(), 65);
+    assert_eq!(set.as_slice(), [1, 1].as_slice());
+}
+
+#[test]
+fn fixedbitset_extend_67() {
+    use crate::proved::bitlanes::ops::*;
+    use crate::proved::bitlanes::{word, Block, IndexRange, Steps};
+    use crate::proved::bitwalks::in_turn::*;
+    use crate::proved::bitwords::cursors::*;
+    use crate::proved::bitranks;
+    use crate::proved::fixedbitset::{Bits, BitsMut, ExtendFault, FixedBitSet};
+    use crate::proved::fixedbitset::*;
+    use crate::shim::alloc::Global;
+    use crate::shim::prelude::*;
+    use crate::shim::u64x4;
+    use core::cmp::Ordering;
+    use core::mem::{size_of, size_of_val};
+
+    let alloc = Global::Try;
+    let mut set = FixedBitSet::with_capacity(alloc, 10).unwrap();
+    set.extend([64, 3, 64]).unwrap();
+    assert_eq!(set.len(), 65);
+    assert_eq!(set.as_slice(), [8, 1].as_slice());
+}
+
+#[test]
+fn fixedbitset_extend_89() {
+    use crate::proved::bitlanes::ops::*;
+    use crate::proved::bitlanes::{word, Block, IndexRange, Steps};
+    use crate::proved::bitwalks::in_turn::*;
+    use crate::proved::bitwords::cursors::*;
+    use crate::proved::bitranks;
+    use crate::proved::fixedbitset::{Bits, BitsMut, ExtendFault, FixedBitSet};
+    use crate::proved::fixedbitset::*;
+    use crate::shim::alloc::Global;
+    use crate::shim::prelude::*;
+    use crate::shim::u64x4;
+    use core::cmp::Ordering;
+    use core::mem::{size_of, size_of_val};
+
+    let alloc = Global::Try;
+    let set = FixedBitSet::from_iter(alloc, [64, 3]).unwrap();
+    assert_eq!(set.len(), 65);
+    assert_eq!(set.as_slice(), [8, 1].as_slice());
+}
+
+#[test]
+fn fixedbitset_neighbours_14() {
+    use crate::proved::bitlanes::ops::*;
+    use crate::proved::bitlanes::{word, Block, IndexRange, Steps};
+    use crate::proved::bitwalks::in_turn::*;
+    use crate::proved::bitwords::cursors::*;
+    use crate::proved::bitranks;
+    use crate::proved::fixedbitset::{Bits, BitsMut, ExtendFault, FixedBitSet};
+    use crate::proved::fixedbitset::*;
+    use crate::shim::alloc::Global;
+    use crate::shim::prelude::*;
+    use crate::shim::u64x4;
+    use core::cmp::Ordering;
+    use core::mem::{size_of, size_of_val};
+
+    let alloc = Global::Try;
+    let mut set = FixedBitSet::with_capacity(alloc, 200).unwrap();
+    set.insert_range(64..130);
+    assert_eq!(set.next_one(3), Some(64));
+    assert_eq!(set.next_one(130), None);
+}
+
+#[test]
+fn fixedbitset_neighbours_28() {
+    use crate::proved::bitlanes::ops::*;
+    use crate::proved::bitlanes::{word, Block, IndexRange, Steps};
+    use crate::proved::bitwalks::in_turn::*;
+    use crate::proved::bitwords::cursors::*;
+    use crate::proved::bitranks;
+    use crate::proved::fixedbitset::{Bits, BitsMut, ExtendFault, FixedBitSet};
+    use crate::proved::fixedbitset::*;
+    use crate::shim::alloc::Global;
+    use crate::shim::prelude::*;
+    use crate::shim::u64x4;
+    use core::cmp::Ordering;
+    use core::mem::{size_of, size_of_val};
+
+    let alloc = Global::Try;
+    let mut set = FixedBitSet::with_capacity(alloc, 200).unwrap();
+    set.insert_range(64..130);
+    assert_eq!(set.next_zero(64), Some(130));
+    assert_eq!(set.next_zero(200), None);
+}
+
+#[test]
+fn fixedbitset_neighbours_45() {
+    use crate::proved::bitlanes::ops::*;
+    use crate::proved::bitlanes::{word, Block, IndexRange, Steps};
+    use crate::proved::bitwalks::in_turn::*;
+    use crate::proved::bitwords::cursors::*;
+    use crate::proved::bitranks;
+    use crate::proved::fixedbitset::{Bits, BitsMut, ExtendFault, FixedBitSet};
+    use crate::proved::fixedbitset::*;
+    use crate::shim::alloc::Global;
+    use crate::shim::prelude::*;
+    use crate::shim::u64x4;
+    use core::cmp::Ordering;
+    use core::mem::{size_of, size_of_val};
+
+    let alloc = Global::Try;
+    let set = FixedBitSet::from_iter(alloc, [1, 3, 70]).unwrap();
+    let other = FixedBitSet::from_iter(alloc, [3, 64, 70, 500]).unwrap();
+    assert_eq!(set.next_common(&other, 0), Some(3));
+    assert_eq!(set.next_common(&other, 4), Some(70));
+    assert_eq!(set.next_common(&other, 71), None);
+}
+
+#[test]
+fn fixedbitset_neighbours_65() {
+    use crate::proved::bitlanes::ops::*;
+    use crate::proved::bitlanes::{word, Block, IndexRange, Steps};
+    use crate::proved::bitwalks::in_turn::*;
+    use crate::proved::bitwords::cursors::*;
+    use crate::proved::bitranks;
+    use crate::proved::fixedbitset::{Bits, BitsMut, ExtendFault, FixedBitSet};
+    use crate::proved::fixedbitset::*;
+    use crate::shim::alloc::Global;
+    use crate::shim::prelude::*;
+    use crate::shim::u64x4;
+    use core::cmp::Ordering;
+    use core::mem::{size_of, size_of_val};
+
+    let alloc = Global::Try;
+    let set = FixedBitSet::from_iter(alloc, [3, 64, 70]).unwrap();
+    assert_eq!(set.nth_one(0), Some(3));
+    assert_eq!(set.nth_one(2), Some(70));
+    assert_eq!(set.nth_one(3), None);
+}
+
+#[test]
+fn fixedbitset_neighbours_82() {
+    use crate::proved::bitlanes::ops::*;
+    use crate::proved::bitlanes::{word, Block, IndexRange, Steps};
+    use crate::proved::bitwalks::in_turn::*;
+    use crate::proved::bitwords::cursors::*;
+    use crate::proved::bitranks;
+    use crate::proved::fixedbitset::{Bits, BitsMut, ExtendFault, FixedBitSet};
+    use crate::proved::fixedbitset::*;
+    use crate::shim::alloc::Global;
+    use crate::shim::prelude::*;
+    use crate::shim::u64x4;
+    use core::cmp::Ordering;
+    use core::mem::{size_of, size_of_val};
+
+    let alloc = Global::Try;
+    let mut set = FixedBitSet::from_iter(alloc, [3, 6, 90]).unwrap();
+    assert_eq!(set.first_gap(2, 0), Some(0));
+    assert_eq!(set.first_gap(3, 1), Some(7));
+    assert_eq!(set.first_gap(100, 0), None);
+}
+
+#[test]
+fn fixedbitset_neighbours_102() {
+    use crate::proved::bitlanes::ops::*;
+    use crate::proved::bitlanes::{word, Block, IndexRange, Steps};
+    use crate::proved::bitwalks::in_turn::*;
+    use crate::proved::bitwords::cursors::*;
+    use crate::proved::bitranks;
+    use crate::proved::fixedbitset::{Bits, BitsMut, ExtendFault, FixedBitSet};
+    use crate::proved::fixedbitset::*;
+    use crate::shim::alloc::Global;
+    use crate::shim::prelude::*;
+    use crate::shim::u64x4;
+    use core::cmp::Ordering;
+    use core::mem::{size_of, size_of_val};
+
+    let alloc = Global::Try;
+    let mut set = FixedBitSet::from_iter(alloc, [3, 6, 90]).unwrap();
+    assert!(set.len() == 91 && set.first_aligned_gap(3, 4, 1..) == Some(8));
+    assert_eq!(set.first_aligned_gap(3, 4, 9..), Some(12));
+    assert_eq!(set.first_aligned_gap(3, 4, 9..14), None);
+}
+
+#[test]
+fn fixedbitset_neighbours_123() {
+    use crate::proved::bitlanes::ops::*;
+    use crate::proved::bitlanes::{word, Block, IndexRange, Steps};
+    use crate::proved::bitwalks::in_turn::*;
+    use crate::proved::bitwords::cursors::*;
+    use crate::proved::bitranks;
+    use crate::proved::fixedbitset::{Bits, BitsMut, ExtendFault, FixedBitSet};
+    use crate::proved::fixedbitset::*;
+    use crate::shim::alloc::Global;
+    use crate::shim::prelude::*;
+    use crate::shim::u64x4;
+    use core::cmp::Ordering;
+    use core::mem::{size_of, size_of_val};
+
+    let alloc = Global::Try;
+    let mut set = FixedBitSet::with_capacity(alloc, 200).unwrap();
+    set.insert_range(64..130);
+    assert_eq!(set.previous_one(usize::MAX), Some(129));
+    assert_eq!(set.previous_one(64), None);
+}
+
+#[test]
+fn fixedbitset_neighbours_137() {
+    use crate::proved::bitlanes::ops::*;
+    use crate::proved::bitlanes::{word, Block, IndexRange, Steps};
+    use crate::proved::bitwalks::in_turn::*;
+    use crate::proved::bitwords::cursors::*;
+    use crate::proved::bitranks;
+    use crate::proved::fixedbitset::{Bits, BitsMut, ExtendFault, FixedBitSet};
+    use crate::proved::fixedbitset::*;
+    use crate::shim::alloc::Global;
+    use crate::shim::prelude::*;
+    use crate::shim::u64x4;
+    use core::cmp::Ordering;
+    use core::mem::{size_of, size_of_val};
+
+    let alloc = Global::Try;
+    let mut set = FixedBitSet::with_capacity(alloc, 200).unwrap();
+    set.insert_range(64..130);
+    assert_eq!(set.previous_zero(130), Some(63));
+    assert_eq!(set.previous_zero(0), None);
+}
+
+#[test]
+fn fixedbitset_of_two_18() {
+    use crate::proved::bitlanes::ops::*;
+    use crate::proved::bitlanes::{word, Block, IndexRange, Steps};
+    use crate::proved::bitwalks::in_turn::*;
+    use crate::proved::bitwords::cursors::*;
+    use crate::proved::bitranks;
+    use crate::proved::fixedbitset::{Bits, BitsMut, ExtendFault, FixedBitSet};
+    use crate::proved::fixedbitset::*;
+    use crate::shim::alloc::Global;
+    use crate::shim::prelude::*;
+    use crate::shim::u64x4;
+    use core::cmp::Ordering;
+    use core::mem::{size_of, size_of_val};
+
+    let alloc = Global::Try;
+    let one = FixedBitSet::from_iter(alloc, [1, 3]).unwrap();
+    let other = FixedBitSet::from_iter(alloc, [3, 64]).unwrap();
+    let mut set = FixedBitSet::with_capacity(alloc, 200).unwrap();
+    set.union_of(&one, &other).unwrap();
+    assert_eq!(set.as_slice(), [10, 1].as_slice());
+}
+
+#[test]
+fn fixedbitset_of_two_38() {
+    use crate::proved::bitlanes::ops::*;
+    use crate::proved::bitlanes::{word, Block, IndexRange, Steps};
+    use crate::proved::bitwalks::in_turn::*;
+    use crate::proved::bitwords::cursors::*;
+    use crate::proved::bitranks;
+    use crate::proved::fixedbitset::{Bits, BitsMut, ExtendFault, FixedBitSet};
+    use crate::proved::fixedbitset::*;
+    use crate::shim::alloc::Global;
+    use crate::shim::prelude::*;
+    use crate::shim::u64x4;
+    use core::cmp::Ordering;
+    use core::mem::{size_of, size_of_val};
+
+    let alloc = Global::Try;
+    let one = FixedBitSet::from_iter(alloc, [1, 3]).unwrap();
+    let other = FixedBitSet::from_iter(alloc, [3, 64]).unwrap();
+    let mut set = FixedBitSet::with_capacity(alloc, 200).unwrap();
+    set.symmetric_difference_of(&one, &other).unwrap();
+    assert_eq!(set.as_slice(), [2, 1].as_slice());
+}
+
+#[test]
+fn fixedbitset_of_two_57() {
+    use crate::proved::bitlanes::ops::*;
+    use crate::proved::bitlanes::{word, Block, IndexRange, Steps};
+    use crate::proved::bitwalks::in_turn::*;
+    use crate::proved::bitwords::cursors::*;
+    use crate::proved::bitranks;
+    use crate::proved::fixedbitset::{Bits, BitsMut, ExtendFault, FixedBitSet};
+    use crate::proved::fixedbitset::*;
+    use crate::shim::alloc::Global;
+    use crate::shim::prelude::*;
+    use crate::shim::u64x4;
+    use core::cmp::Ordering;
+    use core::mem::{size_of, size_of_val};
+
+    let alloc = Global::Try;
+    let one = FixedBitSet::from_iter(alloc, [1, 3]).unwrap();
+    let other = FixedBitSet::from_iter(alloc, [3, 64]).unwrap();
+    let mut set = FixedBitSet::with_capacity(alloc, 200).unwrap();
+    set.intersection_of(&one, &other).unwrap();
+    assert_eq!(set.as_slice(), [8].as_slice());
+}
+
+#[test]
+fn fixedbitset_of_two_77() {
+    use crate::proved::bitlanes::ops::*;
+    use crate::proved::bitlanes::{word, Block, IndexRange, Steps};
+    use crate::proved::bitwalks::in_turn::*;
+    use crate::proved::bitwords::cursors::*;
+    use crate::proved::bitranks;
+    use crate::proved::fixedbitset::{Bits, BitsMut, ExtendFault, FixedBitSet};
+    use crate::proved::fixedbitset::*;
+    use crate::shim::alloc::Global;
+    use crate::shim::prelude::*;
+    use crate::shim::u64x4;
+    use core::cmp::Ordering;
+    use core::mem::{size_of, size_of_val};
+
+    let alloc = Global::Try;
+    let one = FixedBitSet::from_iter(alloc, [1, 3]).unwrap();
+    let other = FixedBitSet::from_iter(alloc, [3, 64]).unwrap();
+    let mut set = FixedBitSet::with_capacity(alloc, 200).unwrap();
+    set.difference_of(&one, &other).unwrap();
+    assert_eq!(set.as_slice(), [2].as_slice());
+}
+
+#[test]
+fn fixedbitset_order_18() {
+    use crate::proved::bitlanes::ops::*;
+    use crate::proved::bitlanes::{word, Block, IndexRange, Steps};
+    use crate::proved::bitwalks::in_turn::*;
+    use crate::proved::bitwords::cursors::*;
+    use crate::proved::bitranks;
+    use crate::proved::fixedbitset::{Bits, BitsMut, ExtendFault, FixedBitSet};
+    use crate::proved::fixedbitset::*;
+    use crate::shim::alloc::Global;
+    use crate::shim::prelude::*;
+    use crate::shim::u64x4;
+    use core::cmp::Ordering;
+    use core::mem::{size_of, size_of_val};
+
+    let alloc = Global::Try;
+    let set = FixedBitSet::from_iter(alloc, [3]).unwrap();
+    let mut other = set.clone().unwrap();
+    assert!(set == other);
+    other.grow(70).unwrap();
+    assert!(set != other);
+}
+
+#[test]
+fn fixedbitset_order_37() {
+    use crate::proved::bitlanes::ops::*;
+    use crate::proved::bitlanes::{word, Block, IndexRange, Steps};
+    use crate::proved::bitwalks::in_turn::*;
+    use crate::proved::bitwords::cursors::*;
+    use crate::proved::bitranks;
+    use crate::proved::fixedbitset::{Bits, BitsMut, ExtendFault, FixedBitSet};
+    use crate::proved::fixedbitset::*;
+    use crate::shim::alloc::Global;
+    use crate::shim::prelude::*;
+    use crate::shim::u64x4;
+    use core::cmp::Ordering;
+    use core::mem::{size_of, size_of_val};
+
+    let alloc = Global::Try;
+    let short = FixedBitSet::from_iter(alloc, [3]).unwrap();
+    let long = FixedBitSet::with_capacity(alloc, 70).unwrap();
+    assert!(short < long);
+    assert_eq!(long.partial_cmp(&short), Some(Ordering::Greater));
+}
+
+#[test]
+fn fixedbitset_order_58() {
+    use crate::proved::bitlanes::ops::*;
+    use crate::proved::bitlanes::{word, Block, IndexRange, Steps};
+    use crate::proved::bitwalks::in_turn::*;
+    use crate::proved::bitwords::cursors::*;
+    use crate::proved::bitranks;
+    use crate::proved::fixedbitset::{Bits, BitsMut, ExtendFault, FixedBitSet};
+    use crate::proved::fixedbitset::*;
+    use crate::shim::alloc::Global;
+    use crate::shim::prelude::*;
+    use crate::shim::u64x4;
+    use core::cmp::Ordering;
+    use core::mem::{size_of, size_of_val};
+
+    let alloc = Global::Try;
+    let set = FixedBitSet::from_iter(alloc, [4, 69]).unwrap();
+    let lower = FixedBitSet::from_iter(alloc, [0, 3, 69]).unwrap();
+    let later = FixedBitSet::from_iter(alloc, [68, 69]).unwrap();
+    assert_eq!(set.cmp(&lower), Ordering::Greater);
+    assert_eq!(set.cmp(&later), Ordering::Greater);
+}
+
+#[test]
+fn fixedbitset_parts_24() {
+    use crate::proved::bitlanes::ops::*;
+    use crate::proved::bitlanes::{word, Block, IndexRange, Steps};
+    use crate::proved::bitwalks::in_turn::*;
+    use crate::proved::bitwords::cursors::*;
+    use crate::proved::bitranks;
+    use crate::proved::fixedbitset::{Bits, BitsMut, ExtendFault, FixedBitSet};
+    use crate::proved::fixedbitset::*;
+    use crate::shim::alloc::Global;
+    use crate::shim::prelude::*;
+    use crate::shim::u64x4;
+    use core::cmp::Ordering;
+    use core::mem::{size_of, size_of_val};
+
+    let alloc = Global::Try;
+    let set = FixedBitSet::from_iter(alloc, [1, 63, 65, 69]).unwrap();
+    assert_eq!(set.len(), 70);
+    let part = set.slice(alloc, 63..68).unwrap();
+    assert!(part.ones().eq([0, 2]));
+}
+
+#[test]
+fn fixedbitset_parts_46() {
+    use crate::proved::bitlanes::ops::*;
+    use crate::proved::bitlanes::{word, Block, IndexRange, Steps};
+    use crate::proved::bitwalks::in_turn::*;
+    use crate::proved::bitwords::cursors::*;
+    use crate::proved::bitranks;
+    use crate::proved::fixedbitset::{Bits, BitsMut, ExtendFault, FixedBitSet};
+    use crate::proved::fixedbitset::*;
+    use crate::shim::alloc::Global;
+    use crate::shim::prelude::*;
+    use crate::shim::u64x4;
+    use core::cmp::Ordering;
+    use core::mem::{size_of, size_of_val};
+
+    let alloc = Global::Try;
+    let mut set = FixedBitSet::from_iter(alloc, [0, 2, 65, 69]).unwrap();
+    let other = FixedBitSet::from_iter(alloc, [1, 63, 65]).unwrap();
+    assert!(set.len() == 70 && other.len() == 66);
+    set.copy_range(&other, 62..66, 1);
+    assert!(set.ones().eq([0, 2, 4, 65, 69]));
+}
+
+#[test]
+fn fixedbitset_parts_62() {
+    use crate::proved::bitlanes::ops::*;
+    use crate::proved::bitlanes::{word, Block, IndexRange, Steps};
+    use crate::proved::bitwalks::in_turn::*;
+    use crate::proved::bitwords::cursors::*;
+    use crate::proved::bitranks;
+    use crate::proved::fixedbitset::{Bits, BitsMut, ExtendFault, FixedBitSet};
+    use crate::proved::fixedbitset::*;
+    use crate::shim::alloc::Global;
+    use crate::shim::prelude::*;
+    use crate::shim::u64x4;
+    use core::cmp::Ordering;
+    use core::mem::{size_of, size_of_val};
+
+    let alloc = Global::Try;
+    let set = FixedBitSet::from_iter(alloc, [1, 63, 65, 69]).unwrap();
+    assert_eq!(set.len(), 70);
+    assert_eq!(set.load(62, 8), 138);
+    assert_eq!(set.load(70, 0), 0);
+}
+
+#[test]
+fn fixedbitset_parts_78() {
+    use crate::proved::bitlanes::ops::*;
+    use crate::proved::bitlanes::{word, Block, IndexRange, Steps};
+    use crate::proved::bitwalks::in_turn::*;
+    use crate::proved::bitwords::cursors::*;
+    use crate::proved::bitranks;
+    use crate::proved::fixedbitset::{Bits, BitsMut, ExtendFault, FixedBitSet};
+    use crate::proved::fixedbitset::*;
+    use crate::shim::alloc::Global;
+    use crate::shim::prelude::*;
+    use crate::shim::u64x4;
+    use core::cmp::Ordering;
+    use core::mem::{size_of, size_of_val};
+
+    let alloc = Global::Try;
+    let mut set = FixedBitSet::from_iter(alloc, [1, 63, 65, 69]).unwrap();
+    assert_eq!(set.len(), 70);
+    set.store(62, 4, 5);
+    assert!(set.ones().eq([1, 62, 64, 69]));
+}
+
+#[test]
+fn fixedbitset_parts_95() {
+    use crate::proved::bitlanes::ops::*;
+    use crate::proved::bitlanes::{word, Block, IndexRange, Steps};
+    use crate::proved::bitwalks::in_turn::*;
+    use crate::proved::bitwords::cursors::*;
+    use crate::proved::bitranks;
+    use crate::proved::fixedbitset::{Bits, BitsMut, ExtendFault, FixedBitSet};
+    use crate::proved::fixedbitset::*;
+    use crate::shim::alloc::Global;
+    use crate::shim::prelude::*;
+    use crate::shim::u64x4;
+    use core::cmp::Ordering;
+    use core::mem::{size_of, size_of_val};
+
+    let alloc = Global::Try;
+    let mut set = FixedBitSet::with_capacity(alloc, 4).unwrap();
+    let mut other = FixedBitSet::with_capacity(alloc, 65).unwrap();
+    other.insert(64);
+    set.append(&other).unwrap();
+    assert!(set.len() == 69 && set.contains(68));
+}
+
+#[test]
+fn fixedbitset_parts_112() {
+    use crate::proved::bitlanes::ops::*;
+    use crate::proved::bitlanes::{word, Block, IndexRange, Steps};
+    use crate::proved::bitwalks::in_turn::*;
+    use crate::proved::bitwords::cursors::*;
+    use crate::proved::bitranks;
+    use crate::proved::fixedbitset::{Bits, BitsMut, ExtendFault, FixedBitSet};
+    use crate::proved::fixedbitset::*;
+    use crate::shim::alloc::Global;
+    use crate::shim::prelude::*;
+    use crate::shim::u64x4;
+    use core::cmp::Ordering;
+    use core::mem::{size_of, size_of_val};
+
+    let alloc = Global::Try;
+    let mut set = FixedBitSet::from_iter(alloc, [1, 3, 64]).unwrap();
+    set.truncate(3);
+    set.truncate(70);
+    assert_eq!(set.len(), 3);
+    assert_eq!(set.as_slice(), [2].as_slice());
+}
+
+#[test]
+fn fixedbitset_parts_132() {
+    use crate::proved::bitlanes::ops::*;
+    use crate::proved::bitlanes::{word, Block, IndexRange, Steps};
+    use crate::proved::bitwalks::in_turn::*;
+    use crate::proved::bitwords::cursors::*;
+    use crate::proved::bitranks;
+    use crate::proved::fixedbitset::{Bits, BitsMut, ExtendFault, FixedBitSet};
+    use crate::proved::fixedbitset::*;
+    use crate::shim::alloc::Global;
+    use crate::shim::prelude::*;
+    use crate::shim::u64x4;
+    use core::cmp::Ordering;
+    use core::mem::{size_of, size_of_val};
+
+    let alloc = Global::Try;
+    let mut set = FixedBitSet::from_iter(alloc, [1, 3]).unwrap();
+    set.resize(66, true).unwrap();
+    assert_eq!(set.count_ones(..), 64);
+    set.resize(3, true).unwrap();
+    assert!(set.ones().eq([1]));
+}
+
+#[test]
+fn fixedbitset_parts_149() {
+    use crate::proved::bitlanes::ops::*;
+    use crate::proved::bitlanes::{word, Block, IndexRange, Steps};
+    use crate::proved::bitwalks::in_turn::*;
+    use crate::proved::bitwords::cursors::*;
+    use crate::proved::bitranks;
+    use crate::proved::fixedbitset::{Bits, BitsMut, ExtendFault, FixedBitSet};
+    use crate::proved::fixedbitset::*;
+    use crate::shim::alloc::Global;
+    use crate::shim::prelude::*;
+    use crate::shim::u64x4;
+    use core::cmp::Ordering;
+    use core::mem::{size_of, size_of_val};
+
+    let alloc = Global::Try;
+    let set = FixedBitSet::from_bytes(alloc, 10, &[76, 255]).unwrap();
+    assert_eq!(set.len(), 10);
+    assert_eq!(set.as_slice(), [844].as_slice());
+}
+
+#[test]
+fn fixedbitset_parts_169() {
+    use crate::proved::bitlanes::ops::*;
+    use crate::proved::bitlanes::{word, Block, IndexRange, Steps};
+    use crate::proved::bitwalks::in_turn::*;
+    use crate::proved::bitwords::cursors::*;
+    use crate::proved::bitranks;
+    use crate::proved::fixedbitset::{Bits, BitsMut, ExtendFault, FixedBitSet};
+    use crate::proved::fixedbitset::*;
+    use crate::shim::alloc::Global;
+    use crate::shim::prelude::*;
+    use crate::shim::u64x4;
+    use core::cmp::Ordering;
+    use core::mem::{size_of, size_of_val};
+
+    let alloc = Global::Try;
+    let set = FixedBitSet::from_iter(alloc, [2, 9]).unwrap();
+    let data = set.to_bytes(alloc).unwrap();
+    assert_eq!(data.as_slice(), [4, 2, 0, 0, 0, 0, 0, 0].as_slice());
+}
+
+#[test]
+fn fixedbitset_questions_15() {
+    use crate::proved::bitlanes::ops::*;
+    use crate::proved::bitlanes::{word, Block, IndexRange, Steps};
+    use crate::proved::bitwalks::in_turn::*;
+    use crate::proved::bitwords::cursors::*;
+    use crate::proved::bitranks;
+    use crate::proved::fixedbitset::{Bits, BitsMut, ExtendFault, FixedBitSet};
+    use crate::proved::fixedbitset::*;
+    use crate::shim::alloc::Global;
+    use crate::shim::prelude::*;
+    use crate::shim::u64x4;
+    use core::cmp::Ordering;
+    use core::mem::{size_of, size_of_val};
+
+    let alloc = Global::Try;
+    assert!(FixedBitSet::new(alloc).is_empty());
+    let set = FixedBitSet::with_capacity(alloc, 3).unwrap();
+    assert!(set.is_clear() && !set.is_empty());
+}
+
+#[test]
+fn fixedbitset_questions_28() {
+    use crate::proved::bitlanes::ops::*;
+    use crate::proved::bitlanes::{word, Block, IndexRange, Steps};
+    use crate::proved::bitwalks::in_turn::*;
+    use crate::proved::bitwords::cursors::*;
+    use crate::proved::bitranks;
+    use crate::proved::fixedbitset::{Bits, BitsMut, ExtendFault, FixedBitSet};
+    use crate::proved::fixedbitset::*;
+    use crate::shim::alloc::Global;
+    use crate::shim::prelude::*;
+    use crate::shim::u64x4;
+    use core::cmp::Ordering;
+    use core::mem::{size_of, size_of_val};
+
+    let alloc = Global::Try;
+    let mut set = FixedBitSet::with_capacity(alloc, 70).unwrap();
+    assert!(set.is_clear());
+    set.insert(69);
+    assert!(!set.is_clear());
+}
+
+#[test]
+fn fixedbitset_questions_42() {
+    use crate::proved::bitlanes::ops::*;
+    use crate::proved::bitlanes::{word, Block, IndexRange, Steps};
+    use crate::proved::bitwalks::in_turn::*;
+    use crate::proved::bitwords::cursors::*;
+    use crate::proved::bitranks;
+    use crate::proved::fixedbitset::{Bits, BitsMut, ExtendFault, FixedBitSet};
+    use crate::proved::fixedbitset::*;
+    use crate::shim::alloc::Global;
+    use crate::shim::prelude::*;
+    use crate::shim::u64x4;
+    use core::cmp::Ordering;
+    use core::mem::{size_of, size_of_val};
+
+    let alloc = Global::Try;
+    let mut set = FixedBitSet::with_capacity(alloc, 200).unwrap();
+    assert_eq!(set.minimum(), None);
+    set.insert_range(64..130);
+    assert_eq!(set.minimum(), Some(64));
+}
+
+#[test]
+fn fixedbitset_questions_56() {
+    use crate::proved::bitlanes::ops::*;
+    use crate::proved::bitlanes::{word, Block, IndexRange, Steps};
+    use crate::proved::bitwalks::in_turn::*;
+    use crate::proved::bitwords::cursors::*;
+    use crate::proved::bitranks;
+    use crate::proved::fixedbitset::{Bits, BitsMut, ExtendFault, FixedBitSet};
+    use crate::proved::fixedbitset::*;
+    use crate::shim::alloc::Global;
+    use crate::shim::prelude::*;
+    use crate::shim::u64x4;
+    use core::cmp::Ordering;
+    use core::mem::{size_of, size_of_val};
+
+    let alloc = Global::Try;
+    let mut set = FixedBitSet::with_capacity(alloc, 200).unwrap();
+    assert_eq!(set.maximum(), None);
+    set.insert_range(64..130);
+    assert_eq!(set.maximum(), Some(129));
+}
+
+#[test]
+fn fixedbitset_questions_69() {
+    use crate::proved::bitlanes::ops::*;
+    use crate::proved::bitlanes::{word, Block, IndexRange, Steps};
+    use crate::proved::bitwalks::in_turn::*;
+    use crate::proved::bitwords::cursors::*;
+    use crate::proved::bitranks;
+    use crate::proved::fixedbitset::{Bits, BitsMut, ExtendFault, FixedBitSet};
+    use crate::proved::fixedbitset::*;
+    use crate::shim::alloc::Global;
+    use crate::shim::prelude::*;
+    use crate::shim::u64x4;
+    use core::cmp::Ordering;
+    use core::mem::{size_of, size_of_val};
+
+    let alloc = Global::Try;
+    let mut set = FixedBitSet::with_capacity(alloc, 70).unwrap();
+    set.insert_range(..69);
+    assert!(!set.is_full());
+    set.insert(69);
+    assert!(set.is_full());
+}
+
+#[test]
+fn fixedbitset_ranges_25() {
+    use crate::proved::bitlanes::ops::*;
+    use crate::proved::bitlanes::{word, Block, IndexRange, Steps};
+    use crate::proved::bitwalks::in_turn::*;
+    use crate::proved::bitwords::cursors::*;
+    use crate::proved::bitranks;
+    use crate::proved::fixedbitset::{Bits, BitsMut, ExtendFault, FixedBitSet};
+    use crate::proved::fixedbitset::*;
+    use crate::shim::alloc::Global;
+    use crate::shim::prelude::*;
+    use crate::shim::u64x4;
+    use core::cmp::Ordering;
+    use core::mem::{size_of, size_of_val};
+
+    let alloc = Global::Try;
+    let set = FixedBitSet::with_capacity(alloc, 70).unwrap();
+    assert!(set.range_is_valid(&(70..)));
+    assert!(set.range_is_valid(&(60..=69)));
+    assert!(!set.range_is_valid(&(60..=70)));
+    assert!(!set.range_is_valid(&(9..8)));
+}
+
+#[test]
+fn fixedbitset_ranges_41() {
+    use crate::proved::bitlanes::ops::*;
+    use crate::proved::bitlanes::{word, Block, IndexRange, Steps};
+    use crate::proved::bitwalks::in_turn::*;
+    use crate::proved::bitwords::cursors::*;
+    use crate::proved::bitranks;
+    use crate::proved::fixedbitset::{Bits, BitsMut, ExtendFault, FixedBitSet};
+    use crate::proved::fixedbitset::*;
+    use crate::shim::alloc::Global;
+    use crate::shim::prelude::*;
+    use crate::shim::u64x4;
+    use core::cmp::Ordering;
+    use core::mem::{size_of, size_of_val};
+
+    let alloc = Global::Try;
+    let mut set = FixedBitSet::with_capacity(alloc, 200).unwrap();
+    set.insert_range(60..130);
+    assert_eq!(set.count_ones(..), 70);
+    assert_eq!(set.count_ones(63..=64), 2);
+    assert_eq!(set.count_ones(9..9), 0);
+}
+
+#[test]
+fn fixedbitset_ranges_55() {
+    use crate::proved::bitlanes::ops::*;
+    use crate::proved::bitlanes::{word, Block, IndexRange, Steps};
+    use crate::proved::bitwalks::in_turn::*;
+    use crate::proved::bitwords::cursors::*;
+    use crate::proved::bitranks;
+    use crate::proved::fixedbitset::{Bits, BitsMut, ExtendFault, FixedBitSet};
+    use crate::proved::fixedbitset::*;
+    use crate::shim::alloc::Global;
+    use crate::shim::prelude::*;
+    use crate::shim::u64x4;
+    use core::cmp::Ordering;
+    use core::mem::{size_of, size_of_val};
+
+    let alloc = Global::Try;
+    let mut set = FixedBitSet::with_capacity(alloc, 70).unwrap();
+    set.insert(64);
+    assert_eq!(set.count_zeroes(..), 69);
+    assert_eq!(set.count_zeroes(63..66), 2);
+}
+
+#[test]
+fn fixedbitset_ranges_69() {
+    use crate::proved::bitlanes::ops::*;
+    use crate::proved::bitlanes::{word, Block, IndexRange, Steps};
+    use crate::proved::bitwalks::in_turn::*;
+    use crate::proved::bitwords::cursors::*;
+    use crate::proved::bitranks;
+    use crate::proved::fixedbitset::{Bits, BitsMut, ExtendFault, FixedBitSet};
+    use crate::proved::fixedbitset::*;
+    use crate::shim::alloc::Global;
+    use crate::shim::prelude::*;
+    use crate::shim::u64x4;
+    use core::cmp::Ordering;
+    use core::mem::{size_of, size_of_val};
+
+    let alloc = Global::Try;
+    let mut set = FixedBitSet::with_capacity(alloc, 70).unwrap();
+    set.set_range(60.., true);
+    set.set_range(62..=66, false);
+    assert_eq!(set.as_slice(), [3 << 60, 56].as_slice());
+}
+
+#[test]
+fn fixedbitset_ranges_86() {
+    use crate::proved::bitlanes::ops::*;
+    use crate::proved::bitlanes::{word, Block, IndexRange, Steps};
+    use crate::proved::bitwalks::in_turn::*;
+    use crate::proved::bitwords::cursors::*;
+    use crate::proved::bitranks;
+    use crate::proved::fixedbitset::{Bits, BitsMut, ExtendFault, FixedBitSet};
+    use crate::proved::fixedbitset::*;
+    use crate::shim::alloc::Global;
+    use crate::shim::prelude::*;
+    use crate::shim::u64x4;
+    use core::cmp::Ordering;
+    use core::mem::{size_of, size_of_val};
+
+    let alloc = Global::Try;
+    let mut set = FixedBitSet::with_capacity(alloc, 70).unwrap();
+    set.insert_range(63..66);
+    assert_eq!(set.as_slice(), [1 << 63, 3].as_slice());
+}
+
+#[test]
+fn fixedbitset_ranges_101() {
+    use crate::proved::bitlanes::ops::*;
+    use crate::proved::bitlanes::{word, Block, IndexRange, Steps};
+    use crate::proved::bitwalks::in_turn::*;
+    use crate::proved::bitwords::cursors::*;
+    use crate::proved::bitranks;
+    use crate::proved::fixedbitset::{Bits, BitsMut, ExtendFault, FixedBitSet};
+    use crate::proved::fixedbitset::*;
+    use crate::shim::alloc::Global;
+    use crate::shim::prelude::*;
+    use crate::shim::u64x4;
+    use core::cmp::Ordering;
+    use core::mem::{size_of, size_of_val};
+
+    let alloc = Global::Try;
+    let mut set = FixedBitSet::with_capacity(alloc, 70).unwrap();
+    set.insert_range(..);
+    set.remove_range(1..=64);
+    assert_eq!(set.as_slice(), [1, 62].as_slice());
+}
+
+#[test]
+fn fixedbitset_ranges_115() {
+    use crate::proved::bitlanes::ops::*;
+    use crate::proved::bitlanes::{word, Block, IndexRange, Steps};
+    use crate::proved::bitwalks::in_turn::*;
+    use crate::proved::bitwords::cursors::*;
+    use crate::proved::bitranks;
+    use crate::proved::fixedbitset::{Bits, BitsMut, ExtendFault, FixedBitSet};
+    use crate::proved::fixedbitset::*;
+    use crate::shim::alloc::Global;
+    use crate::shim::prelude::*;
+    use crate::shim::u64x4;
+    use core::cmp::Ordering;
+    use core::mem::{size_of, size_of_val};
+
+    let alloc = Global::Try;
+    let mut set = FixedBitSet::with_capacity(alloc, 70).unwrap();
+    set.insert_range(60..66);
+    set.toggle_range(62..);
+    assert_eq!(set.as_slice(), [3 << 60, 60].as_slice());
+}
+
+#[test]
+fn fixedbitset_ranges_129() {
+    use crate::proved::bitlanes::ops::*;
+    use crate::proved::bitlanes::{word, Block, IndexRange, Steps};
+    use crate::proved::bitwalks::in_turn::*;
+    use crate::proved::bitwords::cursors::*;
+    use crate::proved::bitranks;
+    use crate::proved::fixedbitset::{Bits, BitsMut, ExtendFault, FixedBitSet};
+    use crate::proved::fixedbitset::*;
+    use crate::shim::alloc::Global;
+    use crate::shim::prelude::*;
+    use crate::shim::u64x4;
+    use core::cmp::Ordering;
+    use core::mem::{size_of, size_of_val};
+
+    let alloc = Global::Try;
+    let mut set = FixedBitSet::with_capacity(alloc, 200).unwrap();
+    set.insert_range(60..130);
+    assert!(set.contains_all_in_range(60..=129));
+    assert!(!set.contains_all_in_range(60..=130));
+    assert!(set.contains_all_in_range(9..9));
+}
+
+#[test]
+fn fixedbitset_ranges_144() {
+    use crate::proved::bitlanes::ops::*;
+    use crate::proved::bitlanes::{word, Block, IndexRange, Steps};
+    use crate::proved::bitwalks::in_turn::*;
+    use crate::proved::bitwords::cursors::*;
+    use crate::proved::bitranks;
+    use crate::proved::fixedbitset::{Bits, BitsMut, ExtendFault, FixedBitSet};
+    use crate::proved::fixedbitset::*;
+    use crate::shim::alloc::Global;
+    use crate::shim::prelude::*;
+    use crate::shim::u64x4;
+    use core::cmp::Ordering;
+    use core::mem::{size_of, size_of_val};
+
+    let alloc = Global::Try;
+    let mut set = FixedBitSet::with_capacity(alloc, 200).unwrap();
+    set.insert_range(60..130);
+    assert!(set.contains_any_in_range(..=60));
+    assert!(!set.contains_any_in_range(130..));
+    assert!(!set.contains_any_in_range(64..64));
+}
+
+#[test]
+fn fixedbitset_set_30() {
+    use crate::proved::bitlanes::ops::*;
+    use crate::proved::bitlanes::{word, Block, IndexRange, Steps};
+    use crate::proved::bitwalks::in_turn::*;
+    use crate::proved::bitwords::cursors::*;
+    use crate::proved::bitranks;
+    use crate::proved::fixedbitset::{Bits, BitsMut, ExtendFault, FixedBitSet};
+    use crate::proved::fixedbitset::*;
+    use crate::shim::alloc::Global;
+    use crate::shim::prelude::*;
+    use crate::shim::u64x4;
+    use core::cmp::Ordering;
+    use core::mem::{size_of, size_of_val};
+
+    let alloc = Global::Try;
+    let mut set = FixedBitSet::new(alloc);
+    assert_eq!(set.len(), 0);
+    set.grow_and_insert(64).unwrap();
+    assert_eq!(set.as_slice(), [0, 1].as_slice());
+}
+
+#[test]
+fn fixedbitset_set_48() {
+    use crate::proved::bitlanes::ops::*;
+    use crate::proved::bitlanes::{word, Block, IndexRange, Steps};
+    use crate::proved::bitwalks::in_turn::*;
+    use crate::proved::bitwords::cursors::*;
+    use crate::proved::bitranks;
+    use crate::proved::fixedbitset::{Bits, BitsMut, ExtendFault, FixedBitSet};
+    use crate::proved::fixedbitset::*;
+    use crate::shim::alloc::Global;
+    use crate::shim::prelude::*;
+    use crate::shim::u64x4;
+    use core::cmp::Ordering;
+    use core::mem::{size_of, size_of_val};
+
+    let alloc = Global::Try;
+    let set = FixedBitSet::with_capacity(alloc, 70).unwrap();
+    assert_eq!(set.len(), 70);
+    assert_eq!(set.as_slice(), [0, 0].as_slice());
+}
+
+#[test]
+fn fixedbitset_set_65() {
+    use crate::proved::bitlanes::ops::*;
+    use crate::proved::bitlanes::{word, Block, IndexRange, Steps};
+    use crate::proved::bitwalks::in_turn::*;
+    use crate::proved::bitwords::cursors::*;
+    use crate::proved::bitranks;
+    use crate::proved::fixedbitset::{Bits, BitsMut, ExtendFault, FixedBitSet};
+    use crate::proved::fixedbitset::*;
+    use crate::shim::alloc::Global;
+    use crate::shim::prelude::*;
+    use crate::shim::u64x4;
+    use core::cmp::Ordering;
+    use core::mem::{size_of, size_of_val};
+
+    let alloc = Global::Try;
+    let set = FixedBitSet::default(alloc);
+    assert!(set == FixedBitSet::new(alloc));
+}
+
+#[test]
+fn fixedbitset_set_82() {
+    use crate::proved::bitlanes::ops::*;
+    use crate::proved::bitlanes::{word, Block, IndexRange, Steps};
+    use crate::proved::bitwalks::in_turn::*;
+    use crate::proved::bitwords::cursors::*;
+    use crate::proved::bitranks;
+    use crate::proved::fixedbitset::{Bits, BitsMut, ExtendFault, FixedBitSet};
+    use crate::proved::fixedbitset::*;
+    use crate::shim::alloc::Global;
+    use crate::shim::prelude::*;
+    use crate::shim::u64x4;
+    use core::cmp::Ordering;
+    use core::mem::{size_of, size_of_val};
+
+    let alloc = Global::Try;
+    let set = FixedBitSet::with_capacity_and_blocks(alloc, 67, [1, 255]).unwrap();
+    assert_eq!(set.as_slice(), [1, 7].as_slice());
+    assert!(set.contains(66) && !set.contains(67));
+}
+
+#[test]
+fn fixedbitset_set_110() {
+    use crate::proved::bitlanes::ops::*;
+    use crate::proved::bitlanes::{word, Block, IndexRange, Steps};
+    use crate::proved::bitwalks::in_turn::*;
+    use crate::proved::bitwords::cursors::*;
+    use crate::proved::bitranks;
+    use crate::proved::fixedbitset::{Bits, BitsMut, ExtendFault, FixedBitSet};
+    use crate::proved::fixedbitset::*;
+    use crate::shim::alloc::Global;
+    use crate::shim::prelude::*;
+    use crate::shim::u64x4;
+    use core::cmp::Ordering;
+    use core::mem::{size_of, size_of_val};
+
+    let alloc = Global::Try;
+    let mut set = FixedBitSet::with_capacity_and_blocks(alloc, 2, [3]).unwrap();
+    set.grow(70).unwrap();
+    set.grow(9).unwrap();
+    assert_eq!(set.len(), 70);
+    assert_eq!(set.as_slice(), [3, 0].as_slice());
+}
+
+#[test]
+fn fixedbitset_set_135() {
+    use crate::proved::bitlanes::ops::*;
+    use crate::proved::bitlanes::{word, Block, IndexRange, Steps};
+    use crate::proved::bitwalks::in_turn::*;
+    use crate::proved::bitwords::cursors::*;
+    use crate::proved::bitranks;
+    use crate::proved::fixedbitset::{Bits, BitsMut, ExtendFault, FixedBitSet};
+    use crate::proved::fixedbitset::*;
+    use crate::shim::alloc::Global;
+    use crate::shim::prelude::*;
+    use crate::shim::u64x4;
+    use core::cmp::Ordering;
+    use core::mem::{size_of, size_of_val};
+
+    let alloc = Global::Try;
+    let source = FixedBitSet::with_capacity_and_blocks(alloc, 3, [5]).unwrap();
+    let mut set = FixedBitSet::with_capacity_and_blocks(alloc, 70, [8, 1]).unwrap();
+    set.clone_from(&source).unwrap();
+    assert_eq!(set.len(), 3);
+    assert_eq!(set.as_slice(), [5].as_slice());
+}
+
+#[test]
+fn fixedbitset_set_162() {
+    use crate::proved::bitlanes::ops::*;
+    use crate::proved::bitlanes::{word, Block, IndexRange, Steps};
+    use crate::proved::bitwalks::in_turn::*;
+    use crate::proved::bitwords::cursors::*;
+    use crate::proved::bitranks;
+    use crate::proved::fixedbitset::{Bits, BitsMut, ExtendFault, FixedBitSet};
+    use crate::proved::fixedbitset::*;
+    use crate::shim::alloc::Global;
+    use crate::shim::prelude::*;
+    use crate::shim::u64x4;
+    use core::cmp::Ordering;
+    use core::mem::{size_of, size_of_val};
+
+    let alloc = Global::Try;
+    let mut words = [9, 2, 0, 0];
+    let lent = BitsMut::settle(&mut words, 70, 70);
+    let set = FixedBitSet::from_bits(alloc, lent.as_bits()).unwrap();
+    assert_eq!(set.as_slice(), [9, 2].as_slice());
+}
+
+#[test]
+fn fixedbitset_set_180() {
+    use crate::proved::bitlanes::ops::*;
+    use crate::proved::bitlanes::{word, Block, IndexRange, Steps};
+    use crate::proved::bitwalks::in_turn::*;
+    use crate::proved::bitwords::cursors::*;
+    use crate::proved::bitranks;
+    use crate::proved::fixedbitset::{Bits, BitsMut, ExtendFault, FixedBitSet};
+    use crate::proved::fixedbitset::*;
+    use crate::shim::alloc::Global;
+    use crate::shim::prelude::*;
+    use crate::shim::u64x4;
+    use core::cmp::Ordering;
+    use core::mem::{size_of, size_of_val};
+
+    let alloc = Global::Try;
+    let set = FixedBitSet::from_iter(alloc, [3, 64]).unwrap();
+    assert!(set.as_bits().contains(64));
+}
+
+#[test]
+fn fixedbitset_set_197() {
+    use crate::proved::bitlanes::ops::*;
+    use crate::proved::bitlanes::{word, Block, IndexRange, Steps};
+    use crate::proved::bitwalks::in_turn::*;
+    use crate::proved::bitwords::cursors::*;
+    use crate::proved::bitranks;
+    use crate::proved::fixedbitset::{Bits, BitsMut, ExtendFault, FixedBitSet};
+    use crate::proved::fixedbitset::*;
+    use crate::shim::alloc::Global;
+    use crate::shim::prelude::*;
+    use crate::shim::u64x4;
+    use core::cmp::Ordering;
+    use core::mem::{size_of, size_of_val};
+
+    let alloc = Global::Try;
+    let mut set = FixedBitSet::with_capacity(alloc, 70).unwrap();
+    assert_eq!(set.as_slice().len(), 2);
+    set.set_block(1, Block::MAX);
+    assert_eq!(set.as_slice(), [0, 63].as_slice());
+}
+
+#[test]
+fn fixedbitset_set_211() {
+    use crate::proved::bitlanes::ops::*;
+    use crate::proved::bitlanes::{word, Block, IndexRange, Steps};
+    use crate::proved::bitwalks::in_turn::*;
+    use crate::proved::bitwords::cursors::*;
+    use crate::proved::bitranks;
+    use crate::proved::fixedbitset::{Bits, BitsMut, ExtendFault, FixedBitSet};
+    use crate::proved::fixedbitset::*;
+    use crate::shim::alloc::Global;
+    use crate::shim::prelude::*;
+    use crate::shim::u64x4;
+    use core::cmp::Ordering;
+    use core::mem::{size_of, size_of_val};
+
+    let alloc = Global::Try;
+    let mut set = FixedBitSet::with_capacity_and_blocks(alloc, 70, [8, 1]).unwrap();
+    set.clear();
+    assert_eq!(set.len(), 70);
+    assert_eq!(set.as_slice(), [0, 0].as_slice());
+}
+
+#[test]
+fn fixedbitset_set_225() {
+    use crate::proved::bitlanes::ops::*;
+    use crate::proved::bitlanes::{word, Block, IndexRange, Steps};
+    use crate::proved::bitwalks::in_turn::*;
+    use crate::proved::bitwords::cursors::*;
+    use crate::proved::bitranks;
+    use crate::proved::fixedbitset::{Bits, BitsMut, ExtendFault, FixedBitSet};
+    use crate::proved::fixedbitset::*;
+    use crate::shim::alloc::Global;
+    use crate::shim::prelude::*;
+    use crate::shim::u64x4;
+    use core::cmp::Ordering;
+    use core::mem::{size_of, size_of_val};
+
+    let alloc = Global::Try;
+    let set = FixedBitSet::from_iter(alloc, [3, 70]).unwrap();
+    assert_eq!(set.len(), 71);
+    assert_eq!(set.count_ones(..), 2);
+}
+
+#[test]
+fn fixedbitset_set_240() {
+    use crate::proved::bitlanes::ops::*;
+    use crate::proved::bitlanes::{word, Block, IndexRange, Steps};
+    use crate::proved::bitwalks::in_turn::*;
+    use crate::proved::bitwords::cursors::*;
+    use crate::proved::bitranks;
+    use crate::proved::fixedbitset::{Bits, BitsMut, ExtendFault, FixedBitSet};
+    use crate::proved::fixedbitset::*;
+    use crate::shim::alloc::Global;
+    use crate::shim::prelude::*;
+    use crate::shim::u64x4;
+    use core::cmp::Ordering;
+    use core::mem::{size_of, size_of_val};
+
+    let alloc = Global::Try;
+    let set = FixedBitSet::from_iter(alloc, [63, 64, 65]).unwrap();
+    assert_eq!(set.as_slice(), [1 << 63, 3].as_slice());
+}
+
+#[test]
+fn fixedbitset_set_261() {
+    use crate::proved::bitlanes::ops::*;
+    use crate::proved::bitlanes::{word, Block, IndexRange, Steps};
+    use crate::proved::bitwalks::in_turn::*;
+    use crate::proved::bitwords::cursors::*;
+    use crate::proved::bitranks;
+    use crate::proved::fixedbitset::{Bits, BitsMut, ExtendFault, FixedBitSet};
+    use crate::proved::fixedbitset::*;
+    use crate::shim::alloc::Global;
+    use crate::shim::prelude::*;
+    use crate::shim::u64x4;
+    use core::cmp::Ordering;
+    use core::mem::{size_of, size_of_val};
+
+    let alloc = Global::Try;
+    let set = FixedBitSet::from_iter(alloc, [3, 64]).unwrap();
+    let mut copy = set.clone().unwrap();
+    copy.clear();
+    assert_eq!(copy.len(), 65);
+    assert!(set.contains(64) && !copy.contains(64));
+}
+
+#[test]
+fn fixedbitset_shifts_15() {
+    use crate::proved::bitlanes::ops::*;
+    use crate::proved::bitlanes::{word, Block, IndexRange, Steps};
+    use crate::proved::bitwalks::in_turn::*;
+    use crate::proved::bitwords::cursors::*;
+    use crate::proved::bitranks;
+    use crate::proved::fixedbitset::{Bits, BitsMut, ExtendFault, FixedBitSet};
+    use crate::proved::fixedbitset::*;
+    use crate::shim::alloc::Global;
+    use crate::shim::prelude::*;
+    use crate::shim::u64x4;
+    use core::cmp::Ordering;
+    use core::mem::{size_of, size_of_val};
+
+    let alloc = Global::Try;
+    let mut set = FixedBitSet::from_iter(alloc, [0, 3, 69]).unwrap();
+    set.shift_up(64);
+    assert_eq!(set.as_slice(), [0, 9].as_slice());
+    set.shift_up(usize::MAX);
+    assert!(set.is_clear() && set.len() == 70);
+}
+
+#[test]
+fn fixedbitset_shifts_30() {
+    use crate::proved::bitlanes::ops::*;
+    use crate::proved::bitlanes::{word, Block, IndexRange, Steps};
+    use crate::proved::bitwalks::in_turn::*;
+    use crate::proved::bitwords::cursors::*;
+    use crate::proved::bitranks;
+    use crate::proved::fixedbitset::{Bits, BitsMut, ExtendFault, FixedBitSet};
+    use crate::proved::fixedbitset::*;
+    use crate::shim::alloc::Global;
+    use crate::shim::prelude::*;
+    use crate::shim::u64x4;
+    use core::cmp::Ordering;
+    use core::mem::{size_of, size_of_val};
+
+    let alloc = Global::Try;
+    let mut set = FixedBitSet::from_iter(alloc, [0, 3, 69]).unwrap();
+    set.shift_down(3);
+    assert_eq!(set.as_slice(), [1, 4].as_slice());
+    assert_eq!(set.len(), 70);
+}
+
+#[test]
+fn fixedbitset_shifts_46() {
+    use crate::proved::bitlanes::ops::*;
+    use crate::proved::bitlanes::{word, Block, IndexRange, Steps};
+    use crate::proved::bitwalks::in_turn::*;
+    use crate::proved::bitwords::cursors::*;
+    use crate::proved::bitranks;
+    use crate::proved::fixedbitset::{Bits, BitsMut, ExtendFault, FixedBitSet};
+    use crate::proved::fixedbitset::*;
+    use crate::shim::alloc::Global;
+    use crate::shim::prelude::*;
+    use crate::shim::u64x4;
+    use core::cmp::Ordering;
+    use core::mem::{size_of, size_of_val};
+
+    let alloc = Global::Try;
+    let mut set = FixedBitSet::from_iter(alloc, [0, 69]).unwrap();
+    let other = FixedBitSet::from_iter(alloc, [0, 1, 5]).unwrap();
+    set.union_with_shifted(&other, 65);
+    assert!(set.ones().eq([0, 65, 66, 69]));
+}
+
+#[test]
+fn fixedbitset_shifts_63() {
+    use crate::proved::bitlanes::ops::*;
+    use crate::proved::bitlanes::{word, Block, IndexRange, Steps};
+    use crate::proved::bitwalks::in_turn::*;
+    use crate::proved::bitwords::cursors::*;
+    use crate::proved::bitranks;
+    use crate::proved::fixedbitset::{Bits, BitsMut, ExtendFault, FixedBitSet};
+    use crate::proved::fixedbitset::*;
+    use crate::shim::alloc::Global;
+    use crate::shim::prelude::*;
+    use crate::shim::u64x4;
+    use core::cmp::Ordering;
+    use core::mem::{size_of, size_of_val};
+
+    let alloc = Global::Try;
+    let mut set = FixedBitSet::with_capacity(alloc, 100).unwrap();
+    set.insert(0);
+    set.union_with_own_shift(3);
+    set.union_with_own_shift(70);
+    assert!(set.ones().eq([0, 3, 70, 73]));
+}
+
+#[test]
+fn fixedbitset_views_bytes_14() {
+    use crate::proved::bitlanes::ops::*;
+    use crate::proved::bitlanes::{word, Block, IndexRange, Steps};
+    use crate::proved::bitwalks::in_turn::*;
+    use crate::proved::bitwords::cursors::*;
+    use crate::proved::bitranks;
+    use crate::proved::fixedbitset::{Bits, BitsMut, ExtendFault, FixedBitSet};
+    use crate::proved::fixedbitset::*;
+    use crate::shim::alloc::Global;
+    use crate::shim::prelude::*;
     use crate::shim::u64x4;
     use core::cmp::Ordering;
     use core::mem::{size_of, size_of_val};
@@ -1850,10 +5267,14 @@ fn fixedbitset_views_bytes_14() {
 #[test]
 fn fixedbitset_views_bytes_31() {
     use crate::proved::bitlanes::ops::*;
-    use crate::proved::bitlanes::{word, Block, Steps};
+    use crate::proved::bitlanes::{word, Block, IndexRange, Steps};
     use crate::proved::bitwalks::in_turn::*;
     use crate::proved::bitwords::cursors::*;
+    use crate::proved::bitranks;
+    use crate::proved::fixedbitset::{Bits, BitsMut, ExtendFault, FixedBitSet};
     use crate::proved::fixedbitset::*;
+    use crate::shim::alloc::Global;
+    use crate::shim::prelude::*;
     use crate::shim::u64x4;
     use core::cmp::Ordering;
     use core::mem::{size_of, size_of_val};
@@ -1867,10 +5288,14 @@ fn fixedbitset_views_bytes_31() {
 #[test]
 fn fixedbitset_views_changes_13() {
     use crate::proved::bitlanes::ops::*;
-    use crate::proved::bitlanes::{word, Block, Steps};
+    use crate::proved::bitlanes::{word, Block, IndexRange, Steps};
     use crate::proved::bitwalks::in_turn::*;
     use crate::proved::bitwords::cursors::*;
+    use crate::proved::bitranks;
+    use crate::proved::fixedbitset::{Bits, BitsMut, ExtendFault, FixedBitSet};
     use crate::proved::fixedbitset::*;
+    use crate::shim::alloc::Global;
+    use crate::shim::prelude::*;
     use crate::shim::u64x4;
     use core::cmp::Ordering;
     use core::mem::{size_of, size_of_val};
@@ -1885,10 +5310,14 @@ fn fixedbitset_views_changes_13() {
 #[test]
 fn fixedbitset_views_changes_27() {
     use crate::proved::bitlanes::ops::*;
-    use crate::proved::bitlanes::{word, Block, Steps};
+    use crate::proved::bitlanes::{word, Block, IndexRange, Steps};
     use crate::proved::bitwalks::in_turn::*;
     use crate::proved::bitwords::cursors::*;
+    use crate::proved::bitranks;
+    use crate::proved::fixedbitset::{Bits, BitsMut, ExtendFault, FixedBitSet};
     use crate::proved::fixedbitset::*;
+    use crate::shim::alloc::Global;
+    use crate::shim::prelude::*;
     use crate::shim::u64x4;
     use core::cmp::Ordering;
     use core::mem::{size_of, size_of_val};
@@ -1903,10 +5332,14 @@ fn fixedbitset_views_changes_27() {
 #[test]
 fn fixedbitset_views_changes_41() {
     use crate::proved::bitlanes::ops::*;
-    use crate::proved::bitlanes::{word, Block, Steps};
+    use crate::proved::bitlanes::{word, Block, IndexRange, Steps};
     use crate::proved::bitwalks::in_turn::*;
     use crate::proved::bitwords::cursors::*;
+    use crate::proved::bitranks;
+    use crate::proved::fixedbitset::{Bits, BitsMut, ExtendFault, FixedBitSet};
     use crate::proved::fixedbitset::*;
+    use crate::shim::alloc::Global;
+    use crate::shim::prelude::*;
     use crate::shim::u64x4;
     use core::cmp::Ordering;
     use core::mem::{size_of, size_of_val};
@@ -1921,10 +5354,14 @@ fn fixedbitset_views_changes_41() {
 #[test]
 fn fixedbitset_views_changes_56() {
     use crate::proved::bitlanes::ops::*;
-    use crate::proved::bitlanes::{word, Block, Steps};
+    use crate::proved::bitlanes::{word, Block, IndexRange, Steps};
     use crate::proved::bitwalks::in_turn::*;
     use crate::proved::bitwords::cursors::*;
+    use crate::proved::bitranks;
+    use crate::proved::fixedbitset::{Bits, BitsMut, ExtendFault, FixedBitSet};
     use crate::proved::fixedbitset::*;
+    use crate::shim::alloc::Global;
+    use crate::shim::prelude::*;
     use crate::shim::u64x4;
     use core::cmp::Ordering;
     use core::mem::{size_of, size_of_val};
@@ -1940,10 +5377,14 @@ fn fixedbitset_views_changes_56() {
 #[test]
 fn fixedbitset_views_copies_14() {
     use crate::proved::bitlanes::ops::*;
-    use crate::proved::bitlanes::{word, Block, Steps};
+    use crate::proved::bitlanes::{word, Block, IndexRange, Steps};
     use crate::proved::bitwalks::in_turn::*;
     use crate::proved::bitwords::cursors::*;
+    use crate::proved::bitranks;
+    use crate::proved::fixedbitset::{Bits, BitsMut, ExtendFault, FixedBitSet};
     use crate::proved::fixedbitset::*;
+    use crate::shim::alloc::Global;
+    use crate::shim::prelude::*;
     use crate::shim::u64x4;
     use core::cmp::Ordering;
     use core::mem::{size_of, size_of_val};
@@ -1957,10 +5398,14 @@ fn fixedbitset_views_copies_14() {
 #[test]
 fn fixedbitset_views_copies_28() {
     use crate::proved::bitlanes::ops::*;
-    use crate::proved::bitlanes::{word, Block, Steps};
+    use crate::proved::bitlanes::{word, Block, IndexRange, Steps};
     use crate::proved::bitwalks::in_turn::*;
     use crate::proved::bitwords::cursors::*;
+    use crate::proved::bitranks;
+    use crate::proved::fixedbitset::{Bits, BitsMut, ExtendFault, FixedBitSet};
     use crate::proved::fixedbitset::*;
+    use crate::shim::alloc::Global;
+    use crate::shim::prelude::*;
     use crate::shim::u64x4;
     use core::cmp::Ordering;
     use core::mem::{size_of, size_of_val};
@@ -1975,10 +5420,14 @@ fn fixedbitset_views_copies_28() {
 #[test]
 fn fixedbitset_views_copies_47() {
     use crate::proved::bitlanes::ops::*;
-    use crate::proved::bitlanes::{word, Block, Steps};
+    use crate::proved::bitlanes::{word, Block, IndexRange, Steps};
     use crate::proved::bitwalks::in_turn::*;
     use crate::proved::bitwords::cursors::*;
+    use crate::proved::bitranks;
+    use crate::proved::fixedbitset::{Bits, BitsMut, ExtendFault, FixedBitSet};
     use crate::proved::fixedbitset::*;
+    use crate::shim::alloc::Global;
+    use crate::shim::prelude::*;
     use crate::shim::u64x4;
     use core::cmp::Ordering;
     use core::mem::{size_of, size_of_val};
@@ -1993,10 +5442,14 @@ fn fixedbitset_views_copies_47() {
 #[test]
 fn fixedbitset_views_copies_65() {
     use crate::proved::bitlanes::ops::*;
-    use crate::proved::bitlanes::{word, Block, Steps};
+    use crate::proved::bitlanes::{word, Block, IndexRange, Steps};
     use crate::proved::bitwalks::in_turn::*;
     use crate::proved::bitwords::cursors::*;
+    use crate::proved::bitranks;
+    use crate::proved::fixedbitset::{Bits, BitsMut, ExtendFault, FixedBitSet};
     use crate::proved::fixedbitset::*;
+    use crate::shim::alloc::Global;
+    use crate::shim::prelude::*;
     use crate::shim::u64x4;
     use core::cmp::Ordering;
     use core::mem::{size_of, size_of_val};
@@ -2011,10 +5464,14 @@ fn fixedbitset_views_copies_65() {
 #[test]
 fn fixedbitset_views_copies_84() {
     use crate::proved::bitlanes::ops::*;
-    use crate::proved::bitlanes::{word, Block, Steps};
+    use crate::proved::bitlanes::{word, Block, IndexRange, Steps};
     use crate::proved::bitwalks::in_turn::*;
     use crate::proved::bitwords::cursors::*;
+    use crate::proved::bitranks;
+    use crate::proved::fixedbitset::{Bits, BitsMut, ExtendFault, FixedBitSet};
     use crate::proved::fixedbitset::*;
+    use crate::shim::alloc::Global;
+    use crate::shim::prelude::*;
     use crate::shim::u64x4;
     use core::cmp::Ordering;
     use core::mem::{size_of, size_of_val};
@@ -2029,10 +5486,14 @@ fn fixedbitset_views_copies_84() {
 #[test]
 fn fixedbitset_views_copies_107() {
     use crate::proved::bitlanes::ops::*;
-    use crate::proved::bitlanes::{word, Block, Steps};
+    use crate::proved::bitlanes::{word, Block, IndexRange, Steps};
     use crate::proved::bitwalks::in_turn::*;
     use crate::proved::bitwords::cursors::*;
+    use crate::proved::bitranks;
+    use crate::proved::fixedbitset::{Bits, BitsMut, ExtendFault, FixedBitSet};
     use crate::proved::fixedbitset::*;
+    use crate::shim::alloc::Global;
+    use crate::shim::prelude::*;
     use crate::shim::u64x4;
     use core::cmp::Ordering;
     use core::mem::{size_of, size_of_val};
@@ -2047,10 +5508,14 @@ fn fixedbitset_views_copies_107() {
 #[test]
 fn fixedbitset_views_copies_122() {
     use crate::proved::bitlanes::ops::*;
-    use crate::proved::bitlanes::{word, Block, Steps};
+    use crate::proved::bitlanes::{word, Block, IndexRange, Steps};
     use crate::proved::bitwalks::in_turn::*;
     use crate::proved::bitwords::cursors::*;
+    use crate::proved::bitranks;
+    use crate::proved::fixedbitset::{Bits, BitsMut, ExtendFault, FixedBitSet};
     use crate::proved::fixedbitset::*;
+    use crate::shim::alloc::Global;
+    use crate::shim::prelude::*;
     use crate::shim::u64x4;
     use core::cmp::Ordering;
     use core::mem::{size_of, size_of_val};
@@ -2065,10 +5530,14 @@ fn fixedbitset_views_copies_122() {
 #[test]
 fn fixedbitset_views_copies_137() {
     use crate::proved::bitlanes::ops::*;
-    use crate::proved::bitlanes::{word, Block, Steps};
+    use crate::proved::bitlanes::{word, Block, IndexRange, Steps};
     use crate::proved::bitwalks::in_turn::*;
     use crate::proved::bitwords::cursors::*;
+    use crate::proved::bitranks;
+    use crate::proved::fixedbitset::{Bits, BitsMut, ExtendFault, FixedBitSet};
     use crate::proved::fixedbitset::*;
+    use crate::shim::alloc::Global;
+    use crate::shim::prelude::*;
     use crate::shim::u64x4;
     use core::cmp::Ordering;
     use core::mem::{size_of, size_of_val};
@@ -2083,10 +5552,14 @@ fn fixedbitset_views_copies_137() {
 #[test]
 fn fixedbitset_views_copies_152() {
     use crate::proved::bitlanes::ops::*;
-    use crate::proved::bitlanes::{word, Block, Steps};
+    use crate::proved::bitlanes::{word, Block, IndexRange, Steps};
     use crate::proved::bitwalks::in_turn::*;
     use crate::proved::bitwords::cursors::*;
+    use crate::proved::bitranks;
+    use crate::proved::fixedbitset::{Bits, BitsMut, ExtendFault, FixedBitSet};
     use crate::proved::fixedbitset::*;
+    use crate::shim::alloc::Global;
+    use crate::shim::prelude::*;
     use crate::shim::u64x4;
     use core::cmp::Ordering;
     use core::mem::{size_of, size_of_val};
@@ -2101,10 +5574,14 @@ fn fixedbitset_views_copies_152() {
 #[test]
 fn fixedbitset_views_gaps_16() {
     use crate::proved::bitlanes::ops::*;
-    use crate::proved::bitlanes::{word, Block, Steps};
+    use crate::proved::bitlanes::{word, Block, IndexRange, Steps};
     use crate::proved::bitwalks::in_turn::*;
     use crate::proved::bitwords::cursors::*;
+    use crate::proved::bitranks;
+    use crate::proved::fixedbitset::{Bits, BitsMut, ExtendFault, FixedBitSet};
     use crate::proved::fixedbitset::*;
+    use crate::shim::alloc::Global;
+    use crate::shim::prelude::*;
     use crate::shim::u64x4;
     use core::cmp::Ordering;
     use core::mem::{size_of, size_of_val};
@@ -2118,10 +5595,14 @@ fn fixedbitset_views_gaps_16() {
 #[test]
 fn fixedbitset_views_gaps_35() {
     use crate::proved::bitlanes::ops::*;
-    use crate::proved::bitlanes::{word, Block, Steps};
+    use crate::proved::bitlanes::{word, Block, IndexRange, Steps};
     use crate::proved::bitwalks::in_turn::*;
     use crate::proved::bitwords::cursors::*;
+    use crate::proved::bitranks;
+    use crate::proved::fixedbitset::{Bits, BitsMut, ExtendFault, FixedBitSet};
     use crate::proved::fixedbitset::*;
+    use crate::shim::alloc::Global;
+    use crate::shim::prelude::*;
     use crate::shim::u64x4;
     use core::cmp::Ordering;
     use core::mem::{size_of, size_of_val};
@@ -2136,10 +5617,14 @@ fn fixedbitset_views_gaps_35() {
 #[test]
 fn fixedbitset_views_neighbours_15() {
     use crate::proved::bitlanes::ops::*;
-    use crate::proved::bitlanes::{word, Block, Steps};
+    use crate::proved::bitlanes::{word, Block, IndexRange, Steps};
     use crate::proved::bitwalks::in_turn::*;
     use crate::proved::bitwords::cursors::*;
+    use crate::proved::bitranks;
+    use crate::proved::fixedbitset::{Bits, BitsMut, ExtendFault, FixedBitSet};
     use crate::proved::fixedbitset::*;
+    use crate::shim::alloc::Global;
+    use crate::shim::prelude::*;
     use crate::shim::u64x4;
     use core::cmp::Ordering;
     use core::mem::{size_of, size_of_val};
@@ -2154,10 +5639,14 @@ fn fixedbitset_views_neighbours_15() {
 #[test]
 fn fixedbitset_views_neighbours_30() {
     use crate::proved::bitlanes::ops::*;
-    use crate::proved::bitlanes::{word, Block, Steps};
+    use crate::proved::bitlanes::{word, Block, IndexRange, Steps};
     use crate::proved::bitwalks::in_turn::*;
     use crate::proved::bitwords::cursors::*;
+    use crate::proved::bitranks;
+    use crate::proved::fixedbitset::{Bits, BitsMut, ExtendFault, FixedBitSet};
     use crate::proved::fixedbitset::*;
+    use crate::shim::alloc::Global;
+    use crate::shim::prelude::*;
     use crate::shim::u64x4;
     use core::cmp::Ordering;
     use core::mem::{size_of, size_of_val};
@@ -2171,10 +5660,14 @@ fn fixedbitset_views_neighbours_30() {
 #[test]
 fn fixedbitset_views_neighbours_47() {
     use crate::proved::bitlanes::ops::*;
-    use crate::proved::bitlanes::{word, Block, Steps};
+    use crate::proved::bitlanes::{word, Block, IndexRange, Steps};
     use crate::proved::bitwalks::in_turn::*;
     use crate::proved::bitwords::cursors::*;
+    use crate::proved::bitranks;
+    use crate::proved::fixedbitset::{Bits, BitsMut, ExtendFault, FixedBitSet};
     use crate::proved::fixedbitset::*;
+    use crate::shim::alloc::Global;
+    use crate::shim::prelude::*;
     use crate::shim::u64x4;
     use core::cmp::Ordering;
     use core::mem::{size_of, size_of_val};
@@ -2189,10 +5682,14 @@ fn fixedbitset_views_neighbours_47() {
 #[test]
 fn fixedbitset_views_neighbours_68() {
     use crate::proved::bitlanes::ops::*;
-    use crate::proved::bitlanes::{word, Block, Steps};
+    use crate::proved::bitlanes::{word, Block, IndexRange, Steps};
     use crate::proved::bitwalks::in_turn::*;
     use crate::proved::bitwords::cursors::*;
+    use crate::proved::bitranks;
+    use crate::proved::fixedbitset::{Bits, BitsMut, ExtendFault, FixedBitSet};
     use crate::proved::fixedbitset::*;
+    use crate::shim::alloc::Global;
+    use crate::shim::prelude::*;
     use crate::shim::u64x4;
     use core::cmp::Ordering;
     use core::mem::{size_of, size_of_val};
@@ -2206,10 +5703,14 @@ fn fixedbitset_views_neighbours_68() {
 #[test]
 fn fixedbitset_views_neighbours_82() {
     use crate::proved::bitlanes::ops::*;
-    use crate::proved::bitlanes::{word, Block, Steps};
+    use crate::proved::bitlanes::{word, Block, IndexRange, Steps};
     use crate::proved::bitwalks::in_turn::*;
     use crate::proved::bitwords::cursors::*;
+    use crate::proved::bitranks;
+    use crate::proved::fixedbitset::{Bits, BitsMut, ExtendFault, FixedBitSet};
     use crate::proved::fixedbitset::*;
+    use crate::shim::alloc::Global;
+    use crate::shim::prelude::*;
     use crate::shim::u64x4;
     use core::cmp::Ordering;
     use core::mem::{size_of, size_of_val};
@@ -2224,10 +5725,14 @@ fn fixedbitset_views_neighbours_82() {
 #[test]
 fn fixedbitset_views_neighbours_97() {
     use crate::proved::bitlanes::ops::*;
-    use crate::proved::bitlanes::{word, Block, Steps};
+    use crate::proved::bitlanes::{word, Block, IndexRange, Steps};
     use crate::proved::bitwalks::in_turn::*;
     use crate::proved::bitwords::cursors::*;
+    use crate::proved::bitranks;
+    use crate::proved::fixedbitset::{Bits, BitsMut, ExtendFault, FixedBitSet};
     use crate::proved::fixedbitset::*;
+    use crate::shim::alloc::Global;
+    use crate::shim::prelude::*;
     use crate::shim::u64x4;
     use core::cmp::Ordering;
     use core::mem::{size_of, size_of_val};
@@ -2241,10 +5746,14 @@ fn fixedbitset_views_neighbours_97() {
 #[test]
 fn fixedbitset_views_positions_16() {
     use crate::proved::bitlanes::ops::*;
-    use crate::proved::bitlanes::{word, Block, Steps};
+    use crate::proved::bitlanes::{word, Block, IndexRange, Steps};
     use crate::proved::bitwalks::in_turn::*;
     use crate::proved::bitwords::cursors::*;
+    use crate::proved::bitranks;
+    use crate::proved::fixedbitset::{Bits, BitsMut, ExtendFault, FixedBitSet};
     use crate::proved::fixedbitset::*;
+    use crate::shim::alloc::Global;
+    use crate::shim::prelude::*;
     use crate::shim::u64x4;
     use core::cmp::Ordering;
     use core::mem::{size_of, size_of_val};
@@ -2255,12 +5764,36 @@ fn fixedbitset_views_positions_16() {
 }
 
 #[test]
-fn fixedbitset_views_positions_45() {
+fn fixedbitset_views_positions_33() {
     use crate::proved::bitlanes::ops::*;
-    use crate::proved::bitlanes::{word, Block, Steps};
+    use crate::proved::bitlanes::{word, Block, IndexRange, Steps};
     use crate::proved::bitwalks::in_turn::*;
     use crate::proved::bitwords::cursors::*;
+    use crate::proved::bitranks;
+    use crate::proved::fixedbitset::{Bits, BitsMut, ExtendFault, FixedBitSet};
     use crate::proved::fixedbitset::*;
+    use crate::shim::alloc::Global;
+    use crate::shim::prelude::*;
+    use crate::shim::u64x4;
+    use core::cmp::Ordering;
+    use core::mem::{size_of, size_of_val};
+
+    let mut words = [9, 2, 0, 0];
+    let set = BitsMut::settle(&mut words, 70, 70);
+    assert_eq!(set.as_bits().as_slice(), [9, 2].as_slice());
+}
+
+#[test]
+fn fixedbitset_views_positions_45() {
+    use crate::proved::bitlanes::ops::*;
+    use crate::proved::bitlanes::{word, Block, IndexRange, Steps};
+    use crate::proved::bitwalks::in_turn::*;
+    use crate::proved::bitwords::cursors::*;
+    use crate::proved::bitranks;
+    use crate::proved::fixedbitset::{Bits, BitsMut, ExtendFault, FixedBitSet};
+    use crate::proved::fixedbitset::*;
+    use crate::shim::alloc::Global;
+    use crate::shim::prelude::*;
     use crate::shim::u64x4;
     use core::cmp::Ordering;
     use core::mem::{size_of, size_of_val};
@@ -2274,10 +5807,14 @@ fn fixedbitset_views_positions_45() {
 #[test]
 fn fixedbitset_views_positions_58() {
     use crate::proved::bitlanes::ops::*;
-    use crate::proved::bitlanes::{word, Block, Steps};
+    use crate::proved::bitlanes::{word, Block, IndexRange, Steps};
     use crate::proved::bitwalks::in_turn::*;
     use crate::proved::bitwords::cursors::*;
+    use crate::proved::bitranks;
+    use crate::proved::fixedbitset::{Bits, BitsMut, ExtendFault, FixedBitSet};
     use crate::proved::fixedbitset::*;
+    use crate::shim::alloc::Global;
+    use crate::shim::prelude::*;
     use crate::shim::u64x4;
     use core::cmp::Ordering;
     use core::mem::{size_of, size_of_val};
@@ -2290,10 +5827,14 @@ fn fixedbitset_views_positions_58() {
 #[test]
 fn fixedbitset_views_positions_71() {
     use crate::proved::bitlanes::ops::*;
-    use crate::proved::bitlanes::{word, Block, Steps};
+    use crate::proved::bitlanes::{word, Block, IndexRange, Steps};
     use crate::proved::bitwalks::in_turn::*;
     use crate::proved::bitwords::cursors::*;
+    use crate::proved::bitranks;
+    use crate::proved::fixedbitset::{Bits, BitsMut, ExtendFault, FixedBitSet};
     use crate::proved::fixedbitset::*;
+    use crate::shim::alloc::Global;
+    use crate::shim::prelude::*;
     use crate::shim::u64x4;
     use core::cmp::Ordering;
     use core::mem::{size_of, size_of_val};
@@ -2308,10 +5849,14 @@ fn fixedbitset_views_positions_71() {
 #[test]
 fn fixedbitset_views_positions_89() {
     use crate::proved::bitlanes::ops::*;
-    use crate::proved::bitlanes::{word, Block, Steps};
+    use crate::proved::bitlanes::{word, Block, IndexRange, Steps};
     use crate::proved::bitwalks::in_turn::*;
     use crate::proved::bitwords::cursors::*;
+    use crate::proved::bitranks;
+    use crate::proved::fixedbitset::{Bits, BitsMut, ExtendFault, FixedBitSet};
     use crate::proved::fixedbitset::*;
+    use crate::shim::alloc::Global;
+    use crate::shim::prelude::*;
     use crate::shim::u64x4;
     use core::cmp::Ordering;
     use core::mem::{size_of, size_of_val};
@@ -2324,10 +5869,14 @@ fn fixedbitset_views_positions_89() {
 #[test]
 fn fixedbitset_views_positions_104() {
     use crate::proved::bitlanes::ops::*;
-    use crate::proved::bitlanes::{word, Block, Steps};
+    use crate::proved::bitlanes::{word, Block, IndexRange, Steps};
     use crate::proved::bitwalks::in_turn::*;
     use crate::proved::bitwords::cursors::*;
+    use crate::proved::bitranks;
+    use crate::proved::fixedbitset::{Bits, BitsMut, ExtendFault, FixedBitSet};
     use crate::proved::fixedbitset::*;
+    use crate::shim::alloc::Global;
+    use crate::shim::prelude::*;
     use crate::shim::u64x4;
     use core::cmp::Ordering;
     use core::mem::{size_of, size_of_val};
@@ -2340,10 +5889,14 @@ fn fixedbitset_views_positions_104() {
 #[test]
 fn fixedbitset_views_positions_119() {
     use crate::proved::bitlanes::ops::*;
-    use crate::proved::bitlanes::{word, Block, Steps};
+    use crate::proved::bitlanes::{word, Block, IndexRange, Steps};
     use crate::proved::bitwalks::in_turn::*;
     use crate::proved::bitwords::cursors::*;
+    use crate::proved::bitranks;
+    use crate::proved::fixedbitset::{Bits, BitsMut, ExtendFault, FixedBitSet};
     use crate::proved::fixedbitset::*;
+    use crate::shim::alloc::Global;
+    use crate::shim::prelude::*;
     use crate::shim::u64x4;
     use core::cmp::Ordering;
     use core::mem::{size_of, size_of_val};
@@ -2356,10 +5909,14 @@ fn fixedbitset_views_positions_119() {
 #[test]
 fn fixedbitset_views_positions_138() {
     use crate::proved::bitlanes::ops::*;
-    use crate::proved::bitlanes::{word, Block, Steps};
+    use crate::proved::bitlanes::{word, Block, IndexRange, Steps};
     use crate::proved::bitwalks::in_turn::*;
     use crate::proved::bitwords::cursors::*;
+    use crate::proved::bitranks;
+    use crate::proved::fixedbitset::{Bits, BitsMut, ExtendFault, FixedBitSet};
     use crate::proved::fixedbitset::*;
+    use crate::shim::alloc::Global;
+    use crate::shim::prelude::*;
     use crate::shim::u64x4;
     use core::cmp::Ordering;
     use core::mem::{size_of, size_of_val};
@@ -2372,10 +5929,14 @@ fn fixedbitset_views_positions_138() {
 #[test]
 fn fixedbitset_views_positions_152() {
     use crate::proved::bitlanes::ops::*;
-    use crate::proved::bitlanes::{word, Block, Steps};
+    use crate::proved::bitlanes::{word, Block, IndexRange, Steps};
     use crate::proved::bitwalks::in_turn::*;
     use crate::proved::bitwords::cursors::*;
+    use crate::proved::bitranks;
+    use crate::proved::fixedbitset::{Bits, BitsMut, ExtendFault, FixedBitSet};
     use crate::proved::fixedbitset::*;
+    use crate::shim::alloc::Global;
+    use crate::shim::prelude::*;
     use crate::shim::u64x4;
     use core::cmp::Ordering;
     use core::mem::{size_of, size_of_val};
@@ -2388,10 +5949,14 @@ fn fixedbitset_views_positions_152() {
 #[test]
 fn fixedbitset_views_positions_165() {
     use crate::proved::bitlanes::ops::*;
-    use crate::proved::bitlanes::{word, Block, Steps};
+    use crate::proved::bitlanes::{word, Block, IndexRange, Steps};
     use crate::proved::bitwalks::in_turn::*;
     use crate::proved::bitwords::cursors::*;
+    use crate::proved::bitranks;
+    use crate::proved::fixedbitset::{Bits, BitsMut, ExtendFault, FixedBitSet};
     use crate::proved::fixedbitset::*;
+    use crate::shim::alloc::Global;
+    use crate::shim::prelude::*;
     use crate::shim::u64x4;
     use core::cmp::Ordering;
     use core::mem::{size_of, size_of_val};
@@ -2404,10 +5969,14 @@ fn fixedbitset_views_positions_165() {
 #[test]
 fn fixedbitset_views_positions_180() {
     use crate::proved::bitlanes::ops::*;
-    use crate::proved::bitlanes::{word, Block, Steps};
+    use crate::proved::bitlanes::{word, Block, IndexRange, Steps};
     use crate::proved::bitwalks::in_turn::*;
     use crate::proved::bitwords::cursors::*;
+    use crate::proved::bitranks;
+    use crate::proved::fixedbitset::{Bits, BitsMut, ExtendFault, FixedBitSet};
     use crate::proved::fixedbitset::*;
+    use crate::shim::alloc::Global;
+    use crate::shim::prelude::*;
     use crate::shim::u64x4;
     use core::cmp::Ordering;
     use core::mem::{size_of, size_of_val};
@@ -2421,10 +5990,14 @@ fn fixedbitset_views_positions_180() {
 #[test]
 fn fixedbitset_views_positions_193() {
     use crate::proved::bitlanes::ops::*;
-    use crate::proved::bitlanes::{word, Block, Steps};
+    use crate::proved::bitlanes::{word, Block, IndexRange, Steps};
     use crate::proved::bitwalks::in_turn::*;
     use crate::proved::bitwords::cursors::*;
+    use crate::proved::bitranks;
+    use crate::proved::fixedbitset::{Bits, BitsMut, ExtendFault, FixedBitSet};
     use crate::proved::fixedbitset::*;
+    use crate::shim::alloc::Global;
+    use crate::shim::prelude::*;
     use crate::shim::u64x4;
     use core::cmp::Ordering;
     use core::mem::{size_of, size_of_val};
@@ -2438,10 +6011,14 @@ fn fixedbitset_views_positions_193() {
 #[test]
 fn fixedbitset_views_positions_206() {
     use crate::proved::bitlanes::ops::*;
-    use crate::proved::bitlanes::{word, Block, Steps};
+    use crate::proved::bitlanes::{word, Block, IndexRange, Steps};
     use crate::proved::bitwalks::in_turn::*;
     use crate::proved::bitwords::cursors::*;
+    use crate::proved::bitranks;
+    use crate::proved::fixedbitset::{Bits, BitsMut, ExtendFault, FixedBitSet};
     use crate::proved::fixedbitset::*;
+    use crate::shim::alloc::Global;
+    use crate::shim::prelude::*;
     use crate::shim::u64x4;
     use core::cmp::Ordering;
     use core::mem::{size_of, size_of_val};
@@ -2455,10 +6032,14 @@ fn fixedbitset_views_positions_206() {
 #[test]
 fn fixedbitset_views_positions_219() {
     use crate::proved::bitlanes::ops::*;
-    use crate::proved::bitlanes::{word, Block, Steps};
+    use crate::proved::bitlanes::{word, Block, IndexRange, Steps};
     use crate::proved::bitwalks::in_turn::*;
     use crate::proved::bitwords::cursors::*;
+    use crate::proved::bitranks;
+    use crate::proved::fixedbitset::{Bits, BitsMut, ExtendFault, FixedBitSet};
     use crate::proved::fixedbitset::*;
+    use crate::shim::alloc::Global;
+    use crate::shim::prelude::*;
     use crate::shim::u64x4;
     use core::cmp::Ordering;
     use core::mem::{size_of, size_of_val};
@@ -2472,10 +6053,14 @@ fn fixedbitset_views_positions_219() {
 #[test]
 fn fixedbitset_views_positions_235() {
     use crate::proved::bitlanes::ops::*;
-    use crate::proved::bitlanes::{word, Block, Steps};
+    use crate::proved::bitlanes::{word, Block, IndexRange, Steps};
     use crate::proved::bitwalks::in_turn::*;
     use crate::proved::bitwords::cursors::*;
+    use crate::proved::bitranks;
+    use crate::proved::fixedbitset::{Bits, BitsMut, ExtendFault, FixedBitSet};
     use crate::proved::fixedbitset::*;
+    use crate::shim::alloc::Global;
+    use crate::shim::prelude::*;
     use crate::shim::u64x4;
     use core::cmp::Ordering;
     use core::mem::{size_of, size_of_val};
@@ -2490,10 +6075,14 @@ fn fixedbitset_views_positions_235() {
 #[test]
 fn fixedbitset_views_positions_251() {
     use crate::proved::bitlanes::ops::*;
-    use crate::proved::bitlanes::{word, Block, Steps};
+    use crate::proved::bitlanes::{word, Block, IndexRange, Steps};
     use crate::proved::bitwalks::in_turn::*;
     use crate::proved::bitwords::cursors::*;
+    use crate::proved::bitranks;
+    use crate::proved::fixedbitset::{Bits, BitsMut, ExtendFault, FixedBitSet};
     use crate::proved::fixedbitset::*;
+    use crate::shim::alloc::Global;
+    use crate::shim::prelude::*;
     use crate::shim::u64x4;
     use core::cmp::Ordering;
     use core::mem::{size_of, size_of_val};
@@ -2507,10 +6096,14 @@ fn fixedbitset_views_positions_251() {
 #[test]
 fn fixedbitset_views_positions_269() {
     use crate::proved::bitlanes::ops::*;
-    use crate::proved::bitlanes::{word, Block, Steps};
+    use crate::proved::bitlanes::{word, Block, IndexRange, Steps};
     use crate::proved::bitwalks::in_turn::*;
     use crate::proved::bitwords::cursors::*;
+    use crate::proved::bitranks;
+    use crate::proved::fixedbitset::{Bits, BitsMut, ExtendFault, FixedBitSet};
     use crate::proved::fixedbitset::*;
+    use crate::shim::alloc::Global;
+    use crate::shim::prelude::*;
     use crate::shim::u64x4;
     use core::cmp::Ordering;
     use core::mem::{size_of, size_of_val};
@@ -2525,10 +6118,14 @@ fn fixedbitset_views_positions_269() {
 #[test]
 fn fixedbitset_views_positions_285() {
     use crate::proved::bitlanes::ops::*;
-    use crate::proved::bitlanes::{word, Block, Steps};
+    use crate::proved::bitlanes::{word, Block, IndexRange, Steps};
     use crate::proved::bitwalks::in_turn::*;
     use crate::proved::bitwords::cursors::*;
+    use crate::proved::bitranks;
+    use crate::proved::fixedbitset::{Bits, BitsMut, ExtendFault, FixedBitSet};
     use crate::proved::fixedbitset::*;
+    use crate::shim::alloc::Global;
+    use crate::shim::prelude::*;
     use crate::shim::u64x4;
     use core::cmp::Ordering;
     use core::mem::{size_of, size_of_val};
@@ -2542,10 +6139,14 @@ fn fixedbitset_views_positions_285() {
 #[test]
 fn fixedbitset_views_positions_304() {
     use crate::proved::bitlanes::ops::*;
-    use crate::proved::bitlanes::{word, Block, Steps};
+    use crate::proved::bitlanes::{word, Block, IndexRange, Steps};
     use crate::proved::bitwalks::in_turn::*;
     use crate::proved::bitwords::cursors::*;
+    use crate::proved::bitranks;
+    use crate::proved::fixedbitset::{Bits, BitsMut, ExtendFault, FixedBitSet};
     use crate::proved::fixedbitset::*;
+    use crate::shim::alloc::Global;
+    use crate::shim::prelude::*;
     use crate::shim::u64x4;
     use core::cmp::Ordering;
     use core::mem::{size_of, size_of_val};
@@ -2559,10 +6160,14 @@ fn fixedbitset_views_positions_304() {
 #[test]
 fn fixedbitset_views_positions_322() {
     use crate::proved::bitlanes::ops::*;
-    use crate::proved::bitlanes::{word, Block, Steps};
+    use crate::proved::bitlanes::{word, Block, IndexRange, Steps};
     use crate::proved::bitwalks::in_turn::*;
     use crate::proved::bitwords::cursors::*;
+    use crate::proved::bitranks;
+    use crate::proved::fixedbitset::{Bits, BitsMut, ExtendFault, FixedBitSet};
     use crate::proved::fixedbitset::*;
+    use crate::shim::alloc::Global;
+    use crate::shim::prelude::*;
     use crate::shim::u64x4;
     use core::cmp::Ordering;
     use core::mem::{size_of, size_of_val};
@@ -2576,10 +6181,14 @@ fn fixedbitset_views_positions_322() {
 #[test]
 fn fixedbitset_views_positions_336() {
     use crate::proved::bitlanes::ops::*;
-    use crate::proved::bitlanes::{word, Block, Steps};
+    use crate::proved::bitlanes::{word, Block, IndexRange, Steps};
     use crate::proved::bitwalks::in_turn::*;
     use crate::proved::bitwords::cursors::*;
+    use crate::proved::bitranks;
+    use crate::proved::fixedbitset::{Bits, BitsMut, ExtendFault, FixedBitSet};
     use crate::proved::fixedbitset::*;
+    use crate::shim::alloc::Global;
+    use crate::shim::prelude::*;
     use crate::shim::u64x4;
     use core::cmp::Ordering;
     use core::mem::{size_of, size_of_val};
@@ -2593,10 +6202,14 @@ fn fixedbitset_views_positions_336() {
 #[test]
 fn fixedbitset_views_positions_351() {
     use crate::proved::bitlanes::ops::*;
-    use crate::proved::bitlanes::{word, Block, Steps};
+    use crate::proved::bitlanes::{word, Block, IndexRange, Steps};
     use crate::proved::bitwalks::in_turn::*;
     use crate::proved::bitwords::cursors::*;
+    use crate::proved::bitranks;
+    use crate::proved::fixedbitset::{Bits, BitsMut, ExtendFault, FixedBitSet};
     use crate::proved::fixedbitset::*;
+    use crate::shim::alloc::Global;
+    use crate::shim::prelude::*;
     use crate::shim::u64x4;
     use core::cmp::Ordering;
     use core::mem::{size_of, size_of_val};
@@ -2608,10 +6221,14 @@ fn fixedbitset_views_positions_351() {
 #[test]
 fn fixedbitset_views_ranges_18() {
     use crate::proved::bitlanes::ops::*;
-    use crate::proved::bitlanes::{word, Block, Steps};
+    use crate::proved::bitlanes::{word, Block, IndexRange, Steps};
     use crate::proved::bitwalks::in_turn::*;
     use crate::proved::bitwords::cursors::*;
+    use crate::proved::bitranks;
+    use crate::proved::fixedbitset::{Bits, BitsMut, ExtendFault, FixedBitSet};
     use crate::proved::fixedbitset::*;
+    use crate::shim::alloc::Global;
+    use crate::shim::prelude::*;
     use crate::shim::u64x4;
     use core::cmp::Ordering;
     use core::mem::{size_of, size_of_val};
@@ -2625,10 +6242,14 @@ fn fixedbitset_views_ranges_18() {
 #[test]
 fn fixedbitset_views_ranges_31() {
     use crate::proved::bitlanes::ops::*;
-    use crate::proved::bitlanes::{word, Block, Steps};
+    use crate::proved::bitlanes::{word, Block, IndexRange, Steps};
     use crate::proved::bitwalks::in_turn::*;
     use crate::proved::bitwords::cursors::*;
+    use crate::proved::bitranks;
+    use crate::proved::fixedbitset::{Bits, BitsMut, ExtendFault, FixedBitSet};
     use crate::proved::fixedbitset::*;
+    use crate::shim::alloc::Global;
+    use crate::shim::prelude::*;
     use crate::shim::u64x4;
     use core::cmp::Ordering;
     use core::mem::{size_of, size_of_val};
@@ -2642,10 +6263,14 @@ fn fixedbitset_views_ranges_31() {
 #[test]
 fn fixedbitset_views_ranges_44() {
     use crate::proved::bitlanes::ops::*;
-    use crate::proved::bitlanes::{word, Block, Steps};
+    use crate::proved::bitlanes::{word, Block, IndexRange, Steps};
     use crate::proved::bitwalks::in_turn::*;
     use crate::proved::bitwords::cursors::*;
+    use crate::proved::bitranks;
+    use crate::proved::fixedbitset::{Bits, BitsMut, ExtendFault, FixedBitSet};
     use crate::proved::fixedbitset::*;
+    use crate::shim::alloc::Global;
+    use crate::shim::prelude::*;
     use crate::shim::u64x4;
     use core::cmp::Ordering;
     use core::mem::{size_of, size_of_val};
@@ -2659,10 +6284,14 @@ fn fixedbitset_views_ranges_44() {
 #[test]
 fn fixedbitset_views_ranges_57() {
     use crate::proved::bitlanes::ops::*;
-    use crate::proved::bitlanes::{word, Block, Steps};
+    use crate::proved::bitlanes::{word, Block, IndexRange, Steps};
     use crate::proved::bitwalks::in_turn::*;
     use crate::proved::bitwords::cursors::*;
+    use crate::proved::bitranks;
+    use crate::proved::fixedbitset::{Bits, BitsMut, ExtendFault, FixedBitSet};
     use crate::proved::fixedbitset::*;
+    use crate::shim::alloc::Global;
+    use crate::shim::prelude::*;
     use crate::shim::u64x4;
     use core::cmp::Ordering;
     use core::mem::{size_of, size_of_val};
@@ -2676,10 +6305,14 @@ fn fixedbitset_views_ranges_57() {
 #[test]
 fn fixedbitset_views_ranges_83() {
     use crate::proved::bitlanes::ops::*;
-    use crate::proved::bitlanes::{word, Block, Steps};
+    use crate::proved::bitlanes::{word, Block, IndexRange, Steps};
     use crate::proved::bitwalks::in_turn::*;
     use crate::proved::bitwords::cursors::*;
+    use crate::proved::bitranks;
+    use crate::proved::fixedbitset::{Bits, BitsMut, ExtendFault, FixedBitSet};
     use crate::proved::fixedbitset::*;
+    use crate::shim::alloc::Global;
+    use crate::shim::prelude::*;
     use crate::shim::u64x4;
     use core::cmp::Ordering;
     use core::mem::{size_of, size_of_val};
@@ -2693,10 +6326,14 @@ fn fixedbitset_views_ranges_83() {
 #[test]
 fn fixedbitset_views_ranges_96() {
     use crate::proved::bitlanes::ops::*;
-    use crate::proved::bitlanes::{word, Block, Steps};
+    use crate::proved::bitlanes::{word, Block, IndexRange, Steps};
     use crate::proved::bitwalks::in_turn::*;
     use crate::proved::bitwords::cursors::*;
+    use crate::proved::bitranks;
+    use crate::proved::fixedbitset::{Bits, BitsMut, ExtendFault, FixedBitSet};
     use crate::proved::fixedbitset::*;
+    use crate::shim::alloc::Global;
+    use crate::shim::prelude::*;
     use crate::shim::u64x4;
     use core::cmp::Ordering;
     use core::mem::{size_of, size_of_val};
@@ -2709,10 +6346,14 @@ fn fixedbitset_views_ranges_96() {
 #[test]
 fn fixedbitset_views_ranges_108() {
     use crate::proved::bitlanes::ops::*;
-    use crate::proved::bitlanes::{word, Block, Steps};
+    use crate::proved::bitlanes::{word, Block, IndexRange, Steps};
     use crate::proved::bitwalks::in_turn::*;
     use crate::proved::bitwords::cursors::*;
+    use crate::proved::bitranks;
+    use crate::proved::fixedbitset::{Bits, BitsMut, ExtendFault, FixedBitSet};
     use crate::proved::fixedbitset::*;
+    use crate::shim::alloc::Global;
+    use crate::shim::prelude::*;
     use crate::shim::u64x4;
     use core::cmp::Ordering;
     use core::mem::{size_of, size_of_val};
@@ -2725,10 +6366,14 @@ fn fixedbitset_views_ranges_108() {
 #[test]
 fn fixedbitset_views_ranges_120() {
     use crate::proved::bitlanes::ops::*;
-    use crate::proved::bitlanes::{word, Block, Steps};
+    use crate::proved::bitlanes::{word, Block, IndexRange, Steps};
     use crate::proved::bitwalks::in_turn::*;
     use crate::proved::bitwords::cursors::*;
+    use crate::proved::bitranks;
+    use crate::proved::fixedbitset::{Bits, BitsMut, ExtendFault, FixedBitSet};
     use crate::proved::fixedbitset::*;
+    use crate::shim::alloc::Global;
+    use crate::shim::prelude::*;
     use crate::shim::u64x4;
     use core::cmp::Ordering;
     use core::mem::{size_of, size_of_val};
@@ -2741,10 +6386,14 @@ fn fixedbitset_views_ranges_120() {
 #[test]
 fn fixedbitset_views_ranges_132() {
     use crate::proved::bitlanes::ops::*;
-    use crate::proved::bitlanes::{word, Block, Steps};
+    use crate::proved::bitlanes::{word, Block, IndexRange, Steps};
     use crate::proved::bitwalks::in_turn::*;
     use crate::proved::bitwords::cursors::*;
+    use crate::proved::bitranks;
+    use crate::proved::fixedbitset::{Bits, BitsMut, ExtendFault, FixedBitSet};
     use crate::proved::fixedbitset::*;
+    use crate::shim::alloc::Global;
+    use crate::shim::prelude::*;
     use crate::shim::u64x4;
     use core::cmp::Ordering;
     use core::mem::{size_of, size_of_val};
@@ -2757,10 +6406,14 @@ fn fixedbitset_views_ranges_132() {
 #[test]
 fn fixedbitset_views_ranges_144() {
     use crate::proved::bitlanes::ops::*;
-    use crate::proved::bitlanes::{word, Block, Steps};
+    use crate::proved::bitlanes::{word, Block, IndexRange, Steps};
     use crate::proved::bitwalks::in_turn::*;
     use crate::proved::bitwords::cursors::*;
+    use crate::proved::bitranks;
+    use crate::proved::fixedbitset::{Bits, BitsMut, ExtendFault, FixedBitSet};
     use crate::proved::fixedbitset::*;
+    use crate::shim::alloc::Global;
+    use crate::shim::prelude::*;
     use crate::shim::u64x4;
     use core::cmp::Ordering;
     use core::mem::{size_of, size_of_val};
@@ -2773,10 +6426,14 @@ fn fixedbitset_views_ranges_144() {
 #[test]
 fn fixedbitset_views_shifts_18() {
     use crate::proved::bitlanes::ops::*;
-    use crate::proved::bitlanes::{word, Block, Steps};
+    use crate::proved::bitlanes::{word, Block, IndexRange, Steps};
     use crate::proved::bitwalks::in_turn::*;
     use crate::proved::bitwords::cursors::*;
+    use crate::proved::bitranks;
+    use crate::proved::fixedbitset::{Bits, BitsMut, ExtendFault, FixedBitSet};
     use crate::proved::fixedbitset::*;
+    use crate::shim::alloc::Global;
+    use crate::shim::prelude::*;
     use crate::shim::u64x4;
     use core::cmp::Ordering;
     use core::mem::{size_of, size_of_val};
@@ -2791,10 +6448,14 @@ fn fixedbitset_views_shifts_18() {
 #[test]
 fn fixedbitset_views_shifts_34() {
     use crate::proved::bitlanes::ops::*;
-    use crate::proved::bitlanes::{word, Block, Steps};
+    use crate::proved::bitlanes::{word, Block, IndexRange, Steps};
     use crate::proved::bitwalks::in_turn::*;
     use crate::proved::bitwords::cursors::*;
+    use crate::proved::bitranks;
+    use crate::proved::fixedbitset::{Bits, BitsMut, ExtendFault, FixedBitSet};
     use crate::proved::fixedbitset::*;
+    use crate::shim::alloc::Global;
+    use crate::shim::prelude::*;
     use crate::shim::u64x4;
     use core::cmp::Ordering;
     use core::mem::{size_of, size_of_val};
@@ -2808,10 +6469,14 @@ fn fixedbitset_views_shifts_34() {
 #[test]
 fn fixedbitset_views_shifts_50() {
     use crate::proved::bitlanes::ops::*;
-    use crate::proved::bitlanes::{word, Block, Steps};
+    use crate::proved::bitlanes::{word, Block, IndexRange, Steps};
     use crate::proved::bitwalks::in_turn::*;
     use crate::proved::bitwords::cursors::*;
+    use crate::proved::bitranks;
+    use crate::proved::fixedbitset::{Bits, BitsMut, ExtendFault, FixedBitSet};
     use crate::proved::fixedbitset::*;
+    use crate::shim::alloc::Global;
+    use crate::shim::prelude::*;
     use crate::shim::u64x4;
     use core::cmp::Ordering;
     use core::mem::{size_of, size_of_val};
@@ -2826,10 +6491,14 @@ fn fixedbitset_views_shifts_50() {
 #[test]
 fn fixedbitset_views_shifts_69() {
     use crate::proved::bitlanes::ops::*;
-    use crate::proved::bitlanes::{word, Block, Steps};
+    use crate::proved::bitlanes::{word, Block, IndexRange, Steps};
     use crate::proved::bitwalks::in_turn::*;
     use crate::proved::bitwords::cursors::*;
+    use crate::proved::bitranks;
+    use crate::proved::fixedbitset::{Bits, BitsMut, ExtendFault, FixedBitSet};
     use crate::proved::fixedbitset::*;
+    use crate::shim::alloc::Global;
+    use crate::shim::prelude::*;
     use crate::shim::u64x4;
     use core::cmp::Ordering;
     use core::mem::{size_of, size_of_val};
@@ -2844,10 +6513,14 @@ fn fixedbitset_views_shifts_69() {
 #[test]
 fn fixedbitset_views_shifts_90() {
     use crate::proved::bitlanes::ops::*;
-    use crate::proved::bitlanes::{word, Block, Steps};
+    use crate::proved::bitlanes::{word, Block, IndexRange, Steps};
     use crate::proved::bitwalks::in_turn::*;
     use crate::proved::bitwords::cursors::*;
+    use crate::proved::bitranks;
+    use crate::proved::fixedbitset::{Bits, BitsMut, ExtendFault, FixedBitSet};
     use crate::proved::fixedbitset::*;
+    use crate::shim::alloc::Global;
+    use crate::shim::prelude::*;
     use crate::shim::u64x4;
     use core::cmp::Ordering;
     use core::mem::{size_of, size_of_val};
@@ -2862,10 +6535,14 @@ fn fixedbitset_views_shifts_90() {
 #[test]
 fn fixedbitset_views_shifts_116() {
     use crate::proved::bitlanes::ops::*;
-    use crate::proved::bitlanes::{word, Block, Steps};
+    use crate::proved::bitlanes::{word, Block, IndexRange, Steps};
     use crate::proved::bitwalks::in_turn::*;
     use crate::proved::bitwords::cursors::*;
+    use crate::proved::bitranks;
+    use crate::proved::fixedbitset::{Bits, BitsMut, ExtendFault, FixedBitSet};
     use crate::proved::fixedbitset::*;
+    use crate::shim::alloc::Global;
+    use crate::shim::prelude::*;
     use crate::shim::u64x4;
     use core::cmp::Ordering;
     use core::mem::{size_of, size_of_val};
@@ -2879,10 +6556,14 @@ fn fixedbitset_views_shifts_116() {
 #[test]
 fn fixedbitset_views_shifts_147() {
     use crate::proved::bitlanes::ops::*;
-    use crate::proved::bitlanes::{word, Block, Steps};
+    use crate::proved::bitlanes::{word, Block, IndexRange, Steps};
     use crate::proved::bitwalks::in_turn::*;
     use crate::proved::bitwords::cursors::*;
+    use crate::proved::bitranks;
+    use crate::proved::fixedbitset::{Bits, BitsMut, ExtendFault, FixedBitSet};
     use crate::proved::fixedbitset::*;
+    use crate::shim::alloc::Global;
+    use crate::shim::prelude::*;
     use crate::shim::u64x4;
     use core::cmp::Ordering;
     use core::mem::{size_of, size_of_val};
@@ -2896,10 +6577,14 @@ fn fixedbitset_views_shifts_147() {
 #[test]
 fn fixedbitset_views_shifts_164() {
     use crate::proved::bitlanes::ops::*;
-    use crate::proved::bitlanes::{word, Block, Steps};
+    use crate::proved::bitlanes::{word, Block, IndexRange, Steps};
     use crate::proved::bitwalks::in_turn::*;
     use crate::proved::bitwords::cursors::*;
+    use crate::proved::bitranks;
+    use crate::proved::fixedbitset::{Bits, BitsMut, ExtendFault, FixedBitSet};
     use crate::proved::fixedbitset::*;
+    use crate::shim::alloc::Global;
+    use crate::shim::prelude::*;
     use crate::shim::u64x4;
     use core::cmp::Ordering;
     use core::mem::{size_of, size_of_val};
@@ -2913,10 +6598,14 @@ fn fixedbitset_views_shifts_164() {
 #[test]
 fn fixedbitset_views_walks_17() {
     use crate::proved::bitlanes::ops::*;
-    use crate::proved::bitlanes::{word, Block, Steps};
+    use crate::proved::bitlanes::{word, Block, IndexRange, Steps};
     use crate::proved::bitwalks::in_turn::*;
     use crate::proved::bitwords::cursors::*;
+    use crate::proved::bitranks;
+    use crate::proved::fixedbitset::{Bits, BitsMut, ExtendFault, FixedBitSet};
     use crate::proved::fixedbitset::*;
+    use crate::shim::alloc::Global;
+    use crate::shim::prelude::*;
     use crate::shim::u64x4;
     use core::cmp::Ordering;
     use core::mem::{size_of, size_of_val};
@@ -2929,10 +6618,14 @@ fn fixedbitset_views_walks_17() {
 #[test]
 fn fixedbitset_views_walks_31() {
     use crate::proved::bitlanes::ops::*;
-    use crate::proved::bitlanes::{word, Block, Steps};
+    use crate::proved::bitlanes::{word, Block, IndexRange, Steps};
     use crate::proved::bitwalks::in_turn::*;
     use crate::proved::bitwords::cursors::*;
+    use crate::proved::bitranks;
+    use crate::proved::fixedbitset::{Bits, BitsMut, ExtendFault, FixedBitSet};
     use crate::proved::fixedbitset::*;
+    use crate::shim::alloc::Global;
+    use crate::shim::prelude::*;
     use crate::shim::u64x4;
     use core::cmp::Ordering;
     use core::mem::{size_of, size_of_val};
@@ -2946,10 +6639,14 @@ fn fixedbitset_views_walks_31() {
 #[test]
 fn fixedbitset_views_walks_47() {
     use crate::proved::bitlanes::ops::*;
-    use crate::proved::bitlanes::{word, Block, Steps};
+    use crate::proved::bitlanes::{word, Block, IndexRange, Steps};
     use crate::proved::bitwalks::in_turn::*;
     use crate::proved::bitwords::cursors::*;
+    use crate::proved::bitranks;
+    use crate::proved::fixedbitset::{Bits, BitsMut, ExtendFault, FixedBitSet};
     use crate::proved::fixedbitset::*;
+    use crate::shim::alloc::Global;
+    use crate::shim::prelude::*;
     use crate::shim::u64x4;
     use core::cmp::Ordering;
     use core::mem::{size_of, size_of_val};
@@ -2963,10 +6660,14 @@ fn fixedbitset_views_walks_47() {
 #[test]
 fn fixedbitset_views_walks_63() {
     use crate::proved::bitlanes::ops::*;
-    use crate::proved::bitlanes::{word, Block, Steps};
+    use crate::proved::bitlanes::{word, Block, IndexRange, Steps};
     use crate::proved::bitwalks::in_turn::*;
     use crate::proved::bitwords::cursors::*;
+    use crate::proved::bitranks;
+    use crate::proved::fixedbitset::{Bits, BitsMut, ExtendFault, FixedBitSet};
     use crate::proved::fixedbitset::*;
+    use crate::shim::alloc::Global;
+    use crate::shim::prelude::*;
     use crate::shim::u64x4;
     use core::cmp::Ordering;
     use core::mem::{size_of, size_of_val};
@@ -2981,10 +6682,14 @@ fn fixedbitset_views_walks_63() {
 #[test]
 fn fixedbitset_views_walks_78() {
     use crate::proved::bitlanes::ops::*;
-    use crate::proved::bitlanes::{word, Block, Steps};
+    use crate::proved::bitlanes::{word, Block, IndexRange, Steps};
     use crate::proved::bitwalks::in_turn::*;
     use crate::proved::bitwords::cursors::*;
+    use crate::proved::bitranks;
+    use crate::proved::fixedbitset::{Bits, BitsMut, ExtendFault, FixedBitSet};
     use crate::proved::fixedbitset::*;
+    use crate::shim::alloc::Global;
+    use crate::shim::prelude::*;
     use crate::shim::u64x4;
     use core::cmp::Ordering;
     use core::mem::{size_of, size_of_val};
@@ -2999,10 +6704,14 @@ fn fixedbitset_views_walks_78() {
 #[test]
 fn fixedbitset_views_walks_95() {
     use crate::proved::bitlanes::ops::*;
-    use crate::proved::bitlanes::{word, Block, Steps};
+    use crate::proved::bitlanes::{word, Block, IndexRange, Steps};
     use crate::proved::bitwalks::in_turn::*;
     use crate::proved::bitwords::cursors::*;
+    use crate::proved::bitranks;
+    use crate::proved::fixedbitset::{Bits, BitsMut, ExtendFault, FixedBitSet};
     use crate::proved::fixedbitset::*;
+    use crate::shim::alloc::Global;
+    use crate::shim::prelude::*;
     use crate::shim::u64x4;
     use core::cmp::Ordering;
     use core::mem::{size_of, size_of_val};
@@ -3015,10 +6724,14 @@ fn fixedbitset_views_walks_95() {
 #[test]
 fn fixedbitset_views_walks_107() {
     use crate::proved::bitlanes::ops::*;
-    use crate::proved::bitlanes::{word, Block, Steps};
+    use crate::proved::bitlanes::{word, Block, IndexRange, Steps};
     use crate::proved::bitwalks::in_turn::*;
     use crate::proved::bitwords::cursors::*;
+    use crate::proved::bitranks;
+    use crate::proved::fixedbitset::{Bits, BitsMut, ExtendFault, FixedBitSet};
     use crate::proved::fixedbitset::*;
+    use crate::shim::alloc::Global;
+    use crate::shim::prelude::*;
     use crate::shim::u64x4;
     use core::cmp::Ordering;
     use core::mem::{size_of, size_of_val};
@@ -3031,10 +6744,14 @@ fn fixedbitset_views_walks_107() {
 #[test]
 fn fixedbitset_views_walks_120() {
     use crate::proved::bitlanes::ops::*;
-    use crate::proved::bitlanes::{word, Block, Steps};
+    use crate::proved::bitlanes::{word, Block, IndexRange, Steps};
     use crate::proved::bitwalks::in_turn::*;
     use crate::proved::bitwords::cursors::*;
+    use crate::proved::bitranks;
+    use crate::proved::fixedbitset::{Bits, BitsMut, ExtendFault, FixedBitSet};
     use crate::proved::fixedbitset::*;
+    use crate::shim::alloc::Global;
+    use crate::shim::prelude::*;
     use crate::shim::u64x4;
     use core::cmp::Ordering;
     use core::mem::{size_of, size_of_val};
@@ -3047,10 +6764,14 @@ fn fixedbitset_views_walks_120() {
 #[test]
 fn fixedbitset_views_walks_133() {
     use crate::proved::bitlanes::ops::*;
-    use crate::proved::bitlanes::{word, Block, Steps};
+    use crate::proved::bitlanes::{word, Block, IndexRange, Steps};
     use crate::proved::bitwalks::in_turn::*;
     use crate::proved::bitwords::cursors::*;
+    use crate::proved::bitranks;
+    use crate::proved::fixedbitset::{Bits, BitsMut, ExtendFault, FixedBitSet};
     use crate::proved::fixedbitset::*;
+    use crate::shim::alloc::Global;
+    use crate::shim::prelude::*;
     use crate::shim::u64x4;
     use core::cmp::Ordering;
     use core::mem::{size_of, size_of_val};
@@ -3063,10 +6784,14 @@ fn fixedbitset_views_walks_133() {
 #[test]
 fn fixedbitset_views_walks_146() {
     use crate::proved::bitlanes::ops::*;
-    use crate::proved::bitlanes::{word, Block, Steps};
+    use crate::proved::bitlanes::{word, Block, IndexRange, Steps};
     use crate::proved::bitwalks::in_turn::*;
     use crate::proved::bitwords::cursors::*;
+    use crate::proved::bitranks;
+    use crate::proved::fixedbitset::{Bits, BitsMut, ExtendFault, FixedBitSet};
     use crate::proved::fixedbitset::*;
+    use crate::shim::alloc::Global;
+    use crate::shim::prelude::*;
     use crate::shim::u64x4;
     use core::cmp::Ordering;
     use core::mem::{size_of, size_of_val};
@@ -3079,10 +6804,14 @@ fn fixedbitset_views_walks_146() {
 #[test]
 fn fixedbitset_views_whole_19() {
     use crate::proved::bitlanes::ops::*;
-    use crate::proved::bitlanes::{word, Block, Steps};
+    use crate::proved::bitlanes::{word, Block, IndexRange, Steps};
     use crate::proved::bitwalks::in_turn::*;
     use crate::proved::bitwords::cursors::*;
+    use crate::proved::bitranks;
+    use crate::proved::fixedbitset::{Bits, BitsMut, ExtendFault, FixedBitSet};
     use crate::proved::fixedbitset::*;
+    use crate::shim::alloc::Global;
+    use crate::shim::prelude::*;
     use crate::shim::u64x4;
     use core::cmp::Ordering;
     use core::mem::{size_of, size_of_val};
@@ -3097,10 +6826,14 @@ fn fixedbitset_views_whole_19() {
 #[test]
 fn fixedbitset_views_whole_33() {
     use crate::proved::bitlanes::ops::*;
-    use crate::proved::bitlanes::{word, Block, Steps};
+    use crate::proved::bitlanes::{word, Block, IndexRange, Steps};
     use crate::proved::bitwalks::in_turn::*;
     use crate::proved::bitwords::cursors::*;
+    use crate::proved::bitranks;
+    use crate::proved::fixedbitset::{Bits, BitsMut, ExtendFault, FixedBitSet};
     use crate::proved::fixedbitset::*;
+    use crate::shim::alloc::Global;
+    use crate::shim::prelude::*;
     use crate::shim::u64x4;
     use core::cmp::Ordering;
     use core::mem::{size_of, size_of_val};
@@ -3115,10 +6848,14 @@ fn fixedbitset_views_whole_33() {
 #[test]
 fn fixedbitset_views_whole_47() {
     use crate::proved::bitlanes::ops::*;
-    use crate::proved::bitlanes::{word, Block, Steps};
+    use crate::proved::bitlanes::{word, Block, IndexRange, Steps};
     use crate::proved::bitwalks::in_turn::*;
     use crate::proved::bitwords::cursors::*;
+    use crate::proved::bitranks;
+    use crate::proved::fixedbitset::{Bits, BitsMut, ExtendFault, FixedBitSet};
     use crate::proved::fixedbitset::*;
+    use crate::shim::alloc::Global;
+    use crate::shim::prelude::*;
     use crate::shim::u64x4;
     use core::cmp::Ordering;
     use core::mem::{size_of, size_of_val};
@@ -3133,10 +6870,14 @@ fn fixedbitset_views_whole_47() {
 #[test]
 fn fixedbitset_views_whole_61() {
     use crate::proved::bitlanes::ops::*;
-    use crate::proved::bitlanes::{word, Block, Steps};
+    use crate::proved::bitlanes::{word, Block, IndexRange, Steps};
     use crate::proved::bitwalks::in_turn::*;
     use crate::proved::bitwords::cursors::*;
+    use crate::proved::bitranks;
+    use crate::proved::fixedbitset::{Bits, BitsMut, ExtendFault, FixedBitSet};
     use crate::proved::fixedbitset::*;
+    use crate::shim::alloc::Global;
+    use crate::shim::prelude::*;
     use crate::shim::u64x4;
     use core::cmp::Ordering;
     use core::mem::{size_of, size_of_val};
@@ -3151,10 +6892,14 @@ fn fixedbitset_views_whole_61() {
 #[test]
 fn fixedbitset_views_whole_83() {
     use crate::proved::bitlanes::ops::*;
-    use crate::proved::bitlanes::{word, Block, Steps};
+    use crate::proved::bitlanes::{word, Block, IndexRange, Steps};
     use crate::proved::bitwalks::in_turn::*;
     use crate::proved::bitwords::cursors::*;
+    use crate::proved::bitranks;
+    use crate::proved::fixedbitset::{Bits, BitsMut, ExtendFault, FixedBitSet};
     use crate::proved::fixedbitset::*;
+    use crate::shim::alloc::Global;
+    use crate::shim::prelude::*;
     use crate::shim::u64x4;
     use core::cmp::Ordering;
     use core::mem::{size_of, size_of_val};
@@ -3168,10 +6913,14 @@ fn fixedbitset_views_whole_83() {
 #[test]
 fn fixedbitset_views_whole_96() {
     use crate::proved::bitlanes::ops::*;
-    use crate::proved::bitlanes::{word, Block, Steps};
+    use crate::proved::bitlanes::{word, Block, IndexRange, Steps};
     use crate::proved::bitwalks::in_turn::*;
     use crate::proved::bitwords::cursors::*;
+    use crate::proved::bitranks;
+    use crate::proved::fixedbitset::{Bits, BitsMut, ExtendFault, FixedBitSet};
     use crate::proved::fixedbitset::*;
+    use crate::shim::alloc::Global;
+    use crate::shim::prelude::*;
     use crate::shim::u64x4;
     use core::cmp::Ordering;
     use core::mem::{size_of, size_of_val};
@@ -3185,10 +6934,14 @@ fn fixedbitset_views_whole_96() {
 #[test]
 fn fixedbitset_views_whole_109() {
     use crate::proved::bitlanes::ops::*;
-    use crate::proved::bitlanes::{word, Block, Steps};
+    use crate::proved::bitlanes::{word, Block, IndexRange, Steps};
     use crate::proved::bitwalks::in_turn::*;
     use crate::proved::bitwords::cursors::*;
+    use crate::proved::bitranks;
+    use crate::proved::fixedbitset::{Bits, BitsMut, ExtendFault, FixedBitSet};
     use crate::proved::fixedbitset::*;
+    use crate::shim::alloc::Global;
+    use crate::shim::prelude::*;
     use crate::shim::u64x4;
     use core::cmp::Ordering;
     use core::mem::{size_of, size_of_val};
@@ -3202,10 +6955,14 @@ fn fixedbitset_views_whole_109() {
 #[test]
 fn fixedbitset_views_whole_122() {
     use crate::proved::bitlanes::ops::*;
-    use crate::proved::bitlanes::{word, Block, Steps};
+    use crate::proved::bitlanes::{word, Block, IndexRange, Steps};
     use crate::proved::bitwalks::in_turn::*;
     use crate::proved::bitwords::cursors::*;
+    use crate::proved::bitranks;
+    use crate::proved::fixedbitset::{Bits, BitsMut, ExtendFault, FixedBitSet};
     use crate::proved::fixedbitset::*;
+    use crate::shim::alloc::Global;
+    use crate::shim::prelude::*;
     use crate::shim::u64x4;
     use core::cmp::Ordering;
     use core::mem::{size_of, size_of_val};
@@ -3220,10 +6977,14 @@ fn fixedbitset_views_whole_122() {
 #[test]
 fn fixedbitset_views_whole_136() {
     use crate::proved::bitlanes::ops::*;
-    use crate::proved::bitlanes::{word, Block, Steps};
+    use crate::proved::bitlanes::{word, Block, IndexRange, Steps};
     use crate::proved::bitwalks::in_turn::*;
     use crate::proved::bitwords::cursors::*;
+    use crate::proved::bitranks;
+    use crate::proved::fixedbitset::{Bits, BitsMut, ExtendFault, FixedBitSet};
     use crate::proved::fixedbitset::*;
+    use crate::shim::alloc::Global;
+    use crate::shim::prelude::*;
     use crate::shim::u64x4;
     use core::cmp::Ordering;
     use core::mem::{size_of, size_of_val};
@@ -3237,10 +6998,14 @@ fn fixedbitset_views_whole_136() {
 #[test]
 fn fixedbitset_views_whole_149() {
     use crate::proved::bitlanes::ops::*;
-    use crate::proved::bitlanes::{word, Block, Steps};
+    use crate::proved::bitlanes::{word, Block, IndexRange, Steps};
     use crate::proved::bitwalks::in_turn::*;
     use crate::proved::bitwords::cursors::*;
+    use crate::proved::bitranks;
+    use crate::proved::fixedbitset::{Bits, BitsMut, ExtendFault, FixedBitSet};
     use crate::proved::fixedbitset::*;
+    use crate::shim::alloc::Global;
+    use crate::shim::prelude::*;
     use crate::shim::u64x4;
     use core::cmp::Ordering;
     use core::mem::{size_of, size_of_val};
@@ -3254,10 +7019,14 @@ fn fixedbitset_views_whole_149() {
 #[test]
 fn fixedbitset_views_whole_162() {
     use crate::proved::bitlanes::ops::*;
-    use crate::proved::bitlanes::{word, Block, Steps};
+    use crate::proved::bitlanes::{word, Block, IndexRange, Steps};
     use crate::proved::bitwalks::in_turn::*;
     use crate::proved::bitwords::cursors::*;
+    use crate::proved::bitranks;
+    use crate::proved::fixedbitset::{Bits, BitsMut, ExtendFault, FixedBitSet};
     use crate::proved::fixedbitset::*;
+    use crate::shim::alloc::Global;
+    use crate::shim::prelude::*;
     use crate::shim::u64x4;
     use core::cmp::Ordering;
     use core::mem::{size_of, size_of_val};
@@ -3271,10 +7040,14 @@ fn fixedbitset_views_whole_162() {
 #[test]
 fn fixedbitset_views_whole_177() {
     use crate::proved::bitlanes::ops::*;
-    use crate::proved::bitlanes::{word, Block, Steps};
+    use crate::proved::bitlanes::{word, Block, IndexRange, Steps};
     use crate::proved::bitwalks::in_turn::*;
     use crate::proved::bitwords::cursors::*;
+    use crate::proved::bitranks;
+    use crate::proved::fixedbitset::{Bits, BitsMut, ExtendFault, FixedBitSet};
     use crate::proved::fixedbitset::*;
+    use crate::shim::alloc::Global;
+    use crate::shim::prelude::*;
     use crate::shim::u64x4;
     use core::cmp::Ordering;
     use core::mem::{size_of, size_of_val};
@@ -3289,10 +7062,14 @@ fn fixedbitset_views_whole_177() {
 #[test]
 fn fixedbitset_views_whole_191() {
     use crate::proved::bitlanes::ops::*;
-    use crate::proved::bitlanes::{word, Block, Steps};
+    use crate::proved::bitlanes::{word, Block, IndexRange, Steps};
     use crate::proved::bitwalks::in_turn::*;
     use crate::proved::bitwords::cursors::*;
+    use crate::proved::bitranks;
+    use crate::proved::fixedbitset::{Bits, BitsMut, ExtendFault, FixedBitSet};
     use crate::proved::fixedbitset::*;
+    use crate::shim::alloc::Global;
+    use crate::shim::prelude::*;
     use crate::shim::u64x4;
     use core::cmp::Ordering;
     use core::mem::{size_of, size_of_val};
@@ -3306,10 +7083,14 @@ fn fixedbitset_views_whole_191() {
 #[test]
 fn fixedbitset_views_whole_207() {
     use crate::proved::bitlanes::ops::*;
-    use crate::proved::bitlanes::{word, Block, Steps};
+    use crate::proved::bitlanes::{word, Block, IndexRange, Steps};
     use crate::proved::bitwalks::in_turn::*;
     use crate::proved::bitwords::cursors::*;
+    use crate::proved::bitranks;
+    use crate::proved::fixedbitset::{Bits, BitsMut, ExtendFault, FixedBitSet};
     use crate::proved::fixedbitset::*;
+    use crate::shim::alloc::Global;
+    use crate::shim::prelude::*;
     use crate::shim::u64x4;
     use core::cmp::Ordering;
     use core::mem::{size_of, size_of_val};
@@ -3319,4 +7100,619 @@ fn fixedbitset_views_whole_207() {
     let other = BitsMut::settle(&mut other, 9, 9);
     let order = set.as_bits().compare(other.as_bits(), &mut Steps::new());
     assert_eq!(order, Ordering::Greater);
+}
+
+#[test]
+fn fixedbitset_walks_19() {
+    use crate::proved::bitlanes::ops::*;
+    use crate::proved::bitlanes::{word, Block, IndexRange, Steps};
+    use crate::proved::bitwalks::in_turn::*;
+    use crate::proved::bitwords::cursors::*;
+    use crate::proved::bitranks;
+    use crate::proved::fixedbitset::{Bits, BitsMut, ExtendFault, FixedBitSet};
+    use crate::proved::fixedbitset::*;
+    use crate::shim::alloc::Global;
+    use crate::shim::prelude::*;
+    use crate::shim::u64x4;
+    use core::cmp::Ordering;
+    use core::mem::{size_of, size_of_val};
+
+    let alloc = Global::Try;
+    let set = FixedBitSet::from_iter(alloc, [64, 3]).unwrap();
+    let items: Vec<usize> = set.ones().collect_in(alloc).unwrap();
+    assert_eq!(items.as_slice(), [3, 64].as_slice());
+}
+
+#[test]
+fn fixedbitset_walks_32() {
+    use crate::proved::bitlanes::ops::*;
+    use crate::proved::bitlanes::{word, Block, IndexRange, Steps};
+    use crate::proved::bitwalks::in_turn::*;
+    use crate::proved::bitwords::cursors::*;
+    use crate::proved::bitranks;
+    use crate::proved::fixedbitset::{Bits, BitsMut, ExtendFault, FixedBitSet};
+    use crate::proved::fixedbitset::*;
+    use crate::shim::alloc::Global;
+    use crate::shim::prelude::*;
+    use crate::shim::u64x4;
+    use core::cmp::Ordering;
+    use core::mem::{size_of, size_of_val};
+
+    let alloc = Global::Try;
+    let set = FixedBitSet::from_iter(alloc, [64, 3, 9]).unwrap();
+    let items: Vec<usize> = set.into_ones().rev().collect_in(alloc).unwrap();
+    assert_eq!(items.as_slice(), [64, 9, 3].as_slice());
+}
+
+#[test]
+fn fixedbitset_walks_47() {
+    use crate::proved::bitlanes::ops::*;
+    use crate::proved::bitlanes::{word, Block, IndexRange, Steps};
+    use crate::proved::bitwalks::in_turn::*;
+    use crate::proved::bitwords::cursors::*;
+    use crate::proved::bitranks;
+    use crate::proved::fixedbitset::{Bits, BitsMut, ExtendFault, FixedBitSet};
+    use crate::proved::fixedbitset::*;
+    use crate::shim::alloc::Global;
+    use crate::shim::prelude::*;
+    use crate::shim::u64x4;
+    use core::cmp::Ordering;
+    use core::mem::{size_of, size_of_val};
+
+    let alloc = Global::Try;
+    let mut set = FixedBitSet::with_capacity(alloc, 66).unwrap();
+    set.insert_range(1..65);
+    let items: Vec<usize> = set.zeroes().collect_in(alloc).unwrap();
+    assert_eq!(items.as_slice(), [0, 65].as_slice());
+}
+
+#[test]
+fn fixedbitset_walks_64() {
+    use crate::proved::bitlanes::ops::*;
+    use crate::proved::bitlanes::{word, Block, IndexRange, Steps};
+    use crate::proved::bitwalks::in_turn::*;
+    use crate::proved::bitwords::cursors::*;
+    use crate::proved::bitranks;
+    use crate::proved::fixedbitset::{Bits, BitsMut, ExtendFault, FixedBitSet};
+    use crate::proved::fixedbitset::*;
+    use crate::shim::alloc::Global;
+    use crate::shim::prelude::*;
+    use crate::shim::u64x4;
+    use core::cmp::Ordering;
+    use core::mem::{size_of, size_of_val};
+
+    let alloc = Global::Try;
+    let mut set = FixedBitSet::with_capacity(alloc, 200).unwrap();
+    set.insert_range(60..130);
+    assert!(set.ones_in(128..).eq([128, 129]));
+    assert_eq!(set.ones_in(..=60).next(), Some(60));
+}
+
+#[test]
+fn fixedbitset_walks_82() {
+    use crate::proved::bitlanes::ops::*;
+    use crate::proved::bitlanes::{word, Block, IndexRange, Steps};
+    use crate::proved::bitwalks::in_turn::*;
+    use crate::proved::bitwords::cursors::*;
+    use crate::proved::bitranks;
+    use crate::proved::fixedbitset::{Bits, BitsMut, ExtendFault, FixedBitSet};
+    use crate::proved::fixedbitset::*;
+    use crate::shim::alloc::Global;
+    use crate::shim::prelude::*;
+    use crate::shim::u64x4;
+    use core::cmp::Ordering;
+    use core::mem::{size_of, size_of_val};
+
+    let alloc = Global::Try;
+    let mut set = FixedBitSet::with_capacity(alloc, 200).unwrap();
+    set.insert_range(60..130);
+    assert!(set.zeroes_in(58..132).eq([58, 59, 130, 131]));
+}
+
+#[test]
+fn fixedbitset_walks_101() {
+    use crate::proved::bitlanes::ops::*;
+    use crate::proved::bitlanes::{word, Block, IndexRange, Steps};
+    use crate::proved::bitwalks::in_turn::*;
+    use crate::proved::bitwords::cursors::*;
+    use crate::proved::bitranks;
+    use crate::proved::fixedbitset::{Bits, BitsMut, ExtendFault, FixedBitSet};
+    use crate::proved::fixedbitset::*;
+    use crate::shim::alloc::Global;
+    use crate::shim::prelude::*;
+    use crate::shim::u64x4;
+    use core::cmp::Ordering;
+    use core::mem::{size_of, size_of_val};
+
+    let alloc = Global::Try;
+    let mut set = FixedBitSet::with_capacity(alloc, 200).unwrap();
+    set.insert_range(60..130);
+    set.insert(3);
+    assert!(set.runs().eq([(3, 4), (60, 130)]));
+}
+
+#[test]
+fn fixedbitset_walks_118() {
+    use crate::proved::bitlanes::ops::*;
+    use crate::proved::bitlanes::{word, Block, IndexRange, Steps};
+    use crate::proved::bitwalks::in_turn::*;
+    use crate::proved::bitwords::cursors::*;
+    use crate::proved::bitranks;
+    use crate::proved::fixedbitset::{Bits, BitsMut, ExtendFault, FixedBitSet};
+    use crate::proved::fixedbitset::*;
+    use crate::shim::alloc::Global;
+    use crate::shim::prelude::*;
+    use crate::shim::u64x4;
+    use core::cmp::Ordering;
+    use core::mem::{size_of, size_of_val};
+
+    let alloc = Global::Try;
+    let mut set = FixedBitSet::with_capacity(alloc, 200).unwrap();
+    set.insert_range(60..130);
+    assert!(set.zero_runs().eq([(0, 60), (130, 200)]));
+}
+
+#[test]
+fn fixedbitset_whole_21() {
+    use crate::proved::bitlanes::ops::*;
+    use crate::proved::bitlanes::{word, Block, IndexRange, Steps};
+    use crate::proved::bitwalks::in_turn::*;
+    use crate::proved::bitwords::cursors::*;
+    use crate::proved::bitranks;
+    use crate::proved::fixedbitset::{Bits, BitsMut, ExtendFault, FixedBitSet};
+    use crate::proved::fixedbitset::*;
+    use crate::shim::alloc::Global;
+    use crate::shim::prelude::*;
+    use crate::shim::u64x4;
+    use core::cmp::Ordering;
+    use core::mem::{size_of, size_of_val};
+
+    let alloc = Global::Try;
+    let mut set = FixedBitSet::from_iter(alloc, [1, 3]).unwrap();
+    let other = FixedBitSet::from_iter(alloc, [3, 64]).unwrap();
+    set.union_with(&other).unwrap();
+    assert_eq!(set.len(), 65);
+    assert_eq!(set.as_slice(), [10, 1].as_slice());
+}
+
+#[test]
+fn fixedbitset_whole_37() {
+    use crate::proved::bitlanes::ops::*;
+    use crate::proved::bitlanes::{word, Block, IndexRange, Steps};
+    use crate::proved::bitwalks::in_turn::*;
+    use crate::proved::bitwords::cursors::*;
+    use crate::proved::bitranks;
+    use crate::proved::fixedbitset::{Bits, BitsMut, ExtendFault, FixedBitSet};
+    use crate::proved::fixedbitset::*;
+    use crate::shim::alloc::Global;
+    use crate::shim::prelude::*;
+    use crate::shim::u64x4;
+    use core::cmp::Ordering;
+    use core::mem::{size_of, size_of_val};
+
+    let alloc = Global::Try;
+    let mut set = FixedBitSet::from_iter(alloc, [1, 3]).unwrap();
+    let other = FixedBitSet::from_iter(alloc, [3, 64]).unwrap();
+    set.symmetric_difference_with(&other).unwrap();
+    assert_eq!(set.len(), 65);
+    assert_eq!(set.as_slice(), [2, 1].as_slice());
+}
+
+#[test]
+fn fixedbitset_whole_54() {
+    use crate::proved::bitlanes::ops::*;
+    use crate::proved::bitlanes::{word, Block, IndexRange, Steps};
+    use crate::proved::bitwalks::in_turn::*;
+    use crate::proved::bitwords::cursors::*;
+    use crate::proved::bitranks;
+    use crate::proved::fixedbitset::{Bits, BitsMut, ExtendFault, FixedBitSet};
+    use crate::proved::fixedbitset::*;
+    use crate::shim::alloc::Global;
+    use crate::shim::prelude::*;
+    use crate::shim::u64x4;
+    use core::cmp::Ordering;
+    use core::mem::{size_of, size_of_val};
+
+    let alloc = Global::Try;
+    let mut set = FixedBitSet::from_iter(alloc, [1, 3, 64]).unwrap();
+    let other = FixedBitSet::from_iter(alloc, [3, 5]).unwrap();
+    set.intersect_with(&other);
+    assert_eq!(set.len(), 65);
+    assert_eq!(set.as_slice(), [8, 0].as_slice());
+}
+
+#[test]
+fn fixedbitset_whole_69() {
+    use crate::proved::bitlanes::ops::*;
+    use crate::proved::bitlanes::{word, Block, IndexRange, Steps};
+    use crate::proved::bitwalks::in_turn::*;
+    use crate::proved::bitwords::cursors::*;
+    use crate::proved::bitranks;
+    use crate::proved::fixedbitset::{Bits, BitsMut, ExtendFault, FixedBitSet};
+    use crate::proved::fixedbitset::*;
+    use crate::shim::alloc::Global;
+    use crate::shim::prelude::*;
+    use crate::shim::u64x4;
+    use core::cmp::Ordering;
+    use core::mem::{size_of, size_of_val};
+
+    let alloc = Global::Try;
+    let mut set = FixedBitSet::from_iter(alloc, [1, 3, 64]).unwrap();
+    let other = FixedBitSet::from_iter(alloc, [3, 5]).unwrap();
+    set.difference_with(&other);
+    assert_eq!(set.as_slice(), [2, 1].as_slice());
+}
+
+#[test]
+fn fixedbitset_whole_83() {
+    use crate::proved::bitlanes::ops::*;
+    use crate::proved::bitlanes::{word, Block, IndexRange, Steps};
+    use crate::proved::bitwalks::in_turn::*;
+    use crate::proved::bitwords::cursors::*;
+    use crate::proved::bitranks;
+    use crate::proved::fixedbitset::{Bits, BitsMut, ExtendFault, FixedBitSet};
+    use crate::proved::fixedbitset::*;
+    use crate::shim::alloc::Global;
+    use crate::shim::prelude::*;
+    use crate::shim::u64x4;
+    use core::cmp::Ordering;
+    use core::mem::{size_of, size_of_val};
+
+    let alloc = Global::Try;
+    let mut set = FixedBitSet::from_iter(alloc, [1, 3]).unwrap();
+    let other = FixedBitSet::from_iter(alloc, [3, 64]).unwrap();
+    assert!(set.union_with_change(&other).unwrap());
+    assert!(!set.union_with_change(&other).unwrap());
+}
+
+#[test]
+fn fixedbitset_whole_97() {
+    use crate::proved::bitlanes::ops::*;
+    use crate::proved::bitlanes::{word, Block, IndexRange, Steps};
+    use crate::proved::bitwalks::in_turn::*;
+    use crate::proved::bitwords::cursors::*;
+    use crate::proved::bitranks;
+    use crate::proved::fixedbitset::{Bits, BitsMut, ExtendFault, FixedBitSet};
+    use crate::proved::fixedbitset::*;
+    use crate::shim::alloc::Global;
+    use crate::shim::prelude::*;
+    use crate::shim::u64x4;
+    use core::cmp::Ordering;
+    use core::mem::{size_of, size_of_val};
+
+    let alloc = Global::Try;
+    let mut set = FixedBitSet::from_iter(alloc, [1, 3, 64]).unwrap();
+    let other = FixedBitSet::from_iter(alloc, [3, 5]).unwrap();
+    assert!(set.intersect_with_change(&other));
+    assert!(!set.intersect_with_change(&other));
+}
+
+#[test]
+fn fixedbitset_whole_110() {
+    use crate::proved::bitlanes::ops::*;
+    use crate::proved::bitlanes::{word, Block, IndexRange, Steps};
+    use crate::proved::bitwalks::in_turn::*;
+    use crate::proved::bitwords::cursors::*;
+    use crate::proved::bitranks;
+    use crate::proved::fixedbitset::{Bits, BitsMut, ExtendFault, FixedBitSet};
+    use crate::proved::fixedbitset::*;
+    use crate::shim::alloc::Global;
+    use crate::shim::prelude::*;
+    use crate::shim::u64x4;
+    use core::cmp::Ordering;
+    use core::mem::{size_of, size_of_val};
+
+    let alloc = Global::Try;
+    let mut set = FixedBitSet::from_iter(alloc, [1, 3, 64]).unwrap();
+    let other = FixedBitSet::from_iter(alloc, [3, 5]).unwrap();
+    assert!(set.difference_with_change(&other));
+    assert!(!set.difference_with_change(&other));
+}
+
+#[test]
+fn fixedbitset_whole_128() {
+    use crate::proved::bitlanes::ops::*;
+    use crate::proved::bitlanes::{word, Block, IndexRange, Steps};
+    use crate::proved::bitwalks::in_turn::*;
+    use crate::proved::bitwords::cursors::*;
+    use crate::proved::bitranks;
+    use crate::proved::fixedbitset::{Bits, BitsMut, ExtendFault, FixedBitSet};
+    use crate::proved::fixedbitset::*;
+    use crate::shim::alloc::Global;
+    use crate::shim::prelude::*;
+    use crate::shim::u64x4;
+    use core::cmp::Ordering;
+    use core::mem::{size_of, size_of_val};
+
+    let alloc = Global::Try;
+    let mut set = FixedBitSet::from_iter(alloc, [1, 3]).unwrap();
+    let gens = FixedBitSet::from_iter(alloc, [4, 64]).unwrap();
+    let kills = FixedBitSet::from_iter(alloc, [4, 200]).unwrap();
+    assert!(set.union_with_difference(&gens, &kills).unwrap());
+    assert_eq!(set.as_slice(), [10, 1].as_slice());
+}
+
+#[test]
+fn fixedbitset_whole_143() {
+    use crate::proved::bitlanes::ops::*;
+    use crate::proved::bitlanes::{word, Block, IndexRange, Steps};
+    use crate::proved::bitwalks::in_turn::*;
+    use crate::proved::bitwords::cursors::*;
+    use crate::proved::bitranks;
+    use crate::proved::fixedbitset::{Bits, BitsMut, ExtendFault, FixedBitSet};
+    use crate::proved::fixedbitset::*;
+    use crate::shim::alloc::Global;
+    use crate::shim::prelude::*;
+    use crate::shim::u64x4;
+    use core::cmp::Ordering;
+    use core::mem::{size_of, size_of_val};
+
+    let alloc = Global::Try;
+    let mut set = FixedBitSet::from_iter(alloc, [1, 3]).unwrap();
+    set.bitor_assign(&FixedBitSet::from_iter(alloc, [3, 64]).unwrap()).unwrap();
+    assert_eq!(set.as_slice(), [10, 1].as_slice());
+}
+
+#[test]
+fn fixedbitset_whole_155() {
+    use crate::proved::bitlanes::ops::*;
+    use crate::proved::bitlanes::{word, Block, IndexRange, Steps};
+    use crate::proved::bitwalks::in_turn::*;
+    use crate::proved::bitwords::cursors::*;
+    use crate::proved::bitranks;
+    use crate::proved::fixedbitset::{Bits, BitsMut, ExtendFault, FixedBitSet};
+    use crate::proved::fixedbitset::*;
+    use crate::shim::alloc::Global;
+    use crate::shim::prelude::*;
+    use crate::shim::u64x4;
+    use core::cmp::Ordering;
+    use core::mem::{size_of, size_of_val};
+
+    let alloc = Global::Try;
+    let mut set = FixedBitSet::from_iter(alloc, [1, 3]).unwrap();
+    set.bitxor_assign(&FixedBitSet::from_iter(alloc, [3, 64]).unwrap()).unwrap();
+    assert_eq!(set.as_slice(), [2, 1].as_slice());
+}
+
+#[test]
+fn fixedbitset_whole_170() {
+    use crate::proved::bitlanes::ops::*;
+    use crate::proved::bitlanes::{word, Block, IndexRange, Steps};
+    use crate::proved::bitwalks::in_turn::*;
+    use crate::proved::bitwords::cursors::*;
+    use crate::proved::bitranks;
+    use crate::proved::fixedbitset::{Bits, BitsMut, ExtendFault, FixedBitSet};
+    use crate::proved::fixedbitset::*;
+    use crate::shim::alloc::Global;
+    use crate::shim::prelude::*;
+    use crate::shim::u64x4;
+    use core::cmp::Ordering;
+    use core::mem::{size_of, size_of_val};
+
+    let alloc = Global::Try;
+    let set = FixedBitSet::from_iter(alloc, [1, 3, 64]).unwrap();
+    let other = FixedBitSet::from_iter(alloc, [3, 5]).unwrap();
+    let both = set.bitand(&other).unwrap();
+    assert_eq!(both.len(), 6);
+    assert_eq!(both.as_slice(), [8].as_slice());
+}
+
+#[test]
+fn fixedbitset_whole_188() {
+    use crate::proved::bitlanes::ops::*;
+    use crate::proved::bitlanes::{word, Block, IndexRange, Steps};
+    use crate::proved::bitwalks::in_turn::*;
+    use crate::proved::bitwords::cursors::*;
+    use crate::proved::bitranks;
+    use crate::proved::fixedbitset::{Bits, BitsMut, ExtendFault, FixedBitSet};
+    use crate::proved::fixedbitset::*;
+    use crate::shim::alloc::Global;
+    use crate::shim::prelude::*;
+    use crate::shim::u64x4;
+    use core::cmp::Ordering;
+    use core::mem::{size_of, size_of_val};
+
+    let alloc = Global::Try;
+    let set = FixedBitSet::from_iter(alloc, [1, 3, 64]).unwrap();
+    let other = FixedBitSet::from_iter(alloc, [3, 5]).unwrap();
+    let either = other.bitor(&set).unwrap();
+    assert_eq!(either.len(), 65);
+    assert_eq!(either.as_slice(), [42, 1].as_slice());
+}
+
+#[test]
+fn fixedbitset_whole_206() {
+    use crate::proved::bitlanes::ops::*;
+    use crate::proved::bitlanes::{word, Block, IndexRange, Steps};
+    use crate::proved::bitwalks::in_turn::*;
+    use crate::proved::bitwords::cursors::*;
+    use crate::proved::bitranks;
+    use crate::proved::fixedbitset::{Bits, BitsMut, ExtendFault, FixedBitSet};
+    use crate::proved::fixedbitset::*;
+    use crate::shim::alloc::Global;
+    use crate::shim::prelude::*;
+    use crate::shim::u64x4;
+    use core::cmp::Ordering;
+    use core::mem::{size_of, size_of_val};
+
+    let alloc = Global::Try;
+    let set = FixedBitSet::from_iter(alloc, [1, 3, 64]).unwrap();
+    let other = FixedBitSet::from_iter(alloc, [3, 5]).unwrap();
+    let one = other.bitxor(&set).unwrap();
+    assert_eq!(one.len(), 65);
+    assert_eq!(one.as_slice(), [34, 1].as_slice());
+}
+
+#[test]
+fn fixedbitset_whole_222() {
+    use crate::proved::bitlanes::ops::*;
+    use crate::proved::bitlanes::{word, Block, IndexRange, Steps};
+    use crate::proved::bitwalks::in_turn::*;
+    use crate::proved::bitwords::cursors::*;
+    use crate::proved::bitranks;
+    use crate::proved::fixedbitset::{Bits, BitsMut, ExtendFault, FixedBitSet};
+    use crate::proved::fixedbitset::*;
+    use crate::shim::alloc::Global;
+    use crate::shim::prelude::*;
+    use crate::shim::u64x4;
+    use core::cmp::Ordering;
+    use core::mem::{size_of, size_of_val};
+
+    let alloc = Global::Try;
+    let set = FixedBitSet::from_iter(alloc, [1, 3, 64]).unwrap();
+    let other = FixedBitSet::from_iter(alloc, [3, 5]).unwrap();
+    assert_eq!(set.union_count(&other), 4);
+}
+
+#[test]
+fn fixedbitset_whole_236() {
+    use crate::proved::bitlanes::ops::*;
+    use crate::proved::bitlanes::{word, Block, IndexRange, Steps};
+    use crate::proved::bitwalks::in_turn::*;
+    use crate::proved::bitwords::cursors::*;
+    use crate::proved::bitranks;
+    use crate::proved::fixedbitset::{Bits, BitsMut, ExtendFault, FixedBitSet};
+    use crate::proved::fixedbitset::*;
+    use crate::shim::alloc::Global;
+    use crate::shim::prelude::*;
+    use crate::shim::u64x4;
+    use core::cmp::Ordering;
+    use core::mem::{size_of, size_of_val};
+
+    let alloc = Global::Try;
+    let set = FixedBitSet::from_iter(alloc, [1, 3, 64]).unwrap();
+    let other = FixedBitSet::from_iter(alloc, [3, 5]).unwrap();
+    assert_eq!(set.intersection_count(&other), 1);
+}
+
+#[test]
+fn fixedbitset_whole_251() {
+    use crate::proved::bitlanes::ops::*;
+    use crate::proved::bitlanes::{word, Block, IndexRange, Steps};
+    use crate::proved::bitwalks::in_turn::*;
+    use crate::proved::bitwords::cursors::*;
+    use crate::proved::bitranks;
+    use crate::proved::fixedbitset::{Bits, BitsMut, ExtendFault, FixedBitSet};
+    use crate::proved::fixedbitset::*;
+    use crate::shim::alloc::Global;
+    use crate::shim::prelude::*;
+    use crate::shim::u64x4;
+    use core::cmp::Ordering;
+    use core::mem::{size_of, size_of_val};
+
+    let alloc = Global::Try;
+    let set = FixedBitSet::from_iter(alloc, [1, 3, 64]).unwrap();
+    let other = FixedBitSet::from_iter(alloc, [3, 5]).unwrap();
+    assert_eq!(set.difference_count(&other), 2);
+    assert_eq!(other.difference_count(&set), 1);
+}
+
+#[test]
+fn fixedbitset_whole_266() {
+    use crate::proved::bitlanes::ops::*;
+    use crate::proved::bitlanes::{word, Block, IndexRange, Steps};
+    use crate::proved::bitwalks::in_turn::*;
+    use crate::proved::bitwords::cursors::*;
+    use crate::proved::bitranks;
+    use crate::proved::fixedbitset::{Bits, BitsMut, ExtendFault, FixedBitSet};
+    use crate::proved::fixedbitset::*;
+    use crate::shim::alloc::Global;
+    use crate::shim::prelude::*;
+    use crate::shim::u64x4;
+    use core::cmp::Ordering;
+    use core::mem::{size_of, size_of_val};
+
+    let alloc = Global::Try;
+    let set = FixedBitSet::from_iter(alloc, [1, 3, 64]).unwrap();
+    let other = FixedBitSet::from_iter(alloc, [3, 5]).unwrap();
+    assert_eq!(set.symmetric_difference_count(&other), 3);
+}
+
+#[test]
+fn fixedbitset_whole_281() {
+    use crate::proved::bitlanes::ops::*;
+    use crate::proved::bitlanes::{word, Block, IndexRange, Steps};
+    use crate::proved::bitwalks::in_turn::*;
+    use crate::proved::bitwords::cursors::*;
+    use crate::proved::bitranks;
+    use crate::proved::fixedbitset::{Bits, BitsMut, ExtendFault, FixedBitSet};
+    use crate::proved::fixedbitset::*;
+    use crate::shim::alloc::Global;
+    use crate::shim::prelude::*;
+    use crate::shim::u64x4;
+    use core::cmp::Ordering;
+    use core::mem::{size_of, size_of_val};
+
+    let alloc = Global::Try;
+    let set = FixedBitSet::from_iter(alloc, [1, 64]).unwrap();
+    let other = FixedBitSet::from_iter(alloc, [3, 64, 65]).unwrap();
+    assert!(!set.is_disjoint(&other));
+    assert!(set.is_disjoint(&FixedBitSet::from_iter(alloc, [0, 65]).unwrap()));
+}
+
+#[test]
+fn fixedbitset_whole_296() {
+    use crate::proved::bitlanes::ops::*;
+    use crate::proved::bitlanes::{word, Block, IndexRange, Steps};
+    use crate::proved::bitwalks::in_turn::*;
+    use crate::proved::bitwords::cursors::*;
+    use crate::proved::bitranks;
+    use crate::proved::fixedbitset::{Bits, BitsMut, ExtendFault, FixedBitSet};
+    use crate::proved::fixedbitset::*;
+    use crate::shim::alloc::Global;
+    use crate::shim::prelude::*;
+    use crate::shim::u64x4;
+    use core::cmp::Ordering;
+    use core::mem::{size_of, size_of_val};
+
+    let alloc = Global::Try;
+    let mut set = FixedBitSet::with_capacity(alloc, 200).unwrap();
+    set.insert(3);
+    let other = FixedBitSet::from_iter(alloc, [1, 3]).unwrap();
+    assert!(set.is_subset(&other));
+    assert!(!other.is_subset(&set));
+}
+
+#[test]
+fn fixedbitset_whole_309() {
+    use crate::proved::bitlanes::ops::*;
+    use crate::proved::bitlanes::{word, Block, IndexRange, Steps};
+    use crate::proved::bitwalks::in_turn::*;
+    use crate::proved::bitwords::cursors::*;
+    use crate::proved::bitranks;
+    use crate::proved::fixedbitset::{Bits, BitsMut, ExtendFault, FixedBitSet};
+    use crate::proved::fixedbitset::*;
+    use crate::shim::alloc::Global;
+    use crate::shim::prelude::*;
+    use crate::shim::u64x4;
+    use core::cmp::Ordering;
+    use core::mem::{size_of, size_of_val};
+
+    let alloc = Global::Try;
+    let set = FixedBitSet::from_iter(alloc, [1, 3]).unwrap();
+    let longer = FixedBitSet::with_capacity(alloc, 200).unwrap();
+    assert!(set.is_superset(&longer));
+    assert!(!longer.is_superset(&set));
+}
+
+#[test]
+fn fixedbitset_whole_326() {
+    use crate::proved::bitlanes::ops::*;
+    use crate::proved::bitlanes::{word, Block, IndexRange, Steps};
+    use crate::proved::bitwalks::in_turn::*;
+    use crate::proved::bitwords::cursors::*;
+    use crate::proved::bitranks;
+    use crate::proved::fixedbitset::{Bits, BitsMut, ExtendFault, FixedBitSet};
+    use crate::proved::fixedbitset::*;
+    use crate::shim::alloc::Global;
+    use crate::shim::prelude::*;
+    use crate::shim::u64x4;
+    use core::cmp::Ordering;
+    use core::mem::{size_of, size_of_val};
+
+    let alloc = Global::Try;
+    let set = FixedBitSet::from_iter(alloc, [1, 3]).unwrap();
+    let other = FixedBitSet::from_iter(alloc, [3, 64, 70]).unwrap();
+    assert_eq!(set.first_lacking(&other), Some(64));
+    assert_eq!(other.first_lacking(&set), Some(1));
 }
