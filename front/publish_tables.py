@@ -187,7 +187,9 @@ TRIED = {"clone_from", "extend", "from_iter", "grow_and_insert"}
 # Calls that go over words and are no part of the program of each that makes them.
 OUTLINED = {"union_with", "symmetric_difference_with", "union_with_change", "union_with_difference"}
 # Sentences with one of these speak of what the call of the crate has not.
-LEFT_OUT = ("`Err`", "The set is then as it was.", "(`range_is_valid`)", "`to_value`")
+# (The allocator zeroes a new row that is long, so nothing is written.)
+LEFT_OUT = ("`Err`", "The set is then as it was.", "(`range_is_valid`)", "`to_value`", "It writes `bits / 64` words",
+            "It writes each word as 0")
 
 # Calls of a walk in turn that have another name as Rust's traits have them.
 RENAMED = {"take_first": "next", "take_last": "next_back"}

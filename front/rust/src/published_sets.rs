@@ -11,8 +11,7 @@ use crate::{
 use alloc::vec::Vec;
 
 impl FixedBitSet {
-    /// A set of `bits` positions, none of them set. It writes `bits / 64` words, rounded up, and those up
-    /// to a whole lane of four.
+    /// A set of `bits` positions, none of them set.
     ///
     /// Where memory is refused the program ends; [`try_with_capacity`](Self::try_with_capacity) says so
     /// instead.
@@ -53,8 +52,6 @@ impl FixedBitSet {
     ///
     /// It takes no more items than there are words, which are `bits / 64`, rounded up. So `blocks` need not
     /// end. Bits past the length are cleared; upstream keeps those of its last word.
-    ///
-    /// It writes each word as 0, then the items, and then the last word.
     ///
     /// Where memory is refused the program ends;
     /// [`try_with_capacity_and_blocks`](Self::try_with_capacity_and_blocks) says so instead.
