@@ -5,12 +5,18 @@ import sys
 from erase_tables import REFUSED
 
 MARKS = sorted("<<= >>= ..= ... :: -> => == != <= >= && || += -= *= /= %= ^= &= |= << >> ..".split(), key=len)[::-1]
-SINGLE = "+-*/%^!&|=<>.,;:#?()[]{}"
+SINGLE, ALWAYS_MARKS = "+-*/%^!&|=<>.,;:#?()[]{}", set("+-*%^!&|=<.,;:#?()[]{}")
+MARK = re.compile("|".join([*map(re.escape, MARKS), "(?s:.)"]))
 NAME = re.compile(r"[A-Za-z_][A-Za-z0-9_]*")
 NUMBER = re.compile(r"[0-9][0-9_]*(?![A-Za-z0-9_]|\.[0-9])")
 LIFETIME = re.compile(r"'[a-z_]+(?!')")
+# What most tokens are: space, or a word that begins no text.
+COMMON = re.compile(r"([ \n]+)|(?!extern\b|ghost\b|requires\b|ensures\b)[A-Za-z_][A-Za-z0-9_]*(?![A-Za-z0-9_\"'])")
 # A text, or the byte of a character, in which nothing stands for something else. No letter before it says what kind it is.
 TEXT = re.compile(r'(?<![A-Za-z0-9_])"[A-Za-z0-9 ]*"|b\'[A-Za-z0-9]\'')
+# Texts, bytes and characters with all that Rust has in them on one line.
+ALL_TEXTS = re.compile(r'(?<![A-Za-z0-9_])b?"(?:[^"\\\n]|\\[nrt0"\'\\])*"'
+                       r"|(?<![A-Za-z0-9_])b?'(?:[^'\\\n]|\\(?:[nrt0\"'\\]|u\{[0-9a-f]{1,6}\}))'")
 CLOSING = {"(": ")", "[": "]", "{": "}"}
 
 
@@ -35,6 +41,7 @@ class Source:
 
     def __init__(self, file, text, words=frozenset()):
         self.file, self.text, self.at, self.refused = file, text, 0, REFUSED - words
+        self.texts, self.marks = (ALL_TEXTS if '"' in words else TEXT), SINGLE + "$" * ("$" in words)
 
     def refuse(self, what):
         line = 1 + self.text.count("\n", 0, self.at)
@@ -57,14 +64,18 @@ class Source:
 
     def token(self):
         """Reads one token, and answers its kind."""
-        if self.take(r"[ \n]+"):
-            return "space"
+        if found := COMMON.match(self.text, self.at):
+            self.at = found.end()
+            return "space" if found[1] else "name"
+        return self.mark() if self.text[self.at] in ALWAYS_MARKS else self.rarer_token()
+
+    def rarer_token(self):
         comment = self.take(r"//[^\n]*")
         if comment:
             return "doc" if comment.startswith(("///", "//!")) else "note"
         if self.take(r'extern "C" (?=fn bits_)'):
             return "lost"
-        if self.take(TEXT):
+        if self.take(self.texts):
             return "text"
         word = self.take(NAME)
         if word:
@@ -75,8 +86,11 @@ class Source:
             return "number"
         if self.text[self.at - 1] != " " and self.take(r">(?=>[ (>{,;)\n])"):
             return "mark"  # (the first of two that close parameters)
-        mark = next((mark for mark in MARKS if self.text.startswith(mark, self.at)), self.text[self.at])
-        if mark in self.refused or mark not in MARKS and mark not in SINGLE or self.text.startswith("/*", self.at):
+        return self.mark()
+
+    def mark(self):
+        mark = MARK.match(self.text, self.at)[0]
+        if mark in self.refused or mark not in MARKS and mark not in self.marks or self.text.startswith("/*", self.at):
             self.refuse(f"{mark!r} is no token that is known")
         self.at += len(mark)
         return "mark"
@@ -106,11 +120,12 @@ class Source:
         return "member"
 
     def term(self):
-        """Reads a term in braces. It may have no quote and no comment, so its braces alone tell where it ends."""
+        """Reads a term in braces. It may have no comment, and no quote but round a mark, so its braces alone tell where it ends."""
         if not self.take(r"\s*\{"):
             self.refuse("a term in braces has to stand here")
         depth = 1
         while depth:
+            self.take(r'"[:]"')
             char = self.text[self.at : self.at + 1]
             if char in ("", '"', "'") or self.text.startswith(("--", "//", "/*", "{-"), self.at):
                 self.refuse(f"{char!r} in a term")

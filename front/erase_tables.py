@@ -34,9 +34,10 @@ PRELUDE = {"Clone", "Vec"}
 MACROS = {"vec ! [ in": "crate::shim::row"}
 
 # The attributes that stay, and those that go beside `tactic`.
-ATTRIBUTES = {"[ inline ]", "[ inline ( always ) ]", "[ inline ( never ) ]", "[ cold ]", "[ derive ( Clone , Copy ) ]"}
-DROPPED = {"[ derive ( Drop ) ]", "[ derive ( Debug , Drop ) ]", "[ repr ( C ) ]",
-           "[ unsafe ( no_mangle ) ]", '[ error ( "no memory" ) ]', '[ error ( "position too great" ) ]'}
+ATTRIBUTES = {"[ inline ]", "[ inline ( always ) ]", "[ inline ( never ) ]", "[ cold ]", "[ derive ( Clone , Copy ) ]",
+              "[ derive ( Clone , Copy , Debug ) ]", "[ derive ( Debug , Clone , Copy , PartialEq , Eq ) ]"}
+DROPPED = {"[ derive ( Drop ) ]", "[ derive ( Debug , Drop ) ]", "[ repr ( C ) ]", "[ unsafe ( no_mangle ) ]", "[ cycle ( values ) ]",
+           *(f'[ error ( "{it}" ) ]' for it in ("no memory", "position too great", "read failed", "write failed"))}
 # Those of which `Drop` and the traits of other crates go.
 LIGHTER = {"[ derive ( Debug , Drop , Error ) ]": "#[derive(Debug)]"}
 KEYWORDS = set("as break const continue else enum fn for if impl in let loop match mod mut pub return self Self struct trait type "
@@ -46,12 +47,12 @@ KEYWORDS = set("as break const continue else enum fn for if impl in let loop mat
 REFUSED = set("<<= >>= ..= ... *= /= %= abstract async await become box do dyn extern final gen macro macro_rules move override "
               "priv raw ref static super try typeof union unsafe unsized virtual where yield i8 i16 i32 i64 i128 isize u16 u64 u128 "
               "f16 f32 f64 f128 char str".split())
-ITEMS = {"const", "enum", "fn", "impl", "mod", "struct", "trait", "type", "use"}
+ITEMS = {"const", "enum", "fn", "impl", "macro_rules", "mod", "static", "struct", "trait", "type", "use"}
 # The names that stand for themselves: types, variants and traits that Rust brings into each module, and types with paths.
 NAMES = {"Some", "None", "Option", "Ok", "Err", "Result", "Iterator", "IntoIterator", "DoubleEndedIterator", "PartialEq", "Eq",
          "PartialOrd", "Ord", "Copy", "usize", "u32"}
 # Those of them, and of std's, that may be bounds, with a parameter or without.
-BOUNDS = {"Copy", "Hasher", "IntoIterator", "Iterator"}
+BOUNDS = {"Copy", "Hasher", "IntoIterator", "Iterator", "Read", "Write"}
 # The imports that go, with what they are of.
 GONE = {"Model": "std::marker", "Error": "thiserror"}
 # What no item may be called, nor what a `use` brings, beside all these: it is dropped, added or written by this name.
@@ -59,7 +60,7 @@ RESERVED = set("Drop Global Sized alloc bool core shim std u8".split()) | PRELUD
 # The types whose last parameter is the allocator `Global`, and the types of others that have a trait of these modules, none of
 # whose methods has the name of a method that such a type has by itself.
 ALLOCATED = {"IntoIter"}
-FOREIGN = {"Middle for IntoIter", *(f"IndexRange for {it}" for it in (
+FOREIGN = {"Middle for IntoIter", "Part for Block", "Part for Option", *(f"IndexRange for {it}" for it in (
     "Range", "RangeFrom", "RangeFull", "RangeInclusive", "RangeTo", "RangeToInclusive"))}
 # The modules of std that are used, and what stands for them.
 STD = {"alloc": "crate::shim", "cmp": "core", "fmt": "core", "hash": "core", "iter": "core", "marker": "core", "mem": "core",
@@ -98,7 +99,9 @@ OF_TRAITS = {"Ord": {"clamp", "cmp", "max", "min"}, "PartialOrd": {"ge", "gt", "
 @dataclasses.dataclass
 class Target:
     """Modules that are made in one folder: their crates, the crates that they name beside these, and what the tables have for
-    them beside all that: members, methods, words and marks that are refused elsewhere, and closures."""
+    them beside all that: members, methods, closures, names, macros and modules of std; words and marks that are refused
+    elsewhere; what a module imports that has a word (`prelude`); other crates; the texts of `write!`, which may name variables;
+    rules of macros, word by word; crates of which a root hands names on; and lent rows of other crates."""
 
     crates: dict
     home: str
@@ -107,9 +110,22 @@ class Target:
     methods: set = dataclasses.field(default_factory=set)
     words: set = dataclasses.field(default_factory=set)
     closures: set = dataclasses.field(default_factory=set)
+    names: set = dataclasses.field(default_factory=set)
+    macros: dict = dataclasses.field(default_factory=dict)
+    std: dict = dataclasses.field(default_factory=dict)
+    prelude: dict = dataclasses.field(default_factory=dict)
+    others: dict = dataclasses.field(default_factory=dict)
+    texts: set = dataclasses.field(default_factory=set)
+    rules: set = dataclasses.field(default_factory=set)
+    handed: set = dataclasses.field(default_factory=set)
+    slices: set = dataclasses.field(default_factory=set)
 
     def members_of(self, name):
         return MEMBERS.get(name, set()) | self.members.get(name, set())
+
+    def modules(self):
+        """The modules of each crate that is named: those that are made, and those below."""
+        return {it: [*self.crates.get(it, []), *self.below.get(it, [])] for it in {**self.below, **self.crates}}
 
 
 OF_RUST = Target(CRATES, "crate::proved::")
@@ -123,4 +139,37 @@ OF_C = Target(
     methods=set("all is_some iter_mut reverse_bits".split()),
     words={"isize"},
     closures={". all ( | position | * position < length )"},
+)
+# The program `bits`, over the modules of the crate for Rust.
+OF_PROGRAM = Target(
+    {"bitwalks": ["pairs", "sieve"],
+     "bitjson": ["fault", "form", "values"],
+     "fixedbitset": ["json", "operators", "pairs"],
+     "bitcommands": ["commands", *("commands/" + name for name in (
+         "arguments", "calling", "changing", "comparing", "joining", "looking", "making", "printing", "ranging", "refusals",
+         "replies", "values", "walking"))],
+     "bitlines": ["arguments", "fault", "lines", "names", "near", "program", "words"]},
+    "crate::program::",
+    below=CRATES,
+    members={
+        "Ordering": {"Greater", "Less"}, "prelude": {"u8x32"}, "u8x32": {"from_slice", "splat"}, "usize": {"from"},
+        "u64": {"MAX"}, "ops": {"BitAndAssign", "Index"}, "io": {"Read", "Write"}, "Display": {"fmt"},
+        "serde_json": {"Map", "Number", "Value", "json"},
+        "Value": set("Array Bool Null Number Object String from from_slice".split())},
+    methods=set("all as_array as_bytes as_i64 as_str as_u64 chars clone flush is_ascii_digit is_err is_memory ok_or position "
+                "push read simd_eq take_while to_bitmask to_string to_vec unwrap write write_char".split()),
+    words=set("$ \" ..= /= char const macro_rules static str super u64 union".split()),
+    closures={". take_while ( | item | * * item != usize :: MAX )", ". all ( | item | * item < limit )",
+              ". map ( | block | * block as Block )", ". position ( | b | * b == byte )"},
+    names={"From", "u64"},
+    macros={"json ! ( in": "json", "write ! ( f": "write", "name_in ! ( word": "name_in"},
+    std={"io": "std"},
+    prelude={"String": "String", "as_array": "AsArray", "from_slice": "ReadJson", "is_memory": "JsonError",
+             "to_string": "WriteText", "to_vec": "WriteJson", "write_char": "WriteChar"},
+    others={"serde_json": "crate::shim::serde_json"},
+    texts={"{natural}", "{whole}", "{number}", "{position}", "{self}", "{text}{number}", r"\\u00{:02x}"},
+    rules={"macro_rules ! name_in { ( $ word : expr ; $ ( $ text : literal => $ name : expr , ) + ) => { { $ ( if is ( $ word , $ "
+           "text ) { return Some ( $ name ) ; } ) + None } } ; }"},
+    handed={"bitlanes", "bitwalks"},
+    slices={"& Vec < Value >"},
 )

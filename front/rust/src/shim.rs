@@ -177,8 +177,7 @@ pub mod prelude {
 /// A row of numbers. A call that may take memory asks for all of it first, and what follows is that of Rust's own `Vec`.
 pub mod row {
     use super::alloc::{AllocError, Global};
-    use alloc::collections::TryReserveError;
-    use alloc::vec::{self, IntoIter};
+    use alloc::{collections::TryReserveError, vec};
     use core::ops::{Deref, DerefMut};
 
     /// From so many numbers on a new row is zeroed by the allocator, which writes none of them. (For fewer that takes longer.)
@@ -189,9 +188,7 @@ pub mod row {
 
     impl<T> Vec<T> {
         pub const EMPTY: Self = Vec(vec::Vec::new());
-    }
 
-    impl<T: Copy> Vec<T> {
         #[inline]
         pub fn new(_: Global) -> Self {
             Self::EMPTY
@@ -205,6 +202,22 @@ pub mod row {
             }
         }
 
+        #[cold]
+        #[inline(never)]
+        fn try_with_capacity(count: usize) -> Result<Self, AllocError> {
+            let mut row = vec::Vec::new();
+            row.try_reserve_exact(count).map_err(refused::<T>(count))?;
+            Ok(Vec(row))
+        }
+
+        #[inline]
+        pub(crate) fn reserve(&mut self, more: usize) -> Result<(), AllocError> {
+            let count = self.0.len().saturating_add(more);
+            self.0.try_reserve(more).map_err(refused::<T>(count))
+        }
+    }
+
+    impl<T: Copy> Vec<T> {
         /// What `vec![in alloc; item; count]` makes. No safe call of Rust gives zeroed memory or a refusal, so a long row is
         /// asked for, given back and taken again. (If another thread takes the memory in between, the program ends.)
         #[inline]
@@ -218,14 +231,6 @@ pub mod row {
             let mut row = Self::with_capacity(alloc, count)?;
             row.0.resize(count, item);
             Ok(row)
-        }
-
-        #[cold]
-        #[inline(never)]
-        fn try_with_capacity(count: usize) -> Result<Self, AllocError> {
-            let mut row = vec::Vec::new();
-            row.try_reserve_exact(count).map_err(refused::<T>(count))?;
-            Ok(Vec(row))
         }
 
         #[inline]
@@ -242,7 +247,7 @@ pub mod row {
 
         #[inline]
         pub fn allocator(&self) -> &Global {
-            &Global::Abort
+            &crate::ALLOCATOR_OF_ROWS
         }
 
         #[inline(always)]
@@ -272,14 +277,8 @@ pub mod row {
         }
 
         #[inline]
-        pub fn into_iter(self) -> IntoIter<T> {
+        pub fn into_iter(self) -> vec::IntoIter<T> {
             self.0.into_iter()
-        }
-
-        #[inline]
-        fn reserve(&mut self, more: usize) -> Result<(), AllocError> {
-            let count = self.0.len().saturating_add(more);
-            self.0.try_reserve(more).map_err(refused::<T>(count))
         }
     }
 

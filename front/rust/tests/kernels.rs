@@ -18,6 +18,7 @@ use shim::Block;
 
 type Join = fn(Block, Block) -> Block;
 
+const ALLOCATOR_OF_ROWS: shim::alloc::Global = shim::alloc::Global::Abort;
 const LONGEST: usize = 21;
 
 /// Words with no bit, with all, with one and with many, by turns.

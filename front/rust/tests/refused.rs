@@ -18,6 +18,8 @@ use std::hint::black_box;
 use std::mem::size_of;
 use std::process::Command;
 
+const ALLOCATOR_OF_ROWS: Global = Global::Abort;
+
 /// What a thread has asked for: how often, the bytes of the last request, and the index of the one that is refused.
 #[derive(Clone, Copy)]
 struct Asked {
