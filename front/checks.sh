@@ -21,9 +21,31 @@ check() {
   if "$@" >"$folder/log" 2>&1; then report "$name" ""; else report "$name" "status $?: $(tail -n 12 "$folder/log")"; fi
 }
 
+# counted NAME COMMAND..: adds what a command counts in its last line, and shows the lines before it
+counted() {
+  "${@:2}" >"$folder/counted" 2>&1
+  grep -v '^[0-9]* passed' "$folder/counted"
+  local counts
+  counts=$(tail -n 1 "$folder/counted")
+  if [[ $counts =~ ^([0-9]+)\ passed,\ ([0-9]+)\ failed$ ]]; then
+    passed=$((passed + BASH_REMATCH[1])) failed=$((failed + BASH_REMATCH[2]))
+  else
+    report "$1" "$counts"
+  fi
+}
+
 # is_there COMMAND..: whether it can be run
 is_there() {
   "$@" >/dev/null 2>&1 || { echo "not here, so not tried: $1 ${2%%--*}"; false; }
+}
+
+# block TITLE KIND: the first block of this kind below a title of README.md, which stands in the folder `top`
+block() {
+  awk -v title="## $1" -v fence="\`\`\`$2" '
+    /^```$/ && inside { exit }
+    inside { print }
+    /^## / { below = ($0 == title) }
+    below && $0 == fence { inside = 1 }' "$top/README.md"
 }
 
 finish() {

@@ -1,0 +1,9 @@
+// Made by front/erase from crates/bitlines/src/lib.rt: change that, and not this.
+//! Lines as commands over numbered sets of bits, and the program that answers each line.
+pub mod arguments;
+pub mod fault;
+pub mod lines;
+pub mod names;
+pub mod near;
+pub mod program;
+pub mod words;

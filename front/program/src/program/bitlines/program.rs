@@ -1,0 +1,160 @@
+// Made by front/erase from crates/bitlines/src/program.rt: change that, and not this.
+//! The program over any reader and writer.
+
+use crate::shim::prelude::Vec;
+use crate::program::bitlines::lines::{LineFault, parse_line};
+use crate::program::bitlines::near::find_near;
+use crate::program::bitcommands::commands::{Command, apply};
+use crate::program::fixedbitset::FixedBitSet;
+use crate::shim::alloc::{AllocError, Global};
+use std::io::{Read, Write};
+
+/// How many sets there are.
+const SETS: usize = 16;
+
+/// The greatest length that a command may ask for.
+const LIMIT: usize = 1_000_000;
+
+/// How many bytes are read at a time, at most.
+const BUFFER: usize = 16_384;
+
+/// Why the program ended early.
+#[derive(Debug)]
+pub enum RunFault {
+    /// A read answered an error. Nothing was written.
+    Read,
+    /// A write or the flush answered an error, or a write took none of the bytes left. What went
+    /// out is a beginning of the output.
+    Write,
+    /// Memory was refused. Nothing was written.
+    Memory,
+}
+
+/// Reads all bytes, carries out their lines over sixteen sets of length 0 with the limit 1,000,000,
+/// and writes one line for each. The reader has to end.
+///
+/// It builds the whole output before it writes the first byte, and flushes behind the last one. No
+/// failed read or write is tried again. It is linear in input and output, which it keeps whole.
+///
+/// ```text
+/// let mut input = "grow 0 9\nlen 0\nlen\n".as_bytes();
+/// let mut output = Vec::new(alloc);
+/// program::run_text(alloc, &mut input, &mut output)?;
+/// let wanted = "ok\n9\nF8 not a command\n";
+/// assert_eq!(output.as_slice(), wanted.as_bytes());
+/// ```
+pub fn run_text<R: Read, W: Write>(
+    alloc: Global,
+    reader: &mut R,
+    writer: &mut W,
+) -> Result<(), RunFault> {
+    let input = read_all(alloc, reader)?;
+    let Ok(output) = output_of(alloc, input.as_slice()) else {
+        return Err(RunFault::Memory);
+    };
+    send(writer, output.as_slice())
+}
+
+/// The exit status: 0 for success, 1 for `Read`, 2 for `Write`, 3 for `Memory`.
+///
+/// ```text
+/// assert_eq!(program::status(&Ok(())), 0);
+/// assert_eq!(program::status(&Err(RunFault::Write)), 2);
+/// ```
+pub fn status(outcome: &Result<(), RunFault>) -> u8 {
+    match outcome {
+        Ok(()) => 0,
+        Err(RunFault::Read) => 1,
+        Err(RunFault::Write) => 2,
+        Err(RunFault::Memory) => 3,
+    }
+}
+
+// The output for an input.
+fn output_of(alloc: Global, input: &[u8]) -> Result<Vec<u8>, AllocError> {
+    let mut sets = new_sets(alloc)?;
+    let sets = sets.as_mut_slice();
+    let mut output = Vec::new(alloc);
+    let mut rest = input;
+    while !rest.is_empty() {
+        let (line, more) = first_line(rest);
+        answer_line(alloc, sets, line, &mut output)?;
+        rest = more;
+    }
+    Ok(output)
+}
+
+// Carries out a line, and puts its reply, or a fault, and a line end behind the output.
+fn answer_line(
+    alloc: Global,
+    sets: &mut [FixedBitSet],
+    line: &[u8],
+    output: &mut Vec<u8>,
+) -> Result<(), AllocError> {
+    match &parse_line(alloc, line) {
+        Ok(command) => answer_command(alloc, sets, command, output),
+        Err(LineFault::NotACommand) => output.extend_from_slice(b"F8 not a command\n"),
+        Err(LineFault::Memory) => Err(AllocError),
+    }
+}
+
+// Carries out a command, and puts its reply and a line end behind the output.
+fn answer_command(
+    alloc: Global,
+    sets: &mut [FixedBitSet],
+    command: &Command,
+    output: &mut Vec<u8>,
+) -> Result<(), AllocError> {
+    apply(alloc, sets, command, LIMIT).push_text(output)?;
+    output.push(b'\n')?;
+    Ok(())
+}
+
+fn new_sets(alloc: Global) -> Result<Vec<FixedBitSet>, AllocError> {
+    let mut sets = Vec::new(alloc);
+    for _ in 0..SETS {
+        sets.push(FixedBitSet::new(alloc))?;
+    }
+    Ok(sets)
+}
+
+// The first line, and what stands behind its line end.
+fn first_line(text: &[u8]) -> (&[u8], &[u8]) {
+    match find_near(text, b'\n') {
+        Some(end) => (&text[..end], &text[end + 1..]),
+        None => (text, &text[text.len()..]),
+    }
+}
+
+// Reads to the end.
+fn read_all<R: Read>(alloc: Global, reader: &mut R) -> Result<Vec<u8>, RunFault> {
+    let mut input = Vec::new(alloc);
+    let mut buffer = [0; BUFFER];
+    for _ in 0..u64::MAX {
+        let Ok(count) = reader.read(&mut buffer) else {
+            return Err(RunFault::Read);
+        };
+        if count == 0 {
+            return Ok(input);
+        }
+        if input.extend_from_slice(&buffer[..count]).is_err() {
+            return Err(RunFault::Memory);
+        }
+    }
+    Err(RunFault::Memory)
+}
+
+// Writes all the bytes, and flushes.
+fn send<W: Write>(writer: &mut W, bytes: &[u8]) -> Result<(), RunFault> {
+    let mut done = 0;
+    while done < bytes.len() {
+        match writer.write(&bytes[done..]) {
+            Ok(0) | Err(_) => return Err(RunFault::Write),
+            Ok(count) => done += count,
+        }
+    }
+    match writer.flush() {
+        Ok(()) => Ok(()),
+        Err(_) => Err(RunFault::Write),
+    }
+}

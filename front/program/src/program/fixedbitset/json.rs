@@ -1,0 +1,77 @@
+// Made by front/erase from crates/fixedbitset/src/json.rt: change that, and not this.
+//! Sets as JSON values: a length and bytes.
+
+use crate::program::fixedbitset::set::FixedBitSet;
+use crate::program::fixedbitset::views::storage_words;
+pub use crate::program::bitjson::JsonFault;
+use crate::program::bitjson::form::read_form;
+use crate::program::bitjson::values::{value_of_words, words_of_items};
+use crate::proved::bitwords::positions;
+use crate::shim::serde_json::Value;
+use crate::shim::alloc::{AllocError, Global};
+
+impl FixedBitSet {
+    /// The set as a JSON value: an object with the keys `length`, which is `len()`, and
+    /// `data`, a list of bytes.
+    ///
+    /// Position `p` is bit `p % 8` of byte `p / 8`. There are eight bytes for each word of
+    /// `as_slice`, so those at the end may be 0. `from_value` makes the same set of it.
+    ///
+    /// It makes one item for each byte, and asks for their memory once. `Err` comes only where
+    /// memory for them or for the object was refused.
+    ///
+    /// Upstream has the trait `Serialize` of `serde` in place of this call.
+    ///
+    /// ```text
+    /// let set = FixedBitSet::from_iter(alloc, [2, 9])?;
+    /// let text = set.to_value(alloc)?.to_string(alloc)?;
+    /// assert_eq!(text.as_str(), "{\"data\":[4,2,0,0,0,0,0,0],\"length\":10}");
+    /// ```
+    pub fn to_value(&self, alloc: Global) -> Result<Value, AllocError> {
+        value_of_words(alloc, self.len(), self.as_slice())
+    }
+
+    /// The length of the set that `from_value` makes of a value, or the first fault of the value.
+    ///
+    /// So a caller can look at the length before memory is asked for. It looks at each item of the
+    /// data once, takes no memory, and never answers `JsonFault::Memory`.
+    ///
+    /// Upstream has no such call.
+    ///
+    /// ```text
+    /// let value = Value::from_str(alloc, "[70,[255]]")?;
+    /// assert_eq!(FixedBitSet::check_value(&value), Ok(70));
+    /// let value = Value::from_str(alloc, "[70,[255,256]]")?;
+    /// assert_eq!(FixedBitSet::check_value(&value), Err(JsonFault::Item(1)));
+    /// ```
+    pub fn check_value(value: &Value) -> Result<usize, JsonFault> {
+        let (length, _) = read_form(value)?;
+        Ok(length)
+    }
+
+    /// The set that a value in the form means. The form is an object with exactly the keys `length`
+    /// and `data`, or a list of these two in this order. `length` is a whole number from 0 to 2 ^
+    /// 64 - 1, and `data` a list of whole numbers from 0 to 255.
+    ///
+    /// Position `p` is set where it is below the length and bit `p % 8` of byte `p / 8` is set. So
+    /// bytes that are missing count as 0, and bits past the length are dropped.
+    ///
+    /// `Err` says the first fault of the value, or that the value is in the form and memory was
+    /// refused. No memory is asked for before the value is known to be in the form. It looks at
+    /// each item of the data at most twice, and writes each word of the set once.
+    ///
+    /// Upstream has the trait `Deserialize` of `serde` in place of this call.
+    ///
+    /// ```text
+    /// let value = Value::from_str(alloc, "[10,[76,255]]")?;
+    /// let set = FixedBitSet::from_value(alloc, &value)?;
+    /// assert_eq!(set.len(), 10);
+    /// assert_eq!(set.as_slice(), [844].as_slice());
+    /// ```
+    pub fn from_value(alloc: Global, value: &Value) -> Result<Self, JsonFault> {
+        let (length, items) = read_form(value)?;
+        let mut words = words_of_items(alloc, items, storage_words(length))?;
+        positions::clear_from(&mut words, length);
+        Ok(FixedBitSet { words, length })
+    }
+}
