@@ -9,6 +9,8 @@ SCRIPTS = "tools/gate"
 SHARED = ("tools/calls.py", "tools/kept.py", "tools/running.py")
 # Crates of examples, which are run and not proved: the proof of each costs as much as that of a library.
 EXAMPLES = ("test_examples", "test_other_examples")
+# The program that ./bits builds by cargo, and what builds it.
+PROGRAM, CARGO = "front/program", ("cargo", "rustc", "cc")
 MAKERS = ("cc", "gcc", "g++", "clang", "make", "cargo", "rustc", "pkg-config", "valgrind", "python3")
 
 
@@ -57,12 +59,12 @@ class Plan:
 
     def first(self):
         """What needs no proof, the quickest first."""
-        script = ("bits", "use", "tools/launch", "tools/calls.py", "README.md", "CHANGELOG.md", "crates.txt", "docs/COMMANDS.md")
+        script = ("bits", "use", "tools/launch", "tools/calls.py", "README.md", "HANDLES", "crates.txt", PROGRAM)
         programs = (".ci", "bits", "use", "test", "tools", "front", "bench")
         calls = (*programs, "tests/libraries.txt", "crates.txt", "README.md", "CONTRIBUTING.md")
         return [
-            Stage("./bits where it cannot start", ("tools/launch/check_bits",), script),
-            Stage("calls that are not known", ("tools/launch/check_calls",), calls),
+            Stage("./bits where it cannot start", ("tools/launch/check_bits",), script, CARGO),
+            Stage("calls that are not known", ("tools/launch/check_calls",), calls, CARGO),
         ]
 
     def scripts(self):
@@ -106,14 +108,18 @@ class Plan:
         library = self.sources("bits_c", parts=("src", "specs", "proofs"))
         gcc = [f"{it}-linux-gnu-gcc" for it in ("aarch64", "i686", "s390x")]
         qemu = ("qemu-aarch64-static", "qemu-s390x-static")
-        inputs = ("front", "tools/docs/make_api", "tools/calls.py", "tools/kept.py", *library)
+        inputs = ("front", "tools/docs/make_api", "tools/calls.py", "tools/kept.py", *library, *self.sources("bits"))
         front = Stage("the crate for Rust and the header for C", ("front/test",), inputs, (*MAKERS, "cmake", "dpkg-deb", *gcc, *qemu), ("README.md",))
         crate = ("front/rust", "front/differ", "front/registry", "front/compilers")
         emulators = (*qemu, "wasm-ld", "node", "cargo", "rustc", "cc", *gcc)
         others = ("front/targets", "front/wrong", "front/wrong_lines", "tools/kept.py")
         targets = Stage("the crate on other targets", ("front/targets",), (*crate, *others), emulators)
+        texts = ("docs/COMMANDS.md", "examples", "crates/bits/stdin", "crates/bits/stdout", "tools/memory/memory.txt")
+        shared = ("front/checks.sh", "front/registry", "front/compilers", "front/tools", "tools/kept.py")
+        inputs = ("front/program", "front/rust/src", *shared, *texts)
+        program = Stage("the program by cargo", ("front/program/test",), inputs, ("cargo", "rustc", "cc", *gcc, *qemu))
         client = Stage("petgraph over the crate", ("front/client",), (*crate, "front/client", "front/rustdoc"), ("cargo", "rustc", "cc"))
-        return [front, targets, client] if self.has("bits_c") else []
+        return [front, targets, client] * self.has("bits_c") + [program] * self.has("bits")
 
     def libraries(self):
         """What is built of the static library over the work of the proofs, and the type for PostgreSQL: some of its tests end
@@ -130,16 +136,16 @@ class Plan:
 
     def last(self):
         """What runs the programs."""
-        script = ("bits", "tools/launch/build.sh", "tools/launch/refusals", "tools/calls.py")
+        script = ("bits", "tools/launch/build.sh", "tools/calls.py", PROGRAM)
         bits = (*self.sources("bits"), *script, "docs/COMMANDS.md", "examples", f"{SCRIPTS}/programs", f"{SCRIPTS}/report.sh")
         shared = ("tools/calls.py", "tools/running.py", "tools/fuzz", "tools/memory")
         uses = ("use", "tools/launch/build.sh", *(f"crates/uses/{it}" for it in ("examples", "cases", "wrong", "stdin", "args")))
         commands = ("tools/docs/check_commands",)
         refusals = self.sources("test_refusals", "bits")
         stages = [
-            (["bits"], Stage("programs", (f"{SCRIPTS}/programs",), bits, ("cc",))),
-            (["bits"], Stage("examples of docs/COMMANDS.md", ("tools/docs/check_commands",), (*bits, *commands))),
-            (["bits"], Stage("lines with one byte changed", ("tools/fuzz/lines",), (*bits, *commands, *shared))),
+            (["bits"], Stage("programs", (f"{SCRIPTS}/programs",), bits, CARGO)),
+            (["bits"], Stage("examples of docs/COMMANDS.md", ("tools/docs/check_commands",), (*bits, *commands), CARGO)),
+            (["bits"], Stage("lines with one byte changed", ("tools/fuzz/lines",), (*bits, *commands, *shared), CARGO)),
             (["uses"], Stage("input of the uses", ("tools/fuzz/uses",), (*self.sources("uses"), *uses, *shared))),
             (["test_refusals"], Stage("memory refused", ("tools/memory/sweep",), (*refusals, "examples", "docs/COMMANDS.md", *shared))),
         ]

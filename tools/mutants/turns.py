@@ -66,7 +66,7 @@ class Turns(Processes):
     def __init__(self):
         self.parent = os.getppid()
         super().__init__()
-        self.starting, self.processors = threading.Lock(), len(os.sched_getaffinity(0))
+        self.starting, self.processors = threading.Lock(), os.sched_getaffinity(0)
         threading.Thread(target=self.give_way, daemon=True).start()
 
     def begin(self, words, folder):
@@ -77,7 +77,7 @@ class Turns(Processes):
 
     def free(self):
         """How many processors others leave."""
-        return self.processors - threads_that_run({os.getpid(), *(process.pid for process in self.ours)})
+        return len(self.processors) - threads_that_run({os.getpid(), *(process.pid for process in self.ours)}, self.processors)
 
     def give_way(self):
         while os.getppid() == self.parent:
@@ -88,14 +88,15 @@ class Turns(Processes):
         self.end_all(1)
 
 
-def threads_that_run(but):
-    """How many threads run or want to, but for those of these processes."""
+def threads_that_run(but, processors):
+    """How many threads run or want to on these processors, but for those of these processes."""
     found = 0
     for file in glob.iglob("/proc/[0-9]*/task/[0-9]*/stat"):
         if int(file.split("/")[2]) not in but:
             try:
                 with open(file, encoding="utf-8", errors="replace") as stat:
-                    found += stat.read().rpartition(")")[2].split()[0] == "R"
+                    fields = stat.read().rpartition(")")[2].split()
+                found += fields[0] == "R" and int(fields[36]) in processors
             except OSError:
                 pass  # (it has ended)
     return found
