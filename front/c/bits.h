@@ -1,5 +1,5 @@
-/* Sets of bits with a length, answered by proved code: libbits_c.a of the crate bits_c, for Linux on x86-64 and aarch64. From
- * source it is built for others too; where a size_t has 32 bits nothing is proved of it.
+/* Bit sets (bitmaps) with a length, formally verified: the calls of libbits_c.a, for Linux on x86-64 and aarch64. From source the
+ * library is built for other targets too; where a size_t has 32 bits nothing is proved of it.
  *
  *     bits set = bits_new(100);
  *     if (!set.words)

@@ -23,3 +23,6 @@ mod crossing;
 mod exports;
 #[allow(unsafe_code)]
 mod system;
+
+/// What a row takes its memory from that is copied.
+const ALLOCATOR_OF_ROWS: shim::alloc::Global = shim::alloc::Global::Abort;
