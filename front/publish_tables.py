@@ -29,10 +29,10 @@ class Result:
 
     kind: str
     made: str
-    said: str = "the answer"
+    said: str = "the result"
     tried: str = ""
     try_made: str = "{}"
-    told: str = "which says where memory is refused"
+    told: str = "which returns an error if an allocation fails"
     left: str = "The set is then as it was."
 
 
@@ -106,7 +106,7 @@ FORMS = {
     ("self.length ≡ min one.length other.length",): Form("self.assert_length(one.len().min(other.len()));", OF_RESULT),
     ("self.length ≡ one.length",): Form("self.assert_length(one.len());", OF_RESULT),
     ("prelude.length positions ≡ prelude.length answers",): Form(
-        "self.assert_like(positions, answers);", "there are not as many answers as positions"),
+        "self.assert_like(positions, answers);", "there are not as many results as positions"),
     ("gens.length ≤ self.length",): Form("self.assert_no_longer(gens);", "`gens` is longer, as this set does not grow"),
 }
 
@@ -163,14 +163,14 @@ SET_PARAMETERS = {
     "range: R": ("range: T", "start..end"),
     "I": ("{}: I", "{}"),
 }
-STOPS = "which says what stops it: the position `usize::MAX`, or memory that is refused"
+STOPS = "which returns what stops it: the position `usize::MAX`, or an allocation that fails"
 SET_RESULTS = {
     "bool": Result("bool", "{}"),
     "usize": Result("usize", "{}"),
     "": Result("", "{};", ""),
     "IntoOnes": Result("IntoOnes", "let walk = {};\n        IntoOnes {{ walk }}", "each item"),
     "Result<(), AllocError>": Result("", "{}.or_abort();", "", "Result<(), AllocError>"),
-    "Result<bool, AllocError>": Result("bool", "{}.or_abort()", "the answer", "Result<bool, AllocError>"),
+    "Result<bool, AllocError>": Result("bool", "{}.or_abort()", "the result", "Result<bool, AllocError>"),
     "Result<Self, AllocError>": Result(
         "Self", "let set = {}.or_abort();\n        FixedBitSet {{ set }}", "the set",
         "Result<Self, AllocError>", "let set = {}?;\n        Ok(FixedBitSet {{ set }})"),

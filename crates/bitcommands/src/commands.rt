@@ -51,14 +51,14 @@ pub enum Command {
     Walk(Walk),
 }
 
-/// Carries out one command, and answers its reply.
+/// Carries out one command, and returns its reply.
 ///
 /// The guards of the command are tested first, in the order of the table (`specs/Table.antt`): the
 /// first that refuses is the reply, and then no set changes. `limit` is the greatest length that a
-/// command may ask for. The reply is `Refusal::Memory` only where the table says that memory may
-/// be refused, and then no set changes either, but for [`Change::Extend`]. The set of that one
-/// keeps the items before the item that stopped it: that is no position (`Refusal::Greatest`), or
-/// memory for it was refused.
+/// command may ask for. The reply is `Refusal::Memory` only where the table says that an allocation
+/// may fail, and then no set changes either, but for [`Change::Extend`]. The set of that one keeps
+/// the items before the item that stopped it: that is no position (`Refusal::Greatest`), or its
+/// allocation failed.
 ///
 /// ```
 /// let mut sets = [FixedBitSet::with_capacity(alloc, 70)?];
@@ -83,10 +83,10 @@ pub fn apply(alloc: Global, sets: &mut [FixedBitSet], command: &Command, limit: 
     }
 }
 
-/// Carries out the commands in order, and answers one reply for each.
+/// Carries out the commands in order, and returns one reply for each.
 ///
-/// The places of all replies are reserved before the first command: where that is refused, the call
-/// answers `Err`, no command was carried out and no set has changed. A refused command is a reply,
+/// The places of all replies are reserved before the first command: where that fails, the call
+/// returns `Err`, no command was carried out and no set has changed. A refused command is a reply,
 /// and the commands after it go on.
 ///
 /// ```

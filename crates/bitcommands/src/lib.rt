@@ -1,4 +1,4 @@
-//! Commands over numbered sets of bits: what each does and answers.
+//! Commands over numbered bit sets: what each does and returns.
 #![tactic(auto)]
 
 pub mod commands;

@@ -1,4 +1,4 @@
-//! Words from bytes, and words as bytes, in memory of their own.
+//! Words from bytes, and words as bytes, in an allocation of their own.
 
 ghost use Rattle.std.specs.Prelude.{◌≡◌, ℕ, ◌<◌, ◌≤◌, ◌*◌, ◌^◌, IfOk, get_or, length, map, vec_len};
 ghost use Rattle.std.specs.List.{range_with_len};
@@ -11,9 +11,9 @@ use std::alloc::{AllocError, Global};
 /// The first `count` words that `source` are the bytes of: eight for each word, the lowest byte
 /// first. Past its end a byte is 0.
 ///
-/// It looks at no more than `8 * count` bytes, each once, and takes the memory of the words at
-/// once. `Err` comes only where that was refused. Words past the bytes are 0 as they are made, and
-/// not written again.
+/// It looks at no more than `8 * count` bytes, each once, and allocates the words at once. `Err` is
+/// returned only on allocation failure. Words past the bytes are 0 as they are made, and not
+/// written again.
 ///
 /// ```
 /// let words = bytes::words_of_bytes(alloc, &[1, 2], 2)?;
@@ -32,7 +32,7 @@ pub fn words_of_bytes(alloc: Global, source: &[u8], count: usize) -> Result<Vec<
 
 /// The bytes of the words: eight for each word, the lowest byte first.
 ///
-/// It takes the memory of the bytes at once. `Err` comes only where that was refused.
+/// It allocates the bytes at once. `Err` is returned only on allocation failure.
 ///
 /// ```
 /// let data = bytes::bytes_of_words(alloc, &[513])?;

@@ -9,7 +9,7 @@ use bitlanes::Block;
 /// Writes over the words those that `source` are the bytes of, as
 /// [`words_of_bytes`](crate::bytes::words_of_bytes) makes them.
 ///
-/// It looks at no more than eight bytes for a word, each once, and takes no memory.
+/// It looks at no more than eight bytes for a word, each once, and does not allocate.
 ///
 /// ```
 /// let mut words = [7, 7];
@@ -31,7 +31,7 @@ pub fn fill_words(source: &[u8], words: &mut [Block])
 /// [`bytes_of_words`](crate::bytes::bytes_of_words) makes them. There have to be
 /// eight bytes for each word.
 ///
-/// It takes no memory.
+/// It does not allocate.
 ///
 /// ```
 /// let mut made = [7; 8];

@@ -1,4 +1,4 @@
-//! The form of a value: its length and its items, or the first fault.
+//! The form of a value: its length and its items, or the first error.
 
 ghost use Rattle.std.specs.Prelude.{◌≡◌, ◌≢◌, IfErr, map};
 ghost use Rattle.std.specs.Result.{result_map_both};
@@ -13,9 +13,9 @@ use serde_json::Value;
 /// `data`, or a list of these two in this order. The length is a whole number of 64 bits, and each
 /// item one from 0 to 255.
 ///
-/// The items are lent from the value. Each item is looked at once, and no memory is taken.
+/// The items are borrowed from the value. Each item is looked at once, and nothing is allocated.
 ///
-/// `Err` says the first fault of the value, and it is never `Memory`.
+/// `Err` says the first error of the value, and it is never `Memory`.
 ///
 /// ```
 /// let value = Value::from_str(alloc, "[10,[76,1]]")?;

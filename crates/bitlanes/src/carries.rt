@@ -85,7 +85,7 @@ impl Sums {
             + ones_in(self.ones.to_array())
     }
 
-    // Adds the two joined lanes from word `at` on, and answers the twos that are carried.
+    // Adds the two joined lanes from word `at` on, and returns the twos that are carried.
     #[inline(always)]
     fn add_two<O: WordOp>(
         &mut self,
@@ -109,7 +109,7 @@ impl Sums {
         carries
     }
 
-    // Adds the four joined lanes from word `at` on, and answers the fours that are carried.
+    // Adds the four joined lanes from word `at` on, and returns the fours that are carried.
     #[inline(always)]
     fn add_four<O: WordOp>(
         &mut self,
@@ -131,7 +131,7 @@ impl Sums {
         carries
     }
 
-    // Adds the eight joined lanes from word `at` on, and answers the eights that are carried.
+    // Adds the eight joined lanes from word `at` on, and returns the eights that are carried.
     #[inline(always)]
     fn add_eight<O: WordOp>(
         &mut self,

@@ -1,4 +1,4 @@
-//! The kernels that change words and answer whether a bit changed. Each word is read once.
+//! The kernels that change words and return whether a bit changed. Each word is read once.
 //!
 //! A step is one lane, as in module `lanes`.
 ghost use Rattle.std.specs.Prelude.{◌≡◌, ◌+◌, ◌≤◌, ◌<◌, ◌==◌, ◌&&◌, not};
@@ -13,7 +13,7 @@ use crate::ops::WordOp;
 use crate::{Block, Steps};
 use std::simd::prelude::*;
 
-/// Joins each word of `dst` with the word of `src` at its place, by `O`, and answers whether a bit
+/// Joins each word of `dst` with the word of `src` at its place, by `O`, and returns whether a bit
 /// of `dst` changed. Words of `dst` past the end of `src` stay.
 ///
 /// It takes exactly `m / 4` steps, rounded up, `m` being the number of words of the shorter slice.
@@ -48,9 +48,9 @@ pub fn apply<O: WordOp>(dst: &mut [Block], src: &[Block], steps: &mut Steps) -> 
     !is_zero(changed)
 }
 
-/// Joins each word of `dst` by `O` with the words of `a` and `b` at its place, which are
-/// joined by `T` first, and answers whether a bit of `dst` changed. Words of `dst` past the
-/// end of `a` or of `b` stay.
+/// Joins each word of `dst` by `O` with the words of `a` and `b` at its place, which are joined by
+/// `T` first, and returns whether a bit of `dst` changed. Words of `dst` past the end of `a` or of
+/// `b` stay.
 ///
 /// It takes exactly `m / 4` steps, rounded up, `m` being the number of words of the shortest slice.
 ///
@@ -93,7 +93,7 @@ pub fn apply_joined<O: WordOp, T: WordOp>(
     !is_zero(changed)
 }
 
-/// Makes each word 0, and answers whether one was not.
+/// Makes each word 0, and returns whether one was not.
 ///
 /// It takes exactly `m / 4` steps, rounded up, `m` being the number of words.
 ///
@@ -137,8 +137,8 @@ fn gathered(before: u64x4, lane: u64x4) -> u64x4
     before | lane
 }
 
-// Joins the four words of `dst` from `at` on with those of `src`, and answers
-// the bits that changed.
+// Joins the four words of `dst` from `at` on with those of `src`, and returns the bits that
+// changed.
 #[inline(always)]
 fn change_lane<O: WordOp>(dst: &mut [Block], src: &[Block], at: usize) -> u64x4
     requires in_dst { at + 4 ≤ length dst.old }
@@ -151,7 +151,7 @@ fn change_lane<O: WordOp>(dst: &mut [Block], src: &[Block], at: usize) -> u64x4
     change_by_lane::<O>(dst, at, u64x4::from_slice(&src[at..]))
 }
 
-// Joins the four words of `dst` from `at` on with a lane, and answers the bits that changed.
+// Joins the four words of `dst` from `at` on with a lane, and returns the bits that changed.
 #[inline(always)]
 #[tactic(auto, using(crate::proofs::Changing::against_joined))]
 fn change_by_lane<O: WordOp>(dst: &mut [Block], at: usize, lane: u64x4) -> u64x4
@@ -165,8 +165,8 @@ fn change_by_lane<O: WordOp>(dst: &mut [Block], at: usize, lane: u64x4) -> u64x4
     old ^ new
 }
 
-// Joins the last one to three words of `dst`, from `at` on, with those of `src`, and answers
-// the bits that changed.
+// Joins the last one to three words of `dst`, from `at` on, with those of `src`, and returns the
+// bits that changed.
 #[inline(always)]
 fn change_part<O: WordOp>(dst: &mut [Block], src: &[Block], at: usize, rest: usize) -> u64x4
     requires some { 0 < rest }
@@ -180,7 +180,7 @@ fn change_part<O: WordOp>(dst: &mut [Block], src: &[Block], at: usize, rest: usi
     change_by_part::<O>(dst, at, rest, part_at(src, at, rest))
 }
 
-// Joins the last one to three words of `dst`, from `at` on, with the first of a lane, and answers
+// Joins the last one to three words of `dst`, from `at` on, with the first of a lane, and returns
 // the bits that changed where these words are filled with zeros.
 #[inline(always)]
 fn change_by_part<O: WordOp>(dst: &mut [Block], at: usize, rest: usize, lane: u64x4) -> u64x4

@@ -8,8 +8,8 @@ use std::ops::{Range, RangeFrom, RangeFull, RangeInclusive, RangeTo, RangeToIncl
 /// Two ends, each of which may be absent. An absent start stands for the first index, and an absent
 /// end for the length of what the range is taken of.
 ///
-/// An implementation states which ends it means, and its calls answer them. Upstream's trait has
-/// bodies that answer `None`; here each implementation writes both.
+/// An implementation states which ends it means, and its calls return them. Upstream's trait has
+/// bodies that return `None`; here each implementation writes both.
 ///
 /// ```
 /// let range = 60..=69;
@@ -29,7 +29,7 @@ pub trait IndexRange<T> {
     fn start(&self) -> Option<T>
         ensures { result ≡ start_of self.now };
 
-    /// The index behind the last of the range, or `None`.
+    /// The index after the last of the range, or `None`.
     fn end(&self) -> Option<T>
         ensures { result ≡ end_of self.now };
 }
@@ -98,12 +98,12 @@ impl<T: Copy> IndexRange<T> for Range<T> {
     }
 }
 
-/// The indices from the start up to and with the end, which the range answers at the call.
+/// The indices from the start up to and with the end, which the range returns at the call.
 ///
-/// So the end that it means is the index behind `end()`. Behind `usize::MAX` there is none: the end
+/// So the end that it means is the index after `end()`. After `usize::MAX` there is none: the end
 /// is then `usize::MAX` itself, and no sum wraps.
 ///
-/// A range that was iterated over means what its two calls `start()` and `end()` answer from then
+/// A range that was iterated over means what its two calls `start()` and `end()` return from then
 /// on, also where its iteration has ended: such a range is not empty here.
 impl IndexRange<usize> for RangeInclusive<usize> {
     ghost start_of = { λ range. Some (range_inclusive_start range) };
@@ -121,8 +121,8 @@ impl IndexRange<usize> for RangeInclusive<usize> {
     }
 }
 
-/// The indices up to and with the end. As above, the end that it means is the index behind it, and
-/// behind `usize::MAX` that number itself.
+/// The indices up to and with the end. As above, the end that it means is the index after it, and
+/// after `usize::MAX` that number itself.
 impl IndexRange<usize> for RangeToInclusive<usize> {
     ghost start_of = { λ _. None };
 

@@ -67,7 +67,7 @@ pub fn clear_lowest_bit(word: Block) -> Block
     word & (word - 1)
 }
 
-/// Clears the lowest bit that is set, and answers its index. The word may not be 0.
+/// Clears the lowest bit that is set, and returns its index. The word may not be 0.
 ///
 /// ```
 /// let mut bits = 12;
@@ -85,7 +85,7 @@ pub fn take_lowest_bit(word: &mut Block) -> usize
     index
 }
 
-/// Clears the highest bit that is set, and answers its index. The word may not be 0.
+/// Clears the highest bit that is set, and returns its index. The word may not be 0.
 ///
 /// ```
 /// let mut bits = 12;

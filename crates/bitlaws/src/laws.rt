@@ -69,8 +69,8 @@ pub fn numbers_read_back()
     ensures loaded { LoadedStays }
 {}
 
-/// The stretches that `runs` and `zero_runs` walk over are the set. Each position of a stretch is
-/// set, or clear; none between two stretches is, and at least one position lies between them.
+/// The runs that `runs` and `zero_runs` return are the set. Each position of a run is set, or
+/// clear; none between two runs is, and at least one position lies between them.
 ///
 /// ```
 /// let set = FixedBitSet::from_iter(alloc, [3, 4, 9])?;
@@ -82,7 +82,7 @@ pub fn runs_are_the_set()
     ensures zeroes { ZeroRunsAreTheOthers }
 {}
 
-/// `first_gap` answers the least number with room, and none exactly where no number has room. There
+/// `first_gap` returns the least number with room, and none exactly where no number has room. There
 /// is room where the positions are below the length and none of them is set.
 ///
 /// ```
@@ -95,7 +95,7 @@ pub fn first_gap_is_least()
     ensures least { GapIsLeast }
 {}
 
-/// Which JSON values are in the form, and which fault the others have. It is the first of these
+/// Which JSON values are in the form, and which error the others have. It is the first of these
 /// that applies, in the order of `JsonFault`.
 ///
 /// ```
@@ -319,9 +319,9 @@ pub fn steps_of_two_sets()
     ensures equal { StepsOfEqual }
 {}
 
-/// Whatever calls were made of a walk from its two ends: the items that came from the front, then
-/// those left, then those that came from the back, reversed, are the items that it had. It holds of
-/// each walk over one set and over two.
+/// Whatever calls were made of an iterator from its two ends: the items that came from the front,
+/// then those left, then those that came from the back, reversed, are the items that it had. It
+/// holds of each iterator over one set and over two.
 ///
 /// ```
 /// let set = FixedBitSet::from_iter(alloc, [3, 9, 64, 70])?;
@@ -337,10 +337,10 @@ pub fn parts_are_the_list()
     ensures of_split { PartsAreTheList split_items SplitsFirst SplitsLast }
 {}
 
-/// What calls of a walk cost, in any order from its two ends. Calls of a walk over one set make
-/// exactly one turn each, and one more for each word that they take, each word once at most. A walk
-/// over two sets looks up each item that a source gave exactly once; `c` calls of it make its
-/// sources take at most `2 c` turns, one for each item and one for each word.
+/// What calls of an iterator cost, in any order from its two ends. Calls of an iterator over one
+/// set make exactly one turn each, and one more for each word that they take, each word once at
+/// most. An iterator over two sets looks up each item that a source gave exactly once; `c` calls of
+/// it make its sources take at most `2 c` turns, one for each item and one for each word.
 ///
 /// ```
 /// let set = FixedBitSet::from_iter(alloc, [3, 70])?;
@@ -432,8 +432,8 @@ pub fn complements()
     ensures difference { DifferenceByComplement }
 {}
 
-/// `==` is true exactly if lengths and positions are the same, and `cmp` answers by them which
-/// of two sets comes first.
+/// `==` is true exactly if lengths and positions are the same, and `cmp` returns by them which of
+/// two sets comes first.
 ///
 /// ```
 /// let set = FixedBitSet::from_iter(alloc, [3, 64])?;
@@ -446,7 +446,7 @@ pub fn order_tells()
     ensures compare { CompareTells }
 {}
 
-/// `minimum` and `maximum` answer a position exactly if it is set and no other is less, or greater.
+/// `minimum` and `maximum` return a position exactly if it is set and no other is less, or greater.
 ///
 /// ```
 /// let set = FixedBitSet::from_iter(alloc, [3, 9, 64])?;

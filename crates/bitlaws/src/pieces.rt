@@ -137,7 +137,7 @@ pub fn order_by_pieces()
 {}
 
 /// A piece in which no position is set is the empty set of its length, so it need not be kept. With
-/// it joins, counts and questions answer what the other piece alone tells.
+/// it joins, counts and tests return what the other piece alone tells.
 ///
 /// ```
 /// let set = FixedBitSet::from_iter(alloc, [3, 64])?;

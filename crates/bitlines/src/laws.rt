@@ -5,8 +5,8 @@ ghost use Rattle.bitlines.specs.GrammarLaws.{LinesMean};
 ghost use Rattle.bitlines.specs.OutputLaws.{OneOutput, OneLineEach};
 ghost use Rattle.bitlines.specs.StepLaws.{OnlyTargetChanges, RefusedChangesNothing};
 
-/// Two outputs of one input, neither with a line that says that memory was refused, are equal: but
-/// for memory, what the program writes is a function of what it reads.
+/// Two outputs of one input, neither with a line that says that an allocation failed, are equal:
+/// but for memory, what the program writes is a function of what it reads.
 ///
 /// ```
 /// let (mut first, mut second) = (Vec::new(alloc), Vec::new(alloc));

@@ -1,4 +1,4 @@
-//! Lines as commands over numbered sets of bits, and the program that answers each line.
+//! Lines as commands over numbered bit sets, and the program that replies to each line.
 #![tactic(auto)]
 
 mod arguments;

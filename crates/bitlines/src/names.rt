@@ -22,9 +22,9 @@ pub(crate) enum Name {
     ThreeSets(ThreeSets),
     /// A set and a range.
     SetAndRange(SetAndRange),
-    /// A set and the ends of a walk.
+    /// A set and the ends of an iterator.
     SetAndEnds(SetAndEnds),
-    /// Two sets and the ends of a walk.
+    /// Two sets and the ends of an iterator.
     TwoSetsAndEnds(TwoSetsAndEnds),
     /// A set, a length and a list of words.
     WithCapacityAndBlocks,
@@ -125,7 +125,7 @@ pub(crate) enum SetAndRange {
     RangeIsValid,
 }
 
-/// The name of a command on a set and the ends of a walk over it.
+/// The name of a command on a set and the ends of an iterator over it.
 #[derive(Clone, Copy)]
 pub(crate) enum SetAndEnds {
     Ones,
@@ -133,7 +133,7 @@ pub(crate) enum SetAndEnds {
     Zeroes,
 }
 
-/// The name of a command on two sets and the ends of a walk over them.
+/// The name of a command on two sets and the ends of an iterator over them.
 #[derive(Clone, Copy)]
 pub(crate) enum TwoSetsAndEnds {
     Union,
@@ -142,7 +142,7 @@ pub(crate) enum TwoSetsAndEnds {
     SymmetricDifference,
 }
 
-// The name beside the text that the word is, if there is one.
+// The name for the text that the word is, if there is one.
 macro_rules! name_in {
     ($word:expr; $($text:literal => $name:expr,)+) => {{
         $(if is($word, $text) {

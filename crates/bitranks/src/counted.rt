@@ -16,7 +16,7 @@ use fixedbitset::FixedBitSet;
 use std::alloc::{AllocError, Global};
 
 /// [`Ranks::of`], with the steps that it takes: exactly one for each word of the set but those of
-/// the last entry of the directory, and none where memory was refused.
+/// the last entry of the directory, and none where an allocation failed.
 ///
 /// ```
 /// let set = FixedBitSet::from_iter(alloc, [3, 64, 70])?;

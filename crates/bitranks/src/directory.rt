@@ -1,4 +1,4 @@
-//! Rank and select over words that someone keeps, with a directory of them beside.
+//! Rank and select over words that someone keeps, with a directory of them.
 //!
 //! Position `p` stands at bit `p % 64` of word `p / 64`. Entry `k` of the directory is how
 //! many bits are set in the words before word `8 * k`, so it takes one word of memory for
@@ -140,7 +140,7 @@ pub fn select(
     positions::nth(words, first, end, index - directory[entry], steps)
 }
 
-// The place of an entry that is `index` at most, with none behind it or one that is more.
+// The place of an entry that is `index` at most, with none after it or one that is more.
 #[inline(always)]
 fn last_within(directory: &[usize], index: usize, steps: &mut Steps) -> usize
     requires some { 0 < length directory.now }

@@ -3,8 +3,8 @@
 ghost use Rattle.bitranks.specs.RankLaws.{RankOfSelect, SelectOfRank};
 ghost use Rattle.bitranks.specs.RankLaws.{SelectEnds, RankGrows, RankIsSize};
 
-/// As many positions stand below the one that `select` answers as its index says, and none is
-/// answered exactly where the set has no more positions than that.
+/// As many positions stand below the one that `select` returns as its index says, and `None` is
+/// returned exactly where the set has no more positions than that.
 ///
 /// ```
 /// let set = FixedBitSet::from_iter(alloc, [3, 64])?;

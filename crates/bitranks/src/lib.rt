@@ -1,7 +1,7 @@
-//! Rank and select over a set: how many positions stand below a given one, and
-//! which position is the k-th.
+//! Rank and select over a bit set: how many positions stand below a given one, and which position
+//! is the k-th.
 //!
-//! Both are answered by a directory beside the words of the set: one number for eight words.
+//! Both use a directory next to the words of the set: one number for eight words.
 #![tactic(auto)]
 
 pub mod counted;

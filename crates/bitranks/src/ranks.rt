@@ -1,4 +1,4 @@
-//! The ranks of a set: the set, lent, and a directory of its words.
+//! The ranks of a set: the set, borrowed, and a directory of its words.
 
 ghost use Rattle.std.specs.Prelude.{◌≡◌, IfOk};
 ghost use Rattle.bitranks.specs.Ranks as ranks;
@@ -9,7 +9,7 @@ use fixedbitset::FixedBitSet;
 use std::alloc::{AllocError, Global};
 use std::marker::Model;
 
-/// A set that is lent, with a directory that answers `rank` and `select`.
+/// A set that is borrowed, with a directory for `rank` and `select`.
 ///
 /// Contracts see it as the set. The directory takes one word of memory for eight words of the set,
 /// rounded up. While it lives the set cannot change.
@@ -37,7 +37,7 @@ impl<'a> Model for Ranks<'a> {
 impl<'a> Ranks<'a> {
     /// The ranks of a set. It looks at each word of the set once at most.
     ///
-    /// `Err` comes only where memory for the directory was refused.
+    /// `Err` is returned only where the allocation of the directory failed.
     ///
     /// ```
     /// let set = FixedBitSet::from_iter(alloc, [3, 64, 70])?;

@@ -1,4 +1,4 @@
-//! A table of bits: rows of one length, in one row of words.
+//! A bit matrix: rows of one length, in one row of words.
 //!
 //! Every contract sees a table as how many columns it has and, for each row, the set of the columns
 //! at which it has a bit (`specs/Tables.antt`). Each row is kept in whole lanes of four words, as a

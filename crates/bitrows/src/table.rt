@@ -47,8 +47,8 @@ impl BitRows {
     /// A table of `rows` rows and `columns` columns, with no bit. It writes each word once: a row
     /// has `columns / 64` words, rounded up to whole lanes of four.
     ///
-    /// `Err` comes only where memory for the words was refused. So it is where there would be more
-    /// than `usize::MAX` words.
+    /// `Err` is returned only where the allocation of the words failed. So it is where there would
+    /// be more than `usize::MAX` words.
     ///
     /// ```
     /// let table = BitRows::new(alloc, 3, 70)?;
@@ -159,7 +159,7 @@ impl BitRows {
         .set(row, column, enabled);
     }
 
-    /// Row `into` takes in the bits of row `from`, and the other rows stay. It answers whether a
+    /// Row `into` takes in the bits of row `from`, and the other rows stay. It returns whether a
     /// bit came in. The table has to have both rows; where they are one, nothing changes. It reads
     /// each word of the two rows once.
     ///
@@ -189,7 +189,7 @@ impl BitRows {
     }
 
     /// The columns at which the row has a bit, in ascending order. The row has to be one of the
-    /// table's. It takes no memory, and reads the first and the last word that the columns need;
+    /// table's. It does not allocate, and reads the first and the last word that the columns need;
     /// those between are not yet taken.
     ///
     /// ```
@@ -217,7 +217,7 @@ impl BitRows {
     /// the row has a bit: afterwards row `a` has a bit at column `b` exactly if some path of one or
     /// more edges led from `a` to `b`.
     ///
-    /// Nothing leads on from a column that is no row. It takes no memory. With `n` rows and `m`
+    /// Nothing leads on from a column that is no row. It does not allocate. With `n` rows and `m`
     /// columns it looks at `n * min(n, m)` bits, and joins two rows for each bit that it finds set
     /// ([`counted::close`](crate::counted::close)).
     ///

@@ -1,9 +1,9 @@
 //! A table over words that someone else keeps: `Rows` to be read, and `RowsMut` to be changed.
 //!
 //! The words are those of a table (`IsTable`): for each row as many as a set of `columns` positions
-//! keeps, one row behind the other, and no bit past the columns. So a row is a set over lent words
-//! ([`Bits`](fixedbitset::Bits)). `RowsMut::blank` makes any words those of a table. No call takes
-//! memory. The calls of [`BitRows`](crate::BitRows) hand over to these.
+//! keeps, one row after the other, and no bit past the columns. So a row is a set over borrowed
+//! words ([`Bits`](fixedbitset::Bits)). `RowsMut::blank` makes any words those of a table. No call
+//! allocates. The calls of [`BitRows`](crate::BitRows) hand over to these.
 
 ghost use Rattle.bitrows.specs.Stored.{IsTable};
 
@@ -12,8 +12,8 @@ mod reads;
 
 use bitlanes::Block;
 
-/// A table over lent words, to be read: the words of its rows, how many rows there
-/// are, and how many columns.
+/// A table over borrowed words, to be read: the words of its rows, how many rows there are, and how
+/// many columns.
 #[repr(C)]
 #[derive(Clone, Copy)]
 pub struct Rows<'a> {
@@ -23,7 +23,7 @@ pub struct Rows<'a> {
     pub ghost clean: { IsTable rows columns words.now },
 }
 
-/// A table over lent words, to be changed. Its numbers of rows and of columns stay.
+/// A table over borrowed words, to be changed. Its numbers of rows and of columns stay.
 #[repr(C)]
 #[derive(Drop)]
 pub struct RowsMut<'a> {

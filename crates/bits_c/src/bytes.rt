@@ -27,8 +27,8 @@ pub extern "C" fn bits_from_bytes(set: &mut BitsMut<'_>, bytes: &[u8])
     set.assign_bytes(bytes);
 }
 
-/// Writes the bytes of the set, and answers whether there are as many as `bits_bytes` says;
-/// else nothing is changed.
+/// Writes the bytes of the set, and returns whether there are as many as `bits_bytes` says; else
+/// nothing is changed.
 #[unsafe(no_mangle)]
 pub extern "C" fn bits_to_bytes(set: &Bits<'_>, bytes: &mut [u8]) -> bool
     ensures answer { result ≡ (length bytes.old == 8 * words_needed set.now.length) }
@@ -43,7 +43,7 @@ pub extern "C" fn bits_to_bytes(set: &Bits<'_>, bytes: &mut [u8]) -> bool
 }
 
 /// Reverses the bits of each byte. So bytes that have the first of eight positions in the uppermost
-/// bit become those that have it in the lowest, and the other way round.
+/// bit become those that have it in the lowest, and vice versa.
 #[unsafe(no_mangle)]
 pub extern "C" fn bits_reverse_each_byte(bytes: &mut [u8])
     ensures { bytes.new ≡ map (reverse_bits w8) bytes.old }

@@ -13,7 +13,7 @@ use crate::bits_words;
 use crate::structs::Room;
 use fixedbitset::views::Bits;
 
-/// Makes the words those of the set's positions that are below the length of the room, and answers
+/// Makes the words those of the set's positions that are below the length of the room, and returns
 /// whether it did: where there are `bits_words` of this length. Else nothing is changed.
 #[unsafe(no_mangle)]
 pub extern "C" fn bits_copy(to: &mut Room<'_>, set: &Bits<'_>) -> bool
@@ -33,7 +33,7 @@ pub extern "C" fn bits_copy(to: &mut Room<'_>, set: &Bits<'_>) -> bool
     }
 }
 
-/// Makes the words those of the positions of either set, and answers whether it did: where the room
+/// Makes the words those of the positions of either set, and returns whether it did: where the room
 /// has the greater of their lengths, and `bits_words` of it. Else nothing is changed.
 #[unsafe(no_mangle)]
 pub extern "C" fn bits_union_of(to: &mut Room<'_>, set: &Bits<'_>, other: &Bits<'_>) -> bool
@@ -54,7 +54,7 @@ pub extern "C" fn bits_union_of(to: &mut Room<'_>, set: &Bits<'_>, other: &Bits<
     }
 }
 
-/// Makes the words those of the positions of exactly one set, and answers whether it did: where the
+/// Makes the words those of the positions of exactly one set, and returns whether it did: where the
 /// room has the greater of their lengths, and `bits_words` of it. Else nothing is changed.
 #[unsafe(no_mangle)]
 pub extern "C" fn bits_symmetric_difference_of(
@@ -79,7 +79,7 @@ pub extern "C" fn bits_symmetric_difference_of(
     }
 }
 
-/// Makes the words those of the positions of both sets, and answers whether it did: where the room
+/// Makes the words those of the positions of both sets, and returns whether it did: where the room
 /// has the smaller of their lengths, and `bits_words` of it. Else nothing is changed.
 #[unsafe(no_mangle)]
 pub extern "C" fn bits_intersection_of(to: &mut Room<'_>, set: &Bits<'_>, other: &Bits<'_>) -> bool
@@ -100,9 +100,9 @@ pub extern "C" fn bits_intersection_of(to: &mut Room<'_>, set: &Bits<'_>, other:
     }
 }
 
-/// Makes the words those of the positions of the first set that the second lacks, and
-/// answers whether it did: where the room has the length of the first, and `bits_words` of
-/// it. Else nothing is changed.
+/// Makes the words those of the positions of the first set that the second lacks, and returns
+/// whether it did: where the room has the length of the first, and `bits_words` of it. Else nothing
+/// is changed.
 #[unsafe(no_mangle)]
 pub extern "C" fn bits_difference_of(to: &mut Room<'_>, set: &Bits<'_>, other: &Bits<'_>) -> bool
     ensures answer { result ≡ (length to.old.words.now == storage_words to.old.length

@@ -1,6 +1,6 @@
-//! Positions of a walk by the handful: a call gives as many as there is room for, or as are left.
+//! Positions of an iterator in batches: a call gives as many as there is room for, or as are left.
 //!
-//! Such a call leaves the walk where as many calls for one position leave it, and both may be
+//! Such a call leaves the iterator where as many calls for one position leave it, and both may be
 //! mixed. Places that it has no position for stay as they are.
 
 ghost use Rattle.std.specs.Prelude.{◌≡◌, ◌<◌, ◌++◌, ℕ, List, length, map, reverse};
@@ -181,7 +181,7 @@ impl<G: Worded + Drop> Worded for Reversed<G> {
     }
 }
 
-// Writes the first positions left, and answers how many.
+// Writes the first positions left, and returns how many.
 #[inline(always)]
 fn fill<G: Giver>(giver: &mut G, positions: &mut [usize]) -> usize
     ensures { TakesFirst G.left giver.old positions.old result positions.new giver.new }
@@ -195,7 +195,7 @@ fn fill<G: Giver>(giver: &mut G, positions: &mut [usize]) -> usize
     positions.len()
 }
 
-// The same as `fill`, where words with many positions are given as a whole. Behind them a word's
+// The same as `fill`, where words with many positions are given as a whole. After them a word's
 // worth of positions is given one by one before words are looked at again.
 #[inline(always)]
 fn fill_by_words<G: Worded>(giver: &mut G, positions: &mut [usize]) -> usize
@@ -213,7 +213,7 @@ fn fill_by_words<G: Worded>(giver: &mut G, positions: &mut [usize]) -> usize
     count
 }
 
-// Writes the last positions left, the last one first, and answers how many.
+// Writes the last positions left, the last one first, and returns how many.
 #[inline(always)]
 fn fill_back<G: Giver + Drop>(giver: G, positions: &mut [usize]) -> (usize, G)
     ensures { TakesLast G.left giver positions.old result.0 positions.new result.1 }
@@ -273,7 +273,7 @@ fn narrow(places: &mut [u32], positions: &[usize])
     }
 }
 
-// The same as `fill`, where the positions of a second giver stand behind those of the first.
+// The same as `fill`, where the positions of a second giver stand after those of the first.
 #[inline(always)]
 fn fill_both<A: Giver, B: Giver>(first: &mut A, second: &mut B, positions: &mut [usize]) -> usize
     ensures { TakesFirst (λ all. all) (A.left first.old ++ B.left second.old) positions.old result
@@ -301,7 +301,7 @@ fn fill_both_back<A: Giver + Drop, B: Giver + Drop>(
 }
 
 /// Writes the first positions left to `positions`, from its front on and in ascending order: as
-/// many as there is room for, or as are left. It answers how many.
+/// many as there is room for, or as are left. It returns how many.
 #[unsafe(no_mangle)]
 pub extern "C" fn bits_ones_take(walk: &mut Ones<'_>, positions: &mut [usize]) -> usize
     ensures { TakesFirst ones_left walk.old positions.old result positions.new walk.new }
@@ -313,7 +313,7 @@ pub extern "C" fn bits_ones_take(walk: &mut Ones<'_>, positions: &mut [usize]) -
 }
 
 /// Writes the first positions left to `positions`, from its front on and in ascending order: as
-/// many as there is room for, or as are left. It answers how many. A place takes the low 32 bits of
+/// many as there is room for, or as are left. It returns how many. A place takes the low 32 bits of
 /// its position, which are the position itself in a set of at most 2^32 bits.
 #[unsafe(no_mangle)]
 pub extern "C" fn bits_ones_take_u32(walk: &mut Ones<'_>, positions: &mut [u32]) -> usize
@@ -330,7 +330,7 @@ pub extern "C" fn bits_ones_take_u32(walk: &mut Ones<'_>, positions: &mut [u32])
 }
 
 /// Writes the last positions left to `positions`, from its front on and in descending order: as
-/// many as there is room for, or as are left. It answers how many.
+/// many as there is room for, or as are left. It returns how many.
 #[unsafe(no_mangle)]
 pub extern "C" fn bits_ones_take_back(walk: &mut Ones<'_>, positions: &mut [usize]) -> usize
     ensures { TakesLast ones_left walk.old positions.old result positions.new walk.new }
@@ -341,7 +341,7 @@ pub extern "C" fn bits_ones_take_back(walk: &mut Ones<'_>, positions: &mut [usiz
 }
 
 /// Writes the first positions left to `positions`, from its front on and in ascending order: as
-/// many as there is room for, or as are left. It answers how many.
+/// many as there is room for, or as are left. It returns how many.
 #[unsafe(no_mangle)]
 pub extern "C" fn bits_zeroes_take(walk: &mut Zeroes<'_>, positions: &mut [usize]) -> usize
     ensures { TakesFirst zeroes_left walk.old positions.old result positions.new walk.new }
@@ -353,7 +353,7 @@ pub extern "C" fn bits_zeroes_take(walk: &mut Zeroes<'_>, positions: &mut [usize
 }
 
 /// Writes the last positions left to `positions`, from its front on and in descending order: as
-/// many as there is room for, or as are left. It answers how many.
+/// many as there is room for, or as are left. It returns how many.
 #[unsafe(no_mangle)]
 pub extern "C" fn bits_zeroes_take_back(walk: &mut Zeroes<'_>, positions: &mut [usize]) -> usize
     ensures { TakesLast zeroes_left walk.old positions.old result positions.new walk.new }
@@ -364,7 +364,7 @@ pub extern "C" fn bits_zeroes_take_back(walk: &mut Zeroes<'_>, positions: &mut [
 }
 
 /// Writes the first positions left to `positions`, from its front on and in ascending order: as
-/// many as there is room for, or as are left. It answers how many.
+/// many as there is room for, or as are left. It returns how many.
 #[unsafe(no_mangle)]
 pub extern "C" fn bits_intersection_take(walk: &mut Sieve<'_>, positions: &mut [usize]) -> usize
     ensures { TakesFirst shared_left walk.old positions.old result positions.new walk.new }
@@ -376,7 +376,7 @@ pub extern "C" fn bits_intersection_take(walk: &mut Sieve<'_>, positions: &mut [
 }
 
 /// Writes the last positions left to `positions`, from its front on and in descending order: as
-/// many as there is room for, or as are left. It answers how many.
+/// many as there is room for, or as are left. It returns how many.
 #[unsafe(no_mangle)]
 pub extern "C" fn bits_intersection_take_back(
     walk: &mut Sieve<'_>,
@@ -390,7 +390,7 @@ pub extern "C" fn bits_intersection_take_back(
 }
 
 /// Writes the first positions left to `positions`, from its front on and in ascending order: as
-/// many as there is room for, or as are left. It answers how many.
+/// many as there is room for, or as are left. It returns how many.
 #[unsafe(no_mangle)]
 pub extern "C" fn bits_difference_take(walk: &mut Sieve<'_>, positions: &mut [usize]) -> usize
     ensures { TakesFirst lacked_left walk.old positions.old result positions.new walk.new }
@@ -402,7 +402,7 @@ pub extern "C" fn bits_difference_take(walk: &mut Sieve<'_>, positions: &mut [us
 }
 
 /// Writes the last positions left to `positions`, from its front on and in descending order: as
-/// many as there is room for, or as are left. It answers how many.
+/// many as there is room for, or as are left. It returns how many.
 #[unsafe(no_mangle)]
 pub extern "C" fn bits_difference_take_back(walk: &mut Sieve<'_>, positions: &mut [usize]) -> usize
     ensures { TakesLast lacked_left walk.old positions.old result positions.new walk.new }
@@ -412,8 +412,8 @@ pub extern "C" fn bits_difference_take_back(walk: &mut Sieve<'_>, positions: &mu
     count
 }
 
-/// Writes the first positions left to `positions`, from its front on and in the order of the walk:
-/// as many as there is room for, or as are left. It answers how many.
+/// Writes the first positions left to `positions`, from its front on and in the order of the
+/// iterator: as many as there is room for, or as are left. It returns how many.
 #[unsafe(no_mangle)]
 pub extern "C" fn bits_union_take(walk: &mut Pair<'_>, positions: &mut [usize]) -> usize
     ensures { TakesFirst joined_left walk.old positions.old result positions.new walk.new }
@@ -427,7 +427,7 @@ pub extern "C" fn bits_union_take(walk: &mut Pair<'_>, positions: &mut [usize]) 
 }
 
 /// Writes the last positions left to `positions`, from its front on and against the order of the
-/// walk: as many as there is room for, or as are left. It answers how many.
+/// iterator: as many as there is room for, or as are left. It returns how many.
 #[unsafe(no_mangle)]
 pub extern "C" fn bits_union_take_back(walk: &mut Pair<'_>, positions: &mut [usize]) -> usize
     ensures { TakesLast joined_left walk.old positions.old result positions.new walk.new }
@@ -440,8 +440,8 @@ pub extern "C" fn bits_union_take_back(walk: &mut Pair<'_>, positions: &mut [usi
     count
 }
 
-/// Writes the first positions left to `positions`, from its front on and in the order of the walk:
-/// as many as there is room for, or as are left. It answers how many.
+/// Writes the first positions left to `positions`, from its front on and in the order of the
+/// iterator: as many as there is room for, or as are left. It returns how many.
 #[unsafe(no_mangle)]
 pub extern "C" fn bits_symmetric_difference_take(
     walk: &mut Pair<'_>,
@@ -458,7 +458,7 @@ pub extern "C" fn bits_symmetric_difference_take(
 }
 
 /// Writes the last positions left to `positions`, from its front on and against the order of the
-/// walk: as many as there is room for, or as are left. It answers how many.
+/// iterator: as many as there is room for, or as are left. It returns how many.
 #[unsafe(no_mangle)]
 pub extern "C" fn bits_symmetric_difference_take_back(
     walk: &mut Pair<'_>,

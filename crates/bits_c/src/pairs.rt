@@ -1,6 +1,6 @@
-//! Walks over the positions of two sets in turn: from the front those of the first before
-//! those of the second, and from the back those of the second before those of the first. Their
-//! calls are those of `walks`.
+//! Iterators over the positions of two sets in turn: from the front those of the first before those
+//! of the second, and from the back those of the second before those of the first. Their calls are
+//! those of `walks`.
 
 ghost use Rattle.std.specs.Prelude.{◌≡◌, ◌++◌, [], false, length};
 ghost use Rattle.std.specs.Iterator.{YieldsFirst, YieldsLast};
@@ -16,8 +16,8 @@ use bitlanes::word::BITS;
 use fixedbitset::views::Bits;
 
 impl<'a> Pair<'a> {
-    // The first position of the second walk. The other bits of its word become the first walk: so
-    // the next calls find them without a look at a walk that has none left.
+    // The first position of the second iterator. The other bits of its word become the first
+    // iterator: so the next calls find them without a look at an iterator that has none left.
     #[inline(always)]
     fn take_first_of_second(&mut self) -> Option<usize>
         ensures joined { YieldsFirst (λ all. all)
@@ -38,7 +38,7 @@ impl<'a> Pair<'a> {
         item
     }
 
-    // The last word of the first walk becomes the second one, which has none left: so the next
+    // The last word of the first iterator becomes the second one, which has none left: so the next
     // calls from the back find its bits without a look at that.
     #[inline(always)]
     fn bring_last_word(&mut self)
@@ -62,8 +62,8 @@ impl<'a> Pair<'a> {
     }
 }
 
-/// Begins the walk over the positions of the first set, and then over those of the second that the
-/// first lacks, each part in ascending order.
+/// Initialises the iterator over the positions of the first set, and then over those of the second
+/// that the first lacks, each part in ascending order.
 #[unsafe(no_mangle)]
 pub extern "C" fn bits_union<'a>(walk: &mut Pair<'a>, set: &Bits<'a>, other: &Bits<'a>)
     ensures left { joined_left walk.new ≡ model.asc (value set.now)
@@ -112,8 +112,8 @@ pub extern "C" fn bits_union_next_back(walk: &mut Pair<'_>, position: &mut usize
     hand_out(item, position)
 }
 
-/// Begins the walk over the positions of the first set that the second lacks, and then over those
-/// of the second that the first lacks, each part in ascending order.
+/// Initialises the iterator over the positions of the first set that the second lacks, and then
+/// over those of the second that the first lacks, each part in ascending order.
 #[unsafe(no_mangle)]
 pub extern "C" fn bits_symmetric_difference<'a>(
     walk: &mut Pair<'a>,

@@ -17,7 +17,7 @@ pub extern "C" fn bits_range_is_valid(set: &Bits<'_>, start: usize, end: usize) 
     set.range_is_valid(start, end)
 }
 
-/// Sets the positions of the range, and answers whether it is valid; else nothing is changed.
+/// Sets the positions of the range, and returns whether it is valid; else nothing is changed.
 #[unsafe(no_mangle)]
 pub extern "C" fn bits_insert_range(set: &mut BitsMut<'_>, start: usize, end: usize) -> bool
     ensures answer { result ≡ is_valid (held set.old) start end }
@@ -33,7 +33,7 @@ pub extern "C" fn bits_insert_range(set: &mut BitsMut<'_>, start: usize, end: us
     }
 }
 
-/// Clears the positions of the range, and answers whether it is valid; else nothing is changed.
+/// Clears the positions of the range, and returns whether it is valid; else nothing is changed.
 #[unsafe(no_mangle)]
 pub extern "C" fn bits_remove_range(set: &mut BitsMut<'_>, start: usize, end: usize) -> bool
     ensures answer { result ≡ is_valid (held set.old) start end }
@@ -49,7 +49,7 @@ pub extern "C" fn bits_remove_range(set: &mut BitsMut<'_>, start: usize, end: us
     }
 }
 
-/// Sets each position of the range that is clear and clears each that is set, and answers whether
+/// Sets each position of the range that is clear and clears each that is set, and returns whether
 /// it is valid; else nothing is changed.
 #[unsafe(no_mangle)]
 pub extern "C" fn bits_toggle_range(set: &mut BitsMut<'_>, start: usize, end: usize) -> bool

@@ -1,9 +1,9 @@
 //! Tables of bits: rows of one length, in words of the caller's.
 //!
-//! A table is the struct `bits_rows` of `front/c/bits.h`: here `bitrows::Rows` where it is
-//! read, and `bitrows::RowsMut` where it is changed. Each row keeps as many words as a set
-//! of `columns` positions, one row behind the other. `bits_rows_clear` makes any words those
-//! of a table with no bit.
+//! A table is the struct `bits_rows` of `front/c/bits.h`: here `bitrows::Rows` where it is read,
+//! and `bitrows::RowsMut` where it is changed. Each row keeps as many words as a set of `columns`
+//! positions, one row after the other. `bits_rows_clear` makes any words those of a table with no
+//! bit.
 
 ghost use Rattle.std.specs.Prelude.{◌≡◌, ◌<◌, ◌≤◌, ◌*◌, ◌^◌, ◌↔◌, ◌&&◌, ℕ, [], ◌==◌};
 ghost use Rattle.std.specs.Prelude.{nat_lt, true, false, not, if◌then◌else◌, length};
@@ -32,7 +32,7 @@ pub extern "C" fn bits_rows_words(rows: usize, columns: usize) -> usize
     rows.checked_mul(bits_words(columns)).unwrap_or(NONE)
 }
 
-/// Makes any words those of a table of so many rows and columns, with no bit. It answers whether
+/// Makes any words those of a table of so many rows and columns, with no bit. It returns whether
 /// there are as many as `bits_rows_words` says; else nothing is changed.
 #[unsafe(no_mangle)]
 pub extern "C" fn bits_rows_clear(words: &mut [Block], rows: usize, columns: usize) -> bool
@@ -62,7 +62,7 @@ pub extern "C" fn bits_rows_get(rows: &Rows<'_>, row: usize, column: usize) -> b
     }
 }
 
-/// Sets the bit of the row at the column, or clears it where `enabled` is false, and answers
+/// Sets the bit of the row at the column, or clears it where `enabled` is false, and returns
 /// whether the table has both; else nothing is changed.
 #[unsafe(no_mangle)]
 pub extern "C" fn bits_rows_set(
@@ -84,9 +84,9 @@ pub extern "C" fn bits_rows_set(
     }
 }
 
-/// Row `into` takes in the bits of row `from`, and the answer is whether the table has both;
-/// else nothing is changed. It writes to `changed` whether a bit came in; where the table
-/// has not both, nothing.
+/// Row `into` takes in the bits of row `from`, and the result is whether the table has both; else
+/// nothing is changed. It writes to `changed` whether a bit came in; where the table has not both,
+/// nothing.
 #[unsafe(no_mangle)]
 pub extern "C" fn bits_rows_union(
     rows: &mut RowsMut<'_>,
@@ -112,8 +112,8 @@ pub extern "C" fn bits_rows_union(
     }
 }
 
-/// Begins the walk over the columns at which the row has a bit, in ascending order, and answers
-/// whether the table has the row; else the walk gives none.
+/// Initialises the iterator over the columns at which the row has a bit, in ascending order, and
+/// returns whether the table has the row; else the iterator gives none.
 #[unsafe(no_mangle)]
 pub extern "C" fn bits_rows_ones<'a>(walk: &mut Ones<'a>, rows: &Rows<'a>, row: usize) -> bool
     ensures answer { result ≡ nat_lt row rows.now.rows }

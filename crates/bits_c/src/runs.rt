@@ -1,10 +1,10 @@
-//! Walks over the stretches of positions that follow each other without a gap, kept in a
-//! struct of the caller's.
+//! Iterators over the runs of positions that follow each other without a gap, kept in a struct of
+//! the caller's.
 //!
-//! A stretch has the positions from its start up to and without its end. Each call gives one
-//! stretch, from either end, and answers whether it did; a call that gives none leaves what `start`
-//! and `end` point to. A walk looks for stretches from `low` up to and without `high`, which is at
-//! first the length, and so at no word behind those that the length needs.
+//! A run has the positions from its start up to and without its end. Each call gives one run, from
+//! either end, and returns whether it did; a call that gives none leaves what `start` and `end`
+//! point to. An iterator looks for runs from `low` up to and without `high`, which is at first the
+//! length, and so at no word after those that the length needs.
 
 ghost use Rattle.std.specs.Prelude.{◌≡◌, false};
 ghost use Rattle.std.specs.Iterator.{YieldsFirst, YieldsLast};
@@ -47,7 +47,7 @@ impl<'a> Runs<'a> {
     }
 }
 
-// Writes the stretch to `start` and `end`, and answers whether there is one.
+// Writes the run to `start` and `end`, and returns whether there is one.
 #[inline(always)]
 fn hand_out_run(run: Option<(usize, usize)>, start: &mut usize, end: &mut usize) -> bool
     ensures given { given_run result start.new end.new ≡ run }
@@ -64,7 +64,7 @@ fn hand_out_run(run: Option<(usize, usize)>, start: &mut usize, end: &mut usize)
     }
 }
 
-/// Begins the walk over the stretches of positions that are set, in ascending order.
+/// Initialises the iterator over the runs of positions that are set, in ascending order.
 #[unsafe(no_mangle)]
 pub extern "C" fn bits_runs<'a>(walk: &mut Runs<'a>, set: &Bits<'a>)
     ensures left { stretches_left walk.new ≡ stretches.runs (value set.now) }
@@ -74,8 +74,8 @@ pub extern "C" fn bits_runs<'a>(walk: &mut Runs<'a>, set: &Bits<'a>)
     *walk = Runs::of(set.runs());
 }
 
-/// Begins the walk over the stretches of positions below the length that are not
-/// set, in ascending order.
+/// Initialises the iterator over the runs of positions below the length that are not set, in
+/// ascending order.
 #[unsafe(no_mangle)]
 pub extern "C" fn bits_zero_runs<'a>(walk: &mut Runs<'a>, set: &Bits<'a>)
     ensures left { stretches_left walk.new ≡ stretches.zero_runs (value set.now) }
@@ -85,7 +85,7 @@ pub extern "C" fn bits_zero_runs<'a>(walk: &mut Runs<'a>, set: &Bits<'a>)
     *walk = Runs::of(set.zero_runs());
 }
 
-/// Gives the first stretch left.
+/// Gives the first run left.
 #[tactic(auto, using(crate::proofs::Given::first_given))]
 #[unsafe(no_mangle)]
 pub extern "C" fn bits_runs_next(walk: &mut Runs<'_>, start: &mut usize, end: &mut usize) -> bool
@@ -100,7 +100,7 @@ pub extern "C" fn bits_runs_next(walk: &mut Runs<'_>, start: &mut usize, end: &m
     hand_out_run(run, start, end)
 }
 
-/// Gives the last stretch left.
+/// Gives the last run left.
 #[tactic(auto, using(crate::proofs::Given::last_given))]
 #[unsafe(no_mangle)]
 pub extern "C" fn bits_runs_next_back(

@@ -48,7 +48,7 @@ pub extern "C" fn bits_union_with_own_shift(set: &mut BitsMut<'_>, by: usize)
     set.union_with_own_shift(by, &mut Steps::new());
 }
 
-/// Makes `part` the positions of the range, less its start, and answers whether it did: where the
+/// Makes `part` the positions of the range, less its start, and returns whether it did: where the
 /// range is one of the set and `part` has its length. Else nothing is changed.
 #[unsafe(no_mangle)]
 pub extern "C" fn bits_slice(
@@ -72,7 +72,7 @@ pub extern "C" fn bits_slice(
 }
 
 /// Writes the positions of the range of the second set over those of the first from `at` on, and
-/// answers whether it did: where the range is one of the second set, and from `at` on ends within
+/// returns whether it did: where the range is one of the second set, and from `at` on ends within
 /// the first. Else nothing is changed.
 #[unsafe(no_mangle)]
 pub extern "C" fn bits_copy_range(
@@ -100,7 +100,7 @@ pub extern "C" fn bits_copy_range(
 }
 
 /// Writes the `width` positions from `start` on as a number: its bit `i` is position `start + i`.
-/// It answers whether it did: where the width is 64 at most, and the positions are below the
+/// It returns whether it did: where the width is 64 at most, and the positions are below the
 /// length. Else nothing is written.
 #[unsafe(no_mangle)]
 pub extern "C" fn bits_load(set: &Bits<'_>, start: usize, width: usize, number: &mut Block) -> bool
@@ -117,8 +117,8 @@ pub extern "C" fn bits_load(set: &Bits<'_>, start: usize, width: usize, number: 
 }
 
 /// Makes the `width` positions from `start` on the lowest bits of the number: position `start + i`
-/// becomes its bit `i`. It answers whether it did: where the width is 64 at most, and the
-/// positions are below the length. Else nothing is changed.
+/// becomes its bit `i`. It returns whether it did: where the width is 64 at most, and the positions
+/// are below the length. Else nothing is changed.
 #[unsafe(no_mangle)]
 pub extern "C" fn bits_store(
     set: &mut BitsMut<'_>,

@@ -1,9 +1,10 @@
-//! Walks over the positions of a set that another one has, or lacks. Their
-//! calls are those of `walks`.
+//! Iterators over the positions of a set that another one has, or lacks. Their calls are those of
+//! `walks`.
 //!
-//! The positions of a word are looked up in the other set at once, when the walk takes the word. So
-//! a call costs by the words that it takes and the positions that it gives. The intersection goes
-//! over the words that both lengths need, and the difference over those that the first one needs.
+//! The positions of a word are looked up in the other set at once, when the iterator takes the
+//! word. So a call costs by the words that it takes and the positions that it gives. The
+//! intersection goes over the words that both lengths need, and the difference over those that the
+//! first one needs.
 
 ghost use Rattle.std.specs.Prelude.{◌≡◌, false, length, min};
 ghost use Rattle.std.specs.Iterator.{YieldsFirst, YieldsLast};
@@ -19,7 +20,8 @@ use bitwords::cursors::{Beside, Cursor, Held};
 use fixedbitset::views::Bits;
 
 impl<'a> Sieve<'a> {
-    // The walk over the positions of the first set that the second lacks, before its first call.
+    // The iterator over the positions of the first set that the second lacks, before its first
+    // call.
     #[inline(always)]
     pub(crate) fn lacking(set: &Bits<'a>, other: &Bits<'a>) -> Sieve<'a>
         ensures left { lacked_left result
@@ -84,7 +86,7 @@ impl<'a> Sieve<'a> {
     }
 }
 
-/// Begins the walk over the positions that both sets have, in ascending order.
+/// Initialises the iterator over the positions that both sets have, in ascending order.
 #[unsafe(no_mangle)]
 pub extern "C" fn bits_intersection<'a>(walk: &mut Sieve<'a>, set: &Bits<'a>, other: &Bits<'a>)
     ensures left { shared_left walk.new
@@ -115,7 +117,8 @@ pub extern "C" fn bits_intersection_next_back(walk: &mut Sieve<'_>, position: &m
     hand_out(walk.take_last::<And>(), position)
 }
 
-/// Begins the walk over the positions of the first set that the second lacks, in ascending order.
+/// Initialises the iterator over the positions of the first set that the second lacks, in ascending
+/// order.
 #[unsafe(no_mangle)]
 pub extern "C" fn bits_difference<'a>(walk: &mut Sieve<'a>, set: &Bits<'a>, other: &Bits<'a>)
     ensures left { lacked_left walk.new

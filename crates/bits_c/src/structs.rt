@@ -19,8 +19,8 @@ pub struct Room<'a> {
     pub length: usize,
 }
 
-/// A walk over the positions that are set: the first and the last word of those left, without the
-/// bits that were given, the positions of their bits 0, and the words between them.
+/// An iterator over the positions that are set: the first and the last word of those left, without
+/// the bits that were given, the positions of their bits 0, and the words between them.
 #[repr(C)]
 #[derive(Drop)]
 pub struct Ones<'a> {
@@ -32,7 +32,7 @@ pub struct Ones<'a> {
     pub ghost spaced: { IsSpaced front_at back_at (length words.now) back },
 }
 
-/// A walk over the positions that are not set. Its first and its last word are inverted, and
+/// An iterator over the positions that are not set. Its first and its last word are inverted, and
 /// those between are not.
 #[repr(C)]
 #[derive(Drop)]
@@ -45,8 +45,8 @@ pub struct Zeroes<'a> {
     pub ghost spaced: { IsSpaced front_at back_at (length words.now) back },
 }
 
-/// A walk over stretches: whether they are of positions that are set, how many positions there are,
-/// where the stretches left are, and the words.
+/// An iterator over runs: whether they are of positions that are set, how many positions there are,
+/// where the runs left are, and the words.
 #[repr(C)]
 #[derive(Drop)]
 pub struct Runs<'a> {
@@ -60,7 +60,7 @@ pub struct Runs<'a> {
     pub ghost fits: { 64 * length words.now ≤ 2 ^ 64 },
 }
 
-/// A walk over the positions of one set that another one has, or over those that it lacks. Its
+/// An iterator over the positions of one set that another one has, or over those that it lacks. Its
 /// first and its last word have no other bits. Each of the words between is joined with the word at
 /// its place of `other` when it is taken.
 #[repr(C)]
@@ -70,8 +70,8 @@ pub struct Sieve<'a> {
     pub other: &'a [Block],
 }
 
-/// Two such walks, one behind the other. In a union the first takes the words
-/// of its set as they are.
+/// Two such iterators, one after the other. In a union the first takes the words of its set as they
+/// are.
 #[repr(C)]
 #[derive(Drop)]
 pub struct Pair<'a> {
@@ -79,8 +79,8 @@ pub struct Pair<'a> {
     pub second: Sieve<'a>,
 }
 
-/// A set that is lent with a directory of its words: the words, the length in
-/// bits, and the directory.
+/// A set that is borrowed with a directory of its words: the words, the length in bits, and the
+/// directory.
 #[repr(C)]
 #[derive(Drop)]
 pub struct Ranks<'a> {

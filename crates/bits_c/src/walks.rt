@@ -1,12 +1,12 @@
-//! Walks over the positions of a set, kept in a struct of the caller's.
+//! Iterators over the positions of a set, kept in a struct of the caller's.
 //!
-//! A walk is begun by one call, which writes the whole struct from any walk before. Each further
-//! call gives one position, from either end, and answers whether it did: once none is left, no call
-//! gives one. A call that gives none leaves what `position` points to. While a walk is used, the
-//! words that it walks over may not change.
+//! One call initialises an iterator, and writes the whole struct whatever it held before. Each
+//! further call gives one position, from either end, and returns whether it did: once none is left,
+//! no call gives one. A call that gives none leaves what `position` points to. While an iterator is
+//! used, the words that it iterates over may not change.
 //!
-//! A walk goes over the words that the length needs, and over no words behind them. It holds the
-//! first and the last of them, and `words` are those between that no call has taken yet.
+//! An iterator goes over the words that the length needs, and over no words after them. It holds
+//! the first and the last of them, and `words` are those between that no call has taken yet.
 
 ghost use Rattle.std.specs.Prelude.{◌≡◌, [], false, if◌then◌else◌, length};
 ghost use Rattle.std.specs.Iterator.{YieldsFirst, YieldsLast};
@@ -105,7 +105,7 @@ impl<'a> Zeroes<'a> {
     }
 }
 
-// Writes the item to `position`, and answers whether there is one.
+// Writes the item to `position`, and returns whether there is one.
 #[inline(always)]
 pub(crate) fn hand_out(item: Option<usize>, position: &mut usize) -> bool
     ensures given { given result position.new ≡ item }
@@ -120,7 +120,7 @@ pub(crate) fn hand_out(item: Option<usize>, position: &mut usize) -> bool
     }
 }
 
-/// Begins the walk over the positions that are set, in ascending order.
+/// Initialises the iterator over the positions that are set, in ascending order.
 #[unsafe(no_mangle)]
 pub extern "C" fn bits_ones<'a>(walk: &mut Ones<'a>, set: &Bits<'a>)
     ensures left { ones_left walk.new ≡ model.asc (value set.now) }
@@ -149,8 +149,8 @@ pub extern "C" fn bits_ones_next_back(walk: &mut Ones<'_>, position: &mut usize)
     hand_out(walk.take_last(), position)
 }
 
-/// Begins the walk over the positions of the range that are set, in ascending order, and answers
-/// whether the range is valid; else the walk gives none.
+/// Initialises the iterator over the positions of the range that are set, in ascending order, and
+/// returns whether the range is valid; else the iterator gives none.
 #[unsafe(no_mangle)]
 pub extern "C" fn bits_ones_in<'a>(
     walk: &mut Ones<'a>,
@@ -173,8 +173,8 @@ pub extern "C" fn bits_ones_in<'a>(
     }
 }
 
-/// Begins the walk over the positions of the range that are not set, in ascending order, and
-/// answers whether the range is valid; else the walk gives none.
+/// Initialises the iterator over the positions of the range that are not set, in ascending order,
+/// and returns whether the range is valid; else the iterator gives none.
 #[unsafe(no_mangle)]
 pub extern "C" fn bits_zeroes_in<'a>(
     walk: &mut Zeroes<'a>,
@@ -198,7 +198,8 @@ pub extern "C" fn bits_zeroes_in<'a>(
     }
 }
 
-/// Begins the walk over the positions below the length that are not set, in ascending order.
+/// Initialises the iterator over the positions below the length that are not set, in ascending
+/// order.
 #[unsafe(no_mangle)]
 pub extern "C" fn bits_zeroes<'a>(walk: &mut Zeroes<'a>, set: &Bits<'a>)
     ensures left { zeroes_left walk.new ≡ model.asc (model.complement (value set.now)) }

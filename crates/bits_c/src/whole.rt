@@ -13,7 +13,7 @@ use bitlanes::Steps;
 use fixedbitset::views::{Bits, BitsMut};
 use std::cmp::Ordering;
 
-/// Leaves the positions of either set, and answers whether the second is no longer than the first;
+/// Leaves the positions of either set, and returns whether the second is no longer than the first;
 /// else nothing is changed.
 #[unsafe(no_mangle)]
 pub extern "C" fn bits_union_with(set: &mut BitsMut<'_>, other: &Bits<'_>) -> bool
@@ -30,7 +30,7 @@ pub extern "C" fn bits_union_with(set: &mut BitsMut<'_>, other: &Bits<'_>) -> bo
     }
 }
 
-/// Leaves the positions of exactly one of the sets, and answers whether the second is no longer
+/// Leaves the positions of exactly one of the sets, and returns whether the second is no longer
 /// than the first; else nothing is changed.
 #[unsafe(no_mangle)]
 pub extern "C" fn bits_symmetric_difference_with(set: &mut BitsMut<'_>, other: &Bits<'_>) -> bool
@@ -65,7 +65,7 @@ pub extern "C" fn bits_difference_with(set: &mut BitsMut<'_>, other: &Bits<'_>)
     set.difference_with(*other, &mut Steps::new());
 }
 
-/// As `bits_union_with`, and answers at `changed` whether a position came in. Where the second is
+/// As `bits_union_with`, and writes to `changed` whether a position came in. Where the second is
 /// longer, nothing is written there.
 #[unsafe(no_mangle)]
 pub extern "C" fn bits_union_with_change(
@@ -88,7 +88,7 @@ pub extern "C" fn bits_union_with_change(
     }
 }
 
-/// Leaves the positions of both sets, and the length, and answers whether a position went.
+/// Leaves the positions of both sets, and the length, and returns whether a position went.
 #[unsafe(no_mangle)]
 pub extern "C" fn bits_intersect_with_change(set: &mut BitsMut<'_>, other: &Bits<'_>) -> bool
     ensures value { held set.new ≡ sets.intersection (held set.old) (value other.now) }
@@ -98,8 +98,8 @@ pub extern "C" fn bits_intersect_with_change(set: &mut BitsMut<'_>, other: &Bits
     set.intersect_with_change(*other, &mut Steps::new())
 }
 
-/// Leaves the positions of the first set that the second lacks, and the length, and answers
-/// whether a position went.
+/// Leaves the positions of the first set that the second lacks, and the length, and returns whether
+/// a position went.
 #[unsafe(no_mangle)]
 pub extern "C" fn bits_difference_with_change(set: &mut BitsMut<'_>, other: &Bits<'_>) -> bool
     ensures value { held set.new ≡ sets.difference (held set.old) (value other.now) }
@@ -109,8 +109,8 @@ pub extern "C" fn bits_difference_with_change(set: &mut BitsMut<'_>, other: &Bit
     set.difference_with_change(*other, &mut Steps::new())
 }
 
-/// Takes in the positions of `gens` that `kills` lacks, and answers whether `gens` is no longer
-/// than the first; else nothing is changed. At `changed` it answers whether a position came in;
+/// Takes in the positions of `gens` that `kills` lacks, and returns whether `gens` is no longer
+/// than the first; else nothing is changed. It writes to `changed` whether a position came in;
 /// where `gens` is longer, nothing is written there.
 #[unsafe(no_mangle)]
 pub extern "C" fn bits_union_with_difference(

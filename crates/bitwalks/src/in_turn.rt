@@ -1,5 +1,5 @@
-//! Two walks in turn: from the front the first and then the second, from the back the
-//! second and then the first.
+//! Two iterators in turn: from the front the first and then the second, from the back the second
+//! and then the first.
 
 ghost use Rattle.std.specs.Prelude.{◌≡◌, ℕ, ◌+◌, ◌*◌, ◌^◌, ◌<◌, ◌≤◌, ◌++◌, List};
 ghost use Rattle.std.specs.Prelude.{[], true, false, length, Some, IfSome};
@@ -12,7 +12,7 @@ use bitlanes::counter::Steps;
 use bitwords::cursors::{Cursor, Middle};
 use std::marker::Model;
 
-/// A walk that may be one of two in turn.
+/// An iterator that may be one of two in turn.
 ///
 /// ```
 /// let mut walk = Cursor::over(Plain { words: &[9, 1] });
@@ -23,10 +23,10 @@ pub trait Part {
     /// The items left.
     ghost items: { Self → List ℕ };
 
-    /// What calls from the front, or none, do to the walk.
+    /// What calls from the front, or none, do to the iterator.
     ghost front: { Self → Self → Type 0 };
 
-    /// What calls from the back, or none, do to the walk.
+    /// What calls from the back, or none, do to the iterator.
     ghost back: { Self → Self → Type 0 };
 
     /// The first item left.
@@ -39,7 +39,7 @@ pub trait Part {
         ensures gives { YieldsLast items self.old result self.new }
         ensures moves { back self.old self.new };
 
-    /// 64 for each word that the walk holds or has not yet taken.
+    /// 64 for each word that the iterator holds or has not yet taken.
     ghost room: { Self → ℕ };
 
     /// That number, which is not below the number of items left, where it is a `usize`.
@@ -47,10 +47,10 @@ pub trait Part {
         ensures upper { IfSome result (UpTo (at_most (length (items self.now)))) }
         ensures some_if_fits { room self.now < 2 ^ 64 → result ≡ Some (room self.now) };
 
-    /// Where no call is made, `front` holds of the walk and itself.
+    /// Where no call is made, `front` holds of the iterator and itself.
     ghost front_stays: { (walk : Self) → front walk walk };
 
-    /// Where no call is made, `back` holds of the walk and itself.
+    /// Where no call is made, `back` holds of the iterator and itself.
     ghost back_stays: { (walk : Self) → back walk walk };
 }
 
@@ -83,7 +83,7 @@ impl<M: Middle + Drop> Part for Cursor<M> {
     ghost back_stays = { walk_stays_back };
 }
 
-/// A walk whose items left can be counted at once.
+/// An iterator whose items left can be counted at once.
 ///
 /// ```
 /// let walk = Cursor::over(Plain { words: &[9, 1] });
@@ -93,7 +93,7 @@ pub trait Counted: Part {
     /// How many steps a count takes at most.
     ghost most_steps: { Self → ℕ };
 
-    /// How many items are left. It asks that this number fits `usize`.
+    /// How many items are left. Precondition: this number fits `usize`.
     fn count_items(self, steps: &mut Steps) -> usize
         requires { length (Self.items self) < 2 ^ 64 }
         ensures value { result ≡ length (Self.items self) }
@@ -109,7 +109,7 @@ impl<M: Middle + Drop> Counted for Cursor<M> {
     }
 }
 
-/// The items of the first walk, and then those of the second.
+/// The items of the first iterator, and then those of the second.
 ///
 /// ```
 /// let first = Cursor::over(Plain { words: &[9, 1] });
@@ -121,8 +121,8 @@ impl<M: Middle + Drop> Counted for Cursor<M> {
 pub struct InTurn<A: Part + Drop, B: Part + Drop> {
     first: A,
     second: B,
-    // Whether the first walk may still have items: once it gave none, no call from
-    // the front asks it again.
+    // Whether the first iterator may still have items: once it gave none, no call from the front
+    // asks it again.
     first_left: bool,
 }
 
@@ -142,7 +142,7 @@ impl<A: Part + Drop, B: Part + Drop> Model for InTurn<A, B> {
 }
 
 impl<A: Part + Drop, B: Part + Drop> InTurn<A, B> {
-    /// These two walks, the first before the second.
+    /// These two iterators, the first before the second.
     ///
     /// ```
     /// let first = Cursor::over(Plain { words: &[9, 1] });
@@ -162,8 +162,8 @@ impl<A: Part + Drop, B: Part + Drop> InTurn<A, B> {
         }
     }
 
-    /// The first item that the first walk has left, and once it has none, the first of the second.
-    /// A first walk that gave none is not asked again.
+    /// The first item that the first iterator has left, and once it has none, the first of the
+    /// second. A first iterator that gave none is not asked again.
     ///
     /// ```
     /// let first = Cursor::over(Plain { words: &[8] });
@@ -190,8 +190,8 @@ impl<A: Part + Drop, B: Part + Drop> InTurn<A, B> {
         self.second.take_first()
     }
 
-    /// The last item that the second walk has left, and where it has none, the last of the first. A
-    /// first walk that gave none from the front is not asked again.
+    /// The last item that the second iterator has left, and where it has none, the last of the
+    /// first. A first iterator that gave none from the front is not asked again.
     ///
     /// ```
     /// let first = Cursor::over(Plain { words: &[8] });
@@ -236,7 +236,7 @@ impl<A: Part + Drop, B: Part + Drop> InTurn<A, B> {
         self.first.most()?.checked_add(self.second.most()?)
     }
 
-    /// The two walks, each with the items that it has left.
+    /// The two iterators, each with the items that it has left.
     ///
     /// ```
     /// let first = Cursor::over(Plain { words: &[9, 1] });
@@ -259,7 +259,7 @@ impl<A: Part + Drop, B: Part + Drop> InTurn<A, B> {
 }
 
 impl<A: Counted + Drop, B: Counted + Drop> InTurn<A, B> {
-    /// How many items both walks have left. It asks that this number fits `usize`, and takes at
+    /// How many items both iterators have left. Precondition: this number fits `usize`. It takes at
     /// most as many steps as a count of the one and of the other.
     ///
     /// ```

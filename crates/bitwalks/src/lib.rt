@@ -1,4 +1,4 @@
-//! Walks over the positions of rows of words: over one row, and over two. No walk here
+//! Iterators over the positions of rows of words: over one row, and over two. No iterator here
 //! knows a set or its length.
 #![tactic(auto)]
 

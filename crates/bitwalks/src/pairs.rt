@@ -1,13 +1,13 @@
-//! Walks over two rows of words, of any two lengths.
+//! Iterators over two rows of words, of any two lengths.
 //!
-//! `Intersection` and `Difference` walk over the first row and look each of its items up in the
-//! other. `Union` walks over the first row, and then over the second without the first;
+//! `Intersection` and `Difference` iterator over the first row and look each of its items up in the
+//! other. `Union` iterators over the first row, and then over the second without the first;
 //! `SymmetricDifference` over both differences in turn. So the items of the two last need not
-//! ascend as a whole. No walk takes memory.
+//! ascend as a whole. No iterator allocates.
 //!
-//! Proofs see the items left, how many items of a source were looked up (`asked`), and each
-//! source as a walk of its own, with its turns and its words not yet taken. The counts take no
-//! bytes when the program runs.
+//! Proofs see the items left, how many items of a source were looked up (`asked`), and each source
+//! as an iterator of its own, with its turns and its words not yet taken. The counts take no bytes
+//! when the program runs.
 
 ghost use Rattle.std.specs.Prelude.{◌≡◌, ◌+◌, ◌*◌, ◌^◌, ◌<◌, ◌≤◌, not, length, Some, IfSome};
 ghost use Rattle.std.specs.Iterator.{item_count, UpTo};
@@ -106,7 +106,7 @@ impl<'a> Drop for SymmetricDifference<'a> {
 }
 
 impl<'a> Union<'a> {
-    /// The walk over the positions of `words` and `other`.
+    /// The iterator over the positions of `words` and `other`.
     ///
     /// ```
     /// let (words, other) = ([8, 1], [3]);
@@ -172,7 +172,7 @@ impl<'a> DoubleEndedIterator for Union<'a> {
 impl<'a> FusedIterator for Union<'a> {}
 
 impl<'a> SymmetricDifference<'a> {
-    /// The walk over the positions of `words` and `other`.
+    /// The iterator over the positions of `words` and `other`.
     ///
     /// ```
     /// let (words, other) = ([8, 1], [11]);

@@ -1,9 +1,9 @@
-//! The stretches of positions that follow each other without a gap, as start and end: those that
-//! are set, and those that are not.
+//! The runs of positions that follow each other without a gap, as start and end: those that are
+//! set, and those that are not.
 //!
 //! A call looks for the next position that is like the others or unlike them, sixteen words at a
-//! time. So a stretch costs by its words and not by its positions. Proofs see the stretches left,
-//! the ends of where they are, and a count of steps that takes no bytes when the program runs.
+//! time. So a run costs by its words and not by its positions. Proofs see the runs left, the ends
+//! of where they are, and a count of steps that takes no bytes when the program runs.
 
 ghost use Rattle.std.specs.Prelude.{◌≡◌, ◌*◌, ◌^◌, ◌<◌, ◌≤◌, ◌-◌, ◌/◌};
 ghost use Rattle.std.specs.Prelude.{◌+◌, not, length, IfSome, IfNone};
@@ -20,10 +20,10 @@ use bitwords::positions::{next, previous};
 use std::iter::FusedIterator;
 use std::marker::Model;
 
-/// The stretches of positions that are set, or of those that are not, in ascending order. A set
-/// makes it by `runs` and by `zero_runs`.
+/// The runs of positions that are set, or of those that are not, in ascending order. A set makes it
+/// by `runs` and by `zero_runs`.
 ///
-/// It borrows the words and takes no memory.
+/// It borrows the words and does not allocate.
 ///
 /// ```
 /// let set = FixedBitSet::from_iter(alloc, [3, 4, 9, 200])?;
@@ -36,15 +36,15 @@ pub struct Runs<'a> {
     words: &'a [Block],
     // Whether the positions are set.
     are_set: bool,
-    // How many positions there are, and where the stretches left are.
+    // How many positions there are, and where the runs left are.
     end: usize,
     low: usize,
     high: usize,
     steps: Steps,
 }
 
-/// What a walk over stretches holds, for a caller that keeps its fields and no walk: the words,
-/// whether its positions are set, how many positions there are, and where the stretches left are.
+/// What an iterator over runs holds, for a caller that keeps its fields and no iterator: the words,
+/// whether its positions are set, how many positions there are, and where the runs left are.
 #[derive(Drop)]
 pub struct HeldRuns<'a> {
     pub words: &'a [Block],
@@ -86,8 +86,8 @@ impl<'a> Drop for Runs<'a> {
 }
 
 impl<'a> Runs<'a> {
-    /// The stretches of the positions below `end` that are set in the words, or of those that are
-    /// not. `end` may not be past the words.
+    /// The runs of the positions below `end` that are set in the words, or of those that are not.
+    /// `end` may not be past the words.
     ///
     /// ```
     /// let words = [12, 1];
@@ -115,7 +115,8 @@ impl<'a> Runs<'a> {
 }
 
 impl<'a> Runs<'a> {
-    /// What the walk holds. `of_held` makes a walk of it again, which has the same stretches left.
+    /// What the iterator holds. `of_held` makes an iterator of it again, which has the same runs
+    /// left.
     ///
     /// ```
     /// let walk = Runs::below(&[12, 1], true, 128);
@@ -142,7 +143,7 @@ impl<'a> Runs<'a> {
         }
     }
 
-    /// The walk that holds this. Its count begins at 0.
+    /// The iterator that holds this. Its count begins at 0.
     ///
     /// ```
     /// let held = Runs::below(&[12, 1], true, 128).into_held();
@@ -225,9 +226,9 @@ impl<'a> Iterator for Runs<'a> {
 
     ghost remaining = { item_count (λ walk. walk.items) };
 
-    /// The first stretch left, or `None` where none is, and then for good. It takes one step for
-    /// each four words that it goes over, one to four more where it gives a stretch, and none to
-    /// four more where it gives none.
+    /// The first run left, or `None` where none is, and then for good. It takes one step for each
+    /// four words that it goes over, one to four more where it gives a run, and none to four more
+    /// where it gives none.
     #[inline]
     fn next(&mut self) -> Option<(usize, usize)> {
         if self.low == self.high {
@@ -247,9 +248,9 @@ impl<'a> Iterator for Runs<'a> {
 impl<'a> DoubleEndedIterator for Runs<'a> {
     ghost next_back_gives = { GivesLastRun };
 
-    /// The last stretch left, or `None` where none is, and then for good. It takes one step for
-    /// each four words that it goes over, one to four more where it gives a stretch, and none to
-    /// four more where it gives none.
+    /// The last run left, or `None` where none is, and then for good. It takes one step for each
+    /// four words that it goes over, one to four more where it gives a run, and none to four more
+    /// where it gives none.
     #[inline]
     fn next_back(&mut self) -> Option<(usize, usize)> {
         if self.low == self.high {

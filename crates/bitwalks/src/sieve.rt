@@ -1,4 +1,5 @@
-//! The walk over one row of words, sieved by another one. Each walk over two rows stands on it.
+//! The iterator over one row of words, sieved by another one. Each iterator over two rows stands on
+//! it.
 
 ghost use Rattle.std.specs.Prelude.{◌≡◌, ◌+◌, ◌*◌, ◌^◌, ◌<◌, ◌≤◌, ℕ, Bool};
 ghost use Rattle.std.specs.Prelude.{not, filter, length, Some, IfSome};
@@ -53,8 +54,8 @@ impl Choice for Lacked {
     }
 }
 
-// Whether the position is set: `false` past the words. One test answers within them and past them,
-// so that the compiler keeps no mark of whether a position was given.
+// Whether the position is set: `false` past the words. One test covers the places within them and
+// past them, so that the compiler keeps no mark of whether a position was given.
 #[inline(always)]
 fn is_set(words: &[Block], position: usize) -> bool
     ensures { result ≡ has_bit words.now position }
@@ -104,7 +105,7 @@ impl<'a, C: Choice> Drop for Sieve<'a, C> {
 }
 
 impl<'a, C: Choice> Sieve<'a, C> {
-    /// The walk over the positions of `words`, sieved by `other`.
+    /// The iterator over the positions of `words`, sieved by `other`.
     ///
     /// ```
     /// let (words, other) = ([11, 1], [8]);

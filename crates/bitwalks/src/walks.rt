@@ -1,11 +1,11 @@
 //! The positions of a row of words one by one, in ascending order: those that are set,
 //! and those that are not.
 //!
-//! Each walk stands on the one cursor of `bitwords`. It makes one turn a call, and one more for
+//! Each iterator stands on the one cursor of `bitwords`. It makes one turn a call, and one more for
 //! each word that it takes. Proofs see the items left, the words that no call has taken yet, and
 //! the counts of turns and of words taken; the counts take no bytes when the program runs.
 //!
-//! `Drop` is written by hand and not derived: a walk that is dropped is then one call, and the
+//! `Drop` is written by hand and not derived: an iterator that is dropped is then one call, and the
 //! proof of a loop with a `return` keeps what it knows of the items.
 
 ghost use Rattle.std.specs.Prelude.{◌≡◌, ◌≢◌, ◌+◌, ◌*◌, ◌^◌, ◌<◌, ◌≤◌, map, length, Some, IfSome};
@@ -30,7 +30,7 @@ use std::vec;
 
 /// The positions that are set, in ascending order. A set makes it by `ones`, and by `ones_in`.
 ///
-/// It borrows the words and takes no memory.
+/// It borrows the words and does not allocate.
 ///
 /// ```
 /// let set = FixedBitSet::from_iter(alloc, [3, 9, 200])?;
@@ -95,7 +95,7 @@ impl Drop for IntoOnes {
 /// The positions below a length that are not set, in ascending order. A set makes it by
 /// `zeroes`, and by `zeroes_in`.
 ///
-/// It borrows the words and takes no memory. Proofs see the words with each bit inverted.
+/// It borrows the words and does not allocate. Proofs see the words with each bit inverted.
 ///
 /// ```
 /// let set = FixedBitSet::from_iter(alloc, [1, 4])?;
@@ -202,7 +202,7 @@ impl IntoOnes {
         }
     }
 
-    /// How many positions are left. It asks that this number fits `usize`.
+    /// How many positions are left. Precondition: this number fits `usize`.
     ///
     /// It goes over the words and over no positions, in as many steps as
     /// [`Cursor::count_left`](bitwords::cursors::Cursor::count_left).
@@ -253,8 +253,8 @@ impl<'a> Iterator for Ones<'a> {
         self.ones.next()
     }
 
-    /// At least 0, and at most 64 for each word not yet taken and for each of the two that the walk
-    /// holds. The latter is `None` where it is no `usize`.
+    /// At least 0, and at most 64 for each word not yet taken and for each of the two that the
+    /// iterator holds. The latter is `None` where it is no `usize`.
     #[inline]
     fn size_hint(&self) -> (usize, Option<usize>)
         ensures zero { result.0 ≡ 0 }

@@ -50,7 +50,7 @@ pub trait Middle {
     fn left(&self) -> usize
         ensures { result ≡ length (words self.now) };
 
-    /// How many positions the words left have. It asks that they are below 2 ^ 58.
+    /// How many positions the words left have. Precondition: they are below 2 ^ 58.
     ///
     /// It goes over words, and over no positions: it takes at most one step for each lane of four
     /// words, and one more.
@@ -480,7 +480,7 @@ impl<M: Middle + Drop> Cursor<M> {
         }
     }
 
-    /// How many positions are left. It asks that this number fits `usize`.
+    /// How many positions are left. Precondition: this number fits `usize`.
     ///
     /// It goes over the words and over no positions: with `m` words between the two that the cursor
     /// holds it takes at most `m / 4` steps, rounded up, and two more.
@@ -501,8 +501,8 @@ impl<M: Middle + Drop> Cursor<M> {
         held.middle.count_positions(steps) + lanes::count_one(&ends, steps)
     }
 
-    // The words stand at these positions, the ones between the first and the
-    // last one behind the other.
+    // The words stand at these positions, the ones between the first and the last one after the
+    // other.
     #[inline(always)]
     fn placed(ends: Ends<M>, front_at: usize, back_at: usize) -> Cursor<M>
         requires { IsSpaced front_at back_at (length (M.words ends.middle)) ends.back }

@@ -1,8 +1,8 @@
-//! Positions by the handful: words are given whole, and their positions are written to a
-//! slice in groups of eight.
+//! Positions in batches: words are given whole, and their positions are written to a slice in
+//! groups of eight.
 //!
 //! A group takes no branch for a position. So it writes eight numbers also where a word has fewer
-//! positions left, and the places behind those of the word hold anything until the positions of the
+//! positions left, and the places after those of the word hold anything until the positions of the
 //! next words are written there.
 //!
 //! From the back on, the bits of a word are reversed first. So both ends share the groups.
@@ -21,8 +21,8 @@ use bitlanes::word::{BITS, Block};
 // How many numbers are written at once.
 const GROUP: usize = 8;
 
-// How many words are looked at behind the one that is given, and how many
-// positions they have at least.
+// How many words are looked at after the one that is given, and how many positions they have at
+// least.
 const AHEAD: usize = 4;
 
 const MANY: usize = 8;
@@ -62,10 +62,10 @@ impl Order for Descending {
 }
 
 /// Writes the positions of the bits set in the word to the front of the slice, in ascending order.
-/// Bit 0 has position `base`. It answers how many they are.
+/// Bit 0 has position `base`. It returns how many they are.
 ///
-/// It writes a multiple of eight places, up to seven more than there are positions. Those behind
-/// the positions hold anything then, and the slice has to have them.
+/// It writes a multiple of eight places, up to seven more than there are positions. Those after the
+/// positions hold anything then, and the slice has to have them.
 ///
 /// ```
 /// let mut places = [0; 8];
@@ -84,11 +84,11 @@ pub fn give_word(word: Block, base: usize, places: &mut [usize]) -> usize
     give_in_order::<Ascending>(word, base, places)
 }
 
-/// Writes the positions of the bits set in the word to the front of the slice, in descending
-/// order. Bit 0 has position `base`. It answers how many they are.
+/// Writes the positions of the bits set in the word to the front of the slice, in descending order.
+/// Bit 0 has position `base`. It returns how many they are.
 ///
 /// It reverses the bits of the word first, in some twenty instructions, and then takes the time of
-/// `give_word`. As there it writes a multiple of eight places, and those behind the positions hold
+/// `give_word`. As there it writes a multiple of eight places, and those after the positions hold
 /// anything then.
 ///
 /// ```
@@ -110,7 +110,7 @@ pub fn give_word_back(word: Block, base: usize, places: &mut [usize]) -> usize
 }
 
 // Writes what the positions of the bits set are given as, from the lowest bit on, in groups of
-// eight, and answers how many they are.
+// eight, and returns how many they are.
 #[inline(always)]
 fn give_in_order<O: Order>(word: Block, base: usize, places: &mut [usize]) -> usize
     requires room { in_eights (count_ones word) ≤ length places.old }
@@ -131,12 +131,12 @@ fn give_in_order<O: Order>(word: Block, base: usize, places: &mut [usize]) -> us
 }
 
 /// Writes the positions of first words of those left to the front of the slice, and takes these
-/// words. It answers how many positions they are.
+/// words. It returns how many positions they are.
 ///
 /// A word is given as long as there is room for its positions and seven more, and the four words
-/// behind it are not the last one and have eight positions or more. So where positions are few no
-/// word is given. Places that the positions left are too few to reach stay; up to seven behind
-/// those that were written may hold anything.
+/// after it are not the last one and have eight positions or more. So where positions are few no
+/// word is given. Places that the positions left are too few to reach stay; up to seven after those
+/// that were written may hold anything.
 ///
 /// ```
 /// let cursor = Cursor::over(Plain { words: &[9, 255, 0, 0, 0, 1] });
@@ -180,8 +180,8 @@ pub fn give_words<M: Seen + Drop>(held: &mut Held<M>, places: &mut [usize]) -> u
     count
 }
 
-/// Writes the positions of last words of those left to the front of the slice, in descending
-/// order, and takes these words. It answers how many positions they are.
+/// Writes the positions of last words of those left to the front of the slice, in descending order,
+/// and takes these words. It returns how many positions they are.
 ///
 /// As in `give_words` a word is given as long as there is room for its positions and seven more,
 /// and the four words before it are not the first one and have eight positions or more. Each word
@@ -254,7 +254,7 @@ fn are_many_behind<M: Seen>(middle: &M) -> bool
     left >= AHEAD && ones_of_four(middle, left - AHEAD) >= MANY
 }
 
-// How many positions the word at this place and the three behind it have.
+// How many positions the word at this place and the three after it have.
 #[inline(always)]
 fn ones_of_four<M: Seen>(middle: &M, first: usize) -> usize
     requires { first + 4 ≤ 2 ^ 64 }
@@ -287,8 +287,8 @@ fn ones_of(word: Block) -> usize
     word.count_ones() as usize
 }
 
-// Writes what the first eight positions are given as, or all of them with any numbers behind, and
-// answers the word without their bits.
+// Writes what the first eight positions are given as, or all of them with any numbers after, and
+// returns the word without their bits.
 #[inline(always)]
 fn give_eight<O: Order>(word: Block, base: usize, eight: &mut [usize]) -> Block
     requires room { length eight.old ≡ 8 }

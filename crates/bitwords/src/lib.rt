@@ -1,7 +1,7 @@
 //! Rows of words as positions: position `p` stands at bit `p % 64` of word `p / 64`.
 //!
-//! The loops over words that a set of bits needs: changes, counts and tests of a range of
-//! positions, and of two rows of any two lengths. No call here knows a set or its length.
+//! The loops over words that a bit set needs: changes, counts and tests of a range of positions,
+//! and of two rows of any two lengths. No call here knows a set or its length.
 #![tactic(auto)]
 
 pub mod cursors;

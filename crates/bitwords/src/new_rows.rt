@@ -1,4 +1,4 @@
-//! Two rows of words joined into a new one, which takes memory.
+//! Two rows of words joined into a new one, which allocates.
 ghost use Rattle.std.specs.Prelude.{[], ◌≡◌, ◌≤◌, ◌+◌, ◌++◌, IfOk, OnOk, true, false, length, min};
 ghost use Rattle.std.specs.Simd.Lanes.{zip2};
 ghost use Rattle.bitlanes.specs.Words.{zip_longest, lane_steps};
@@ -11,14 +11,14 @@ use bitlanes::{Block, Steps, lanes};
 use std::alloc::{AllocError, Global};
 
 // From how many words on a new row is written as it is joined. A shorter one is copied and then
-// joined, which is quicker while all three rows lie in the first cache.
+// joined, which is faster while all three rows lie in the first cache.
 const LONG: usize = 2048;
 
 /// A new row, as long as `words`: each position of `words`, joined with that of `other` by `O`.
 ///
-/// `Err` comes only where memory for the row was refused. It takes the steps of
-/// [`join`](crate::joins::join), and where memory was refused at most as many; what is copied
-/// before or behind the join is not counted.
+/// `Err` is returned only where the allocation of the row failed. It takes the steps of
+/// [`join`](crate::joins::join), and where an allocation failed at most as many; what is copied
+/// before or after the join is not counted.
 ///
 /// ```
 /// let new = new_rows::joined::<And>(alloc, &[11, 3, 1], &[9, 6], &mut Steps::new())?;
@@ -72,7 +72,7 @@ fn joined_long<O: WordOp>(
 
 // Writes the words joined as far as both rows go, and then the rest of `words`. The first eight are
 // copied and then joined: into an empty row `extend` writes one word by itself, and all that it
-// writes behind it would be unaligned.
+// writes after it would be unaligned.
 #[inline(always)]
 fn write_joined<O: WordOp>(
     to: &mut Vec<Block>,
@@ -96,8 +96,8 @@ fn write_joined<O: WordOp>(
     to.extend_from_slice(&words[other.len().min(words.len())..])
 }
 
-// Writes the joined words behind those of `to`, as far as both rows go. `extend` has the loop, so
-// the steps are counted beside it.
+// Writes the joined words after those of `to`, as far as both rows go. `extend` has the loop, so
+// the steps are counted apart from it.
 #[inline(always)]
 fn append_joined<O: WordOp>(
     to: &mut Vec<Block>,

@@ -16,7 +16,7 @@ use bitlanes::{Block, Steps, lanes, shifts};
 
 /// Joins each position of `words` by `O` with the position of `other` that stands `from` above it.
 ///
-/// With `m` words that are joined and `t` words behind them it takes exactly `m / 4` steps, rounded
+/// With `m` words that are joined and `t` words after them it takes exactly `m / 4` steps, rounded
 /// up, and `t / 4`, rounded up, more where the rest is cleared.
 ///
 /// ```
@@ -72,8 +72,8 @@ pub fn join_up<O: WordOp>(words: &mut [Block], other: &[Block], by: usize, steps
 
 /// Moves each position of the row down by `by`. Those below `by` fall away.
 ///
-/// With `m` words that are written and `t` words behind them it takes exactly `m / 4` steps,
-/// rounded up, and `t / 4`, rounded up, more.
+/// With `m` words that are written and `t` words after them it takes exactly `m / 4` steps, rounded
+/// up, and `t / 4`, rounded up, more.
 ///
 /// ```
 /// let mut words = [7, 1];

@@ -21,8 +21,8 @@ impl FixedBitSet {
     /// Position `p` is bit `p % 8` of byte `p / 8`. There are eight bytes for each word of
     /// `as_slice`, so those at the end may be 0. `from_value` makes the same set of it.
     ///
-    /// It makes one item for each byte, and asks for their memory once. `Err` comes only where
-    /// memory for them or for the object was refused.
+    /// It makes one item for each byte, and allocates them once. `Err` is returned only where the
+    /// allocation of them or of the object failed.
     ///
     /// Upstream has the trait `Serialize` of `serde` in place of this call.
     ///
@@ -37,10 +37,10 @@ impl FixedBitSet {
         value_of_words(alloc, self.len(), self.as_slice())
     }
 
-    /// The length of the set that `from_value` makes of a value, or the first fault of the value.
+    /// The length of the set that `from_value` makes of a value, or the first error of the value.
     ///
-    /// So a caller can look at the length before memory is asked for. It looks at each item of the
-    /// data once, takes no memory, and never answers `JsonFault::Memory`.
+    /// So a caller can look at the length before memory is allocated. It looks at each item of the
+    /// data once, does not allocate, and never returns `JsonFault::Memory`.
     ///
     /// Upstream has no such call.
     ///
@@ -65,9 +65,9 @@ impl FixedBitSet {
     /// Position `p` is set where it is below the length and bit `p % 8` of byte `p / 8` is set. So
     /// bytes that are missing count as 0, and bits past the length are dropped.
     ///
-    /// `Err` says the first fault of the value, or that the value is in the form and memory was
-    /// refused. No memory is asked for before the value is known to be in the form. It looks at
-    /// each item of the data at most twice, and writes each word of the set once.
+    /// `Err` says the first error of the value, or that the value is in the form and an allocation
+    /// failed. Nothing is allocated before the value is known to be in the form. It looks at each
+    /// item of the data at most twice, and writes each word of the set once.
     ///
     /// Upstream has the trait `Deserialize` of `serde` in place of this call.
     ///

@@ -1,4 +1,5 @@
-//! A set of bits with a length: the crate `fixedbitset` of Rust, written anew and proved.
+//! A bit set (bitmap) with a length: upstream is the Rust crate `fixedbitset` 0.5.7, this crate its
+//! formally verified rewrite.
 //!
 //! A set is seen by every contract as its length in bits and the set of positions below it
 //! that are set (`specs/Bits.antt`). It is kept in words of 64 bits: position `p` is bit `p

@@ -1,8 +1,8 @@
 //! The positions of a set next to a given one, and the k-th of all. Upstream has no such calls.
 //!
-//! Any number may be asked for, at or past the length too; a range has to be valid. No call takes
-//! memory. Each looks at the word of the number, and then at sixteen words at a time, or four, up
-//! to those that have the position.
+//! Any number is allowed, at or past the length too; a range has to be valid. No call allocates.
+//! Each looks at the word of the number, and then at sixteen words at a time, or four, up to those
+//! that have the position.
 
 ghost use Rattle.std.specs.Prelude.{◌≡◌, IsTrue, slice_get};
 ghost use Rattle.fixedbitset.specs.Bits.{asc};
@@ -50,7 +50,7 @@ impl FixedBitSet {
     /// The least position at or past `from` that this set and `other` have both, or `None` where
     /// there is none. The lengths are not compared.
     ///
-    /// It takes one step for the word of `from`, and one for each lane of four words behind it, up
+    /// It takes one step for the word of `from`, and one for each lane of four words after it, up
     /// to the one that has the position or to the end of the shorter set.
     ///
     /// ```
@@ -91,8 +91,7 @@ impl FixedBitSet {
     /// The least number at or past `from` with `count` clear positions from there on, all below the
     /// length, or `None` where there is none. With a `count` of 0 that is `from`, up to the length.
     ///
-    /// It goes from one stretch of clear positions to the next, so it takes a
-    /// search or two for each.
+    /// It goes from one run of clear positions to the next, so it takes a search or two for each.
     ///
     /// ```
     /// let mut set = FixedBitSet::from_iter(alloc, [3, 6, 90])?;
@@ -112,8 +111,8 @@ impl FixedBitSet {
     /// range. The only multiple of 0 is 0. The range must be valid, as that of
     /// [`count_ones`](Self::count_ones).
     ///
-    /// It looks for a stretch, and where that begins at no multiple, again from the next multiple
-    /// on. So it takes at most two steps for each lane of four words of the range, and two for each
+    /// It looks for a run, and where that begins at no multiple, again from the next multiple on.
+    /// So it takes at most two steps for each lane of four words of the range, and two for each
     /// multiple that may stand in it.
     ///
     /// ```

@@ -1,8 +1,8 @@
 //! A set made of two others, in the words that it has.
 //!
-//! Each word of the result is written once, a new one once before, and no set stands between.
-//! `Err` comes only where more words are needed than the old length has and memory for them was
-//! refused. The set is then as it was.
+//! Each word of the result is written once, a new one once before, and no set stands between. `Err`
+//! is returned only where more words are needed than the old length has and their allocation
+//! failed. The set is then as it was.
 
 ghost use Rattle.std.specs.Prelude.{◌≡◌, ◌≤◌, max, min, IsOk, OnOk, OnErr};
 ghost use Rattle.fixedbitset.specs.Bits as model;
@@ -16,7 +16,7 @@ impl FixedBitSet {
     /// Makes this set the union of two others: the greater of their lengths, and the positions of
     /// either.
     ///
-    /// A call that needs no more words is never refused. Upstream has no such call.
+    /// A call that needs no more words cannot fail. Upstream has no such call.
     ///
     /// ```
     /// let one = FixedBitSet::from_iter(alloc, [1, 3])?;

@@ -7,13 +7,13 @@ ghost use Rattle.fixedbitset.specs.TwoSets as sets;
 use crate::set::FixedBitSet;
 use std::ops::{BitAndAssign, Index};
 
-// What an index lends.
+// What an index returns.
 static TRUE: bool = true;
 
 static FALSE: bool = false;
 
 /// `set &= other` is `set.intersect_with(&other)`: the length stays, and the positions that both
-/// have. It takes no memory.
+/// have. It does not allocate.
 ///
 /// ```
 /// let mut set = FixedBitSet::from_iter(alloc, [1, 3, 64])?;
@@ -30,7 +30,7 @@ impl BitAndAssign for FixedBitSet {
 }
 
 /// `set &= &other` is `set.intersect_with(&other)`: the length stays, and the positions that both
-/// have. It takes no memory.
+/// have. It does not allocate.
 ///
 /// ```
 /// let mut set = FixedBitSet::from_iter(alloc, [3, 5])?;

@@ -1,12 +1,12 @@
-//! Walks over two sets of any two lengths.
+//! Iterators over two sets of any two lengths.
 //!
-//! `intersection` and `difference` walk over the first set and look each of its items up in the
-//! other. `union` walks over the first set, and then over the second without the first;
+//! `intersection` and `difference` iterator over the first set and look each of its items up in the
+//! other. `union` iterators over the first set, and then over the second without the first;
 //! `symmetric_difference` over both differences in turn. So the items of the two last need not
-//! ascend as a whole. No walk takes memory.
+//! ascend as a whole. No iterator allocates.
 //!
-//! The walks themselves are types of `bitwalks`. Proofs see the items left, how many items of a
-//! source were looked up (`asked`), and each source as a walk of its own, with its turns and
+//! The iterators themselves are types of `bitwalks`. Proofs see the items left, how many items of a
+//! source were looked up (`asked`), and each source as an iterator of its own, with its turns and
 //! its words not yet taken.
 
 ghost use Rattle.std.specs.Prelude.{◌≡◌, ◌^◌, ◌<◌, ◌++◌, length};
@@ -21,7 +21,7 @@ use crate::set::FixedBitSet;
 use bitwalks::pairs::{Difference, Intersection, SymmetricDifference, Union};
 
 impl FixedBitSet {
-    /// The positions that both sets have, in ascending order. It walks over this set, and looks
+    /// The positions that both sets have, in ascending order. It iterates over this set, and looks
     /// each of its positions up in the other.
     ///
     /// ```
@@ -46,8 +46,8 @@ impl FixedBitSet {
         Intersection::over(words, others)
     }
 
-    /// The positions of this set that the other lacks, in ascending order. It walks over this set,
-    /// and looks each of its positions up in the other.
+    /// The positions of this set that the other lacks, in ascending order. It iterates over this
+    /// set, and looks each of its positions up in the other.
     ///
     /// ```
     /// let set = FixedBitSet::from_iter(alloc, [1, 3, 200])?;

@@ -3,13 +3,13 @@
 //! A range is any `IndexRange<usize>`: `..`, `start..`, `..end`, `start..end`, `start..=last`,
 //! `..=last`, or a type of the caller's own. It means the positions from its start up to and
 //! without its end; an absent start stands for 0, and an absent end for `len()`. The end of an
-//! inclusive range is the position behind its last one.
+//! inclusive range is the position after its last one.
 //!
 //! For each call but `range_is_valid` the range must be valid: its start not past its end, and its
-//! end not past `len()`; `range_is_valid` is the test. Upstream panics on others. No call takes
-//! memory, and each looks once at each word that holds a position of the range, at most `(end -
-//! start) / 64 + 2` words; the two tests stop at the first word that decides. Module `counted` has
-//! the same calls with a counter.
+//! end not past `len()`; `range_is_valid` is the test. Upstream panics on others. No call
+//! allocates, and each looks once at each word that holds a position of the range, at most
+//! `(end - start) / 64 + 2` words; the two tests stop at the first word that decides. Module
+//! `counted` has the same calls with a counter.
 
 ghost use Rattle.std.specs.Prelude.{◌≡◌, IsTrue};
 ghost use Rattle.fixedbitset.specs.Ranges as ranges;
@@ -23,7 +23,7 @@ impl FixedBitSet {
     /// Whether the range is valid for this set: its start is not past its end, and
     /// its end not past `len()`.
     ///
-    /// Every range may be asked, and no word is looked at.
+    /// Any range is allowed, and no word is looked at.
     ///
     /// ```
     /// let set = FixedBitSet::with_capacity(alloc, 70)?;
@@ -42,7 +42,8 @@ impl FixedBitSet {
         start <= end && end <= self.len()
     }
 
-    /// How many positions of the range are set; of an empty range 0. The range must be valid.
+    /// How many positions of the range are set (the population count); of an empty range 0. The
+    /// range must be valid.
     ///
     /// ```
     /// let mut set = FixedBitSet::with_capacity(alloc, 200)?;

@@ -45,7 +45,7 @@ impl Model for FixedBitSet {
 }
 
 impl FixedBitSet {
-    /// A set of length 0. It takes no memory.
+    /// A set of length 0. It does not allocate.
     ///
     /// Upstream's `new` is a `const fn` and takes no allocator.
     ///
@@ -67,7 +67,7 @@ impl FixedBitSet {
     /// A set of `bits` positions, none of them set. It writes `bits / 64` words, rounded up, and
     /// those up to a whole lane of four.
     ///
-    /// `Err` comes only where memory for the words was refused; upstream aborts there.
+    /// `Err` is returned only where the allocation of the words failed; upstream aborts there.
     ///
     /// ```
     /// let set = FixedBitSet::with_capacity(alloc, 70)?;
@@ -104,8 +104,8 @@ impl FixedBitSet {
     /// It takes no more items than there are words, which are `bits / 64`, rounded up. So `blocks`
     /// need not end. Bits past the length are cleared; upstream keeps those of its last word.
     ///
-    /// `Err` comes only where memory for the words was refused; no item is taken then. It writes
-    /// each word as 0, then the items, and then the last word.
+    /// `Err` is returned only where the allocation of the words failed; no item is taken then. It
+    /// writes each word as 0, then the items, and then the last word.
     ///
     /// ```
     /// let set = FixedBitSet::with_capacity_and_blocks(alloc, 67, [1, 255])?;
@@ -136,9 +136,9 @@ impl FixedBitSet {
     /// Makes the length the greater of itself and `bits`. The new positions are not
     /// set; a set never shrinks.
     ///
-    /// `Err` comes only where more words are needed than the old length has and memory for them was
-    /// refused. The set is then as it was. A call that needs no more words is never refused. It
-    /// writes the new words alone, and where memory has to move also the old ones.
+    /// `Err` is returned only where more words are needed than the old length has and their
+    /// allocation failed. The set is then as it was. A call that needs no more words cannot fail.
+    /// It writes the new words alone, and where the allocation has to move also the old ones.
     ///
     /// ```
     /// let mut set = FixedBitSet::with_capacity_and_blocks(alloc, 2, [3])?;
@@ -164,11 +164,11 @@ impl FixedBitSet {
     /// Copies `source` into this set, which takes its length and its positions. It uses
     /// the words that are there.
     ///
-    /// `Err` comes only where `source` has more words than the old set has and memory for
-    /// them was refused. The set is then as it was. It writes the words that are added, and
-    /// then as many as `source` has.
+    /// `Err` is returned only where `source` has more words than the old set has and their
+    /// allocation failed. The set is then as it was. It writes the words that are added, and then
+    /// as many as `source` has.
     ///
-    /// Upstream aborts where memory is refused.
+    /// Upstream aborts where an allocation fails.
     ///
     /// ```
     /// let source = FixedBitSet::with_capacity_and_blocks(alloc, 3, [5])?;
@@ -187,7 +187,7 @@ impl FixedBitSet {
         self.copy_from(source, &mut Steps::new())
     }
 
-    // `clone_from`, with the steps that it takes. They are counted beside std's copy.
+    // `clone_from`, with the steps that it takes. They are counted apart from std's copy.
     #[inline(always)]
     pub(crate) fn copy_from(&mut self, source: &Self, steps: &mut Steps) -> Result<(), AllocError>
         ensures ok { OnOk result (self.new ≡ source.now) }
@@ -205,10 +205,10 @@ impl FixedBitSet {
         Ok(())
     }
 
-    /// A set of the length and the positions of a view, in memory of its own. It writes each word
-    /// once.
+    /// A set of the length and the positions of a view, in an allocation of its own. It writes each
+    /// word once.
     ///
-    /// `Err` comes only where memory for the words was refused. Upstream has no such call.
+    /// `Err` is returned only where the allocation of the words failed. Upstream has no such call.
     ///
     /// ```
     /// let mut words = [9, 2, 0, 0];
@@ -302,7 +302,7 @@ impl FixedBitSet {
     /// The words, `len() / 64` rounded up: position `p` is bit `p % 64` of word `p / 64`, and bits
     /// past the length are 0.
     ///
-    /// It is lent from the set and takes no memory.
+    /// It is borrowed from the set and does not allocate.
     ///
     /// ```
     /// let set = FixedBitSet::from_iter(alloc, [63, 64, 65])?;
@@ -315,7 +315,7 @@ impl FixedBitSet {
         self.used_words()
     }
 
-    // The words that the length needs, without those behind them that make up a whole lane.
+    // The words that the length needs, without those after them that make up a whole lane.
     #[inline]
     #[tactic(auto, using(crate::proofs::Words::viewed_length))]
     pub(crate) fn used_words(&self) -> &[Block]
@@ -330,9 +330,10 @@ impl FixedBitSet {
 impl Clone for FixedBitSet {
     ghost is_clone = { λ set copy. copy ≡ set };
 
-    /// A set of the same length and positions, in memory of its own. It writes each word once.
+    /// A set of the same length and positions, in an allocation of its own. It writes each word
+    /// once.
     ///
-    /// `Err` comes only where memory for the words was refused; upstream aborts there.
+    /// `Err` is returned only where the allocation of the words failed; upstream aborts there.
     ///
     /// ```
     /// let set = FixedBitSet::from_iter(alloc, [3, 64])?;
@@ -350,7 +351,7 @@ impl Clone for FixedBitSet {
     }
 }
 
-// A row of words in memory of its own.
+// A row of words in an allocation of its own.
 #[inline]
 fn copied(alloc: Global, words: &[Block]) -> Result<Vec<Block>, AllocError>
     ensures { IfOk result (λ copy. copy.items ≡ words.now) }

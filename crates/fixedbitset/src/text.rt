@@ -34,9 +34,9 @@ impl Binary for FixedBitSet {
     /// `0` where not. So a set of length 0 is the empty text. `{:#}` puts `0b` in front; width
     /// and fill change nothing.
     ///
-    /// It gives the writer the characters of one word at a time: `len() / 64` calls,
-    /// rounded up, and one more for `0b`. `Err` comes only from the writer, which then has
-    /// what was written before.
+    /// It gives the writer the characters of one word at a time: `len() / 64` calls, rounded up,
+    /// and one more for `0b`. `Err` comes only from the writer, which then has what was written
+    /// before.
     ///
     /// ```
     /// let set = FixedBitSet::with_capacity_and_blocks(alloc, 4, [2])?;

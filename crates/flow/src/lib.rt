@@ -1,5 +1,5 @@
-//! Data-flow analysis above sets of bits: the least sets of facts that solve the
-//! equations of gen and kill sets.
+//! Data-flow analysis over bit sets: the least sets of facts that solve the equations of gen and
+//! kill sets.
 //!
 //! Nodes are the numbers below the length of `gens`, facts the positions below `facts`, and an edge
 //! `(u, v)` goes from node u to node v. For each node v the equations have a set In(v), the union

@@ -8,8 +8,8 @@ use fixedbitset::FixedBitSet;
 /// Whether these are a problem that [`solve`](crate::solver::solve) takes: `gens` and `kills` are
 /// equally long, each set has length `facts`, and both ends of each edge are below `gens.len()`.
 ///
-/// It takes no memory, and looks at each set's length and at each edge once at most. With no nodes
-/// and no edges it is `true`, whatever `facts` is.
+/// It does not allocate, and looks at each set's length and at each edge once at most. With no
+/// nodes and no edges it is `true`, whatever `facts` is.
 ///
 /// ```
 /// let gens = [FixedBitSet::from_iter(alloc, [0, 69])?];

@@ -1,4 +1,4 @@
-//! Rounds over all edges, until nothing goes along one. Nothing here takes memory.
+//! Rounds over all edges, until nothing goes along one. Nothing here allocates.
 
 ghost use Rattle.std.specs.Prelude.{◌≡◌, ◌+◌, ◌*◌, ◌<◌, ◌≤◌, IsTrue, IfOk};
 ghost use Rattle.std.specs.Prelude.{not, length, true, false, if◌then◌else◌};
@@ -65,7 +65,7 @@ pub(crate) fn settle(
 }
 
 // One turn over all edges: along each of them goes what its first node has in `outs` and its second
-// node lacks in `ins`. Answers whether anything went.
+// node lacks in `ins`. Returns whether anything went.
 fn turn(
     edges: &[(usize, usize)],
     kills: &[FixedBitSet],
@@ -101,7 +101,7 @@ fn turn(
 }
 
 // Where node `from` is due, lets what its out set has go along an edge to node `to`: all of it to
-// the in set, and what is not killed to the out set. Answers whether the in set lacked some of it;
+// the in set, and what is not killed to the out set. Returns whether the in set lacked some of it;
 // else nothing is changed.
 fn pass(
     due: &FixedBitSet,
@@ -132,8 +132,8 @@ fn pass(
     true
 }
 
-// Adds the positions of another set of the same length, and answers whether one came in. That takes
-// no memory, so it is not refused.
+// Adds the positions of another set of the same length, and returns whether one came in. That does
+// not allocate, so it cannot fail.
 fn add(set: &mut FixedBitSet, other: &FixedBitSet) -> bool
     requires { other.now.length ≡ set.old.length }
     ensures value { set.new ≡ union set.old other.now }
@@ -142,8 +142,8 @@ fn add(set: &mut FixedBitSet, other: &FixedBitSet) -> bool
     set.union_with_change(other).unwrap_or(false)
 }
 
-// Adds the positions of another set of the same length that `kills` lacks. That takes no
-// memory, so it is not refused.
+// Adds the positions of another set of the same length that `kills` lacks. That does not allocate,
+// so it cannot fail.
 fn add_spared(set: &mut FixedBitSet, other: &FixedBitSet, kills: &FixedBitSet)
     requires { other.now.length ≡ set.old.length }
     ensures { set.new ≡ union set.old (difference other.now kills.now) }

@@ -21,16 +21,16 @@ pub struct Solution {
 /// A fact is in Out(v) exactly if some node generates it, it goes from there along edges to v, and
 /// no node that it comes to kills it.
 ///
-/// It asks what [`is_problem`](crate::problem::is_problem) tests. It goes in rounds until none
-/// changes a set, a round being one turn over all edges in their order, and so over all nodes that
-/// an edge leads to. It ticks `rounds` once for each: at least once, and at most `nodes * facts +
-/// 1` times. A round looks at the sets of an edge only where its first node took something in it or
-/// in the round before, and in the first round; so edges that stand in the order of the flow need
-/// few rounds. A look is one call over whole sets, which lets go along the edge what there is;
-/// where something went there is one more.
+/// Its precondition is what [`is_problem`](crate::problem::is_problem) tests. It goes in rounds
+/// until none changes a set, a round being one turn over all edges in their order, and so over all
+/// nodes that an edge leads to. It ticks `rounds` once for each: at least once, and at most
+/// `nodes * facts + 1` times. A round looks at the sets of an edge only where its first node took
+/// something in it or in the round before, and in the first round; so edges that stand in the order
+/// of the flow need few rounds. A look is one call over whole sets, which lets go along the edge
+/// what there is; where something went there is one more.
 ///
-/// `Err` comes only where memory for the sets of the answer, or for three sets more at most, was
-/// refused. It is all taken before the first round, so no round was ticked then.
+/// `Err` is returned only where the allocation of the sets of the result, or of three sets more at
+/// most, failed. It is all taken before the first round, so no round was ticked then.
 ///
 /// ```
 /// let none = FixedBitSet::with_capacity(alloc, 2)?;

@@ -181,7 +181,7 @@ pub fn taken_below(alloc: Global, set: &FixedBitSet, end: usize) -> Result<Vec<u
         .collect(alloc)
 }
 
-/// Those of one set, and behind them those of the other.
+/// Those of one set, and after them those of the other.
 pub fn chained(
     alloc: Global,
     set: &FixedBitSet,
@@ -210,7 +210,7 @@ pub fn paired(
     set.ones().zip(other.ones()).collect(alloc)
 }
 
-/// Puts all positions behind the items of a list.
+/// Appends all positions to a list.
 pub fn extended(list: &mut Vec<usize>, set: &FixedBitSet) -> Result<(), AllocError>
     ensures { OnOk result (list.new.items ≡ list.old.items ++ model.asc set.now) }
 {

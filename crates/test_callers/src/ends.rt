@@ -1,4 +1,4 @@
-//! Walks from the back, and from both ends in turn.
+//! Iterators from the back, and from both ends in turn.
 
 ghost use Rattle.std.specs.Prelude.{◌≡◌, ◌+◌, reverse, length, slice_get, IfOk};
 ghost use Rattle.test_callers.specs.Calls.{answers, left_after};
@@ -14,7 +14,7 @@ pub fn descending(alloc: Global, set: &FixedBitSet) -> Result<Vec<usize>, AllocE
     set.ones().rev().collect(alloc)
 }
 
-/// The position that has so many behind it.
+/// The position that has so many after it.
 pub fn nth_back(set: &FixedBitSet, place: usize) -> Option<usize>
     ensures { result ≡ slice_get (reverse (model.asc set.now)) place }
 {
@@ -35,7 +35,7 @@ pub fn descending_of(alloc: Global, set: FixedBitSet) -> Result<Vec<usize>, Allo
     set.into_ones().rev().collect(alloc)
 }
 
-/// What calls from these ends in turn answer, where `true` is the front.
+/// What calls from these ends in turn return, where `true` is the front.
 #[tactic(auto, using(crate::proofs::CallsLemmas::calls))]
 pub fn called(
     alloc: Global,
@@ -57,8 +57,8 @@ pub fn called(
     Ok(list)
 }
 
-/// Calls a walk from these ends in turn, and lets the answers go. The calls make one turn each, and
-/// one more for each word that they take; no word is taken twice.
+/// Calls an iterator from these ends in turn, and discards the results. The calls make one turn
+/// each, and one more for each word that they take; no word is taken twice.
 #[tactic(auto, using(crate::proofs::CallsLemmas::calls, crate::proofs::CallsLemmas::counts))]
 pub fn call_all(walk: &mut Ones<'_>, ends: &[bool])
     ensures items { walk.new.items ≡ left_after ends.now walk.old.items }

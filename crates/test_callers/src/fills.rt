@@ -18,7 +18,7 @@ pub fn fill(set: &mut FixedBitSet)
     }
 }
 
-/// Follows `next` from `start` until a node comes again, and answers it.
+/// Follows `next` from `start` until a node comes again, and returns it.
 #[tactic(auto, using(fixedbitset::specs::BitsFacts::facts, fixedbitset::specs::SizeFacts::falls))]
 pub fn first_again(visited: &mut FixedBitSet, next: &[usize], start: usize) -> usize
     requires nodes { length next.now ≡ visited.old.length }

@@ -22,7 +22,7 @@ impl Iterator for Counted<'_> {
     }
 }
 
-/// Gives its steps from the first on, and goes on behind a `None`.
+/// Gives its steps from the first on, and goes on after a `None`.
 #[derive(Drop)]
 pub struct Pausing<'a> {
     pub steps: &'a [Option<usize>],

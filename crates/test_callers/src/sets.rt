@@ -10,7 +10,7 @@ use std::alloc::{AllocError, Global};
 use std::collections::{BTreeMap, HashMap};
 use std::test::Fail;
 
-/// The set of a graph walk's start: of `nodes` nodes the first is visited.
+/// The set of a graph traversal's start: of `nodes` nodes the first is visited.
 #[tactic(auto, using(fixedbitset::specs::BitsFacts::facts))]
 pub fn start(alloc: Global, nodes: usize) -> Result<FixedBitSet, AllocError>
     requires { 0 < nodes }
@@ -21,8 +21,8 @@ pub fn start(alloc: Global, nodes: usize) -> Result<FixedBitSet, AllocError>
     Ok(visited)
 }
 
-/// Takes the slots from `first` to `last`, both of them too, and answers
-/// whether there are such slots.
+/// Takes the slots from `first` to `last`, both of them too, and returns whether there are such
+/// slots.
 #[tactic(auto, using(bitlanes::specs::RangeFacts::behind_next))]
 pub fn take(slots: &mut FixedBitSet, first: usize, last: usize) -> bool
     ensures taken { result ≡ true → slots.new ≡ ranges.insert_range slots.old first (last + 1) }
@@ -35,7 +35,7 @@ pub fn take(slots: &mut FixedBitSet, first: usize, last: usize) -> bool
     true
 }
 
-/// How many slots are taken, and how many are not, by walks over them.
+/// How many slots are taken, and how many are not, by iterators over them.
 #[tactic(auto, using(fixedbitset::specs::SizeFacts::items_counted, fixedbitset::specs::SizeFacts::zero_items_counted))]
 pub fn walked(slots: &FixedBitSet) -> (usize, usize)
     ensures taken { result.0 ≡ ranges.count_ones slots.now 0 slots.now.length }

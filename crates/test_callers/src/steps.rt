@@ -103,7 +103,7 @@ pub fn disjoint_up_to_300(set: &FixedBitSet, other: &FixedBitSet, steps: &mut St
     counted::is_disjoint(set, other, steps)
 }
 
-/// A set whose least position that the other one lacks is 300, behind the one lane of the other.
+/// A set whose least position that the other one lacks is 300, after the one lane of the other.
 pub fn subset_up_to_300(set: &FixedBitSet, other: &FixedBitSet, steps: &mut Steps) -> bool
     requires shorter { other.now.length ≡ 100 }
     requires least { minimum (difference set.now other.now) ≡ Some 300 }

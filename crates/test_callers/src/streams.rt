@@ -48,12 +48,12 @@ impl Calls {
         (self.reads.get(), self.writes.get(), self.flushes.get())
     }
 
-    /// Whether no read came behind a write or a flush, and no write behind a flush.
+    /// Whether no read came after a write or a flush, and no write after a flush.
     pub fn are_in_order(&self) -> bool {
         self.is_in_order.get()
     }
 
-    // Counts a read, and answers how many there are.
+    // Counts a read, and returns how many there are.
     fn read(&self) -> usize {
         if self.writes.get() != 0 || self.flushes.get() != 0 {
             self.is_in_order.set(false);

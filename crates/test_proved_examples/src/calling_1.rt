@@ -6,7 +6,7 @@ ghost use Rattle.fixedbitset.specs.Bits as model;
 use fixedbitset::FixedBitSet;
 use std::alloc::{AllocError, Global};
 
-/// The set of a graph walk's start: of `nodes` nodes the first is visited.
+/// The set of a graph traversal's start: of `nodes` nodes the first is visited.
 #[tactic(auto, using(fixedbitset::specs::BitsFacts::facts))]
 pub fn start(alloc: Global, nodes: usize) -> Result<FixedBitSet, AllocError>
     requires { 0 < nodes }

@@ -10,7 +10,7 @@ use crate::walking::{Walk, gives};
 use crate::{growing, lines, making, plain, solving, walking, words};
 use std::alloc::Global;
 
-/// A call that may be refused memory, or a group of calls that take none.
+/// A call that may fail to allocate, or a group of calls that do not allocate.
 #[derive(Clone, Copy)]
 pub enum Call {
     Growing(Growing),
@@ -25,7 +25,7 @@ pub enum Call {
     Lines,
 }
 
-/// The calls that may be refused memory.
+/// The calls that may fail to allocate.
 pub const REFUSABLE: &[&[(&str, Call)]; 4] = &[
     growing::CALLS,
     making::CALLS,
@@ -38,7 +38,7 @@ pub const PLAIN: &[&[(&str, Call)]; 3] = &[plain::GROUPS, walking::WALKS, OTHERS
 
 const OTHERS: &[(&str, Call); 2] = &[("words", Call::Words), ("lines", Call::Lines)];
 
-/// Makes the call, and answers whether it does what it does with ample memory.
+/// Makes the call, and returns whether it does what it does with ample memory.
 pub fn make(alloc: Global, starts: &mut Starts, name: &str, call: Call) -> Result<bool, Fault> {
     match call {
         Call::Growing(growing) => grown(starts, growing),

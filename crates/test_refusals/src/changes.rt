@@ -1,5 +1,5 @@
-//! Changes of a set by up to two others. The tables hold changes that take no memory, since the set
-//! has words enough. Each change stands with what it leaves. There the first other is the short
+//! Changes of a set by up to two others. The tables hold changes that do not allocate, since the
+//! set has words enough. Each change stands with what it leaves. There the first other is the short
 //! set, and the second is the long one.
 
 use crate::outcome::Fault;
@@ -106,7 +106,7 @@ pub const COUNTED_LESSER: &[Row; 4] = &[
     (Change::CountedClear, 10, &[]),
 ];
 
-/// Makes the changes one after the other, and answers whether each of them leaves and says what it
+/// Makes the changes one after the other, and returns whether each of them leaves and says what it
 /// should.
 pub fn make_changes(
     set: &mut FixedBitSet,
@@ -122,7 +122,7 @@ pub fn make_changes(
     Ok(true)
 }
 
-/// Makes the change, and answers whether the call says what it should, where the call says
+/// Makes the change, and returns whether the call says what it should, where the call says
 /// anything. `IntersectChangeWithSecond` and `CountedIntersectWithChange` have to say that the set
 /// has not changed. The others have to say that the set has changed.
 pub fn make_change(
@@ -152,7 +152,7 @@ pub fn make_change(
     Ok(true)
 }
 
-// The unions that say whether the set has changed, and the changes that take no memory.
+// The unions that say whether the set has changed, and the changes that do not allocate.
 fn unite(
     set: &mut FixedBitSet,
     first: &FixedBitSet,
@@ -171,7 +171,7 @@ fn unite(
     }
 }
 
-// The changes that take no memory at any length.
+// The changes that do not allocate at any length.
 fn lessen(
     set: &mut FixedBitSet,
     first: &FixedBitSet,

@@ -1,4 +1,4 @@
-//! The calls that may be refused memory and change a set: each on a short set of its own.
+//! The calls that may fail to allocate and change a set: each on a short set of its own.
 
 ghost use Rattle.std.specs.Prelude.{length};
 ghost use Rattle.std.specs.Iterator.{at_most};
@@ -93,7 +93,7 @@ fn is_grown(set: &FixedBitSet, call: Growing) -> bool {
     }
 }
 
-// Whether the set is what the call leaves where memory is refused. Of the items of `extend` those
+// Whether the set is what the call leaves where an allocation fails. Of the items of `extend` those
 // before the refused one stand.
 fn is_left(set: &FixedBitSet, call: Growing) -> bool {
     match call {
@@ -117,7 +117,7 @@ fn grown_of(set: &mut FixedBitSet, starts: &Starts, call: Growing) -> Result<boo
     }
 }
 
-// Makes the call alone, and answers whether the call says what it should.
+// Makes the call alone, and returns whether the call says what it should.
 fn make_growth(set: &mut FixedBitSet, starts: &Starts, call: Growing) -> Result<bool, Fault> {
     match call {
         Growing::Grow => grow(set, starts.forgets)?,
@@ -169,7 +169,7 @@ impl Iterator for Asked<'_> {
     }
 }
 
-// Answers whether all items are asked for. None is asked for behind a refused one.
+// Returns whether all items are asked for. None is asked for after a refused one.
 fn extend(set: &mut FixedBitSet) -> Result<bool, Fault> {
     let mut items = Asked {
         items: &[4, LONG, 5],

@@ -1,5 +1,5 @@
-//! The commands that take no memory, as lines: each is read, carried out over two short sets, and
-//! its reply put behind an output that has room for it.
+//! The commands that do not allocate, as lines: each is read, carried out over two short sets, and
+//! its reply appended to an output that has room for it.
 
 use crate::outcome::Fault;
 use crate::starts::{LONG, Starts};
@@ -8,9 +8,9 @@ use bitlines::lines::{LineFault, parse_line};
 use bitlines::program::{RunFault, status};
 use std::alloc::{AllocError, Global};
 
-/// At least one line of each command that is never refused memory, with its reply, and
-/// lines that are no commands. The last lines are of commands that may be refused it, where
-/// the set has words enough.
+/// At least one line of each command that never fails to allocate, with its reply, and lines that
+/// are no commands. The last lines are of commands whose allocation may fail, where the set has
+/// words enough.
 pub const REPLIES: &[(&str, &str); 61] = &[
     ("len 0", "10"),
     ("is_empty 0", "false"),
@@ -78,10 +78,10 @@ pub const REPLIES: &[(&str, &str); 61] = &[
     ("default 1", "ok"),
 ];
 
-/// Lines that are no commands; the list of the second would take memory.
+/// Lines that are no commands; the list of the second would allocate.
 pub const NO_COMMANDS: &[&str; 4] = &["", "len", "len 0 0", "Extend 0 1"];
 
-/// Whether each line gets its reply. The exit status takes no memory either.
+/// Whether each line gets its reply. The exit status does not allocate either.
 pub fn are_answered(alloc: Global, starts: &mut Starts) -> Result<bool, Fault> {
     let are_commands = are_replied(alloc, starts)?;
     Ok(are_commands && are_no_commands(alloc) && are_statuses())

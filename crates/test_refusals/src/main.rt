@@ -1,14 +1,14 @@
-//! The program `test_refusals`: makes each call that may be refused memory, and each call that
-//! takes none, and checks what it answers and what it leaves. The script `tools/memory/sweep` runs
-//! it with requests for memory refused.
+//! The program `test_refusals`: makes each call that may fail to allocate, and each call that does
+//! not allocate, and checks what it returns and what it leaves. The script `tools/memory/sweep`
+//! runs it and makes its allocations fail.
 //!
-//! All sets are made before the first call. It writes a line for each call that was refused memory,
+//! All sets are made before the first call. It writes a line for each call that failed to allocate,
 //! one for each that did wrong, and at the end how many it made. It ends with status 0 where each
-//! call did right, refused or not, and with 1 otherwise; with 3 where memory for the sets was
-//! refused, and then it makes no call.
+//! call did right, refused or not, and with 1 otherwise; with 3 where the allocation of the sets
+//! failed, and then it makes no call.
 //!
-//! Where its input has a byte, a refused `grow` is made to lose the positions of
-//! its set, which is wrong.
+//! Where its input has a byte, a failed `grow` is made to lose the positions of its set, which is
+//! wrong.
 #![tactic(auto)]
 
 mod calls;
@@ -46,7 +46,7 @@ fn has_input(rt: &HostRuntime) -> bool {
     matches!(rt.stdin().read(&mut letters), Ok(1))
 }
 
-// Makes all calls, and answers whether each of them did right.
+// Makes all calls, and returns whether each of them did right.
 fn make_all(rt: &(impl Print + AllocGlobal), starts: &mut Starts) -> io::Result<bool> {
     let refusable = make_tables(rt, starts, REFUSABLE)?;
     let plain = make_tables(rt, starts, PLAIN)?;

@@ -1,4 +1,4 @@
-//! The calls that may be refused memory and make a value, and those of commands and lines.
+//! The calls that may fail to allocate and make a value, and those of commands and lines.
 
 use crate::calls::Call;
 use crate::outcome::Fault;
@@ -148,7 +148,7 @@ fn ranks_made(alloc: Global, starts: &Starts) -> Result<bool, Fault> {
     Ok(ranks.select(0) == Some(LONG - 1))
 }
 
-// A call that is refused takes no item of an iterator that is lent.
+// A call that is refused takes no item of an iterator that is borrowed.
 fn blocks_made(alloc: Global) -> Result<bool, Fault> {
     let words = [8];
     let mut lent = words.iter().copied();
@@ -192,7 +192,7 @@ fn text_pushed(starts: &mut Starts) -> Result<bool, Fault> {
     }
 }
 
-// Of three commands that take no memory the places of the replies alone are asked for.
+// Of three commands that do not allocate the places of the replies alone are asked for.
 fn commands_run(alloc: Global, starts: &mut Starts) -> Result<bool, Fault> {
     let commands = [
         Command::Change(Change::Toggle { set: 0, bit: 3 }),

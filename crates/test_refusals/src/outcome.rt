@@ -8,7 +8,7 @@ use std::io;
 /// Why a call did not do what it does with ample memory.
 #[derive(Clone, Copy)]
 pub enum Fault {
-    /// It was refused memory, and left all as it promises.
+    /// It failed to allocate, and left all as it promises.
     Memory,
     /// Anything else.
     Other,
@@ -62,7 +62,7 @@ impl Tally {
         }
     }
 
-    /// Counts a call, and writes a line where it was refused memory or did wrong. `Ok(true)` is a
+    /// Counts a call, and writes a line where it failed to allocate or did wrong. `Ok(true)` is a
     /// call that did what it does with ample memory.
     pub fn count(
         &mut self,

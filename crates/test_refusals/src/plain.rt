@@ -1,4 +1,4 @@
-//! The calls on sets that take no memory, in groups. Each answers whether all calls of the group
+//! The calls on sets that do not allocate, in groups. Each returns whether all calls of the group
 //! did what they do with ample memory.
 
 use crate::calls::Call;
@@ -71,7 +71,7 @@ fn holds_of(
     }
 }
 
-// The groups in which no call answers a fault.
+// The groups in which no call returns an error.
 fn holds_without_fault(
     alloc: Global,
     set: &mut FixedBitSet,
@@ -192,7 +192,7 @@ const UNCHECKED: &[(usize, Placing); 6] = &[
     (8, Placing::CopyBitUnchecked),
 ];
 
-// Makes the call, where the position is below the length. `put` answers that it was not set before.
+// Makes the call, where the position is below the length. `put` returns that it was not set before.
 fn place(set: &mut FixedBitSet, position: usize, placing: Placing) -> bool {
     if position == 0 || position >= set.len() {
         return false;

@@ -75,7 +75,7 @@ pub const CALLS: &[(&str, Call); 5] = &[
     ("solve of no nodes", Call::Problem(4)),
 ];
 
-/// Solves the problem at this place, looks at the answer, and that the sets of the problem stay.
+/// Solves the problem at this place, looks at the result, and that the sets of the problem stay.
 pub fn solved(alloc: Global, starts: &Starts, place: usize) -> Result<bool, Fault> {
     match (PROBLEMS.get(place), starts.nodes.get(place)) {
         (Some(problem), Some(nodes)) => solved_of(alloc, nodes, problem),

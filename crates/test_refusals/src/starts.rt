@@ -22,13 +22,13 @@ pub const LAST: &[usize] = &[LONG - 1];
 pub const BOTH: &[usize] = &[3, LONG - 1];
 
 // As many sets as calls take for themselves. Each of the 20 calls of `growing`, the 15 groups and
-// the 8 walks takes a short set. The groups `lesser` and `growth_in_place` take one more each.
+// the 8 iterators takes a short set. The groups `lesser` and `growth_in_place` take one more each.
 const SHORT_SETS: usize = 20 + 15 + 8 + 2;
 
 // The groups `counted` and `joins_in_place` take a long set each. No call takes the rest.
 const LONG_SETS: usize = 8;
 
-// Room for each text that a call puts behind the output.
+// Room for each text that a call appends to the output.
 const ROOM: usize = 64;
 
 /// What the nodes of a data-flow problem make, and what they stop.
@@ -56,13 +56,13 @@ pub struct Starts {
     /// A text without room, and one with enough for the reply to a line.
     pub full: Vec<u8>,
     pub output: Vec<u8>,
-    /// Whether a refused `grow` is made to lose the positions of its set.
+    /// Whether a failed `grow` is made to lose the positions of its set.
     pub forgets: bool,
 }
 
 impl Starts {
-    /// No sets yet, which takes no memory. `add_all` makes the sets in a second step: one function
-    /// that makes all at once is several times as dear to prove.
+    /// No sets yet, which does not allocate. `add_all` makes the sets in a second step: one
+    /// function that makes all at once is several times as dear to prove.
     pub fn new(alloc: Global, forgets: bool) -> Starts {
         Starts {
             short_sets: Vec::new(alloc),
@@ -79,7 +79,7 @@ impl Starts {
         }
     }
 
-    /// Makes all the sets. Where memory is refused, the sets made so far stay, and the rest are
+    /// Makes all the sets. Where an allocation fails, the sets made so far stay, and the rest are
     /// missing. No call is to be made then.
     pub fn add_all(&mut self, alloc: Global) -> Result<(), Fault> {
         self.add_values(alloc)?;

@@ -1,4 +1,4 @@
-//! The walks, which take no memory: each is made, asked for its hint and called from its ends.
+//! The iterators, which do not allocate: each is made, asked for its hint and called from its ends.
 
 use crate::calls::Call;
 use crate::outcome::Fault;
@@ -31,8 +31,8 @@ pub const WALKS: &[(&str, Call); 8] = &[
     ("last_positive_bit_and_unset", Call::Walk(Walk::LastBit)),
 ];
 
-// Whether the walk gives two items, the first from the front and the last from the
-// back, and then no more.
+// Whether the iterator gives two items, the first from the front and the last from the back, and
+// then no more.
 fn gives_two<I: DoubleEndedIterator<Item = usize>>(mut walk: I, first: usize, last: usize) -> bool
     requires front { (state : I) → I.can_next state }
     requires back { (state : I) → I.can_next_back state }
@@ -58,7 +58,7 @@ pub fn gives(starts: &mut Starts, walk: Walk) -> Result<bool, Fault> {
     Ok(gives_lent(&set, &starts.short, &starts.long, walk))
 }
 
-// All walks but the one that takes its set.
+// All iterators but the one that takes its set.
 fn gives_lent(set: &FixedBitSet, short: &FixedBitSet, long: &FixedBitSet, walk: Walk) -> bool {
     match walk {
         Walk::Ones => gives_two(set.ones(), 3, 9),

@@ -1,4 +1,4 @@
-//! The calls on words, which take no memory.
+//! The calls on words, which do not allocate.
 
 use bitlanes::ops::{And, AndNot, Or, Xor};
 use bitlanes::word::{

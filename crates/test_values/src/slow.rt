@@ -1,4 +1,4 @@
-//! One set beside one slow value.
+//! One set compared with one slow value.
 
 ghost use Rattle.std.specs.Prelude.{◌≡◌, ◌<◌, length, IfOk, true};
 ghost use Rattle.test_values.specs.Slow.{HasPositions};

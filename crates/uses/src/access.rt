@@ -1,14 +1,14 @@
-//! Reads two policies from standard input, and answers by their intersection who may do what.
+//! Reads two policies from standard input, and decides by their intersection who may do what.
 //!
 //! The first line is how many roles and how many rights there are, at most 10,000 of each. Four
 //! parts follow, each with an empty line before it: what the first policy grants, what the second
 //! one grants, what is denied although both grant it, and the questions. A line of the first three
-//! is a role and a right that there are. A question is a role and the rights asked for. The answer
-//! is `yes`, or `no` and the least of the rights asked for that the role lacks. It is `no` alone
-//! where there is no such role or right.
+//! is a role and a right that there are. A question is a role and the rights asked for. The output
+//! line is `yes`, or `no` and the least of the rights asked for that the role lacks. It is `no`
+//! alone where there is no such role or right.
 //!
 //! Each policy has exactly the grants of its lines, and exactly the lines of the third part are
-//! denied. Where some line is not as said here, nothing is answered but one sentence on standard
+//! denied. Where some line is not as said here, nothing is printed but one sentence on standard
 //! error with the number of that line, and the status is 1.
 
 ghost use Rattle.std.specs.Prelude.{◌≡◌, ◌∷◌, [], MatchOption, IfOk, IfErr, OnOk, length};
@@ -40,7 +40,7 @@ pub(crate) fn output(alloc: Global, text: &str) -> Result<String, Fault> {
     answers_without(alloc, both, denied, questions)
 }
 
-// The answers of a policy without what is denied.
+// The results of a policy without what is denied.
 fn answers_without(
     alloc: Global,
     mut policy: Policy,
@@ -64,8 +64,8 @@ fn both_of(
     Ok(first.both(alloc, &second)?)
 }
 
-// The policy that gives exactly what these rows grant. The fault has the
-// first row that is no grant.
+// The policy that gives exactly what these rows grant. The error has the first row that is no
+// grant.
 fn policy_of(alloc: Global, roles: usize, rights: usize, rows: &[Row]) -> Result<Policy, Fault>
     ensures roles { IfOk result (λ policy. length policy.roles ≡ roles) }
     ensures rights { IfOk result (λ policy. policy.rights ≡ rights) }
@@ -92,7 +92,7 @@ fn wrong_grant(numbers: &[usize], roles: usize, rights: usize) -> Wrong {
     }
 }
 
-// The role and the right of a grant. `None` comes exactly where the numbers are none.
+// The role and the right of a grant. `None` is returned exactly where the numbers are none.
 fn grant_of(numbers: &[usize], roles: usize, rights: usize) -> Option<(usize, usize)>
     ensures { MatchOption result (¬ (IsGrant roles rights numbers.now))
         (λ grant. IsGrant roles rights numbers.now × (numbers.now ≡ grant.0 ∷ grant.1 ∷ [])) }
@@ -103,7 +103,7 @@ fn grant_of(numbers: &[usize], roles: usize, rights: usize) -> Option<(usize, us
     }
 }
 
-// Takes from the policy what these rows deny. The fault has the first row that denies nothing.
+// Takes from the policy what these rows deny. The error has the first row that denies nothing.
 fn deny(policy: &mut Policy, rows: &[Row]) -> Result<(), Fault>
     ensures size { HaveSameSize policy.old policy.new }
     ensures denied { OnOk result (IsWithout rows.now policy.old policy.new) }
@@ -165,7 +165,7 @@ fn parts_of(rows: &[Row], line: usize) -> Result<(&[Row], &[Row], &[Row], &[Row]
     }
 }
 
-// A line for each question. The fault has the first row that has no role.
+// A line for each question. The error has the first row that has no role.
 fn answers_of(alloc: Global, policy: &Policy, rows: &[Row]) -> Result<String, Fault>
     ensures each { OnOk result (AreAll IsQuestion rows.now) }
     ensures fault { IfErr result (IsFaultOfRow IsQuestion rows.now) }
@@ -180,7 +180,7 @@ fn answers_of(alloc: Global, policy: &Policy, rows: &[Row]) -> Result<String, Fa
     Ok(answers)
 }
 
-// Adds the line of an answer.
+// Adds the line of a reply.
 fn write_answer(answers: &mut String, answer: Answer) -> Result<(), AllocError> {
     match answer {
         Answer::Allowed => answers.push_str("yes\n"),

@@ -3,8 +3,8 @@
 //!
 //! The first line is how many nodes there are, at most 10,000. Each other line is an edge: the node
 //! that it leads from, and the node that it leads to. The pairs come in ascending order. Where some
-//! line is not as said here, or names a node that there is not, nothing is answered but one
-//! sentence on standard error with the number of that line, and the status is 1.
+//! line is not as said here, or names a node that there is not, nothing is printed but one sentence
+//! on standard error with the number of that line, and the status is 1.
 
 ghost use Rattle.std.specs.Prelude.{ℕ, ◌∷◌, [], List, Contains};
 ghost use Rattle.std.specs.Prelude.{IfOk, IfErr, OnOk, string_bytes};

@@ -3,7 +3,7 @@
 //!
 //! Variables are the letters a to z. A line says what its statement defines, what it uses, and the
 //! numbers of those that may come next, as `x = y z -> 2 3`. Where some line is no such line, or
-//! names a statement that there is not, nothing is answered but one sentence on standard error with
+//! names a statement that there is not, nothing is printed but one sentence on standard error with
 //! the number of that line, from 1 on, and the status is 1.
 
 ghost use Rattle.std.specs.Prelude.{◌≡◌, ℕ, ◌+◌, ◌<◌, ◌≤◌, ◌⊎◌, ◌↔◌, MatchOption};
@@ -74,7 +74,7 @@ fn write_letters(line: &mut String, variables: &FixedBitSet) -> Result<(), Alloc
     Ok(())
 }
 
-// The program of these lines. The fault has the first line that is no statement, or else the first
+// The program of these lines. The error has the first line that is no statement, or else the first
 // with a next statement that there is not.
 fn program_of(alloc: Global, text: &str) -> Result<Program, Fault>
     ensures { IfOk result (λ program.
@@ -85,7 +85,7 @@ fn program_of(alloc: Global, text: &str) -> Result<Program, Fault>
     Ok(program)
 }
 
-// The statements of these lines. The fault has the first line that is none.
+// The statements of these lines. The error has the first line that is none.
 fn statements_of(alloc: Global, text: &str) -> Result<Program, Fault>
     ensures many { IfOk result (λ program.
         length program.uses.items ≡ length program.defines.items) }
@@ -125,7 +125,7 @@ fn add_next(pairs: &mut Vec<(usize, usize)>, from: usize, next: &[usize]) -> Res
     Ok(())
 }
 
-// Whether each next statement is there. The fault has the first line with one that is not.
+// Whether each next statement is there. The error has the first line with one that is not.
 fn check_next(program: &Program) -> Result<(), Fault>
     requires { All (λ edge. edge.0 < length program.now.uses.items) program.now.next.items }
     ensures { OnOk result
@@ -165,7 +165,7 @@ fn statement_of(alloc: Global, line: &str) -> Result<Option<Statement>, AllocErr
     }))
 }
 
-// The set of the variables that a text names. `None` comes exactly where it has more than
+// The set of the variables that a text names. `None` is returned exactly where it has more than
 // their letters and spaces.
 fn variables_of(alloc: Global, text: &str) -> Result<Option<FixedBitSet>, AllocError>
     ensures { IfOk result (λ read. MatchOption read (¬ (AreLetters text.now))

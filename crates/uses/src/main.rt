@@ -48,8 +48,8 @@ fn main(rt: HostRuntime) -> ExitCode {
     finish(&rt, &answer, &mut rt.stdout())
 }
 
-// The use that the words of a command line name, if they are a text. The fault is that memory was
-// refused.
+// The use that the words of a command line name, if they are a text. The error is that an
+// allocation failed.
 fn chosen_by(words: io::Result<Args>) -> Result<Option<Use>, Fault> {
     match words {
         Ok(words) => Ok(named_by(words)),

@@ -1,8 +1,8 @@
 //! Prints the primes below a number, one a line.
 //!
-//! Standard input has one line with the number, at most 10,000,000. Where it is not as said
-//! here, nothing is answered but one sentence on standard error with the number of the
-//! line, and the status is 1.
+//! Standard input has one line with the number, at most 10,000,000. Where it is not as said here,
+//! nothing is printed but one sentence on standard error with the number of the line, and the
+//! status is 1.
 
 ghost use Rattle.std.specs.Prelude.{ℕ, ◌<◌, IfOk, IfErr, string_bytes};
 ghost use Rattle.uses.specs.Primes.{HasEnd, IsPrime};

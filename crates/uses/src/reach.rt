@@ -1,9 +1,9 @@
-//! Reads a graph from standard input, and prints the nodes that a walk from its
-//! start reaches, one a line.
+//! Reads a graph from standard input, and prints the nodes that a path from its start reaches, one
+//! a line.
 //!
 //! The first line is the start. The next is the row of node 0: the nodes that an edge from it leads
 //! to; and so on, a row for each node. Where some line is not as said here, or names a node that
-//! there is not, nothing is answered but one sentence on standard error with the number of that
+//! there is not, nothing is printed but one sentence on standard error with the number of that
 //! line, and the status is 1.
 
 ghost use Rattle.std.specs.Prelude.{◌≡◌, ℕ, ◌<◌, ◌∷◌, [], IfOk, IfErr};
@@ -64,7 +64,7 @@ fn lines_of(alloc: Global, graph: &[Vec<usize>], start: usize) -> Result<String,
     as_lines(alloc, &reached)
 }
 
-// The graph that has these rows. The fault has the first row with an edge to no node.
+// The graph that has these rows. The error has the first row with an edge to no node.
 fn graph_of(alloc: Global, rows: &[Row]) -> Result<Vec<Vec<usize>>, Fault>
     ensures graph { IfOk result (λ graph. IsGraph graph.items) }
     ensures rows { IfOk result (λ graph.

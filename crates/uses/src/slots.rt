@@ -1,19 +1,19 @@
-//! Takes slots and gives them back, as lines of standard input say, and prints an
-//! answer for each of them.
+//! Takes slots and gives them back, as lines of standard input say, and prints a reply for each of
+//! them.
 //!
 //! The first line is how many slots there are, at most 1,000,000. A line without a number takes a
-//! slot, and the answer is the slot or `full`. A line with a number gives that slot back, and the
-//! answer is `ok`, or `free` where it was not taken. A line of two numbers takes a stretch: as many
-//! slots as the first says, one behind the other, from the least start at or past the second where
-//! all of them are free. The answer is that start, or `full`. A third number is the end: where the
-//! stretch goes past it, nothing is taken, and the answer is `full`. Each slot of a stretch is
-//! given back by a line of its own.
+//! slot, and the reply is the slot or `full`. A line with a number gives that slot back, and the
+//! reply is `ok`, or `free` where it was not taken. A line of two numbers takes a stretch: as many
+//! slots as the first says, one after the other, from the least start at or past the second where
+//! all of them are free. The reply is that start, or `full`. A third number is the end: where the
+//! stretch goes past it, nothing is taken, and the reply is `full`. Each slot of a stretch is given
+//! back by a line of its own.
 //!
 //! At the end what is in the slots moves to the front, the least slot first, with a line like `5 to
 //! 0` for each that moves. The last line is how many slots are free then, and the two least of them
 //! where there are two, as in `4 free: 5 6`.
 //!
-//! Where some line is not as said here, nothing is answered but one sentence on standard error with
+//! Where some line is not as said here, nothing is printed but one sentence on standard error with
 //! the number of that line, and the status is 1.
 
 ghost use Rattle.std.specs.Prelude.{◌+◌, ◌≤◌, OnOk, IfErr, IfSome, MatchOption};
@@ -44,7 +44,7 @@ pub(crate) fn output(alloc: Global, text: &str) -> Result<String, Fault> {
     answers_of(alloc, many, others)
 }
 
-// The answers to these rows, of so many slots.
+// The results to these rows, of so many slots.
 fn answers_of(alloc: Global, many: usize, rows: &[Row]) -> Result<String, Fault> {
     let mut slots = Slots::new(alloc, many)?;
     // A law of the calls that the lines make. It does nothing.
@@ -54,8 +54,8 @@ fn answers_of(alloc: Global, many: usize, rows: &[Row]) -> Result<String, Fault>
     Ok(answers)
 }
 
-// Carries out the command of each row, and answers a line for each. The fault has the first
-// row that is no command.
+// Carries out the command of each row, and returns a line for each. The error has the first row
+// that is no command.
 fn carry_out(alloc: Global, slots: &mut Slots, rows: &[Row]) -> Result<String, Fault>
     ensures each { OnOk result (AreAll IsCommand rows.now) }
     ensures fault { IfErr result (IsFaultOfRow IsCommand rows.now) }
@@ -71,7 +71,7 @@ fn carry_out(alloc: Global, slots: &mut Slots, rows: &[Row]) -> Result<String, F
     Ok(answers)
 }
 
-// What the slots answer to a command.
+// The reply of the slots to a command.
 #[derive(Clone, Copy)]
 enum Answer {
     // The slot that was taken, or the start of the stretch, or none where nothing was taken.
@@ -82,7 +82,7 @@ enum Answer {
     Free,
 }
 
-// Carries out a command. `None` comes exactly where the numbers are none.
+// Carries out a command. `None` is returned exactly where the numbers are none.
 fn answer_to(slots: &mut Slots, numbers: &[usize]) -> Option<Answer>
     ensures { MatchOption result (¬ (IsCommand numbers.now)) (λ _. IsCommand numbers.now) }
 {
@@ -99,7 +99,7 @@ fn answer_to(slots: &mut Slots, numbers: &[usize]) -> Option<Answer>
     }
 }
 
-// Adds the line of an answer.
+// Adds the line of a reply.
 fn write_answer(answers: &mut String, answer: Answer) -> Result<(), AllocError> {
     match answer {
         Answer::Taken(Some(slot)) => writeln!(answers, "{slot}"),

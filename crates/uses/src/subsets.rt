@@ -7,13 +7,13 @@
 //! states. Then come the edges, each as a state, a letter and a state, and an empty line. Each
 //! further line is a word.
 //!
-//! The first line of the answer is how many states the deterministic automaton has. A line for each
+//! The first line of the output is how many states the deterministic automaton has. A line for each
 //! of them follows, as `0 2 -> 0 1`: the set of states that it is, and the state after it by each
 //! letter. The others are `yes` or `no`, one a word.
 //!
 //! The automaton has exactly the states and edges of its lines. Where some line is not as said
-//! here, nothing is answered but one sentence on standard error with the number of that line, and
-//! the status is 1. An automaton that would have too many states is a fault of its first line.
+//! here, nothing is printed but one sentence on standard error with the number of that line, and
+//! the status is 1. An automaton that would have too many states is an error of its first line.
 
 ghost use Rattle.std.specs.Prelude.{◌≡◌, [], ◌∷◌, MatchOption, IfOk, IfErr, All, map};
 ghost use Rattle.uses.specs.Faults.{IsFaultOfRow};
@@ -43,7 +43,7 @@ pub(crate) fn output(alloc: Global, text: &str) -> Result<String, Fault> {
     output_of(alloc, &rows, rows.len() + 1)
 }
 
-// What is printed for these rows, behind which this line would stand.
+// What is printed for these rows, after which this line would stand.
 fn output_of(alloc: Global, rows: &[Row], line: usize) -> Result<String, Fault> {
     let [size, start, accepting, others @ ..] = rows else {
         return Err(Fault::Line(line, Wrong::Form("a line is missing")));
@@ -69,7 +69,7 @@ fn ends_of(
     Ok((start, accepting))
 }
 
-// The rows before the first empty one, and those behind it.
+// The rows before the first empty one, and those after it.
 fn edges_and_words(rows: &[Row], line: usize) -> Result<(&[Row], &[Row]), Fault> {
     let mut parts = rows.splitn(2, |row| row.numbers.is_empty());
     match (parts.next(), parts.next()) {
@@ -103,8 +103,8 @@ fn automaton_of(
     Ok(nfa)
 }
 
-// Makes the automaton deterministic, and answers for these words. Where it would have more states
-// than the limit, the fault has this line.
+// Makes the automaton deterministic, and says of each of these words whether it accepts it. Where
+// it would have more states than the limit, the error has this line.
 fn answers_to(
     alloc: Global,
     nfa: &Nfa,
@@ -179,7 +179,7 @@ fn write_states(answers: &mut String, dfa: &Dfa) -> Result<(), AllocError> {
     Ok(())
 }
 
-// The set of the states of a row. The fault has the row, some number of which is no state.
+// The set of the states of a row. The error has the row, some number of which is no state.
 fn states_of(alloc: Global, states: usize, row: &Row) -> Result<FixedBitSet, Fault>
     ensures set { IfOk result (IsSetOf states row.now.numbers.items) }
     ensures fault { IfErr result (IsFaultOfRow (AreBelow states) (row.now ∷ [])) }
@@ -198,7 +198,7 @@ fn wrong_states(numbers: &[usize], states: usize) -> Wrong {
     }
 }
 
-// The edges of these rows, one each. The fault has the first row that is no edge.
+// The edges of these rows, one each. The error has the first row that is no edge.
 fn edges_of(alloc: Global, states: usize, letters: usize, rows: &[Row]) -> Result<Vec<Edge>, Fault>
     ensures edges { IfOk result (λ edges. map (λ edge. edge.0 ∷ edge.1 ∷ edge.2 ∷ []) edges.items
         ≡ map (λ row. row.numbers.items) rows.now) }
@@ -225,7 +225,7 @@ fn wrong_edge(numbers: &[usize], states: usize, letters: usize) -> Wrong {
     }
 }
 
-// The numbers of an edge. `None` comes exactly where they are none.
+// The numbers of an edge. `None` is returned exactly where they are none.
 fn edge_of(numbers: &[usize], states: usize, letters: usize) -> Option<Edge>
     ensures { MatchOption result (¬ (IsEdge states letters numbers.now))
         (λ edge. IsBetween states letters edge × (numbers.now ≡ edge.0 ∷ edge.1 ∷ edge.2 ∷ [])) }

@@ -1,9 +1,9 @@
 //! Prints which totals up to a limit the parts of a list of numbers have.
 //!
 //! The first line is the limit, at most 10,000,000. The numbers of all other lines are the list. A
-//! part takes some of them, each at most once. The answer is one line with the totals, 0 of the
+//! part takes some of them, each at most once. The output is one line with the totals, 0 of the
 //! empty part among them, in ascending order. Where some line is not as said here, nothing is
-//! answered but one sentence on standard error with the number of that line, and the status is 1.
+//! printed but one sentence on standard error with the number of that line, and the status is 1.
 
 ghost use Rattle.std.specs.Prelude.{◌≡◌, ℕ, ◌≤◌, List, IfOk, IfErr, string_bytes};
 ghost use Rattle.std.specs.List.{flat_map};

@@ -4,7 +4,7 @@
 //! Each line of the text is a row. Its words stand between spaces, and each of them has to be a
 //! number: one or more decimal digits and nothing else, of a value below 2 ^ 64
 //! (`specs/Rows.antt`). A line without words is a row without numbers. Where some line is not as it
-//! should be, there is a fault with the number of the first such line.
+//! should be, there is an error with the number of the first such line.
 
 ghost use Rattle.std.specs.Prelude.{◌≡◌, ◌+◌, ◌==◌, ℕ, IfOk, IfErr, OnOk};
 ghost use Rattle.std.specs.Prelude.{MatchOption, All, EachIndex, map};
@@ -29,10 +29,10 @@ pub struct Row {
     pub numbers: Vec<usize>,
 }
 
-/// Why a text has no answer.
+/// Why there is no output for a text.
 #[derive(Debug, Drop, Error)]
 pub enum Fault {
-    /// Memory was refused.
+    /// An allocation failed.
     #[error("out of memory")]
     Memory,
     /// The input cannot be read.
@@ -83,7 +83,7 @@ impl<T: Drop> From<AllocFailed<T>> for Fault {
 /// The numbers of each line, with the number of the line. It looks at each byte a
 /// fixed number of times.
 ///
-/// The fault is that memory was refused, or it has the first line that is not a row of numbers.
+/// The error is that an allocation failed, or it has the first line that is not a row of numbers.
 pub fn rows(alloc: Global, text: &str) -> Result<Vec<Row>, Fault>
     ensures rows { IfOk result (λ rows. AreRowsOf (lines text.now) rows.items) }
     ensures fault { IfErr result (IsFaultOfLine IsRow (lines text.now)) }
@@ -104,7 +104,7 @@ pub fn rows(alloc: Global, text: &str) -> Result<Vec<Row>, Fault>
     Ok(rows)
 }
 
-/// The numbers of one line. `None` comes exactly where some word of it is not a number.
+/// The numbers of one line. `None` is returned exactly where some word of it is not a number.
 pub fn numbers_of(alloc: Global, line: &str) -> Result<Option<Vec<usize>>, AllocError>
     ensures { IfOk result (λ read. MatchOption read (¬ (IsRow line.now))
         (λ numbers. IsRow line.now × (numbers.items ≡ row_of line.now))) }

@@ -77,7 +77,7 @@ fn bitcommands_commands_replies_18() {
 }
 
 #[test]
-fn bitcommands_commands_replies_52() {
+fn bitcommands_commands_replies_53() {
     use super::*;
     use crate::program::bitcommands::commands::{self, *};
     use crate::program::bitlines::{lines::{self, LineFault}, program::{self, RunFault}};
@@ -347,7 +347,7 @@ fn bitwalks_pairs_120() {
 }
 
 #[test]
-fn bitwalks_sieve_13() {
+fn bitwalks_sieve_14() {
     use super::*;
     use crate::program::bitcommands::commands::{self, *};
     use crate::program::bitlines::{lines::{self, LineFault}, program::{self, RunFault}};
@@ -361,7 +361,7 @@ fn bitwalks_sieve_13() {
 }
 
 #[test]
-fn bitwalks_sieve_53() {
+fn bitwalks_sieve_54() {
     use super::*;
     use crate::program::bitcommands::commands::{self, *};
     use crate::program::bitlines::{lines::{self, LineFault}, program::{self, RunFault}};
@@ -376,7 +376,7 @@ fn bitwalks_sieve_53() {
 }
 
 #[test]
-fn bitwalks_sieve_69() {
+fn bitwalks_sieve_70() {
     use super::*;
     use crate::program::bitcommands::commands::{self, *};
     use crate::program::bitlines::{lines::{self, LineFault}, program::{self, RunFault}};

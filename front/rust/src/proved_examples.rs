@@ -1677,7 +1677,7 @@ fn bitwalks_runs_54() {
 }
 
 #[test]
-fn bitwalks_runs_75() {
+fn bitwalks_runs_76() {
     use crate::proved::bitlanes::ops::*;
     use crate::proved::bitlanes::{word, Block, IndexRange, Steps};
     use crate::proved::bitwalks::in_turn::*;
@@ -1698,7 +1698,7 @@ fn bitwalks_runs_75() {
 }
 
 #[test]
-fn bitwalks_runs_94() {
+fn bitwalks_runs_95() {
     use crate::proved::bitlanes::ops::*;
     use crate::proved::bitlanes::{word, Block, IndexRange, Steps};
     use crate::proved::bitwalks::in_turn::*;
@@ -2354,7 +2354,7 @@ fn bitwords_joins_83() {
 }
 
 #[test]
-fn bitwords_joins_108() {
+fn bitwords_joins_109() {
     use crate::proved::bitlanes::ops::*;
     use crate::proved::bitlanes::{word, Block, IndexRange, Steps};
     use crate::proved::bitwalks::in_turn::*;
@@ -2373,7 +2373,7 @@ fn bitwords_joins_108() {
 }
 
 #[test]
-fn bitwords_joins_123() {
+fn bitwords_joins_124() {
     use crate::proved::bitlanes::ops::*;
     use crate::proved::bitlanes::{word, Block, IndexRange, Steps};
     use crate::proved::bitwalks::in_turn::*;
@@ -2392,7 +2392,7 @@ fn bitwords_joins_123() {
 }
 
 #[test]
-fn bitwords_joins_139() {
+fn bitwords_joins_140() {
     use crate::proved::bitlanes::ops::*;
     use crate::proved::bitlanes::{word, Block, IndexRange, Steps};
     use crate::proved::bitwalks::in_turn::*;
@@ -2412,7 +2412,7 @@ fn bitwords_joins_139() {
 }
 
 #[test]
-fn bitwords_joins_157() {
+fn bitwords_joins_158() {
     use crate::proved::bitlanes::ops::*;
     use crate::proved::bitlanes::{word, Block, IndexRange, Steps};
     use crate::proved::bitwalks::in_turn::*;
@@ -4115,7 +4115,7 @@ fn fixedbitset_neighbours_65() {
 }
 
 #[test]
-fn fixedbitset_neighbours_82() {
+fn fixedbitset_neighbours_81() {
     use crate::proved::bitlanes::ops::*;
     use crate::proved::bitlanes::{word, Block, IndexRange, Steps};
     use crate::proved::bitwalks::in_turn::*;
@@ -4137,7 +4137,7 @@ fn fixedbitset_neighbours_82() {
 }
 
 #[test]
-fn fixedbitset_neighbours_102() {
+fn fixedbitset_neighbours_101() {
     use crate::proved::bitlanes::ops::*;
     use crate::proved::bitlanes::{word, Block, IndexRange, Steps};
     use crate::proved::bitwalks::in_turn::*;
@@ -4159,7 +4159,7 @@ fn fixedbitset_neighbours_102() {
 }
 
 #[test]
-fn fixedbitset_neighbours_123() {
+fn fixedbitset_neighbours_122() {
     use crate::proved::bitlanes::ops::*;
     use crate::proved::bitlanes::{word, Block, IndexRange, Steps};
     use crate::proved::bitwalks::in_turn::*;
@@ -4181,7 +4181,7 @@ fn fixedbitset_neighbours_123() {
 }
 
 #[test]
-fn fixedbitset_neighbours_137() {
+fn fixedbitset_neighbours_136() {
     use crate::proved::bitlanes::ops::*;
     use crate::proved::bitlanes::{word, Block, IndexRange, Steps};
     use crate::proved::bitwalks::in_turn::*;
@@ -4696,7 +4696,7 @@ fn fixedbitset_ranges_25() {
 }
 
 #[test]
-fn fixedbitset_ranges_41() {
+fn fixedbitset_ranges_42() {
     use crate::proved::bitlanes::ops::*;
     use crate::proved::bitlanes::{word, Block, IndexRange, Steps};
     use crate::proved::bitwalks::in_turn::*;
@@ -4719,7 +4719,7 @@ fn fixedbitset_ranges_41() {
 }
 
 #[test]
-fn fixedbitset_ranges_55() {
+fn fixedbitset_ranges_56() {
     use crate::proved::bitlanes::ops::*;
     use crate::proved::bitlanes::{word, Block, IndexRange, Steps};
     use crate::proved::bitwalks::in_turn::*;
@@ -4741,7 +4741,7 @@ fn fixedbitset_ranges_55() {
 }
 
 #[test]
-fn fixedbitset_ranges_69() {
+fn fixedbitset_ranges_70() {
     use crate::proved::bitlanes::ops::*;
     use crate::proved::bitlanes::{word, Block, IndexRange, Steps};
     use crate::proved::bitwalks::in_turn::*;
@@ -4763,7 +4763,7 @@ fn fixedbitset_ranges_69() {
 }
 
 #[test]
-fn fixedbitset_ranges_86() {
+fn fixedbitset_ranges_87() {
     use crate::proved::bitlanes::ops::*;
     use crate::proved::bitlanes::{word, Block, IndexRange, Steps};
     use crate::proved::bitwalks::in_turn::*;
@@ -4784,7 +4784,7 @@ fn fixedbitset_ranges_86() {
 }
 
 #[test]
-fn fixedbitset_ranges_101() {
+fn fixedbitset_ranges_102() {
     use crate::proved::bitlanes::ops::*;
     use crate::proved::bitlanes::{word, Block, IndexRange, Steps};
     use crate::proved::bitwalks::in_turn::*;
@@ -4806,7 +4806,7 @@ fn fixedbitset_ranges_101() {
 }
 
 #[test]
-fn fixedbitset_ranges_115() {
+fn fixedbitset_ranges_116() {
     use crate::proved::bitlanes::ops::*;
     use crate::proved::bitlanes::{word, Block, IndexRange, Steps};
     use crate::proved::bitwalks::in_turn::*;
@@ -4828,7 +4828,7 @@ fn fixedbitset_ranges_115() {
 }
 
 #[test]
-fn fixedbitset_ranges_129() {
+fn fixedbitset_ranges_130() {
     use crate::proved::bitlanes::ops::*;
     use crate::proved::bitlanes::{word, Block, IndexRange, Steps};
     use crate::proved::bitwalks::in_turn::*;
@@ -4851,7 +4851,7 @@ fn fixedbitset_ranges_129() {
 }
 
 #[test]
-fn fixedbitset_ranges_144() {
+fn fixedbitset_ranges_145() {
     use crate::proved::bitlanes::ops::*;
     use crate::proved::bitlanes::{word, Block, IndexRange, Steps};
     use crate::proved::bitwalks::in_turn::*;
@@ -5131,7 +5131,7 @@ fn fixedbitset_set_240() {
 }
 
 #[test]
-fn fixedbitset_set_261() {
+fn fixedbitset_set_262() {
     use crate::proved::bitlanes::ops::*;
     use crate::proved::bitlanes::{word, Block, IndexRange, Steps};
     use crate::proved::bitwalks::in_turn::*;
@@ -5154,7 +5154,7 @@ fn fixedbitset_set_261() {
 }
 
 #[test]
-fn fixedbitset_shifts_15() {
+fn fixedbitset_shifts_16() {
     use crate::proved::bitlanes::ops::*;
     use crate::proved::bitlanes::{word, Block, IndexRange, Steps};
     use crate::proved::bitwalks::in_turn::*;
@@ -5177,7 +5177,7 @@ fn fixedbitset_shifts_15() {
 }
 
 #[test]
-fn fixedbitset_shifts_30() {
+fn fixedbitset_shifts_32() {
     use crate::proved::bitlanes::ops::*;
     use crate::proved::bitlanes::{word, Block, IndexRange, Steps};
     use crate::proved::bitwalks::in_turn::*;
@@ -5199,7 +5199,7 @@ fn fixedbitset_shifts_30() {
 }
 
 #[test]
-fn fixedbitset_shifts_46() {
+fn fixedbitset_shifts_48() {
     use crate::proved::bitlanes::ops::*;
     use crate::proved::bitlanes::{word, Block, IndexRange, Steps};
     use crate::proved::bitwalks::in_turn::*;
@@ -5221,7 +5221,7 @@ fn fixedbitset_shifts_46() {
 }
 
 #[test]
-fn fixedbitset_shifts_63() {
+fn fixedbitset_shifts_65() {
     use crate::proved::bitlanes::ops::*;
     use crate::proved::bitlanes::{word, Block, IndexRange, Steps};
     use crate::proved::bitwalks::in_turn::*;
@@ -6596,7 +6596,7 @@ fn fixedbitset_views_shifts_164() {
 }
 
 #[test]
-fn fixedbitset_views_walks_17() {
+fn fixedbitset_views_walks_18() {
     use crate::proved::bitlanes::ops::*;
     use crate::proved::bitlanes::{word, Block, IndexRange, Steps};
     use crate::proved::bitwalks::in_turn::*;
@@ -6616,7 +6616,7 @@ fn fixedbitset_views_walks_17() {
 }
 
 #[test]
-fn fixedbitset_views_walks_31() {
+fn fixedbitset_views_walks_32() {
     use crate::proved::bitlanes::ops::*;
     use crate::proved::bitlanes::{word, Block, IndexRange, Steps};
     use crate::proved::bitwalks::in_turn::*;
@@ -6637,7 +6637,7 @@ fn fixedbitset_views_walks_31() {
 }
 
 #[test]
-fn fixedbitset_views_walks_47() {
+fn fixedbitset_views_walks_48() {
     use crate::proved::bitlanes::ops::*;
     use crate::proved::bitlanes::{word, Block, IndexRange, Steps};
     use crate::proved::bitwalks::in_turn::*;
@@ -6658,7 +6658,7 @@ fn fixedbitset_views_walks_47() {
 }
 
 #[test]
-fn fixedbitset_views_walks_63() {
+fn fixedbitset_views_walks_64() {
     use crate::proved::bitlanes::ops::*;
     use crate::proved::bitlanes::{word, Block, IndexRange, Steps};
     use crate::proved::bitwalks::in_turn::*;
@@ -6680,7 +6680,7 @@ fn fixedbitset_views_walks_63() {
 }
 
 #[test]
-fn fixedbitset_views_walks_78() {
+fn fixedbitset_views_walks_79() {
     use crate::proved::bitlanes::ops::*;
     use crate::proved::bitlanes::{word, Block, IndexRange, Steps};
     use crate::proved::bitwalks::in_turn::*;
@@ -6702,7 +6702,7 @@ fn fixedbitset_views_walks_78() {
 }
 
 #[test]
-fn fixedbitset_views_walks_95() {
+fn fixedbitset_views_walks_96() {
     use crate::proved::bitlanes::ops::*;
     use crate::proved::bitlanes::{word, Block, IndexRange, Steps};
     use crate::proved::bitwalks::in_turn::*;
@@ -6722,7 +6722,7 @@ fn fixedbitset_views_walks_95() {
 }
 
 #[test]
-fn fixedbitset_views_walks_107() {
+fn fixedbitset_views_walks_108() {
     use crate::proved::bitlanes::ops::*;
     use crate::proved::bitlanes::{word, Block, IndexRange, Steps};
     use crate::proved::bitwalks::in_turn::*;
@@ -6742,7 +6742,7 @@ fn fixedbitset_views_walks_107() {
 }
 
 #[test]
-fn fixedbitset_views_walks_120() {
+fn fixedbitset_views_walks_121() {
     use crate::proved::bitlanes::ops::*;
     use crate::proved::bitlanes::{word, Block, IndexRange, Steps};
     use crate::proved::bitwalks::in_turn::*;
@@ -6762,7 +6762,7 @@ fn fixedbitset_views_walks_120() {
 }
 
 #[test]
-fn fixedbitset_views_walks_133() {
+fn fixedbitset_views_walks_134() {
     use crate::proved::bitlanes::ops::*;
     use crate::proved::bitlanes::{word, Block, IndexRange, Steps};
     use crate::proved::bitwalks::in_turn::*;
@@ -6782,7 +6782,7 @@ fn fixedbitset_views_walks_133() {
 }
 
 #[test]
-fn fixedbitset_views_walks_146() {
+fn fixedbitset_views_walks_147() {
     use crate::proved::bitlanes::ops::*;
     use crate::proved::bitlanes::{word, Block, IndexRange, Steps};
     use crate::proved::bitwalks::in_turn::*;

@@ -23,11 +23,11 @@ impl BitsMut<'_> {
         self.view.assign_bytes(source);
     }
 
-    /// [`union_with`](BitsMut::union_with), with the answer whether a position came in.
+    /// [`union_with`](BitsMut::union_with), which also returns whether a position came in.
     ///
     /// **Panics** where `other` is longer, as this set does not grow.
     ///
-    /// Proved: the answer and what it leaves, for any two sets, wherever it does not panic
+    /// Proved: the result and what it leaves, for any two sets, wherever it does not panic
     /// ([contract](crate::contracts#fixedbitsetbitsmutunion_with_change)).
     ///
     /// ```
@@ -45,9 +45,9 @@ impl BitsMut<'_> {
         self.view.union_with_change(other.view, &mut Steps::new())
     }
 
-    /// [`intersect_with`](BitsMut::intersect_with), with the answer whether a position went.
+    /// [`intersect_with`](BitsMut::intersect_with), which also returns whether a position went.
     ///
-    /// Proved: the answer and what it leaves, for any two sets
+    /// Proved: the result and what it leaves, for any two sets
     /// ([contract](crate::contracts#fixedbitsetbitsmutintersect_with_change)).
     ///
     /// ```
@@ -64,9 +64,9 @@ impl BitsMut<'_> {
             .intersect_with_change(other.view, &mut Steps::new())
     }
 
-    /// [`difference_with`](BitsMut::difference_with), with the answer whether a position went.
+    /// [`difference_with`](BitsMut::difference_with), which also returns whether a position went.
     ///
-    /// Proved: the answer and what it leaves, for any two sets
+    /// Proved: the result and what it leaves, for any two sets
     /// ([contract](crate::contracts#fixedbitsetbitsmutdifference_with_change)).
     ///
     /// ```
@@ -83,12 +83,12 @@ impl BitsMut<'_> {
             .difference_with_change(other.view, &mut Steps::new())
     }
 
-    /// Takes in the positions of the second set that the third lacks, and answers whether one came
+    /// Takes in the positions of the second set that the third lacks, and returns whether one came
     /// in. The second may not be longer than the first.
     ///
     /// **Panics** where `gens` is longer, as this set does not grow.
     ///
-    /// Proved: the answer and what it leaves, for any three sets, wherever it does not panic
+    /// Proved: the result and what it leaves, for any three sets, wherever it does not panic
     /// ([contract](crate::contracts#fixedbitsetbitsmutunion_with_difference)).
     ///
     /// ```
@@ -263,11 +263,11 @@ impl BitsMut<'_> {
         self.view.toggle(bit);
     }
 
-    /// Sets the position, which has to be below the length, and answers whether it was set before.
+    /// Sets the position, which has to be below the length, and returns whether it was set before.
     ///
     /// **Panics** where it is at or past the length.
     ///
-    /// Proved: the answer and what it leaves, for all sets, wherever it does not panic
+    /// Proved: the result and what it leaves, for all sets, wherever it does not panic
     /// ([contract](crate::contracts#fixedbitsetbitsmutput)).
     ///
     /// ```
@@ -284,12 +284,12 @@ impl BitsMut<'_> {
         self.view.put(bit)
     }
 
-    /// Clears the position, which has to be below the length, and answers
-    /// whether it was set before.
+    /// Clears the position, which has to be below the length, and returns whether it was set
+    /// before.
     ///
     /// **Panics** where it is at or past the length.
     ///
-    /// Proved: the answer and what it leaves, for all sets, wherever it does not panic
+    /// Proved: the result and what it leaves, for all sets, wherever it does not panic
     /// ([contract](crate::contracts#fixedbitsetbitsmuttake)).
     ///
     /// ```
@@ -596,9 +596,9 @@ impl BitsMut<'_> {
     /// Writes the positions of the other set from `start` up to and without `end` over those of the
     /// set from `at` on. All others stay.
     ///
-    /// The range may not begin behind its end, nor end past the other length. From `at` on it has
-    /// to end within the length. It takes exactly one step for each lane of the words that it
-    /// writes whole, the last of which may have fewer, and one for each other word that it writes.
+    /// The range may not begin after its end, nor end past the other length. From `at` on it has to
+    /// end within the length. It takes exactly one step for each lane of the words that it writes
+    /// whole, the last of which may have fewer, and one for each other word that it writes.
     ///
     /// `start` and `end` are the ends of `range`.
     ///

@@ -14,7 +14,7 @@ impl<'a> Bits<'a> {
     /// there is none they are at least those up to the last place with room for one, and at
     /// most those up to the length.
     ///
-    /// Proved: the answer, for all sets and all numbers
+    /// Proved: the result, for all sets and all numbers
     /// ([contract](crate::contracts#fixedbitsetbitsfirst_gap)).
     ///
     /// ```
@@ -41,7 +41,7 @@ impl<'a> Bits<'a> {
     ///
     /// **Panics** where the range is not valid.
     ///
-    /// Proved: the answer, for all sets, wherever it does not panic
+    /// Proved: the result, for all sets, wherever it does not panic
     /// ([contract](crate::contracts#fixedbitsetbitsfirst_aligned_gap)).
     ///
     /// ```
@@ -67,7 +67,7 @@ impl<'a> Bits<'a> {
 
     /// The least position at or past `from` that is set, or `None` where none is.
     ///
-    /// Proved: the answer, for all sets and all numbers
+    /// Proved: the result, for all sets and all numbers
     /// ([contract](crate::contracts#fixedbitsetbitsnext_one)).
     ///
     /// ```
@@ -86,7 +86,7 @@ impl<'a> Bits<'a> {
     /// The least position at or past `from` and below the length that is not set, or
     /// `None` where there is none.
     ///
-    /// Proved: the answer, for all sets and all numbers
+    /// Proved: the result, for all sets and all numbers
     /// ([contract](crate::contracts#fixedbitsetbitsnext_zero)).
     ///
     /// ```
@@ -107,7 +107,7 @@ impl<'a> Bits<'a> {
     /// It looks at the word of `from` in each set, and then at four words of each at a time, up to
     /// those that have the position or to the end of the shorter set.
     ///
-    /// Proved: the answer, for any two sets and all numbers
+    /// Proved: the result, for any two sets and all numbers
     /// ([contract](crate::contracts#fixedbitsetbitsnext_common)).
     ///
     /// ```
@@ -129,7 +129,7 @@ impl<'a> Bits<'a> {
     /// It counts word by word, up to the one that has the position, and takes a step
     /// for each of these words.
     ///
-    /// Proved: the answer, for all sets and all numbers
+    /// Proved: the result, for all sets and all numbers
     /// ([contract](crate::contracts#fixedbitsetbitsnth_one)).
     ///
     /// ```
@@ -146,7 +146,7 @@ impl<'a> Bits<'a> {
 
     /// The greatest position below `below` that is set, or `None` where none is.
     ///
-    /// Proved: the answer, for all sets and all numbers
+    /// Proved: the result, for all sets and all numbers
     /// ([contract](crate::contracts#fixedbitsetbitsprevious_one)).
     ///
     /// ```
@@ -165,7 +165,7 @@ impl<'a> Bits<'a> {
     /// The greatest position below `below` and below the length that is not set, or
     /// `None` where there is none.
     ///
-    /// Proved: the answer, for all sets and all numbers
+    /// Proved: the result, for all sets and all numbers
     /// ([contract](crate::contracts#fixedbitsetbitsprevious_zero)).
     ///
     /// ```
@@ -180,8 +180,8 @@ impl<'a> Bits<'a> {
         self.view.previous_zero(below, &mut Steps::new())
     }
 
-    /// The words that the length needs, without those behind them that make up a whole lane: those
-    /// that [`as_slice`](crate::FixedBitSet::as_slice) lends. The walks go over these.
+    /// The words that the length needs, without those after them that make up a whole lane: those
+    /// that [`as_slice`](crate::FixedBitSet::as_slice) returns. The iterators go over these.
     ///
     /// Proved: the words, for all sets ([contract](crate::contracts#fixedbitsetbitsas_slice)).
     ///
@@ -198,7 +198,7 @@ impl<'a> Bits<'a> {
 
     /// Whether the position is set: `false` at or past the length.
     ///
-    /// Proved: the answer, for all sets and all numbers
+    /// Proved: the result, for all sets and all numbers
     /// ([contract](crate::contracts#fixedbitsetbitscontains)).
     ///
     /// ```
@@ -214,9 +214,9 @@ impl<'a> Bits<'a> {
     }
 
     /// Writes for each position of the list whether it is set: `false` at or past the length. There
-    /// have to be as many answers as positions. It looks at one word at most for each item.
+    /// have to be as many results as positions. It looks at one word at most for each item.
     ///
-    /// **Panics** where there are not as many answers as positions.
+    /// **Panics** where there are not as many results as positions.
     ///
     /// Proved: , for all sets, wherever it does not panic
     /// ([contract](crate::contracts#fixedbitsetbitscontains_each)).
@@ -240,7 +240,7 @@ impl<'a> Bits<'a> {
     ///
     /// It takes one step for each lane up to the first position that is set, or for all of them.
     ///
-    /// Proved: the answer, for all sets ([contract](crate::contracts#fixedbitsetbitsis_clear)).
+    /// Proved: the result, for all sets ([contract](crate::contracts#fixedbitsetbitsis_clear)).
     ///
     /// ```
     /// # use fixedbitset::BitsMut;
@@ -258,7 +258,7 @@ impl<'a> Bits<'a> {
     /// It takes one step for each lane from the first on up to the one that has the
     /// position, or for all of them.
     ///
-    /// Proved: the answer, for all sets ([contract](crate::contracts#fixedbitsetbitsminimum)).
+    /// Proved: the result, for all sets ([contract](crate::contracts#fixedbitsetbitsminimum)).
     ///
     /// ```
     /// # use fixedbitset::BitsMut;
@@ -276,7 +276,7 @@ impl<'a> Bits<'a> {
     /// It takes one step for each lane from the last on down to the one that has the
     /// position, or for all of them.
     ///
-    /// Proved: the answer, for all sets ([contract](crate::contracts#fixedbitsetbitsmaximum)).
+    /// Proved: the result, for all sets ([contract](crate::contracts#fixedbitsetbitsmaximum)).
     ///
     /// ```
     /// # use fixedbitset::{BitsMut, Block};
@@ -293,7 +293,7 @@ impl<'a> Bits<'a> {
     ///
     /// **Panics** where the range is not valid.
     ///
-    /// Proved: the answer, for all sets, wherever it does not panic
+    /// Proved: the result, for all sets, wherever it does not panic
     /// ([contract](crate::contracts#fixedbitsetbitscount_ones)).
     ///
     /// ```
@@ -313,7 +313,7 @@ impl<'a> Bits<'a> {
     ///
     /// **Panics** where the range is not valid.
     ///
-    /// Proved: the answer, for all sets, wherever it does not panic
+    /// Proved: the result, for all sets, wherever it does not panic
     /// ([contract](crate::contracts#fixedbitsetbitscount_zeroes)).
     ///
     /// ```
@@ -333,7 +333,7 @@ impl<'a> Bits<'a> {
     ///
     /// **Panics** where the range is not valid.
     ///
-    /// Proved: the answer, for all sets, wherever it does not panic
+    /// Proved: the result, for all sets, wherever it does not panic
     /// ([contract](crate::contracts#fixedbitsetbitscontains_all_in_range)).
     ///
     /// ```
@@ -352,7 +352,7 @@ impl<'a> Bits<'a> {
 
     /// Whether each position below the length is set.
     ///
-    /// Proved: the answer, for all sets ([contract](crate::contracts#fixedbitsetbitsis_full)).
+    /// Proved: the result, for all sets ([contract](crate::contracts#fixedbitsetbitsis_full)).
     ///
     /// ```
     /// # use fixedbitset::{BitsMut, Block};
@@ -369,7 +369,7 @@ impl<'a> Bits<'a> {
     ///
     /// **Panics** where the range is not valid.
     ///
-    /// Proved: the answer, for all sets, wherever it does not panic
+    /// Proved: the result, for all sets, wherever it does not panic
     /// ([contract](crate::contracts#fixedbitsetbitscontains_any_in_range)).
     ///
     /// ```
@@ -393,7 +393,7 @@ impl<'a> Bits<'a> {
     ///
     /// **Panics** where the width is over 64, and where the positions are not all below the length.
     ///
-    /// Proved: the answer, for all sets, wherever it does not panic
+    /// Proved: the result, for all sets, wherever it does not panic
     /// ([contract](crate::contracts#fixedbitsetbitsload)).
     ///
     /// ```
@@ -521,7 +521,7 @@ impl<'a> Bits<'a> {
         Zeroes { walk }
     }
 
-    /// The stretches of positions that are set, as start and end, in ascending order.
+    /// The runs of positions that are set, as start and end, in ascending order.
     ///
     /// Proved: each stretch, for all sets and any mix of calls from both ends
     /// ([contract](crate::contracts#fixedbitsetbitsruns)).
@@ -538,8 +538,8 @@ impl<'a> Bits<'a> {
         Runs { walk }
     }
 
-    /// The stretches of positions below the length that are not set, as start and
-    /// end, in ascending order.
+    /// The runs of positions below the length that are not set, as start and end, in ascending
+    /// order.
     ///
     /// Proved: each stretch, for all sets and any mix of calls from both ends
     /// ([contract](crate::contracts#fixedbitsetbitszero_runs)).
@@ -606,7 +606,7 @@ impl<'a> Bits<'a> {
 
     /// How many positions are in either set.
     ///
-    /// Proved: the answer, for any two sets ([contract](crate::contracts#fixedbitsetbitsunion_count)).
+    /// Proved: the result, for any two sets ([contract](crate::contracts#fixedbitsetbitsunion_count)).
     ///
     /// ```
     /// # use fixedbitset::BitsMut;
@@ -622,7 +622,7 @@ impl<'a> Bits<'a> {
 
     /// How many positions are in both sets.
     ///
-    /// Proved: the answer, for any two sets
+    /// Proved: the result, for any two sets
     /// ([contract](crate::contracts#fixedbitsetbitsintersection_count)).
     ///
     /// ```
@@ -639,7 +639,7 @@ impl<'a> Bits<'a> {
 
     /// How many positions of the first set the second lacks.
     ///
-    /// Proved: the answer, for any two sets ([contract](crate::contracts#fixedbitsetbitsdifference_count)).
+    /// Proved: the result, for any two sets ([contract](crate::contracts#fixedbitsetbitsdifference_count)).
     ///
     /// ```
     /// # use fixedbitset::BitsMut;
@@ -655,7 +655,7 @@ impl<'a> Bits<'a> {
 
     /// How many positions are in exactly one of the sets.
     ///
-    /// Proved: the answer, for any two sets
+    /// Proved: the result, for any two sets
     /// ([contract](crate::contracts#fixedbitsetbitssymmetric_difference_count)).
     ///
     /// ```
@@ -674,7 +674,7 @@ impl<'a> Bits<'a> {
 
     /// Whether no position is in both sets.
     ///
-    /// Proved: the answer, for any two sets ([contract](crate::contracts#fixedbitsetbitsis_disjoint)).
+    /// Proved: the result, for any two sets ([contract](crate::contracts#fixedbitsetbitsis_disjoint)).
     ///
     /// ```
     /// # use fixedbitset::BitsMut;
@@ -690,7 +690,7 @@ impl<'a> Bits<'a> {
 
     /// Whether each position of the first set is one of the second.
     ///
-    /// Proved: the answer, for any two sets ([contract](crate::contracts#fixedbitsetbitsis_subset)).
+    /// Proved: the result, for any two sets ([contract](crate::contracts#fixedbitsetbitsis_subset)).
     ///
     /// ```
     /// # use fixedbitset::BitsMut;
@@ -706,7 +706,7 @@ impl<'a> Bits<'a> {
 
     /// Whether each position of the second set is one of the first.
     ///
-    /// Proved: the answer, for any two sets ([contract](crate::contracts#fixedbitsetbitsis_superset)).
+    /// Proved: the result, for any two sets ([contract](crate::contracts#fixedbitsetbitsis_superset)).
     ///
     /// ```
     /// # use fixedbitset::BitsMut;
@@ -724,7 +724,7 @@ impl<'a> Bits<'a> {
     ///
     /// It takes exactly the steps up to the lane of the position, or all where there is none.
     ///
-    /// Proved: the answer, for any two sets ([contract](crate::contracts#fixedbitsetbitsfirst_lacking)).
+    /// Proved: the result, for any two sets ([contract](crate::contracts#fixedbitsetbitsfirst_lacking)).
     ///
     /// ```
     /// # use fixedbitset::BitsMut;

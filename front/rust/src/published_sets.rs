@@ -13,8 +13,8 @@ use alloc::vec::Vec;
 impl FixedBitSet {
     /// A set of `bits` positions, none of them set.
     ///
-    /// Where memory is refused the program ends; [`try_with_capacity`](Self::try_with_capacity) says so
-    /// instead.
+    /// If an allocation fails, the program ends; [`try_with_capacity`](Self::try_with_capacity) returns an
+    /// error instead.
     ///
     /// Proved: the set, for all numbers ([contract](crate::contracts#fixedbitsetfixedbitsetwith_capacity)).
     ///
@@ -30,7 +30,7 @@ impl FixedBitSet {
         FixedBitSet { set }
     }
 
-    /// [`with_capacity`](Self::with_capacity), which says where memory is refused.
+    /// [`with_capacity`](Self::with_capacity), which returns an error if an allocation fails.
     ///
     /// Proved: the set, for all numbers ([contract](crate::contracts#fixedbitsetfixedbitsetwith_capacity)).
     ///
@@ -53,8 +53,8 @@ impl FixedBitSet {
     /// It takes no more items than there are words, which are `bits / 64`, rounded up. So `blocks` need not
     /// end. Bits past the length are cleared; upstream keeps those of its last word.
     ///
-    /// Where memory is refused the program ends;
-    /// [`try_with_capacity_and_blocks`](Self::try_with_capacity_and_blocks) says so instead.
+    /// If an allocation fails, the program ends;
+    /// [`try_with_capacity_and_blocks`](Self::try_with_capacity_and_blocks) returns an error instead.
     ///
     /// Proved: the set, for all numbers
     /// ([contract](crate::contracts#fixedbitsetfixedbitsetwith_capacity_and_blocks)).
@@ -71,7 +71,8 @@ impl FixedBitSet {
         FixedBitSet { set }
     }
 
-    /// [`with_capacity_and_blocks`](Self::with_capacity_and_blocks), which says where memory is refused.
+    /// [`with_capacity_and_blocks`](Self::with_capacity_and_blocks), which returns an error if an
+    /// allocation fails.
     ///
     /// Proved: the set, for all numbers
     /// ([contract](crate::contracts#fixedbitsetfixedbitsetwith_capacity_and_blocks)).
@@ -95,10 +96,10 @@ impl FixedBitSet {
     /// Makes the length the greater of itself and `bits`. The new positions are not set; a set never
     /// shrinks.
     ///
-    /// A call that needs no more words is never refused. It writes the new words alone, and where memory
+    /// A call that needs no more words cannot fail. It writes the new words alone, and where the allocation
     /// has to move also the old ones.
     ///
-    /// Where memory is refused the program ends; [`try_grow`](Self::try_grow) says so instead.
+    /// If an allocation fails, the program ends; [`try_grow`](Self::try_grow) returns an error instead.
     ///
     /// Proved: what it leaves, for all sets ([contract](crate::contracts#fixedbitsetfixedbitsetgrow)).
     ///
@@ -115,9 +116,9 @@ impl FixedBitSet {
         self.set.grow(bits).or_abort();
     }
 
-    /// [`grow`](Self::grow), which says where memory is refused. The set is then as it was.
+    /// [`grow`](Self::grow), which returns an error if an allocation fails. The set is then as it was.
     ///
-    /// Proved: what it leaves, also where memory is refused, for all sets
+    /// Proved: what it leaves, also where an allocation fails, for all sets
     /// ([contract](crate::contracts#fixedbitsetfixedbitsetgrow)).
     ///
     /// ```
@@ -134,9 +135,10 @@ impl FixedBitSet {
         self.set.grow(bits)
     }
 
-    /// [`clone_from`](Self::clone_from), which says where memory is refused. The set is then as it was.
+    /// [`clone_from`](Self::clone_from), which returns an error if an allocation fails. The set is then as
+    /// it was.
     ///
-    /// Proved: what it leaves, also where memory is refused, for any two sets
+    /// Proved: what it leaves, also where an allocation fails, for any two sets
     /// ([contract](crate::contracts#fixedbitsetfixedbitsetclone_from)).
     ///
     /// ```
@@ -153,11 +155,13 @@ impl FixedBitSet {
         self.set.clone_from(&source.set)
     }
 
-    /// A set of the length and the positions of a view, in memory of its own. It writes each word once.
+    /// A set of the length and the positions of a view, in an allocation of its own. It writes each word
+    /// once.
     ///
     /// Upstream has no such call.
     ///
-    /// Where memory is refused the program ends; [`try_from_bits`](Self::try_from_bits) says so instead.
+    /// If an allocation fails, the program ends; [`try_from_bits`](Self::try_from_bits) returns an error
+    /// instead.
     ///
     /// Proved: the set, for all views ([contract](crate::contracts#fixedbitsetfixedbitsetfrom_bits)).
     ///
@@ -174,7 +178,7 @@ impl FixedBitSet {
         FixedBitSet { set }
     }
 
-    /// [`from_bits`](Self::from_bits), which says where memory is refused.
+    /// [`from_bits`](Self::from_bits), which returns an error if an allocation fails.
     ///
     /// Proved: the set, for all views ([contract](crate::contracts#fixedbitsetfixedbitsetfrom_bits)).
     ///
@@ -231,7 +235,7 @@ impl FixedBitSet {
 
     /// The length in bits: set positions and others.
     ///
-    /// Proved: the answer, for all sets ([contract](crate::contracts#fixedbitsetfixedbitsetlen)).
+    /// Proved: the result, for all sets ([contract](crate::contracts#fixedbitsetfixedbitsetlen)).
     ///
     /// ```
     /// # use fixedbitset::FixedBitSet;
@@ -244,8 +248,8 @@ impl FixedBitSet {
         self.set.len()
     }
 
-    /// The words that the length needs, without those behind them that make up a whole lane: those
-    /// that [`as_slice`](crate::FixedBitSet::as_slice) lends. The walks go over these.
+    /// The words that the length needs, without those after them that make up a whole lane: those
+    /// that [`as_slice`](crate::FixedBitSet::as_slice) returns. The iterators go over these.
     ///
     /// Proved: the words, for all sets ([contract](crate::contracts#fixedbitsetbitsas_slice)).
     ///
@@ -261,7 +265,7 @@ impl FixedBitSet {
 
     /// Whether the position is set: `false` at or past the length.
     ///
-    /// Proved: the answer, for all sets and all numbers
+    /// Proved: the result, for all sets and all numbers
     /// ([contract](crate::contracts#fixedbitsetbitscontains)).
     ///
     /// ```
@@ -277,9 +281,9 @@ impl FixedBitSet {
     }
 
     /// Writes for each position of the list whether it is set: `false` at or past the length. There
-    /// have to be as many answers as positions. It looks at one word at most for each item.
+    /// have to be as many results as positions. It looks at one word at most for each item.
     ///
-    /// **Panics** where there are not as many answers as positions.
+    /// **Panics** where there are not as many results as positions.
     ///
     /// Proved: , for all sets, wherever it does not panic
     /// ([contract](crate::contracts#fixedbitsetbitscontains_each)).
@@ -338,11 +342,11 @@ impl FixedBitSet {
         self.as_bits_mut().remove(bit);
     }
 
-    /// Sets the position, which has to be below the length, and answers whether it was set before.
+    /// Sets the position, which has to be below the length, and returns whether it was set before.
     ///
     /// **Panics** where it is at or past the length.
     ///
-    /// Proved: the answer and what it leaves, for all sets, wherever it does not panic
+    /// Proved: the result and what it leaves, for all sets, wherever it does not panic
     /// ([contract](crate::contracts#fixedbitsetbitsmutput)).
     ///
     /// ```
@@ -358,12 +362,12 @@ impl FixedBitSet {
         self.as_bits_mut().put(bit)
     }
 
-    /// Clears the position, which has to be below the length, and answers
-    /// whether it was set before.
+    /// Clears the position, which has to be below the length, and returns whether it was set
+    /// before.
     ///
     /// **Panics** where it is at or past the length.
     ///
-    /// Proved: the answer and what it leaves, for all sets, wherever it does not panic
+    /// Proved: the result and what it leaves, for all sets, wherever it does not panic
     /// ([contract](crate::contracts#fixedbitsetbitsmuttake)).
     ///
     /// ```
@@ -488,7 +492,7 @@ impl FixedBitSet {
     ///
     /// **Panics** where the range is not valid.
     ///
-    /// Proved: the answer, for all sets, wherever it does not panic
+    /// Proved: the result, for all sets, wherever it does not panic
     /// ([contract](crate::contracts#fixedbitsetbitscount_ones)).
     ///
     /// ```
@@ -509,7 +513,7 @@ impl FixedBitSet {
     ///
     /// **Panics** where the range is not valid.
     ///
-    /// Proved: the answer, for all sets, wherever it does not panic
+    /// Proved: the result, for all sets, wherever it does not panic
     /// ([contract](crate::contracts#fixedbitsetbitscount_zeroes)).
     ///
     /// ```
@@ -616,7 +620,7 @@ impl FixedBitSet {
     ///
     /// **Panics** where the range is not valid.
     ///
-    /// Proved: the answer, for all sets, wherever it does not panic
+    /// Proved: the result, for all sets, wherever it does not panic
     /// ([contract](crate::contracts#fixedbitsetbitscontains_all_in_range)).
     ///
     /// ```
@@ -637,7 +641,7 @@ impl FixedBitSet {
     ///
     /// **Panics** where the range is not valid.
     ///
-    /// Proved: the answer, for all sets, wherever it does not panic
+    /// Proved: the result, for all sets, wherever it does not panic
     /// ([contract](crate::contracts#fixedbitsetbitscontains_any_in_range)).
     ///
     /// ```
@@ -657,7 +661,7 @@ impl FixedBitSet {
     /// Whether the length is 0. A set of another length is not empty, even where no position is set: see
     /// `is_clear`.
     ///
-    /// Proved: the answer, for all sets ([contract](crate::contracts#fixedbitsetfixedbitsetis_empty)).
+    /// Proved: the result, for all sets ([contract](crate::contracts#fixedbitsetfixedbitsetis_empty)).
     ///
     /// ```
     /// # use fixedbitset::FixedBitSet;
@@ -674,7 +678,7 @@ impl FixedBitSet {
     ///
     /// It takes one step for each lane up to the first position that is set, or for all of them.
     ///
-    /// Proved: the answer, for all sets ([contract](crate::contracts#fixedbitsetbitsis_clear)).
+    /// Proved: the result, for all sets ([contract](crate::contracts#fixedbitsetbitsis_clear)).
     ///
     /// ```
     /// # use fixedbitset::FixedBitSet;
@@ -693,7 +697,7 @@ impl FixedBitSet {
     /// It takes one step for each lane from the first on up to the one that has the
     /// position, or for all of them.
     ///
-    /// Proved: the answer, for all sets ([contract](crate::contracts#fixedbitsetbitsminimum)).
+    /// Proved: the result, for all sets ([contract](crate::contracts#fixedbitsetbitsminimum)).
     ///
     /// ```
     /// # use fixedbitset::FixedBitSet;
@@ -712,7 +716,7 @@ impl FixedBitSet {
     /// It takes one step for each lane from the last on down to the one that has the
     /// position, or for all of them.
     ///
-    /// Proved: the answer, for all sets ([contract](crate::contracts#fixedbitsetbitsmaximum)).
+    /// Proved: the result, for all sets ([contract](crate::contracts#fixedbitsetbitsmaximum)).
     ///
     /// ```
     /// # use fixedbitset::FixedBitSet;
@@ -728,7 +732,7 @@ impl FixedBitSet {
 
     /// Whether each position below the length is set.
     ///
-    /// Proved: the answer, for all sets ([contract](crate::contracts#fixedbitsetbitsis_full)).
+    /// Proved: the result, for all sets ([contract](crate::contracts#fixedbitsetbitsis_full)).
     ///
     /// ```
     /// # use fixedbitset::FixedBitSet;
@@ -745,10 +749,11 @@ impl FixedBitSet {
 
     /// Leaves the greater of the two lengths, and the positions of either set.
     ///
-    /// Where `other` needs no more words, the call takes no memory and is never refused. It takes one step
-    /// for each lane of `other`; new words are written once before.
+    /// Where `other` needs no more words, the call does not allocate and cannot fail. It takes one step for
+    /// each lane of `other`; new words are written once before.
     ///
-    /// Where memory is refused the program ends; [`try_union_with`](Self::try_union_with) says so instead.
+    /// If an allocation fails, the program ends; [`try_union_with`](Self::try_union_with) returns an error
+    /// instead.
     ///
     /// Proved: what it leaves, for any two sets
     /// ([contract](crate::contracts#fixedbitsetfixedbitsetunion_with)).
@@ -765,9 +770,10 @@ impl FixedBitSet {
         self.set.union_with(&other.set).or_abort();
     }
 
-    /// [`union_with`](Self::union_with), which says where memory is refused. The set is then as it was.
+    /// [`union_with`](Self::union_with), which returns an error if an allocation fails. The set is then as
+    /// it was.
     ///
-    /// Proved: what it leaves, also where memory is refused, for any two sets
+    /// Proved: what it leaves, also where an allocation fails, for any two sets
     /// ([contract](crate::contracts#fixedbitsetfixedbitsetunion_with)).
     ///
     /// ```
@@ -787,8 +793,8 @@ impl FixedBitSet {
     ///
     /// Memory, errors and steps are those of [`union_with`](Self::union_with).
     ///
-    /// Where memory is refused the program ends;
-    /// [`try_symmetric_difference_with`](Self::try_symmetric_difference_with) says so instead.
+    /// If an allocation fails, the program ends;
+    /// [`try_symmetric_difference_with`](Self::try_symmetric_difference_with) returns an error instead.
     ///
     /// Proved: what it leaves, for any two sets
     /// ([contract](crate::contracts#fixedbitsetfixedbitsetsymmetric_difference_with)).
@@ -805,10 +811,10 @@ impl FixedBitSet {
         self.set.symmetric_difference_with(&other.set).or_abort();
     }
 
-    /// [`symmetric_difference_with`](Self::symmetric_difference_with), which says where memory is refused.
-    /// The set is then as it was.
+    /// [`symmetric_difference_with`](Self::symmetric_difference_with), which returns an error if an
+    /// allocation fails. The set is then as it was.
     ///
-    /// Proved: what it leaves, also where memory is refused, for any two sets
+    /// Proved: what it leaves, also where an allocation fails, for any two sets
     /// ([contract](crate::contracts#fixedbitsetfixedbitsetsymmetric_difference_with)).
     ///
     /// ```
@@ -859,14 +865,14 @@ impl FixedBitSet {
         self.as_bits_mut().difference_with(other.as_bits());
     }
 
-    /// [`union_with`](Self::union_with), with the answer whether a position came in: whether `other` has
+    /// [`union_with`](Self::union_with), which also returns whether a position came in: whether `other` has
     /// one that this set lacked. The length may become greater even where none came in; two calls of
     /// [`len`](Self::len) tell that.
     ///
-    /// Where memory is refused the program ends; [`try_union_with_change`](Self::try_union_with_change)
-    /// says so instead.
+    /// If an allocation fails, the program ends; [`try_union_with_change`](Self::try_union_with_change)
+    /// returns an error instead.
     ///
-    /// Proved: the answer and what it leaves, for any two sets
+    /// Proved: the result and what it leaves, for any two sets
     /// ([contract](crate::contracts#fixedbitsetfixedbitsetunion_with_change)).
     ///
     /// ```
@@ -880,10 +886,10 @@ impl FixedBitSet {
         self.set.union_with_change(&other.set).or_abort()
     }
 
-    /// [`union_with_change`](Self::union_with_change), which says where memory is refused. The set is then
-    /// as it was.
+    /// [`union_with_change`](Self::union_with_change), which returns an error if an allocation fails. The
+    /// set is then as it was.
     ///
-    /// Proved: the answer and what it leaves, also where memory is refused, for any two sets
+    /// Proved: the result and what it leaves, also where an allocation fails, for any two sets
     /// ([contract](crate::contracts#fixedbitsetfixedbitsetunion_with_change)).
     ///
     /// ```
@@ -898,9 +904,9 @@ impl FixedBitSet {
         self.set.union_with_change(&other.set)
     }
 
-    /// [`intersect_with`](Self::intersect_with), with the answer whether a position went.
+    /// [`intersect_with`](Self::intersect_with), which also returns whether a position went.
     ///
-    /// Proved: the answer and what it leaves, for any two sets
+    /// Proved: the result and what it leaves, for any two sets
     /// ([contract](crate::contracts#fixedbitsetbitsmutintersect_with_change)).
     ///
     /// ```
@@ -915,9 +921,9 @@ impl FixedBitSet {
         self.as_bits_mut().intersect_with_change(other.as_bits())
     }
 
-    /// [`difference_with`](Self::difference_with), with the answer whether a position went.
+    /// [`difference_with`](Self::difference_with), which also returns whether a position went.
     ///
-    /// Proved: the answer and what it leaves, for any two sets
+    /// Proved: the result and what it leaves, for any two sets
     /// ([contract](crate::contracts#fixedbitsetbitsmutdifference_with_change)).
     ///
     /// ```
@@ -932,17 +938,17 @@ impl FixedBitSet {
         self.as_bits_mut().difference_with_change(other.as_bits())
     }
 
-    /// Takes in the positions of `gens` that `kills` lacks, and answers whether one came in: whether this
+    /// Takes in the positions of `gens` that `kills` lacks, and returns whether one came in: whether this
     /// set lacked one of them. The length is then the greater one of this set and of `gens`.
     ///
     /// Memory and errors are those of [`union_with`](Self::union_with) with `gens`; the length of `kills`
     /// does not matter. It takes one step for each lane of `gens`: it reads each word once, and makes no
     /// set between. Upstream has no such call.
     ///
-    /// Where memory is refused the program ends;
-    /// [`try_union_with_difference`](Self::try_union_with_difference) says so instead.
+    /// If an allocation fails, the program ends;
+    /// [`try_union_with_difference`](Self::try_union_with_difference) returns an error instead.
     ///
-    /// Proved: the answer and what it leaves, for any three sets
+    /// Proved: the result and what it leaves, for any three sets
     /// ([contract](crate::contracts#fixedbitsetfixedbitsetunion_with_difference)).
     ///
     /// ```
@@ -957,10 +963,10 @@ impl FixedBitSet {
         self.set.union_with_difference(&gens.set, &kills.set).or_abort()
     }
 
-    /// [`union_with_difference`](Self::union_with_difference), which says where memory is refused. The set
-    /// is then as it was.
+    /// [`union_with_difference`](Self::union_with_difference), which returns an error if an allocation
+    /// fails. The set is then as it was.
     ///
-    /// Proved: the answer and what it leaves, also where memory is refused, for any three sets
+    /// Proved: the result and what it leaves, also where an allocation fails, for any three sets
     /// ([contract](crate::contracts#fixedbitsetfixedbitsetunion_with_difference)).
     ///
     /// ```
@@ -982,7 +988,7 @@ impl FixedBitSet {
 
     /// How many positions are in either set.
     ///
-    /// Proved: the answer, for any two sets ([contract](crate::contracts#fixedbitsetbitsunion_count)).
+    /// Proved: the result, for any two sets ([contract](crate::contracts#fixedbitsetbitsunion_count)).
     ///
     /// ```
     /// # use fixedbitset::FixedBitSet;
@@ -997,7 +1003,7 @@ impl FixedBitSet {
 
     /// How many positions are in both sets.
     ///
-    /// Proved: the answer, for any two sets
+    /// Proved: the result, for any two sets
     /// ([contract](crate::contracts#fixedbitsetbitsintersection_count)).
     ///
     /// ```
@@ -1013,7 +1019,7 @@ impl FixedBitSet {
 
     /// How many positions of the first set the second lacks.
     ///
-    /// Proved: the answer, for any two sets ([contract](crate::contracts#fixedbitsetbitsdifference_count)).
+    /// Proved: the result, for any two sets ([contract](crate::contracts#fixedbitsetbitsdifference_count)).
     ///
     /// ```
     /// # use fixedbitset::FixedBitSet;
@@ -1029,7 +1035,7 @@ impl FixedBitSet {
 
     /// How many positions are in exactly one of the sets.
     ///
-    /// Proved: the answer, for any two sets
+    /// Proved: the result, for any two sets
     /// ([contract](crate::contracts#fixedbitsetbitssymmetric_difference_count)).
     ///
     /// ```
@@ -1045,7 +1051,7 @@ impl FixedBitSet {
 
     /// Whether no position is in both sets.
     ///
-    /// Proved: the answer, for any two sets ([contract](crate::contracts#fixedbitsetbitsis_disjoint)).
+    /// Proved: the result, for any two sets ([contract](crate::contracts#fixedbitsetbitsis_disjoint)).
     ///
     /// ```
     /// # use fixedbitset::FixedBitSet;
@@ -1061,7 +1067,7 @@ impl FixedBitSet {
 
     /// Whether each position of the first set is one of the second.
     ///
-    /// Proved: the answer, for any two sets ([contract](crate::contracts#fixedbitsetbitsis_subset)).
+    /// Proved: the result, for any two sets ([contract](crate::contracts#fixedbitsetbitsis_subset)).
     ///
     /// ```
     /// # use fixedbitset::FixedBitSet;
@@ -1078,7 +1084,7 @@ impl FixedBitSet {
 
     /// Whether each position of the second set is one of the first.
     ///
-    /// Proved: the answer, for any two sets ([contract](crate::contracts#fixedbitsetbitsis_superset)).
+    /// Proved: the result, for any two sets ([contract](crate::contracts#fixedbitsetbitsis_superset)).
     ///
     /// ```
     /// # use fixedbitset::FixedBitSet;
@@ -1096,7 +1102,7 @@ impl FixedBitSet {
     ///
     /// It takes exactly the steps up to the lane of the position, or all where there is none.
     ///
-    /// Proved: the answer, for any two sets ([contract](crate::contracts#fixedbitsetbitsfirst_lacking)).
+    /// Proved: the result, for any two sets ([contract](crate::contracts#fixedbitsetbitsfirst_lacking)).
     ///
     /// ```
     /// # use fixedbitset::FixedBitSet;
@@ -1112,9 +1118,10 @@ impl FixedBitSet {
 
     /// Makes this set the union of two others: the greater of their lengths, and the positions of either.
     ///
-    /// A call that needs no more words is never refused. Upstream has no such call.
+    /// A call that needs no more words cannot fail. Upstream has no such call.
     ///
-    /// Where memory is refused the program ends; [`try_union_of`](Self::try_union_of) says so instead.
+    /// If an allocation fails, the program ends; [`try_union_of`](Self::try_union_of) returns an error
+    /// instead.
     ///
     /// Proved: what it leaves, for any three sets
     /// ([contract](crate::contracts#fixedbitsetfixedbitsetunion_of)).
@@ -1132,9 +1139,10 @@ impl FixedBitSet {
         self.set.union_of(&one.set, &other.set).or_abort();
     }
 
-    /// [`union_of`](Self::union_of), which says where memory is refused. The set is then as it was.
+    /// [`union_of`](Self::union_of), which returns an error if an allocation fails. The set is then as it
+    /// was.
     ///
-    /// Proved: what it leaves, also where memory is refused, for any three sets
+    /// Proved: what it leaves, also where an allocation fails, for any three sets
     /// ([contract](crate::contracts#fixedbitsetfixedbitsetunion_of)).
     ///
     /// ```
@@ -1159,8 +1167,8 @@ impl FixedBitSet {
     ///
     /// Memory and errors are those of [`union_of`](Self::union_of).
     ///
-    /// Where memory is refused the program ends;
-    /// [`try_symmetric_difference_of`](Self::try_symmetric_difference_of) says so instead.
+    /// If an allocation fails, the program ends;
+    /// [`try_symmetric_difference_of`](Self::try_symmetric_difference_of) returns an error instead.
     ///
     /// Proved: what it leaves, for any three sets
     /// ([contract](crate::contracts#fixedbitsetfixedbitsetsymmetric_difference_of)).
@@ -1178,10 +1186,10 @@ impl FixedBitSet {
         self.set.symmetric_difference_of(&one.set, &other.set).or_abort();
     }
 
-    /// [`symmetric_difference_of`](Self::symmetric_difference_of), which says where memory is refused. The
-    /// set is then as it was.
+    /// [`symmetric_difference_of`](Self::symmetric_difference_of), which returns an error if an allocation
+    /// fails. The set is then as it was.
     ///
-    /// Proved: what it leaves, also where memory is refused, for any three sets
+    /// Proved: what it leaves, also where an allocation fails, for any three sets
     /// ([contract](crate::contracts#fixedbitsetfixedbitsetsymmetric_difference_of)).
     ///
     /// ```
@@ -1206,8 +1214,8 @@ impl FixedBitSet {
     ///
     /// Memory and errors are those of [`union_of`](Self::union_of).
     ///
-    /// Where memory is refused the program ends; [`try_intersection_of`](Self::try_intersection_of) says so
-    /// instead.
+    /// If an allocation fails, the program ends; [`try_intersection_of`](Self::try_intersection_of) returns
+    /// an error instead.
     ///
     /// Proved: what it leaves, for any three sets
     /// ([contract](crate::contracts#fixedbitsetfixedbitsetintersection_of)).
@@ -1225,10 +1233,10 @@ impl FixedBitSet {
         self.set.intersection_of(&one.set, &other.set).or_abort();
     }
 
-    /// [`intersection_of`](Self::intersection_of), which says where memory is refused. The set is then as
-    /// it was.
+    /// [`intersection_of`](Self::intersection_of), which returns an error if an allocation fails. The set
+    /// is then as it was.
     ///
-    /// Proved: what it leaves, also where memory is refused, for any three sets
+    /// Proved: what it leaves, also where an allocation fails, for any three sets
     /// ([contract](crate::contracts#fixedbitsetfixedbitsetintersection_of)).
     ///
     /// ```
@@ -1254,8 +1262,8 @@ impl FixedBitSet {
     ///
     /// Memory and errors are those of [`union_of`](Self::union_of).
     ///
-    /// Where memory is refused the program ends; [`try_difference_of`](Self::try_difference_of) says so
-    /// instead.
+    /// If an allocation fails, the program ends; [`try_difference_of`](Self::try_difference_of) returns an
+    /// error instead.
     ///
     /// Proved: what it leaves, for any three sets
     /// ([contract](crate::contracts#fixedbitsetfixedbitsetdifference_of)).
@@ -1273,10 +1281,10 @@ impl FixedBitSet {
         self.set.difference_of(&one.set, &other.set).or_abort();
     }
 
-    /// [`difference_of`](Self::difference_of), which says where memory is refused. The set is then as it
-    /// was.
+    /// [`difference_of`](Self::difference_of), which returns an error if an allocation fails. The set is
+    /// then as it was.
     ///
-    /// Proved: what it leaves, also where memory is refused, for any three sets
+    /// Proved: what it leaves, also where an allocation fails, for any three sets
     /// ([contract](crate::contracts#fixedbitsetfixedbitsetdifference_of)).
     ///
     /// ```
@@ -1301,7 +1309,7 @@ impl FixedBitSet {
     ///
     /// It writes each word of the new set twice. Upstream has no such call.
     ///
-    /// Where memory is refused the program ends; [`try_slice`](Self::try_slice) says so instead.
+    /// If an allocation fails, the program ends; [`try_slice`](Self::try_slice) returns an error instead.
     ///
     /// **Panics** where the range is not valid.
     ///
@@ -1323,7 +1331,7 @@ impl FixedBitSet {
         FixedBitSet { set }
     }
 
-    /// [`slice`](Self::slice), which says where memory is refused.
+    /// [`slice`](Self::slice), which returns an error if an allocation fails.
     ///
     /// **Panics** where the range is not valid.
     ///
@@ -1349,9 +1357,9 @@ impl FixedBitSet {
     /// Writes the positions of the other set from `start` up to and without `end` over those of the
     /// set from `at` on. All others stay.
     ///
-    /// The range may not begin behind its end, nor end past the other length. From `at` on it has
-    /// to end within the length. It takes exactly one step for each lane of the words that it
-    /// writes whole, the last of which may have fewer, and one for each other word that it writes.
+    /// The range may not begin after its end, nor end past the other length. From `at` on it has to
+    /// end within the length. It takes exactly one step for each lane of the words that it writes
+    /// whole, the last of which may have fewer, and one for each other word that it writes.
     ///
     /// `start` and `end` are the ends of `range`.
     ///
@@ -1382,7 +1390,7 @@ impl FixedBitSet {
     ///
     /// **Panics** where the width is over 64, and where the positions are not all below the length.
     ///
-    /// Proved: the answer, for all sets, wherever it does not panic
+    /// Proved: the result, for all sets, wherever it does not panic
     /// ([contract](crate::contracts#fixedbitsetbitsload)).
     ///
     /// ```
@@ -1422,13 +1430,13 @@ impl FixedBitSet {
         self.as_bits_mut().store(start, width, number);
     }
 
-    /// Puts the positions of `other` behind those of this set: the lengths are added, which has to give a
+    /// Puts the positions of `other` after those of this set: the lengths are added, which has to give a
     /// length.
     ///
-    /// A call that needs no more words is never refused. It reads each word of `other` once. Upstream has
-    /// no such call.
+    /// A call that needs no more words cannot fail. It reads each word of `other` once. Upstream has no
+    /// such call.
     ///
-    /// Where memory is refused the program ends; [`try_append`](Self::try_append) says so instead.
+    /// If an allocation fails, the program ends; [`try_append`](Self::try_append) returns an error instead.
     ///
     /// **Panics** where the sum of the lengths is past `usize::MAX`.
     ///
@@ -1450,11 +1458,11 @@ impl FixedBitSet {
         self.set.append(&other.set).or_abort();
     }
 
-    /// [`append`](Self::append), which says where memory is refused. The set is then as it was.
+    /// [`append`](Self::append), which returns an error if an allocation fails. The set is then as it was.
     ///
     /// **Panics** where the sum of the lengths is past `usize::MAX`.
     ///
-    /// Proved: what it leaves, also where memory is refused, for any two sets, wherever it does not panic
+    /// Proved: what it leaves, also where an allocation fails, for any two sets, wherever it does not panic
     /// ([contract](crate::contracts#fixedbitsetfixedbitsetappend)).
     ///
     /// ```
@@ -1495,9 +1503,9 @@ impl FixedBitSet {
     /// Makes the length `bits`. Where it was greater, the positions that are not below `bits` fall away;
     /// where it was less, each new position is set or not, as `enabled` says.
     ///
-    /// A call that needs no more words is never refused. Upstream has no such call.
+    /// A call that needs no more words cannot fail. Upstream has no such call.
     ///
-    /// Where memory is refused the program ends; [`try_resize`](Self::try_resize) says so instead.
+    /// If an allocation fails, the program ends; [`try_resize`](Self::try_resize) returns an error instead.
     ///
     /// Proved: what it leaves, for all sets ([contract](crate::contracts#fixedbitsetfixedbitsetresize)).
     ///
@@ -1514,9 +1522,9 @@ impl FixedBitSet {
         self.set.resize(bits, enabled).or_abort();
     }
 
-    /// [`resize`](Self::resize), which says where memory is refused. The set is then as it was.
+    /// [`resize`](Self::resize), which returns an error if an allocation fails. The set is then as it was.
     ///
-    /// Proved: what it leaves, also where memory is refused, for all sets
+    /// Proved: what it leaves, also where an allocation fails, for all sets
     /// ([contract](crate::contracts#fixedbitsetfixedbitsetresize)).
     ///
     /// ```
@@ -1538,7 +1546,8 @@ impl FixedBitSet {
     ///
     /// It looks at each byte at most once, and writes each word once. Upstream has no such call.
     ///
-    /// Where memory is refused the program ends; [`try_from_bytes`](Self::try_from_bytes) says so instead.
+    /// If an allocation fails, the program ends; [`try_from_bytes`](Self::try_from_bytes) returns an error
+    /// instead.
     ///
     /// Proved: the set, for all numbers ([contract](crate::contracts#fixedbitsetfixedbitsetfrom_bytes)).
     ///
@@ -1554,7 +1563,7 @@ impl FixedBitSet {
         FixedBitSet { set }
     }
 
-    /// [`from_bytes`](Self::from_bytes), which says where memory is refused.
+    /// [`from_bytes`](Self::from_bytes), which returns an error if an allocation fails.
     ///
     /// Proved: the set, for all numbers ([contract](crate::contracts#fixedbitsetfixedbitsetfrom_bytes)).
     ///
@@ -1575,7 +1584,8 @@ impl FixedBitSet {
     ///
     /// It writes each byte once. Upstream has no such call.
     ///
-    /// Where memory is refused the program ends; [`try_to_bytes`](Self::try_to_bytes) says so instead.
+    /// If an allocation fails, the program ends; [`try_to_bytes`](Self::try_to_bytes) returns an error
+    /// instead.
     ///
     /// Proved: the bytes, for all sets ([contract](crate::contracts#fixedbitsetfixedbitsetto_bytes)).
     ///
@@ -1590,7 +1600,7 @@ impl FixedBitSet {
         self.set.to_bytes(Global::Abort).or_abort().0
     }
 
-    /// [`to_bytes`](Self::to_bytes), which says where memory is refused.
+    /// [`to_bytes`](Self::to_bytes), which returns an error if an allocation fails.
     ///
     /// Proved: the bytes, for all sets ([contract](crate::contracts#fixedbitsetfixedbitsetto_bytes)).
     ///
@@ -1682,7 +1692,7 @@ impl FixedBitSet {
 
     /// The least position at or past `from` that is set, or `None` where none is.
     ///
-    /// Proved: the answer, for all sets and all numbers
+    /// Proved: the result, for all sets and all numbers
     /// ([contract](crate::contracts#fixedbitsetbitsnext_one)).
     ///
     /// ```
@@ -1700,7 +1710,7 @@ impl FixedBitSet {
     /// The least position at or past `from` and below the length that is not set, or
     /// `None` where there is none.
     ///
-    /// Proved: the answer, for all sets and all numbers
+    /// Proved: the result, for all sets and all numbers
     /// ([contract](crate::contracts#fixedbitsetbitsnext_zero)).
     ///
     /// ```
@@ -1721,7 +1731,7 @@ impl FixedBitSet {
     /// It looks at the word of `from` in each set, and then at four words of each at a time, up to
     /// those that have the position or to the end of the shorter set.
     ///
-    /// Proved: the answer, for any two sets and all numbers
+    /// Proved: the result, for any two sets and all numbers
     /// ([contract](crate::contracts#fixedbitsetbitsnext_common)).
     ///
     /// ```
@@ -1743,7 +1753,7 @@ impl FixedBitSet {
     /// It counts word by word, up to the one that has the position, and takes a step
     /// for each of these words.
     ///
-    /// Proved: the answer, for all sets and all numbers
+    /// Proved: the result, for all sets and all numbers
     /// ([contract](crate::contracts#fixedbitsetbitsnth_one)).
     ///
     /// ```
@@ -1765,7 +1775,7 @@ impl FixedBitSet {
     /// there is none they are at least those up to the last place with room for one, and at
     /// most those up to the length.
     ///
-    /// Proved: the answer, for all sets and all numbers
+    /// Proved: the result, for all sets and all numbers
     /// ([contract](crate::contracts#fixedbitsetbitsfirst_gap)).
     ///
     /// ```
@@ -1792,7 +1802,7 @@ impl FixedBitSet {
     ///
     /// **Panics** where the range is not valid.
     ///
-    /// Proved: the answer, for all sets, wherever it does not panic
+    /// Proved: the result, for all sets, wherever it does not panic
     /// ([contract](crate::contracts#fixedbitsetbitsfirst_aligned_gap)).
     ///
     /// ```
@@ -1815,7 +1825,7 @@ impl FixedBitSet {
 
     /// The greatest position below `below` that is set, or `None` where none is.
     ///
-    /// Proved: the answer, for all sets and all numbers
+    /// Proved: the result, for all sets and all numbers
     /// ([contract](crate::contracts#fixedbitsetbitsprevious_one)).
     ///
     /// ```
@@ -1833,7 +1843,7 @@ impl FixedBitSet {
     /// The greatest position below `below` and below the length that is not set, or
     /// `None` where there is none.
     ///
-    /// Proved: the answer, for all sets and all numbers
+    /// Proved: the result, for all sets and all numbers
     /// ([contract](crate::contracts#fixedbitsetbitsprevious_zero)).
     ///
     /// ```
@@ -1864,8 +1874,8 @@ impl FixedBitSet {
         self.as_bits().ones()
     }
 
-    /// The set positions, in ascending order, from a walk that owns the words of the set. It takes no
-    /// memory, and reads the first and the last word; those between are not yet taken.
+    /// The set positions, in ascending order, from an iterator that owns the words of the set. It does not
+    /// allocate, and reads the first and the last word; those between are not yet taken.
     ///
     /// Proved: each item, for all sets ([contract](crate::contracts#fixedbitsetfixedbitsetinto_ones)).
     ///
@@ -1943,7 +1953,7 @@ impl FixedBitSet {
         self.as_bits().zeroes_in(range)
     }
 
-    /// The stretches of positions that are set, as start and end, in ascending order.
+    /// The runs of positions that are set, as start and end, in ascending order.
     ///
     /// Proved: each stretch, for all sets and any mix of calls from both ends
     /// ([contract](crate::contracts#fixedbitsetbitsruns)).
@@ -1960,8 +1970,8 @@ impl FixedBitSet {
         self.as_bits().runs()
     }
 
-    /// The stretches of positions below the length that are not set, as start and
-    /// end, in ascending order.
+    /// The runs of positions below the length that are not set, as start and end, in ascending
+    /// order.
     ///
     /// Proved: each stretch, for all sets and any mix of calls from both ends
     /// ([contract](crate::contracts#fixedbitsetbitszero_runs)).
@@ -2048,12 +2058,12 @@ impl FixedBitSet {
         self.as_bits().symmetric_difference(other.as_bits())
     }
 
-    /// [`grow_and_insert`](Self::grow_and_insert), which says where memory is refused. The set is then as
-    /// it was.
+    /// [`grow_and_insert`](Self::grow_and_insert), which returns an error if an allocation fails. The set
+    /// is then as it was.
     ///
     /// **Panics** where `bits` is `usize::MAX`.
     ///
-    /// Proved: what it leaves, also where memory is refused, for all sets, wherever it does not panic
+    /// Proved: what it leaves, also where an allocation fails, for all sets, wherever it does not panic
     /// ([contract](crate::contracts#fixedbitsetfixedbitsetgrow_and_insert)).
     ///
     /// ```
@@ -2072,8 +2082,8 @@ impl FixedBitSet {
         self.set.grow_and_insert(bits)
     }
 
-    /// [`extend`](Self::extend), which says what stops it: the position `usize::MAX`, or memory that is
-    /// refused. The positions before it are then in the set.
+    /// [`extend`](Self::extend), which returns what stops it: the position `usize::MAX`, or an allocation
+    /// that fails. The positions before it are then in the set.
     ///
     /// Proved: what it leaves, also where it is stopped, for all sets
     /// ([contract](crate::contracts#fixedbitsetfixedbitsetextend)).
@@ -2094,8 +2104,8 @@ impl FixedBitSet {
         self.set.extend(items)
     }
 
-    /// [`from_iter`](Self::from_iter), which says what stops it: the position `usize::MAX`, or memory that
-    /// is refused.
+    /// [`from_iter`](Self::from_iter), which returns what stops it: the position `usize::MAX`, or an
+    /// allocation that fails.
     ///
     /// Proved: the set, for all positions ([contract](crate::contracts#fixedbitsetfixedbitsetfrom_iter)).
     ///

@@ -1,4 +1,4 @@
-//! What commands are given besides numbers: a range of positions, and the ends of a walk.
+//! What commands are given besides numbers: a range of positions, and the ends of an iterator.
 
 use fixedbitset::IndexRange;
 
@@ -32,7 +32,7 @@ impl IndexRange<usize> for Span {
     }
 }
 
-/// The end of a walk from which an item is asked.
+/// The end of an iterator from which an item is asked.
 #[derive(Debug, Drop)]
 pub enum End {
     /// The first of the items that are left.

@@ -1,4 +1,4 @@
-//! Calls of a walk from its ends, one after the other.
+//! Calls of an iterator from its ends, one after the other.
 ghost use Rattle.std.specs.Prelude.{◌≡◌, ◌≤◌, [], length, MatchResult};
 ghost use Rattle.std.specs.Vec.{vec_capacity};
 ghost use Rattle.bitwalks.specs.Pairs.{joined_items, split_items};
@@ -13,7 +13,7 @@ use crate::commands::replies::Reply;
 use fixedbitset::{Difference, Intersection, IntoOnes, Ones, SymmetricDifference, Union, Zeroes};
 use std::alloc::Global;
 
-// A walk that is called from its two ends.
+// An iterator that is called from its two ends.
 pub(super) trait TwoEnds {
     ghost use Rattle.std.specs.Prelude.{List, ℕ};
     ghost use Rattle.std.specs.Iterator.{YieldsFirst, YieldsLast};
@@ -128,7 +128,7 @@ pub(super) fn call_all<W: TwoEnds + Drop>(
     Ok(Reply::Items(call_each(walk, ends, places)))
 }
 
-// The same, where the list is empty and has a place for each answer.
+// The same, where the list is empty and has a place for each result.
 pub(super) fn call_each<W: TwoEnds + Drop>(
     mut walk: W,
     ends: &[End],

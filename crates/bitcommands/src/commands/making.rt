@@ -39,7 +39,7 @@ pub enum Make {
         bits: usize,
         blocks: Vec<usize>,
     },
-    /// A copy of the set `source`, in memory of its own.
+    /// A copy of the set `source`, in an allocation of its own.
     Clone {
         target: usize,
         source: usize,
@@ -181,7 +181,7 @@ fn from_iter(
     Ok(Reply::Done)
 }
 
-// The length is looked at before memory is asked for.
+// The length is looked at before memory is allocated.
 fn from_value(
     alloc: Global,
     sets: &mut [FixedBitSet],

@@ -1,4 +1,4 @@
-//! Texts of replies, put behind an output.
+//! Texts of replies, appended to an output.
 ghost use Rattle.std.specs.Prelude.{◌≡◌, ◌++◌, ◌≤◌, false, drop, take, vec_len, OnOk, OnErr};
 ghost use Rattle.std.specs.Fmt.{decimal};
 ghost use Rattle.serde_json.specs.View.{view};
@@ -38,7 +38,7 @@ pub(super) fn order_name(order: Ordering) -> &'static str
     }
 }
 
-// A text that is read as the value. Where memory is refused the output is as it was.
+// A text that is read as the value. Where an allocation fails the output is as it was.
 pub(super) fn push_value(value: &Value, output: &mut Vec<u8>) -> Result<(), AllocError>
     ensures ok { OnOk result (has_float (view value.now) ≡ false
         → output.new.items ≡ output.old.items ++ compact_text (view value.now)) }
@@ -49,8 +49,8 @@ pub(super) fn push_value(value: &Value, output: &mut Vec<u8>) -> Result<(), Allo
     output.extend_from_slice(text.as_slice())
 }
 
-// The text, and the number behind it, if there is one. Where memory is refused
-// the output is as it was.
+// The text, and the number after it, if there is one. Where an allocation fails the output is as it
+// was.
 pub(super) fn push_numbered(
     text: &str,
     number: Option<usize>,
@@ -72,7 +72,7 @@ pub(super) fn push_numbered(
     pushed
 }
 
-// What stands in a list of a reply: an item of a walk, or a word.
+// What stands in a list of a reply: an item of an iterator, or a word.
 pub(super) trait Part {
     ghost use Rattle.std.specs.Prelude.{◌≡◌, ◌++◌, List, ℕ, OnOk, OnErr};
     ghost use Rattle.std.specs.Fmt.{WritesOnOk};
@@ -80,7 +80,7 @@ pub(super) trait Part {
     // Its text.
     ghost text_of: { Self → List ℕ };
 
-    // Puts the text behind the output. Where memory is refused the output is as it was.
+    // Appends the text to the output. Where an allocation fails the output is as it was.
     fn push_to(&self, output: &mut Vec<u8>) -> Result<(), AllocError>
         ensures ok { OnOk result (output.new.items ≡ output.old.items ++ text_of self.now) }
         ensures err { OnErr result (output.new.items ≡ output.old.items) };
@@ -124,7 +124,7 @@ impl Part for Block {
     }
 }
 
-// The words, one space between two of them, or `-` where there are none. Where memory is refused
+// The words, one space between two of them, or `-` where there are none. Where an allocation fails
 // the output is as it was.
 pub(super) fn push_words(words: &[Block], output: &mut Vec<u8>) -> Result<(), AllocError>
     ensures ok { OnOk result (output.new.items ≡ output.old.items ++ words_text words.now) }
@@ -136,8 +136,8 @@ pub(super) fn push_words(words: &[Block], output: &mut Vec<u8>) -> Result<(), Al
     push_parts(words, output)
 }
 
-// One text for each, one space between two of them. Where memory is refused
-// the output is as it was.
+// One text for each, one space between two of them. Where an allocation fails the output is as it
+// was.
 pub(super) fn push_parts<P: Part>(parts: &[P], output: &mut Vec<u8>) -> Result<(), AllocError>
     ensures ok { OnOk result
         (output.new.items ≡ output.old.items ++ spaced_text P.text_of parts.now) }
@@ -151,7 +151,7 @@ pub(super) fn push_parts<P: Part>(parts: &[P], output: &mut Vec<u8>) -> Result<(
     pushed
 }
 
-// The same. Where memory is refused, a part of the text may stand behind the output.
+// The same. Where an allocation fails, a part of the text may be appended to the output.
 fn push_spaced<P: Part>(parts: &[P], output: &mut Vec<u8>) -> Result<(), AllocError>
     ensures ok { OnOk result (output.new.items
         ≡ output.old.items ++ spaced_text P.text_of parts.now) }
@@ -177,7 +177,7 @@ pub(super) fn push_number(number: usize, output: &mut Vec<u8>) -> Result<(), All
     output.extend_from_slice(&digits[start..])
 }
 
-// Writes the digits at the end of the buffer, and answers where they start. Two digits a turn halve
+// Writes the digits at the end of the buffer, and returns where they start. Two digits a turn halve
 // the divisions that wait for one another.
 #[inline]
 fn write_digits(number: usize, digits: &mut [u8; DIGITS]) -> usize

@@ -39,7 +39,7 @@ pub enum Refusal {
     Greatest,
     /// F5: the JSON value is not in the form.
     Json(JsonFault),
-    /// F6: memory was refused.
+    /// F6: an allocation failed.
     Memory,
     /// F7: a length that the command asks for is above the limit.
     Limit,
@@ -50,7 +50,7 @@ impl Refusal {
     ghost use Rattle.bitcommands.specs.Texts.{refusal_text};
     ghost use Rattle.bitcommands.specs.Outcomes.{number_text};
 
-    /// The text that `Display` prints, and the number that stands behind it, if one does.
+    /// The text that `Display` prints, and the number that stands after it, if one does.
     pub(super) fn text(&self) -> (&'static str, Option<usize>)
         ensures { refusal_text self.now ≡ result.0.now ++ number_text result.1 }
     {

@@ -1,4 +1,4 @@
-//! What a command answers.
+//! What a command returns.
 ghost use Rattle.std.specs.Fmt.{WritesOnOk};
 ghost use Rattle.bitcommands.specs.Texts.{spaced_text, words_text};
 
@@ -27,7 +27,7 @@ pub enum Reply {
     Number(usize),
     /// A position, if there is one.
     Position(Option<usize>),
-    /// What the calls of a walk answered, in order.
+    /// What the calls of an iterator returned, in order.
     Items(Vec<Option<usize>>),
     /// The words of a set, in order.
     Words(Vec<Block>),
@@ -46,13 +46,14 @@ impl Reply {
     ghost use Rattle.bitcommands.specs.Answers.{answer_of};
     ghost use Rattle.bitcommands.specs.Texts.{one_text, value_of, PutsValue};
 
-    /// Puts the text that `Display` prints behind the output, without a formatter.
+    /// Appends the text that `Display` prints to the output, without a formatter.
     ///
     /// The text of a JSON value is read back as the value, unless it nests deeper than 127. A value
     /// with no number that has a fraction or an exponent has but one text, and that has no spaces.
-    /// A value that `apply` answers is such a one.
+    /// A value that `apply` returns is such a one.
     ///
-    /// `Err` comes only where memory for the text was refused. The output is then as it was.
+    /// `Err` is returned only where the allocation of the text failed. The output is then as it
+    /// was.
     ///
     /// ```
     /// let mut output = Vec::new(alloc);
@@ -87,7 +88,7 @@ impl Reply {
     }
 }
 
-/// It writes the text that `push_text` puts behind an output, and takes no memory.
+/// It writes the text that `push_text` appends to an output, and does not allocate.
 ///
 /// Of a JSON value with a number that has a fraction or an exponent no text is promised.
 impl fmt::Display for Reply {

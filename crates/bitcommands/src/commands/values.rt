@@ -76,7 +76,7 @@ fn write_comma<W: fmt::Write>(later: bool, f: &mut fmt::Formatter<W>) -> fmt::Re
     if later { f.write_str(",") } else { Ok(()) }
 }
 
-// The key of a member and a colon, behind a comma if a member stands before.
+// The key of a member and a colon, after a comma if a member stands before.
 fn write_key<W: fmt::Write>(later: bool, key: &str, f: &mut fmt::Formatter<W>) -> fmt::Result
     ensures { WritesOnOk W.write_str_gives f.old result
         (comma_if later ++ (compact_text (string key.now) ++ codes ":")) f.new }

@@ -1,4 +1,4 @@
-//! Commands that walk over the positions of a set, or of two.
+//! Commands that iterate over the positions of a set, or of two.
 ghost use Rattle.bitcommands.specs.Actions as action;
 ghost use Rattle.bitcommands.specs.Actions.{walk_action};
 ghost use Rattle.bitcommands.specs.Outcomes.{Answers, AnswersAlways};
@@ -11,14 +11,15 @@ use fixedbitset::FixedBitSet;
 use std::alloc::Global;
 use std::mem;
 
-/// A command that walks over positions, and answers what each call of the walk gives, in order.
+/// A command that iterates over positions, and returns what each call of the iterator gives, in
+/// order.
 ///
-/// The places of all answers are reserved first: where that is refused, no set has changed.
+/// The places of all results are reserved first: where that fails, no set has changed.
 #[derive(Debug, Drop)]
 pub enum Walk {
     /// The positions of the set `set`, in ascending order, by one call for each of `ends`.
     Ones { set: usize, ends: Vec<End> },
-    /// The same of a set that the walk takes: an empty set of length 0 is left in its place.
+    /// The same of a set that the iterator takes: an empty set of length 0 is left in its place.
     IntoOnes { set: usize, ends: Vec<End> },
     /// The positions below the length that the set `set` lacks, in ascending order.
     Zeroes { set: usize, ends: Vec<End> },

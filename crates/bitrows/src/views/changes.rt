@@ -83,7 +83,7 @@ impl<'a> RowsMut<'a> {
         set_in(&mut self.words[start..end], self.columns, column, enabled);
     }
 
-    /// Row `into` takes in the bits of row `from`, and the other rows stay. It answers whether a
+    /// Row `into` takes in the bits of row `from`, and the other rows stay. It returns whether a
     /// bit came in. The table has to have both rows; where they are one, nothing changes. It reads
     /// each word of the two rows once.
     ///
@@ -142,7 +142,7 @@ impl<'a> RowsMut<'a> {
     }
 }
 
-// Row `into` of these words takes in what row `from` has. It answers whether a bit came in.
+// Row `into` of these words takes in what row `from` has. It returns whether a bit came in.
 #[inline]
 fn join_rows(
     words: &mut [Block],
@@ -171,7 +171,7 @@ fn join_rows(
     }
 }
 
-// The words of a row take in those of another. It answers whether a bit came in.
+// The words of a row take in those of another. It returns whether a bit came in.
 #[inline(always)]
 fn take_in(words: &mut [Block], other: &[Block], length: usize) -> bool
     requires clean { IsClean length words.old }

@@ -1,5 +1,5 @@
-//! The changes by other sets that answer whether a position changed, with a counter of steps. Each
-//! change by one set takes the steps of the call without the answer.
+//! The changes by other sets that return whether a position changed, with a counter of steps. Each
+//! change by one set takes the steps of the call without the result.
 
 ghost use Rattle.std.specs.Prelude.{◌≡◌, ◌<◌, ◌≤◌, ◌+◌, IsOk, IfOk, OnOk, OnErr, not, true, false};
 ghost use Rattle.bitlanes.specs.Words.{lane_steps};
@@ -15,7 +15,7 @@ use std::alloc::AllocError;
 
 /// [`FixedBitSet::union_with_change`], with the steps that it takes.
 ///
-/// Where memory was refused the set is as it was.
+/// Where an allocation failed the set is as it was.
 ///
 /// ```
 /// let mut set = FixedBitSet::from_iter(alloc, [1, 3])?;
@@ -90,7 +90,7 @@ pub fn difference_with_change(set: &mut FixedBitSet, other: &FixedBitSet, steps:
 
 /// [`FixedBitSet::union_with_difference`], with the steps that it takes.
 ///
-/// Where memory was refused the set is as it was.
+/// Where an allocation failed the set is as it was.
 ///
 /// ```
 /// let mut set = FixedBitSet::from_iter(alloc, [1, 3])?;

@@ -1,7 +1,7 @@
 //! New sets and copies, with a counter of steps.
 //!
-//! Counted are the lanes that are joined, or copied over a set that is there. What a new set
-//! is filled with before, the rest of the longer set behind, and what is added to a set that
+//! The count includes the lanes that are joined, or copied over a set that is there. What a new set
+//! is filled with before, the rest of the longer set after it, and what is added to a set that
 //! grows are not counted.
 
 ghost use Rattle.std.specs.Prelude.{◌≡◌, ◌≤◌, ◌+◌, IsOk, IfOk, OnOk, OnErr, true, false};
@@ -19,7 +19,7 @@ use std::alloc::AllocError;
 
 /// [`FixedBitSet::clone_from`], with the steps that it takes.
 ///
-/// Where memory was refused the set is as it was.
+/// Where an allocation failed the set is as it was.
 ///
 /// ```
 /// let source = FixedBitSet::from_iter(alloc, [3, 64])?;

@@ -2,7 +2,7 @@
 //!
 //! A call takes at most one step for each lane of four words that it writes, and one or two more
 //! for the words at the ends: `bound` says so, and `cost` how many it takes. What `grow` writes is
-//! not counted, nor what is cleared behind the length in the last lane.
+//! not counted, nor what is cleared after the length in the last lane.
 
 ghost use Rattle.std.specs.Prelude.{◌≡◌, ◌<◌, ◌≤◌, ◌+◌, ◌-◌, ◌/◌, ◌^◌, min, true, false};
 ghost use Rattle.std.specs.Prelude.{if◌then◌else◌, IsTrue, IsOk, IfOk, OnOk, OnErr};

@@ -3,7 +3,7 @@
 //! A step is one lane of four words in one turn of a kernel. A set of `n` positions has `n / 256`
 //! lanes, rounded up. A change or a count takes exactly one step for each lane that both sets have,
 //! and one for each that only one of them has, where these are cleared or counted. A comparison
-//! that answers `true` takes exactly as many, and one that answers `false` exactly those up to the
+//! that returns `true` takes exactly as many, and one that returns `false` exactly those up to the
 //! lane that decides. `first_lacking` takes exactly those up to the lane of the position, or all
 //! where there is none. What `grow` writes is not counted.
 
@@ -43,7 +43,7 @@ pub fn clear(set: &mut FixedBitSet, steps: &mut Steps)
 
 /// [`FixedBitSet::union_with`], with the steps that it takes.
 ///
-/// Where memory was refused the set is as it was.
+/// Where an allocation failed the set is as it was.
 ///
 /// ```
 /// let mut set = FixedBitSet::from_iter(alloc, [1, 3])?;
@@ -76,7 +76,7 @@ pub fn union_with(
 
 /// [`FixedBitSet::symmetric_difference_with`], with the steps that it takes.
 ///
-/// Where memory was refused the set is as it was.
+/// Where an allocation failed the set is as it was.
 ///
 /// ```
 /// let mut set = FixedBitSet::from_iter(alloc, [1, 3])?;

@@ -1,5 +1,5 @@
-//! Two whole sets joined, with the answer whether a position of the first one changed. Each takes
-//! the steps of the call without the answer.
+//! Two whole sets joined, which also returns whether a position of the first one changed. Each
+//! takes the steps of the call without the result.
 
 ghost use Rattle.std.specs.Prelude.{◌≡◌, ◌≤◌, ◌+◌, ◌==◌, ◌||◌, not, true, false};
 ghost use Rattle.bitlanes.specs.Changes.{changes};
@@ -16,7 +16,7 @@ use bitlanes::ops::{And, AndNot, Or, WordOp};
 use bitwords::joins;
 
 impl BitsMut<'_> {
-    /// [`union_with`](BitsMut::union_with), with the answer whether a position came in.
+    /// [`union_with`](BitsMut::union_with), which also returns whether a position came in.
     ///
     /// ```
     /// let (mut words, mut other) = ([9, 0, 0, 0], [3, 0, 0, 0]);
@@ -37,7 +37,7 @@ impl BitsMut<'_> {
         self.join_with_change::<Or>(other, steps)
     }
 
-    /// [`intersect_with`](BitsMut::intersect_with), with the answer whether a position went.
+    /// [`intersect_with`](BitsMut::intersect_with), which also returns whether a position went.
     ///
     /// ```
     /// let (mut words, mut other) = ([9, 1, 0, 0], [3, 0, 0, 0]);
@@ -58,7 +58,7 @@ impl BitsMut<'_> {
         self.join_with_change::<And>(other, steps)
     }
 
-    /// [`difference_with`](BitsMut::difference_with), with the answer whether a position went.
+    /// [`difference_with`](BitsMut::difference_with), which also returns whether a position went.
     ///
     /// ```
     /// let (mut words, mut other) = ([9, 1, 0, 0], [3, 0, 0, 0]);
@@ -79,7 +79,7 @@ impl BitsMut<'_> {
         self.join_with_change::<AndNot>(other, steps)
     }
 
-    /// Takes in the positions of the second set that the third lacks, and answers whether one came
+    /// Takes in the positions of the second set that the third lacks, and returns whether one came
     /// in. The second may not be longer than the first.
     ///
     /// ```
@@ -108,8 +108,8 @@ impl BitsMut<'_> {
         self.join_difference(gens, kills, steps)
     }
 
-    // Joins the second set, but for the positions of the third, to the first, and answers
-    // whether a position changed.
+    // Joins the second set, but for the positions of the third, to the first, and returns whether a
+    // position changed.
     #[inline(always)]
     pub(crate) fn join_difference(
         &mut self,
@@ -127,7 +127,7 @@ impl BitsMut<'_> {
         joins::union_with_difference(self.words, gens.words, kills.words, steps)
     }
 
-    // Joins the second set to the first, and answers whether a position changed.
+    // Joins the second set to the first, and returns whether a position changed.
     #[inline(always)]
     pub(crate) fn join_with_change<O: WordOp>(&mut self, other: Bits<'_>, steps: &mut Steps) -> bool
         requires shorter { O.TAKE ≡ true → other.length ≤ self.old.length }

@@ -1,4 +1,4 @@
-//! Stretches of clear positions, long enough for a caller.
+//! Runs of clear positions, long enough for a caller.
 
 ghost use Rattle.std.specs.Prelude.{◌≡◌, ◌≤◌, ◌+◌, ◌-◌, IsTrue, IfSome, IfNone};
 ghost use Rattle.bitlanes.specs.Words.{lane_steps};

@@ -20,7 +20,7 @@ impl<'a> Bits<'a> {
     /// stand: as many whole lanes as the length needs, and no bit past it. So words from elsewhere
     /// can be refused, where `settle` would clear what does not fit.
     ///
-    /// It looks at the word of the length and at those behind it, which are at most one lane.
+    /// It looks at the word of the length and at those after it, which are at most one lane.
     ///
     /// ```
     /// assert!(rt; Bits::over(&[8, 63, 0, 0], 70).is_some());
@@ -39,8 +39,8 @@ impl<'a> Bits<'a> {
         }
     }
 
-    /// The words that the length needs, without those behind them that make up a whole lane: those
-    /// that [`as_slice`](crate::FixedBitSet::as_slice) lends. The walks go over these.
+    /// The words that the length needs, without those after them that make up a whole lane: those
+    /// that [`as_slice`](crate::FixedBitSet::as_slice) returns. The iterators go over these.
     ///
     /// ```
     /// let mut words = [9, 2, 0, 0];
@@ -88,7 +88,7 @@ impl<'a> Bits<'a> {
     }
 
     /// Writes for each position of the list whether it is set: `false` at or past the length. There
-    /// have to be as many answers as positions. It looks at one word at most for each item.
+    /// have to be as many results as positions. It looks at one word at most for each item.
     ///
     /// ```
     /// let mut words = [9, 2, 0, 0];
@@ -177,7 +177,7 @@ impl<'a> BitsMut<'a> {
     ///
     /// So with `kept` 0 no position is set, with `kept` the length none below it is lost, and with
     /// the length of before the set has grown. There have to be as many words as a set of this
-    /// length keeps. It writes the word of `kept` and those behind it.
+    /// length keeps. It writes the word of `kept` and those after it.
     ///
     /// ```
     /// let mut words = [8, Block::MAX, 1, 0];
@@ -283,7 +283,7 @@ impl<'a> BitsMut<'a> {
         self.words[bit / BITS] ^= 1 << (bit % BITS);
     }
 
-    /// Sets the position, which has to be below the length, and answers whether it was set before.
+    /// Sets the position, which has to be below the length, and returns whether it was set before.
     ///
     /// ```
     /// let mut words = [8, 0, 0, 0];
@@ -302,8 +302,8 @@ impl<'a> BitsMut<'a> {
         was_set
     }
 
-    /// Clears the position, which has to be below the length, and answers
-    /// whether it was set before.
+    /// Clears the position, which has to be below the length, and returns whether it was set
+    /// before.
     ///
     /// ```
     /// let mut words = [9, 0, 0, 0];
@@ -378,7 +378,7 @@ impl<'a> BitsMut<'a> {
         requires { All (λ p. p < self.old.length) positions.now }
         ensures { Becomes self.old self.new (model.add_all (held self.old) positions.now) }
     {
-        // Taken apart, so that a turn need not look anew where the words lie.
+        // Taken apart, so that a turn need not look again where the words lie.
         let (words, length) = (&mut *self.words, self.length);
         for position in positions {
             let words = &mut *words;

@@ -119,9 +119,9 @@ impl BitsMut<'_> {
     /// Writes the positions of the other set from `start` up to and without `end` over those of the
     /// set from `at` on. All others stay.
     ///
-    /// The range may not begin behind its end, nor end past the other length. From `at` on it has
-    /// to end within the length. It takes exactly one step for each lane of the words that it
-    /// writes whole, the last of which may have fewer, and one for each other word that it writes.
+    /// The range may not begin after its end, nor end past the other length. From `at` on it has to
+    /// end within the length. It takes exactly one step for each lane of the words that it writes
+    /// whole, the last of which may have fewer, and one for each other word that it writes.
     ///
     /// ```
     /// let (mut words, mut other) = ([5, 34, 0, 0], [2 | 1 << 63, 2, 0, 0]);
@@ -195,7 +195,7 @@ impl Bits<'_> {
     /// Writes the positions of the range, less its start, over the words, which are then those
     /// of a set of its length.
     ///
-    /// The range may not begin behind its end, nor end past the length. There have to be as many
+    /// The range may not begin after its end, nor end past the length. There have to be as many
     /// words as a set of the range's length keeps.
     ///
     /// ```

@@ -1,7 +1,8 @@
-//! Walks over the positions of a set, and over those that it lacks.
+//! Iterators over the positions of a set, and over those that it lacks.
 //!
-//! A walk goes over the words that the length needs, and not over those behind them that make up a
-//! whole lane. It has read the first and the last of them, and those between are not yet taken.
+//! An iterator goes over the words that the length needs, and not over those after them that make
+//! up a whole lane. It has read the first and the last of them, and those between are not yet
+//! taken.
 
 ghost use Rattle.std.specs.Prelude.{◌≡◌, ◌^◌, ◌<◌, ◌++◌, IsTrue, true, map, length};
 ghost use Rattle.std.specs.Int.{bit_not, w64};
@@ -156,7 +157,7 @@ impl<'a> Bits<'a> {
         zeroes_within(self.as_slice(), 0, self.length)
     }
 
-    /// The stretches of positions that are set, as start and end, in ascending order.
+    /// The runs of positions that are set, as start and end, in ascending order.
     ///
     /// ```
     /// let mut words = [Block::MAX, 1, 0, 0];
@@ -174,8 +175,8 @@ impl<'a> Bits<'a> {
         Runs::below(self.as_slice(), true, self.length)
     }
 
-    /// The stretches of positions below the length that are not set, as start and
-    /// end, in ascending order.
+    /// The runs of positions below the length that are not set, as start and end, in ascending
+    /// order.
     ///
     /// ```
     /// let mut words = [Block::MAX, 1, 0, 0];

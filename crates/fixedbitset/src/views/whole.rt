@@ -1,8 +1,8 @@
 //! Two whole sets, of any two lengths.
 //!
 //! A change or a count takes exactly one step for each lane that both sets have, and one for each
-//! that only one of them has, where these are cleared or counted. A comparison that answers `true`
-//! takes exactly as many, and one that answers `false` exactly those up to the lane that decides.
+//! that only one of them has, where these are cleared or counted. A comparison that returns `true`
+//! takes exactly as many, and one that returns `false` exactly those up to the lane that decides.
 
 ghost use Rattle.std.specs.Prelude.{◌≡◌, ◌≢◌, ℕ, ◌<◌, ◌≤◌, ◌+◌, ◌*◌, ◌/◌, ◌==◌};
 ghost use Rattle.std.specs.Prelude.{IsTrue, IfSome, IfNone, length, max, min, true, false};

@@ -3,7 +3,7 @@
 //! Nodes are the numbers below a given one, and a row is an edge: the node that it leads from, and
 //! the node that it leads to (`specs/Edges.antt`).
 //!
-//! What [`closure`] promises: its answer has exactly the pairs of nodes that some path of one or
+//! What [`closure`] promises: its result has exactly the pairs of nodes that some path of one or
 //! more edges joins, in ascending order.
 
 ghost use Rattle.std.specs.Prelude.{◌≡◌, ◌∷◌, [], ◌↔◌, ℕ, MatchOption, Contains};
@@ -20,7 +20,7 @@ use std::alloc::{AllocError, Global};
 
 /// The pairs of nodes that a path of one or more of these edges joins.
 ///
-/// The fault is that memory was refused, or it has the first row that is no edge.
+/// The error is that an allocation failed, or it has the first row that is no edge.
 pub fn closure(alloc: Global, nodes: usize, rows: &[Row]) -> Result<Vec<(usize, usize)>, Fault>
     ensures joined { IfOk result (λ pairs. (a b : ℕ)
         → Contains pairs.items (a, b) ↔ IsConnected (HasEdge rows.now) a b) }
@@ -33,7 +33,7 @@ pub fn closure(alloc: Global, nodes: usize, rows: &[Row]) -> Result<Vec<(usize, 
     Ok(pairs_of(alloc, &table)?)
 }
 
-// The table that has exactly these edges. The fault has the first row that is none.
+// The table that has exactly these edges. The error has the first row that is none.
 fn table_of(alloc: Global, nodes: usize, rows: &[Row]) -> Result<BitRows, Fault>
     ensures edges { IfOk result
         (λ table. (a b : ℕ) → IsTrue (has table a b) ↔ HasEdge rows.now a b) }
@@ -59,7 +59,7 @@ fn wrong_edge(numbers: &[usize], nodes: usize) -> Wrong {
     }
 }
 
-// The nodes of an edge. `None` comes exactly where the numbers are none.
+// The nodes of an edge. `None` is returned exactly where the numbers are none.
 fn edge_of(numbers: &[usize], nodes: usize) -> Option<(usize, usize)>
     ensures { MatchOption result (¬ (IsEdge nodes numbers.now))
         (λ edge. IsEdge nodes numbers.now × (numbers.now ≡ edge.0 ∷ edge.1 ∷ [])) }

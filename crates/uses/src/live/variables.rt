@@ -16,12 +16,12 @@ use std::alloc::{AllocError, Global};
 /// For each statement the variables that are live before it: those for which a path from it reaches
 /// a use with no definition before.
 ///
-/// Variables are the positions below `variables`, and statements the numbers below the length
-/// of `uses`. Statement s uses the variables of `uses[s]`, and then defines those of
-/// `defines[s]`. A pair `(s, t)` in `next` says that t may come after s. `flow::is_problem`
-/// tests what is asked here.
+/// Variables are the positions below `variables`, and statements the numbers below the length of
+/// `uses`. Statement s uses the variables of `uses[s]`, and then defines those of `defines[s]`. A
+/// pair `(s, t)` in `next` says that t may come after s. `flow::is_problem` tests this
+/// precondition.
 ///
-/// `Err` comes only where memory was refused.
+/// `Err` is returned only on allocation failure.
 pub fn live_before(
     alloc: Global,
     variables: usize,
@@ -46,7 +46,7 @@ pub fn live_before(
     Ok(outs)
 }
 
-// Each pair the other way round.
+// Each pair reversed.
 fn turned(alloc: Global, pairs: &[(usize, usize)]) -> Result<Vec<(usize, usize)>, AllocError>
     ensures { IfOk result (λ turned. turned.items ≡ map (λ pair. (pair.1, pair.0)) pairs.now) }
 {

@@ -1,10 +1,10 @@
-//! The nodes that a graph walk reaches.
+//! The nodes that a graph traversal reaches.
 //!
 //! Nodes are the numbers below the length of a graph, whose row a has the nodes that an edge from
 //! node a leads to. A node is reachable if there is a path of any number of edges from the start to
 //! it (`specs/Reach.antt`).
 //!
-//! What [`reachable`] promises: its answer has exactly the nodes that are reachable. It takes each
+//! What [`reachable`] promises: its result has exactly the nodes that are reachable. It takes each
 //! of them once, and looks once at each edge that leads from one of them.
 
 ghost use Rattle.std.specs.Prelude.{◌≡◌, ◌+◌, ◌<◌, ◌≤◌, ◌↔◌, ℕ, IsTrue, IfOk, length};
@@ -15,7 +15,7 @@ ghost use Rattle.uses.specs.Reach.{size, edges_from, edge_count};
 use fixedbitset::{FixedBitSet, Steps};
 use std::alloc::{AllocError, Global};
 
-/// Whether each edge leads to a node, as [`reachable`] asks.
+/// Whether each edge leads to a node, as [`reachable`] requires.
 pub fn is_graph(graph: &[Vec<usize>]) -> bool
     ensures { IsTrue result ↔ IsGraph graph.now }
 {
@@ -32,9 +32,10 @@ pub fn are_nodes(row: &[usize], nodes: usize) -> bool
 
 /// The nodes that a path from `start` leads to, `start` among them.
 ///
-/// It asks what [`is_graph`] tests, and that `start` is a node. It ticks `turns` for each node that
-/// it takes from the stack, once for each node of the answer, and `looks` for each edge that it
-/// looks at, once for each edge from these nodes. `Err` comes only where memory was refused.
+/// Its precondition is what [`is_graph`] tests, and that `start` is a node. It ticks `turns` for
+/// each node that it takes from the stack, once for each node of the result, and `looks` for each
+/// edge that it looks at, once for each edge from these nodes. `Err` is returned only on allocation
+/// failure.
 pub fn reachable(
     alloc: Global,
     graph: &[Vec<usize>],

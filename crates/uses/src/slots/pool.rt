@@ -1,8 +1,8 @@
 //! An allocator of slots: which of so many slots are taken.
 //!
-//! What it promises: `take` takes the least free slot, and answers `None` exactly where all are
+//! What it promises: `take` takes the least free slot, and returns `None` exactly where all are
 //! taken; `give_back` makes that slot free and no other; `take_stretch` takes so many slots one
-//! behind the other from the least start where all of them are free, and answers `None` exactly
+//! after the other from the least start where all of them are free, and returns `None` exactly
 //! where there is no such start; and in every run of calls a slot that was taken twice, alone or in
 //! a stretch, was given back in between. Contracts see it as a length, how many slots there are,
 //! and the set of those that are taken (`specs/Pool.antt`).
@@ -40,7 +40,7 @@ impl Model for Slots {
 }
 
 impl Slots {
-    /// So many slots, all free. `Err` comes only where memory was refused.
+    /// So many slots, all free. `Err` is returned only on allocation failure.
     pub fn new(alloc: Global, many: usize) -> Result<Slots, AllocError>
         ensures { IfOk result (λ slots. slots ≡ model.empty many) }
     {
@@ -49,7 +49,7 @@ impl Slots {
         })
     }
 
-    /// Takes the least free slot. `None` comes exactly where all are taken.
+    /// Takes the least free slot. `None` is returned exactly where all are taken.
     #[tactic(auto, using(fixedbitset::specs::WalkFacts::zero_items))]
     pub fn take(&mut self) -> Option<usize>
         ensures slot { IsAnswer self.old result }
@@ -71,9 +71,9 @@ impl Slots {
         self.taken.remove(slot);
     }
 
-    /// Takes `count` slots one behind the other, from the least start at or past `from` where all
-    /// of them are free, and answers that start. `None` comes exactly where there is no such start,
-    /// and then nothing changes.
+    /// Takes `count` slots one after the other, from the least start at or past `from` where all of
+    /// them are free, and returns that start. `None` is returned exactly where there is no such
+    /// start, and then nothing changes.
     pub fn take_stretch(&mut self, count: usize, from: usize) -> Option<usize>
         ensures stretch { IsStretchAnswer self.old count from result }
         ensures after { IsStretchLeft self.old count result self.new }

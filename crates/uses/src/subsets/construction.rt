@@ -19,8 +19,8 @@ use std::alloc::{AllocError, Global};
 /// the sets of states that some word reaches, each of them once, and the first is the
 /// set of the start states.
 ///
-/// It asks what [`Nfa::is_valid`] tests. `None` comes only where there are more than `limit` such
-/// sets; `Err` only where memory was refused.
+/// Its precondition is what [`Nfa::is_valid`] tests. `None` is returned only where there are more
+/// than `limit` such sets; `Err` only on allocation failure.
 pub fn determinize(alloc: Global, nfa: &Nfa, limit: usize) -> Result<Option<Dfa>, AllocError>
     requires { IsNfa nfa.now }
     ensures dfa { IfMade result (λ dfa. IsDfa dfa) }

@@ -13,7 +13,7 @@ use std::alloc::{AllocError, Global};
 /// The totals up to `limit` that some part of the numbers has, as a set of one more position.
 ///
 /// A number may be any, and may come more than once. It reads and writes each word of the set at
-/// most once for each number. `Err` comes only where memory for the set was refused.
+/// most once for each number. `Err` is returned only where the allocation of the set failed.
 #[tactic(auto, using(fixedbitset::specs::BitsFacts::facts))]
 pub fn totals(alloc: Global, numbers: &[usize], limit: usize) -> Result<FixedBitSet, AllocError>
     requires { limit < 2 ^ 64 - 1 }

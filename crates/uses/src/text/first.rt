@@ -17,7 +17,7 @@ pub struct Said {
     pub name: &'static str,
 }
 
-/// The number of the first row, and the other rows. The fault is that the first row is not one
+/// The number of the first row, and the other rows. The error is that the first row is not one
 /// number up to the limit, or that there is none.
 pub fn first_number<'a>(
     rows: &'a [Row],

@@ -15,8 +15,8 @@ use std::process::ExitCode;
 
 /// The text that the reader gives to its end.
 ///
-/// The fault is that the input cannot be read, that memory was refused, or the first
-/// line that is not UTF-8.
+/// The error is that the input cannot be read, that an allocation failed, or the first line that is
+/// not UTF-8.
 pub fn read<R: Read>(alloc: Global, reader: &mut R) -> Result<String, Fault>
     ensures { IfOk result (λ text.
         IfSome (R.remaining reader.old) (λ bytes. string_bytes text ≡ bytes)) }
@@ -29,7 +29,7 @@ pub fn read<R: Read>(alloc: Global, reader: &mut R) -> Result<String, Fault>
     }
 }
 
-// These bytes as a text. The fault has the line of the first byte that belongs to no character.
+// These bytes as a text. The error has the line of the first byte that belongs to no character.
 #[tactic(auto, using(std::proofs::lemmas::Str::utf8_valid_len_le))]
 fn text_of(bytes: Vec<u8>) -> Result<String, Fault>
     ensures text { IfOk result (λ text. string_bytes text ≡ bytes.items) }
@@ -55,8 +55,8 @@ fn line_at(bytes: &[u8], place: usize) -> usize
     line_ends.count() + 1
 }
 
-/// Writes the answer at once, and ends with status 0. A fault is one sentence on standard error:
-/// nothing is written then, and the status is 1. So it is where the answer cannot be written.
+/// Writes the output at once, and ends with status 0. An error is one sentence on standard error:
+/// nothing is written then, and the status is 1. So it is where the output cannot be written.
 pub fn finish<W: Write>(
     rt: &impl Eprint,
     answer: &Result<String, Fault>,

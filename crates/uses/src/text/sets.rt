@@ -9,8 +9,8 @@ use fixedbitset::FixedBitSet;
 use std::alloc::{AllocError, Global};
 use std::fmt::Write;
 
-/// The set of this length that has these positions and no other. `None` comes exactly where some
-/// is not below the length.
+/// The set of this length that has these positions and no other. `None` is returned exactly where
+/// some is not below the length.
 #[tactic(auto, using(crate::proofs::Members::no_members))]
 pub fn set_of(
     alloc: Global,

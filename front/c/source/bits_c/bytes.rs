@@ -15,8 +15,8 @@ pub fn bits_from_bytes(set: &mut BitsMut<'_>, bytes: &[u8]) {
     set.assign_bytes(bytes);
 }
 
-/// Writes the bytes of the set, and answers whether there are as many as `bits_bytes` says;
-/// else nothing is changed.
+/// Writes the bytes of the set, and returns whether there are as many as `bits_bytes` says; else
+/// nothing is changed.
 pub fn bits_to_bytes(set: &Bits<'_>, bytes: &mut [u8]) -> bool {
     if bytes.len() == bits_bytes(set.length) {
         set.to_bytes(bytes);
@@ -27,7 +27,7 @@ pub fn bits_to_bytes(set: &Bits<'_>, bytes: &mut [u8]) -> bool {
 }
 
 /// Reverses the bits of each byte. So bytes that have the first of eight positions in the uppermost
-/// bit become those that have it in the lowest, and the other way round.
+/// bit become those that have it in the lowest, and vice versa.
 pub fn bits_reverse_each_byte(bytes: &mut [u8]) {
     for byte in bytes.iter_mut() {
         *byte = byte.reverse_bits();

@@ -6,7 +6,7 @@ use crate::bits_c::bits_words;
 use crate::bits_c::structs::Room;
 use crate::proved::fixedbitset::views::Bits;
 
-/// Makes the words those of the set's positions that are below the length of the room, and answers
+/// Makes the words those of the set's positions that are below the length of the room, and returns
 /// whether it did: where there are `bits_words` of this length. Else nothing is changed.
 pub fn bits_copy(to: &mut Room<'_>, set: &Bits<'_>) -> bool {
     if to.words.len() == bits_words(to.length) {
@@ -17,7 +17,7 @@ pub fn bits_copy(to: &mut Room<'_>, set: &Bits<'_>) -> bool {
     }
 }
 
-/// Makes the words those of the positions of either set, and answers whether it did: where the room
+/// Makes the words those of the positions of either set, and returns whether it did: where the room
 /// has the greater of their lengths, and `bits_words` of it. Else nothing is changed.
 pub fn bits_union_of(to: &mut Room<'_>, set: &Bits<'_>, other: &Bits<'_>) -> bool {
     if to.words.len() == bits_words(to.length) && to.length == set.length.max(other.length) {
@@ -28,7 +28,7 @@ pub fn bits_union_of(to: &mut Room<'_>, set: &Bits<'_>, other: &Bits<'_>) -> boo
     }
 }
 
-/// Makes the words those of the positions of exactly one set, and answers whether it did: where the
+/// Makes the words those of the positions of exactly one set, and returns whether it did: where the
 /// room has the greater of their lengths, and `bits_words` of it. Else nothing is changed.
 pub fn bits_symmetric_difference_of(
     to: &mut Room<'_>,
@@ -43,7 +43,7 @@ pub fn bits_symmetric_difference_of(
     }
 }
 
-/// Makes the words those of the positions of both sets, and answers whether it did: where the room
+/// Makes the words those of the positions of both sets, and returns whether it did: where the room
 /// has the smaller of their lengths, and `bits_words` of it. Else nothing is changed.
 pub fn bits_intersection_of(to: &mut Room<'_>, set: &Bits<'_>, other: &Bits<'_>) -> bool {
     if to.words.len() == bits_words(to.length) && to.length == set.length.min(other.length) {
@@ -54,9 +54,9 @@ pub fn bits_intersection_of(to: &mut Room<'_>, set: &Bits<'_>, other: &Bits<'_>)
     }
 }
 
-/// Makes the words those of the positions of the first set that the second lacks, and
-/// answers whether it did: where the room has the length of the first, and `bits_words` of
-/// it. Else nothing is changed.
+/// Makes the words those of the positions of the first set that the second lacks, and returns
+/// whether it did: where the room has the length of the first, and `bits_words` of it. Else nothing
+/// is changed.
 pub fn bits_difference_of(to: &mut Room<'_>, set: &Bits<'_>, other: &Bits<'_>) -> bool {
     if to.words.len() == bits_words(to.length) && to.length == set.length {
         set.difference_to(*other, to.words);

@@ -1,7 +1,7 @@
 // Made by front/erase from crates/bits_c/src/handfuls.rt: change that, and not this.
-//! Positions of a walk by the handful: a call gives as many as there is room for, or as are left.
+//! Positions of an iterator in batches: a call gives as many as there is room for, or as are left.
 //!
-//! Such a call leaves the walk where as many calls for one position leave it, and both may be
+//! Such a call leaves the iterator where as many calls for one position leave it, and both may be
 //! mixed. Places that it has no position for stay as they are.
 
 use crate::bits_c::structs::{Ones, Pair, Sieve, Zeroes};
@@ -159,7 +159,7 @@ impl<G: Worded> Worded for Reversed<G> {
     }
 }
 
-// Writes the first positions left, and answers how many.
+// Writes the first positions left, and returns how many.
 #[inline(always)]
 fn fill<G: Giver>(giver: &mut G, positions: &mut [usize]) -> usize {
     for (index, place) in positions.iter_mut().enumerate() {
@@ -171,7 +171,7 @@ fn fill<G: Giver>(giver: &mut G, positions: &mut [usize]) -> usize {
     positions.len()
 }
 
-// The same as `fill`, where words with many positions are given as a whole. Behind them a word's
+// The same as `fill`, where words with many positions are given as a whole. After them a word's
 // worth of positions is given one by one before words are looked at again.
 #[inline(always)]
 fn fill_by_words<G: Worded>(giver: &mut G, positions: &mut [usize]) -> usize {
@@ -187,7 +187,7 @@ fn fill_by_words<G: Worded>(giver: &mut G, positions: &mut [usize]) -> usize {
     count
 }
 
-// Writes the last positions left, the last one first, and answers how many.
+// Writes the last positions left, the last one first, and returns how many.
 #[inline(always)]
 fn fill_back<G: Giver>(giver: G, positions: &mut [usize]) -> (usize, G) {
     let mut reversed = Reversed { giver };
@@ -235,7 +235,7 @@ fn narrow(places: &mut [u32], positions: &[usize]) {
     }
 }
 
-// The same as `fill`, where the positions of a second giver stand behind those of the first.
+// The same as `fill`, where the positions of a second giver stand after those of the first.
 #[inline(always)]
 fn fill_both<A: Giver, B: Giver>(first: &mut A, second: &mut B, positions: &mut [usize]) -> usize {
     let count = fill(first, positions);
@@ -257,7 +257,7 @@ fn fill_both_back<A: Giver, B: Giver>(
 }
 
 /// Writes the first positions left to `positions`, from its front on and in ascending order: as
-/// many as there is room for, or as are left. It answers how many.
+/// many as there is room for, or as are left. It returns how many.
 pub fn bits_ones_take(walk: &mut Ones<'_>, positions: &mut [usize]) -> usize {
     let mut ones = Ones::of(walk.cursor());
     let count = fill_by_words(&mut ones, positions);
@@ -266,7 +266,7 @@ pub fn bits_ones_take(walk: &mut Ones<'_>, positions: &mut [usize]) -> usize {
 }
 
 /// Writes the first positions left to `positions`, from its front on and in ascending order: as
-/// many as there is room for, or as are left. It answers how many. A place takes the low 32 bits of
+/// many as there is room for, or as are left. It returns how many. A place takes the low 32 bits of
 /// its position, which are the position itself in a set of at most 2^32 bits.
 pub fn bits_ones_take_u32(walk: &mut Ones<'_>, positions: &mut [u32]) -> usize {
     let mut ones = Ones::of(walk.cursor());
@@ -280,7 +280,7 @@ pub fn bits_ones_take_u32(walk: &mut Ones<'_>, positions: &mut [u32]) -> usize {
 }
 
 /// Writes the last positions left to `positions`, from its front on and in descending order: as
-/// many as there is room for, or as are left. It answers how many.
+/// many as there is room for, or as are left. It returns how many.
 pub fn bits_ones_take_back(walk: &mut Ones<'_>, positions: &mut [usize]) -> usize {
     let (count, ones) = fill_back_by_words(Ones::of(walk.cursor()), positions);
     *walk = ones;
@@ -288,7 +288,7 @@ pub fn bits_ones_take_back(walk: &mut Ones<'_>, positions: &mut [usize]) -> usiz
 }
 
 /// Writes the first positions left to `positions`, from its front on and in ascending order: as
-/// many as there is room for, or as are left. It answers how many.
+/// many as there is room for, or as are left. It returns how many.
 pub fn bits_zeroes_take(walk: &mut Zeroes<'_>, positions: &mut [usize]) -> usize {
     let mut zeroes = Zeroes::of(walk.cursor());
     let count = fill_by_words(&mut zeroes, positions);
@@ -297,7 +297,7 @@ pub fn bits_zeroes_take(walk: &mut Zeroes<'_>, positions: &mut [usize]) -> usize
 }
 
 /// Writes the last positions left to `positions`, from its front on and in descending order: as
-/// many as there is room for, or as are left. It answers how many.
+/// many as there is room for, or as are left. It returns how many.
 pub fn bits_zeroes_take_back(walk: &mut Zeroes<'_>, positions: &mut [usize]) -> usize {
     let (count, zeroes) = fill_back_by_words(Zeroes::of(walk.cursor()), positions);
     *walk = zeroes;
@@ -305,7 +305,7 @@ pub fn bits_zeroes_take_back(walk: &mut Zeroes<'_>, positions: &mut [usize]) -> 
 }
 
 /// Writes the first positions left to `positions`, from its front on and in ascending order: as
-/// many as there is room for, or as are left. It answers how many.
+/// many as there is room for, or as are left. It returns how many.
 pub fn bits_intersection_take(walk: &mut Sieve<'_>, positions: &mut [usize]) -> usize {
     let mut shared = walk.cursor::<And>();
     let count = fill(&mut shared, positions);
@@ -314,7 +314,7 @@ pub fn bits_intersection_take(walk: &mut Sieve<'_>, positions: &mut [usize]) -> 
 }
 
 /// Writes the last positions left to `positions`, from its front on and in descending order: as
-/// many as there is room for, or as are left. It answers how many.
+/// many as there is room for, or as are left. It returns how many.
 pub fn bits_intersection_take_back(
     walk: &mut Sieve<'_>,
     positions: &mut [usize],
@@ -325,7 +325,7 @@ pub fn bits_intersection_take_back(
 }
 
 /// Writes the first positions left to `positions`, from its front on and in ascending order: as
-/// many as there is room for, or as are left. It answers how many.
+/// many as there is room for, or as are left. It returns how many.
 pub fn bits_difference_take(walk: &mut Sieve<'_>, positions: &mut [usize]) -> usize {
     let mut lacked = walk.cursor::<AndNot>();
     let count = fill(&mut lacked, positions);
@@ -334,15 +334,15 @@ pub fn bits_difference_take(walk: &mut Sieve<'_>, positions: &mut [usize]) -> us
 }
 
 /// Writes the last positions left to `positions`, from its front on and in descending order: as
-/// many as there is room for, or as are left. It answers how many.
+/// many as there is room for, or as are left. It returns how many.
 pub fn bits_difference_take_back(walk: &mut Sieve<'_>, positions: &mut [usize]) -> usize {
     let (count, lacked) = fill_back(walk.cursor::<AndNot>(), positions);
     *walk = Sieve::of(lacked);
     count
 }
 
-/// Writes the first positions left to `positions`, from its front on and in the order of the walk:
-/// as many as there is room for, or as are left. It answers how many.
+/// Writes the first positions left to `positions`, from its front on and in the order of the
+/// iterator: as many as there is room for, or as are left. It returns how many.
 pub fn bits_union_take(walk: &mut Pair<'_>, positions: &mut [usize]) -> usize {
     let mut first = walk.first.walk.cursor();
     let mut second = walk.second.cursor::<AndNot>();
@@ -353,7 +353,7 @@ pub fn bits_union_take(walk: &mut Pair<'_>, positions: &mut [usize]) -> usize {
 }
 
 /// Writes the last positions left to `positions`, from its front on and against the order of the
-/// walk: as many as there is room for, or as are left. It answers how many.
+/// iterator: as many as there is room for, or as are left. It returns how many.
 pub fn bits_union_take_back(walk: &mut Pair<'_>, positions: &mut [usize]) -> usize {
     let first = walk.first.walk.cursor();
     let second = walk.second.cursor::<AndNot>();
@@ -363,8 +363,8 @@ pub fn bits_union_take_back(walk: &mut Pair<'_>, positions: &mut [usize]) -> usi
     count
 }
 
-/// Writes the first positions left to `positions`, from its front on and in the order of the walk:
-/// as many as there is room for, or as are left. It answers how many.
+/// Writes the first positions left to `positions`, from its front on and in the order of the
+/// iterator: as many as there is room for, or as are left. It returns how many.
 pub fn bits_symmetric_difference_take(
     walk: &mut Pair<'_>,
     positions: &mut [usize],
@@ -378,7 +378,7 @@ pub fn bits_symmetric_difference_take(
 }
 
 /// Writes the last positions left to `positions`, from its front on and against the order of the
-/// walk: as many as there is room for, or as are left. It answers how many.
+/// iterator: as many as there is room for, or as are left. It returns how many.
 pub fn bits_symmetric_difference_take_back(
     walk: &mut Pair<'_>,
     positions: &mut [usize],

@@ -3,8 +3,8 @@
 
 use crate::proved::fixedbitset::views::{Bits, BitsMut};
 
-/// Sets each position of the list, and answers whether all of them are below the length;
-/// else nothing is changed.
+/// Sets each position of the list, and returns whether all of them are below the length; else
+/// nothing is changed.
 pub fn bits_insert_all(set: &mut BitsMut<'_>, positions: &[usize]) -> bool {
     if all_below(positions, set.length) {
         set.insert_all(positions);
@@ -14,8 +14,8 @@ pub fn bits_insert_all(set: &mut BitsMut<'_>, positions: &[usize]) -> bool {
     }
 }
 
-/// Clears each position of the list, and answers whether all of them are below the length;
-/// else nothing is changed.
+/// Clears each position of the list, and returns whether all of them are below the length; else
+/// nothing is changed.
 pub fn bits_remove_all(set: &mut BitsMut<'_>, positions: &[usize]) -> bool {
     if all_below(positions, set.length) {
         set.remove_all(positions);
@@ -26,7 +26,7 @@ pub fn bits_remove_all(set: &mut BitsMut<'_>, positions: &[usize]) -> bool {
 }
 
 /// Writes for each position of the list whether it is set: `false` at or past the length. It
-/// answers whether there are as many places as positions; else nothing is written.
+/// returns whether there are as many places as positions; else nothing is written.
 pub fn bits_contains_each(
     set: &Bits<'_>,
     positions: &[usize],

@@ -1,12 +1,12 @@
 // Made by front/erase from crates/bits_c/src/lib.rt: change that, and not this.
-//! A set of bits under C names: the words and the length stand in a struct of the caller's.
+//! A bit set (bitmap) under C names: the words and the length stand in a struct of the caller's.
 //!
 //! A set is the struct `bits` of `front/c/bits.h`: here `fixedbitset::Bits` where it is read, and
 //! `fixedbitset::BitsMut` where it is changed. The caller owns its words, and keeps them as the
 //! ghost field of both says: as many whole lanes of four as the length needs, and no bit past the
-//! length. Each call leaves them so, and `bits_settle` makes any words so. No call asks anything
-//! else: it tests the numbers that it is given, and its answer says what came of it. No call takes
-//! memory or waits, and none but the begin of a walk keeps a pointer.
+//! length. Each call leaves them so, and `bits_settle` makes any words so. There is no other
+//! precondition: a call tests the numbers that it is given, and its result says what came of it. No
+//! call allocates or waits, and only the initialisation of an iterator keeps a pointer.
 //!
 //! Each call is that of the two types with its name, and looks at as many words. A clause sees a
 //! set as its value, a length and the positions below it.
@@ -32,7 +32,7 @@ use crate::proved::bitlanes::word::{BITS, take_lowest_bit};
 use crate::proved::bitlanes::{Block, Steps};
 use crate::proved::fixedbitset::views::{Bits, BitsMut};
 
-/// What a call answers for 'no position'. No set has this position.
+/// What a call returns for 'no position'. No set has this position.
 pub const NONE: usize = usize::MAX;
 
 /// How many words a set of so many positions has: whole lanes of four.
@@ -46,7 +46,7 @@ pub fn bits_blocks(length: usize) -> usize {
 }
 
 /// Makes any words those of a set of `length` positions: of the positions that they have those
-/// below `kept` stay. It answers whether it did: where there are `bits_words(length)` words and
+/// below `kept` stay. It returns whether it did: where there are `bits_words(length)` words and
 /// `kept` is not past the length.
 pub fn bits_settle(words: &mut [Block], length: usize, kept: usize) -> bool {
     if words.len() == bits_words(length) && kept <= length {
@@ -68,7 +68,7 @@ pub fn bits_contains(set: &Bits<'_>, bit: usize) -> bool {
     set.contains(bit)
 }
 
-/// Sets the position, and answers whether it is below the length; else nothing is changed.
+/// Sets the position, and returns whether it is below the length; else nothing is changed.
 pub fn bits_insert(set: &mut BitsMut<'_>, bit: usize) -> bool {
     if bit < set.length {
         set.insert(bit);
@@ -78,7 +78,7 @@ pub fn bits_insert(set: &mut BitsMut<'_>, bit: usize) -> bool {
     }
 }
 
-/// Clears the position, and answers whether it is below the length; else nothing is changed.
+/// Clears the position, and returns whether it is below the length; else nothing is changed.
 pub fn bits_remove(set: &mut BitsMut<'_>, bit: usize) -> bool {
     if bit < set.length {
         set.remove(bit);
@@ -88,7 +88,7 @@ pub fn bits_remove(set: &mut BitsMut<'_>, bit: usize) -> bool {
     }
 }
 
-/// Sets the position if it is clear and clears it if it is set, and answers whether it is below the
+/// Sets the position if it is clear and clears it if it is set, and returns whether it is below the
 /// length; else nothing is changed.
 pub fn bits_toggle(set: &mut BitsMut<'_>, bit: usize) -> bool {
     if bit < set.length {
@@ -99,7 +99,7 @@ pub fn bits_toggle(set: &mut BitsMut<'_>, bit: usize) -> bool {
     }
 }
 
-/// Sets the position, or clears it where `enabled` is false, and answers whether it is below the
+/// Sets the position, or clears it where `enabled` is false, and returns whether it is below the
 /// length; else nothing is changed.
 pub fn bits_set(set: &mut BitsMut<'_>, bit: usize, enabled: bool) -> bool {
     if bit < set.length {
@@ -110,8 +110,8 @@ pub fn bits_set(set: &mut BitsMut<'_>, bit: usize, enabled: bool) -> bool {
     }
 }
 
-/// Sets the position, and answers whether it was set before. At or past the length nothing is
-/// changed, and the answer is `false`.
+/// Sets the position, and returns whether it was set before. At or past the length nothing is
+/// changed, and it returns `false`.
 pub fn bits_put(set: &mut BitsMut<'_>, bit: usize) -> bool {
     if bit < set.length {
         set.put(bit)
@@ -120,8 +120,8 @@ pub fn bits_put(set: &mut BitsMut<'_>, bit: usize) -> bool {
     }
 }
 
-/// Clears the position, and answers whether it was set before. At or past the length nothing is
-/// changed, and the answer is `false`.
+/// Clears the position, and returns whether it was set before. At or past the length nothing is
+/// changed, and it returns `false`.
 pub fn bits_take(set: &mut BitsMut<'_>, bit: usize) -> bool {
     if bit < set.length {
         set.take(bit)
@@ -130,7 +130,7 @@ pub fn bits_take(set: &mut BitsMut<'_>, bit: usize) -> bool {
     }
 }
 
-/// Makes word `index` the given one, without its bits past the length. It answers whether the
+/// Makes word `index` the given one, without its bits past the length. It returns whether the
 /// length needs a word of this index; else nothing is changed.
 pub fn bits_set_block(set: &mut BitsMut<'_>, index: usize, block: Block) -> bool {
     if index < bits_blocks(set.length) {
@@ -166,7 +166,7 @@ pub fn bits_maximum(set: &Bits<'_>) -> usize {
     set.maximum(&mut Steps::new()).unwrap_or(NONE)
 }
 
-/// Clears the lowest bit of the word that is set, and answers its index. Of 0 the answer is `NONE`.
+/// Clears the lowest bit of the word that is set, and returns its index. Of 0 the result is `NONE`.
 pub fn bits_take_lowest_bit(word: &mut Block) -> usize {
     if *word == 0 {
         NONE

@@ -1,7 +1,7 @@
 // Made by front/erase from crates/bits_c/src/pairs.rt: change that, and not this.
-//! Walks over the positions of two sets in turn: from the front those of the first before
-//! those of the second, and from the back those of the second before those of the first. Their
-//! calls are those of `walks`.
+//! Iterators over the positions of two sets in turn: from the front those of the first before those
+//! of the second, and from the back those of the second before those of the first. Their calls are
+//! those of `walks`.
 
 use crate::bits_c::structs::{Ones, Pair, Sieve};
 use crate::bits_c::walks::hand_out;
@@ -10,8 +10,8 @@ use crate::proved::bitlanes::word::BITS;
 use crate::proved::fixedbitset::views::Bits;
 
 impl<'a> Pair<'a> {
-    // The first position of the second walk. The other bits of its word become the first walk: so
-    // the next calls find them without a look at a walk that has none left.
+    // The first position of the second iterator. The other bits of its word become the first
+    // iterator: so the next calls find them without a look at an iterator that has none left.
     #[inline(always)]
     fn take_first_of_second(&mut self) -> Option<usize> {
         let item = self.second.take_first::<AndNot>();
@@ -27,7 +27,7 @@ impl<'a> Pair<'a> {
         item
     }
 
-    // The last word of the first walk becomes the second one, which has none left: so the next
+    // The last word of the first iterator becomes the second one, which has none left: so the next
     // calls from the back find its bits without a look at that.
     #[inline(always)]
     fn bring_last_word(&mut self) {
@@ -46,8 +46,8 @@ impl<'a> Pair<'a> {
     }
 }
 
-/// Begins the walk over the positions of the first set, and then over those of the second that the
-/// first lacks, each part in ascending order.
+/// Initialises the iterator over the positions of the first set, and then over those of the second
+/// that the first lacks, each part in ascending order.
 pub fn bits_union<'a>(walk: &mut Pair<'a>, set: &Bits<'a>, other: &Bits<'a>) {
     *walk = Pair {
         first: Sieve {
@@ -80,8 +80,8 @@ pub fn bits_union_next_back(walk: &mut Pair<'_>, position: &mut usize) -> bool {
     hand_out(item, position)
 }
 
-/// Begins the walk over the positions of the first set that the second lacks, and then over those
-/// of the second that the first lacks, each part in ascending order.
+/// Initialises the iterator over the positions of the first set that the second lacks, and then
+/// over those of the second that the first lacks, each part in ascending order.
 pub fn bits_symmetric_difference<'a>(
     walk: &mut Pair<'a>,
     set: &Bits<'a>,

@@ -10,7 +10,7 @@ pub fn bits_range_is_valid(set: &Bits<'_>, start: usize, end: usize) -> bool {
     set.range_is_valid(start, end)
 }
 
-/// Sets the positions of the range, and answers whether it is valid; else nothing is changed.
+/// Sets the positions of the range, and returns whether it is valid; else nothing is changed.
 pub fn bits_insert_range(set: &mut BitsMut<'_>, start: usize, end: usize) -> bool {
     if set.as_bits().range_is_valid(start, end) {
         set.insert_range(start, end, &mut Steps::new());
@@ -20,7 +20,7 @@ pub fn bits_insert_range(set: &mut BitsMut<'_>, start: usize, end: usize) -> boo
     }
 }
 
-/// Clears the positions of the range, and answers whether it is valid; else nothing is changed.
+/// Clears the positions of the range, and returns whether it is valid; else nothing is changed.
 pub fn bits_remove_range(set: &mut BitsMut<'_>, start: usize, end: usize) -> bool {
     if set.as_bits().range_is_valid(start, end) {
         set.remove_range(start, end, &mut Steps::new());
@@ -30,7 +30,7 @@ pub fn bits_remove_range(set: &mut BitsMut<'_>, start: usize, end: usize) -> boo
     }
 }
 
-/// Sets each position of the range that is clear and clears each that is set, and answers whether
+/// Sets each position of the range that is clear and clears each that is set, and returns whether
 /// it is valid; else nothing is changed.
 pub fn bits_toggle_range(set: &mut BitsMut<'_>, start: usize, end: usize) -> bool {
     if set.as_bits().range_is_valid(start, end) {

@@ -1,6 +1,6 @@
 // Made by front/erase from crates/bits_c/src/ranks.rt: change that, and not this.
 //! How many positions stand below a given one, and which is the k-th: by a directory of the set's
-//! words, which the caller keeps beside them.
+//! words, which the caller keeps next to them.
 //!
 //! One call writes the directory, and the struct that the others take. While that is used, neither
 //! the words nor the directory may change.
@@ -17,7 +17,7 @@ pub fn bits_ranks_entries(length: usize) -> usize {
     directory::entries(bits_words(length))
 }
 
-// Writes the directory of the set's words where it has as many entries as they need, and answers
+// Writes the directory of the set's words where it has as many entries as they need, and returns
 // whether it has. It stands apart since its `&mut` ends with it: of one that goes into the ranks no
 // clause says how a call leaves it.
 #[inline(always)]
@@ -31,7 +31,7 @@ fn write_directory(set: &Bits<'_>, directory: &mut [usize]) -> bool {
 }
 
 /// Writes the directory of the set's words, and the whole struct `ranks` from any before. It
-/// answers whether the directory has as many entries as `bits_ranks_entries` says; else the ranks
+/// returns whether the directory has as many entries as `bits_ranks_entries` says; else the ranks
 /// are those of the set of length 0, and the directory stays.
 pub fn bits_ranks_fill<'a>(
     ranks: &mut Ranks<'a>,

@@ -1,10 +1,10 @@
 // Made by front/erase from crates/bits_c/src/rows.rt: change that, and not this.
 //! Tables of bits: rows of one length, in words of the caller's.
 //!
-//! A table is the struct `bits_rows` of `front/c/bits.h`: here `bitrows::Rows` where it is
-//! read, and `bitrows::RowsMut` where it is changed. Each row keeps as many words as a set
-//! of `columns` positions, one row behind the other. `bits_rows_clear` makes any words those
-//! of a table with no bit.
+//! A table is the struct `bits_rows` of `front/c/bits.h`: here `bitrows::Rows` where it is read,
+//! and `bitrows::RowsMut` where it is changed. Each row keeps as many words as a set of `columns`
+//! positions, one row after the other. `bits_rows_clear` makes any words those of a table with no
+//! bit.
 
 use crate::bits_c::structs::Ones;
 use crate::bits_c::{NONE, bits_words};
@@ -18,7 +18,7 @@ pub fn bits_rows_words(rows: usize, columns: usize) -> usize {
     rows.checked_mul(bits_words(columns)).unwrap_or(NONE)
 }
 
-/// Makes any words those of a table of so many rows and columns, with no bit. It answers whether
+/// Makes any words those of a table of so many rows and columns, with no bit. It returns whether
 /// there are as many as `bits_rows_words` says; else nothing is changed.
 pub fn bits_rows_clear(words: &mut [Block], rows: usize, columns: usize) -> bool {
     if words.len() == bits_rows_words(rows, columns) {
@@ -38,7 +38,7 @@ pub fn bits_rows_get(rows: &Rows<'_>, row: usize, column: usize) -> bool {
     }
 }
 
-/// Sets the bit of the row at the column, or clears it where `enabled` is false, and answers
+/// Sets the bit of the row at the column, or clears it where `enabled` is false, and returns
 /// whether the table has both; else nothing is changed.
 pub fn bits_rows_set(
     rows: &mut RowsMut<'_>,
@@ -54,9 +54,9 @@ pub fn bits_rows_set(
     }
 }
 
-/// Row `into` takes in the bits of row `from`, and the answer is whether the table has both;
-/// else nothing is changed. It writes to `changed` whether a bit came in; where the table
-/// has not both, nothing.
+/// Row `into` takes in the bits of row `from`, and the result is whether the table has both; else
+/// nothing is changed. It writes to `changed` whether a bit came in; where the table has not both,
+/// nothing.
 pub fn bits_rows_union(
     rows: &mut RowsMut<'_>,
     from: usize,
@@ -71,8 +71,8 @@ pub fn bits_rows_union(
     }
 }
 
-/// Begins the walk over the columns at which the row has a bit, in ascending order, and answers
-/// whether the table has the row; else the walk gives none.
+/// Initialises the iterator over the columns at which the row has a bit, in ascending order, and
+/// returns whether the table has the row; else the iterator gives none.
 pub fn bits_rows_ones<'a>(walk: &mut Ones<'a>, rows: &Rows<'a>, row: usize) -> bool {
     if row < rows.rows {
         *walk = Ones::of(rows.row(row).ones());

@@ -28,7 +28,7 @@ pub fn bits_union_with_own_shift(set: &mut BitsMut<'_>, by: usize) {
     set.union_with_own_shift(by, &mut Steps::new());
 }
 
-/// Makes `part` the positions of the range, less its start, and answers whether it did: where the
+/// Makes `part` the positions of the range, less its start, and returns whether it did: where the
 /// range is one of the set and `part` has its length. Else nothing is changed.
 pub fn bits_slice(
     part: &mut BitsMut<'_>,
@@ -45,7 +45,7 @@ pub fn bits_slice(
 }
 
 /// Writes the positions of the range of the second set over those of the first from `at` on, and
-/// answers whether it did: where the range is one of the second set, and from `at` on ends within
+/// returns whether it did: where the range is one of the second set, and from `at` on ends within
 /// the first. Else nothing is changed.
 pub fn bits_copy_range(
     set: &mut BitsMut<'_>,
@@ -65,7 +65,7 @@ pub fn bits_copy_range(
 }
 
 /// Writes the `width` positions from `start` on as a number: its bit `i` is position `start + i`.
-/// It answers whether it did: where the width is 64 at most, and the positions are below the
+/// It returns whether it did: where the width is 64 at most, and the positions are below the
 /// length. Else nothing is written.
 pub fn bits_load(set: &Bits<'_>, start: usize, width: usize, number: &mut Block) -> bool {
     if is_part(set.length, start, width) {
@@ -77,8 +77,8 @@ pub fn bits_load(set: &Bits<'_>, start: usize, width: usize, number: &mut Block)
 }
 
 /// Makes the `width` positions from `start` on the lowest bits of the number: position `start + i`
-/// becomes its bit `i`. It answers whether it did: where the width is 64 at most, and the
-/// positions are below the length. Else nothing is changed.
+/// becomes its bit `i`. It returns whether it did: where the width is 64 at most, and the positions
+/// are below the length. Else nothing is changed.
 pub fn bits_store(
     set: &mut BitsMut<'_>,
     start: usize,

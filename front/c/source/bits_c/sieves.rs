@@ -1,10 +1,11 @@
 // Made by front/erase from crates/bits_c/src/sieves.rt: change that, and not this.
-//! Walks over the positions of a set that another one has, or lacks. Their
-//! calls are those of `walks`.
+//! Iterators over the positions of a set that another one has, or lacks. Their calls are those of
+//! `walks`.
 //!
-//! The positions of a word are looked up in the other set at once, when the walk takes the word. So
-//! a call costs by the words that it takes and the positions that it gives. The intersection goes
-//! over the words that both lengths need, and the difference over those that the first one needs.
+//! The positions of a word are looked up in the other set at once, when the iterator takes the
+//! word. So a call costs by the words that it takes and the positions that it gives. The
+//! intersection goes over the words that both lengths need, and the difference over those that the
+//! first one needs.
 
 use crate::bits_c::structs::{Ones, Sieve};
 use crate::bits_c::walks::hand_out;
@@ -13,7 +14,8 @@ use crate::proved::bitwords::cursors::{Beside, Cursor, Held};
 use crate::proved::fixedbitset::views::Bits;
 
 impl<'a> Sieve<'a> {
-    // The walk over the positions of the first set that the second lacks, before its first call.
+    // The iterator over the positions of the first set that the second lacks, before its first
+    // call.
     #[inline(always)]
     pub(crate) fn lacking(set: &Bits<'a>, other: &Bits<'a>) -> Sieve<'a> {
         let cursor = set.difference(*other);
@@ -65,7 +67,7 @@ impl<'a> Sieve<'a> {
     }
 }
 
-/// Begins the walk over the positions that both sets have, in ascending order.
+/// Initialises the iterator over the positions that both sets have, in ascending order.
 pub fn bits_intersection<'a>(walk: &mut Sieve<'a>, set: &Bits<'a>, other: &Bits<'a>) {
     *walk = Sieve::of(set.intersection(*other));
 }
@@ -80,7 +82,8 @@ pub fn bits_intersection_next_back(walk: &mut Sieve<'_>, position: &mut usize) -
     hand_out(walk.take_last::<And>(), position)
 }
 
-/// Begins the walk over the positions of the first set that the second lacks, in ascending order.
+/// Initialises the iterator over the positions of the first set that the second lacks, in ascending
+/// order.
 pub fn bits_difference<'a>(walk: &mut Sieve<'a>, set: &Bits<'a>, other: &Bits<'a>) {
     *walk = Sieve::lacking(set, other);
 }

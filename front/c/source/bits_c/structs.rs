@@ -12,8 +12,8 @@ pub struct Room<'a> {
     pub length: usize,
 }
 
-/// A walk over the positions that are set: the first and the last word of those left, without the
-/// bits that were given, the positions of their bits 0, and the words between them.
+/// An iterator over the positions that are set: the first and the last word of those left, without
+/// the bits that were given, the positions of their bits 0, and the words between them.
 #[derive(Clone)]
 pub struct Ones<'a> {
     pub(crate) front: Block,
@@ -23,7 +23,7 @@ pub struct Ones<'a> {
     pub(crate) words: &'a [Block],
 }
 
-/// A walk over the positions that are not set. Its first and its last word are inverted, and
+/// An iterator over the positions that are not set. Its first and its last word are inverted, and
 /// those between are not.
 #[derive(Clone)]
 pub struct Zeroes<'a> {
@@ -34,8 +34,8 @@ pub struct Zeroes<'a> {
     pub(crate) words: &'a [Block],
 }
 
-/// A walk over stretches: whether they are of positions that are set, how many positions there are,
-/// where the stretches left are, and the words.
+/// An iterator over runs: whether they are of positions that are set, how many positions there are,
+/// where the runs left are, and the words.
 #[derive(Clone)]
 pub struct Runs<'a> {
     pub(crate) are_set: bool,
@@ -45,7 +45,7 @@ pub struct Runs<'a> {
     pub(crate) words: &'a [Block],
 }
 
-/// A walk over the positions of one set that another one has, or over those that it lacks. Its
+/// An iterator over the positions of one set that another one has, or over those that it lacks. Its
 /// first and its last word have no other bits. Each of the words between is joined with the word at
 /// its place of `other` when it is taken.
 #[derive(Clone)]
@@ -54,16 +54,16 @@ pub struct Sieve<'a> {
     pub other: &'a [Block],
 }
 
-/// Two such walks, one behind the other. In a union the first takes the words
-/// of its set as they are.
+/// Two such iterators, one after the other. In a union the first takes the words of its set as they
+/// are.
 #[derive(Clone)]
 pub struct Pair<'a> {
     pub first: Sieve<'a>,
     pub second: Sieve<'a>,
 }
 
-/// A set that is lent with a directory of its words: the words, the length in
-/// bits, and the directory.
+/// A set that is borrowed with a directory of its words: the words, the length in bits, and the
+/// directory.
 #[derive(Clone)]
 pub struct Ranks<'a> {
     pub(crate) words: &'a [Block],

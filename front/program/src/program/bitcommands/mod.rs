@@ -1,3 +1,3 @@
 // Made by front/erase from crates/bitcommands/src/lib.rt: change that, and not this.
-//! Commands over numbered sets of bits: what each does and answers.
+//! Commands over numbered bit sets: what each does and returns.
 pub mod commands;

@@ -19,7 +19,7 @@ pub enum JsonFault {
     NoLength,
     /// The value is an object without the key `data`.
     NoData,
-    /// The value is an object with a key beside `length` and `data`.
+    /// The value is an object with a key besides `length` and `data`.
     Key,
     /// The length is not a whole number from 0 to 2 ^ 64 - 1.
     Length,
@@ -28,7 +28,7 @@ pub enum JsonFault {
     /// The item of the data at this index, from 0, is the first that is not a
     /// whole number from 0 to 255.
     Item(usize),
-    /// The value is in the form, and memory was refused.
+    /// The value is in the form, and an allocation failed.
     Memory,
 }
 

@@ -12,8 +12,8 @@ use crate::shim::alloc::{AllocError, Global};
 /// the lowest byte first. A byte is 0 where there is no item, and where the item is no
 /// whole number from 0 to 255.
 ///
-/// It looks at no more than `8 * count` items, each once, and takes the memory of the words at
-/// once. `Err` comes only where that was refused.
+/// It looks at no more than `8 * count` items, each once, and allocates the words at once. `Err` is
+/// returned only on allocation failure.
 ///
 /// ```text
 /// let value = Value::from_str(alloc, "[1,2]")?;
@@ -36,8 +36,8 @@ pub fn words_of_items(
 /// The object whose `length` is `bits` and whose `data` is the list of the bytes of the words:
 /// eight for each word, the lowest byte first.
 ///
-/// It makes one item for each byte, and takes the memory of the items at once. `Err` comes only
-/// where memory for them or for the object was refused.
+/// It makes one item for each byte, and allocates the items at once. `Err` is returned only where
+/// the allocation of them or of the object failed.
 ///
 /// ```text
 /// let text = values::value_of_words(alloc, 10, &[513])?.to_string(alloc)?;

@@ -5,6 +5,6 @@
 pub enum LineFault {
     /// F8: the line stands for no command.
     NotACommand,
-    /// Memory for the command was refused.
+    /// The allocation of the command failed.
     Memory,
 }

@@ -19,10 +19,10 @@ use crate::shim::alloc::Global;
 /// between two of them and none at the ends (`docs/COMMANDS.md`). The JSON of `from_value` is all
 /// the rest of the line, with whatever spaces it has. The line is given without its line end.
 ///
-/// `NotACommand` comes only where the line stands for none, and `Memory` only where the first word
-/// is that of a command with a list or with JSON: `with_capacity_and_blocks`, `from_iter`,
-/// `from_value`, `extend`, or a walk, which is `ones`, `into_ones`, `zeroes`, `union`,
-/// `intersection`, `difference` or `symmetric_difference`. Any other line takes no memory.
+/// `NotACommand` is returned only where the line stands for none, and `Memory` only where the first
+/// word is that of a command with a list or with JSON: `with_capacity_and_blocks`, `from_iter`,
+/// `from_value`, `extend`, or an iterator, which is `ones`, `into_ones`, `zeroes`, `union`,
+/// `intersection`, `difference` or `symmetric_difference`. Any other line does not allocate.
 ///
 /// ```text
 /// let command = lines::parse_line(alloc, b"insert 0 64")?;

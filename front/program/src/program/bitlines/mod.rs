@@ -1,5 +1,5 @@
 // Made by front/erase from crates/bitlines/src/lib.rt: change that, and not this.
-//! Lines as commands over numbered sets of bits, and the program that answers each line.
+//! Lines as commands over numbered bit sets, and the program that replies to each line.
 pub mod arguments;
 pub mod fault;
 pub mod lines;

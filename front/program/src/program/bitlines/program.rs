@@ -21,19 +21,19 @@ const BUFFER: usize = 16_384;
 /// Why the program ended early.
 #[derive(Debug)]
 pub enum RunFault {
-    /// A read answered an error. Nothing was written.
+    /// A read returned an error. Nothing was written.
     Read,
-    /// A write or the flush answered an error, or a write took none of the bytes left. What went
+    /// A write or the flush returned an error, or a write took none of the bytes left. What went
     /// out is a beginning of the output.
     Write,
-    /// Memory was refused. Nothing was written.
+    /// An allocation failed. Nothing was written.
     Memory,
 }
 
 /// Reads all bytes, carries out their lines over sixteen sets of length 0 with the limit 1,000,000,
 /// and writes one line for each. The reader has to end.
 ///
-/// It builds the whole output before it writes the first byte, and flushes behind the last one. No
+/// It builds the whole output before it writes the first byte, and flushes after the last one. No
 /// failed read or write is tried again. It is linear in input and output, which it keeps whole.
 ///
 /// ```text
@@ -84,7 +84,7 @@ fn output_of(alloc: Global, input: &[u8]) -> Result<Vec<u8>, AllocError> {
     Ok(output)
 }
 
-// Carries out a line, and puts its reply, or a fault, and a line end behind the output.
+// Carries out a line, and appends its reply, or an error, and a line end to the output.
 fn answer_line(
     alloc: Global,
     sets: &mut [FixedBitSet],
@@ -98,7 +98,7 @@ fn answer_line(
     }
 }
 
-// Carries out a command, and puts its reply and a line end behind the output.
+// Carries out a command, and appends its reply and a line end to the output.
 fn answer_command(
     alloc: Global,
     sets: &mut [FixedBitSet],
@@ -118,7 +118,7 @@ fn new_sets(alloc: Global) -> Result<Vec<FixedBitSet>, AllocError> {
     Ok(sets)
 }
 
-// The first line, and what stands behind its line end.
+// The first line, and what stands after its line end.
 fn first_line(text: &[u8]) -> (&[u8], &[u8]) {
     match find_near(text, b'\n') {
         Some(end) => (&text[..end], &text[end + 1..]),

@@ -106,7 +106,7 @@ fn json(alloc: Global, text: &[u8]) -> Result<Value, LineFault> {
     }
 }
 
-/// The first word of a text as a number, and the text behind the space after it, if there is one.
+/// The first word of a text as a number, and the text after the space after it, if there is one.
 /// Each byte is looked at once.
 #[inline]
 fn first_number(text: &[u8]) -> Result<(usize, Option<&[u8]>), LineFault> {

@@ -1,14 +1,14 @@
 // Made by front/erase from crates/bitwalks/src/pairs.rt: change that, and not this.
-//! Walks over two rows of words, of any two lengths.
+//! Iterators over two rows of words, of any two lengths.
 //!
-//! `Intersection` and `Difference` walk over the first row and look each of its items up in the
-//! other. `Union` walks over the first row, and then over the second without the first;
+//! `Intersection` and `Difference` iterator over the first row and look each of its items up in the
+//! other. `Union` iterators over the first row, and then over the second without the first;
 //! `SymmetricDifference` over both differences in turn. So the items of the two last need not
-//! ascend as a whole. No walk takes memory.
+//! ascend as a whole. No iterator allocates.
 //!
-//! Proofs see the items left, how many items of a source were looked up (`asked`), and each
-//! source as a walk of its own, with its turns and its words not yet taken. The counts take no
-//! bytes when the program runs.
+//! Proofs see the items left, how many items of a source were looked up (`asked`), and each source
+//! as an iterator of its own, with its turns and its words not yet taken. The counts take no bytes
+//! when the program runs.
 
 use crate::program::bitwalks::in_turn::InTurn;
 use crate::program::bitwalks::sieve::{Lacked, Shared, Sieve};
@@ -71,7 +71,7 @@ pub struct SymmetricDifference<'a> {
 }
 
 impl<'a> Union<'a> {
-    /// The walk over the positions of `words` and `other`.
+    /// The iterator over the positions of `words` and `other`.
     ///
     /// ```text
     /// let (words, other) = ([8, 1], [3]);
@@ -115,7 +115,7 @@ impl<'a> DoubleEndedIterator for Union<'a> {
 impl<'a> FusedIterator for Union<'a> {}
 
 impl<'a> SymmetricDifference<'a> {
-    /// The walk over the positions of `words` and `other`.
+    /// The iterator over the positions of `words` and `other`.
     ///
     /// ```text
     /// let (words, other) = ([8, 1], [11]);

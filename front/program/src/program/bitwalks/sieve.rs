@@ -1,5 +1,6 @@
 // Made by front/erase from crates/bitwalks/src/sieve.rt: change that, and not this.
-//! The walk over one row of words, sieved by another one. Each walk over two rows stands on it.
+//! The iterator over one row of words, sieved by another one. Each iterator over two rows stands on
+//! it.
 
 use crate::program::bitwalks::in_turn::Part;
 use crate::program::bitwalks::walks::Ones;
@@ -40,8 +41,8 @@ impl Choice for Lacked {
     }
 }
 
-// Whether the position is set: `false` past the words. One test answers within them and past them,
-// so that the compiler keeps no mark of whether a position was given.
+// Whether the position is set: `false` past the words. One test covers the places within them and
+// past them, so that the compiler keeps no mark of whether a position was given.
 #[inline(always)]
 fn is_set(words: &[Block], position: usize) -> bool {
     let word = words.get(position / BITS).copied().unwrap_or(0);
@@ -64,7 +65,7 @@ pub struct Sieve<'a, C: Choice> {
 }
 
 impl<'a, C: Choice> Sieve<'a, C> {
-    /// The walk over the positions of `words`, sieved by `other`.
+    /// The iterator over the positions of `words`, sieved by `other`.
     ///
     /// ```text
     /// let (words, other) = ([11, 1], [8]);

@@ -4,13 +4,13 @@
 use crate::program::fixedbitset::set::FixedBitSet;
 use core::ops::{BitAndAssign, Index};
 
-// What an index lends.
+// What an index returns.
 static TRUE: bool = true;
 
 static FALSE: bool = false;
 
 /// `set &= other` is `set.intersect_with(&other)`: the length stays, and the positions that both
-/// have. It takes no memory.
+/// have. It does not allocate.
 ///
 /// ```text
 /// let mut set = FixedBitSet::from_iter(alloc, [1, 3, 64])?;
@@ -25,7 +25,7 @@ impl BitAndAssign for FixedBitSet {
 }
 
 /// `set &= &other` is `set.intersect_with(&other)`: the length stays, and the positions that both
-/// have. It takes no memory.
+/// have. It does not allocate.
 ///
 /// ```text
 /// let mut set = FixedBitSet::from_iter(alloc, [3, 5])?;

@@ -1,5 +1,5 @@
 // Made by front/erase from crates/bitjson/src/bytes.rt: change that, and not this.
-//! Words from bytes, and words as bytes, in memory of their own.
+//! Words from bytes, and words as bytes, in an allocation of their own.
 
 use crate::shim::prelude::Vec;
 use crate::proved::bitjson::fills::{fill_bytes, fill_words};
@@ -9,9 +9,9 @@ use crate::shim::alloc::{AllocError, Global};
 /// The first `count` words that `source` are the bytes of: eight for each word, the lowest byte
 /// first. Past its end a byte is 0.
 ///
-/// It looks at no more than `8 * count` bytes, each once, and takes the memory of the words at
-/// once. `Err` comes only where that was refused. Words past the bytes are 0 as they are made, and
-/// not written again.
+/// It looks at no more than `8 * count` bytes, each once, and allocates the words at once. `Err` is
+/// returned only on allocation failure. Words past the bytes are 0 as they are made, and not
+/// written again.
 ///
 /// ```text
 /// let words = bytes::words_of_bytes(alloc, &[1, 2], 2)?;
@@ -25,7 +25,7 @@ pub fn words_of_bytes(alloc: Global, source: &[u8], count: usize) -> Result<Vec<
 
 /// The bytes of the words: eight for each word, the lowest byte first.
 ///
-/// It takes the memory of the bytes at once. `Err` comes only where that was refused.
+/// It allocates the bytes at once. `Err` is returned only on allocation failure.
 ///
 /// ```text
 /// let data = bytes::bytes_of_words(alloc, &[513])?;

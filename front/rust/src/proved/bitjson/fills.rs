@@ -6,7 +6,7 @@ use crate::proved::bitlanes::Block;
 /// Writes over the words those that `source` are the bytes of, as
 /// [`words_of_bytes`](crate::proved::bitjson::bytes::words_of_bytes) makes them.
 ///
-/// It looks at no more than eight bytes for a word, each once, and takes no memory.
+/// It looks at no more than eight bytes for a word, each once, and does not allocate.
 ///
 /// ```text
 /// let mut words = [7, 7];
@@ -23,7 +23,7 @@ pub fn fill_words(source: &[u8], words: &mut [Block]) {
 /// [`bytes_of_words`](crate::proved::bitjson::bytes::bytes_of_words) makes them. There have to be
 /// eight bytes for each word.
 ///
-/// It takes no memory.
+/// It does not allocate.
 ///
 /// ```text
 /// let mut made = [7; 8];

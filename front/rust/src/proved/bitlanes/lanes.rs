@@ -17,8 +17,8 @@ use crate::shim::simd::prelude::*;
 /// How many words a lane has.
 pub const LANE: usize = 4;
 
-// From how many words on a count goes by carries. A shorter row is counted word by word,
-// which is as quick there.
+// From how many words on a count goes by carries. A shorter row is counted word by word, which is
+// as fast there.
 const LONG: usize = 512;
 
 /// Joins each word of `dst` with the word of `src` at its place, by `O`. Words of `dst` past
@@ -48,9 +48,9 @@ pub fn apply<O: WordOp>(dst: &mut [Block], src: &[Block], steps: &mut Steps) {
     }
 }
 
-/// How many bits are set in the words of `a` joined with those of `b` by `O`, as far as both go.
+/// The population count of the words of `a` joined with those of `b` by `O`, as far as both go.
 ///
-/// It asks that this number fits `usize`, and takes exactly `m / 4` steps, rounded up, `m` being
+/// Precondition: this number fits `usize`. It takes exactly `m / 4` steps, rounded up, `m` being
 /// the number of words of the shorter slice.
 ///
 /// ```text
@@ -69,8 +69,8 @@ pub fn count<O: WordOp>(a: &[Block], b: &[Block], steps: &mut Steps) -> usize {
 
 /// Whether no bit is set in the words of `a` joined with those of `b` by `O`, as far as both go.
 ///
-/// It stops at the first lane with a bit: where it answers `false` it takes exactly one step for
-/// each lane up to that one, and where it answers `true` exactly `m / 4` steps, rounded up, `m`
+/// It stops at the first lane with a bit: where it returns `false` it takes exactly one step for
+/// each lane up to that one, and where it returns `true` exactly `m / 4` steps, rounded up, `m`
 /// being the number of words of the shorter slice.
 ///
 /// ```text
@@ -117,10 +117,10 @@ pub fn zero(dst: &mut [Block], steps: &mut Steps) {
     }
 }
 
-/// How many bits are set in the words.
+/// The population count of the words: how many bits are set.
 ///
-/// It asks that this number fits `usize`, and takes exactly `m / 4` steps, rounded up, `m`
-/// being the number of words.
+/// Precondition: this number fits `usize`. It takes exactly `m / 4` steps, rounded up, `m` being
+/// the number of words.
 ///
 /// ```text
 /// let count = lanes::count_one(&[7, 0, 1 << 63], &mut Steps::new());
@@ -133,8 +133,8 @@ pub fn count_one(a: &[Block], steps: &mut Steps) -> usize {
 
 /// Whether no bit is set in the words.
 ///
-/// It stops at the first lane with a bit: where it answers `false` it takes exactly one step for
-/// each lane up to that one, and where it answers `true` exactly `m / 4` steps, rounded up, `m`
+/// It stops at the first lane with a bit: where it returns `false` it takes exactly one step for
+/// each lane up to that one, and where it returns `true` exactly `m / 4` steps, rounded up, `m`
 /// being the number of words.
 ///
 /// ```text
@@ -162,8 +162,8 @@ pub fn none_one(a: &[Block], steps: &mut Steps) -> bool {
 
 /// Whether no bit is set in the word `mask` joined with each word of `words` by `O`.
 ///
-/// It stops at the first lane with a bit: where it answers `false` it takes exactly one step for
-/// each lane up to that one, and where it answers `true` exactly `m / 4` steps, rounded up, `m`
+/// It stops at the first lane with a bit: where it returns `false` it takes exactly one step for
+/// each lane up to that one, and where it returns `true` exactly `m / 4` steps, rounded up, `m`
 /// being the number of words.
 ///
 /// ```text

@@ -1,5 +1,6 @@
 // Made by front/erase from crates/bitlanes/src/lib.rt: change that, and not this.
-//! Words of 64 bits, and the loops over many of them.
+//! Words of 64 bits, and the loops over many of them, which use SIMD: four words, a lane, at a
+//! time.
 pub mod carries;
 pub mod changes;
 pub mod counter;

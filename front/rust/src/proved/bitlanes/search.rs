@@ -17,7 +17,7 @@ const FOUR: usize = 4 * LANE;
 
 /// The place of the first word that is not 0, or `None` where each word is 0.
 ///
-/// It looks at sixteen words at a time while as many are left behind them. Then it looks at four at
+/// It looks at sixteen words at a time while as many are left after them. Then it looks at four at
 /// a time up to those that have the word, and then at single words, which are four at most.
 ///
 /// ```text
@@ -75,12 +75,12 @@ pub fn next_one<O: WordOp>(
     None
 }
 
-/// The place, a multiple of four words behind `from`, up to which each word is 0 when `mask` is
+/// The place, a multiple of four words after `from`, up to which each word is 0 when `mask` is
 /// joined with it by `O`, and from which on one of the next four is not, or fewer than four are
 /// left. The place `from` may be the end of the words, and not past it.
 ///
-/// It looks at sixteen words at a time while as many are left behind them, and then at four at a
-/// time. The four at the place that it answers are looked at and take no step yet.
+/// It looks at sixteen words at a time while as many are left after them, and then at four at a
+/// time. The four at the place that it returns are looked at and take no step yet.
 ///
 /// ```text
 /// let mut steps = Steps::new();

@@ -138,7 +138,7 @@ fn window_lane(words: &[Block], at: usize, shift: usize) -> u64x4 {
     )
 }
 
-// The bits from bit `shift` on of each word and the one behind it.
+// The bits from bit `shift` on of each word and the one after it.
 #[inline(always)]
 fn straddle_lane(shift: usize, low: u64x4, high: u64x4) -> u64x4 {
     let right = u64x4::splat(shift as Block);
@@ -157,7 +157,7 @@ fn window_word(words: &[Block], at: usize, shift: usize) -> Block {
     straddle_word(shift, words[at], high)
 }
 
-// The bits from bit `shift` on of a word and the one behind it.
+// The bits from bit `shift` on of a word and the one after it.
 #[inline(always)]
 fn straddle_word(shift: usize, low: Block, high: Block) -> Block {
     (low >> shift) | ((high << 1) << (BITS - 1 - shift))

@@ -52,7 +52,7 @@ pub fn clear_lowest_bit(word: Block) -> Block {
     word & (word - 1)
 }
 
-/// Clears the lowest bit that is set, and answers its index. The word may not be 0.
+/// Clears the lowest bit that is set, and returns its index. The word may not be 0.
 ///
 /// ```text
 /// let mut bits = 12;
@@ -66,7 +66,7 @@ pub fn take_lowest_bit(word: &mut Block) -> usize {
     index
 }
 
-/// Clears the highest bit that is set, and answers its index. The word may not be 0.
+/// Clears the highest bit that is set, and returns its index. The word may not be 0.
 ///
 /// ```text
 /// let mut bits = 12;

@@ -11,7 +11,7 @@ use crate::proved::fixedbitset::FixedBitSet;
 use crate::shim::alloc::{AllocError, Global};
 
 /// [`Ranks::of`], with the steps that it takes: exactly one for each word of the set but those of
-/// the last entry of the directory, and none where memory was refused.
+/// the last entry of the directory, and none where an allocation failed.
 ///
 /// ```text
 /// let set = FixedBitSet::from_iter(alloc, [3, 64, 70])?;

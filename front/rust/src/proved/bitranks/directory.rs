@@ -1,5 +1,5 @@
 // Made by front/erase from crates/bitranks/src/directory.rt: change that, and not this.
-//! Rank and select over words that someone keeps, with a directory of them beside.
+//! Rank and select over words that someone keeps, with a directory of them.
 //!
 //! Position `p` stands at bit `p % 64` of word `p / 64`. Entry `k` of the directory is how
 //! many bits are set in the words before word `8 * k`, so it takes one word of memory for
@@ -112,7 +112,7 @@ pub fn select(
     positions::nth(words, first, end, index - directory[entry], steps)
 }
 
-// The place of an entry that is `index` at most, with none behind it or one that is more.
+// The place of an entry that is `index` at most, with none after it or one that is more.
 #[inline(always)]
 fn last_within(directory: &[usize], index: usize, steps: &mut Steps) -> usize {
     let mut low = 0;

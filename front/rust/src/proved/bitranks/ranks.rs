@@ -1,5 +1,5 @@
 // Made by front/erase from crates/bitranks/src/ranks.rt: change that, and not this.
-//! The ranks of a set: the set, lent, and a directory of its words.
+//! The ranks of a set: the set, borrowed, and a directory of its words.
 
 use crate::shim::prelude::Vec;
 use crate::proved::bitranks::counted;
@@ -7,7 +7,7 @@ use crate::proved::bitlanes::{Block, Steps};
 use crate::proved::fixedbitset::FixedBitSet;
 use crate::shim::alloc::{AllocError, Global};
 
-/// A set that is lent, with a directory that answers `rank` and `select`.
+/// A set that is borrowed, with a directory for `rank` and `select`.
 ///
 /// Contracts see it as the set. The directory takes one word of memory for eight words of the set,
 /// rounded up. While it lives the set cannot change.
@@ -21,7 +21,7 @@ pub struct Ranks<'a> {
 impl<'a> Ranks<'a> {
     /// The ranks of a set. It looks at each word of the set once at most.
     ///
-    /// `Err` comes only where memory for the directory was refused.
+    /// `Err` is returned only where the allocation of the directory failed.
     ///
     /// ```text
     /// let set = FixedBitSet::from_iter(alloc, [3, 64, 70])?;

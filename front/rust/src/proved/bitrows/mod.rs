@@ -1,5 +1,5 @@
 // Made by front/erase from crates/bitrows/src/lib.rt: change that, and not this.
-//! A table of bits: rows of one length, in one row of words.
+//! A bit matrix: rows of one length, in one row of words.
 //!
 //! Every contract sees a table as how many columns it has and, for each row, the set of the columns
 //! at which it has a bit (`specs/Tables.antt`). Each row is kept in whole lanes of four words, as a

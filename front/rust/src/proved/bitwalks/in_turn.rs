@@ -1,11 +1,11 @@
 // Made by front/erase from crates/bitwalks/src/in_turn.rt: change that, and not this.
-//! Two walks in turn: from the front the first and then the second, from the back the
-//! second and then the first.
+//! Two iterators in turn: from the front the first and then the second, from the back the second
+//! and then the first.
 
 use crate::proved::bitlanes::counter::Steps;
 use crate::proved::bitwords::cursors::{Cursor, Middle};
 
-/// A walk that may be one of two in turn.
+/// An iterator that may be one of two in turn.
 ///
 /// ```text
 /// let mut walk = Cursor::over(Plain { words: &[9, 1] });
@@ -40,14 +40,14 @@ impl<M: Middle> Part for Cursor<M> {
     }
 }
 
-/// A walk whose items left can be counted at once.
+/// An iterator whose items left can be counted at once.
 ///
 /// ```text
 /// let walk = Cursor::over(Plain { words: &[9, 1] });
 /// assert_eq!(Counted::count_items(walk, &mut Steps::new()), 3);
 /// ```
 pub trait Counted: Part {
-    /// How many items are left. It asks that this number fits `usize`.
+    /// How many items are left. Precondition: this number fits `usize`.
     fn count_items(self, steps: &mut Steps) -> usize;
 }
 
@@ -58,7 +58,7 @@ impl<M: Middle> Counted for Cursor<M> {
     }
 }
 
-/// The items of the first walk, and then those of the second.
+/// The items of the first iterator, and then those of the second.
 ///
 /// ```text
 /// let first = Cursor::over(Plain { words: &[9, 1] });
@@ -70,13 +70,13 @@ impl<M: Middle> Counted for Cursor<M> {
 pub struct InTurn<A: Part, B: Part> {
     first: A,
     second: B,
-    // Whether the first walk may still have items: once it gave none, no call from
-    // the front asks it again.
+    // Whether the first iterator may still have items: once it gave none, no call from the front
+    // asks it again.
     first_left: bool,
 }
 
 impl<A: Part, B: Part> InTurn<A, B> {
-    /// These two walks, the first before the second.
+    /// These two iterators, the first before the second.
     ///
     /// ```text
     /// let first = Cursor::over(Plain { words: &[9, 1] });
@@ -92,8 +92,8 @@ impl<A: Part, B: Part> InTurn<A, B> {
         }
     }
 
-    /// The first item that the first walk has left, and once it has none, the first of the second.
-    /// A first walk that gave none is not asked again.
+    /// The first item that the first iterator has left, and once it has none, the first of the
+    /// second. A first iterator that gave none is not asked again.
     ///
     /// ```text
     /// let first = Cursor::over(Plain { words: &[8] });
@@ -113,8 +113,8 @@ impl<A: Part, B: Part> InTurn<A, B> {
         self.second.take_first()
     }
 
-    /// The last item that the second walk has left, and where it has none, the last of the first. A
-    /// first walk that gave none from the front is not asked again.
+    /// The last item that the second iterator has left, and where it has none, the last of the
+    /// first. A first iterator that gave none from the front is not asked again.
     ///
     /// ```text
     /// let first = Cursor::over(Plain { words: &[8] });
@@ -147,7 +147,7 @@ impl<A: Part, B: Part> InTurn<A, B> {
         self.first.most()?.checked_add(self.second.most()?)
     }
 
-    /// The two walks, each with the items that it has left.
+    /// The two iterators, each with the items that it has left.
     ///
     /// ```text
     /// let first = Cursor::over(Plain { words: &[9, 1] });
@@ -167,7 +167,7 @@ impl<A: Part, B: Part> InTurn<A, B> {
 }
 
 impl<A: Counted, B: Counted> InTurn<A, B> {
-    /// How many items both walks have left. It asks that this number fits `usize`, and takes at
+    /// How many items both iterators have left. Precondition: this number fits `usize`. It takes at
     /// most as many steps as a count of the one and of the other.
     ///
     /// ```text

@@ -1,5 +1,5 @@
 // Made by front/erase from crates/bitwalks/src/lib.rt: change that, and not this.
-//! Walks over the positions of rows of words: over one row, and over two. No walk here
+//! Iterators over the positions of rows of words: over one row, and over two. No iterator here
 //! knows a set or its length.
 pub mod in_turn;
 pub mod runs;

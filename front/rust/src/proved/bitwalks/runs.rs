@@ -1,10 +1,10 @@
 // Made by front/erase from crates/bitwalks/src/runs.rt: change that, and not this.
-//! The stretches of positions that follow each other without a gap, as start and end: those that
-//! are set, and those that are not.
+//! The runs of positions that follow each other without a gap, as start and end: those that are
+//! set, and those that are not.
 //!
 //! A call looks for the next position that is like the others or unlike them, sixteen words at a
-//! time. So a stretch costs by its words and not by its positions. Proofs see the stretches left,
-//! the ends of where they are, and a count of steps that takes no bytes when the program runs.
+//! time. So a run costs by its words and not by its positions. Proofs see the runs left, the ends
+//! of where they are, and a count of steps that takes no bytes when the program runs.
 
 use crate::proved::bitlanes::Steps;
 use crate::proved::bitlanes::ops::{And, AndNot};
@@ -12,10 +12,10 @@ use crate::proved::bitlanes::word::{BITS, Block};
 use crate::proved::bitwords::positions::{next, previous};
 use core::iter::FusedIterator;
 
-/// The stretches of positions that are set, or of those that are not, in ascending order. A set
-/// makes it by `runs` and by `zero_runs`.
+/// The runs of positions that are set, or of those that are not, in ascending order. A set makes it
+/// by `runs` and by `zero_runs`.
 ///
-/// It borrows the words and takes no memory.
+/// It borrows the words and does not allocate.
 ///
 /// ```text
 /// let set = FixedBitSet::from_iter(alloc, [3, 4, 9, 200])?;
@@ -29,15 +29,15 @@ pub struct Runs<'a> {
     words: &'a [Block],
     // Whether the positions are set.
     are_set: bool,
-    // How many positions there are, and where the stretches left are.
+    // How many positions there are, and where the runs left are.
     end: usize,
     low: usize,
     high: usize,
     steps: Steps,
 }
 
-/// What a walk over stretches holds, for a caller that keeps its fields and no walk: the words,
-/// whether its positions are set, how many positions there are, and where the stretches left are.
+/// What an iterator over runs holds, for a caller that keeps its fields and no iterator: the words,
+/// whether its positions are set, how many positions there are, and where the runs left are.
 #[derive(Clone)]
 pub struct HeldRuns<'a> {
     pub words: &'a [Block],
@@ -48,8 +48,8 @@ pub struct HeldRuns<'a> {
 }
 
 impl<'a> Runs<'a> {
-    /// The stretches of the positions below `end` that are set in the words, or of those that are
-    /// not. `end` may not be past the words.
+    /// The runs of the positions below `end` that are set in the words, or of those that are not.
+    /// `end` may not be past the words.
     ///
     /// ```text
     /// let words = [12, 1];
@@ -70,7 +70,8 @@ impl<'a> Runs<'a> {
 }
 
 impl<'a> Runs<'a> {
-    /// What the walk holds. `of_held` makes a walk of it again, which has the same stretches left.
+    /// What the iterator holds. `of_held` makes an iterator of it again, which has the same runs
+    /// left.
     ///
     /// ```text
     /// let walk = Runs::below(&[12, 1], true, 128);
@@ -89,7 +90,7 @@ impl<'a> Runs<'a> {
         }
     }
 
-    /// The walk that holds this. Its count begins at 0.
+    /// The iterator that holds this. Its count begins at 0.
     ///
     /// ```text
     /// let held = Runs::below(&[12, 1], true, 128).into_held();
@@ -138,9 +139,9 @@ fn previous_like(words: &[Block], are_set: bool, below: usize, steps: &mut Steps
 impl<'a> Iterator for Runs<'a> {
     type Item = (usize, usize);
 
-    /// The first stretch left, or `None` where none is, and then for good. It takes one step for
-    /// each four words that it goes over, one to four more where it gives a stretch, and none to
-    /// four more where it gives none.
+    /// The first run left, or `None` where none is, and then for good. It takes one step for each
+    /// four words that it goes over, one to four more where it gives a run, and none to four more
+    /// where it gives none.
     #[inline]
     fn next(&mut self) -> Option<(usize, usize)> {
         if self.low == self.high {
@@ -158,9 +159,9 @@ impl<'a> Iterator for Runs<'a> {
 }
 
 impl<'a> DoubleEndedIterator for Runs<'a> {
-    /// The last stretch left, or `None` where none is, and then for good. It takes one step for
-    /// each four words that it goes over, one to four more where it gives a stretch, and none to
-    /// four more where it gives none.
+    /// The last run left, or `None` where none is, and then for good. It takes one step for each
+    /// four words that it goes over, one to four more where it gives a run, and none to four more
+    /// where it gives none.
     #[inline]
     fn next_back(&mut self) -> Option<(usize, usize)> {
         if self.low == self.high {

@@ -1,5 +1,5 @@
 // Made by front/erase from crates/bitwords/src/gaps.rt: change that, and not this.
-//! Stretches of positions that a row of words lacks, long enough for a caller.
+//! Runs of positions that a row of words lacks, long enough for a caller.
 //!
 //! A step is one lane of four words, from the word of the position on where a search begins: each
 //! lane counts once, as its first word is looked at.
@@ -13,11 +13,11 @@ use crate::proved::bitlanes::word::{BITS, Block, highest_bit, lowest_bit, ones_b
 /// The least position at or past `from` with `count` positions from there on that are clear and
 /// below `end`, or `None` where there is none. The end may not be past the words.
 ///
-/// It goes over the words, and looks in each for the whole stretch by joining the word with itself
+/// It goes over the words, and looks in each for the whole run by joining the word with itself
 /// moved down, as often as `count` has binary digits. It passes over words that are full, or clear,
 /// by sixteen and by four. So it takes one step for each lane of four words from that of `from` up
-/// to the end of the stretch, and none where `count` is 0. Where there is no such stretch it takes
-/// these up to the last place with room for one at least, and up to `end` at most.
+/// to the end of the run, and none where `count` is 0. Where there is no such run it takes these up
+/// to the last place with room for one at least, and up to `end` at most.
 ///
 /// ```text
 /// let mut steps = Steps::new();
@@ -46,7 +46,7 @@ pub fn first(
 /// clear and below `end`, or `None` where there is none. The only multiple of 0 is 0. The end may
 /// not be past the words.
 ///
-/// It looks for a stretch by [`first`], and where that begins at no multiple, again from the next
+/// It looks for a run by [`first`], and where that begins at no multiple, again from the next
 /// multiple on. So it takes at most two steps for each lane of four words up to `end`, and one for
 /// each multiple that may stand there; where `align` is 0 or 1, at most one for each lane.
 ///
@@ -142,7 +142,7 @@ fn clear_below(word: Block) -> usize {
     if word == 0 { BITS } else { lowest_bit(word) }
 }
 
-// The place of the word to look at, `at` or one behind it: it passes over lanes whose words are all
+// The place of the word to look at, `at` or one after it: it passes over lanes whose words are all
 // 0 when a word of ones is joined with each of them by `O`, where `at` begins a lane. The first
 // lane begins at `first`.
 #[inline(always)]

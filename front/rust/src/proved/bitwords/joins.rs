@@ -29,7 +29,7 @@ pub fn join<O: WordOp>(words: &mut [Block], other: &[Block], steps: &mut Steps) 
     }
 }
 
-/// Joins each position of `words` with that of `other` by `O`, and answers whether one changed.
+/// Joins each position of `words` with that of `other` by `O`, and returns whether one changed.
 /// Where the operation takes positions that only `other` has, `other` may not be longer.
 ///
 /// It takes exactly the steps of [`join`]: each word is read once.
@@ -74,7 +74,7 @@ pub fn join_to<O: WordOp>(to: &mut [Block], words: &[Block], other: &[Block], st
     }
 }
 
-/// Takes in the positions of `gens` that `kills` lacks, and answers whether one came in. `gens` may
+/// Takes in the positions of `gens` that `kills` lacks, and returns whether one came in. `gens` may
 /// not be longer than `words`.
 ///
 /// With `m` words that `gens` and `kills` have and `t` that only `gens` has it takes exactly `m /
@@ -100,7 +100,8 @@ pub fn union_with_difference(
     joined | behind
 }
 
-/// How many positions are set in `a` joined with `b` by `O`. It asks that this number fits `usize`.
+/// How many positions are set in `a` joined with `b` by `O`. Precondition: this number fits
+/// `usize`.
 ///
 /// With `m` words that both have and `t` that only the longer has it takes exactly `m / 4` steps,
 /// rounded up, and `t / 4`, rounded up, more where these count.
@@ -116,8 +117,8 @@ pub fn count<O: WordOp>(a: &[Block], b: &[Block], steps: &mut Steps) -> usize {
 
 /// Whether `count` is 0, whether or not it fits `usize`.
 ///
-/// It stops at the first lane that decides: where it answers `true` it takes exactly the steps of
-/// `count`, and where it answers `false` exactly those of `count` over the words up to the one that
+/// It stops at the first lane that decides: where it returns `true` it takes exactly the steps of
+/// `count`, and where it returns `false` exactly those of `count` over the words up to the one that
 /// has the first position that counts.
 ///
 /// ```text
@@ -132,9 +133,9 @@ pub fn none<O: WordOp>(a: &[Block], b: &[Block], steps: &mut Steps) -> bool {
 /// The first position of `a` that `b` lacks, or `None` where it has each of them.
 ///
 /// It looks at four words of each row at a time up to those that have the position. It takes
-/// exactly the steps of [`count`] by `AndNot` over the words of `a` up to the one that has it,
-/// or over all of `a` where it answers `None`. The number of positions of `a`, 64 for each word,
-/// may be at most 2 ^ 64.
+/// exactly the steps of [`count`] by `AndNot` over the words of `a` up to the one that has it, or
+/// over all of `a` where it returns `None`. The number of positions of `a`, 64 for each word, may
+/// be at most 2 ^ 64.
 ///
 /// ```text
 /// assert_eq!(joins::first_of_difference(&[7, 6], &[7, 2, 1], &mut Steps::new()), Some(66));
@@ -150,7 +151,7 @@ pub fn first_of_difference(a: &[Block], b: &[Block], steps: &mut Steps) -> Optio
 /// The least position, at or past `from`, that both rows have, or `None` where there is none. Both
 /// rows have to have the word of `from`.
 ///
-/// It takes one step for that word of the two, and one for each lane of four words behind it up to
+/// It takes one step for that word of the two, and one for each lane of four words after it up to
 /// the one that has the position, or up to the end of the shorter row. The number of positions of
 /// `a`, 64 for each word, may be at most 2 ^ 64.
 ///

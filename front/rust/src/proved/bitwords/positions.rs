@@ -58,10 +58,10 @@ pub fn last(words: &[Block], steps: &mut Steps) -> Option<usize> {
 /// is joined with it by `O`: with `And` a position of the row, with `AndNot` one that the row
 /// lacks. `None` where there is none.
 ///
-/// It takes one step for the word of `from`, and one for each lane of four words behind it up to
-/// the one that has the position. Where there is none it takes these up to the word of `end` at
-/// least, and up to the end of the words at most. No step is taken where `from` is not below `end`.
-/// The end may not be past the words.
+/// It takes one step for the word of `from`, and one for each lane of four words after it up to the
+/// one that has the position. Where there is none it takes these up to the word of `end` at least,
+/// and up to the end of the words at most. No step is taken where `from` is not below `end`. The
+/// end may not be past the words.
 ///
 /// ```text
 /// let mut steps = Steps::new();
@@ -142,8 +142,8 @@ pub fn nth(
 
 /// Whether no position of the row from `start` on is set.
 ///
-/// It looks at the word of `start`, and at four words at a time behind it up to the first that has
-/// a position. The number of positions of the row, 64 for each word, may be at most 2 ^ 64.
+/// It looks at the word of `start`, and at four words at a time after it up to the first that has a
+/// position. The number of positions of the row, 64 for each word, may be at most 2 ^ 64.
 ///
 /// ```text
 /// assert!(positions::none_from(&[9, 2, 0], 66));
@@ -155,8 +155,8 @@ pub fn none_from(words: &[Block], start: usize) -> bool {
     start / BITS >= words.len() || next_in_row::<And>(words, start, &mut Steps::new()).is_none()
 }
 
-/// Clears each position of the row from `start` on. It writes the word of
-/// `start` and those behind it.
+/// Clears each position of the row from `start` on. It writes the word of `start` and those after
+/// it.
 ///
 /// ```text
 /// let mut words = [Block::MAX; 3];

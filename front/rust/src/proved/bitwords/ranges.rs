@@ -50,10 +50,10 @@ pub fn count<O: WordOp>(words: &[Block], start: usize, end: usize, steps: &mut S
 
 /// Whether `count` is 0.
 ///
-/// It stops at the first lane or word that decides. Where it answers `true` it takes exactly
+/// It stops at the first lane or word that decides. Where it returns `true` it takes exactly
 /// `search_steps`: one step for each lane of four of the words that are wholly in the range, the
 /// last of which may have fewer, and one for each other word that holds a position of it. Where it
-/// answers `false` it takes exactly those of the range up to the end of the word that decides.
+/// returns `false` it takes exactly those of the range up to the end of the word that decides.
 ///
 /// ```text
 /// assert!(ranges::none::<And>(&[0, 8], 0, 67, &mut Steps::new()));

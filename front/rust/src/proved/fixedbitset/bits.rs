@@ -1,16 +1,16 @@
 // Made by front/erase from crates/fixedbitset/src/bits.rt: change that, and not this.
-//! Single positions. No call looks at more than one word, and none takes memory.
+//! Single positions. No call looks at more than one word, and none allocates.
 //!
 //! A position that is changed has to be below the length: test it by `len()`. Upstream panics past
-//! it. The calls whose names end in `_unchecked` ask the same of each position that they are given;
-//! they are `unsafe` upstream, where nobody tests it. Here the prover asks it of the caller, so
-//! that they are safe, and do what the calls without the ending do.
+//! it. The calls whose names end in `_unchecked` have the same precondition; they are `unsafe`
+//! upstream, where nobody tests it. Here the prover demands a proof from the caller, so that they
+//! are safe, and do what the calls without the ending do.
 
 use crate::proved::fixedbitset::set::FixedBitSet;
 use crate::proved::fixedbitset::views::BitsMut;
 
 impl FixedBitSet {
-    /// Whether the position is set: `false` at or past the length. Every position may be asked.
+    /// Whether the position is set: `false` at or past the length. Any position is allowed.
     ///
     /// ```text
     /// let set = FixedBitSet::from_iter(alloc, [3, 64])?;
@@ -41,7 +41,7 @@ impl FixedBitSet {
     }
 
     /// Writes for each position of the list whether it is set: `false` at or past the length. There
-    /// have to be as many answers as positions. It looks at one word at most for each item.
+    /// have to be as many results as positions. It looks at one word at most for each item.
     ///
     /// Upstream has no such call.
     ///
@@ -110,7 +110,7 @@ impl FixedBitSet {
         BitsMut { words, length }.remove(bit);
     }
 
-    /// Sets the position, which has to be below the length, and answers whether it was set before.
+    /// Sets the position, which has to be below the length, and returns whether it was set before.
     ///
     /// ```text
     /// let mut set = FixedBitSet::with_capacity(alloc, 70)?;
@@ -138,8 +138,8 @@ impl FixedBitSet {
         BitsMut { words, length }.put(bit)
     }
 
-    /// Clears the position, which has to be below the length, and answers
-    /// whether it was set before.
+    /// Clears the position, which has to be below the length, and returns whether it was set
+    /// before.
     ///
     /// Upstream has no such call; it is the counterpart of [`put`](Self::put).
     ///

@@ -1,9 +1,9 @@
 // Made by front/erase from crates/fixedbitset/src/of_two.rt: change that, and not this.
 //! A set made of two others, in the words that it has.
 //!
-//! Each word of the result is written once, a new one once before, and no set stands between.
-//! `Err` comes only where more words are needed than the old length has and memory for them was
-//! refused. The set is then as it was.
+//! Each word of the result is written once, a new one once before, and no set stands between. `Err`
+//! is returned only where more words are needed than the old length has and their allocation
+//! failed. The set is then as it was.
 
 use crate::proved::fixedbitset::set::FixedBitSet;
 use crate::proved::fixedbitset::views::BitsMut;
@@ -13,7 +13,7 @@ impl FixedBitSet {
     /// Makes this set the union of two others: the greater of their lengths, and the positions of
     /// either.
     ///
-    /// A call that needs no more words is never refused. Upstream has no such call.
+    /// A call that needs no more words cannot fail. Upstream has no such call.
     ///
     /// ```text
     /// let one = FixedBitSet::from_iter(alloc, [1, 3])?;

@@ -32,7 +32,7 @@ impl Eq for FixedBitSet {
 }
 
 impl PartialOrd for FixedBitSet {
-    /// The answer of `cmp`, which there always is.
+    /// The result of `cmp`, which there always is.
     ///
     /// ```text
     /// let short = FixedBitSet::from_iter(alloc, [3])?;
@@ -48,7 +48,7 @@ impl PartialOrd for FixedBitSet {
 
 impl Ord for FixedBitSet {
     /// The order: the shorter set is less. Of two sets of one length, look at the first 64
-    /// positions, the next 64, and so on. In the first such stretch in which they differ, the
+    /// positions, the next 64, and so on. In the first such group in which they differ, the
     /// greatest position that one has and the other lacks decides: the set that has it is greater.
     ///
     /// It compares the lengths, and at equal lengths the words as numbers, up to the first pair

@@ -1,10 +1,10 @@
 // Made by front/erase from crates/fixedbitset/src/parts.rt: change that, and not this.
 //! Parts of a set, and sets put together: positions of a range as a set of their own or written
-//! over those of another set, at most 64 of them as a number, one set behind another, and other
+//! over those of another set, at most 64 of them as a number, one set after another, and other
 //! lengths.
 //!
-//! `Err` comes only where more words are needed than there are and memory for them was refused. The
-//! set is then as it was.
+//! `Err` is returned only where more words are needed than there are and their allocation failed.
+//! The set is then as it was.
 
 use crate::shim::prelude::Vec;
 use crate::proved::fixedbitset::counted;
@@ -40,8 +40,8 @@ impl FixedBitSet {
     /// `at` on. All others stay.
     ///
     /// The range has to be valid in `other` (`range_is_valid`), and to end within this set where it
-    /// begins at `at`. It writes each word that has one of these positions once, and takes no
-    /// memory. Upstream has no such call.
+    /// begins at `at`. It writes each word that has one of these positions once, and does not
+    /// allocate. Upstream has no such call.
     ///
     /// ```text
     /// let mut set = FixedBitSet::from_iter(alloc, [0, 2, 65, 69])?;
@@ -86,11 +86,11 @@ impl FixedBitSet {
         BitsMut { words, length }.store(start, width, number);
     }
 
-    /// Puts the positions of `other` behind those of this set: the lengths are added,
-    /// which has to give a length.
+    /// Puts the positions of `other` after those of this set: the lengths are added, which has to
+    /// give a length.
     ///
-    /// A call that needs no more words is never refused. It reads each word of `other` once.
-    /// Upstream has no such call.
+    /// A call that needs no more words cannot fail. It reads each word of `other` once. Upstream
+    /// has no such call.
     ///
     /// ```text
     /// let mut set = FixedBitSet::with_capacity(alloc, 4)?;
@@ -127,7 +127,7 @@ impl FixedBitSet {
     /// Makes the length `bits`. Where it was greater, the positions that are not below `bits` fall
     /// away; where it was less, each new position is set or not, as `enabled` says.
     ///
-    /// A call that needs no more words is never refused. Upstream has no such call.
+    /// A call that needs no more words cannot fail. Upstream has no such call.
     ///
     /// ```text
     /// let mut set = FixedBitSet::from_iter(alloc, [1, 3])?;

@@ -2,8 +2,8 @@
 //! Questions about one whole set: whether it has no position or all, and the first
 //! and the last that it has.
 //!
-//! No call takes memory. Each stops at the first lane that decides, from the end at which it
-//! begins; a search looks at up to sixteen words with that lane at once.
+//! No call allocates. Each stops at the first lane that decides, from the end at which it begins; a
+//! search looks at up to sixteen words with that lane at once.
 
 use crate::proved::fixedbitset::set::FixedBitSet;
 use crate::proved::bitlanes::Steps;

@@ -23,7 +23,7 @@ pub struct FixedBitSet {
 }
 
 impl FixedBitSet {
-    /// A set of length 0. It takes no memory.
+    /// A set of length 0. It does not allocate.
     ///
     /// Upstream's `new` is a `const fn` and takes no allocator.
     ///
@@ -43,7 +43,7 @@ impl FixedBitSet {
     /// A set of `bits` positions, none of them set. It writes `bits / 64` words, rounded up, and
     /// those up to a whole lane of four.
     ///
-    /// `Err` comes only where memory for the words was refused; upstream aborts there.
+    /// `Err` is returned only where the allocation of the words failed; upstream aborts there.
     ///
     /// ```text
     /// let set = FixedBitSet::with_capacity(alloc, 70)?;
@@ -76,8 +76,8 @@ impl FixedBitSet {
     /// It takes no more items than there are words, which are `bits / 64`, rounded up. So `blocks`
     /// need not end. Bits past the length are cleared; upstream keeps those of its last word.
     ///
-    /// `Err` comes only where memory for the words was refused; no item is taken then. It writes
-    /// each word as 0, then the items, and then the last word.
+    /// `Err` is returned only where the allocation of the words failed; no item is taken then. It
+    /// writes each word as 0, then the items, and then the last word.
     ///
     /// ```text
     /// let set = FixedBitSet::with_capacity_and_blocks(alloc, 67, [1, 255])?;
@@ -103,9 +103,9 @@ impl FixedBitSet {
     /// Makes the length the greater of itself and `bits`. The new positions are not
     /// set; a set never shrinks.
     ///
-    /// `Err` comes only where more words are needed than the old length has and memory for them was
-    /// refused. The set is then as it was. A call that needs no more words is never refused. It
-    /// writes the new words alone, and where memory has to move also the old ones.
+    /// `Err` is returned only where more words are needed than the old length has and their
+    /// allocation failed. The set is then as it was. A call that needs no more words cannot fail.
+    /// It writes the new words alone, and where the allocation has to move also the old ones.
     ///
     /// ```text
     /// let mut set = FixedBitSet::with_capacity_and_blocks(alloc, 2, [3])?;
@@ -126,11 +126,11 @@ impl FixedBitSet {
     /// Copies `source` into this set, which takes its length and its positions. It uses
     /// the words that are there.
     ///
-    /// `Err` comes only where `source` has more words than the old set has and memory for
-    /// them was refused. The set is then as it was. It writes the words that are added, and
-    /// then as many as `source` has.
+    /// `Err` is returned only where `source` has more words than the old set has and their
+    /// allocation failed. The set is then as it was. It writes the words that are added, and then
+    /// as many as `source` has.
     ///
-    /// Upstream aborts where memory is refused.
+    /// Upstream aborts where an allocation fails.
     ///
     /// ```text
     /// let source = FixedBitSet::with_capacity_and_blocks(alloc, 3, [5])?;
@@ -144,7 +144,7 @@ impl FixedBitSet {
         self.copy_from(source, &mut Steps::new())
     }
 
-    // `clone_from`, with the steps that it takes. They are counted beside std's copy.
+    // `clone_from`, with the steps that it takes. They are counted apart from std's copy.
     #[inline(always)]
     pub(crate) fn copy_from(&mut self, source: &Self, steps: &mut Steps) -> Result<(), AllocError> {
         self.words.resize(source.words.len(), 0)?;
@@ -154,10 +154,10 @@ impl FixedBitSet {
         Ok(())
     }
 
-    /// A set of the length and the positions of a view, in memory of its own. It writes each word
-    /// once.
+    /// A set of the length and the positions of a view, in an allocation of its own. It writes each
+    /// word once.
     ///
-    /// `Err` comes only where memory for the words was refused. Upstream has no such call.
+    /// `Err` is returned only where the allocation of the words failed. Upstream has no such call.
     ///
     /// ```text
     /// let mut words = [9, 2, 0, 0];
@@ -235,7 +235,7 @@ impl FixedBitSet {
     /// The words, `len() / 64` rounded up: position `p` is bit `p % 64` of word `p / 64`, and bits
     /// past the length are 0.
     ///
-    /// It is lent from the set and takes no memory.
+    /// It is borrowed from the set and does not allocate.
     ///
     /// ```text
     /// let set = FixedBitSet::from_iter(alloc, [63, 64, 65])?;
@@ -246,7 +246,7 @@ impl FixedBitSet {
         self.used_words()
     }
 
-    // The words that the length needs, without those behind them that make up a whole lane.
+    // The words that the length needs, without those after them that make up a whole lane.
     #[inline]
     pub(crate) fn used_words(&self) -> &[Block] {
         self.as_bits().as_slice()
@@ -254,9 +254,10 @@ impl FixedBitSet {
 }
 
 impl Clone for FixedBitSet {
-    /// A set of the same length and positions, in memory of its own. It writes each word once.
+    /// A set of the same length and positions, in an allocation of its own. It writes each word
+    /// once.
     ///
-    /// `Err` comes only where memory for the words was refused; upstream aborts there.
+    /// `Err` is returned only where the allocation of the words failed; upstream aborts there.
     ///
     /// ```text
     /// let set = FixedBitSet::from_iter(alloc, [3, 64])?;
@@ -274,7 +275,7 @@ impl Clone for FixedBitSet {
     }
 }
 
-// A row of words in memory of its own.
+// A row of words in an allocation of its own.
 #[inline]
 fn copied(alloc: Global, words: &[Block]) -> Result<Vec<Block>, AllocError> {
     if words.len() < LONG {

@@ -10,7 +10,8 @@ impl FixedBitSet {
     /// Moves each position up by `by`, any number. Those that are not below the
     /// length then fall away.
     ///
-    /// It reads and writes each word at most once, and takes no memory. Upstream has no such call.
+    /// It reads and writes each word at most once, and does not allocate. Upstream has no such
+    /// call.
     ///
     /// ```text
     /// let mut set = FixedBitSet::from_iter(alloc, [0, 3, 69])?;
@@ -25,7 +26,8 @@ impl FixedBitSet {
 
     /// Moves each position down by `by`, any number. Those below `by` fall away.
     ///
-    /// It reads and writes each word at most once, and takes no memory. Upstream has no such call.
+    /// It reads and writes each word at most once, and does not allocate. Upstream has no such
+    /// call.
     ///
     /// ```text
     /// let mut set = FixedBitSet::from_iter(alloc, [0, 3, 69])?;
@@ -40,8 +42,8 @@ impl FixedBitSet {
     /// Takes in each position of `other` moved up by `by`, any number, as far as it is
     /// below the length then.
     ///
-    /// The length stays. It reads each word of `other` at most once, and takes no memory and makes
-    /// no copy. Upstream has no such call.
+    /// The length stays. It reads each word of `other` at most once, and does not allocate and
+    /// makes no copy. Upstream has no such call.
     ///
     /// ```text
     /// let mut set = FixedBitSet::from_iter(alloc, [0, 69])?;
@@ -57,8 +59,8 @@ impl FixedBitSet {
     /// below the length then.
     ///
     /// So where the set has the sums that some numbers make, it then has those that these numbers
-    /// and `by` make. It reads and writes each word at most once, and takes no memory and makes no
-    /// copy. Upstream has no such call.
+    /// and `by` make. It reads and writes each word at most once, and does not allocate and makes
+    /// no copy. Upstream has no such call.
     ///
     /// ```text
     /// let mut set = FixedBitSet::with_capacity(alloc, 100)?;

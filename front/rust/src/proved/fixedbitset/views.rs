@@ -1,8 +1,8 @@
 // Made by front/erase from crates/fixedbitset/src/views.rt: change that, and not this.
 //! A set over words that someone else keeps: `Bits` to be read, and `BitsMut` to be changed.
 //!
-//! They are to a `FixedBitSet` what slices are to a `Vec`, and have each of its calls that takes no
-//! memory. The words are those of a set of the length: whole lanes of four words, as many as the
+//! They are to a `FixedBitSet` what slices are to a `Vec`, and have each of its calls that does not
+//! allocate. The words are those of a set of the length: whole lanes of four words, as many as the
 //! length needs, and no bit past it (`IsClean`). `Bits::over` looks whether words are such, and
 //! `BitsMut::settle` makes any words so. Positions and ranges are those of the calls of
 //! `FixedBitSet` with the same names, which hand over to these.
@@ -24,14 +24,14 @@ mod whole;
 use crate::proved::bitlanes::Block;
 pub use positions::storage_words;
 
-/// A set over lent words, to be read: its words, and its length in bits.
+/// A set over borrowed words, to be read: its words, and its length in bits.
 #[derive(Clone, Copy)]
 pub struct Bits<'a> {
     pub(crate) words: &'a [Block],
     pub(crate) length: usize,
 }
 
-/// A set over lent words, to be changed. Its length stays.
+/// A set over borrowed words, to be changed. Its length stays.
 pub struct BitsMut<'a> {
     pub(crate) words: &'a mut [Block],
     pub(crate) length: usize,

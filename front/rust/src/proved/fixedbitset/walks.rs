@@ -1,10 +1,10 @@
 // Made by front/erase from crates/fixedbitset/src/walks.rt: change that, and not this.
-//! Walks over one set: the positions that are set, and those that are not.
+//! Iterators over one set: the positions that are set, and those that are not.
 //!
-//! The walks themselves are types of `bitwalks`. A call of a walk makes one turn, and one more for
-//! each word that it takes; after `None` from one end each end answers `None` for good. Proofs see
-//! the items left, the words that no call has taken yet, and the counts of turns and of words
-//! taken, which take no bytes when the program runs.
+//! The iterators themselves are types of `bitwalks`. A call of an iterator makes one turn, and one
+//! more for each word that it takes; after `None` from one end each end returns `None` for good.
+//! Proofs see the items left, the words that no call has taken yet, and the counts of turns and of
+//! words taken, which take no bytes when the program runs.
 
 use crate::proved::fixedbitset::set::FixedBitSet;
 use crate::proved::bitlanes::IndexRange;
@@ -13,8 +13,8 @@ use crate::proved::bitwalks::runs::Runs;
 use crate::proved::bitwalks::walks::{IntoOnes, Ones, Zeroes};
 
 impl FixedBitSet {
-    /// The set positions, in ascending order. It takes no memory, and reads the first and the last
-    /// word; those between are not yet taken.
+    /// The set positions, in ascending order. It does not allocate, and reads the first and the
+    /// last word; those between are not yet taken.
     ///
     /// ```text
     /// let set = FixedBitSet::from_iter(alloc, [64, 3])?;
@@ -26,8 +26,8 @@ impl FixedBitSet {
         Ones::over(self.used_words())
     }
 
-    /// The set positions, in ascending order, from a walk that owns the words of the set. It takes
-    /// no memory, and reads the first and the last word; those between are not yet taken.
+    /// The set positions, in ascending order, from an iterator that owns the words of the set. It
+    /// does not allocate, and reads the first and the last word; those between are not yet taken.
     ///
     /// ```text
     /// let set = FixedBitSet::from_iter(alloc, [64, 3, 9])?;
@@ -41,8 +41,8 @@ impl FixedBitSet {
         IntoOnes::over(words)
     }
 
-    /// The positions below the length that are not set, in ascending order. It takes no memory, and
-    /// reads the first and the last word; those between are not yet taken.
+    /// The positions below the length that are not set, in ascending order. It does not allocate,
+    /// and reads the first and the last word; those between are not yet taken.
     ///
     /// ```text
     /// let mut set = FixedBitSet::with_capacity(alloc, 66)?;
@@ -58,7 +58,7 @@ impl FixedBitSet {
     /// The set positions of the range, in ascending order. The range must be valid, as that of
     /// [`count_ones`](Self::count_ones).
     ///
-    /// It takes no memory, and no other words than those that hold a position of the range.
+    /// It does not allocate, and takes no other words than those that hold a position of the range.
     /// Upstream has no such call.
     ///
     /// ```text
@@ -76,7 +76,7 @@ impl FixedBitSet {
 
     /// The positions of the range that are not set, in ascending order. The range must be valid.
     ///
-    /// It takes no memory, and no other words than those that hold a position of the range.
+    /// It does not allocate, and takes no other words than those that hold a position of the range.
     /// Upstream has no such call.
     ///
     /// ```text
@@ -91,12 +91,12 @@ impl FixedBitSet {
         Zeroes::within(self.used_words(), start, end)
     }
 
-    /// The stretches of set positions, as start and end, in ascending order: a stretch has the
-    /// positions from its start up to and without its end, and those before and behind it are clear
-    /// or past the ends of the set.
+    /// The runs of set positions, as start and end, in ascending order: a run has the positions
+    /// from its start up to and without its end, and those before and after it are clear or past
+    /// the ends of the set.
     ///
-    /// It takes no memory. A stretch costs by its words, and not by its positions.
-    /// Upstream has no such call.
+    /// It does not allocate. A run costs by its words, and not by its positions. Upstream has no
+    /// such call.
     ///
     /// ```text
     /// let mut set = FixedBitSet::with_capacity(alloc, 200)?;
@@ -109,11 +109,11 @@ impl FixedBitSet {
         Runs::below(self.used_words(), true, self.length)
     }
 
-    /// The stretches of positions below the length that are not set, as start and
-    /// end, in ascending order.
+    /// The runs of positions below the length that are not set, as start and end, in ascending
+    /// order.
     ///
-    /// It takes no memory. A stretch costs by its words, and not by its positions.
-    /// Upstream has no such call.
+    /// It does not allocate. A run costs by its words, and not by its positions. Upstream has no
+    /// such call.
     ///
     /// ```text
     /// let mut set = FixedBitSet::with_capacity(alloc, 200)?;

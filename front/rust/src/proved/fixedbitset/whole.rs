@@ -13,10 +13,10 @@ use crate::shim::alloc::AllocError;
 impl FixedBitSet {
     /// Leaves the greater of the two lengths, and the positions of either set.
     ///
-    /// `Err` comes only where `other` has more words than this set and memory for them was
-    /// refused; this set is then as it was. Where `other` needs no more words, the call takes
-    /// no memory and is never refused. It takes one step for each lane of `other`; new words
-    /// are written once before.
+    /// `Err` is returned only where `other` has more words than this set and their allocation
+    /// failed; this set is then as it was. Where `other` needs no more words, the call does not
+    /// allocate and cannot fail. It takes one step for each lane of `other`; new words are written
+    /// once before.
     ///
     /// ```text
     /// let mut set = FixedBitSet::from_iter(alloc, [1, 3])?;
@@ -46,7 +46,7 @@ impl FixedBitSet {
         counted::symmetric_difference_with(self, other, &mut Steps::new())
     }
 
-    /// Leaves this set's length, and the positions of both sets. It takes no memory.
+    /// Leaves this set's length, and the positions of both sets. It does not allocate.
     ///
     /// It takes one step for each lane that both have, and one for each that only
     /// this set has, to clear it.
@@ -62,7 +62,7 @@ impl FixedBitSet {
         counted::intersect_with(self, other, &mut Steps::new());
     }
 
-    /// Leaves this set's length, and its positions that `other` lacks. It takes no memory.
+    /// Leaves this set's length, and its positions that `other` lacks. It does not allocate.
     ///
     /// It takes one step for each lane that both have.
     ///
@@ -76,7 +76,7 @@ impl FixedBitSet {
         counted::difference_with(self, other, &mut Steps::new());
     }
 
-    /// [`union_with`](Self::union_with), with the answer whether a position came in: whether
+    /// [`union_with`](Self::union_with), which also returns whether a position came in: whether
     /// `other` has one that this set lacked. The length may become greater even where none came in;
     /// two calls of [`len`](Self::len) tell that.
     ///
@@ -91,8 +91,8 @@ impl FixedBitSet {
         counted::union_with_change(self, other, &mut Steps::new())
     }
 
-    /// [`intersect_with`](Self::intersect_with), with the answer whether a position went: whether
-    /// `other` lacked one of this set. It takes no memory.
+    /// [`intersect_with`](Self::intersect_with), which also returns whether a position went:
+    /// whether `other` lacked one of this set. It does not allocate.
     ///
     /// ```text
     /// let mut set = FixedBitSet::from_iter(alloc, [1, 3, 64])?;
@@ -104,8 +104,8 @@ impl FixedBitSet {
         counted::intersect_with_change(self, other, &mut Steps::new())
     }
 
-    /// [`difference_with`](Self::difference_with), with the answer whether a position went: whether
-    /// both sets had one. It takes no memory.
+    /// [`difference_with`](Self::difference_with), which also returns whether a position went:
+    /// whether both sets had one. It does not allocate.
     ///
     /// ```text
     /// let mut set = FixedBitSet::from_iter(alloc, [1, 3, 64])?;
@@ -117,9 +117,9 @@ impl FixedBitSet {
         counted::difference_with_change(self, other, &mut Steps::new())
     }
 
-    /// Takes in the positions of `gens` that `kills` lacks, and answers whether one came
-    /// in: whether this set lacked one of them. The length is then the greater one of
-    /// this set and of `gens`.
+    /// Takes in the positions of `gens` that `kills` lacks, and returns whether one came in:
+    /// whether this set lacked one of them. The length is then the greater one of this set and of
+    /// `gens`.
     ///
     /// Memory and errors are those of [`union_with`](Self::union_with) with `gens`; the length of
     /// `kills` does not matter. It takes one step for each lane of `gens`: it reads each word once,
@@ -138,7 +138,7 @@ impl FixedBitSet {
     }
 
     /// The same as [`union_with`](Self::union_with). Upstream's operator `|=` is this call, as it
-    /// may be refused memory.
+    /// may fail to allocate.
     ///
     /// ```text
     /// let mut set = FixedBitSet::from_iter(alloc, [1, 3])?;
@@ -150,7 +150,7 @@ impl FixedBitSet {
     }
 
     /// The same as [`symmetric_difference_with`](Self::symmetric_difference_with). Upstream's
-    /// operator `^=` is this call, as it may be refused memory.
+    /// operator `^=` is this call, as it may fail to allocate.
     ///
     /// ```text
     /// let mut set = FixedBitSet::from_iter(alloc, [1, 3])?;
@@ -163,7 +163,7 @@ impl FixedBitSet {
 
     /// A new set of the smaller of the two lengths, with the positions of both sets.
     ///
-    /// `Err` comes only where memory for its words was refused. It writes the shorter set's
+    /// `Err` is returned only where the allocation of its words failed. It writes the shorter set's
     /// words, joined with the other's: a long set in one pass, a short one in two. Upstream's
     /// operator `&` is this call.
     ///
@@ -181,7 +181,7 @@ impl FixedBitSet {
 
     /// A new set of the greater of the two lengths, with the positions of either set.
     ///
-    /// `Err` comes only where memory for its words was refused. It writes the longer set's
+    /// `Err` is returned only where the allocation of its words failed. It writes the longer set's
     /// words, joined with the other's: a long set in one pass, a short one in two. Upstream's
     /// operator `|` is this call.
     ///
@@ -199,7 +199,7 @@ impl FixedBitSet {
 
     /// A new set of the greater of the two lengths, with the positions of exactly one of the sets.
     ///
-    /// `Err` comes only where memory for its words was refused. It writes the longer set's
+    /// `Err` is returned only where the allocation of its words failed. It writes the longer set's
     /// words, joined with the other's: a long set in one pass, a short one in two. Upstream's
     /// operator `^` is this call.
     ///
@@ -317,8 +317,8 @@ impl FixedBitSet {
     }
 
     /// The least position of `other` that this set lacks, or `None` where it lacks none: where
-    /// `other` is a subset of it. The lengths are not compared, and it takes no memory.
-    /// Upstream has no such call.
+    /// `other` is a subset of it. The lengths are not compared, and it does not allocate. Upstream
+    /// has no such call.
     ///
     /// It stops at the first lane with such a position, and takes exactly one step for each lane
     /// up to that one, or for all of `other`.

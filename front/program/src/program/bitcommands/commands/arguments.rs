@@ -1,5 +1,5 @@
 // Made by front/erase from crates/bitcommands/src/commands/arguments.rt: change that, and not this.
-//! What commands are given besides numbers: a range of positions, and the ends of a walk.
+//! What commands are given besides numbers: a range of positions, and the ends of an iterator.
 
 use crate::program::fixedbitset::IndexRange;
 
@@ -29,7 +29,7 @@ impl IndexRange<usize> for Span {
     }
 }
 
-/// The end of a walk from which an item is asked.
+/// The end of an iterator from which an item is asked.
 pub enum End {
     /// The first of the items that are left.
     Front,

@@ -1,5 +1,5 @@
 // Made by front/erase from crates/bitcommands/src/commands/calling.rt: change that, and not this.
-//! Calls of a walk from its ends, one after the other.
+//! Calls of an iterator from its ends, one after the other.
 
 use crate::shim::prelude::Vec;
 use crate::program::bitcommands::commands::arguments::End;
@@ -8,7 +8,7 @@ use crate::program::bitcommands::commands::replies::Reply;
 use crate::program::fixedbitset::{Difference, Intersection, IntoOnes, Ones, SymmetricDifference, Union, Zeroes};
 use crate::shim::alloc::Global;
 
-// A walk that is called from its two ends.
+// An iterator that is called from its two ends.
 pub(super) trait TwoEnds {
     // The items that are left.
 
@@ -99,7 +99,7 @@ pub(super) fn call_all<W: TwoEnds>(
     Ok(Reply::Items(call_each(walk, ends, places)))
 }
 
-// The same, where the list is empty and has a place for each answer.
+// The same, where the list is empty and has a place for each result.
 pub(super) fn call_each<W: TwoEnds>(
     mut walk: W,
     ends: &[End],

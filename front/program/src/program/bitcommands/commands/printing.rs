@@ -1,5 +1,5 @@
 // Made by front/erase from crates/bitcommands/src/commands/printing.rt: change that, and not this.
-//! Texts of replies, put behind an output.
+//! Texts of replies, appended to an output.
 
 use crate::shim::prelude::{Vec, WriteJson};
 use crate::program::fixedbitset::Block;
@@ -28,14 +28,14 @@ pub(super) fn order_name(order: Ordering) -> &'static str {
     }
 }
 
-// A text that is read as the value. Where memory is refused the output is as it was.
+// A text that is read as the value. Where an allocation fails the output is as it was.
 pub(super) fn push_value(value: &Value, output: &mut Vec<u8>) -> Result<(), AllocError> {
     let text = value.to_vec(*output.allocator())?;
     output.extend_from_slice(text.as_slice())
 }
 
-// The text, and the number behind it, if there is one. Where memory is refused
-// the output is as it was.
+// The text, and the number after it, if there is one. Where an allocation fails the output is as it
+// was.
 pub(super) fn push_numbered(
     text: &str,
     number: Option<usize>,
@@ -53,11 +53,11 @@ pub(super) fn push_numbered(
     pushed
 }
 
-// What stands in a list of a reply: an item of a walk, or a word.
+// What stands in a list of a reply: an item of an iterator, or a word.
 pub(super) trait Part {
     // Its text.
 
-    // Puts the text behind the output. Where memory is refused the output is as it was.
+    // Appends the text to the output. Where an allocation fails the output is as it was.
     fn push_to(&self, output: &mut Vec<u8>) -> Result<(), AllocError>;
 
     // Writes the text.
@@ -90,7 +90,7 @@ impl Part for Block {
     }
 }
 
-// The words, one space between two of them, or `-` where there are none. Where memory is refused
+// The words, one space between two of them, or `-` where there are none. Where an allocation fails
 // the output is as it was.
 pub(super) fn push_words(words: &[Block], output: &mut Vec<u8>) -> Result<(), AllocError> {
     if words.is_empty() {
@@ -99,8 +99,8 @@ pub(super) fn push_words(words: &[Block], output: &mut Vec<u8>) -> Result<(), Al
     push_parts(words, output)
 }
 
-// One text for each, one space between two of them. Where memory is refused
-// the output is as it was.
+// One text for each, one space between two of them. Where an allocation fails the output is as it
+// was.
 pub(super) fn push_parts<P: Part>(parts: &[P], output: &mut Vec<u8>) -> Result<(), AllocError> {
     let before = output.len();
     let pushed = push_spaced(parts, output);
@@ -110,7 +110,7 @@ pub(super) fn push_parts<P: Part>(parts: &[P], output: &mut Vec<u8>) -> Result<(
     pushed
 }
 
-// The same. Where memory is refused, a part of the text may stand behind the output.
+// The same. Where an allocation fails, a part of the text may be appended to the output.
 fn push_spaced<P: Part>(parts: &[P], output: &mut Vec<u8>) -> Result<(), AllocError> {
     let Some((first, rest)) = parts.split_first() else {
         return Ok(());
@@ -129,7 +129,7 @@ pub(super) fn push_number(number: usize, output: &mut Vec<u8>) -> Result<(), All
     output.extend_from_slice(&digits[start..])
 }
 
-// Writes the digits at the end of the buffer, and answers where they start. Two digits a turn halve
+// Writes the digits at the end of the buffer, and returns where they start. Two digits a turn halve
 // the divisions that wait for one another.
 #[inline]
 fn write_digits(number: usize, digits: &mut [u8; DIGITS]) -> usize {

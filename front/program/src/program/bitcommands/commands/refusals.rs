@@ -28,14 +28,14 @@ pub enum Refusal {
     Greatest,
     /// F5: the JSON value is not in the form.
     Json(JsonFault),
-    /// F6: memory was refused.
+    /// F6: an allocation failed.
     Memory,
     /// F7: a length that the command asks for is above the limit.
     Limit,
 }
 
 impl Refusal {
-    /// The text that `Display` prints, and the number that stands behind it, if one does.
+    /// The text that `Display` prints, and the number that stands after it, if one does.
     pub(super) fn text(&self) -> (&'static str, Option<usize>) {
         match self {
             Refusal::NoSet => ("F1 no such set", None),

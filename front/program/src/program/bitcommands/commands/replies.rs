@@ -1,5 +1,5 @@
 // Made by front/erase from crates/bitcommands/src/commands/replies.rt: change that, and not this.
-//! What a command answers.
+//! What a command returns.
 
 use crate::shim::prelude::{String, Vec};
 use crate::program::bitcommands::commands::printing::{
@@ -26,7 +26,7 @@ pub enum Reply {
     Number(usize),
     /// A position, if there is one.
     Position(Option<usize>),
-    /// What the calls of a walk answered, in order.
+    /// What the calls of an iterator returned, in order.
     Items(Vec<Option<usize>>),
     /// The words of a set, in order.
     Words(Vec<Block>),
@@ -41,13 +41,14 @@ pub enum Reply {
 }
 
 impl Reply {
-    /// Puts the text that `Display` prints behind the output, without a formatter.
+    /// Appends the text that `Display` prints to the output, without a formatter.
     ///
     /// The text of a JSON value is read back as the value, unless it nests deeper than 127. A value
     /// with no number that has a fraction or an exponent has but one text, and that has no spaces.
-    /// A value that `apply` answers is such a one.
+    /// A value that `apply` returns is such a one.
     ///
-    /// `Err` comes only where memory for the text was refused. The output is then as it was.
+    /// `Err` is returned only where the allocation of the text failed. The output is then as it
+    /// was.
     ///
     /// ```text
     /// let mut output = Vec::new(alloc);
@@ -75,7 +76,7 @@ impl Reply {
     }
 }
 
-/// It writes the text that `push_text` puts behind an output, and takes no memory.
+/// It writes the text that `push_text` appends to an output, and does not allocate.
 ///
 /// Of a JSON value with a number that has a fraction or an exponent no text is promised.
 impl fmt::Display for Reply {

@@ -55,7 +55,7 @@ fn write_comma(later: bool, f: &mut fmt::Formatter<'_>) -> fmt::Result {
     if later { f.write_str(",") } else { Ok(()) }
 }
 
-// The key of a member and a colon, behind a comma if a member stands before.
+// The key of a member and a colon, after a comma if a member stands before.
 fn write_key(later: bool, key: &str, f: &mut fmt::Formatter<'_>) -> fmt::Result {
     write_comma(later, f)?;
     write_quoted(key, f)?;

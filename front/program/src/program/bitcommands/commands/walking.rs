@@ -1,5 +1,5 @@
 // Made by front/erase from crates/bitcommands/src/commands/walking.rt: change that, and not this.
-//! Commands that walk over the positions of a set, or of two.
+//! Commands that iterate over the positions of a set, or of two.
 
 use crate::shim::prelude::Vec;
 use crate::program::bitcommands::commands::arguments::End;
@@ -10,13 +10,14 @@ use crate::program::fixedbitset::FixedBitSet;
 use crate::shim::alloc::Global;
 use core::mem;
 
-/// A command that walks over positions, and answers what each call of the walk gives, in order.
+/// A command that iterates over positions, and returns what each call of the iterator gives, in
+/// order.
 ///
-/// The places of all answers are reserved first: where that is refused, no set has changed.
+/// The places of all results are reserved first: where that fails, no set has changed.
 pub enum Walk {
     /// The positions of the set `set`, in ascending order, by one call for each of `ends`.
     Ones { set: usize, ends: Vec<End> },
-    /// The same of a set that the walk takes: an empty set of length 0 is left in its place.
+    /// The same of a set that the iterator takes: an empty set of length 0 is left in its place.
     IntoOnes { set: usize, ends: Vec<End> },
     /// The positions below the length that the set `set` lacks, in ascending order.
     Zeroes { set: usize, ends: Vec<End> },

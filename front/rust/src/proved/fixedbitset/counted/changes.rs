@@ -1,6 +1,6 @@
 // Made by front/erase from crates/fixedbitset/src/counted/changes.rt: change that, and not this.
-//! The changes by other sets that answer whether a position changed, with a counter of steps. Each
-//! change by one set takes the steps of the call without the answer.
+//! The changes by other sets that return whether a position changed, with a counter of steps. Each
+//! change by one set takes the steps of the call without the result.
 
 use crate::proved::fixedbitset::set::FixedBitSet;
 use crate::proved::fixedbitset::views::BitsMut;
@@ -10,7 +10,7 @@ use crate::shim::alloc::AllocError;
 
 /// [`FixedBitSet::union_with_change`], with the steps that it takes.
 ///
-/// Where memory was refused the set is as it was.
+/// Where an allocation failed the set is as it was.
 ///
 /// ```text
 /// let mut set = FixedBitSet::from_iter(alloc, [1, 3])?;
@@ -61,7 +61,7 @@ pub fn difference_with_change(set: &mut FixedBitSet, other: &FixedBitSet, steps:
 
 /// [`FixedBitSet::union_with_difference`], with the steps that it takes.
 ///
-/// Where memory was refused the set is as it was.
+/// Where an allocation failed the set is as it was.
 ///
 /// ```text
 /// let mut set = FixedBitSet::from_iter(alloc, [1, 3])?;

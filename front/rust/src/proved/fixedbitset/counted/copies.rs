@@ -1,8 +1,8 @@
 // Made by front/erase from crates/fixedbitset/src/counted/copies.rt: change that, and not this.
 //! New sets and copies, with a counter of steps.
 //!
-//! Counted are the lanes that are joined, or copied over a set that is there. What a new set
-//! is filled with before, the rest of the longer set behind, and what is added to a set that
+//! The count includes the lanes that are joined, or copied over a set that is there. What a new set
+//! is filled with before, the rest of the longer set after it, and what is added to a set that
 //! grows are not counted.
 
 use crate::proved::fixedbitset::set::FixedBitSet;
@@ -13,7 +13,7 @@ use crate::shim::alloc::AllocError;
 
 /// [`FixedBitSet::clone_from`], with the steps that it takes.
 ///
-/// Where memory was refused the set is as it was.
+/// Where an allocation failed the set is as it was.
 ///
 /// ```text
 /// let source = FixedBitSet::from_iter(alloc, [3, 64])?;

@@ -3,7 +3,7 @@
 //!
 //! A call takes at most one step for each lane of four words that it writes, and one or two more
 //! for the words at the ends: `bound` says so, and `cost` how many it takes. What `grow` writes is
-//! not counted, nor what is cleared behind the length in the last lane.
+//! not counted, nor what is cleared after the length in the last lane.
 
 use crate::proved::fixedbitset::counted::ranges::insert_range;
 use crate::proved::fixedbitset::set::FixedBitSet;

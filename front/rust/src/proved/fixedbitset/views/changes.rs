@@ -1,6 +1,6 @@
 // Made by front/erase from crates/fixedbitset/src/views/changes.rt: change that, and not this.
-//! Two whole sets joined, with the answer whether a position of the first one changed. Each takes
-//! the steps of the call without the answer.
+//! Two whole sets joined, which also returns whether a position of the first one changed. Each
+//! takes the steps of the call without the result.
 
 use crate::proved::fixedbitset::views::{Bits, BitsMut};
 use crate::proved::bitlanes::Steps;
@@ -8,7 +8,7 @@ use crate::proved::bitlanes::ops::{And, AndNot, Or, WordOp};
 use crate::proved::bitwords::joins;
 
 impl BitsMut<'_> {
-    /// [`union_with`](BitsMut::union_with), with the answer whether a position came in.
+    /// [`union_with`](BitsMut::union_with), which also returns whether a position came in.
     ///
     /// ```text
     /// let (mut words, mut other) = ([9, 0, 0, 0], [3, 0, 0, 0]);
@@ -22,7 +22,7 @@ impl BitsMut<'_> {
         self.join_with_change::<Or>(other, steps)
     }
 
-    /// [`intersect_with`](BitsMut::intersect_with), with the answer whether a position went.
+    /// [`intersect_with`](BitsMut::intersect_with), which also returns whether a position went.
     ///
     /// ```text
     /// let (mut words, mut other) = ([9, 1, 0, 0], [3, 0, 0, 0]);
@@ -36,7 +36,7 @@ impl BitsMut<'_> {
         self.join_with_change::<And>(other, steps)
     }
 
-    /// [`difference_with`](BitsMut::difference_with), with the answer whether a position went.
+    /// [`difference_with`](BitsMut::difference_with), which also returns whether a position went.
     ///
     /// ```text
     /// let (mut words, mut other) = ([9, 1, 0, 0], [3, 0, 0, 0]);
@@ -50,7 +50,7 @@ impl BitsMut<'_> {
         self.join_with_change::<AndNot>(other, steps)
     }
 
-    /// Takes in the positions of the second set that the third lacks, and answers whether one came
+    /// Takes in the positions of the second set that the third lacks, and returns whether one came
     /// in. The second may not be longer than the first.
     ///
     /// ```text
@@ -71,8 +71,8 @@ impl BitsMut<'_> {
         self.join_difference(gens, kills, steps)
     }
 
-    // Joins the second set, but for the positions of the third, to the first, and answers
-    // whether a position changed.
+    // Joins the second set, but for the positions of the third, to the first, and returns whether a
+    // position changed.
     #[inline(always)]
     pub(crate) fn join_difference(
         &mut self,
@@ -83,7 +83,7 @@ impl BitsMut<'_> {
         joins::union_with_difference(self.words, gens.words, kills.words, steps)
     }
 
-    // Joins the second set to the first, and answers whether a position changed.
+    // Joins the second set to the first, and returns whether a position changed.
     #[inline(always)]
     pub(crate) fn join_with_change<O: WordOp>(&mut self, other: Bits<'_>, steps: &mut Steps) -> bool {
         joins::join_with_change::<O>(self.words, other.words, steps)

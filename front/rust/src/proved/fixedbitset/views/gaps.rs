@@ -1,5 +1,5 @@
 // Made by front/erase from crates/fixedbitset/src/views/gaps.rt: change that, and not this.
-//! Stretches of clear positions, long enough for a caller.
+//! Runs of clear positions, long enough for a caller.
 
 use crate::proved::fixedbitset::views::Bits;
 use crate::proved::bitlanes::Steps;

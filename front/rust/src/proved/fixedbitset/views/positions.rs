@@ -11,7 +11,7 @@ impl<'a> Bits<'a> {
     /// stand: as many whole lanes as the length needs, and no bit past it. So words from elsewhere
     /// can be refused, where `settle` would clear what does not fit.
     ///
-    /// It looks at the word of the length and at those behind it, which are at most one lane.
+    /// It looks at the word of the length and at those after it, which are at most one lane.
     ///
     /// ```text
     /// assert!(Bits::over(&[8, 63, 0, 0], 70).is_some());
@@ -27,8 +27,8 @@ impl<'a> Bits<'a> {
         }
     }
 
-    /// The words that the length needs, without those behind them that make up a whole lane: those
-    /// that [`as_slice`](crate::proved::fixedbitset::FixedBitSet::as_slice) lends. The walks go over these.
+    /// The words that the length needs, without those after them that make up a whole lane: those
+    /// that [`as_slice`](crate::proved::fixedbitset::FixedBitSet::as_slice) returns. The iterators go over these.
     ///
     /// ```text
     /// let mut words = [9, 2, 0, 0];
@@ -66,7 +66,7 @@ impl<'a> Bits<'a> {
     }
 
     /// Writes for each position of the list whether it is set: `false` at or past the length. There
-    /// have to be as many answers as positions. It looks at one word at most for each item.
+    /// have to be as many results as positions. It looks at one word at most for each item.
     ///
     /// ```text
     /// let mut words = [9, 2, 0, 0];
@@ -133,7 +133,7 @@ impl<'a> BitsMut<'a> {
     ///
     /// So with `kept` 0 no position is set, with `kept` the length none below it is lost, and with
     /// the length of before the set has grown. There have to be as many words as a set of this
-    /// length keeps. It writes the word of `kept` and those behind it.
+    /// length keeps. It writes the word of `kept` and those after it.
     ///
     /// ```text
     /// let mut words = [8, Block::MAX, 1, 0];
@@ -214,7 +214,7 @@ impl<'a> BitsMut<'a> {
         self.words[bit / BITS] ^= 1 << (bit % BITS);
     }
 
-    /// Sets the position, which has to be below the length, and answers whether it was set before.
+    /// Sets the position, which has to be below the length, and returns whether it was set before.
     ///
     /// ```text
     /// let mut words = [8, 0, 0, 0];
@@ -229,8 +229,8 @@ impl<'a> BitsMut<'a> {
         was_set
     }
 
-    /// Clears the position, which has to be below the length, and answers
-    /// whether it was set before.
+    /// Clears the position, which has to be below the length, and returns whether it was set
+    /// before.
     ///
     /// ```text
     /// let mut words = [9, 0, 0, 0];
@@ -290,7 +290,7 @@ impl<'a> BitsMut<'a> {
     /// ```
     #[inline]
     pub fn insert_all(&mut self, positions: &[usize]) {
-        // Taken apart, so that a turn need not look anew where the words lie.
+        // Taken apart, so that a turn need not look again where the words lie.
         let (words, length) = (&mut *self.words, self.length);
         for position in positions {
             let words = &mut *words;

@@ -78,7 +78,7 @@ impl BitsMut<'_> {
 
 impl Bits<'_> {
     /// Whether the range is valid: its start is not past its end, and its end not past the length.
-    /// Every range may be asked.
+    /// Any range is allowed.
     ///
     /// ```text
     /// let mut words = [9, 0, 0, 0];

@@ -1,8 +1,9 @@
 // Made by front/erase from crates/fixedbitset/src/views/walks.rt: change that, and not this.
-//! Walks over the positions of a set, and over those that it lacks.
+//! Iterators over the positions of a set, and over those that it lacks.
 //!
-//! A walk goes over the words that the length needs, and not over those behind them that make up a
-//! whole lane. It has read the first and the last of them, and those between are not yet taken.
+//! An iterator goes over the words that the length needs, and not over those after them that make
+//! up a whole lane. It has read the first and the last of them, and those between are not yet
+//! taken.
 
 use crate::proved::fixedbitset::views::Bits;
 use crate::proved::bitlanes::Block;
@@ -102,7 +103,7 @@ impl<'a> Bits<'a> {
         zeroes_within(self.as_slice(), 0, self.length)
     }
 
-    /// The stretches of positions that are set, as start and end, in ascending order.
+    /// The runs of positions that are set, as start and end, in ascending order.
     ///
     /// ```text
     /// let mut words = [Block::MAX, 1, 0, 0];
@@ -114,8 +115,8 @@ impl<'a> Bits<'a> {
         Runs::below(self.as_slice(), true, self.length)
     }
 
-    /// The stretches of positions below the length that are not set, as start and
-    /// end, in ascending order.
+    /// The runs of positions below the length that are not set, as start and end, in ascending
+    /// order.
     ///
     /// ```text
     /// let mut words = [Block::MAX, 1, 0, 0];
