@@ -38,7 +38,7 @@ class Result:
 
 FILES = {
     "published_reads.rs": File("Bits", """\
-//! The calls of the views that read a set over lent words.
+//! The calls of the views that read a set over borrowed words.
 use crate::proved::bitlanes::Steps;
 use crate::{
     Bits, Block, Difference, IndexRange, Intersection, Ones, Runs, SymmetricDifference, Union,
@@ -48,7 +48,7 @@ use crate::{
 impl<'a> Bits<'a> {
 """, "self"),
     "published_changes.rs": File("BitsMut", """\
-//! The calls of the views that change a set over lent words.
+//! The calls of the views that change a set over borrowed words.
 use crate::proved::bitlanes::Steps;
 use crate::{Bits, BitsMut, Block, IndexRange};
 

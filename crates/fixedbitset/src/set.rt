@@ -19,7 +19,7 @@ use std::marker::Model;
 // by a loop, with no call.
 const LONG: usize = 64;
 
-/// A set of bits: a length in bits, and a set of positions below it.
+/// A bit set (bitmap): a length in bits, and a set of positions below it.
 ///
 /// It keeps the words that the length needs, and up to three more, so that they make whole lanes of
 /// four. Bits past the length are always zero. Two sets are the same value exactly if their lengths

@@ -1,4 +1,4 @@
-//! Slow values, which tests compare sets with: a flag for each position below the length.
+//! Reference values, which tests compare sets with: a flag for each position below the length.
 #![tactic(auto)]
 
 pub mod pairs;

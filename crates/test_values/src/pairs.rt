@@ -1,8 +1,8 @@
-//! Two slow values: joined, counted, and every pair of fifteen lengths.
+//! Two reference values: joined, counted, and every pair of fifteen lengths.
 
 use std::alloc::{AllocError, Global};
 
-/// Which positions of two slow values are meant.
+/// Which positions of two reference values are meant.
 #[derive(Clone, Copy)]
 pub enum Join {
     /// Those of the first.
@@ -35,7 +35,7 @@ fn has(flags: &[bool], position: usize) -> bool {
     position < flags.len() && flags[position]
 }
 
-/// The slow value of this length that has the positions of the join.
+/// The reference value of this length that has the positions of the join.
 pub fn joined(
     alloc: Global,
     length: usize,
@@ -95,7 +95,7 @@ fn is_chosen(filling: usize, position: usize) -> bool {
     }
 }
 
-// The slow value of a filling.
+// The reference value of a filling.
 fn chosen(alloc: Global, length: usize, filling: usize) -> Result<Vec<bool>, AllocError> {
     let mut flags = Vec::new(alloc);
     for position in 0..length {
@@ -104,7 +104,7 @@ fn chosen(alloc: Global, length: usize, filling: usize) -> Result<Vec<bool>, All
     Ok(flags)
 }
 
-/// Two slow values.
+/// Two reference values.
 #[derive(Drop)]
 pub struct Pair {
     pub a: Vec<bool>,

@@ -1,4 +1,4 @@
-//! One set compared with one slow value.
+//! One set compared with one reference value.
 
 ghost use Rattle.std.specs.Prelude.{◌≡◌, ◌<◌, length, IfOk, true};
 ghost use Rattle.test_values.specs.Slow.{HasPositions};
@@ -7,7 +7,7 @@ use bitlanes::word::{BITS, Block};
 use fixedbitset::FixedBitSet;
 use std::alloc::{AllocError, Global};
 
-/// The slow value of this length that has the multiples of a step.
+/// The reference value of this length that has the multiples of a step.
 pub fn multiples(alloc: Global, length: usize, step: usize) -> Result<Vec<bool>, AllocError>
     requires { 0 < step }
 {
@@ -18,7 +18,7 @@ pub fn multiples(alloc: Global, length: usize, step: usize) -> Result<Vec<bool>,
     Ok(flags)
 }
 
-/// The set of this slow value.
+/// The set of this reference value.
 #[tactic(auto, using(fixedbitset::specs::BitsFacts::facts))]
 pub fn filled(alloc: Global, flags: &[bool]) -> Result<FixedBitSet, AllocError>
     ensures length { IfOk result (λ set. set.length ≡ length flags.now) }

@@ -1,4 +1,4 @@
-//! The length of a set over lent words that may change, and the panics of the calls that change a set.
+//! The length of a set over borrowed words that may change, and the panics of the calls that change a set.
 use crate::{panics, Bits, BitsMut, FixedBitSet};
 
 /// Declares a test of what a call asks, which panics where that does not hold.
@@ -18,7 +18,7 @@ macro_rules! asserts {
 impl BitsMut<'_> {
     /// [`FixedBitSet::len`](crate::FixedBitSet::len).
     ///
-    /// Not proved: it answers the number that is kept.
+    /// Not proved: it returns the number that is kept.
     ///
     /// ```
     /// # use fixedbitset::BitsMut;

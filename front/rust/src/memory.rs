@@ -6,7 +6,7 @@ use core::fmt::{Display, Formatter, Result as Written};
 impl AllocError {
     /// How many bytes the call needed.
     ///
-    /// Not proved: it answers the number that is kept.
+    /// Not proved: it returns the number that is kept.
     ///
     /// ```
     /// # use fixedbitset::FixedBitSet;
@@ -20,7 +20,7 @@ impl AllocError {
 
 /// Not proved: it prints the number.
 impl Display for AllocError {
-    /// That memory was refused, and how much.
+    /// That an allocation failed, and how much.
     fn fmt(&self, f: &mut Formatter<'_>) -> Written {
         write!(f, "memory of {} bytes was refused", self.bytes)
     }
@@ -37,7 +37,7 @@ impl Display for ExtendFault {
     }
 }
 
-/// What a call answers that may be refused memory, for one that ends the program then.
+/// What a call returns that may fail to allocate, for one that ends the program then.
 pub(crate) trait OrAbort {
     type Made;
     fn or_abort(self) -> Self::Made;
@@ -82,7 +82,7 @@ fn abort(bytes: usize) -> ! {
 }
 
 impl FixedBitSet {
-    /// [`clone`](Clone::clone), which says where memory is refused.
+    /// [`clone`](Clone::clone), which says where an allocation fails.
     ///
     /// Proved: the set, for all sets ([contract](crate::contracts#fixedbitsetfixedbitsetfrom_bits)).
     ///

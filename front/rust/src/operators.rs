@@ -41,7 +41,7 @@ operators! {
 /// Declares that `set[bit]` is `set.contains(bit)`.
 macro_rules! indices {
     ($($name:ty $(, $lent:ident)?;)*) => { $(
-        /// Proved: the answer, for all sets and all numbers ([contract](crate::contracts#fixedbitsetbitscontains)).
+        /// Proved: the result, for all sets and all numbers ([contract](crate::contracts#fixedbitsetbitscontains)).
         impl Index<usize> for $name {
             type Output = bool;
 

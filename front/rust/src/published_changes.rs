@@ -1,5 +1,5 @@
 // Made by front/publish from crates/fixedbitset/src: change that, and not this.
-//! The calls of the views that change a set over lent words.
+//! The calls of the views that change a set over borrowed words.
 use crate::proved::bitlanes::Steps;
 use crate::{Bits, BitsMut, Block, IndexRange};
 

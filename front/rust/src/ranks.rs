@@ -1,15 +1,15 @@
-//! How many positions stand below a given one, and which is the k-th. The crate of this name has no such calls.
+//! How many positions stand below a given one, and which is the k-th. Upstream has no such calls.
 use crate::memory::OrAbort;
 use crate::proved::bitranks;
 use crate::shim::alloc::Global;
 use crate::{AllocError, FixedBitSet};
 use core::fmt::{Debug, Formatter, Result as Written};
 
-/// A set that is lent, with a directory that answers how many positions stand below a given one.
+/// A set that is borrowed, with a directory that returns how many positions stand below a given one.
 ///
 /// The directory takes one word of memory for eight words of the set. While it lives the set cannot change.
 ///
-/// Proved: what `rank` and `select` answer ([contract](crate::contracts#bitranksranksrank)).
+/// Proved: what `rank` and `select` return ([contract](crate::contracts#bitranksranksrank)).
 ///
 /// ```
 /// use fixedbitset::{FixedBitSet, Ranks};
@@ -39,7 +39,7 @@ impl<'a> Ranks<'a> {
         Ranks { set, ranks }
     }
 
-    /// [`of`](Self::of), which says where memory is refused.
+    /// [`of`](Self::of), which returns an error if an allocation fails.
     ///
     /// Proved: the ranks, for all sets ([contract](crate::contracts#bitranksranksof)).
     ///
@@ -56,7 +56,7 @@ impl<'a> Ranks<'a> {
 
     /// The set.
     ///
-    /// Not proved: it answers what is kept.
+    /// Not proved: it returns what is kept.
     ///
     /// ```
     /// # use fixedbitset::{FixedBitSet, Ranks};
@@ -71,7 +71,7 @@ impl<'a> Ranks<'a> {
     /// How many positions below this one are set. The position may be any number; past the length all are below it. It looks
     /// at one entry of the directory and at eight words of the set at most.
     ///
-    /// Proved: the answer, for all sets and all numbers ([contract](crate::contracts#bitranksranksrank)).
+    /// Proved: the result, for all sets and all numbers ([contract](crate::contracts#bitranksranksrank)).
     ///
     /// ```
     /// # use fixedbitset::{FixedBitSet, Ranks};
@@ -87,7 +87,7 @@ impl<'a> Ranks<'a> {
     /// The position with so many positions of the set below it: the first has index 0. `None` where the set has no more
     /// positions than that.
     ///
-    /// Proved: the answer, for all sets and all numbers ([contract](crate::contracts#bitranksranksselect)).
+    /// Proved: the result, for all sets and all numbers ([contract](crate::contracts#bitranksranksselect)).
     ///
     /// ```
     /// # use fixedbitset::{FixedBitSet, Ranks};

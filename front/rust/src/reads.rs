@@ -1,10 +1,10 @@
-//! The length of a set over lent words, the ends of a range of it, and the panics of the calls that read one.
+//! The length of a set over borrowed words, the ends of a range of it, and the panics of the calls that read one.
 use crate::{panics, Bits, IndexRange};
 
 impl Bits<'_> {
     /// [`FixedBitSet::len`](crate::FixedBitSet::len).
     ///
-    /// Not proved: it answers the number that is kept.
+    /// Not proved: it returns the number that is kept.
     ///
     /// ```
     /// # use fixedbitset::Bits;
@@ -29,7 +29,7 @@ impl Bits<'_> {
         self.len() == 0
     }
 
-    /// The panic of a list of answers that is not as long as that of the positions.
+    /// The panic of a list of results that is not as long as that of the positions.
     #[inline]
     #[track_caller]
     pub(crate) fn assert_like(self, positions: &[usize], answers: &[bool]) {

@@ -1,4 +1,4 @@
-//! Tables of bits. The crate of this name has none.
+//! Bit matrices. Upstream has none.
 use crate::memory::OrAbort;
 use crate::proved::bitrows::table;
 use crate::shim::alloc::Global;
@@ -9,7 +9,7 @@ use core::fmt::{Debug, Formatter, Result as Written};
 ///
 /// The rows stand in one row of words. Each keeps the words that a set of so many columns has: whole lanes of four.
 ///
-/// Proved: what its calls answer and leave ([contract](crate::contracts#bitrowsrowsmutclose)).
+/// Proved: what its calls return and leave ([contract](crate::contracts#bitrowsrowsmutclose)).
 ///
 /// ```
 /// use fixedbitset::BitRows;
@@ -28,8 +28,8 @@ pub struct BitRows {
 impl BitRows {
     /// The table of so many rows and columns with no bit.
     ///
-    /// **Panics** where its words would be more than a vector can have. Where memory is refused the program ends;
-    /// [`try_new`](Self::try_new) says so instead.
+    /// **Panics** where its words would be more than a vector can have. Where an allocation fails the program ends;
+    /// [`try_new`](Self::try_new) returns an error instead.
     ///
     /// Proved: the table, for all numbers, wherever it does not panic ([contract](crate::contracts#bitrowsbitrowsnew)).
     ///
@@ -44,7 +44,7 @@ impl BitRows {
         BitRows { table }
     }
 
-    /// [`new`](Self::new), which says where memory is refused.
+    /// [`new`](Self::new), which returns an error if an allocation fails.
     ///
     /// Proved: the table, for all numbers ([contract](crate::contracts#bitrowsbitrowsnew)).
     ///
@@ -87,7 +87,7 @@ impl BitRows {
 
     /// Whether the row has a bit at the column: `false` past the rows and past the columns.
     ///
-    /// Proved: the answer, for each row of the table ([contract](crate::contracts#bitrowsrowsget)). Past the rows it is not.
+    /// Proved: the result, for each row of the table ([contract](crate::contracts#bitrowsrowsget)). Past the rows it is not.
     ///
     /// ```
     /// # use fixedbitset::BitRows;
@@ -124,12 +124,12 @@ impl BitRows {
         self.table.set(row, column, enabled);
     }
 
-    /// Row `into` takes in the bits of row `from`, and the other rows stay. It answers whether a bit came in. Where the two
-    /// are one row, nothing changes.
+    /// Row `into` takes in the bits of row `from`, and the other rows stay. It returns whether a bit came in. Where the two are
+    /// one row, nothing changes.
     ///
     /// **Panics** where the table has not both rows.
     ///
-    /// Proved: the answer and what it leaves, for any two rows of the table
+    /// Proved: the result and what it leaves, for any two rows of the table
     /// ([contract](crate::contracts#bitrowsrowsmutunion_rows)).
     ///
     /// ```

@@ -1,5 +1,5 @@
-//! What Rattle's `std` has and stable Rust has not: a lane of four words, a row of numbers whose calls say where memory is refused,
-//! and a snapshot of a value for proofs.
+//! What Rattle's `std` has and stable Rust has not: a lane of four words, a row of numbers whose calls return an error if an
+//! allocation fails, and a snapshot of a value for proofs.
 
 /// A word. On a target of 64 bits it is `usize`, as upstream's is.
 #[cfg(target_pointer_width = "64")]
@@ -144,7 +144,8 @@ pub mod alloc {
         Abort,
     }
 
-    /// Memory was refused: by the allocator, or since no memory is so large. Two of these cannot be compared: in Rattle all are equal.
+    /// An allocation failed: by the allocator, or since no memory is so large. Two of these cannot be compared: in Rattle all are
+    /// equal.
     ///
     /// Not proved: it is a number.
     ///
@@ -168,7 +169,7 @@ pub mod alloc {
 pub mod prelude {
     pub use super::row::Vec;
 
-    /// A value that is copied by a call which may be refused memory.
+    /// A value that is copied by a call which may fail to allocate.
     pub trait Clone: Sized {
         fn clone(&self) -> Result<Self, super::alloc::AllocError>;
     }

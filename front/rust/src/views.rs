@@ -1,12 +1,12 @@
-//! Sets over words that someone else keeps. The crate of this name has none.
+//! Sets over words that someone else owns. Upstream has none.
 use crate::proved::bitlanes::Steps;
 use crate::proved::fixedbitset::views;
 use crate::{panics, Block, FixedBitSet};
 use core::cmp::Ordering;
 
-/// A set over lent words, to be read: to a [`FixedBitSet`] what a slice is to a `Vec`.
+/// A set over borrowed words, to be read: to a [`FixedBitSet`] what a slice is to a `Vec`.
 ///
-/// It has each call of a set that changes nothing and takes no memory. Its words are those of a set: whole lanes of four, as
+/// It has each call of a set that changes nothing and does not allocate. Its words are those of a set: whole lanes of four, as
 /// many as the length needs ([`storage_words`]), with no bit past the length. So a set can stand in words that were read from a
 /// file, with no copy of them. Where the docs of a call count steps, a step is a look at one lane, unless they say otherwise.
 ///
@@ -33,10 +33,10 @@ pub struct Bits<'a> {
     pub(crate) view: views::Bits<'a>,
 }
 
-/// A set over lent words, to be changed: to a [`FixedBitSet`] what a slice `&mut [T]` is to a `Vec`.
+/// A set over borrowed words, to be changed: to a [`FixedBitSet`] what a slice `&mut [T]` is to a `Vec`.
 ///
-/// It has each call of a set that changes it and takes no memory, and [`as_bits`](Self::as_bits) lends it to those that read.
-/// Its length stays. Steps are those of [`Bits`]. What is lent cannot be made the words of no set:
+/// It has each call of a set that changes it and does not allocate, and [`as_bits`](Self::as_bits) returns it to those that read.
+/// Its length stays. Steps are those of [`Bits`]. The words cannot be made invalid through it:
 ///
 /// ```compile_fail,E0616
 /// let mut words = [0; 4];
@@ -60,7 +60,7 @@ pub struct BitsMut<'a> {
 /// How many words a set of this length keeps: those that the length needs, and up to three more that make whole lanes of
 /// four.
 ///
-/// Proved: the answer, for all numbers ([contract](crate::contracts#fixedbitsetviewsstorage_words)).
+/// Proved: the result, for all numbers ([contract](crate::contracts#fixedbitsetviewsstorage_words)).
 ///
 /// ```
 /// # use fixedbitset::storage_words;
@@ -75,7 +75,7 @@ impl<'a> Bits<'a> {
     /// The words as a set of this length, or `None` where they are not those of one as they stand: [`storage_words`] of them,
     /// and no bit past the length.
     ///
-    /// Proved: the answer, for all words and all numbers ([contract](crate::contracts#fixedbitsetbitsover)).
+    /// Proved: the result, for all words and all numbers ([contract](crate::contracts#fixedbitsetbitsover)).
     ///
     /// ```
     /// # use fixedbitset::Bits;
@@ -93,7 +93,7 @@ impl<'a> Bits<'a> {
 impl<'a> BitsMut<'a> {
     /// [`Bits::over`], to be changed. [`settle`](Self::settle) clears what this refuses.
     ///
-    /// Proved: the answer, for all words and all numbers ([contract](crate::contracts#fixedbitsetbitsmutover)).
+    /// Proved: the result, for all words and all numbers ([contract](crate::contracts#fixedbitsetbitsmutover)).
     ///
     /// ```
     /// # use fixedbitset::BitsMut;
@@ -110,8 +110,8 @@ impl<'a> BitsMut<'a> {
 
     /// Makes any words those of a set of this length: of the positions that they have those below `kept` stay.
     ///
-    /// So with `kept` 0 no position is set, with `kept` the length none below it is lost, and with the length of before the
-    /// set has grown. It writes the word of `kept` and those behind it.
+    /// So with `kept` 0 no position is set, with `kept` the length none below it is lost, and with the length of before the set
+    /// has grown. It writes the word of `kept` and those after it.
     ///
     /// **Panics** where there are not [`storage_words`] of them, and where `kept` is past the length.
     ///
@@ -154,7 +154,7 @@ impl<'a> BitsMut<'a> {
 }
 
 impl FixedBitSet {
-    /// The set as one over lent words, to be read.
+    /// The set as one over borrowed words, to be read.
     ///
     /// Proved: the view, for all sets ([contract](crate::contracts#fixedbitsetfixedbitsetas_bits)).
     ///
@@ -169,9 +169,9 @@ impl FixedBitSet {
         Bits { view }
     }
 
-    /// The set as one over lent words, to be changed. Its length stays.
+    /// The set as one over borrowed words, to be changed. Its length stays.
     ///
-    /// Not proved: it lends the words that are kept.
+    /// Not proved: it returns the words that are kept.
     ///
     /// ```
     /// # use fixedbitset::{Bits, FixedBitSet};
@@ -195,7 +195,7 @@ impl From<Bits<'_>> for FixedBitSet {
     }
 }
 
-/// Proved: the answer, for any two sets ([contract](crate::contracts#fixedbitsetbitsis_equal)).
+/// Proved: the result, for any two sets ([contract](crate::contracts#fixedbitsetbitsis_equal)).
 impl PartialEq for Bits<'_> {
     #[inline]
     fn eq(&self, other: &Self) -> bool {
@@ -207,7 +207,7 @@ impl PartialEq for Bits<'_> {
 /// ([contract](crate::contracts#fixedbitsetbitsis_equal)).
 impl Eq for Bits<'_> {}
 
-/// Proved: the answer, which is that of [`Ord`] ([contract](crate::contracts#fixedbitsetbitscompare)).
+/// Proved: the result, which is that of [`Ord`] ([contract](crate::contracts#fixedbitsetbitscompare)).
 impl PartialOrd for Bits<'_> {
     #[inline]
     fn partial_cmp(&self, other: &Self) -> Option<Ordering> {
@@ -215,7 +215,7 @@ impl PartialOrd for Bits<'_> {
     }
 }
 
-/// Proved: the answer, for any two sets ([contract](crate::contracts#fixedbitsetbitscompare)).
+/// Proved: the result, for any two sets ([contract](crate::contracts#fixedbitsetbitscompare)).
 impl Ord for Bits<'_> {
     #[inline]
     fn cmp(&self, other: &Self) -> Ordering {
@@ -223,7 +223,7 @@ impl Ord for Bits<'_> {
     }
 }
 
-/// Proved: the answer, for any two sets ([contract](crate::contracts#fixedbitsetbitsis_equal)).
+/// Proved: the result, for any two sets ([contract](crate::contracts#fixedbitsetbitsis_equal)).
 impl PartialEq for BitsMut<'_> {
     #[inline]
     fn eq(&self, other: &Self) -> bool {

@@ -1,4 +1,4 @@
-//! The walks over positions. Each call of one is a call of a proved walk.
+//! The iterators over positions. Each call of one is a call of a proved iterator.
 use crate::proved::bitlanes::ops::{And, AndNot};
 use crate::proved::bitlanes::word::take_lowest_bit;
 use crate::proved::bitlanes::Steps;
@@ -8,7 +8,7 @@ use crate::{panics, Block};
 use core::fmt::{Debug, Formatter, Result};
 use core::iter::FusedIterator;
 
-/// The walk of [`FixedBitSet::ones`](crate::FixedBitSet::ones) and of [`FixedBitSet::ones_in`](crate::FixedBitSet::ones_in).
+/// The iterator of [`FixedBitSet::ones`](crate::FixedBitSet::ones) and of [`FixedBitSet::ones_in`](crate::FixedBitSet::ones_in).
 ///
 /// Proved: each item that it gives, in any mix of calls from both ends
 /// ([contract](crate::contracts#fixedbitsetbitsones)).
@@ -24,7 +24,7 @@ pub struct Ones<'a> {
     pub(crate) walk: Cursor<Plain<'a>>,
 }
 
-/// The walk of [`FixedBitSet::into_ones`](crate::FixedBitSet::into_ones).
+/// The iterator of [`FixedBitSet::into_ones`](crate::FixedBitSet::into_ones).
 ///
 /// Proved: each item that it gives, in any mix of calls from both ends
 /// ([contract](crate::contracts#bitwordscursorscursorover)).
@@ -38,7 +38,8 @@ pub struct IntoOnes {
     pub(crate) walk: bitwalks::IntoOnes,
 }
 
-/// The walk of [`FixedBitSet::zeroes`](crate::FixedBitSet::zeroes) and of [`FixedBitSet::zeroes_in`](crate::FixedBitSet::zeroes_in).
+/// The iterator of [`FixedBitSet::zeroes`](crate::FixedBitSet::zeroes) and of
+/// [`FixedBitSet::zeroes_in`](crate::FixedBitSet::zeroes_in).
 ///
 /// Proved: each item that it gives, in any mix of calls from both ends
 /// ([contract](crate::contracts#fixedbitsetbitszeroes)).
@@ -53,7 +54,7 @@ pub struct Zeroes<'a> {
     pub(crate) walk: Cursor<Inverted<'a>>,
 }
 
-/// The walk of [`FixedBitSet::intersection`](crate::FixedBitSet::intersection).
+/// The iterator of [`FixedBitSet::intersection`](crate::FixedBitSet::intersection).
 ///
 /// Proved: each item that it gives, in any mix of calls from both ends
 /// ([contract](crate::contracts#fixedbitsetbitsintersection)).
@@ -68,7 +69,7 @@ pub struct Intersection<'a> {
     pub(crate) walk: Cursor<Beside<'a, And>>,
 }
 
-/// The walk of [`FixedBitSet::difference`](crate::FixedBitSet::difference).
+/// The iterator of [`FixedBitSet::difference`](crate::FixedBitSet::difference).
 ///
 /// Proved: each item that it gives, in any mix of calls from both ends
 /// ([contract](crate::contracts#fixedbitsetbitsdifference)).
@@ -83,7 +84,7 @@ pub struct Difference<'a> {
     pub(crate) walk: Cursor<Beside<'a, AndNot>>,
 }
 
-/// The walk of [`FixedBitSet::union`](crate::FixedBitSet::union). From the back it begins with what the second set alone has.
+/// The iterator of [`FixedBitSet::union`](crate::FixedBitSet::union). From the back it begins with what the second set alone has.
 ///
 /// Proved: each item that it gives, in any mix of calls from both ends
 /// ([first](crate::contracts#bitwalksin_turninturntake_first), [last](crate::contracts#bitwalksin_turninturntake_last)).
@@ -98,7 +99,8 @@ pub struct Union<'a> {
     pub(crate) walk: InTurn<Cursor<Plain<'a>>, Cursor<Beside<'a, AndNot>>>,
 }
 
-/// The walk of [`FixedBitSet::symmetric_difference`](crate::FixedBitSet::symmetric_difference). From the back it begins with what the second set alone has.
+/// The iterator of [`FixedBitSet::symmetric_difference`](crate::FixedBitSet::symmetric_difference). From the back it begins with
+/// what the second set alone has.
 ///
 /// Proved: each item that it gives, in any mix of calls from both ends
 /// ([first](crate::contracts#bitwalksin_turninturntake_first), [last](crate::contracts#bitwalksin_turninturntake_last)).
@@ -113,10 +115,10 @@ pub struct SymmetricDifference<'a> {
     pub(crate) walk: InTurn<Cursor<Beside<'a, AndNot>>, Cursor<Beside<'a, AndNot>>>,
 }
 
-/// The walk of [`FixedBitSet::runs`](crate::FixedBitSet::runs) and of [`FixedBitSet::zero_runs`](crate::FixedBitSet::zero_runs).
+/// The iterator of [`FixedBitSet::runs`](crate::FixedBitSet::runs) and of
+/// [`FixedBitSet::zero_runs`](crate::FixedBitSet::zero_runs).
 ///
-/// Proved: each stretch that it gives, in any mix of calls from both ends
-/// ([contract](crate::contracts#fixedbitsetbitsruns)).
+/// Proved: each run that it gives, in any mix of calls from both ends ([contract](crate::contracts#fixedbitsetbitsruns)).
 ///
 /// ```
 /// # use fixedbitset::FixedBitSet;
@@ -129,7 +131,7 @@ pub struct Runs<'a> {
     pub(crate) walk: bitwalks::Runs<'a>,
 }
 
-/// The calls of a walk that ascends. `last` and `max` are one call from the back.
+/// The calls of an iterator that ascends. `last` and `max` are one call from the back.
 macro_rules! ascending {
     () => {
         #[inline]
@@ -159,7 +161,7 @@ macro_rules! ascending {
     };
 }
 
-/// The calls of two walks in turn, each of which ascends.
+/// The calls of two iterators in turn, each of which ascends.
 macro_rules! in_turn {
     () => {
         #[inline]
@@ -198,18 +200,18 @@ macro_rules! in_turn {
     };
 }
 
-/// The calls of a walk that are Rust's own.
+/// The calls of an iterator that are Rust's own.
 macro_rules! as_rust_has_them {
     () => {};
 }
 
-/// The traits of walks: of each its item, the calls from its ends, how its text lists the items, and its other calls.
+/// The traits of iterators: of each its item, the calls from its ends, how its text lists the items, and its other calls.
 macro_rules! walks {
     ($($name:ty: $item:ty, $first:ident, $last:ident, $listed:ident, $others:ident;)*) => { $(
         /// Proved: each item, the hint of size and the count, for any mix of calls from both ends: of
-        /// [one walk](crate::contracts#bitwordscursorscursor-as-iterator), of
-        /// [two in turn](crate::contracts#bitwalksin_turninturntake_first), of
-        /// [stretches](crate::contracts#bitwalksruns-as-iterator). Other calls are put together from these.
+        /// [one iterator](crate::contracts#bitwordscursorscursor-as-iterator), of
+        /// [two in turn](crate::contracts#bitwalksin_turninturntake_first), of [runs](crate::contracts#bitwalksruns-as-iterator).
+        /// Other calls are put together from these.
         impl Iterator for $name {
             type Item = $item;
 
@@ -222,9 +224,9 @@ macro_rules! walks {
         }
 
         /// Proved: each item, for any mix of calls from both ends: of
-        /// [one walk](crate::contracts#bitwordscursorscursor-as-doubleendediterator), of
+        /// [one iterator](crate::contracts#bitwordscursorscursor-as-doubleendediterator), of
         /// [two in turn](crate::contracts#bitwalksin_turninturntake_last), of
-        /// [stretches](crate::contracts#bitwalksruns-as-doubleendediterator).
+        /// [runs](crate::contracts#bitwalksruns-as-doubleendediterator).
         impl DoubleEndedIterator for $name {
             #[inline]
             fn next_back(&mut self) -> Option<$item> {
@@ -257,11 +259,11 @@ walks! {
 }
 
 impl Ones<'_> {
-    /// Clears the lowest bit of the word that is set, and answers its index.
+    /// Clears the lowest bit of the word that is set, and returns its index.
     ///
     /// **Panics** where the word is 0.
     ///
-    /// Proved: the answer and the word that it leaves, for each word but 0
+    /// Proved: the result and the word that it leaves, for each word but 0
     /// ([contract](crate::contracts#bitlaneswordtake_lowest_bit)).
     ///
     /// ```
@@ -282,7 +284,7 @@ impl Ones<'_> {
 impl IntoOnes {
     /// The same as [`Ones::last_positive_bit_and_unset`].
     ///
-    /// Proved: the answer and the word that it leaves, for each word but 0
+    /// Proved: the result and the word that it leaves, for each word but 0
     /// ([contract](crate::contracts#bitlaneswordtake_lowest_bit)).
     ///
     /// ```
