@@ -139,7 +139,7 @@ class Plan:
         script = ("bits", "tools/launch/build.sh", "tools/calls.py", PROGRAM)
         bits = (*self.sources("bits"), *script, "docs/COMMANDS.md", "examples", f"{SCRIPTS}/programs", f"{SCRIPTS}/report.sh")
         shared = ("tools/calls.py", "tools/running.py", "tools/fuzz", "tools/memory")
-        uses = ("use", "tools/launch/build.sh", *(f"crates/uses/{it}" for it in ("examples", "cases", "wrong", "stdin", "args")))
+        uses = ("use", "tools/launch/build.sh", *(f"crates/uses/{it}" for it in ("examples", "cases", "stdin", "args")))
         commands = ("tools/docs/check_commands",)
         refusals = self.sources("test_refusals", "bits")
         stages = [
