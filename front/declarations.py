@@ -85,7 +85,7 @@ def of_rust(text):
 def of_c(text):
     """The functions that the header declares with the symbols of their names."""
     found = {}
-    for result, name, parameters in re.findall(r"^(\w+) (bits_\w+)\(([^)]*)\)\s+BITS_SYMBOL\(\2\);", text, re.M):
+    for result, name, parameters in re.findall(r"^(?:BITS_NODISCARD )?(\w+) (bits_\w+)\(([^)]*)\)\s+BITS_SYMBOL\(\2\);", text, re.M):
         pairs = [re.match(r"\s*((?:const )?\w+ \*|\w+) ?(\w+)$", it).groups() for it in parameters.split(",")]
         found[name] = [*((word, KINDS[kind]) for kind, word in pairs), ("", KINDS[result])]
     return found
@@ -128,10 +128,13 @@ def wrong_structs(sources, archive, header, crossing):
             yield f"the structs {one} and {other} differ, and {name} stands for both"
 
 
-def wrong_tests(exported, tests):
-    """The calls that take a pointer, and that bits_check.h does not test, or tests under another name."""
+def wrong_tests(exported, header, tests):
+    """The calls that take a pointer, and that bits_check.h does not test, or tests under another name. (Of the functions of the
+    header those are tested that stand between the calls.)"""
     tested = {f"bits_{name}" for name in re.findall(r"^#define bits_(\w+)\(\.\.\.\) BITS_CALL\(\1, __VA_ARGS__\)$", tests, re.M)}
     asking = {name for name, parameters in exported.items() if any(kind.endswith("*") for _, kind in parameters)}
+    calls = header[header.index("namespace fixedbitset_untested {"):header.index("using fixedbitset_untested::")]
+    asking |= set(re.findall(r"^static inline \w+ (bits_\w+)\(", calls, re.M))
     return (f"bits_check.h: {it} is not tested as it should be" for it in sorted(tested ^ asking))
 
 
@@ -143,7 +146,7 @@ def main():
     files = ("differ/declared.rs", "c/bits.h", "c/bits_check.h", "c/source/exports.rs", "c/source/crossing.rs")
     archive, header, tests, made, crossing = ((TOP / "front" / it).read_text() for it in files)
     exported = of_rust(sources)
-    wrong = [*wrong_calls(exported, archive, header, made), *wrong_structs(sources, archive, header, crossing), *wrong_tests(exported, tests)]
+    wrong = [*wrong_calls(exported, archive, header, made), *wrong_structs(sources, archive, header, crossing), *wrong_tests(exported, header, tests)]
     print("\n".join([*wrong, f"{len(exported)} exports and {len(STRUCTS)} structs, {len(wrong)} wrong declarations"]))
     return bool(wrong)
 

@@ -2,9 +2,8 @@
  * library is built for other targets too; where a size_t has 32 bits nothing is proved of it.
  *
  *     bits set = bits_new(100);
- *     if (!set.words)
+ *     if (!set.words || !bits_insert(&set, 7))
  *         return ENOMEM;
- *     bits_insert(&set, 7);
  *     BITS_FOR_EACH(p, &set) printf("%zu\n", p);
  *     bits_free(&set);
  *
@@ -35,6 +34,11 @@
 #include <stdbool.h>
 #include <stddef.h>
 #include <stdint.h>
+#ifdef BITS_CHECK
+#include <stdarg.h>
+#include <stdio.h>
+#include <stdlib.h>
+#endif
 
 /* Who gives the memory of bits_new and of bits_own.h. A program may define all three before it includes this header. */
 #ifndef BITS_CALLOC
@@ -42,6 +46,16 @@
 #define BITS_CALLOC(count, size) calloc((count), (size))
 #define BITS_REALLOC(pointer, size) realloc((pointer), (size))
 #define BITS_FREE(pointer) free(pointer)
+#endif
+
+/* On each call that answers by false that it did nothing: the compiler warns where the answer is not read. A program may
+ * define it as nothing before it includes this header. */
+#ifndef BITS_NODISCARD
+#if (defined(__cplusplus) && __cplusplus >= 201703L) || (defined(__STDC_VERSION__) && __STDC_VERSION__ >= 202311L)
+#define BITS_NODISCARD [[nodiscard]]
+#else
+#define BITS_NODISCARD __attribute__((__warn_unused_result__))
+#endif
 #endif
 
 /* The symbol of a call in the archive. (Some systems have an underscore before each name of C.) */
@@ -138,7 +152,10 @@ typedef struct bits_ranks {
 /* The set of length n with these words, which are BITS_WORDS(n). n is taken once. */
 #define BITS_OF(w, n) bits_of((w), (n))
 
-/* The same of words that are only read. */
+/* The set of length n over the first BITS_WORDS(n) of these `count` words: bits_over. Each argument is taken once. */
+#define BITS_OVER(w, count, n) bits_over((w), (count), (n))
+
+/* The same as BITS_OF of words that are only read. */
 #define BITS_VIEW_OF(w, n) bits_view_of((w), (n))
 
 /* The table of so many rows and columns with these words, which are bits_rows_words(r, n). */
@@ -171,11 +188,8 @@ typedef struct bits_ranks {
          bits_once_##start; bits_once_##start = NULL)                                                       \
         for (size_t start = 0, end = 0; bits_runs_next(&bits_walk_##start, &start, &end);)
 
-#ifdef __cplusplus
-extern "C" {
-#endif
-
-/* ---- sets made. These six functions stand in this header; all other calls are those of the archive. */
+/* ---- sets made. These functions stand in this header, and so do the tables made below; all other calls are those of the
+ *      archive. */
 
 /* The set of this length with these words, which are BITS_WORDS(length). */
 static inline bits bits_of(uint64_t *words, size_t length) {
@@ -215,6 +229,19 @@ static inline void bits_free(bits *set) {
     *set = bits_of(NULL, 0);
 }
 
+#ifdef __cplusplus
+#ifdef BITS_CHECK
+namespace fixedbitset_untested {
+#endif
+extern "C" {
+#endif
+
+/* The set of this length over the first BITS_WORDS(length) of `count` words. Where there are fewer, the set has no words, which
+ * are NULL, and the length 0; with BITS_CHECK the program ends. */
+static inline bits bits_over(uint64_t *words, size_t count, size_t length) {
+    return count < BITS_WORDS(length) ? bits_of(NULL, 0) : bits_of(words, length);
+}
+
 /* ---- words */
 
 /* How many words a set of this length has: whole lanes of four. */
@@ -224,7 +251,7 @@ size_t bits_blocks(size_t length) BITS_SYMBOL(bits_blocks);
 /* Makes any words those of a set of `length` positions: of the words' positions those below `kept` stay. It answers whether
  * it did, which is where `count` is bits_words(length) and `kept` is at most the length. Else nothing is changed. So 0
  * empties, the length takes words from elsewhere, and the old length makes a set longer in memory that has room. */
-bool bits_settle(uint64_t *words, size_t count, size_t length, size_t kept) BITS_SYMBOL(bits_settle);
+BITS_NODISCARD bool bits_settle(uint64_t *words, size_t count, size_t length, size_t kept) BITS_SYMBOL(bits_settle);
 /* Whether the words are those of a set of `length` positions as they stand: `count` is bits_words(length), and no bit past the
  * length is set. So words from elsewhere can be refused, where bits_settle would drop what does not fit. */
 bool bits_is_clean(const uint64_t *words, size_t count, size_t length) BITS_SYMBOL(bits_is_clean);
@@ -236,11 +263,11 @@ size_t bits_take_lowest_bit(uint64_t *word) BITS_SYMBOL(bits_take_lowest_bit);
 /* Whether the position is set: false at or past the length. */
 bool bits_contains(const bits *set, size_t bit) BITS_SYMBOL(bits_contains);
 /* Sets the position, and answers whether it is below the length; else nothing is changed. */
-bool bits_insert(bits *set, size_t bit) BITS_SYMBOL(bits_insert);
+BITS_NODISCARD bool bits_insert(bits *set, size_t bit) BITS_SYMBOL(bits_insert);
 /* Clears the position, and answers whether it is below the length; else nothing is changed. */
-bool bits_remove(bits *set, size_t bit) BITS_SYMBOL(bits_remove);
+BITS_NODISCARD bool bits_remove(bits *set, size_t bit) BITS_SYMBOL(bits_remove);
 /* Turns the position, and answers whether it is below the length; else nothing is changed. */
-bool bits_toggle(bits *set, size_t bit) BITS_SYMBOL(bits_toggle);
+BITS_NODISCARD bool bits_toggle(bits *set, size_t bit) BITS_SYMBOL(bits_toggle);
 /* Sets the position, and answers whether it was set before. At or past the length nothing is changed, and the answer is
  * false. */
 bool bits_put(bits *set, size_t bit) BITS_SYMBOL(bits_put);
@@ -249,17 +276,17 @@ bool bits_put(bits *set, size_t bit) BITS_SYMBOL(bits_put);
 bool bits_take(bits *set, size_t bit) BITS_SYMBOL(bits_take);
 /* Sets the position, or clears it where `enabled` is false, and answers whether it is below the length; else nothing is
  * changed. */
-bool bits_set(bits *set, size_t bit, bool enabled) BITS_SYMBOL(bits_set);
+BITS_NODISCARD bool bits_set(bits *set, size_t bit, bool enabled) BITS_SYMBOL(bits_set);
 /* Makes word `index` the given block, without its bits past the length. It answers whether the length needs such a word; else
  * nothing is changed. */
-bool bits_set_block(bits *set, size_t index, uint64_t block) BITS_SYMBOL(bits_set_block);
+BITS_NODISCARD bool bits_set_block(bits *set, size_t index, uint64_t block) BITS_SYMBOL(bits_set_block);
 /* Sets each of `count` positions, and answers whether all of them are below the length; else nothing is changed. */
-bool bits_insert_all(bits *set, const size_t *positions, size_t count) BITS_SYMBOL(bits_insert_all);
+BITS_NODISCARD bool bits_insert_all(bits *set, const size_t *positions, size_t count) BITS_SYMBOL(bits_insert_all);
 /* Clears each of `count` positions, and answers whether all of them are below the length; else nothing is changed. */
-bool bits_remove_all(bits *set, const size_t *positions, size_t count) BITS_SYMBOL(bits_remove_all);
+BITS_NODISCARD bool bits_remove_all(bits *set, const size_t *positions, size_t count) BITS_SYMBOL(bits_remove_all);
 /* Writes for each of `count` positions whether it is set: false at or past the length. It answers whether there are as many
  * places; else nothing is written. */
-bool bits_contains_each(const bits *set, const size_t *positions, size_t count, bool *answers, size_t places)
+BITS_NODISCARD bool bits_contains_each(const bits *set, const size_t *positions, size_t count, bool *answers, size_t places)
     BITS_SYMBOL(bits_contains_each);
 /* Clears all positions. */
 void bits_clear(bits *set) BITS_SYMBOL(bits_clear);
@@ -294,11 +321,11 @@ bool bits_is_full(const bits *set) BITS_SYMBOL(bits_is_full);
 /* Whether the range is valid: start <= end, and end <= length. */
 bool bits_range_is_valid(const bits *set, size_t start, size_t end) BITS_SYMBOL(bits_range_is_valid);
 /* Sets the range, and answers whether it is valid; else nothing is changed. */
-bool bits_insert_range(bits *set, size_t start, size_t end) BITS_SYMBOL(bits_insert_range);
+BITS_NODISCARD bool bits_insert_range(bits *set, size_t start, size_t end) BITS_SYMBOL(bits_insert_range);
 /* Clears the range, and answers whether it is valid; else nothing is changed. */
-bool bits_remove_range(bits *set, size_t start, size_t end) BITS_SYMBOL(bits_remove_range);
+BITS_NODISCARD bool bits_remove_range(bits *set, size_t start, size_t end) BITS_SYMBOL(bits_remove_range);
 /* Turns each position of the range, and answers whether it is valid; else nothing is changed. */
-bool bits_toggle_range(bits *set, size_t start, size_t end) BITS_SYMBOL(bits_toggle_range);
+BITS_NODISCARD bool bits_toggle_range(bits *set, size_t start, size_t end) BITS_SYMBOL(bits_toggle_range);
 /* How many positions of the range are set; 0 where it is not valid. */
 size_t bits_count_ones(const bits *set, size_t start, size_t end) BITS_SYMBOL(bits_count_ones);
 /* How many positions of the range are not set; 0 where it is not valid. */
@@ -311,23 +338,23 @@ bool bits_contains_any_in_range(const bits *set, size_t start, size_t end) BITS_
 /* ---- two sets, of any two lengths */
 
 /* Adds the positions of the second, and answers whether it is no longer than the first; else nothing is changed. */
-bool bits_union_with(bits *set, const bits *other) BITS_SYMBOL(bits_union_with);
+BITS_NODISCARD bool bits_union_with(bits *set, const bits *other) BITS_SYMBOL(bits_union_with);
 /* Leaves the positions that exactly one has, and answers whether the second is no longer than the first; else nothing is
  * changed. */
-bool bits_symmetric_difference_with(bits *set, const bits *other) BITS_SYMBOL(bits_symmetric_difference_with);
+BITS_NODISCARD bool bits_symmetric_difference_with(bits *set, const bits *other) BITS_SYMBOL(bits_symmetric_difference_with);
 /* Leaves the positions of both, and the length. */
 void bits_intersect_with(bits *set, const bits *other) BITS_SYMBOL(bits_intersect_with);
 /* Leaves the positions that the second lacks, and the length. */
 void bits_difference_with(bits *set, const bits *other) BITS_SYMBOL(bits_difference_with);
 /* As bits_union_with, and answers at `changed` whether a position came in; nothing is written there if none is changed. */
-bool bits_union_with_change(bits *set, const bits *other, bool *changed) BITS_SYMBOL(bits_union_with_change);
+BITS_NODISCARD bool bits_union_with_change(bits *set, const bits *other, bool *changed) BITS_SYMBOL(bits_union_with_change);
 /* As bits_intersect_with, and answers whether a position went. */
 bool bits_intersect_with_change(bits *set, const bits *other) BITS_SYMBOL(bits_intersect_with_change);
 /* As bits_difference_with, and answers whether a position went. */
 bool bits_difference_with_change(bits *set, const bits *other) BITS_SYMBOL(bits_difference_with_change);
 /* Adds the positions of `gens` that `kills` lacks, and answers whether `gens` is no longer than the first; else nothing is
  * changed. It answers at `changed` whether a position came in; nothing is written there if none is changed. */
-bool bits_union_with_difference(bits *set, const bits *gens, const bits *kills, bool *changed)
+BITS_NODISCARD bool bits_union_with_difference(bits *set, const bits *gens, const bits *kills, bool *changed)
     BITS_SYMBOL(bits_union_with_difference);
 /* How many positions are in either. */
 size_t bits_union_count(const bits *set, const bits *other) BITS_SYMBOL(bits_union_count);
@@ -355,15 +382,16 @@ ptrdiff_t bits_compare(const bits *set, const bits *other) BITS_SYMBOL(bits_comp
  *      Each call answers whether it did its work; else nothing is changed. It writes each word once. */
 
 /* Makes `to` the positions of the set that are below the length of `to`, which may be any. */
-bool bits_copy(bits *to, const bits *set) BITS_SYMBOL(bits_copy);
+BITS_NODISCARD bool bits_copy(bits *to, const bits *set) BITS_SYMBOL(bits_copy);
 /* Makes `to` the positions of either set. Its length has to be the greater of theirs. */
-bool bits_union_of(bits *to, const bits *set, const bits *other) BITS_SYMBOL(bits_union_of);
+BITS_NODISCARD bool bits_union_of(bits *to, const bits *set, const bits *other) BITS_SYMBOL(bits_union_of);
 /* Makes `to` the positions of exactly one set. Its length has to be the greater of theirs. */
-bool bits_symmetric_difference_of(bits *to, const bits *set, const bits *other) BITS_SYMBOL(bits_symmetric_difference_of);
+BITS_NODISCARD bool bits_symmetric_difference_of(bits *to, const bits *set, const bits *other)
+    BITS_SYMBOL(bits_symmetric_difference_of);
 /* Makes `to` the positions of both sets. Its length has to be the smaller of theirs. */
-bool bits_intersection_of(bits *to, const bits *set, const bits *other) BITS_SYMBOL(bits_intersection_of);
+BITS_NODISCARD bool bits_intersection_of(bits *to, const bits *set, const bits *other) BITS_SYMBOL(bits_intersection_of);
 /* Makes `to` the positions of the first set that the second lacks. Its length has to be that of the first. */
-bool bits_difference_of(bits *to, const bits *set, const bits *other) BITS_SYMBOL(bits_difference_of);
+BITS_NODISCARD bool bits_difference_of(bits *to, const bits *set, const bits *other) BITS_SYMBOL(bits_difference_of);
 
 /* ---- positions moved by any number, and parts. What is not below the length then falls away, and the length stays.
  *      To put one set behind another, make the first longer by bits_settle, and take the second in, moved by the old
@@ -379,17 +407,18 @@ void bits_union_with_shifted(bits *set, const bits *other, size_t by) BITS_SYMBO
 void bits_union_with_own_shift(bits *set, size_t by) BITS_SYMBOL(bits_union_with_own_shift);
 /* Makes `part` the positions of the second from `start` up to and without `end`, less `start`. It answers whether it did,
  * which is where the range is valid and `part` has its length, end - start; else nothing is changed. */
-bool bits_slice(bits *part, const bits *set, size_t start, size_t end) BITS_SYMBOL(bits_slice);
+BITS_NODISCARD bool bits_slice(bits *part, const bits *set, size_t start, size_t end) BITS_SYMBOL(bits_slice);
 /* Writes the positions of the second from `start` up to and without `end` over those of the first from `at` on; all others
  * stay. It answers whether it did, which is where the range is valid in the second, and from `at` on ends within the first;
  * else nothing is changed. */
-bool bits_copy_range(bits *set, const bits *other, size_t start, size_t end, size_t at) BITS_SYMBOL(bits_copy_range);
+BITS_NODISCARD bool bits_copy_range(bits *set, const bits *other, size_t start, size_t end, size_t at)
+    BITS_SYMBOL(bits_copy_range);
 /* Writes the `width` positions from `start` on as a number: its bit i is position start + i. It answers whether it did, which
  * is where `width` is 64 at most and the positions are below the length; else nothing is written. */
-bool bits_load(const bits *set, size_t start, size_t width, uint64_t *number) BITS_SYMBOL(bits_load);
+BITS_NODISCARD bool bits_load(const bits *set, size_t start, size_t width, uint64_t *number) BITS_SYMBOL(bits_load);
 /* Makes the `width` positions from `start` on the lowest bits of the number: position start + i becomes its bit i. It answers
  * whether it did, which is where `width` is 64 at most and the positions are below the length; else nothing is changed. */
-bool bits_store(bits *set, size_t start, size_t width, uint64_t number) BITS_SYMBOL(bits_store);
+BITS_NODISCARD bool bits_store(bits *set, size_t start, size_t width, uint64_t number) BITS_SYMBOL(bits_store);
 
 /* ---- a set as bytes: position p is bit p % 8 of byte p / 8 */
 
@@ -399,7 +428,7 @@ size_t bits_bytes(size_t length) BITS_SYMBOL(bits_bytes);
  * are dropped. */
 void bits_from_bytes(bits *set, const uint8_t *bytes, size_t count) BITS_SYMBOL(bits_from_bytes);
 /* Writes the bytes of the set, and answers whether `count` is bits_bytes of its length; else nothing is changed. */
-bool bits_to_bytes(const bits *set, uint8_t *bytes, size_t count) BITS_SYMBOL(bits_to_bytes);
+BITS_NODISCARD bool bits_to_bytes(const bits *set, uint8_t *bytes, size_t count) BITS_SYMBOL(bits_to_bytes);
 /* Reverses the bits of each byte. So bytes that have the first of eight positions in the uppermost bit become those that have it
  * in the lowest, as the two calls above take and write them, and the other way round. */
 void bits_reverse_each_byte(uint8_t *bytes, size_t count) BITS_SYMBOL(bits_reverse_each_byte);
@@ -410,7 +439,8 @@ void bits_reverse_each_byte(uint8_t *bytes, size_t count) BITS_SYMBOL(bits_rever
 size_t bits_ranks_entries(size_t length) BITS_SYMBOL(bits_ranks_entries);
 /* Writes the directory of the set's words to `directory`, and the whole of `ranks`. It answers whether `entries` is
  * bits_ranks_entries of the set's length; else the ranks are those of no set, and the directory stays. */
-bool bits_ranks_fill(bits_ranks *ranks, const bits *set, size_t *directory, size_t entries) BITS_SYMBOL(bits_ranks_fill);
+BITS_NODISCARD bool bits_ranks_fill(bits_ranks *ranks, const bits *set, size_t *directory, size_t entries)
+    BITS_SYMBOL(bits_ranks_fill);
 /* How many positions below this one are set. Past the length all are below it. */
 size_t bits_rank(const bits_ranks *ranks, size_t position) BITS_SYMBOL(bits_rank);
 /* The position that is set and has so many positions that are set below it, or BITS_NONE. The first has index 0. */
@@ -420,29 +450,20 @@ size_t bits_select(const bits_ranks *ranks, size_t index) BITS_SYMBOL(bits_selec
 
 /* How many words a table of so many rows and columns has, or BITS_NONE where there are not so many numbers. */
 size_t bits_rows_words(size_t rows, size_t columns) BITS_SYMBOL(bits_rows_words);
-/* The table of so many rows and columns with these words, which are bits_rows_words(rows, columns). */
-static inline bits_rows bits_rows_of(uint64_t *words, size_t rows, size_t columns) {
-    bits_rows table;
-    table.words = words;
-    table.count = bits_rows_words(rows, columns);
-    table.rows = rows;
-    table.columns = columns;
-    return table;
-}
 /* Makes any words those of a table of so many rows and columns, with no bit. It answers whether `count` is
  * bits_rows_words(rows, columns); else nothing is changed. Zeros are such words too. */
-bool bits_rows_clear(uint64_t *words, size_t count, size_t rows, size_t columns) BITS_SYMBOL(bits_rows_clear);
+BITS_NODISCARD bool bits_rows_clear(uint64_t *words, size_t count, size_t rows, size_t columns) BITS_SYMBOL(bits_rows_clear);
 /* Whether the row has a bit at the column: false past the rows and past the columns. */
 bool bits_rows_get(const bits_rows *rows, size_t row, size_t column) BITS_SYMBOL(bits_rows_get);
 /* Sets the bit of the row at the column, or clears it where `enabled` is false, and answers whether the table has both; else
  * nothing is changed. */
-bool bits_rows_set(bits_rows *rows, size_t row, size_t column, bool enabled) BITS_SYMBOL(bits_rows_set);
+BITS_NODISCARD bool bits_rows_set(bits_rows *rows, size_t row, size_t column, bool enabled) BITS_SYMBOL(bits_rows_set);
 /* Row `into` takes in the bits of row `from`. It answers whether the table has both; else nothing is changed. It answers at
  * `changed` whether a bit came in; nothing is written there if none is changed. */
-bool bits_rows_union(bits_rows *rows, size_t from, size_t into, bool *changed) BITS_SYMBOL(bits_rows_union);
+BITS_NODISCARD bool bits_rows_union(bits_rows *rows, size_t from, size_t into, bool *changed) BITS_SYMBOL(bits_rows_union);
 /* Begins the walk over the columns at which the row has a bit, in ascending order; bits_ones_next and bits_ones_next_back give
  * them. It answers whether the table has the row; else the walk gives none. */
-bool bits_rows_ones(bits_walk *walk, const bits_rows *rows, size_t row) BITS_SYMBOL(bits_rows_ones);
+BITS_NODISCARD bool bits_rows_ones(bits_walk *walk, const bits_rows *rows, size_t row) BITS_SYMBOL(bits_rows_ones);
 /* The transitive closure of the graph with an edge from each row to each column at which it has a bit: afterwards row a has
  * a bit at column b exactly if some path of one or more edges led from a to b. */
 void bits_rows_close(bits_rows *rows) BITS_SYMBOL(bits_rows_close);
@@ -470,8 +491,8 @@ size_t bits_zeroes_take(bits_walk *walk, size_t *positions, size_t room) BITS_SY
 size_t bits_zeroes_take_back(bits_walk *walk, size_t *positions, size_t room) BITS_SYMBOL(bits_zeroes_take_back);
 /* Begins the walk over the positions from `start` up to and without `end` that are set, or that are not. It answers whether
  * the range is valid; else the walk gives none. */
-bool bits_ones_in(bits_walk *walk, const bits *set, size_t start, size_t end) BITS_SYMBOL(bits_ones_in);
-bool bits_zeroes_in(bits_walk *walk, const bits *set, size_t start, size_t end) BITS_SYMBOL(bits_zeroes_in);
+BITS_NODISCARD bool bits_ones_in(bits_walk *walk, const bits *set, size_t start, size_t end) BITS_SYMBOL(bits_ones_in);
+BITS_NODISCARD bool bits_zeroes_in(bits_walk *walk, const bits *set, size_t start, size_t end) BITS_SYMBOL(bits_zeroes_in);
 /* Begins the walk over the stretches of positions that are set, or that are not, in ascending order. A stretch has the
  * positions from `start` up to and without `end`, and costs by its words. */
 void bits_runs(bits_run_walk *walk, const bits *set) BITS_SYMBOL(bits_runs);
@@ -507,7 +528,27 @@ size_t bits_symmetric_difference_take_back(bits_pair *walk, size_t *positions, s
 
 #ifdef __cplusplus
 }
+#ifdef BITS_CHECK
+}
+using fixedbitset_untested::bits_blocks;
+using fixedbitset_untested::bits_bytes;
+using fixedbitset_untested::bits_ranks_entries;
+using fixedbitset_untested::bits_rows_words;
+using fixedbitset_untested::bits_words;
 #endif
+#endif
+
+/* ---- tables made */
+
+/* The table of so many rows and columns with these words, which are bits_rows_words(rows, columns). */
+static inline bits_rows bits_rows_of(uint64_t *words, size_t rows, size_t columns) {
+    bits_rows table;
+    table.words = words;
+    table.count = bits_rows_words(rows, columns);
+    table.rows = rows;
+    table.columns = columns;
+    return table;
+}
 
 #ifdef BITS_CHECK
 #include "bits_check.h"

@@ -5,28 +5,61 @@
  *
  * Tested are: the pointer to each struct; the count of words for the length; that a pointer is aligned, and NULL only where
  * the number beside it is 0; that no bit past the length is set; and that sets and lists do not overlap what is written. It
- * takes as long for a long set as for a short one, but for bits_rows_close, which looks at each row.
+ * takes as long for a long set as for a short one, but for bits_rows_close, which looks at each row. A program that is compiled
+ * with -fsanitize=address also has tested that each word and each item is memory of the program's that is not freed.
  *
- * Where BITS_CHECK is 2 or more, a call also ends the program where it would refuse a position, a row, a column or a range by
- * its answer. That is for programs which never mean to be refused.
+ * Where BITS_CHECK is 2 or more, a call also ends the program where it would refuse: where it would answer by false that
+ * nothing is done, and where a position, a row, a column or a range is not in the set. That is for programs which never mean
+ * to be refused.
  *
- * Arguments are evaluated once, as without this header. */
+ * Arguments are evaluated once, as without this header. In C each call is then also a macro of its name. In C++ no name is a
+ * macro, and each call has two more parameters with defaults, which are the caller's place. */
 #ifndef BITS_CHECK_H
 #define BITS_CHECK_H
 
-#include <stdarg.h>
-#include <stdio.h>
-#include <stdlib.h>
+/* Whether AddressSanitizer is on. */
+#if defined(__SANITIZE_ADDRESS__)
+#define BITS_ASK_MEMORY 1
+#elif defined(__has_feature)
+#if __has_feature(address_sanitizer)
+#define BITS_ASK_MEMORY 1
+#endif
+#endif
+#ifdef BITS_ASK_MEMORY
+#ifdef __cplusplus
+extern "C"
+#endif
+void *__asan_region_is_poisoned(void *begin, size_t size);
+#endif
 
-#define BITS_HERE(name) __FILE__ ":" BITS_TEXT(__LINE__) ": " #name
+/* In C++ the call that is tested has the name, and the archive's is in a namespace. In C a macro has the name, below. */
+#ifdef __cplusplus
+#define BITS_UNTESTED(name) fixedbitset_untested::bits_##name
+#define BITS_TESTED_NAME(name) bits_##name
+#define BITS_TESTED_AT const char *file = __builtin_FILE(), int line = __builtin_LINE()
+/* (Its address is that of the archive's, which has no place.) */
+#define BITS_TESTED_ADDRESS(result, name, parameters, arguments) \
+    template <int = 0> static inline result bits_##name parameters { return BITS_UNTESTED(name) arguments; }
+#else
+#define BITS_UNTESTED(name) bits_##name
+#define BITS_TESTED_NAME(name) fixedbitset_tested_##name
+#define BITS_TESTED_AT const char *file, int line
+#define BITS_TESTED_ADDRESS(result, name, parameters, arguments)
+#endif
 
-/* ---- what is tested. `here` says which call it is, and `who` which argument. */
+/* ---- what is tested. `here` says which call it is and where, and `who` which argument. */
 
-__attribute__((__noreturn__, __cold__, __format__(__printf__, 2, 3))) static inline void bits_stop(const char *here,
-                                                                                                   const char *form, ...) {
+typedef struct fixedbitset_place {
+    const char *call;
+    const char *file;
+    int line;
+} fixedbitset_place;
+
+__attribute__((__noreturn__, __cold__, __format__(__printf__, 2, 3))) static inline void fixedbitset_stop(fixedbitset_place here,
+                                                                                                          const char *form, ...) {
     va_list words;
     va_start(words, form);
-    fprintf(stderr, "%s: ", here);
+    fprintf(stderr, "%s:%d: %s: ", here.file, here.line, here.call);
     vfprintf(stderr, form, words);
     fputc('\n', stderr);
     va_end(words);
@@ -34,355 +67,424 @@ __attribute__((__noreturn__, __cold__, __format__(__printf__, 2, 3))) static inl
 }
 
 /* What a value of `size` bytes is aligned to, at the least: 8 bytes at the most, and 4 where a size_t has 32 bits. */
-#define BITS_ALIGNMENT(size) ((size) < sizeof(size_t) ? (size) : sizeof(size_t))
+#define BITS_ASK_ALIGNMENT(size) ((size) < sizeof(size_t) ? (size) : sizeof(size_t))
 
 /* A pointer to one value of `size` bytes. */
-static inline void bits_ask_place(const char *here, const char *who, const void *place, size_t size) {
+static inline void fixedbitset_ask_place(fixedbitset_place here, const char *who, const void *place, size_t size) {
     if (!place)
-        bits_stop(here, "`%s` is NULL", who);
-    if ((uintptr_t)place % BITS_ALIGNMENT(size))
-        bits_stop(here, "`%s` is not aligned to %zu bytes", who, BITS_ALIGNMENT(size));
+        fixedbitset_stop(here, "`%s` is NULL", who);
+    if ((uintptr_t)place % BITS_ASK_ALIGNMENT(size))
+        fixedbitset_stop(here, "`%s` is not aligned to %zu bytes", who, BITS_ASK_ALIGNMENT(size));
+}
+
+/* The memory of `count` values: it is the program's, and not freed, where AddressSanitizer can say that. */
+static inline void fixedbitset_ask_memory(fixedbitset_place here, const char *who, const void *values, size_t count,
+                                          size_t size) {
+#ifdef BITS_ASK_MEMORY
+    if (count && (count > SIZE_MAX / size || __asan_region_is_poisoned((void *)(uintptr_t)values, count * size)))
+        fixedbitset_stop(here, "`%s` has %zu values of %zu bytes in memory that is not the program's, or is freed", who, count,
+                         size);
+#else
+    (void)here, (void)who, (void)values, (void)count, (void)size;
+#endif
 }
 
 /* A pointer to `count` values. */
-static inline void bits_ask_array(const char *here, const char *who, const void *values, size_t count, size_t size) {
+static inline void fixedbitset_ask_array(fixedbitset_place here, const char *who, const void *values, size_t count, size_t size) {
     if (!values && count)
-        bits_stop(here, "`%s` is NULL, and there are to be %zu", who, count);
-    if ((uintptr_t)values % BITS_ALIGNMENT(size))
-        bits_stop(here, "`%s` is not aligned to %zu bytes", who, BITS_ALIGNMENT(size));
+        fixedbitset_stop(here, "`%s` is NULL, and there are to be %zu", who, count);
+    if ((uintptr_t)values % BITS_ASK_ALIGNMENT(size))
+        fixedbitset_stop(here, "`%s` is not aligned to %zu bytes", who, BITS_ASK_ALIGNMENT(size));
+    fixedbitset_ask_memory(here, who, values, count, size);
 }
 
 /* The words of a set, a walk or ranks. */
-static inline void bits_ask_words(const char *here, const char *who, const uint64_t *words, size_t count) {
+static inline void fixedbitset_ask_words(fixedbitset_place here, const char *who, const uint64_t *words, size_t count) {
     if (!words && count)
-        bits_stop(here, "`%s` has NULL for words, and says that it has %zu", who, count);
+        fixedbitset_stop(here, "`%s` has NULL for words, and says that it has %zu", who, count);
     if ((uintptr_t)words % sizeof(size_t))
-        bits_stop(here, "`%s` has words that are not aligned to %zu bytes", who, sizeof(size_t));
+        fixedbitset_stop(here, "`%s` has words that are not aligned to %zu bytes", who, sizeof(size_t));
+    fixedbitset_ask_memory(here, who, words, count, sizeof *words);
 }
 
-static inline void bits_ask_clean(const char *here, const char *who, const uint64_t *words, size_t count, size_t length) {
+static inline void fixedbitset_ask_clean(fixedbitset_place here, const char *who, const uint64_t *words, size_t count,
+                                         size_t length) {
     if (count != BITS_WORDS(length))
-        bits_stop(here, "`%s` has %zu words, and BITS_WORDS(%zu) is %zu", who, count, length, BITS_WORDS(length));
-    bits_ask_words(here, who, words, count);
-    if (!bits_is_clean(words, count, length))
-        bits_stop(here, "`%s` has a bit past its length of %zu", who, length);
+        fixedbitset_stop(here, "`%s` has %zu words, and BITS_WORDS(%zu) is %zu", who, count, length, BITS_WORDS(length));
+    fixedbitset_ask_words(here, who, words, count);
+    if (!BITS_UNTESTED(is_clean)(words, count, length))
+        fixedbitset_stop(here, "`%s` has a bit past its length of %zu", who, length);
 }
 
-static inline void bits_ask_set(const char *here, const char *who, const bits *set) {
-    bits_ask_place(here, who, set, sizeof *set);
-    bits_ask_clean(here, who, set->words, set->count, set->length);
+/* That there are words enough. */
+static inline void fixedbitset_ask_enough(fixedbitset_place here, const uint64_t *words, size_t count, size_t length) {
+    if (count < BITS_WORDS(length))
+        fixedbitset_stop(here, "`words` has %zu words, and BITS_WORDS(%zu) is %zu", count, length, BITS_WORDS(length));
+    fixedbitset_ask_words(here, "words", words, count);
 }
 
-static inline void bits_ask_room(const char *here, const char *who, const bits *room) {
-    bits_ask_place(here, who, room, sizeof *room);
-    bits_ask_words(here, who, room->words, room->count);
+static inline void fixedbitset_ask_set(fixedbitset_place here, const char *who, const bits *set) {
+    fixedbitset_ask_place(here, who, set, sizeof *set);
+    fixedbitset_ask_clean(here, who, set->words, set->count, set->length);
+}
+
+static inline void fixedbitset_ask_room(fixedbitset_place here, const char *who, const bits *room) {
+    fixedbitset_ask_place(here, who, room, sizeof *room);
+    fixedbitset_ask_words(here, who, room->words, room->count);
 }
 
 /* What is written, `wide` bytes from `written` on, overlaps nothing of what is read. */
-static inline void bits_ask_apart(const char *here, const char *who, const void *written, size_t wide, const void *read,
-                                  size_t size) {
+static inline void fixedbitset_ask_apart(fixedbitset_place here, const char *who, const void *written, size_t wide,
+                                         const void *read, size_t size) {
     const uintptr_t first = (uintptr_t)written, second = (uintptr_t)read;
     if (wide && size && first < second + size && second < first + wide)
-        bits_stop(here, "`%s` overlaps what the call writes", who);
+        fixedbitset_stop(here, "`%s` overlaps what the call writes", who);
 }
 
-static inline void bits_ask_apart_sets(const char *here, const char *who, const bits *changed, const bits *set) {
-    bits_ask_apart(here, who, changed->words, 8 * changed->count, set->words, 8 * set->count);
+static inline void fixedbitset_ask_apart_sets(fixedbitset_place here, const char *who, const bits *changed, const bits *set) {
+    fixedbitset_ask_apart(here, who, changed->words, 8 * changed->count, set->words, 8 * set->count);
 }
 
-static inline void bits_ask_ranks(const char *here, const bits_ranks *ranks) {
-    bits_ask_place(here, "ranks", ranks, sizeof *ranks);
-    bits_ask_clean(here, "ranks", ranks->words, ranks->count, ranks->length);
-    bits_ask_array(here, "ranks->directory", ranks->directory, ranks->entries, sizeof(size_t));
+static inline void fixedbitset_ask_ranks(fixedbitset_place here, const bits_ranks *ranks) {
+    fixedbitset_ask_place(here, "ranks", ranks, sizeof *ranks);
+    fixedbitset_ask_clean(here, "ranks", ranks->words, ranks->count, ranks->length);
+    fixedbitset_ask_array(here, "ranks->directory", ranks->directory, ranks->entries, sizeof(size_t));
     if (ranks->entries != bits_ranks_entries(ranks->length))
-        bits_stop(here, "`ranks` has %zu entries, and bits_ranks_entries(%zu) is %zu", ranks->entries, ranks->length,
-                  bits_ranks_entries(ranks->length));
+        fixedbitset_stop(here, "`ranks` has %zu entries, and bits_ranks_entries(%zu) is %zu", ranks->entries, ranks->length,
+                         bits_ranks_entries(ranks->length));
 }
 
-static inline void bits_ask_rows(const char *here, const bits_rows *rows) {
-    bits_ask_place(here, "rows", rows, sizeof *rows);
+static inline void fixedbitset_ask_rows(fixedbitset_place here, const bits_rows *rows) {
+    fixedbitset_ask_place(here, "rows", rows, sizeof *rows);
     const size_t count = bits_rows_words(rows->rows, rows->columns);
     if (rows->count != count)
-        bits_stop(here, "`rows` has %zu words, and bits_rows_words(%zu, %zu) is %zu", rows->count, rows->rows, rows->columns,
-                  count);
-    bits_ask_words(here, "rows", rows->words, rows->count);
+        fixedbitset_stop(here, "`rows` has %zu words, and bits_rows_words(%zu, %zu) is %zu", rows->count, rows->rows,
+                         rows->columns, count);
+    fixedbitset_ask_words(here, "rows", rows->words, rows->count);
 }
 
 /* The row has no bit past its columns, where there is such a row. */
-static inline void bits_ask_row(const char *here, const bits_rows *rows, size_t row) {
+static inline void fixedbitset_ask_row(fixedbitset_place here, const bits_rows *rows, size_t row) {
     const size_t count = BITS_WORDS(rows->columns);
-    if (row < rows->rows && !bits_is_clean(rows->words + row * count, count, rows->columns))
-        bits_stop(here, "`rows[%zu]` has a bit past its %zu columns", row, rows->columns);
+    if (row < rows->rows && !BITS_UNTESTED(is_clean)(rows->words + row * count, count, rows->columns))
+        fixedbitset_stop(here, "`rows[%zu]` has a bit past its %zu columns", row, rows->columns);
 }
 
-static inline void bits_ask_each_row(const char *here, const bits_rows *rows) {
+static inline void fixedbitset_ask_each_row(fixedbitset_place here, const bits_rows *rows) {
     for (size_t row = 0; row < rows->rows; row++)
-        bits_ask_row(here, rows, row);
+        fixedbitset_ask_row(here, rows, row);
 }
 
-static inline void bits_ask_bits_walk(const char *here, const bits_walk *walk) {
-    bits_ask_place(here, "walk", walk, sizeof *walk);
-    bits_ask_words(here, "walk", walk->words, walk->count);
+static inline void fixedbitset_ask_walk(fixedbitset_place here, const bits_walk *walk) {
+    fixedbitset_ask_place(here, "walk", walk, sizeof *walk);
+    fixedbitset_ask_words(here, "walk", walk->words, walk->count);
 }
 
-static inline void bits_ask_bits_run_walk(const char *here, const bits_run_walk *walk) {
-    bits_ask_place(here, "walk", walk, sizeof *walk);
-    bits_ask_words(here, "walk", walk->words, walk->count);
+static inline void fixedbitset_ask_run_walk(fixedbitset_place here, const bits_run_walk *walk) {
+    fixedbitset_ask_place(here, "walk", walk, sizeof *walk);
+    fixedbitset_ask_words(here, "walk", walk->words, walk->count);
 }
 
-static inline void bits_ask_bits_sieve(const char *here, const bits_sieve *walk) {
-    bits_ask_bits_walk(here, &walk->walk);
-    bits_ask_words(here, "walk", walk->other, walk->other_count);
+static inline void fixedbitset_ask_sieve(fixedbitset_place here, const bits_sieve *walk) {
+    fixedbitset_ask_walk(here, &walk->walk);
+    fixedbitset_ask_words(here, "walk", walk->other, walk->other_count);
 }
 
-static inline void bits_ask_bits_pair(const char *here, const bits_pair *walk) {
-    bits_ask_bits_sieve(here, &walk->first);
-    bits_ask_bits_sieve(here, &walk->second);
+static inline void fixedbitset_ask_pair(fixedbitset_place here, const bits_pair *walk) {
+    fixedbitset_ask_sieve(here, &walk->first);
+    fixedbitset_ask_sieve(here, &walk->second);
 }
 
 /* ---- what is tested where BITS_CHECK is 2 or more */
 
-static inline void bits_ask_below(const char *here, const char *who, size_t number, size_t end) {
+static inline void fixedbitset_ask_below(fixedbitset_place here, const char *who, size_t number, size_t end) {
     if (BITS_CHECK + 0 >= 2 && number >= end)
-        bits_stop(here, "`%s` is %zu, which is not below %zu", who, number, end);
+        fixedbitset_stop(here, "`%s` is %zu, which is not below %zu", who, number, end);
 }
 
-static inline void bits_ask_each_below(const char *here, const size_t *positions, size_t count, size_t length) {
+static inline void fixedbitset_ask_each_below(fixedbitset_place here, const size_t *positions, size_t count, size_t length) {
     for (size_t k = 0; BITS_CHECK + 0 >= 2 && k < count; k++)
-        bits_ask_below(here, "positions", positions[k], length);
+        fixedbitset_ask_below(here, "positions", positions[k], length);
 }
 
-static inline void bits_ask_range(const char *here, size_t start, size_t end, size_t length) {
+static inline void fixedbitset_ask_range(fixedbitset_place here, size_t start, size_t end, size_t length) {
     if (BITS_CHECK + 0 >= 2 && (start > end || end > length))
-        bits_stop(here, "from %zu to %zu is not a range of a set of length %zu", start, end, length);
+        fixedbitset_stop(here, "from %zu to %zu is not a range of a set of length %zu", start, end, length);
 }
 
-/* ---- the calls. A row of tests, and the call behind it. */
+static inline void fixedbitset_ask_at_most(fixedbitset_place here, const char *who, size_t number, size_t greatest) {
+    if (BITS_CHECK + 0 >= 2 && number > greatest)
+        fixedbitset_stop(here, "`%s` is %zu, which is more than %zu", who, number, greatest);
+}
 
-#define BITS_SET(set) bits_ask_set(here, #set, set);
-#define BITS_ROOM(room) bits_ask_room(here, #room, room);
-#define BITS_APART(changed, set) bits_ask_apart_sets(here, #set, changed, set);
-#define BITS_PLACE(place) bits_ask_place(here, #place, place, sizeof *place);
-#define BITS_LIST(values, count) bits_ask_array(here, #values, values, count, sizeof *values);
-#define BITS_LIST_APART(values, count, words, words_count) \
-    bits_ask_apart(here, #values, words, (words_count) * sizeof *words, values, (count) * sizeof *values);
-#define BITS_BELOW(number, end) bits_ask_below(here, #number, number, end);
-#define BITS_RANGE(start, end, length) bits_ask_range(here, start, end, length);
+static inline void fixedbitset_ask_equal(fixedbitset_place here, const char *who, size_t number, size_t wanted) {
+    if (BITS_CHECK + 0 >= 2 && number != wanted)
+        fixedbitset_stop(here, "`%s` is %zu, and has to be %zu", who, number, wanted);
+}
 
-/* A call of these parameters, which are given on as these arguments. `answers` is return, or nothing. */
-#define BITS_TESTED(result, answers, name, parameters, arguments, tests) \
-    static inline result bits_tested_##name parameters {                  \
-        tests answers bits_##name arguments;                              \
+/* What a call answers that does its work or nothing. */
+static inline void fixedbitset_ask_done(fixedbitset_place here, bool is_done) {
+    if (BITS_CHECK + 0 >= 2 && !is_done)
+        fixedbitset_stop(here, "it is refused, and nothing is changed");
+}
+
+/* ---- the calls. A row has the tests of one, and makes it behind them. */
+
+#define BITS_ASK_SET(set) fixedbitset_ask_set(here, #set, set);
+#define BITS_ASK_ROOM(room) fixedbitset_ask_room(here, #room, room);
+#define BITS_ASK_APART(changed, set) fixedbitset_ask_apart_sets(here, #set, changed, set);
+#define BITS_ASK_PLACE(place) fixedbitset_ask_place(here, #place, place, sizeof *place);
+#define BITS_ASK_LIST(values, count) fixedbitset_ask_array(here, #values, values, count, sizeof *values);
+#define BITS_ASK_LIST_APART(values, count, words, words_count) \
+    fixedbitset_ask_apart(here, #values, words, (words_count) * sizeof *words, values, (count) * sizeof *values);
+#define BITS_ASK_BELOW(number, end) fixedbitset_ask_below(here, #number, number, end);
+#define BITS_ASK_AT_MOST(number, greatest) fixedbitset_ask_at_most(here, #number, number, greatest);
+#define BITS_ASK_EQUAL(number, wanted) fixedbitset_ask_equal(here, #number, number, wanted);
+#define BITS_ASK_RANGE(start, end, length) fixedbitset_ask_range(here, start, end, length);
+#define BITS_ASK_NO_LONGER(other, set) BITS_ASK_AT_MOST(other->length, set->length)
+
+#define BITS_TESTED_THESE(...) __VA_ARGS__
+#define BITS_TESTED_HERE(name) const fixedbitset_place here = {"bits_" #name, file, line};
+
+/* A call of these parameters, which are given on as these arguments; one without a result; and one that does its work or
+ * answers by false that it did nothing. */
+#define BITS_TESTED(result, name, parameters, arguments, tests)                                         \
+    BITS_TESTED_ADDRESS(result, name, parameters, arguments)                                            \
+    static inline result BITS_TESTED_NAME(name)(BITS_TESTED_THESE parameters, BITS_TESTED_AT) {         \
+        BITS_TESTED_HERE(name)                                                                          \
+        tests return BITS_UNTESTED(name) arguments;                                                     \
     }
+#define BITS_TESTED_VOID(name, parameters, arguments, tests)                                            \
+    BITS_TESTED_ADDRESS(void, name, parameters, arguments)                                              \
+    static inline void BITS_TESTED_NAME(name)(BITS_TESTED_THESE parameters, BITS_TESTED_AT) {           \
+        BITS_TESTED_HERE(name)                                                                          \
+        tests BITS_UNTESTED(name) arguments;                                                            \
+    }
+#define BITS_TESTED_DONE(name, parameters, arguments, tests) BITS_TESTED_DONE_BY(bool, true, name, parameters, arguments, tests)
+#define BITS_TESTED_DONE_BY(result, done, name, parameters, arguments, tests)                           \
+    BITS_TESTED_ADDRESS(result, name, parameters, arguments)                                            \
+    BITS_NODISCARD static inline result BITS_TESTED_NAME(name)(BITS_TESTED_THESE parameters, BITS_TESTED_AT) { \
+        BITS_TESTED_HERE(name)                                                                          \
+        tests const result answer = BITS_UNTESTED(name) arguments;                                      \
+        fixedbitset_ask_done(here, answer == done);                                                     \
+        return answer;                                                                                  \
+    }
+
 /* The same of a set that is read, and of one that is changed, with a number or a range beside it. */
-#define BITS_READS(result, name) BITS_TESTED(result, return, name, (const char *here, const bits *set), (set), BITS_SET(set))
-#define BITS_READS_AT(result, name, at) \
-    BITS_TESTED(result, return, name, (const char *here, const bits *set, size_t at), (set, at), BITS_SET(set))
-#define BITS_READS_RANGE(result, name, tests) \
-    BITS_TESTED(result, return, name, (const char *here, const bits *set, size_t start, size_t end), (set, start, end), \
-                BITS_SET(set) tests)
-#define BITS_CHANGES_AT(name) \
-    BITS_TESTED(bool, return, name, (const char *here, bits *set, size_t bit), (set, bit), \
-                BITS_SET(set) BITS_BELOW(bit, set->length))
-#define BITS_CHANGES_BY(name) BITS_TESTED(void, , name, (const char *here, bits *set, size_t by), (set, by), BITS_SET(set))
-#define BITS_CHANGES_RANGE(name)                                                                                       \
-    BITS_TESTED(bool, return, name, (const char *here, bits *set, size_t start, size_t end), (set, start, end), \
-                BITS_SET(set) BITS_RANGE(start, end, set->length))
-/* Of two sets. */
-#define BITS_READS_TWO(result, name) \
-    BITS_TESTED(result, return, name, (const char *here, const bits *set, const bits *other), (set, other), \
-                BITS_SET(set) BITS_SET(other))
-#define BITS_CHANGES_BY_OTHER(result, answers, name)                                                         \
-    BITS_TESTED(result, answers, name, (const char *here, bits *set, const bits *other), (set, other), \
-                BITS_SET(set) BITS_SET(other) BITS_APART(set, other))
-#define BITS_WRITES(name)                                                                                                       \
-    BITS_TESTED(bool, return, name, (const char *here, bits *to, const bits *set, const bits *other), (to, set, other), \
-                BITS_ROOM(to) BITS_SET(set) BITS_SET(other) BITS_APART(to, set) BITS_APART(to, other))
-/* Of a walk of this kind: its begin over one set, over a range and over two, its steps, and handfuls of it. */
-#define BITS_BEGINS(kind, name) \
-    BITS_TESTED(void, , name, (const char *here, kind *walk, const bits *set), (walk, set), BITS_PLACE(walk) BITS_SET(set))
-#define BITS_BEGINS_IN(name)                                                                                                \
-    BITS_TESTED(bool, return, name, (const char *here, bits_walk *walk, const bits *set, size_t start, size_t end), \
-                (walk, set, start, end), BITS_PLACE(walk) BITS_SET(set) BITS_RANGE(start, end, set->length))
-#define BITS_BEGINS_TWO(kind, name)                                                                                               \
-    BITS_TESTED(void, , name, (const char *here, kind *walk, const bits *set, const bits *other), (walk, set, other), \
-                BITS_PLACE(walk) BITS_SET(set) BITS_SET(other))
-#define BITS_STEP(kind, name)                                                                                    \
-    BITS_TESTED(bool, return, name, (const char *here, kind *walk, size_t *position), (walk, position), \
-                bits_ask_##kind(here, walk); BITS_PLACE(position))
-#define BITS_HANDFUL(kind, name, number)                                                                                        \
-    BITS_TESTED(size_t, return, name, (const char *here, kind *walk, number *positions, size_t room), (walk, positions, room), \
-                bits_ask_##kind(here, walk); BITS_LIST(positions, room))
-#define BITS_RUN_STEP(name)                                                                                                 \
-    BITS_TESTED(bool, return, name, (const char *here, bits_run_walk *walk, size_t *start, size_t *end), (walk, start, end), \
-                bits_ask_bits_run_walk(here, walk); BITS_PLACE(start) BITS_PLACE(end))
-#define BITS_STEPS(kind, name)              \
-    BITS_STEP(kind, name##_next)            \
-    BITS_STEP(kind, name##_next_back)       \
-    BITS_HANDFUL(kind, name##_take, size_t) \
-    BITS_HANDFUL(kind, name##_take_back, size_t)
+#define BITS_TESTED_READS(result, name) BITS_TESTED(result, name, (const bits *set), (set), BITS_ASK_SET(set))
+#define BITS_TESTED_READS_AT(result, name, at) \
+    BITS_TESTED(result, name, (const bits *set, size_t at), (set, at), BITS_ASK_SET(set))
+#define BITS_TESTED_READS_RANGE(result, name, tests) \
+    BITS_TESTED(result, name, (const bits *set, size_t start, size_t end), (set, start, end), BITS_ASK_SET(set) tests)
+#define BITS_TESTED_CHANGES_AT(name) \
+    BITS_TESTED_DONE(name, (bits *set, size_t bit), (set, bit), BITS_ASK_SET(set) BITS_ASK_BELOW(bit, set->length))
+#define BITS_TESTED_CHANGES_ALL(name)                                                                                         \
+    BITS_TESTED_DONE(name, (bits *set, const size_t *positions, size_t count), (set, positions, count),                       \
+                     BITS_ASK_SET(set) BITS_ASK_LIST(positions, count)                                                        \
+                         BITS_ASK_LIST_APART(positions, count, set->words, set->count)                                        \
+                             fixedbitset_ask_each_below(here, positions, count, set->length);)
+#define BITS_TESTED_WAS_AT(name) \
+    BITS_TESTED(bool, name, (bits *set, size_t bit), (set, bit), BITS_ASK_SET(set) BITS_ASK_BELOW(bit, set->length))
+#define BITS_TESTED_CHANGES_BY(name) BITS_TESTED_VOID(name, (bits *set, size_t by), (set, by), BITS_ASK_SET(set))
+#define BITS_TESTED_CHANGES_RANGE(name)                                                  \
+    BITS_TESTED_DONE(name, (bits *set, size_t start, size_t end), (set, start, end), \
+                     BITS_ASK_SET(set) BITS_ASK_RANGE(start, end, set->length))
+/* Of two sets: read, joined, cut, and written over a third. */
+#define BITS_TESTED_READS_TWO(result, name) \
+    BITS_TESTED(result, name, (const bits *set, const bits *other), (set, other), BITS_ASK_SET(set) BITS_ASK_SET(other))
+#define BITS_TESTED_JOINS(name)                                                 \
+    BITS_TESTED_DONE(name, (bits *set, const bits *other), (set, other), \
+                     BITS_ASK_SET(set) BITS_ASK_SET(other) BITS_ASK_APART(set, other) BITS_ASK_NO_LONGER(other, set))
+#define BITS_TESTED_CUTS(name)                                                  \
+    BITS_TESTED_VOID(name, (bits *set, const bits *other), (set, other), \
+                     BITS_ASK_SET(set) BITS_ASK_SET(other) BITS_ASK_APART(set, other))
+#define BITS_TESTED_CUTS_CHANGE(name)                                           \
+    BITS_TESTED(bool, name, (bits *set, const bits *other), (set, other), \
+                BITS_ASK_SET(set) BITS_ASK_SET(other) BITS_ASK_APART(set, other))
+#define BITS_TESTED_WRITES(name, wanted)                                                                     \
+    BITS_TESTED_DONE(name, (bits *to, const bits *set, const bits *other), (to, set, other),                 \
+                     BITS_ASK_ROOM(to) BITS_ASK_SET(set) BITS_ASK_SET(other) BITS_ASK_APART(to, set)         \
+                         BITS_ASK_APART(to, other) BITS_ASK_EQUAL(to->length, wanted)                        \
+                             BITS_ASK_EQUAL(to->count, bits_words(to->length)))
+/* Of an iterator of this kind: its begin over one set, over a range and over two, its steps, and batches of it. */
+#define BITS_TESTED_BEGINS(kind, name) \
+    BITS_TESTED_VOID(name, (bits_##kind *walk, const bits *set), (walk, set), BITS_ASK_PLACE(walk) BITS_ASK_SET(set))
+#define BITS_TESTED_BEGINS_IN(name)                                                                                       \
+    BITS_TESTED_DONE(name, (bits_walk *walk, const bits *set, size_t start, size_t end), (walk, set, start, end), \
+                     BITS_ASK_PLACE(walk) BITS_ASK_SET(set) BITS_ASK_RANGE(start, end, set->length))
+#define BITS_TESTED_BEGINS_TWO(kind, name)                                                                      \
+    BITS_TESTED_VOID(name, (bits_##kind *walk, const bits *set, const bits *other), (walk, set, other), \
+                     BITS_ASK_PLACE(walk) BITS_ASK_SET(set) BITS_ASK_SET(other))
+#define BITS_TESTED_STEP(kind, name)                                                     \
+    BITS_TESTED(bool, name, (bits_##kind *walk, size_t *position), (walk, position), \
+                fixedbitset_ask_##kind(here, walk); BITS_ASK_PLACE(position))
+#define BITS_TESTED_BATCH(kind, name, number)                                                                \
+    BITS_TESTED(size_t, name, (bits_##kind *walk, number *positions, size_t room), (walk, positions, room), \
+                fixedbitset_ask_##kind(here, walk); BITS_ASK_LIST(positions, room))
+#define BITS_TESTED_RUN_STEP(name)                                                               \
+    BITS_TESTED(bool, name, (bits_run_walk *walk, size_t *start, size_t *end), (walk, start, end), \
+                fixedbitset_ask_run_walk(here, walk); BITS_ASK_PLACE(start) BITS_ASK_PLACE(end))
+#define BITS_TESTED_STEPS(kind, name)             \
+    BITS_TESTED_STEP(kind, name##_next)           \
+    BITS_TESTED_STEP(kind, name##_next_back)      \
+    BITS_TESTED_BATCH(kind, name##_take, size_t)  \
+    BITS_TESTED_BATCH(kind, name##_take_back, size_t)
 
-BITS_TESTED(bool, return, settle, (const char *here, uint64_t *words, size_t count, size_t length, size_t kept),
-            (words, count, length, kept), BITS_LIST(words, count))
-BITS_TESTED(bool, return, is_clean, (const char *here, const uint64_t *words, size_t count, size_t length),
-            (words, count, length), BITS_LIST(words, count))
-BITS_TESTED(size_t, return, take_lowest_bit, (const char *here, uint64_t *word), (word), BITS_PLACE(word))
+BITS_TESTED(bits, over, (uint64_t *words, size_t count, size_t length), (words, count, length),
+            fixedbitset_ask_enough(here, words, count, length);)
+BITS_TESTED_DONE(settle, (uint64_t *words, size_t count, size_t length, size_t kept), (words, count, length, kept),
+                 BITS_ASK_LIST(words, count) BITS_ASK_EQUAL(count, bits_words(length)) BITS_ASK_AT_MOST(kept, length))
+BITS_TESTED(bool, is_clean, (const uint64_t *words, size_t count, size_t length), (words, count, length),
+            BITS_ASK_LIST(words, count))
+BITS_TESTED(size_t, take_lowest_bit, (uint64_t *word), (word), BITS_ASK_PLACE(word))
 
-BITS_READS_AT(bool, contains, bit)
-BITS_CHANGES_AT(insert)
-BITS_CHANGES_AT(remove)
-BITS_CHANGES_AT(toggle)
-BITS_CHANGES_AT(put)
-BITS_CHANGES_AT(take)
-BITS_TESTED(bool, return, set, (const char *here, bits *set, size_t bit, bool enabled), (set, bit, enabled),
-            BITS_SET(set) BITS_BELOW(bit, set->length))
-BITS_TESTED(bool, return, set_block, (const char *here, bits *set, size_t index, uint64_t block), (set, index, block),
-            BITS_SET(set) BITS_BELOW(index, bits_blocks(set->length)))
-BITS_TESTED(bool, return, insert_all, (const char *here, bits *set, const size_t *positions, size_t count),
-            (set, positions, count),
-            BITS_SET(set) BITS_LIST(positions, count) BITS_LIST_APART(positions, count, set->words, set->count)
-                bits_ask_each_below(here, positions, count, set->length);)
-BITS_TESTED(bool, return, remove_all, (const char *here, bits *set, const size_t *positions, size_t count),
-            (set, positions, count),
-            BITS_SET(set) BITS_LIST(positions, count) BITS_LIST_APART(positions, count, set->words, set->count)
-                bits_ask_each_below(here, positions, count, set->length);)
-BITS_TESTED(bool, return, contains_each,
-            (const char *here, const bits *set, const size_t *positions, size_t count, bool *answers, size_t places),
-            (set, positions, count, answers, places),
-            BITS_SET(set) BITS_LIST(positions, count) BITS_LIST(answers, places)
-                BITS_LIST_APART(answers, places, set->words, set->count) BITS_LIST_APART(answers, places, positions, count))
-BITS_TESTED(void, , clear, (const char *here, bits *set), (set), BITS_SET(set))
-BITS_READS(size_t, minimum)
-BITS_READS(size_t, maximum)
-BITS_READS_AT(size_t, next_one, from)
-BITS_READS_AT(size_t, next_zero, from)
-BITS_READS_AT(size_t, nth_one, index)
-BITS_TESTED(size_t, return, first_gap, (const char *here, const bits *set, size_t count, size_t from), (set, count, from),
-            BITS_SET(set))
-BITS_TESTED(size_t, return, first_aligned_gap,
-            (const char *here, const bits *set, size_t count, size_t align, size_t start, size_t end),
-            (set, count, align, start, end), BITS_SET(set) BITS_RANGE(start, end, set->length))
-BITS_READS_AT(size_t, previous_one, below)
-BITS_READS_AT(size_t, previous_zero, below)
-BITS_READS(bool, is_clear)
-BITS_READS(bool, is_full)
+BITS_TESTED_READS_AT(bool, contains, bit)
+BITS_TESTED_CHANGES_AT(insert)
+BITS_TESTED_CHANGES_AT(remove)
+BITS_TESTED_CHANGES_AT(toggle)
+BITS_TESTED_WAS_AT(put)
+BITS_TESTED_WAS_AT(take)
+BITS_TESTED_DONE(set, (bits *set, size_t bit, bool enabled), (set, bit, enabled),
+                 BITS_ASK_SET(set) BITS_ASK_BELOW(bit, set->length))
+BITS_TESTED_DONE(set_block, (bits *set, size_t index, uint64_t block), (set, index, block),
+                 BITS_ASK_SET(set) BITS_ASK_BELOW(index, bits_blocks(set->length)))
+BITS_TESTED_CHANGES_ALL(insert_all)
+BITS_TESTED_CHANGES_ALL(remove_all)
+BITS_TESTED_DONE(contains_each, (const bits *set, const size_t *positions, size_t count, bool *answers, size_t places),
+                 (set, positions, count, answers, places),
+                 BITS_ASK_SET(set) BITS_ASK_LIST(positions, count) BITS_ASK_LIST(answers, places)
+                     BITS_ASK_LIST_APART(answers, places, set->words, set->count)
+                         BITS_ASK_LIST_APART(answers, places, positions, count) BITS_ASK_EQUAL(places, count))
+BITS_TESTED_VOID(clear, (bits *set), (set), BITS_ASK_SET(set))
+BITS_TESTED_READS(size_t, minimum)
+BITS_TESTED_READS(size_t, maximum)
+BITS_TESTED_READS_AT(size_t, next_one, from)
+BITS_TESTED_READS_AT(size_t, next_zero, from)
+BITS_TESTED_READS_AT(size_t, nth_one, index)
+BITS_TESTED(size_t, first_gap, (const bits *set, size_t count, size_t from), (set, count, from), BITS_ASK_SET(set))
+BITS_TESTED(size_t, first_aligned_gap, (const bits *set, size_t count, size_t align, size_t start, size_t end),
+            (set, count, align, start, end), BITS_ASK_SET(set) BITS_ASK_RANGE(start, end, set->length))
+BITS_TESTED_READS_AT(size_t, previous_one, below)
+BITS_TESTED_READS_AT(size_t, previous_zero, below)
+BITS_TESTED_READS(bool, is_clear)
+BITS_TESTED_READS(bool, is_full)
 
-BITS_READS_RANGE(bool, range_is_valid, )
-BITS_CHANGES_RANGE(insert_range)
-BITS_CHANGES_RANGE(remove_range)
-BITS_CHANGES_RANGE(toggle_range)
-BITS_READS_RANGE(size_t, count_ones, BITS_RANGE(start, end, set->length))
-BITS_READS_RANGE(size_t, count_zeroes, BITS_RANGE(start, end, set->length))
-BITS_READS_RANGE(bool, contains_all_in_range, BITS_RANGE(start, end, set->length))
-BITS_READS_RANGE(bool, contains_any_in_range, BITS_RANGE(start, end, set->length))
+BITS_TESTED_READS_RANGE(bool, range_is_valid, )
+BITS_TESTED_CHANGES_RANGE(insert_range)
+BITS_TESTED_CHANGES_RANGE(remove_range)
+BITS_TESTED_CHANGES_RANGE(toggle_range)
+BITS_TESTED_READS_RANGE(size_t, count_ones, BITS_ASK_RANGE(start, end, set->length))
+BITS_TESTED_READS_RANGE(size_t, count_zeroes, BITS_ASK_RANGE(start, end, set->length))
+BITS_TESTED_READS_RANGE(bool, contains_all_in_range, BITS_ASK_RANGE(start, end, set->length))
+BITS_TESTED_READS_RANGE(bool, contains_any_in_range, BITS_ASK_RANGE(start, end, set->length))
 
-BITS_CHANGES_BY_OTHER(bool, return, union_with)
-BITS_CHANGES_BY_OTHER(bool, return, symmetric_difference_with)
-BITS_CHANGES_BY_OTHER(void, , intersect_with)
-BITS_CHANGES_BY_OTHER(void, , difference_with)
-BITS_TESTED(bool, return, union_with_change, (const char *here, bits *set, const bits *other, bool *changed),
-            (set, other, changed), BITS_SET(set) BITS_SET(other) BITS_APART(set, other) BITS_PLACE(changed))
-BITS_CHANGES_BY_OTHER(bool, return, intersect_with_change)
-BITS_CHANGES_BY_OTHER(bool, return, difference_with_change)
-BITS_TESTED(bool, return, union_with_difference,
-            (const char *here, bits *set, const bits *gens, const bits *kills, bool *changed), (set, gens, kills, changed),
-            BITS_SET(set) BITS_SET(gens) BITS_SET(kills) BITS_APART(set, gens) BITS_APART(set, kills) BITS_PLACE(changed))
-BITS_READS_TWO(size_t, union_count)
-BITS_READS_TWO(size_t, intersection_count)
-BITS_READS_TWO(size_t, difference_count)
-BITS_READS_TWO(size_t, symmetric_difference_count)
-BITS_READS_TWO(bool, is_disjoint)
-BITS_READS_TWO(bool, is_subset)
-BITS_READS_TWO(size_t, first_lacking)
-BITS_TESTED(size_t, return, next_common, (const char *here, const bits *set, const bits *other, size_t from),
-            (set, other, from), BITS_SET(set) BITS_SET(other))
-BITS_READS_TWO(bool, equal)
-BITS_READS_TWO(ptrdiff_t, compare)
+BITS_TESTED_JOINS(union_with)
+BITS_TESTED_JOINS(symmetric_difference_with)
+BITS_TESTED_CUTS(intersect_with)
+BITS_TESTED_CUTS(difference_with)
+BITS_TESTED_DONE(union_with_change, (bits *set, const bits *other, bool *changed), (set, other, changed),
+                 BITS_ASK_SET(set) BITS_ASK_SET(other) BITS_ASK_APART(set, other) BITS_ASK_PLACE(changed)
+                     BITS_ASK_NO_LONGER(other, set))
+BITS_TESTED_CUTS_CHANGE(intersect_with_change)
+BITS_TESTED_CUTS_CHANGE(difference_with_change)
+BITS_TESTED_DONE(union_with_difference, (bits *set, const bits *gens, const bits *kills, bool *changed),
+                 (set, gens, kills, changed),
+                 BITS_ASK_SET(set) BITS_ASK_SET(gens) BITS_ASK_SET(kills) BITS_ASK_APART(set, gens)
+                     BITS_ASK_APART(set, kills) BITS_ASK_PLACE(changed) BITS_ASK_NO_LONGER(gens, set))
+BITS_TESTED_READS_TWO(size_t, union_count)
+BITS_TESTED_READS_TWO(size_t, intersection_count)
+BITS_TESTED_READS_TWO(size_t, difference_count)
+BITS_TESTED_READS_TWO(size_t, symmetric_difference_count)
+BITS_TESTED_READS_TWO(bool, is_disjoint)
+BITS_TESTED_READS_TWO(bool, is_subset)
+BITS_TESTED_READS_TWO(size_t, first_lacking)
+BITS_TESTED(size_t, next_common, (const bits *set, const bits *other, size_t from), (set, other, from),
+            BITS_ASK_SET(set) BITS_ASK_SET(other))
+BITS_TESTED_READS_TWO(bool, equal)
+BITS_TESTED_READS_TWO(ptrdiff_t, compare)
 
-BITS_TESTED(bool, return, copy, (const char *here, bits *to, const bits *set), (to, set),
-            BITS_ROOM(to) BITS_SET(set) BITS_APART(to, set))
-BITS_WRITES(union_of)
-BITS_WRITES(symmetric_difference_of)
-BITS_WRITES(intersection_of)
-BITS_WRITES(difference_of)
+BITS_TESTED_DONE(copy, (bits *to, const bits *set), (to, set),
+                 BITS_ASK_ROOM(to) BITS_ASK_SET(set) BITS_ASK_APART(to, set) BITS_ASK_EQUAL(to->count, bits_words(to->length)))
+BITS_TESTED_WRITES(union_of, set->length < other->length ? other->length : set->length)
+BITS_TESTED_WRITES(symmetric_difference_of, set->length < other->length ? other->length : set->length)
+BITS_TESTED_WRITES(intersection_of, set->length < other->length ? set->length : other->length)
+BITS_TESTED_WRITES(difference_of, set->length)
 
-BITS_CHANGES_BY(shift_up)
-BITS_CHANGES_BY(shift_down)
-BITS_TESTED(void, , union_with_shifted, (const char *here, bits *set, const bits *other, size_t by), (set, other, by),
-            BITS_SET(set) BITS_SET(other) BITS_APART(set, other))
-BITS_CHANGES_BY(union_with_own_shift)
-BITS_TESTED(bool, return, slice, (const char *here, bits *part, const bits *set, size_t start, size_t end),
-            (part, set, start, end),
-            BITS_SET(part) BITS_SET(set) BITS_APART(part, set) BITS_RANGE(start, end, set->length))
-BITS_TESTED(bool, return, copy_range,
-            (const char *here, bits *set, const bits *other, size_t start, size_t end, size_t at), (set, other, start, end, at),
-            BITS_SET(set) BITS_SET(other) BITS_APART(set, other) BITS_RANGE(start, end, other->length))
-BITS_TESTED(bool, return, load, (const char *here, const bits *set, size_t start, size_t width, uint64_t *number),
-            (set, start, width, number),
-            BITS_SET(set) BITS_PLACE(number) BITS_BELOW(width, 65) BITS_RANGE(start, start + width, set->length))
-BITS_TESTED(bool, return, store, (const char *here, bits *set, size_t start, size_t width, uint64_t number),
-            (set, start, width, number),
-            BITS_SET(set) BITS_BELOW(width, 65) BITS_RANGE(start, start + width, set->length))
+BITS_TESTED_CHANGES_BY(shift_up)
+BITS_TESTED_CHANGES_BY(shift_down)
+BITS_TESTED_VOID(union_with_shifted, (bits *set, const bits *other, size_t by), (set, other, by),
+                 BITS_ASK_SET(set) BITS_ASK_SET(other) BITS_ASK_APART(set, other))
+BITS_TESTED_CHANGES_BY(union_with_own_shift)
+BITS_TESTED_DONE(slice, (bits *part, const bits *set, size_t start, size_t end), (part, set, start, end),
+                 BITS_ASK_SET(part) BITS_ASK_SET(set) BITS_ASK_APART(part, set) BITS_ASK_RANGE(start, end, set->length)
+                     BITS_ASK_EQUAL(part->length, end - start))
+BITS_TESTED_DONE(copy_range, (bits *set, const bits *other, size_t start, size_t end, size_t at), (set, other, start, end, at),
+                 BITS_ASK_SET(set) BITS_ASK_SET(other) BITS_ASK_APART(set, other) BITS_ASK_RANGE(start, end, other->length)
+                     BITS_ASK_RANGE(at, at + (end - start), set->length))
+BITS_TESTED_DONE(load, (const bits *set, size_t start, size_t width, uint64_t *number), (set, start, width, number),
+                 BITS_ASK_SET(set) BITS_ASK_PLACE(number) BITS_ASK_BELOW(width, 65)
+                     BITS_ASK_RANGE(start, start + width, set->length))
+BITS_TESTED_DONE(store, (bits *set, size_t start, size_t width, uint64_t number), (set, start, width, number),
+                 BITS_ASK_SET(set) BITS_ASK_BELOW(width, 65) BITS_ASK_RANGE(start, start + width, set->length))
 
-BITS_TESTED(void, , from_bytes, (const char *here, bits *set, const uint8_t *bytes, size_t count), (set, bytes, count),
-            BITS_SET(set) BITS_LIST(bytes, count) BITS_LIST_APART(bytes, count, set->words, set->count))
-BITS_TESTED(bool, return, to_bytes, (const char *here, const bits *set, uint8_t *bytes, size_t count), (set, bytes, count),
-            BITS_SET(set) BITS_LIST(bytes, count) BITS_LIST_APART(bytes, count, set->words, set->count))
-BITS_TESTED(void, , reverse_each_byte, (const char *here, uint8_t *bytes, size_t count), (bytes, count),
-            BITS_LIST(bytes, count))
+BITS_TESTED_VOID(from_bytes, (bits *set, const uint8_t *bytes, size_t count), (set, bytes, count),
+                 BITS_ASK_SET(set) BITS_ASK_LIST(bytes, count) BITS_ASK_LIST_APART(bytes, count, set->words, set->count))
+BITS_TESTED_DONE(to_bytes, (const bits *set, uint8_t *bytes, size_t count), (set, bytes, count),
+                 BITS_ASK_SET(set) BITS_ASK_LIST(bytes, count) BITS_ASK_LIST_APART(bytes, count, set->words, set->count)
+                     BITS_ASK_EQUAL(count, bits_bytes(set->length)))
+BITS_TESTED_VOID(reverse_each_byte, (uint8_t *bytes, size_t count), (bytes, count), BITS_ASK_LIST(bytes, count))
 
-BITS_TESTED(bool, return, ranks_fill,
-            (const char *here, bits_ranks *ranks, const bits *set, size_t *directory, size_t entries),
-            (ranks, set, directory, entries),
-            BITS_PLACE(ranks) BITS_SET(set) BITS_LIST(directory, entries)
-                BITS_LIST_APART(directory, entries, set->words, set->count))
-BITS_TESTED(size_t, return, rank, (const char *here, const bits_ranks *ranks, size_t position), (ranks, position),
-            bits_ask_ranks(here, ranks);)
-BITS_TESTED(size_t, return, select, (const char *here, const bits_ranks *ranks, size_t index), (ranks, index),
-            bits_ask_ranks(here, ranks);)
+BITS_TESTED_DONE(ranks_fill, (bits_ranks *ranks, const bits *set, size_t *directory, size_t entries),
+                 (ranks, set, directory, entries),
+                 BITS_ASK_PLACE(ranks) BITS_ASK_SET(set) BITS_ASK_LIST(directory, entries)
+                     BITS_ASK_LIST_APART(directory, entries, set->words, set->count)
+                         BITS_ASK_EQUAL(entries, bits_ranks_entries(set->length)))
+BITS_TESTED(size_t, rank, (const bits_ranks *ranks, size_t position), (ranks, position), fixedbitset_ask_ranks(here, ranks);)
+BITS_TESTED(size_t, select, (const bits_ranks *ranks, size_t index), (ranks, index), fixedbitset_ask_ranks(here, ranks);)
 
-BITS_TESTED(bool, return, rows_clear, (const char *here, uint64_t *words, size_t count, size_t rows, size_t columns),
-            (words, count, rows, columns), BITS_LIST(words, count))
-BITS_TESTED(bool, return, rows_get, (const char *here, const bits_rows *rows, size_t row, size_t column),
-            (rows, row, column), bits_ask_rows(here, rows); bits_ask_row(here, rows, row);)
-BITS_TESTED(bool, return, rows_set, (const char *here, bits_rows *rows, size_t row, size_t column, bool enabled),
-            (rows, row, column, enabled),
-            bits_ask_rows(here, rows); bits_ask_row(here, rows, row);
-            BITS_BELOW(row, rows->rows) BITS_BELOW(column, rows->columns))
-BITS_TESTED(bool, return, rows_union, (const char *here, bits_rows *rows, size_t from, size_t into, bool *changed),
-            (rows, from, into, changed),
-            bits_ask_rows(here, rows); bits_ask_row(here, rows, from); bits_ask_row(here, rows, into);
-            BITS_PLACE(changed) BITS_BELOW(from, rows->rows) BITS_BELOW(into, rows->rows))
-BITS_TESTED(bool, return, rows_ones, (const char *here, bits_walk *walk, const bits_rows *rows, size_t row),
-            (walk, rows, row),
-            BITS_PLACE(walk) bits_ask_rows(here, rows); bits_ask_row(here, rows, row); BITS_BELOW(row, rows->rows))
-BITS_TESTED(void, , rows_close, (const char *here, bits_rows *rows), (rows),
-            bits_ask_rows(here, rows); bits_ask_each_row(here, rows);)
+BITS_TESTED_DONE(rows_clear, (uint64_t *words, size_t count, size_t rows, size_t columns), (words, count, rows, columns),
+                 BITS_ASK_LIST(words, count) BITS_ASK_EQUAL(count, bits_rows_words(rows, columns)))
+BITS_TESTED(bool, rows_get, (const bits_rows *rows, size_t row, size_t column), (rows, row, column),
+            fixedbitset_ask_rows(here, rows); fixedbitset_ask_row(here, rows, row);)
+BITS_TESTED_DONE(rows_set, (bits_rows *rows, size_t row, size_t column, bool enabled), (rows, row, column, enabled),
+                 fixedbitset_ask_rows(here, rows); fixedbitset_ask_row(here, rows, row);
+                 BITS_ASK_BELOW(row, rows->rows) BITS_ASK_BELOW(column, rows->columns))
+BITS_TESTED_DONE(rows_union, (bits_rows *rows, size_t from, size_t into, bool *changed), (rows, from, into, changed),
+                 fixedbitset_ask_rows(here, rows); fixedbitset_ask_row(here, rows, from);
+                 fixedbitset_ask_row(here, rows, into);
+                 BITS_ASK_PLACE(changed) BITS_ASK_BELOW(from, rows->rows) BITS_ASK_BELOW(into, rows->rows))
+BITS_TESTED_DONE(rows_ones, (bits_walk *walk, const bits_rows *rows, size_t row), (walk, rows, row),
+                 BITS_ASK_PLACE(walk) fixedbitset_ask_rows(here, rows); fixedbitset_ask_row(here, rows, row);
+                 BITS_ASK_BELOW(row, rows->rows))
+BITS_TESTED_VOID(rows_close, (bits_rows *rows), (rows), fixedbitset_ask_rows(here, rows);
+                 fixedbitset_ask_each_row(here, rows);)
 
-BITS_BEGINS(bits_walk, ones)
-BITS_BEGINS(bits_walk, zeroes)
-BITS_BEGINS_IN(ones_in)
-BITS_BEGINS_IN(zeroes_in)
-BITS_BEGINS(bits_run_walk, runs)
-BITS_BEGINS(bits_run_walk, zero_runs)
-BITS_BEGINS_TWO(bits_sieve, intersection)
-BITS_BEGINS_TWO(bits_sieve, difference)
-BITS_BEGINS_TWO(bits_pair, union)
-BITS_BEGINS_TWO(bits_pair, symmetric_difference)
-BITS_STEPS(bits_walk, ones)
-BITS_HANDFUL(bits_walk, ones_take_u32, uint32_t)
-BITS_STEPS(bits_walk, zeroes)
-BITS_STEPS(bits_sieve, intersection)
-BITS_STEPS(bits_sieve, difference)
-BITS_STEPS(bits_pair, union)
-BITS_STEPS(bits_pair, symmetric_difference)
-BITS_RUN_STEP(runs_next)
-BITS_RUN_STEP(runs_next_back)
+BITS_TESTED_BEGINS(walk, ones)
+BITS_TESTED_BEGINS(walk, zeroes)
+BITS_TESTED_BEGINS_IN(ones_in)
+BITS_TESTED_BEGINS_IN(zeroes_in)
+BITS_TESTED_BEGINS(run_walk, runs)
+BITS_TESTED_BEGINS(run_walk, zero_runs)
+BITS_TESTED_BEGINS_TWO(sieve, intersection)
+BITS_TESTED_BEGINS_TWO(sieve, difference)
+BITS_TESTED_BEGINS_TWO(pair, union)
+BITS_TESTED_BEGINS_TWO(pair, symmetric_difference)
+BITS_TESTED_STEPS(walk, ones)
+BITS_TESTED_BATCH(walk, ones_take_u32, uint32_t)
+BITS_TESTED_STEPS(walk, zeroes)
+BITS_TESTED_STEPS(sieve, intersection)
+BITS_TESTED_STEPS(sieve, difference)
+BITS_TESTED_STEPS(pair, union)
+BITS_TESTED_STEPS(pair, symmetric_difference)
+BITS_TESTED_RUN_STEP(runs_next)
+BITS_TESTED_RUN_STEP(runs_next_back)
 
-/* ---- from here on each call in the program is the tested one */
+/* ---- from here on each call in a C program is the tested one */
 
-#define BITS_CALL(name, ...) bits_tested_##name(BITS_HERE(bits_##name), __VA_ARGS__)
+#ifndef __cplusplus
+#define BITS_CALL(name, ...) fixedbitset_tested_##name(__VA_ARGS__, __FILE__, __LINE__)
 
+#define bits_over(...) BITS_CALL(over, __VA_ARGS__)
 #define bits_settle(...) BITS_CALL(settle, __VA_ARGS__)
 #define bits_is_clean(...) BITS_CALL(is_clean, __VA_ARGS__)
 #define bits_take_lowest_bit(...) BITS_CALL(take_lowest_bit, __VA_ARGS__)
@@ -497,5 +599,6 @@ BITS_RUN_STEP(runs_next_back)
 #define bits_symmetric_difference_next_back(...) BITS_CALL(symmetric_difference_next_back, __VA_ARGS__)
 #define bits_symmetric_difference_take(...) BITS_CALL(symmetric_difference_take, __VA_ARGS__)
 #define bits_symmetric_difference_take_back(...) BITS_CALL(symmetric_difference_take_back, __VA_ARGS__)
+#endif
 
 #endif

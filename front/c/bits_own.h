@@ -38,6 +38,12 @@ typedef enum bits_told {
     BITS_NO_MEMORY /* Memory was refused. */
 } bits_told;
 
+#if defined(__cplusplus) && defined(BITS_CHECK)
+namespace fixedbitset_untested {
+#endif
+
+/* (A name in parentheses is the call without its tests: BITS_CHECK has those of the calls below.) */
+
 /* Gives the words back. What is left is the set of length 0, which may grow again. */
 static inline void bits_own_free(bits_own *own) {
     BITS_FREE(own->set.words);
@@ -46,7 +52,7 @@ static inline void bits_own_free(bits_own *own) {
 }
 
 /* Sees to it that the set can be of this length without any more memory, and answers whether it can. The length stays. */
-static inline bool bits_own_reserve(bits_own *own, size_t length) {
+BITS_NODISCARD static inline bool bits_own_reserve(bits_own *own, size_t length) {
     const size_t count = BITS_WORDS(length);
     if (count <= own->room)
         return true;
@@ -60,45 +66,43 @@ static inline bool bits_own_reserve(bits_own *own, size_t length) {
 
 /* Makes the length this one, and answers whether memory was there. Positions past it fall away, and new ones are not set. It
  * takes no memory where there is room. */
-static inline bool bits_own_resize(bits_own *own, size_t length) {
+BITS_NODISCARD static inline bool bits_own_resize(bits_own *own, size_t length) {
     const size_t kept = length < own->set.length ? length : own->set.length;
     if (!bits_own_reserve(own, length))
         return false;
     own->set.count = BITS_WORDS(length);
     own->set.length = length;
-    bits_settle(own->set.words, own->set.count, length, kept);
-    return true;
+    return (bits_settle)(own->set.words, own->set.count, length, kept);
 }
 
 /* Makes the set at least this long, and answers whether memory was there. Where it takes memory it takes room for half as
  * many words again, if these are to be had. So to grow by one position many times copies each word few times. */
-static inline bool bits_own_grow(bits_own *own, size_t length) {
+BITS_NODISCARD static inline bool bits_own_grow(bits_own *own, size_t length) {
     if (length <= own->set.length)
         return true;
     const size_t half_more = own->set.length + own->set.length / 2;
-    if (BITS_WORDS(length) > own->room && length < half_more)
-        (void)bits_own_reserve(own, half_more);
-    return bits_own_resize(own, length);
+    const bool has_room = BITS_WORDS(length) <= own->room || (length < half_more && bits_own_reserve(own, half_more));
+    return (has_room || bits_own_reserve(own, length)) && bits_own_resize(own, length);
 }
 
 /* Sets the position, and makes the set long enough for it. It answers whether memory was there; of SIZE_MAX, which no set has,
  * the answer is false. */
-static inline bool bits_own_insert(bits_own *own, size_t position) {
-    return position != BITS_NONE && bits_own_grow(own, position + 1) && bits_insert(&own->set, position);
+BITS_NODISCARD static inline bool bits_own_insert(bits_own *own, size_t position) {
+    return position != BITS_NONE && bits_own_grow(own, position + 1) && (bits_insert)(&own->set, position);
 }
 
 /* Makes the set equal to this one, whose words are not its own, and answers whether memory was there. */
-static inline bool bits_own_copy(bits_own *own, const bits *set) {
+BITS_NODISCARD static inline bool bits_own_copy(bits_own *own, const bits *set) {
     if (!bits_own_reserve(own, set->length))
         return false;
     own->set = bits_of(own->set.words, set->length);
-    return bits_copy(&own->set, set);
+    return (bits_copy)(&own->set, set);
 }
 
 /* Adds the positions of this set, whose words are not its own, and makes the set as long where it is shorter. It answers
  * whether memory was there. */
-static inline bool bits_own_union(bits_own *own, const bits *set) {
-    return bits_own_grow(own, set->length) && bits_union_with(&own->set, set);
+BITS_NODISCARD static inline bool bits_own_union(bits_own *own, const bits *set) {
+    return bits_own_grow(own, set->length) && (bits_union_with)(&own->set, set);
 }
 
 /* ---- text */
@@ -124,8 +128,10 @@ static inline void bits_text_put_number(char *text, size_t room, size_t *at, siz
  * characters the text has without the NUL, as snprintf does: where that is not less than `room`, what was written is the
  * beginning, with the NUL as its last character. `text` may be NULL where `room` is 0. */
 static inline size_t bits_to_text(const bits *set, char *text, size_t room) {
-    size_t at = 0;
-    BITS_FOR_EACH_RUN(start, end, set) {
+    size_t at = 0, start = 0, end = 0;
+    bits_run_walk walk = BITS_RUNS;
+    (bits_runs)(&walk, set);
+    while ((bits_runs_next)(&walk, &start, &end)) {
         if (at)
             bits_text_put(text, room, &at, ',');
         bits_text_put_number(text, room, &at, start);
@@ -201,39 +207,95 @@ static inline bool bits_text_is_valid(const char *text, size_t size, size_t leng
 /* Adds the positions of a text that is valid for this set. */
 static inline void bits_text_add(bits *set, const char *text, size_t size) {
     size_t at = 0, start = 0, end = 0;
-    while (at < size && bits_text_stretch(text, size, &at, set->length, &start, &end))
-        bits_insert_range(set, start, end);
+    while (at < size && bits_text_stretch(text, size, &at, set->length, &start, &end) && (bits_insert_range)(set, start, end))
+        continue;
 }
 
 /* Makes the positions of the set those that a text of `size` characters says, and answers whether it did. The length stays.
  * Else nothing is changed, and `*fault` is the index of the first character at which the text is wrong: `size` where it ends
  * too early, and the first digit of a position that is not below the length, or that is less than the one before its dash. */
-static inline bool bits_from_text(bits *set, const char *text, size_t size, size_t *fault) {
+BITS_NODISCARD static inline bool bits_from_text(bits *set, const char *text, size_t size, size_t *fault) {
     size_t needed = 0;
     if (!bits_text_is_valid(text, size, set->length, &needed, fault))
         return false;
-    bits_clear(set);
+    (bits_clear)(set);
     bits_text_add(set, text, size);
     return true;
 }
 
 /* Makes the positions of the set those that the text says, and the set longer where they need it; a set that is long enough
- * keeps its length. A position that is not below `longest` is a fault, so that no text makes the set longer than that. Unless
- * the answer is BITS_TOLD nothing is changed; of BITS_FAULT alone `*fault` is written, as above. */
-static inline bits_told bits_own_from_text_within(bits_own *own, const char *text, size_t size, size_t longest, size_t *fault) {
+ * keeps its length. A position that is not below `longest` is a fault, so that no text makes the set longer than that; with
+ * SIZE_MAX a few characters may take gigabytes. Unless the answer is BITS_TOLD nothing is changed; of BITS_FAULT alone `*fault`
+ * is written, as above. */
+BITS_NODISCARD static inline bits_told bits_own_from_text(bits_own *own, const char *text, size_t size, size_t longest,
+                                                          size_t *fault) {
     size_t needed = 0;
     if (!bits_text_is_valid(text, size, longest, &needed, fault))
         return BITS_FAULT;
     if (!bits_own_grow(own, needed))
         return BITS_NO_MEMORY;
-    bits_clear(&own->set);
+    (bits_clear)(&own->set);
     bits_text_add(&own->set, text, size);
     return BITS_TOLD;
 }
 
-/* The same for a text that is trusted: any position below SIZE_MAX is read, so that few characters may take gigabytes. */
-static inline bits_told bits_own_from_text(bits_own *own, const char *text, size_t size, size_t *fault) {
-    return bits_own_from_text_within(own, text, size, SIZE_MAX, fault);
+#if defined(__cplusplus) && defined(BITS_CHECK)
 }
+#endif
+
+#ifdef BITS_CHECK
+
+/* The set is right, and its words are the first of the room. */
+static inline void fixedbitset_ask_own(fixedbitset_place here, const bits_own *own) {
+    fixedbitset_ask_place(here, "own", own, sizeof *own);
+    if (own->set.count > own->room)
+        fixedbitset_stop(here, "`own` has %zu words, and room for %zu", own->set.count, own->room);
+    fixedbitset_ask_clean(here, "own", own->set.words, own->set.count, own->set.length);
+    fixedbitset_ask_memory(here, "own", own->set.words, own->room, sizeof(uint64_t));
+}
+
+static inline void fixedbitset_ask_own_and(fixedbitset_place here, const bits_own *own, const bits *set) {
+    fixedbitset_ask_own(here, own);
+    fixedbitset_ask_set(here, "set", set);
+    fixedbitset_ask_apart(here, "set", own->set.words, 8 * own->room, set->words, 8 * set->count);
+}
+
+#define BITS_TESTED_OWN_TO(name) \
+    BITS_TESTED_DONE(name, (bits_own *own, size_t length), (own, length), fixedbitset_ask_own(here, own);)
+#define BITS_TESTED_OWN_AND(name) \
+    BITS_TESTED_DONE(name, (bits_own *own, const bits *set), (own, set), fixedbitset_ask_own_and(here, own, set);)
+
+BITS_TESTED_VOID(own_free, (bits_own *own), (own), fixedbitset_ask_own(here, own);)
+BITS_TESTED_OWN_TO(own_reserve)
+BITS_TESTED_OWN_TO(own_resize)
+BITS_TESTED_OWN_TO(own_grow)
+BITS_TESTED_DONE(own_insert, (bits_own *own, size_t position), (own, position), fixedbitset_ask_own(here, own);)
+BITS_TESTED_OWN_AND(own_copy)
+BITS_TESTED_OWN_AND(own_union)
+BITS_TESTED(size_t, to_text, (const bits *set, char *text, size_t room), (set, text, room),
+            BITS_ASK_SET(set) BITS_ASK_LIST(text, room) BITS_ASK_LIST_APART(text, room, set->words, set->count))
+BITS_TESTED_DONE(from_text, (bits *set, const char *text, size_t size, size_t *fault), (set, text, size, fault),
+                 BITS_ASK_SET(set) BITS_ASK_LIST(text, size) BITS_ASK_LIST_APART(text, size, set->words, set->count)
+                     BITS_ASK_PLACE(fault))
+BITS_TESTED_DONE_BY(bits_told, BITS_TOLD, own_from_text,
+                    (bits_own *own, const char *text, size_t size, size_t longest, size_t *fault),
+                    (own, text, size, longest, fault),
+                    fixedbitset_ask_own(here, own); BITS_ASK_LIST(text, size)
+                    BITS_ASK_LIST_APART(text, size, own->set.words, own->room) BITS_ASK_PLACE(fault))
+
+#ifndef __cplusplus
+#define bits_own_free(...) BITS_CALL(own_free, __VA_ARGS__)
+#define bits_own_reserve(...) BITS_CALL(own_reserve, __VA_ARGS__)
+#define bits_own_resize(...) BITS_CALL(own_resize, __VA_ARGS__)
+#define bits_own_grow(...) BITS_CALL(own_grow, __VA_ARGS__)
+#define bits_own_insert(...) BITS_CALL(own_insert, __VA_ARGS__)
+#define bits_own_copy(...) BITS_CALL(own_copy, __VA_ARGS__)
+#define bits_own_union(...) BITS_CALL(own_union, __VA_ARGS__)
+#define bits_to_text(...) BITS_CALL(to_text, __VA_ARGS__)
+#define bits_from_text(...) BITS_CALL(from_text, __VA_ARGS__)
+#define bits_own_from_text(...) BITS_CALL(own_from_text, __VA_ARGS__)
+#endif
+
+#endif
 
 #endif

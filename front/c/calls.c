@@ -337,8 +337,7 @@ static void handfuls(void) {
     bits set = {words, BITS_WORDS(LENGTH), LENGTH};
     for (size_t p = 0; p < LENGTH; p++) {
         const bool is_set = p / 600 % 2 ? p % 97 == 0 : p * p % 11 < 4;
-        if (is_set)
-            bits_insert(&set, p);
+        assert(!is_set || bits_insert(&set, p));
         wanted[is_set][many[is_set]++] = p;
     }
     memset(taken, 255, sizeof taken);
@@ -346,10 +345,10 @@ static void handfuls(void) {
     for (size_t room = 1; room <= LENGTH; room += room < 150 ? 1 : 149)
         for (int is_set = 0; is_set < 2; is_set++) {
             bits_walk walk = BITS_WALK;
-            (is_set ? bits_ones : bits_zeroes)(&walk, &set);
+            is_set ? bits_ones(&walk, &set) : bits_zeroes(&walk, &set);
             for (size_t done = 0; done <= many[is_set]; done += room) {
                 const size_t left = many[is_set] - done, had = room < left ? room : left;
-                assert((is_set ? bits_ones_take : bits_zeroes_take)(&walk, taken, room) == had);
+                assert((is_set ? bits_ones_take(&walk, taken, room) : bits_zeroes_take(&walk, taken, room)) == had);
                 assert(!memcmp(taken, wanted[is_set] + done, had * sizeof *taken));
                 assert(!memcmp(taken + had, untaken + had, (room - had) * sizeof *taken));
                 memset(taken, 255, had * sizeof *taken);
@@ -369,8 +368,7 @@ static void handfuls_of_32_bits(void) {
     for (size_t length = 0; length <= MOST; length += length < 200 ? 1 : 150) {
         bits set = empty(length);
         for (size_t p = 0; p < length; p++)
-            if (p / 1300 % 2 ? p % 97 == 0 : p * p % 11 < 9)
-                bits_insert(&set, p);
+            assert(!(p / 1300 % 2 ? p % 97 == 0 : p * p % 11 < 9) || bits_insert(&set, p));
         for (size_t room = 0; room <= MOST; room += room < 200 ? 1 + 2 * (length > 200) : 104) {
             bits_walk one = BITS_WALK, other = BITS_WALK;
             size_t first = 0, last = 0, same = 0;

@@ -674,7 +674,7 @@ static void growth(const one *it) {
                 has[k] |= it->has[k];
             break;
         case 2: HOLDS(bits_own_copy(&own, &it->set)), length = it->set.length, memset(has, 0, sizeof has), memcpy(has, it->has, length); break;
-        case 3: HOLDS(bits_own_from_text(&own, "0-3,8", 5, &fault) == BITS_TOLD), length = length < 9 ? 9 : length;
+        case 3: HOLDS(bits_own_from_text(&own, "0-3,8", 5, 9, &fault) == BITS_TOLD), length = length < 9 ? 9 : length;
             memset(has, 0, sizeof has), memset(has, 1, 4), has[8] = 1; break;
         default: HOLDS(bits_own_insert(&own, p)), length = length < p + 1 ? p + 1 : length, has[p] = 1;
         }

@@ -40,9 +40,16 @@ static void structs(void) {
     assert(length == 70 && set.words == words && set.count == 4 && set.length == 70);
     bits_view view = BITS_VIEW_OF(words, ++length);
     assert(length == 71 && view.words == words && view.count == 4 && view.length == 71);
+    set = BITS_OVER(words, 4, ++length);
+    assert(length == 72 && set.words == words && set.count == 4 && set.length == 72);
+    assert(bits_over(words, 8, 72).count == 4 && !bits_over(NULL, 0, 0).length);
+#ifndef BITS_CHECK
+    set = BITS_OVER(words, 3, 72);
+    assert(!set.words && !set.count && !set.length);
+#endif
     int rows = 1;
     bits_rows table = BITS_ROWS_OF(words, ++rows, ++length);
-    assert(rows == 2 && length == 72 && table.words == words && table.count == 8 && table.rows == 2 && table.columns == 72);
+    assert(rows == 2 && length == 73 && table.words == words && table.count == 8 && table.rows == 2 && table.columns == 73);
 }
 
 /* Walks before they are begun are over no words and give nothing; so do ranks. */
