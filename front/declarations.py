@@ -5,9 +5,10 @@ exports of crates/bits_c and the views that cross.
 usage: front/declarations.py
 
 Compared are names, parameters, results and the fields of structs, each with its name and its kind. A slice crosses as a
-pointer and a number, whose name is free. A declaration of bits.h gives the symbol of its name, and bits_check.h has a test
-for each that takes a pointer. A wrong declaration is undefined behaviour, and no compiler sees it. It prints each that is
-wrong, and what was compared in the last line. The status is 0 only where none is wrong.
+pointer and a number, whose name is free. A declaration of bits.h gives the symbol of its name, but where an export has another
+name there, and bits_check.h has a test for each that takes a pointer. A wrong declaration is undefined behaviour, and no
+compiler sees it. It prints each that is wrong, and what was compared in the last line. The status is 0 only where none is
+wrong.
 """
 import pathlib
 import re
@@ -82,10 +83,20 @@ def of_rust(text):
     return found
 
 
+def in_c(name):
+    """The name of an export in bits.h: `take` clears a bit there, and bits_union is nobody's."""
+    two = "intersection|difference|union|symmetric_difference"
+    return re.sub(rf"^(bits_(?:{two}|ones|zeroes))_take", r"\1_batch", re.sub(rf"^(bits_(?:{two}))$", r"\1_iter", name))
+
+
 def of_c(text):
-    """The functions that the header declares with the symbols of their names."""
+    """The functions that the header declares, by the exports that their symbols are."""
     found = {}
-    for result, name, parameters in re.findall(r"^(?:BITS_NODISCARD )?(\w+) (bits_\w+)\(([^)]*)\)\s+BITS_SYMBOL\(\2\);", text, re.M):
+    for result, named, parameters, name in re.findall(
+        r"^(?:BITS_NODISCARD )?(\w+) (bits_\w+)\(([^)]*)\)\s+BITS_SYMBOL\((\w+)\);", text, re.M
+    ):
+        if named != in_c(name):
+            continue
         pairs = [re.match(r"\s*((?:const )?\w+ \*|\w+) ?(\w+)$", it).groups() for it in parameters.split(",")]
         found[name] = [*((word, KINDS[kind]) for kind, word in pairs), ("", KINDS[result])]
     return found
@@ -132,7 +143,7 @@ def wrong_tests(exported, header, tests):
     """The calls that take a pointer, and that bits_check.h does not test, or tests under another name. (Of the functions of the
     header those are tested that stand between the calls.)"""
     tested = {f"bits_{name}" for name in re.findall(r"^#define bits_(\w+)\(\.\.\.\) BITS_CALL\(\1, __VA_ARGS__\)$", tests, re.M)}
-    asking = {name for name, parameters in exported.items() if any(kind.endswith("*") for _, kind in parameters)}
+    asking = {in_c(name) for name, parameters in exported.items() if any(kind.endswith("*") for _, kind in parameters)}
     calls = header[header.index("namespace fixedbitset_untested {"):header.index("using fixedbitset_untested::")]
     asking |= set(re.findall(r"^static inline \w+ (bits_\w+)\(", calls, re.M))
     return (f"bits_check.h: {it} is not tested as it should be" for it in sorted(tested ^ asking))

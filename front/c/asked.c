@@ -166,12 +166,12 @@ static void walk_of_null(void) {
 
 static void handful_of_null(void) {
     bits_sieve sieve = BITS_SIEVE;
-    bits_difference_take(&sieve, NULL, 1);
+    bits_difference_batch(&sieve, NULL, 1);
 }
 
 static void handful_of_half_numbers(void) {
     bits_walk walk = BITS_WALK;
-    bits_ones_take_u32(&walk, (uint32_t *)(uintptr_t)((uintptr_t)words + 2), 1);
+    bits_ones_batch_u32(&walk, (uint32_t *)(uintptr_t)((uintptr_t)words + 2), 1);
 }
 
 static void loop(void) {
@@ -452,8 +452,8 @@ static const struct {
     {null_number, "bits_load: `number` is NULL", 1},
     {null_walk, "bits_runs: `walk` is NULL", 1},
     {walk_of_null, "bits_union_next: `walk` has NULL for words, and says that it has 4", 1},
-    {handful_of_null, "bits_difference_take: `positions` is NULL, and there are to be 1", 1},
-    {handful_of_half_numbers, "bits_ones_take_u32: `positions` is not aligned to 4 bytes", 1},
+    {handful_of_null, "bits_difference_batch: `positions` is NULL, and there are to be 1", 1},
+    {handful_of_half_numbers, "bits_ones_batch_u32: `positions` is not aligned to 4 bytes", 1},
     {loop, "bits_ones: `set` has 1 words, and BITS_WORDS(64) is 4", 1},
     {loop_of_runs, "bits_runs: `set` has 1 words, and BITS_WORDS(64) is 4", 1},
     {entries, "bits_rank: `ranks` has 1 entries, and bits_ranks_entries(0) is 0", 1},

@@ -25,8 +25,11 @@
  * frees memory, prints, waits or ends the process; bits_new and bits_free below are no calls of the archive. None but the
  * begin of a walk or of ranks keeps a pointer.
  *
- * bits_own.h has a set that owns its words and grows, and sets as text. The archive's symbols are the names below behind
- * fixedbitset_, and hidden: a shared object with the archive in it does not export them.
+ * bits_own.h has a set that owns its words and grows, and sets as text. The archive's symbols begin with fixedbitset_, and are
+ * hidden: a shared object with the archive in it does not export them.
+ *
+ * A program that defines BITS_NO_SHORT_NAMES before it includes this header has `bits` and each name that begins with bits_
+ * behind fixedbitset_ alone: fixedbitset_bits_insert(&set, 7). All other names are macros, which begin with BITS_.
  */
 #ifndef BITS_H
 #define BITS_H
@@ -46,6 +49,14 @@
 #define BITS_CALLOC(count, size) calloc((count), (size))
 #define BITS_REALLOC(pointer, size) realloc((pointer), (size))
 #define BITS_FREE(pointer) free(pointer)
+#endif
+
+/* The name of a type or a function of this header. */
+#ifdef BITS_NO_SHORT_NAMES
+#define BITS_NAME(name) fixedbitset_##name
+#include "bits_names.h"
+#else
+#define BITS_NAME(name) name
 #endif
 
 /* On each call that answers by false that it did nothing: the compiler warns where the answer is not read. A program may
@@ -101,14 +112,14 @@ typedef struct bits_run_walk {
 } bits_run_walk;
 
 /* A walk over the positions of a set that another one has, or lacks. Make it BITS_SIEVE, and begin it by
- * bits_intersection or bits_difference. Until its last call neither set may change. */
+ * bits_intersection_iter or bits_difference_iter. Until its last call neither set may change. */
 typedef struct bits_sieve {
     bits_walk walk;
     const uint64_t *other;
     size_t other_count;
 } bits_sieve;
 
-/* Two walks in turn. Make it BITS_PAIR, and begin it by bits_union or bits_symmetric_difference. Until its last call neither
+/* Two walks in turn. Make it BITS_PAIR, and begin it by bits_union_iter or bits_symmetric_difference_iter. Until its last call neither
  * set may change. */
 typedef struct bits_pair {
     bits_sieve first;
@@ -150,43 +161,43 @@ typedef struct bits_ranks {
 #define BITS_INIT(w, n) {(w), BITS_WORDS(n), (n)}
 
 /* The set of length n with these words, which are BITS_WORDS(n). n is taken once. */
-#define BITS_OF(w, n) bits_of((w), (n))
+#define BITS_OF(w, n) BITS_NAME(bits_of)((w), (n))
 
 /* The set of length n over the first BITS_WORDS(n) of these `count` words: bits_over. Each argument is taken once. */
-#define BITS_OVER(w, count, n) bits_over((w), (count), (n))
+#define BITS_OVER(w, count, n) BITS_NAME(bits_over)((w), (count), (n))
 
 /* The same as BITS_OF of words that are only read. */
-#define BITS_VIEW_OF(w, n) bits_view_of((w), (n))
+#define BITS_VIEW_OF(w, n) BITS_NAME(bits_view_of)((w), (n))
 
 /* The table of so many rows and columns with these words, which are bits_rows_words(r, n). */
-#define BITS_ROWS_OF(w, r, n) bits_rows_of((w), (r), (n))
+#define BITS_ROWS_OF(w, r, n) BITS_NAME(bits_rows_of)((w), (r), (n))
 
 /* Walks over no words. */
-#define BITS_WALK BITS_VALUE(bits_walk, 0, 0, 0, 0, (const uint64_t *)8, 0)
-#define BITS_RUNS BITS_VALUE(bits_run_walk, false, 0, 0, 0, (const uint64_t *)8, 0)
-#define BITS_SIEVE BITS_VALUE(bits_sieve, BITS_WALK, (const uint64_t *)8, 0)
-#define BITS_PAIR BITS_VALUE(bits_pair, BITS_SIEVE, BITS_SIEVE)
+#define BITS_WALK BITS_VALUE(BITS_NAME(bits_walk), 0, 0, 0, 0, (const uint64_t *)8, 0)
+#define BITS_RUNS BITS_VALUE(BITS_NAME(bits_run_walk), false, 0, 0, 0, (const uint64_t *)8, 0)
+#define BITS_SIEVE BITS_VALUE(BITS_NAME(bits_sieve), BITS_WALK, (const uint64_t *)8, 0)
+#define BITS_PAIR BITS_VALUE(BITS_NAME(bits_pair), BITS_SIEVE, BITS_SIEVE)
 
 /* Ranks of no set. */
-#define BITS_RANKS BITS_VALUE(bits_ranks, (const uint64_t *)8, 0, 0, (const size_t *)8, 0)
+#define BITS_RANKS BITS_VALUE(BITS_NAME(bits_ranks), (const uint64_t *)8, 0, 0, (const size_t *)8, 0)
 
 /* No position: what bits_minimum, bits_maximum and their kin answer where there is none. */
 #define BITS_NONE SIZE_MAX
 
 /* A loop over the positions of the set, in ascending order. `break` and `continue` are as in any loop, and loops may stand
  * in each other. */
-#define BITS_FOR_EACH(p, set)                                                                     \
-    for (bits_walk bits_walk_##p = BITS_WALK,                                                     \
-                   *bits_once_##p = (bits_ones(&bits_walk_##p, (set)), &bits_walk_##p);           \
-         bits_once_##p; bits_once_##p = NULL)                                                     \
-        for (size_t p = 0; bits_ones_next(&bits_walk_##p, &p);)
+#define BITS_FOR_EACH(p, set)                                                                                          \
+    for (BITS_NAME(bits_walk) bits_walk_##p = BITS_WALK,                                                               \
+                              *bits_once_##p = (BITS_NAME(bits_ones)(&bits_walk_##p, (set)), &bits_walk_##p);          \
+         bits_once_##p; bits_once_##p = NULL)                                                                          \
+        for (size_t p = 0; BITS_NAME(bits_ones_next)(&bits_walk_##p, &p);)
 
 /* A loop over the stretches of positions of the set, each from `start` up to and without `end`, in ascending order. */
-#define BITS_FOR_EACH_RUN(start, end, set)                                                                  \
-    for (bits_run_walk bits_walk_##start = BITS_RUNS,                                                       \
-                       *bits_once_##start = (bits_runs(&bits_walk_##start, (set)), &bits_walk_##start);     \
-         bits_once_##start; bits_once_##start = NULL)                                                       \
-        for (size_t start = 0, end = 0; bits_runs_next(&bits_walk_##start, &start, &end);)
+#define BITS_FOR_EACH_RUN(start, end, set)                                                                             \
+    for (BITS_NAME(bits_run_walk) bits_walk_##start = BITS_RUNS,                                                       \
+                                  *bits_once_##start = (BITS_NAME(bits_runs)(&bits_walk_##start, (set)), &bits_walk_##start); \
+         bits_once_##start; bits_once_##start = NULL)                                                                  \
+        for (size_t start = 0, end = 0; BITS_NAME(bits_runs_next)(&bits_walk_##start, &start, &end);)
 
 /* ---- sets made. These functions stand in this header, and so do the tables made below; all other calls are those of the
  *      archive. */
@@ -470,25 +481,25 @@ void bits_rows_close(bits_rows *rows) BITS_SYMBOL(bits_rows_close);
 
 /* ---- walks: each call of one gives a position and true, or false where none is left, and then for good.
  *      `next` gives the first that is left, `next_back` the last one, in any mix.
- *      `take` writes the first that are left to `positions`, as many as there is `room` for or as are left, and answers how
- *      many; `take_back` writes the last ones, the last one first. The other places stay as they are. Both may be mixed with
+ *      `batch` writes the first that are left to `positions`, as many as there is `room` for or as are left, and answers how
+ *      many; `batch_back` writes the last ones, the last one first. The other places stay as they are. Both may be mixed with
  *      the calls for one position. */
 
 /* Begins the walk over the positions that are set, in ascending order. */
 void bits_ones(bits_walk *walk, const bits *set) BITS_SYMBOL(bits_ones);
 bool bits_ones_next(bits_walk *walk, size_t *position) BITS_SYMBOL(bits_ones_next);
 bool bits_ones_next_back(bits_walk *walk, size_t *position) BITS_SYMBOL(bits_ones_next_back);
-size_t bits_ones_take(bits_walk *walk, size_t *positions, size_t room) BITS_SYMBOL(bits_ones_take);
-size_t bits_ones_take_back(bits_walk *walk, size_t *positions, size_t room) BITS_SYMBOL(bits_ones_take_back);
-/* The same as bits_ones_take in half of the room: a place takes the low 32 bits of its position, which are the position itself
+size_t bits_ones_batch(bits_walk *walk, size_t *positions, size_t room) BITS_SYMBOL(bits_ones_take);
+size_t bits_ones_batch_back(bits_walk *walk, size_t *positions, size_t room) BITS_SYMBOL(bits_ones_take_back);
+/* The same as bits_ones_batch in half of the room: a place takes the low 32 bits of its position, which are the position itself
  * in a set of at most 2^32 bits. */
-size_t bits_ones_take_u32(bits_walk *walk, uint32_t *positions, size_t room) BITS_SYMBOL(bits_ones_take_u32);
+size_t bits_ones_batch_u32(bits_walk *walk, uint32_t *positions, size_t room) BITS_SYMBOL(bits_ones_take_u32);
 /* Begins the walk over the positions below the length that are not set, in ascending order. */
 void bits_zeroes(bits_walk *walk, const bits *set) BITS_SYMBOL(bits_zeroes);
 bool bits_zeroes_next(bits_walk *walk, size_t *position) BITS_SYMBOL(bits_zeroes_next);
 bool bits_zeroes_next_back(bits_walk *walk, size_t *position) BITS_SYMBOL(bits_zeroes_next_back);
-size_t bits_zeroes_take(bits_walk *walk, size_t *positions, size_t room) BITS_SYMBOL(bits_zeroes_take);
-size_t bits_zeroes_take_back(bits_walk *walk, size_t *positions, size_t room) BITS_SYMBOL(bits_zeroes_take_back);
+size_t bits_zeroes_batch(bits_walk *walk, size_t *positions, size_t room) BITS_SYMBOL(bits_zeroes_take);
+size_t bits_zeroes_batch_back(bits_walk *walk, size_t *positions, size_t room) BITS_SYMBOL(bits_zeroes_take_back);
 /* Begins the walk over the positions from `start` up to and without `end` that are set, or that are not. It answers whether
  * the range is valid; else the walk gives none. */
 BITS_NODISCARD bool bits_ones_in(bits_walk *walk, const bits *set, size_t start, size_t end) BITS_SYMBOL(bits_ones_in);
@@ -500,30 +511,30 @@ void bits_zero_runs(bits_run_walk *walk, const bits *set) BITS_SYMBOL(bits_zero_
 bool bits_runs_next(bits_run_walk *walk, size_t *start, size_t *end) BITS_SYMBOL(bits_runs_next);
 bool bits_runs_next_back(bits_run_walk *walk, size_t *start, size_t *end) BITS_SYMBOL(bits_runs_next_back);
 /* Begins the walk over the positions of both sets, in ascending order. */
-void bits_intersection(bits_sieve *walk, const bits *set, const bits *other) BITS_SYMBOL(bits_intersection);
+void bits_intersection_iter(bits_sieve *walk, const bits *set, const bits *other) BITS_SYMBOL(bits_intersection);
 bool bits_intersection_next(bits_sieve *walk, size_t *position) BITS_SYMBOL(bits_intersection_next);
 bool bits_intersection_next_back(bits_sieve *walk, size_t *position) BITS_SYMBOL(bits_intersection_next_back);
-size_t bits_intersection_take(bits_sieve *walk, size_t *positions, size_t room) BITS_SYMBOL(bits_intersection_take);
-size_t bits_intersection_take_back(bits_sieve *walk, size_t *positions, size_t room) BITS_SYMBOL(bits_intersection_take_back);
+size_t bits_intersection_batch(bits_sieve *walk, size_t *positions, size_t room) BITS_SYMBOL(bits_intersection_take);
+size_t bits_intersection_batch_back(bits_sieve *walk, size_t *positions, size_t room) BITS_SYMBOL(bits_intersection_take_back);
 /* Begins the walk over the positions of the first set that the second lacks, in ascending order. */
-void bits_difference(bits_sieve *walk, const bits *set, const bits *other) BITS_SYMBOL(bits_difference);
+void bits_difference_iter(bits_sieve *walk, const bits *set, const bits *other) BITS_SYMBOL(bits_difference);
 bool bits_difference_next(bits_sieve *walk, size_t *position) BITS_SYMBOL(bits_difference_next);
 bool bits_difference_next_back(bits_sieve *walk, size_t *position) BITS_SYMBOL(bits_difference_next_back);
-size_t bits_difference_take(bits_sieve *walk, size_t *positions, size_t room) BITS_SYMBOL(bits_difference_take);
-size_t bits_difference_take_back(bits_sieve *walk, size_t *positions, size_t room) BITS_SYMBOL(bits_difference_take_back);
+size_t bits_difference_batch(bits_sieve *walk, size_t *positions, size_t room) BITS_SYMBOL(bits_difference_take);
+size_t bits_difference_batch_back(bits_sieve *walk, size_t *positions, size_t room) BITS_SYMBOL(bits_difference_take_back);
 /* Begins the walk over the positions of the first set, ascending, and then those that the second alone has, ascending. */
-void bits_union(bits_pair *walk, const bits *set, const bits *other) BITS_SYMBOL(bits_union);
+void bits_union_iter(bits_pair *walk, const bits *set, const bits *other) BITS_SYMBOL(bits_union);
 bool bits_union_next(bits_pair *walk, size_t *position) BITS_SYMBOL(bits_union_next);
 bool bits_union_next_back(bits_pair *walk, size_t *position) BITS_SYMBOL(bits_union_next_back);
-size_t bits_union_take(bits_pair *walk, size_t *positions, size_t room) BITS_SYMBOL(bits_union_take);
-size_t bits_union_take_back(bits_pair *walk, size_t *positions, size_t room) BITS_SYMBOL(bits_union_take_back);
+size_t bits_union_batch(bits_pair *walk, size_t *positions, size_t room) BITS_SYMBOL(bits_union_take);
+size_t bits_union_batch_back(bits_pair *walk, size_t *positions, size_t room) BITS_SYMBOL(bits_union_take_back);
 /* Begins the walk over the positions that the first set alone has, ascending, and then those that the second alone has. */
-void bits_symmetric_difference(bits_pair *walk, const bits *set, const bits *other) BITS_SYMBOL(bits_symmetric_difference);
+void bits_symmetric_difference_iter(bits_pair *walk, const bits *set, const bits *other) BITS_SYMBOL(bits_symmetric_difference);
 bool bits_symmetric_difference_next(bits_pair *walk, size_t *position) BITS_SYMBOL(bits_symmetric_difference_next);
 bool bits_symmetric_difference_next_back(bits_pair *walk, size_t *position) BITS_SYMBOL(bits_symmetric_difference_next_back);
-size_t bits_symmetric_difference_take(bits_pair *walk, size_t *positions, size_t room)
+size_t bits_symmetric_difference_batch(bits_pair *walk, size_t *positions, size_t room)
     BITS_SYMBOL(bits_symmetric_difference_take);
-size_t bits_symmetric_difference_take_back(bits_pair *walk, size_t *positions, size_t room)
+size_t bits_symmetric_difference_batch_back(bits_pair *walk, size_t *positions, size_t room)
     BITS_SYMBOL(bits_symmetric_difference_take_back);
 
 #ifdef __cplusplus
@@ -552,6 +563,10 @@ static inline bits_rows bits_rows_of(uint64_t *words, size_t rows, size_t column
 
 #ifdef BITS_CHECK
 #include "bits_check.h"
+#endif
+
+#ifdef BITS_NO_SHORT_NAMES
+#include "bits_names.h"
 #endif
 
 #endif

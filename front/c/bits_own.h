@@ -17,7 +17,10 @@
 #define BITS_OWN_H
 
 #include "bits.h"
-#include <string.h>
+
+#ifdef BITS_NO_SHORT_NAMES
+#include "bits_names.h"
+#endif
 
 /* A set, and how many words there is room for. Make it BITS_OWN, which is the set of length 0 and takes no memory. */
 typedef struct bits_own {
@@ -26,9 +29,9 @@ typedef struct bits_own {
 } bits_own;
 
 #ifdef __cplusplus
-#define BITS_OWN (bits_own{{NULL, 0, 0}, 0})
+#define BITS_OWN (BITS_NAME(bits_own){{NULL, 0, 0}, 0})
 #else
-#define BITS_OWN ((bits_own){{NULL, 0, 0}, 0})
+#define BITS_OWN ((BITS_NAME(bits_own)){{NULL, 0, 0}, 0})
 #endif
 
 /* What came of reading a text. */
@@ -108,20 +111,20 @@ BITS_NODISCARD static inline bool bits_own_union(bits_own *own, const bits *set)
 /* ---- text */
 
 /* Writes what fits of one character and counts it. */
-static inline void bits_text_put(char *text, size_t room, size_t *at, char letter) {
+static inline void fixedbitset_text_put(char *text, size_t room, size_t *at, char letter) {
     if (*at < room)
         text[*at] = letter;
     ++*at;
 }
 
-static inline void bits_text_put_number(char *text, size_t room, size_t *at, size_t number) {
+static inline void fixedbitset_text_put_number(char *text, size_t room, size_t *at, size_t number) {
     char digits[20];
     size_t count = 0;
     do
         digits[count++] = (char)('0' + number % 10);
     while (number /= 10);
     while (count)
-        bits_text_put(text, room, at, digits[--count]);
+        fixedbitset_text_put(text, room, at, digits[--count]);
 }
 
 /* Writes the text of the set to `text`, which has room for so many characters, with a NUL behind it. It answers how many
@@ -133,11 +136,11 @@ static inline size_t bits_to_text(const bits *set, char *text, size_t room) {
     (bits_runs)(&walk, set);
     while ((bits_runs_next)(&walk, &start, &end)) {
         if (at)
-            bits_text_put(text, room, &at, ',');
-        bits_text_put_number(text, room, &at, start);
+            fixedbitset_text_put(text, room, &at, ',');
+        fixedbitset_text_put_number(text, room, &at, start);
         if (end - start > 1) {
-            bits_text_put(text, room, &at, '-');
-            bits_text_put_number(text, room, &at, end - 1);
+            fixedbitset_text_put(text, room, &at, '-');
+            fixedbitset_text_put_number(text, room, &at, end - 1);
         }
     }
     if (room)
@@ -147,7 +150,7 @@ static inline size_t bits_to_text(const bits *set, char *text, size_t room) {
 
 /* Reads a number at `*at`, and answers whether there is one that is less than `end`. Then `*at` is behind it, and else where
  * the fault is: at the first digit of a number that is not less. */
-static inline bool bits_text_number(const char *text, size_t size, size_t *at, size_t end, size_t *number) {
+static inline bool fixedbitset_text_number(const char *text, size_t size, size_t *at, size_t end, size_t *number) {
     size_t behind = *at;
     *number = 0;
     for (; behind < size && text[behind] >= '0' && text[behind] <= '9'; behind++) {
@@ -164,14 +167,14 @@ static inline bool bits_text_number(const char *text, size_t size, size_t *at, s
 
 /* Reads one stretch at `*at` and the comma behind it, where one is, and answers whether it could. Then `*at` is where the next
  * one stands, or `size`, and else where the fault is. */
-static inline bool bits_text_stretch(const char *text, size_t size, size_t *at, size_t length, size_t *start, size_t *end) {
-    if (!bits_text_number(text, size, at, length, start))
+static inline bool fixedbitset_text_stretch(const char *text, size_t size, size_t *at, size_t length, size_t *start, size_t *end) {
+    if (!fixedbitset_text_number(text, size, at, length, start))
         return false;
     size_t last = *start;
     if (*at < size && text[*at] == '-') {
         const size_t behind = *at + 1;
         size_t second = behind;
-        if (!bits_text_number(text, size, &second, length, &last) || last < *start) {
+        if (!fixedbitset_text_number(text, size, &second, length, &last) || last < *start) {
             *at = behind;
             return false;
         }
@@ -190,12 +193,12 @@ static inline bool bits_text_stretch(const char *text, size_t size, size_t *at, 
 
 /* Reads the whole text without any set: whether it is the text of a set of this length, how long a set has to be for it, and
  * where it has a fault. */
-static inline bool bits_text_is_valid(const char *text, size_t size, size_t length, size_t *needed, size_t *fault) {
+static inline bool fixedbitset_text_is_valid(const char *text, size_t size, size_t length, size_t *needed, size_t *fault) {
     size_t at = 0;
     *needed = 0;
     while (at < size) {
         size_t start = 0, end = 0;
-        if (!bits_text_stretch(text, size, &at, length, &start, &end)) {
+        if (!fixedbitset_text_stretch(text, size, &at, length, &start, &end)) {
             *fault = at;
             return false;
         }
@@ -205,9 +208,9 @@ static inline bool bits_text_is_valid(const char *text, size_t size, size_t leng
 }
 
 /* Adds the positions of a text that is valid for this set. */
-static inline void bits_text_add(bits *set, const char *text, size_t size) {
+static inline void fixedbitset_text_add(bits *set, const char *text, size_t size) {
     size_t at = 0, start = 0, end = 0;
-    while (at < size && bits_text_stretch(text, size, &at, set->length, &start, &end) && (bits_insert_range)(set, start, end))
+    while (at < size && fixedbitset_text_stretch(text, size, &at, set->length, &start, &end) && (bits_insert_range)(set, start, end))
         continue;
 }
 
@@ -216,10 +219,10 @@ static inline void bits_text_add(bits *set, const char *text, size_t size) {
  * too early, and the first digit of a position that is not below the length, or that is less than the one before its dash. */
 BITS_NODISCARD static inline bool bits_from_text(bits *set, const char *text, size_t size, size_t *fault) {
     size_t needed = 0;
-    if (!bits_text_is_valid(text, size, set->length, &needed, fault))
+    if (!fixedbitset_text_is_valid(text, size, set->length, &needed, fault))
         return false;
     (bits_clear)(set);
-    bits_text_add(set, text, size);
+    fixedbitset_text_add(set, text, size);
     return true;
 }
 
@@ -230,12 +233,12 @@ BITS_NODISCARD static inline bool bits_from_text(bits *set, const char *text, si
 BITS_NODISCARD static inline bits_told bits_own_from_text(bits_own *own, const char *text, size_t size, size_t longest,
                                                           size_t *fault) {
     size_t needed = 0;
-    if (!bits_text_is_valid(text, size, longest, &needed, fault))
+    if (!fixedbitset_text_is_valid(text, size, longest, &needed, fault))
         return BITS_FAULT;
     if (!bits_own_grow(own, needed))
         return BITS_NO_MEMORY;
     (bits_clear)(&own->set);
-    bits_text_add(&own->set, text, size);
+    fixedbitset_text_add(&own->set, text, size);
     return BITS_TOLD;
 }
 
@@ -284,6 +287,18 @@ BITS_TESTED_DONE_BY(bits_told, BITS_TOLD, own_from_text,
                     BITS_ASK_LIST_APART(text, size, own->set.words, own->room) BITS_ASK_PLACE(fault))
 
 #ifndef __cplusplus
+#ifdef BITS_NO_SHORT_NAMES
+#define fixedbitset_bits_own_free(...) BITS_CALL(own_free, __VA_ARGS__)
+#define fixedbitset_bits_own_reserve(...) BITS_CALL(own_reserve, __VA_ARGS__)
+#define fixedbitset_bits_own_resize(...) BITS_CALL(own_resize, __VA_ARGS__)
+#define fixedbitset_bits_own_grow(...) BITS_CALL(own_grow, __VA_ARGS__)
+#define fixedbitset_bits_own_insert(...) BITS_CALL(own_insert, __VA_ARGS__)
+#define fixedbitset_bits_own_copy(...) BITS_CALL(own_copy, __VA_ARGS__)
+#define fixedbitset_bits_own_union(...) BITS_CALL(own_union, __VA_ARGS__)
+#define fixedbitset_bits_to_text(...) BITS_CALL(to_text, __VA_ARGS__)
+#define fixedbitset_bits_from_text(...) BITS_CALL(from_text, __VA_ARGS__)
+#define fixedbitset_bits_own_from_text(...) BITS_CALL(own_from_text, __VA_ARGS__)
+#else
 #define bits_own_free(...) BITS_CALL(own_free, __VA_ARGS__)
 #define bits_own_reserve(...) BITS_CALL(own_reserve, __VA_ARGS__)
 #define bits_own_resize(...) BITS_CALL(own_resize, __VA_ARGS__)
@@ -295,7 +310,12 @@ BITS_TESTED_DONE_BY(bits_told, BITS_TOLD, own_from_text,
 #define bits_from_text(...) BITS_CALL(from_text, __VA_ARGS__)
 #define bits_own_from_text(...) BITS_CALL(own_from_text, __VA_ARGS__)
 #endif
+#endif
 
+#endif
+
+#ifdef BITS_NO_SHORT_NAMES
+#include "bits_names.h"
 #endif
 
 #endif

@@ -262,11 +262,11 @@ static void ranks(void) {
         const size_t all = sizeof wanted / sizeof *wanted - 1, first = all < 2 ? all : 2; \
         size_t taken[] = {__VA_ARGS__, SIZE_MAX}, p = 0;                              \
         memset(taken, 255, sizeof taken);                                             \
-        assert(name##_take_back(&walk, &p, 1) == 1 && p == last);                     \
-        assert(name##_take(&walk, taken, 2) == first);                                \
-        assert(name##_take(&walk, taken + first, all + 1 - first) == all - first);    \
+        assert(name##_batch_back(&walk, &p, 1) == 1 && p == last);                     \
+        assert(name##_batch(&walk, taken, 2) == first);                                \
+        assert(name##_batch(&walk, taken + first, all + 1 - first) == all - first);    \
         assert(!memcmp(taken, wanted, sizeof wanted));                                \
-        assert(name##_take(&walk, &p, 1) == 0 && name##_take_back(&walk, &p, 1) == 0 && p == last); \
+        assert(name##_batch(&walk, &p, 1) == 0 && name##_batch_back(&walk, &p, 1) == 0 && p == last); \
     } while (0)
 
 static void walks(void) {
@@ -305,21 +305,21 @@ static void walks(void) {
     GIVES(walk, bits_zeroes, 68, 64, 65, 66, 67);
     assert(!bits_ones_in(&walk, &b, 3, 72) && !bits_ones_next(&walk, &start));
     assert(!bits_zeroes_in(&walk, &b, 4, 3) && !bits_zeroes_next_back(&walk, &start));
-    bits_intersection(&sieve, &a, &b);
+    bits_intersection_iter(&sieve, &a, &b);
     GIVES(sieve, bits_intersection, 3, 1);
-    bits_intersection(&sieve, &a, &b);
+    bits_intersection_iter(&sieve, &a, &b);
     TAKES(sieve, bits_intersection, 3, 1);
-    bits_difference(&sieve, &b, &a);
+    bits_difference_iter(&sieve, &b, &a);
     GIVES(sieve, bits_difference, 70, 69);
-    bits_difference(&sieve, &b, &a);
+    bits_difference_iter(&sieve, &b, &a);
     TAKES(sieve, bits_difference, 70, 69);
-    bits_union(&pair, &a, &b);
+    bits_union_iter(&pair, &a, &b);
     GIVES(pair, bits_union, 70, 1, 3, 5, 69);
-    bits_union(&pair, &a, &b);
+    bits_union_iter(&pair, &a, &b);
     TAKES(pair, bits_union, 70, 1, 3, 5, 69);
-    bits_symmetric_difference(&pair, &a, &b);
+    bits_symmetric_difference_iter(&pair, &a, &b);
     GIVES(pair, bits_symmetric_difference, 70, 5, 69);
-    bits_symmetric_difference(&pair, &a, &b);
+    bits_symmetric_difference_iter(&pair, &a, &b);
     TAKES(pair, bits_symmetric_difference, 70, 5, 69);
     BITS_FOR_EACH(p, &b) sum += p;
     assert(sum == 143);
@@ -348,7 +348,7 @@ static void handfuls(void) {
             is_set ? bits_ones(&walk, &set) : bits_zeroes(&walk, &set);
             for (size_t done = 0; done <= many[is_set]; done += room) {
                 const size_t left = many[is_set] - done, had = room < left ? room : left;
-                assert((is_set ? bits_ones_take(&walk, taken, room) : bits_zeroes_take(&walk, taken, room)) == had);
+                assert((is_set ? bits_ones_batch(&walk, taken, room) : bits_zeroes_batch(&walk, taken, room)) == had);
                 assert(!memcmp(taken, wanted[is_set] + done, had * sizeof *taken));
                 assert(!memcmp(taken + had, untaken + had, (room - had) * sizeof *taken));
                 memset(taken, 255, had * sizeof *taken);
@@ -357,7 +357,7 @@ static void handfuls(void) {
         }
 }
 
-/* The same in numbers of 32 bits, beside a walk by bits_ones_take and in any mix with its other calls: of sets of many lengths,
+/* The same in numbers of 32 bits, beside a walk by bits_ones_batch and in any mix with its other calls: of sets of many lengths,
  * at rooms below and above what the call gives at once. */
 static void handfuls_of_32_bits(void) {
     enum { MOST = 2600 };
@@ -375,8 +375,8 @@ static void handfuls_of_32_bits(void) {
             bits_ones(&one, &set);
             bits_ones(&other, &set);
             for (size_t turn = 0, had = 1; had > 0; turn++) {
-                had = bits_ones_take(&one, wide, room);
-                assert(bits_ones_take_u32(&other, narrow, room) == had);
+                had = bits_ones_batch(&one, wide, room);
+                assert(bits_ones_batch_u32(&other, narrow, room) == had);
                 for (size_t k = 0; k < had; k++)
                     assert(narrow[k] == wide[k]);
                 assert(had <= room && !memcmp(narrow + had, untaken + had, (room - had) * sizeof *narrow));

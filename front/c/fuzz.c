@@ -469,8 +469,8 @@ static void parts(one *it, const one *other) {
 static size_t take_both(bits_walk *walk, size_t *taken, size_t room) {
     bits_walk other = *walk;
     uint32_t *narrow = (uint32_t *)lend_at(ANSWERS, 4 * room, room % 2);
-    const size_t had = bits_ones_take(walk, taken, room);
-    HOLDS(bits_ones_take_u32(&other, narrow, room) == had);
+    const size_t had = bits_ones_batch(walk, taken, room);
+    HOLDS(bits_ones_batch_u32(&other, narrow, room) == had);
     for (size_t k = 0; k < room; k++)
         HOLDS(narrow[k] == (k < had ? taken[k] : UNUSED * 0x01010101u));
     if (had % 2)
@@ -490,7 +490,7 @@ static size_t take_both(bits_walk *walk, size_t *taken, size_t room) {
             HOLDS((call == 0   ? (size_t)name##_next(&walk, taken)                           \
                    : call == 1 ? (size_t)name##_next_back(&walk, taken)                      \
                    : call == 2 ? first(&walk, taken, room)                                   \
-                               : name##_take_back(&walk, taken, room)) == had);              \
+                               : name##_batch_back(&walk, taken, room)) == had);              \
             for (size_t k = 0; k < had; k++)                                                 \
                 HOLDS(taken[k] == (call % 2 ? wanted[--high] : wanted[low++]));              \
             for (size_t k = 8 * had; k < 8 * room; k++)                                      \
@@ -514,7 +514,7 @@ static void walks(const one *it) {
     if (is_set)
         WALKS(walk, bits_ones, take_both);
     else
-        WALKS(walk, bits_zeroes, bits_zeroes_take);
+        WALKS(walk, bits_zeroes, bits_zeroes_batch);
 }
 
 static void walks_of_two(const one *it, const one *other) {
@@ -529,12 +529,12 @@ static void walks_of_two(const one *it, const one *other) {
         if (has(other, p) && !has(it, p))
             wanted[many++] = p;
     switch (kind) {
-    case 0: bits_intersection(&sieve, &it->set, &other->set); WALKS(sieve, bits_intersection, bits_intersection_take); break;
-    case 1: bits_difference(&sieve, &it->set, &other->set); WALKS(sieve, bits_difference, bits_difference_take); break;
-    case 2: bits_union(&pair, &it->set, &other->set); WALKS(pair, bits_union, bits_union_take); break;
+    case 0: bits_intersection_iter(&sieve, &it->set, &other->set); WALKS(sieve, bits_intersection, bits_intersection_batch); break;
+    case 1: bits_difference_iter(&sieve, &it->set, &other->set); WALKS(sieve, bits_difference, bits_difference_batch); break;
+    case 2: bits_union_iter(&pair, &it->set, &other->set); WALKS(pair, bits_union, bits_union_batch); break;
     default:
-        bits_symmetric_difference(&pair, &it->set, &other->set);
-        WALKS(pair, bits_symmetric_difference, bits_symmetric_difference_take);
+        bits_symmetric_difference_iter(&pair, &it->set, &other->set);
+        WALKS(pair, bits_symmetric_difference, bits_symmetric_difference_batch);
     }
 }
 

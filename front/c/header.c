@@ -136,7 +136,7 @@ static void nulls(void) {
     bits_rows_close(&table);
     assert(bits_ranks_fill(&ranks, &set, NULL, 0) && bits_rank(&ranks, 1) == 0);
     bits_ones(&walk, &set);
-    assert(!bits_ones_take(&walk, NULL, 0) && !bits_ones_take_u32(&walk, NULL, 0) && !bits_ones_next(&walk, &p) && p == 7);
+    assert(!bits_ones_batch(&walk, NULL, 0) && !bits_ones_batch_u32(&walk, NULL, 0) && !bits_ones_next(&walk, &p) && p == 7);
 }
 
 int main(void) {

@@ -60,7 +60,7 @@ static int sorted_keys(Key *keys, const bits *wanted, const AttStatsSlot *slot) 
     bits_walk walk = BITS_WALK;
     int count;
     bits_ones(&walk, wanted);
-    count = bits_ones_take(&walk, positions, MOST_RANKED);
+    count = bits_ones_batch(&walk, positions, MOST_RANKED);
     for (int k = 0; k < count; k++) {
         const Datum *found = bsearch(&positions[k], slot->values, slot->nvalues, sizeof(Datum), by_value);
         keys[k] = (Key){DatumGetInt64(positions[k]), slot->numbers[found ? found - slot->values : slot->nvalues]};

@@ -155,7 +155,7 @@ Datum *take_positions(bits_walk *walk, size_t ones, const char *where) {
     if (ones > MaxArraySize)
         REFUSE(PROGRAM_LIMIT_EXCEEDED, "%zu positions are too many for %s", ones, where);
     positions = palloc(ones * sizeof(Datum));
-    for (size_t taken = 0; taken < ones; taken += bits_ones_take(walk, positions + taken, Min(ones - taken, PART)))
+    for (size_t taken = 0; taken < ones; taken += bits_ones_batch(walk, positions + taken, Min(ones - taken, PART)))
         CHECK_FOR_INTERRUPTS();
     return positions;
 }

@@ -1,0 +1,303 @@
+/* What bits.h and bits_own.h include where BITS_NO_SHORT_NAMES is defined, before what they declare and behind it: between the
+ * two each name in small letters has fixedbitset_ before it. */
+#ifndef BITS_NAMES_ARE_LONG
+#define BITS_NAMES_ARE_LONG
+
+#define bits fixedbitset_bits
+#define bits_view fixedbitset_bits_view
+#define bits_walk fixedbitset_bits_walk
+#define bits_run_walk fixedbitset_bits_run_walk
+#define bits_sieve fixedbitset_bits_sieve
+#define bits_pair fixedbitset_bits_pair
+#define bits_rows fixedbitset_bits_rows
+#define bits_ranks fixedbitset_bits_ranks
+#define bits_own fixedbitset_bits_own
+#define bits_told fixedbitset_bits_told
+#define bits_of fixedbitset_bits_of
+#define bits_view_of fixedbitset_bits_view_of
+#define bits_of_view fixedbitset_bits_of_view
+#define bits_new fixedbitset_bits_new
+#define bits_free fixedbitset_bits_free
+#define bits_over fixedbitset_bits_over
+#define bits_words fixedbitset_bits_words
+#define bits_blocks fixedbitset_bits_blocks
+#define bits_settle fixedbitset_bits_settle
+#define bits_is_clean fixedbitset_bits_is_clean
+#define bits_take_lowest_bit fixedbitset_bits_take_lowest_bit
+#define bits_contains fixedbitset_bits_contains
+#define bits_insert fixedbitset_bits_insert
+#define bits_remove fixedbitset_bits_remove
+#define bits_toggle fixedbitset_bits_toggle
+#define bits_put fixedbitset_bits_put
+#define bits_take fixedbitset_bits_take
+#define bits_set fixedbitset_bits_set
+#define bits_set_block fixedbitset_bits_set_block
+#define bits_insert_all fixedbitset_bits_insert_all
+#define bits_remove_all fixedbitset_bits_remove_all
+#define bits_contains_each fixedbitset_bits_contains_each
+#define bits_clear fixedbitset_bits_clear
+#define bits_minimum fixedbitset_bits_minimum
+#define bits_maximum fixedbitset_bits_maximum
+#define bits_next_one fixedbitset_bits_next_one
+#define bits_next_zero fixedbitset_bits_next_zero
+#define bits_nth_one fixedbitset_bits_nth_one
+#define bits_first_gap fixedbitset_bits_first_gap
+#define bits_first_aligned_gap fixedbitset_bits_first_aligned_gap
+#define bits_previous_one fixedbitset_bits_previous_one
+#define bits_previous_zero fixedbitset_bits_previous_zero
+#define bits_is_clear fixedbitset_bits_is_clear
+#define bits_is_full fixedbitset_bits_is_full
+#define bits_range_is_valid fixedbitset_bits_range_is_valid
+#define bits_insert_range fixedbitset_bits_insert_range
+#define bits_remove_range fixedbitset_bits_remove_range
+#define bits_toggle_range fixedbitset_bits_toggle_range
+#define bits_count_ones fixedbitset_bits_count_ones
+#define bits_count_zeroes fixedbitset_bits_count_zeroes
+#define bits_contains_all_in_range fixedbitset_bits_contains_all_in_range
+#define bits_contains_any_in_range fixedbitset_bits_contains_any_in_range
+#define bits_union_with fixedbitset_bits_union_with
+#define bits_symmetric_difference_with fixedbitset_bits_symmetric_difference_with
+#define bits_intersect_with fixedbitset_bits_intersect_with
+#define bits_difference_with fixedbitset_bits_difference_with
+#define bits_union_with_change fixedbitset_bits_union_with_change
+#define bits_intersect_with_change fixedbitset_bits_intersect_with_change
+#define bits_difference_with_change fixedbitset_bits_difference_with_change
+#define bits_union_with_difference fixedbitset_bits_union_with_difference
+#define bits_union_count fixedbitset_bits_union_count
+#define bits_intersection_count fixedbitset_bits_intersection_count
+#define bits_difference_count fixedbitset_bits_difference_count
+#define bits_symmetric_difference_count fixedbitset_bits_symmetric_difference_count
+#define bits_is_disjoint fixedbitset_bits_is_disjoint
+#define bits_is_subset fixedbitset_bits_is_subset
+#define bits_first_lacking fixedbitset_bits_first_lacking
+#define bits_next_common fixedbitset_bits_next_common
+#define bits_equal fixedbitset_bits_equal
+#define bits_compare fixedbitset_bits_compare
+#define bits_copy fixedbitset_bits_copy
+#define bits_union_of fixedbitset_bits_union_of
+#define bits_symmetric_difference_of fixedbitset_bits_symmetric_difference_of
+#define bits_intersection_of fixedbitset_bits_intersection_of
+#define bits_difference_of fixedbitset_bits_difference_of
+#define bits_shift_up fixedbitset_bits_shift_up
+#define bits_shift_down fixedbitset_bits_shift_down
+#define bits_union_with_shifted fixedbitset_bits_union_with_shifted
+#define bits_union_with_own_shift fixedbitset_bits_union_with_own_shift
+#define bits_slice fixedbitset_bits_slice
+#define bits_copy_range fixedbitset_bits_copy_range
+#define bits_load fixedbitset_bits_load
+#define bits_store fixedbitset_bits_store
+#define bits_bytes fixedbitset_bits_bytes
+#define bits_from_bytes fixedbitset_bits_from_bytes
+#define bits_to_bytes fixedbitset_bits_to_bytes
+#define bits_reverse_each_byte fixedbitset_bits_reverse_each_byte
+#define bits_ranks_entries fixedbitset_bits_ranks_entries
+#define bits_ranks_fill fixedbitset_bits_ranks_fill
+#define bits_rank fixedbitset_bits_rank
+#define bits_select fixedbitset_bits_select
+#define bits_rows_words fixedbitset_bits_rows_words
+#define bits_rows_clear fixedbitset_bits_rows_clear
+#define bits_rows_get fixedbitset_bits_rows_get
+#define bits_rows_set fixedbitset_bits_rows_set
+#define bits_rows_union fixedbitset_bits_rows_union
+#define bits_rows_ones fixedbitset_bits_rows_ones
+#define bits_rows_close fixedbitset_bits_rows_close
+#define bits_ones fixedbitset_bits_ones
+#define bits_ones_next fixedbitset_bits_ones_next
+#define bits_ones_next_back fixedbitset_bits_ones_next_back
+#define bits_ones_batch fixedbitset_bits_ones_batch
+#define bits_ones_batch_back fixedbitset_bits_ones_batch_back
+#define bits_ones_batch_u32 fixedbitset_bits_ones_batch_u32
+#define bits_zeroes fixedbitset_bits_zeroes
+#define bits_zeroes_next fixedbitset_bits_zeroes_next
+#define bits_zeroes_next_back fixedbitset_bits_zeroes_next_back
+#define bits_zeroes_batch fixedbitset_bits_zeroes_batch
+#define bits_zeroes_batch_back fixedbitset_bits_zeroes_batch_back
+#define bits_ones_in fixedbitset_bits_ones_in
+#define bits_zeroes_in fixedbitset_bits_zeroes_in
+#define bits_runs fixedbitset_bits_runs
+#define bits_zero_runs fixedbitset_bits_zero_runs
+#define bits_runs_next fixedbitset_bits_runs_next
+#define bits_runs_next_back fixedbitset_bits_runs_next_back
+#define bits_intersection_iter fixedbitset_bits_intersection_iter
+#define bits_intersection_next fixedbitset_bits_intersection_next
+#define bits_intersection_next_back fixedbitset_bits_intersection_next_back
+#define bits_intersection_batch fixedbitset_bits_intersection_batch
+#define bits_intersection_batch_back fixedbitset_bits_intersection_batch_back
+#define bits_difference_iter fixedbitset_bits_difference_iter
+#define bits_difference_next fixedbitset_bits_difference_next
+#define bits_difference_next_back fixedbitset_bits_difference_next_back
+#define bits_difference_batch fixedbitset_bits_difference_batch
+#define bits_difference_batch_back fixedbitset_bits_difference_batch_back
+#define bits_union_iter fixedbitset_bits_union_iter
+#define bits_union_next fixedbitset_bits_union_next
+#define bits_union_next_back fixedbitset_bits_union_next_back
+#define bits_union_batch fixedbitset_bits_union_batch
+#define bits_union_batch_back fixedbitset_bits_union_batch_back
+#define bits_symmetric_difference_iter fixedbitset_bits_symmetric_difference_iter
+#define bits_symmetric_difference_next fixedbitset_bits_symmetric_difference_next
+#define bits_symmetric_difference_next_back fixedbitset_bits_symmetric_difference_next_back
+#define bits_symmetric_difference_batch fixedbitset_bits_symmetric_difference_batch
+#define bits_symmetric_difference_batch_back fixedbitset_bits_symmetric_difference_batch_back
+#define bits_rows_of fixedbitset_bits_rows_of
+#define bits_own_free fixedbitset_bits_own_free
+#define bits_own_reserve fixedbitset_bits_own_reserve
+#define bits_own_resize fixedbitset_bits_own_resize
+#define bits_own_grow fixedbitset_bits_own_grow
+#define bits_own_insert fixedbitset_bits_own_insert
+#define bits_own_copy fixedbitset_bits_own_copy
+#define bits_own_union fixedbitset_bits_own_union
+#define bits_to_text fixedbitset_bits_to_text
+#define bits_from_text fixedbitset_bits_from_text
+#define bits_own_from_text fixedbitset_bits_own_from_text
+
+#else
+#undef BITS_NAMES_ARE_LONG
+
+#undef bits
+#undef bits_view
+#undef bits_walk
+#undef bits_run_walk
+#undef bits_sieve
+#undef bits_pair
+#undef bits_rows
+#undef bits_ranks
+#undef bits_own
+#undef bits_told
+#undef bits_of
+#undef bits_view_of
+#undef bits_of_view
+#undef bits_new
+#undef bits_free
+#undef bits_over
+#undef bits_words
+#undef bits_blocks
+#undef bits_settle
+#undef bits_is_clean
+#undef bits_take_lowest_bit
+#undef bits_contains
+#undef bits_insert
+#undef bits_remove
+#undef bits_toggle
+#undef bits_put
+#undef bits_take
+#undef bits_set
+#undef bits_set_block
+#undef bits_insert_all
+#undef bits_remove_all
+#undef bits_contains_each
+#undef bits_clear
+#undef bits_minimum
+#undef bits_maximum
+#undef bits_next_one
+#undef bits_next_zero
+#undef bits_nth_one
+#undef bits_first_gap
+#undef bits_first_aligned_gap
+#undef bits_previous_one
+#undef bits_previous_zero
+#undef bits_is_clear
+#undef bits_is_full
+#undef bits_range_is_valid
+#undef bits_insert_range
+#undef bits_remove_range
+#undef bits_toggle_range
+#undef bits_count_ones
+#undef bits_count_zeroes
+#undef bits_contains_all_in_range
+#undef bits_contains_any_in_range
+#undef bits_union_with
+#undef bits_symmetric_difference_with
+#undef bits_intersect_with
+#undef bits_difference_with
+#undef bits_union_with_change
+#undef bits_intersect_with_change
+#undef bits_difference_with_change
+#undef bits_union_with_difference
+#undef bits_union_count
+#undef bits_intersection_count
+#undef bits_difference_count
+#undef bits_symmetric_difference_count
+#undef bits_is_disjoint
+#undef bits_is_subset
+#undef bits_first_lacking
+#undef bits_next_common
+#undef bits_equal
+#undef bits_compare
+#undef bits_copy
+#undef bits_union_of
+#undef bits_symmetric_difference_of
+#undef bits_intersection_of
+#undef bits_difference_of
+#undef bits_shift_up
+#undef bits_shift_down
+#undef bits_union_with_shifted
+#undef bits_union_with_own_shift
+#undef bits_slice
+#undef bits_copy_range
+#undef bits_load
+#undef bits_store
+#undef bits_bytes
+#undef bits_from_bytes
+#undef bits_to_bytes
+#undef bits_reverse_each_byte
+#undef bits_ranks_entries
+#undef bits_ranks_fill
+#undef bits_rank
+#undef bits_select
+#undef bits_rows_words
+#undef bits_rows_clear
+#undef bits_rows_get
+#undef bits_rows_set
+#undef bits_rows_union
+#undef bits_rows_ones
+#undef bits_rows_close
+#undef bits_ones
+#undef bits_ones_next
+#undef bits_ones_next_back
+#undef bits_ones_batch
+#undef bits_ones_batch_back
+#undef bits_ones_batch_u32
+#undef bits_zeroes
+#undef bits_zeroes_next
+#undef bits_zeroes_next_back
+#undef bits_zeroes_batch
+#undef bits_zeroes_batch_back
+#undef bits_ones_in
+#undef bits_zeroes_in
+#undef bits_runs
+#undef bits_zero_runs
+#undef bits_runs_next
+#undef bits_runs_next_back
+#undef bits_intersection_iter
+#undef bits_intersection_next
+#undef bits_intersection_next_back
+#undef bits_intersection_batch
+#undef bits_intersection_batch_back
+#undef bits_difference_iter
+#undef bits_difference_next
+#undef bits_difference_next_back
+#undef bits_difference_batch
+#undef bits_difference_batch_back
+#undef bits_union_iter
+#undef bits_union_next
+#undef bits_union_next_back
+#undef bits_union_batch
+#undef bits_union_batch_back
+#undef bits_symmetric_difference_iter
+#undef bits_symmetric_difference_next
+#undef bits_symmetric_difference_next_back
+#undef bits_symmetric_difference_batch
+#undef bits_symmetric_difference_batch_back
+#undef bits_rows_of
+#undef bits_own_free
+#undef bits_own_reserve
+#undef bits_own_resize
+#undef bits_own_grow
+#undef bits_own_insert
+#undef bits_own_copy
+#undef bits_own_union
+#undef bits_to_text
+#undef bits_from_text
+#undef bits_own_from_text
+
+#endif
