@@ -130,5 +130,3 @@ CREATE AGGREGATE bitset_agg("position" bigint) (
     SFUNC = bitset_agg_position_step, STYPE = internal, FINALFUNC = bitset_agg_final, COMBINEFUNC = bitset_union_combine,
     SERIALFUNC = bitset_serial, DESERIALFUNC = bitset_deserial, PARALLEL = SAFE
 );
-CREATE FUNCTION bitset_superset_support(internal) RETURNS internal AS 'MODULE_PATHNAME' LANGUAGE C STRICT;
-ALTER FUNCTION bitset_superset(bitset, bitset) SUPPORT bitset_superset_support;

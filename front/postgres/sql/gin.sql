@@ -41,22 +41,41 @@ INSERT INTO tagged SELECT id, bitset(ARRAY[id % 300, 5]::bigint[], 300) FROM gen
 SELECT (compared(question)).* FROM (VALUES ('tags @> 299'), ('tags @> ''{5,299}/300'''), ('tags && ''{5,299}/300'''), ('tags @> ''{}/0''')) v(question);
 DROP FUNCTION compared;
 
--- of many positions the index is asked for the 16 rarest, where these are rare: 100 rows lack one of 0 to 99 each, and one row lacks none
+-- of many positions the index is asked for 16 that are spread over the constant, and the rows that have these are looked at: of
+-- 100 rows each lacks another one of 0 to 99, one row has them all, and many have the first 20
 CREATE TABLE wide AS SELECT id, CASE WHEN id <= 100 THEN remove('{0-99}/300', id - 1) WHEN id = 101 THEN '{0-99}/300'
-    ELSE bitset(ARRAY[id % 300, id * id % 300], 300) END AS tags FROM generate_series(1::bigint, 3000) id;
+    WHEN id % 10 = 0 THEN insert_range(bitset(300), '[0,20)') ELSE bitset(ARRAY[id % 300, id * id % 300], 300) END AS tags
+FROM generate_series(1::bigint, 3000) id;
 CREATE INDEX ON wide USING gin (tags);
-EXPLAIN (COSTS OFF) SELECT id FROM wide WHERE tags @> '{0-99}/300';
+CREATE FUNCTION looked_at(query text, OUT scan text, OUT answered int, OUT removed int) LANGUAGE plpgsql AS $$
+DECLARE
+    plan json;
+BEGIN
+    EXECUTE 'EXPLAIN (ANALYZE, FORMAT json) ' || query INTO plan;
+    plan := plan->0->'Plan';
+    scan := plan->>'Node Type';
+    answered := round((plan->>'Actual Rows')::numeric);
+    removed := plan->>'Rows Removed by Index Recheck';
+END
+$$;
+PREPARE asked(bitset) AS SELECT id FROM wide WHERE tags @> $1;
+SET plan_cache_mode = force_generic_plan;
+SET enable_seqscan = off;
 ANALYZE wide;
-EXPLAIN (COSTS OFF) SELECT id FROM wide WHERE tags @> '{0-99}/300';
-SELECT id FROM wide WHERE tags @> '{0-99}/300';
-SELECT count(*) FROM wide WHERE tags @> '{10-29}/5000';
-EXPLAIN (COSTS OFF) SELECT id FROM wide WHERE tags @> '{280-299,1000}/5000';
-EXPLAIN (COSTS OFF) SELECT id FROM wide WHERE tags @> '{10-25}/300';
-EXPLAIN (COSTS OFF) SELECT id FROM (SELECT id, tags | '{1}/2' AS tags FROM wide) joined WHERE tags @> '{0-99}/300';
-EXPLAIN (COSTS OFF) SELECT a.id FROM wide a, wide b WHERE b.id = 101 AND a.tags @> b.tags;
-UPDATE wide SET tags = insert_range(tags, '[0,20)') WHERE id % 10 = 0;
-ANALYZE wide;
-EXPLAIN (COSTS OFF) SELECT id FROM wide WHERE tags @> '{0-19}/300';
-SELECT count(*) FROM wide WHERE tags @> '{0-19}/300';
+SELECT query, (looked_at(query)).* FROM (VALUES ('SELECT id FROM wide WHERE tags @> ''{0-99}/300'''),
+    ('SELECT id FROM wide WHERE ''{0-99}/300'' <@ tags'), ('EXECUTE asked(''{0-99}/300'')'),
+    ('SELECT id FROM wide WHERE tags @> (SELECT ''{0-99}/300''::bitset)')) v(query);
+SELECT query, (looked_at(query)).* FROM (VALUES ('EXECUTE asked(''{0-14}/15'')'), ('EXECUTE asked(''{0-15}/16'')'), ('EXECUTE asked(''{0-16}/17'')'),
+    ('EXECUTE asked(''{0-99,299}/300'')'), ('EXECUTE asked(''{0-19,4000}/5000'')'), ('EXECUTE asked(insert_range(bitset(5000000), ''(,)''))')) v(query);
+RESET enable_seqscan;
+RESET plan_cache_mode;
+DEALLOCATE asked;
+DROP FUNCTION looked_at;
+
+-- the condition stays as it was written, so that it is that of a partial index, after ANALYZE too
+CREATE UNIQUE INDEX wide_partial ON wide (id) WHERE tags @> '{0-19}/300';
+INSERT INTO wide VALUES (10, '{0-30}/300') ON CONFLICT (id) WHERE tags @> '{0-19}/300' DO NOTHING;
+INSERT INTO wide VALUES (110, '{0-30}/300') ON CONFLICT (id) WHERE tags @> '{0-19}/300' DO UPDATE SET tags = EXCLUDED.tags RETURNING *;
+EXPLAIN (COSTS OFF) SELECT id FROM wide WHERE tags @> '{0-19}/300' AND id = 110;
 DROP TABLE wide;
 DROP TABLE tagged;
