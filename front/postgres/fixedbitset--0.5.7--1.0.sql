@@ -130,3 +130,14 @@ CREATE AGGREGATE bitset_agg("position" bigint) (
     SFUNC = bitset_agg_position_step, STYPE = internal, FINALFUNC = bitset_agg_final, COMBINEFUNC = bitset_union_combine,
     SERIALFUNC = bitset_serial, DESERIALFUNC = bitset_deserial, PARALLEL = SAFE
 );
+
+-- What a GIN index is asked for `<@`
+
+CREATE FUNCTION bitset_superset_support(internal) RETURNS internal AS 'MODULE_PATHNAME' LANGUAGE C STRICT;
+CREATE FUNCTION bitset_subset_support(internal) RETURNS internal AS 'MODULE_PATHNAME' LANGUAGE C STRICT;
+ALTER FUNCTION bitset_superset(bitset, bitset) SUPPORT bitset_superset_support;
+ALTER FUNCTION bitset_subset(bitset, bitset) SUPPORT bitset_subset_support;
+CREATE FUNCTION bitset_found_share(internal, oid, internal, integer) RETURNS double precision
+AS 'MODULE_PATHNAME' LANGUAGE C STABLE STRICT PARALLEL SAFE;
+CREATE OPERATOR <@? (LEFTARG = bitset, RIGHTARG = bitset, FUNCTION = bitset_subset, RESTRICT = bitset_found_share, JOIN = contjoinsel);
+ALTER OPERATOR FAMILY bitset_ops USING gin ADD OPERATOR 4 <@? (bitset, bitset);

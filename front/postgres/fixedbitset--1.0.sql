@@ -169,8 +169,13 @@ CREATE FUNCTION bitset_or(bitset, bitset) RETURNS bitset AS 'MODULE_PATHNAME' LA
 CREATE FUNCTION bitset_and(bitset, bitset) RETURNS bitset AS 'MODULE_PATHNAME' LANGUAGE C IMMUTABLE STRICT PARALLEL SAFE;
 CREATE FUNCTION bitset_xor(bitset, bitset) RETURNS bitset AS 'MODULE_PATHNAME' LANGUAGE C IMMUTABLE STRICT PARALLEL SAFE;
 CREATE FUNCTION bitset_minus(bitset, bitset) RETURNS bitset AS 'MODULE_PATHNAME' LANGUAGE C IMMUTABLE STRICT PARALLEL SAFE;
-CREATE FUNCTION bitset_superset(bitset, bitset) RETURNS boolean AS 'MODULE_PATHNAME' LANGUAGE C IMMUTABLE STRICT LEAKPROOF PARALLEL SAFE;
-CREATE FUNCTION bitset_subset(bitset, bitset) RETURNS boolean AS 'MODULE_PATHNAME' LANGUAGE C IMMUTABLE STRICT LEAKPROOF PARALLEL SAFE;
+-- (what GIN is asked for `<@`, which it serves by another operator)
+CREATE FUNCTION bitset_superset_support(internal) RETURNS internal AS 'MODULE_PATHNAME' LANGUAGE C STRICT;
+CREATE FUNCTION bitset_subset_support(internal) RETURNS internal AS 'MODULE_PATHNAME' LANGUAGE C STRICT;
+CREATE FUNCTION bitset_superset(bitset, bitset) RETURNS boolean AS 'MODULE_PATHNAME' LANGUAGE C IMMUTABLE STRICT LEAKPROOF PARALLEL SAFE
+SUPPORT bitset_superset_support;
+CREATE FUNCTION bitset_subset(bitset, bitset) RETURNS boolean AS 'MODULE_PATHNAME' LANGUAGE C IMMUTABLE STRICT LEAKPROOF PARALLEL SAFE
+SUPPORT bitset_subset_support;
 CREATE FUNCTION bitset_overlap(bitset, bitset) RETURNS boolean AS 'MODULE_PATHNAME' LANGUAGE C IMMUTABLE STRICT LEAKPROOF PARALLEL SAFE;
 CREATE FUNCTION bitset_contained_position(bigint, bitset) RETURNS boolean AS 'MODULE_PATHNAME' LANGUAGE C IMMUTABLE STRICT LEAKPROOF PARALLEL SAFE;
 
@@ -180,6 +185,8 @@ AS 'MODULE_PATHNAME' LANGUAGE C STABLE STRICT PARALLEL SAFE;
 CREATE FUNCTION bitset_contained_share(internal, oid, internal, integer) RETURNS double precision
 AS 'MODULE_PATHNAME' LANGUAGE C STABLE STRICT PARALLEL SAFE;
 CREATE FUNCTION bitset_overlap_share(internal, oid, internal, integer) RETURNS double precision
+AS 'MODULE_PATHNAME' LANGUAGE C STABLE STRICT PARALLEL SAFE;
+CREATE FUNCTION bitset_found_share(internal, oid, internal, integer) RETURNS double precision
 AS 'MODULE_PATHNAME' LANGUAGE C STABLE STRICT PARALLEL SAFE;
 
 CREATE OPERATOR | (LEFTARG = bitset, RIGHTARG = bitset, FUNCTION = bitset_or, COMMUTATOR = |);
@@ -195,6 +202,8 @@ CREATE OPERATOR <@ (
     LEFTARG = bitset, RIGHTARG = bitset, FUNCTION = bitset_subset, COMMUTATOR = @>,
     RESTRICT = bitset_contained_share, JOIN = contjoinsel
 );
+-- (that of `<@` for GIN: the planner expects as many rows as an index finds, before they are looked at)
+CREATE OPERATOR <@? (LEFTARG = bitset, RIGHTARG = bitset, FUNCTION = bitset_subset, RESTRICT = bitset_found_share, JOIN = contjoinsel);
 CREATE OPERATOR && (
     LEFTARG = bitset, RIGHTARG = bitset, FUNCTION = bitset_overlap, COMMUTATOR = &&,
     RESTRICT = bitset_overlap_share, JOIN = areajoinsel
@@ -261,7 +270,7 @@ CREATE FUNCTION bitset_gin_consistent(internal, smallint, bitset, integer, inter
 AS 'MODULE_PATHNAME' LANGUAGE C IMMUTABLE STRICT PARALLEL SAFE;
 
 CREATE OPERATOR CLASS bitset_ops DEFAULT FOR TYPE bitset USING gin AS
-    OPERATOR 1 &&, OPERATOR 2 @>, OPERATOR 3 @> (bitset, bigint),
+    OPERATOR 1 &&, OPERATOR 2 @>, OPERATOR 3 @> (bitset, bigint), OPERATOR 4 <@?,
     FUNCTION 1 btint8cmp(bigint, bigint), FUNCTION 2 bitset_gin_value(bitset, internal),
     FUNCTION 3 bitset_gin_query(bitset, internal, smallint, internal, internal, internal, internal),
     FUNCTION 6 bitset_gin_consistent(internal, smallint, bitset, integer, internal, internal, internal),

@@ -100,7 +100,7 @@ typedef struct Span {
 } Span;
 
 /* The operators of the index class for GIN, by their numbers in the SQL. */
-enum { OVERLAPS = 1, CONTAINS = 2, CONTAINS_POSITION = 3 };
+enum { OVERLAPS = 1, CONTAINS = 2, CONTAINS_POSITION = 3, SUBSET = 4 };
 
 /* What the module's files call of each other is not for other modules, so it is called directly. */
 #pragma GCC visibility push(hidden)
@@ -122,6 +122,7 @@ extern void sure(bool done);
 extern size_t not_negative(int64 number, const char *name);
 extern size_t checked_length(int64 length);
 extern void change_at(bits *set, bool (*call)(bits *, size_t), int64 position);
+extern Span span_of(Datum range, size_t length);
 extern Span read_span(FunctionCallInfo fcinfo, int argument, const bits *set);
 extern Datum *take_positions(bits_walk *walk, size_t ones, const char *where);
 extern Datum *positions_of(const bits *set, int32 *count, const char *where);

@@ -13,10 +13,13 @@ FUNCTION(bitset_gin_value) {
     PG_RETURN_POINTER(positions_of(set, (int32 *)PG_GETARG_POINTER(1), "an index"));
 }
 
-/* Positions of a set that a row has to have all: of more than MOST_KEYS so many, spread over the set. */
-static Datum *keys_of(const bits *set, int32 *count) {
+/* Positions of a set that a row has to have all: of more than MOST_KEYS so many, spread over the set. Each row has those of the
+ * set without positions. */
+static Datum *all_of(const bits *set, int32 *count, int32 *mode) {
     size_t ones = bits_count_ones(set, 0, set->length);
     Datum *keys;
+    if (ones == 0)
+        *mode = GIN_SEARCH_MODE_ALL;
     if (ones <= MOST_KEYS)
         return positions_of(set, count, "an index");
     keys = palloc(MOST_KEYS * sizeof(Datum));
@@ -26,29 +29,40 @@ static Datum *keys_of(const bits *set, int32 *count) {
     return keys;
 }
 
-/* The right side of an operator: a set or a position. Each set contains the one without positions, so all are asked for. */
+/* The keys of a set. A subset of it has one of them, or none at all. */
+static Datum *keys_of_set(FunctionCallInfo fcinfo, StrategyNumber operator, int32 *count, int32 *mode) {
+    READ(set, 0);
+    if (operator == CONTAINS)
+        return all_of(set, count, mode);
+    if (operator == SUBSET)
+        *mode = GIN_SEARCH_MODE_INCLUDE_EMPTY;
+    return positions_of(set, count, "an index");
+}
+
+/* The right side of an operator: a position or a set. */
 FUNCTION(bitset_gin_query) {
-    int32 *count = (int32 *)PG_GETARG_POINTER(1);
+    int32 *count = (int32 *)PG_GETARG_POINTER(1), *mode = (int32 *)PG_GETARG_POINTER(6);
     StrategyNumber operator = PG_GETARG_UINT16(2);
-    Datum *keys = palloc(sizeof(Datum));
+    Datum *keys;
+    if (operator != CONTAINS_POSITION)
+        PG_RETURN_POINTER(keys_of_set(fcinfo, operator, count, mode));
+    keys = palloc(sizeof(Datum));
     keys[0] = PG_GETARG_DATUM(0);
     *count = 1;
-    if (operator != CONTAINS_POSITION) {
-        READ(set, 0);
-        keys = operator == CONTAINS ? keys_of(set, count) : positions_of(set, count, "an index");
-        if (operator == CONTAINS && *count == 0)
-            *(int32 *)PG_GETARG_POINTER(6) = GIN_SEARCH_MODE_ALL;
-    }
     PG_RETURN_POINTER(keys);
 }
 
-/* Whether a row has one of the keys, or all of them, as far as is known. Of MOST_KEYS there may be more in the constant. */
+/* Whether a row has one of the keys, or all of them, as far as is known. Of MOST_KEYS there may be more in the constant, and a
+ * subset has no position beyond the keys. */
 FUNCTION(bitset_gin_consistent) {
     GinTernaryValue *has = (GinTernaryValue *)PG_GETARG_POINTER(0);
-    bool one = PG_GETARG_UINT16(1) == OVERLAPS;
+    StrategyNumber operator = PG_GETARG_UINT16(1);
     int32 count = PG_GETARG_INT32(3);
+    bool one = operator == OVERLAPS;
     GinTernaryValue decides = one ? GIN_TRUE : GIN_FALSE;
     GinTernaryValue answer = one ? GIN_FALSE : count < MOST_KEYS ? GIN_TRUE : GIN_MAYBE;
+    if (operator == SUBSET)
+        PG_RETURN_GIN_TERNARY_VALUE(GIN_MAYBE);
     for (int32 i = 0; i < count && answer != decides; i++)
         if (has[i] == decides || has[i] == GIN_MAYBE)
             answer = has[i];

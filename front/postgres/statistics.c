@@ -1,21 +1,13 @@
-/* What the planner knows of a column: in which share of the rows each position is set, and how many are in a row. PostgreSQL
- * keeps such shares of arrays as the most common elements of a column, and such counts as a histogram, and has the estimates for
- * `@>`, `&&` and `<@` by them. Here positions are elements. */
+/* What ANALYZE finds out of a column: in which share of the rows each position is set, and how many are in a row. PostgreSQL
+ * keeps such shares of arrays as the most common elements of a column, and such counts as a histogram. Here positions are
+ * elements. */
 #include "fixedbitset.h"
 
-#include "catalog/pg_operator.h"
 #include "commands/vacuum.h"
-#include "nodes/makefuncs.h"
-#include "nodes/nodeFuncs.h"
-#include "nodes/pathnodes.h"
-#include "nodes/plannodes.h"
-#include "optimizer/optimizer.h"
-#include "utils/array.h"
-#include "utils/fmgrprotos.h"
 #include "utils/typcache.h"
 
-/* As many positions are looked at of a sample of rows, and as many of a constant. */
-enum { MOST_OF_ROWS = 1000000, MOST_OF_CONSTANT = 100000 };
+/* As many positions are looked at of a sample of rows. */
+enum { MOST_OF_ROWS = 1000000 };
 
 /* A position, and in how many rows it is set. */
 typedef struct Tally {
@@ -122,48 +114,3 @@ FUNCTION(bitset_typanalyze) {
     stats->compute_stats = compute;
     PG_RETURN_BOOL(true);
 }
-
-/* An operand's value, where it can be known. A subquery of an expression alone, as policies have them, is that expression. */
-static Node *value_of(PlannerInfo *root, Node *operand) {
-    ListCell *cell;
-    foreach (cell, IsA(operand, Param) ? root->init_plans : NIL) {
-        SubPlan *subplan = lfirst_node(SubPlan, cell);
-        Plan *plan = planner_subplan_get_plan(root, subplan);
-        if (list_member_int(subplan->setParam, ((Param *)operand)->paramid) && IsA(plan, Result) && plan->lefttree == NULL)
-            operand = (Node *)linitial_node(TargetEntry, plan->targetlist)->expr;
-    }
-    return estimate_expression_value(root, operand);
-}
-
-/* An operand as PostgreSQL's estimate takes it: a constant as an array of its positions, and all else as if it were one. A
- * position is passed by value, and a set is not. */
-static Node *as_array(PlannerInfo *root, Node *operand) {
-    Const *constant = (Const *)value_of(root, operand);
-    Datum *positions = palloc(MOST_OF_CONSTANT * sizeof(Datum)), array;
-    int count = 1;
-    bits_walk walk = BITS_WALK;
-    Reading reading;
-    if (!IsA(constant, Const) || constant->constisnull)
-        return (Node *)makeRelabelType((Expr *)strip_implicit_coercions(operand), INT8ARRAYOID, -1, InvalidOid,
-                                       COERCE_IMPLICIT_CAST);
-    positions[0] = constant->constvalue;
-    if (!constant->constbyval) {
-        bits_ones(&walk, read_set(&reading, constant->constvalue));
-        count = bits_ones_batch(&walk, positions, MOST_OF_CONSTANT);
-        done_reading(&reading);
-    }
-    array = PointerGetDatum(construct_array(positions, count, INT8OID, sizeof(int64), FLOAT8PASSBYVAL, TYPALIGN_DOUBLE));
-    return (Node *)makeConst(INT8ARRAYOID, -1, InvalidOid, -1, array, false, false);
-}
-
-/* The share of the rows for which an operator holds: that of the operator of arrays. */
-static Datum share(FunctionCallInfo fcinfo, Oid of_arrays) {
-    PlannerInfo *root = (PlannerInfo *)PG_GETARG_POINTER(0);
-    List *operands = (List *)PG_GETARG_POINTER(2);
-    List *arrays = list_make2(as_array(root, linitial(operands)), as_array(root, lsecond(operands)));
-    return DirectFunctionCall4(arraycontsel, PointerGetDatum(root), of_arrays, PointerGetDatum(arrays), PG_GETARG_DATUM(3));
-}
-
-BY(bitset_contains_share, share, OID_ARRAY_CONTAINS_OP)
-BY(bitset_contained_share, share, OID_ARRAY_CONTAINED_OP)
-BY(bitset_overlap_share, share, OID_ARRAY_OVERLAP_OP)

@@ -134,15 +134,19 @@ void change_at(bits *set, bool (*call)(bits *, size_t), int64 position) {
         REFUSE(ARRAY_SUBSCRIPT_ERROR, "position %lld is not below the length %zu", (long long)position, set->length);
 }
 
-/* A range, which has to be valid. An unbounded one ends where the set does. A bounded int8range comes as [start,end). */
-Span read_span(FunctionCallInfo fcinfo, int argument, const bits *set) {
-    RangeType *range = PG_GETARG_RANGE_P(argument);
+/* A range of the positions below a length, where an unbounded one ends. A bounded int8range comes as [start,end). */
+Span span_of(Datum datum, size_t length) {
+    RangeType *range = DatumGetRangeTypeP(datum);
     RangeBound lower, upper;
     bool empty;
-    Span span;
     range_deserialize(lookup_type_cache(RangeTypeGetOid(range), TYPECACHE_RANGE_INFO), range, &lower, &upper, &empty);
-    span.start = empty || lower.infinite ? 0 : (size_t)DatumGetInt64(lower.val);
-    span.end = empty ? 0 : upper.infinite ? set->length : (size_t)DatumGetInt64(upper.val);
+    return (Span){empty || lower.infinite ? 0 : (size_t)DatumGetInt64(lower.val),
+                  empty ? 0 : upper.infinite ? length : (size_t)DatumGetInt64(upper.val)};
+}
+
+/* A range, which has to be valid. */
+Span read_span(FunctionCallInfo fcinfo, int argument, const bits *set) {
+    Span span = span_of(PG_GETARG_DATUM(argument), set->length);
     if (!bits_range_is_valid(set, span.start, span.end))
         REFUSE(ARRAY_SUBSCRIPT_ERROR, "range [%lld,%lld) is not within the length %zu", (long long)span.start,
                (long long)span.end, set->length);

@@ -26,13 +26,26 @@ CREATE INDEX ON tagged USING gin (tags);
 EXPLAIN (COSTS OFF) SELECT id FROM tagged WHERE tags @> 63;
 EXPLAIN (COSTS OFF) SELECT id FROM tagged WHERE tags @> 0;
 
+-- of `<@`: five positions of 1,024 at random, the same with the statistics of ten positions alone, and rows that all have position 0
+CREATE TABLE five AS SELECT bitset(ARRAY(SELECT (hashint8(id * 10 + z) + 2147483648) % 1024 FROM generate_series(1, 5) z), 1024) AS tags
+FROM generate_series(1::bigint, 20000) id;
+CREATE TABLE rough AS SELECT tags FROM five;
+ALTER TABLE rough ALTER tags SET STATISTICS 1;
+ANALYZE five, rough;
+SELECT condition, rows, expected BETWEEN rows / 2 - 10 AND rows * 2 + 10 AS near FROM (VALUES ('tags <@ ''{0-150}/1024'''), ('tags <@ ''{0-299}/1024'''),
+    ('tags <@ ''{0-500}/1024'''), ('''{0-500}/1024'' @> tags'), ('tags <@ ''{0-800}/1024'''), ('tags <@ ''{0-999}/1024'''), ('tags <@ ''{0-1023}/1024'''),
+    ('tags <@ ''{1-1023}/1024''')) v(condition), expected('five', condition);
+SELECT rows, expected BETWEEN rows / 2 AND rows * 2 AS near FROM expected('rough', 'tags <@ ''{0-1023}/1024''');
+SELECT condition, rows, expected BETWEEN rows / 12 AND rows * 12 + 1 AS near FROM (VALUES ('tags <@ ''{0-16}/64'''), ('tags <@ ''{0-30}/64'''),
+    ('tags <@ ''{0-39,63}/64'''), ('tags <@ ''{1-63}/64'''), ('''{1-63}/64'' @> tags')) v(condition), expected('tagged', condition);
+
 -- the shares themselves: those of the rows that are not null, and as many as the statistics target asks for, ten for each
 CREATE TABLE few AS SELECT CASE WHEN id % 3 > 0 THEN bitset(ARRAY(SELECT k FROM generate_series(0::bigint, 39) k WHERE id % (k + 1) = 0), 64) END AS tags
 FROM generate_series(1, 300) id;
 ALTER TABLE few ALTER tags SET STATISTICS 1;
 ANALYZE few;
 SELECT null_frac, most_common_elems, most_common_elem_freqs FROM pg_stats WHERE tablename = 'few';
-SELECT condition, (expected('few', condition)).* FROM (VALUES ('tags @> 0'), ('tags @> 6'), ('tags @> 39')) v(condition);
+SELECT condition, (expected('few', condition)).* FROM (VALUES ('tags @> 0'), ('tags @> 6'), ('tags @> 39'), ('tags <@ ''{0-63}/64''')) v(condition);
 
 -- columns without positions, without sets and without rows
 CREATE TABLE none AS SELECT bitset(64) AS clear, NULL::bitset AS missing FROM generate_series(1, 300);
@@ -58,6 +71,6 @@ SELECT most_common_elems FROM pg_stats WHERE tablename = 'long';
 CREATE TABLE unlike AS SELECT CASE WHEN id <= 2000 THEN insert_range(bitset(2000), '[0,1000)') ELSE '{1}/2000' END AS tags FROM generate_series(1, 6000) id;
 ANALYZE unlike;
 SELECT condition, rows, abs(expected - rows) < 100 AS near FROM unnest('{tags @> 0,tags @> 1}'::text[]) condition, expected('unlike', condition);
-DROP TABLE tagged, few, none, narrowed, long, unlike;
+DROP TABLE tagged, five, rough, few, none, narrowed, long, unlike;
 DROP DOMAIN narrow;
 DROP FUNCTION expected;

@@ -32,6 +32,10 @@ SELECT (compared(question)).* FROM (VALUES ('tags @> 7'), ('tags @> 7::bigint'),
     ('tags @> ''{7,28}/300'''), ('tags @> ''{7,28,299}/1000'''), ('tags @> ''{}/0'''), ('tags @> ''{}/5000'''), ('tags @> ''{999}/1000'''),
     ('tags && ''{7,28}/300'''), ('tags && ''{}/300'''), ('tags && ''{0-299}/300'''), ('tags && ''{999}/1000'''), ('''{7}/8'' <@ tags'),
     ('''{7,28}/300'' && tags'), ('tags @> 7 AND tags && ''{28,63}/64'''), ('tags @> 7 OR tags @> 11'), ('tags @> NULL::bitset')) v(question);
+-- (of `<@` the rows with one of the positions, or with none, are looked at)
+SELECT (compared(question)).* FROM (VALUES ('tags <@ ''{7,28}/300'''), ('''{7,28}/300'' @> tags'), ('tags <@ (SELECT ''{7,28,99999}/100000''::bitset)'),
+    ('tags <@ ''{}/0'''), ('tags <@ ''{999}/1000'''), ('tags <@? ''{7,28}/300'''), ('tags <@ ''{0-298}/300'''), ('tags <@ NULL'),
+    ('tags <@ ''{7,28}/300'' AND tags @> 28')) v(question);
 
 -- rows that come and go
 DELETE FROM tagged WHERE id % 3 = 0;

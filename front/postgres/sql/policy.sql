@@ -58,6 +58,15 @@ SELECT btrim(scan) AS scan, counted, counted = by_rows AS same FROM (VALUES ('ne
 EXPLAIN (COSTS OFF) SELECT id FROM documents WHERE needed @> 20;
 RESET ROLE;
 
+-- where the rights are few, it is asked for the policy itself
+INSERT INTO documents VALUES (0, '{3}/97'), (0, '{5,60}/97'), (0, '{}/97'), (0, '{3,4}/97');
+UPDATE holders SET rights = '{3,5,60}/97';
+SET ROLE regress_ann;
+SELECT btrim(scan) AS scan, counted, counted = by_rows AS same FROM scanned('true');
+RESET ROLE;
+DELETE FROM documents WHERE id = 0;
+UPDATE holders SET rights = '{0-59,96}/97';
+
 -- what `<@` is expected to answer, of a constant and under the policy: not less than a third, and not more than three times
 CREATE FUNCTION expected(condition text, OUT expected bigint, OUT rows bigint) LANGUAGE plpgsql AS $$
 DECLARE
@@ -76,7 +85,7 @@ SELECT rows, expected BETWEEN rows / 3 AND rows * 3 AS near FROM expected('true'
 RESET ROLE;
 INSERT INTO documents SELECT n, bitset(97) FROM generate_series(1, 20000) n;
 ANALYZE documents;
-SELECT condition, rows, expected BETWEEN rows / 3 AND rows * 3 AS near FROM (VALUES ('needed <@ ''{}/97'''), ('needed <@ ''{7}/97'''), ('needed <@ ''{0-59}/97''')) v(condition), expected(condition);
+SELECT condition, rows, expected BETWEEN rows / 3 AND rows * 3 AS near FROM (VALUES ('needed <@ ''{}/97'''), ('needed <@ ''{7}/97'''), ('needed <@ ''{0-59}/97'''), ('needed <@? ''{7}/97''')) v(condition), expected(condition);
 DROP TABLE holders, documents CASCADE;
 DROP ROLE regress_ann;
 DROP FUNCTION current_rights, scanned, expected;
