@@ -10,6 +10,12 @@ static bits *get_state(FunctionCallInfo fcinfo, int argument) {
     return PG_ARGISNULL(argument) ? NULL : (bits *)PG_GETARG_POINTER(argument);
 }
 
+/* A state as a value, or null where there is none. */
+static Datum state_or_null(FunctionCallInfo fcinfo, bits *state) {
+    fcinfo->isnull = state == NULL;
+    return PointerGetDatum(state);
+}
+
 /* Goes over to the memory of the aggregate, and gives the one of before. */
 static MemoryContext enter_aggregate(FunctionCallInfo fcinfo) {
     MemoryContext context;
@@ -60,8 +66,7 @@ static Datum state_after(FunctionCallInfo fcinfo, Join join, const bits *set) {
     else if (set)
         state = hold(copy_set(set, set->length));
     MemoryContextSwitchTo(old);
-    fcinfo->isnull = state == NULL;
-    return PointerGetDatum(state);
+    return state_or_null(fcinfo, state);
 }
 
 /* The state after one more row. A null adds none. */
@@ -111,8 +116,7 @@ FUNCTION(bitset_agg_position_step) {
         change_at(state, bits_insert, position);
     }
     MemoryContextSwitchTo(old);
-    fcinfo->isnull = state == NULL;
-    return PointerGetDatum(state);
+    return state_or_null(fcinfo, state);
 }
 
 /* The state as a set of a length. */

@@ -132,6 +132,8 @@ ASK_PAIR(bitset_next_common, FOUND, bits_next_common(a, b, FROM_ZERO(2)))
 ASK_PAIR(bitset_superset, BoolGetDatum, bits_is_subset(b, a))
 ASK_PAIR(bitset_subset, BoolGetDatum, bits_is_subset(a, b))
 ASK_PAIR(bitset_overlap, BoolGetDatum, !bits_is_disjoint(a, b))
+/* (Positions alone, at any two lengths.) */
+ASK_PAIR(bitset_same, BoolGetDatum, bits_symmetric_difference_count(a, b) == 0)
 ASK_PAIR(bitset_eq, BoolGetDatum, bits_equal(a, b))
 ASK_PAIR(bitset_ne, BoolGetDatum, !bits_equal(a, b))
 ASK_PAIR(bitset_cmp, Int32GetDatum, bits_compare(a, b))

@@ -34,6 +34,29 @@ FUNCTION(bitset_from_positions) {
 CHANGE(bitset_insert_all, change_each(fcinfo, 1, &changed, bits_insert))
 CHANGE(bitset_remove_all, change_each(fcinfo, 1, &changed, bits_remove))
 
+/* Whether a set has each position of an array. It has no null. */
+static bool has_each(const bits *set, ArrayType *array) {
+    const int64 *positions = (const int64 *)ARR_DATA_PTR(array);
+    int count = ArrayGetNItems(ARR_NDIM(array), ARR_DIMS(array)), k = 0;
+    if (array_contains_nulls(array))
+        return false;
+    while (k < count && bits_contains(set, positions[k]))
+        k++;
+    return k == count;
+}
+
+/* The set is argument n, and the array the other one. */
+static Datum contains_each(FunctionCallInfo fcinfo, int n) {
+    READ(set, n);
+    ArrayType *array = PG_GETARG_ARRAYTYPE_P(1 - n);
+    bool answer = has_each(set, array);
+    PG_FREE_IF_COPY(array, 1 - n);
+    PG_RETURN_BOOL(answer);
+}
+
+BY(bitset_contains_each, contains_each, 0)
+BY(bitset_contained_each, contains_each, 1)
+
 /* Positions as an array. They are freed. */
 static Datum array_of(Datum *positions, int32 count) {
     ArrayType *array = construct_array(positions, count, INT8OID, sizeof(int64), FLOAT8PASSBYVAL, TYPALIGN_DOUBLE);

@@ -100,7 +100,7 @@ typedef struct Span {
 } Span;
 
 /* The operators of the index class for GIN, by their numbers in the SQL. */
-enum { OVERLAPS = 1, CONTAINS = 2, CONTAINS_POSITION = 3, SUBSET = 4 };
+enum { OVERLAPS = 1, CONTAINS = 2, CONTAINS_POSITION = 3, SUBSET = 4, CONTAINS_EACH = 5 };
 
 /* What the module's files call of each other is not for other modules, so it is called directly. */
 #pragma GCC visibility push(hidden)

@@ -3,6 +3,8 @@
 
 #include "access/gin.h"
 #include "access/stratnum.h"
+#include "catalog/pg_type.h"
+#include "utils/array.h"
 
 /* For so many of the positions that a row has to have an index is asked. GIN looks up each key in each row that has the rarest
  * one, and the planner's cost of it does not count this: of more positions it is quicker to look at the rows that have these. */
@@ -13,13 +15,10 @@ FUNCTION(bitset_gin_value) {
     PG_RETURN_POINTER(positions_of(set, (int32 *)PG_GETARG_POINTER(1), "an index"));
 }
 
-/* Positions of a set that a row has to have all: of more than MOST_KEYS so many, spread over the set. Each row has those of the
- * set without positions. */
-static Datum *all_of(const bits *set, int32 *count, int32 *mode) {
+/* Keys of a set that a row has to have all: of more than MOST_KEYS so many, spread over the set. */
+static Datum *all_of(const bits *set, int32 *count) {
     size_t ones = bits_count_ones(set, 0, set->length);
     Datum *keys;
-    if (ones == 0)
-        *mode = GIN_SEARCH_MODE_ALL;
     if (ones <= MOST_KEYS)
         return positions_of(set, count, "an index");
     keys = palloc(MOST_KEYS * sizeof(Datum));
@@ -29,21 +28,38 @@ static Datum *all_of(const bits *set, int32 *count, int32 *mode) {
     return keys;
 }
 
-/* The keys of a set. A subset of it has one of them, or none at all. */
-static Datum *keys_of_set(FunctionCallInfo fcinfo, StrategyNumber operator, int32 *count, int32 *mode) {
-    READ(set, 0);
-    if (operator == CONTAINS)
-        return all_of(set, count, mode);
-    if (operator == SUBSET)
-        *mode = GIN_SEARCH_MODE_INCLUDE_EMPTY;
-    return positions_of(set, count, "an index");
+/* The same of an array. One with a null is in no row, so there is no key to ask for. */
+static Datum *all_of_array(ArrayType *array, int32 *count, int32 *mode) {
+    Datum *keys;
+    if (array_contains_nulls(array))
+        return NULL;
+    deconstruct_array(array, INT8OID, sizeof(int64), FLOAT8PASSBYVAL, TYPALIGN_DOUBLE, &keys, NULL, count);
+    for (int64 k = 0; k < MOST_KEYS && *count > MOST_KEYS; k++)
+        keys[k] = keys[k * (*count - 1) / (MOST_KEYS - 1)];
+    *mode = *count == 0 ? GIN_SEARCH_MODE_ALL : GIN_SEARCH_MODE_DEFAULT;
+    *count = Min(*count, MOST_KEYS);
+    return keys;
 }
 
-/* The right side of an operator: a position or a set. */
+/* The keys of a set. Each row has those of the set without positions, and a subset of a set has one of its keys or none at all. */
+static Datum *keys_of_set(FunctionCallInfo fcinfo, StrategyNumber operator, int32 *count, int32 *mode) {
+    READ(set, 0);
+    Datum *keys = operator == CONTAINS ? all_of(set, count) : positions_of(set, count, "an index");
+    if (operator == CONTAINS && *count == 0)
+        *mode = GIN_SEARCH_MODE_ALL;
+    if (operator == SUBSET)
+        *mode = GIN_SEARCH_MODE_INCLUDE_EMPTY;
+    return keys;
+}
+
+/* The right side of an operator: a position, positions or a set. */
 FUNCTION(bitset_gin_query) {
     int32 *count = (int32 *)PG_GETARG_POINTER(1), *mode = (int32 *)PG_GETARG_POINTER(6);
     StrategyNumber operator = PG_GETARG_UINT16(2);
     Datum *keys;
+    *count = 0;
+    if (operator == CONTAINS_EACH)
+        PG_RETURN_POINTER(all_of_array(PG_GETARG_ARRAYTYPE_P(0), count, mode));
     if (operator != CONTAINS_POSITION)
         PG_RETURN_POINTER(keys_of_set(fcinfo, operator, count, mode));
     keys = palloc(sizeof(Datum));

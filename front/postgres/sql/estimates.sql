@@ -19,7 +19,8 @@ ANALYZE tagged;
 SELECT condition, (expected('tagged', condition)).* FROM (VALUES ('tags @> 0'), ('tags @> 1'), ('tags @> 9'), ('tags @> 39'), ('tags @> 63'),
     ('tags @> 50'), ('tags @> 99999'), ('tags @> -1'), ('9 <@ tags'), ('tags @> ''{1,2}/3'''), ('''{1,2}/3'' <@ tags'), ('tags @> ''{0,63}/64'''),
     ('tags @> ''{1,50}/64'''), ('tags @> ''{}/0'''), ('tags && ''{1,2}/3'''), ('tags && ''{39,63}/64'''), ('tags && ''{50-62}/64'''),
-    ('tags && ''{}/0'''), ('tags @> NULL::bitset'), ('NOT tags @> 9'), ('tags @> 1 AND tags @> 2')) v(condition);
+    ('tags && ''{}/0'''), ('tags @> NULL::bitset'), ('NOT tags @> 9'), ('tags @> 1 AND tags @> 2'), ('tags @> ''{1,2}''::bigint[]'),
+    ('''{1,2}''::bigint[] <@ tags'), ('tags ~= ''{0}/1''')) v(condition);
 
 -- a rare position is looked for in the index, and a common one is not
 CREATE INDEX ON tagged USING gin (tags);
@@ -38,6 +39,23 @@ SELECT condition, rows, expected BETWEEN rows / 2 - 10 AND rows * 2 + 10 AS near
 SELECT rows, expected BETWEEN rows / 2 AND rows * 2 AS near FROM expected('rough', 'tags <@ ''{0-1023}/1024''');
 SELECT condition, rows, expected BETWEEN rows / 12 AND rows * 12 + 1 AS near FROM (VALUES ('tags <@ ''{0-16}/64'''), ('tags <@ ''{0-30}/64'''),
     ('tags <@ ''{0-39,63}/64'''), ('tags <@ ''{1-63}/64'''), ('''{1-63}/64'' @> tags')) v(condition), expected('tagged', condition);
+
+-- as many rows of a set as it has positions
+CREATE FUNCTION rows_of(source text, OUT expected bigint) LANGUAGE plpgsql AS $$
+DECLARE
+    plan json;
+BEGIN
+    EXECUTE 'EXPLAIN (FORMAT json) SELECT FROM ' || source INTO plan;
+    expected := plan->0->'Plan'->>'Plan Rows';
+END
+$$;
+SELECT source, rows_of(source) FROM (VALUES ('five, ones(tags)'), ('five, runs(tags)'), ('five, zero_runs(tags)'), ('five, ones(tags, ''[7,9)'')'),
+    ('five, ones(tags, ''(,)'')'), ('ones(''{3,7,10-20}/64''::bitset)'), ('ones(''{3,7,10-20}/64''::bitset, ''[0,5]'')'),
+    ('ones(bitset(9))'), ('(SELECT ones(tags) FROM five OFFSET 0) v'), ('five, zeroes(tags)')) v(source);
+DROP FUNCTION rows_of;
+
+-- what looks at all of a set is asked last
+EXPLAIN (COSTS OFF) SELECT FROM five WHERE tags @> '{0,1}/2' AND length(tags) = 1024;
 
 -- the shares themselves: those of the rows that are not null, and as many as the statistics target asks for, ten for each
 CREATE TABLE few AS SELECT CASE WHEN id % 3 > 0 THEN bitset(ARRAY(SELECT k FROM generate_series(0::bigint, 39) k WHERE id % (k + 1) = 0), 64) END AS tags

@@ -36,6 +36,8 @@ SELECT (compared(question)).* FROM (VALUES ('tags @> 7'), ('tags @> 7::bigint'),
 SELECT (compared(question)).* FROM (VALUES ('tags <@ ''{7,28}/300'''), ('''{7,28}/300'' @> tags'), ('tags <@ (SELECT ''{7,28,99999}/100000''::bitset)'),
     ('tags <@ ''{}/0'''), ('tags <@ ''{999}/1000'''), ('tags <@? ''{7,28}/300'''), ('tags <@ ''{0-298}/300'''), ('tags <@ NULL'),
     ('tags <@ ''{7,28}/300'' AND tags @> 28')) v(question);
+SELECT (compared(question)).* FROM (VALUES ('tags @> ''{7,28}''::bigint[]'), ('''{28,7}''::bigint[] <@ tags'), ('tags @> ''{}''::bigint[]'),
+    ('tags @> ''{7,NULL}''::bigint[]'), ('tags @> positions(''{0-50}/300'')'), ('tags @> positions(bitset(5))')) v(question);
 
 -- rows that come and go
 DELETE FROM tagged WHERE id % 3 = 0;
@@ -68,7 +70,7 @@ SET enable_seqscan = off;
 ANALYZE wide;
 SELECT query, (looked_at(query)).* FROM (VALUES ('SELECT id FROM wide WHERE tags @> ''{0-99}/300'''),
     ('SELECT id FROM wide WHERE ''{0-99}/300'' <@ tags'), ('EXECUTE asked(''{0-99}/300'')'),
-    ('SELECT id FROM wide WHERE tags @> (SELECT ''{0-99}/300''::bitset)')) v(query);
+    ('SELECT id FROM wide WHERE tags @> (SELECT ''{0-99}/300''::bitset)'), ('SELECT id FROM wide WHERE tags @> (SELECT positions(''{0-99}/300''))')) v(query);
 SELECT query, (looked_at(query)).* FROM (VALUES ('EXECUTE asked(''{0-14}/15'')'), ('EXECUTE asked(''{0-15}/16'')'), ('EXECUTE asked(''{0-16}/17'')'),
     ('EXECUTE asked(''{0-99,299}/300'')'), ('EXECUTE asked(''{0-19,4000}/5000'')'), ('EXECUTE asked(insert_range(bitset(5000000), ''(,)''))')) v(query);
 RESET enable_seqscan;

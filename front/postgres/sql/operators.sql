@@ -31,3 +31,19 @@ SELECT ~:s AS "not", ~'{}/0'::bitset AS none, ~'{}/3'::bitset AS all_three, ~'{0
 -- an extended hash begins at its second argument; from 0 on it ends as the other one does
 SELECT (bitset_hash_extended(:s, 0) & 4294967295) = (bitset_hash(:s) & 4294967295) AS same,
 	bitset_hash_extended(:s, 1) = bitset_hash_extended(:s, 2) AS equal;
+
+-- positions on the right: one more, one less, and each of an array
+SELECT :s | 5 AS "or", :s - 7 AS minus, :s - 8 AS same, pg_typeof(:s | 5);
+SELECT :s | 64;
+SELECT :s - -1;
+SELECT :s @> ARRAY[3, 63] AS each, :s @> ARRAY[3, 8] AS not, :s @> ARRAY[3, 64] AS past, :s @> ARRAY[-1] AS negative, :s @> ARRAY[3, NULL] AS "null",
+	:s @> '{}'::bigint[] AS none, ARRAY[3, 63] <@ :s AS contained, ARRAY[[3], [8]] <@ :s AS rows;
+
+-- positions alone, whatever the lengths are
+SELECT '{1}/2'::bitset = '{1}/3' AS equal, '{1}/2'::bitset ~= '{1}/3' AS same, '{1}/2'::bitset ~= '{0}/2' AS other, '{1}/2'::bitset ~= '{1,2}/3' AS more,
+	'{}/0'::bitset ~= '{}/2000' AS none;
+
+-- a position in quotes is read as a set
+SELECT :s @> '1';
+SELECT :s @> '-1';
+SELECT :s @> '1/3';

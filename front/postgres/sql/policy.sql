@@ -4,6 +4,17 @@
 -- each operator that answers yes or no is LEAKPROOF
 SELECT o.oid::regoperator, p.proleakproof FROM pg_operator o JOIN pg_proc p ON p.oid = o.oprcode
 WHERE 'bitset'::regtype IN (o.oprleft, o.oprright) AND o.oprresult = 'boolean'::regtype ORDER BY o.oid::regoperator::text COLLATE "C";
+-- and so are the functions of these, those that compare, and no others
+SELECT oid::regprocedure FROM pg_proc WHERE proleakproof AND 'bitset'::regtype = ANY (proargtypes) ORDER BY oid::regprocedure::text COLLATE "C";
+-- no cast is made unasked
+SELECT castsource::regtype, casttarget::regtype, castcontext FROM pg_cast WHERE 'bitset'::regtype IN (castsource, casttarget)
+ORDER BY castsource::regtype::text COLLATE "C", casttarget::regtype::text COLLATE "C";
+-- an aggregate leaves its state as it is, for a window goes on with it
+SELECT aggfnoid::regprocedure, aggfinalmodify, aggmfinalmodify, aggfinalfn FROM pg_aggregate WHERE aggfnoid::regprocedure::text LIKE 'bitset%'
+ORDER BY aggfnoid::regprocedure::text COLLATE "C";
+-- functions that do not look at all of a set
+SELECT oid::regprocedure FROM pg_proc WHERE procost = 1 AND 'bitset'::regtype = ANY (proargtypes) AND prokind = 'f'
+ORDER BY oid::regprocedure::text COLLATE "C";
 -- functions are IMMUTABLE, STRICT and PARALLEL SAFE, but for these
 SELECT oid::regprocedure, provolatile, proisstrict, proparallel FROM pg_proc
 WHERE prolang = (SELECT oid FROM pg_language WHERE lanname = 'c') AND ('bitset'::regtype = ANY (proargtypes) OR prorettype = 'bitset'::regtype)
