@@ -76,7 +76,7 @@ static Node *as_array(PlannerInfo *root, Node *operand) {
     positions[0] = constant->constvalue;
     if (is_set(constant)) {
         bits_ones(&walk, read_set(&reading, constant->constvalue));
-        count = bits_ones_take(&walk, positions, MOST_OF_CONSTANT);
+        count = bits_ones_batch(&walk, positions, MOST_OF_CONSTANT);
         done_reading(&reading);
     }
     array = PointerGetDatum(construct_array(positions, count, INT8OID, sizeof(int64), FLOAT8PASSBYVAL, TYPALIGN_DOUBLE));
