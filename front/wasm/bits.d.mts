@@ -1,17 +1,42 @@
+/// <reference lib="esnext.disposable" />
+
 /** A set of positions below a length. A position or range that is not below it is a RangeError, where nothing else is said. */
-export interface FixedBitSet extends Iterable<number> {
+export interface FixedBitSet extends Iterable<number>, Disposable {
   /** How many positions there may be. */
   readonly length: number;
   /** Makes the length greater; a lesser one changes nothing. */
   grow(length: number): void;
   /** Gives the memory back at once, and leaves the set of length 0. Without this the memory goes back with the object. */
   free(): void;
+  /** The same, for `using`, where the engine has it. */
+  [Symbol.dispose](): void;
   clone(): FixedBitSet;
-  /** The positions, ascending. The iterator gives them too; where the set changes meanwhile, that shows within 512 positions. */
+  /** The set's positions below `end`, less `start`, in a new set of length `end - start`. */
+  slice(start?: number, end?: number): FixedBitSet;
+  /** Overwrites the positions from `at` on with those of the other from `start` up to and without `end`. */
+  copy_range(other: FixedBitSet, start: number, end: number, at: number): void;
+
+  /** The positions, ascending. The iterators give them too; where the set changes meanwhile, that shows within 512 positions. */
   positions(): number[];
+  [Symbol.iterator](): IterableIterator<number>;
+  /** The positions of the range, or all, ascending. */
+  ones(start?: number, end?: number): IterableIterator<number>;
+  /** The positions below the length that are not in the set. */
+  zeroes(start?: number, end?: number): IterableIterator<number>;
+  /** The runs: [start, end) of each longest range that is in the set, ascending. A change of the set shows in the next one. */
+  runs(): IterableIterator<[start: number, end: number]>;
+  /** The gaps: the same of the positions that are not in the set. */
+  zero_runs(): IterableIterator<[start: number, end: number]>;
+
+  /** Eight bytes for each 64 positions, rounded up: position p is bit p % 8 of byte p / 8. They do not say the length. */
+  to_bytes(): Uint8Array;
+  /** What JSON.stringify writes, as serde_json does for the crate. `from_bytes(length, data)` makes the set again. */
+  toJSON(): { length: number; data: number[] };
 
   /** Whether the position is in the set: false past the length. */
   contains(position: number): boolean;
+  /** The same of each position, in fewer calls into the module. */
+  contains_each(positions: Iterable<number>): boolean[];
   insert(position: number): void;
   remove(position: number): void;
   toggle(position: number): void;
@@ -20,15 +45,18 @@ export interface FixedBitSet extends Iterable<number> {
   put(position: number): boolean;
   /** Removes the position, and answers whether it was there. */
   take(position: number): boolean;
+  /** Where one of the positions is a RangeError, the set is as it was. */
+  insert_all(positions: Iterable<number>): void;
+  remove_all(positions: Iterable<number>): void;
   /** Removes all positions. */
   clear(): void;
 
-  /** A range is from `start` up to and without `end`. */
-  insert_range(start: number, end: number): void;
-  remove_range(start: number, end: number): void;
-  toggle_range(start: number, end: number): void;
-  contains_all_in_range(start: number, end: number): boolean;
-  contains_any_in_range(start: number, end: number): boolean;
+  /** A range is from `start` up to and without `end`, here and wherever both are named. Without them it has all positions. */
+  insert_range(start?: number, end?: number): void;
+  remove_range(start?: number, end?: number): void;
+  toggle_range(start?: number, end?: number): void;
+  contains_all_in_range(start?: number, end?: number): boolean;
+  contains_any_in_range(start?: number, end?: number): boolean;
   /** How many positions of the range, or of all, are in the set. */
   count_ones(start?: number, end?: number): number;
   count_zeroes(start?: number, end?: number): number;
@@ -37,17 +65,31 @@ export interface FixedBitSet extends Iterable<number> {
   is_full(): boolean;
   minimum(): number | undefined;
   maximum(): number | undefined;
-  /** The least position at or past `from`, which may be any number. */
+  /** The least position at or past `from`, which may be any number, here and in the next three: -5, 2.5 and Infinity too. */
   next_one(from: number): number | undefined;
   /** The least position at or past `from` and below the length that is not in the set. */
   next_zero(from: number): number | undefined;
   /** The greatest position below `below`. */
   previous_one(below: number): number | undefined;
   previous_zero(below: number): number | undefined;
-  /** The position with so many of the set below it. */
+  /** The position with so many of the set below it: 0 asks for the first. It counts up to there; `ranks` has a directory. */
   nth_one(index: number): number | undefined;
+  /** A directory of the set as it is now, for many questions. Later changes of the set do not show. */
+  ranks(): Ranks;
+  /** The start of the first `count` positions in a row that are not in the set, at or past `from`, which may be any number. */
+  first_gap(count: number, from?: number): number | undefined;
+  /** The same where it is a multiple of `align`, and all of the gap is in the range. The only multiple of 0 is 0. */
+  first_aligned_gap(count: number, align: number, start?: number, end?: number): number | undefined;
 
-  /** Two sets may have any lengths, but they are of one module. These four make a new set, */
+  /** Moves each position up; what is not below the length then falls away, and the length stays, here and in the next three. */
+  shift_up(by: number): void;
+  /** Moves each position down; those below `by` fall away. */
+  shift_down(by: number): void;
+  /** Adds the positions of the other, or its own, moved up. */
+  union_with_shifted(other: FixedBitSet, by: number): void;
+  union_with_own_shift(by: number): void;
+
+  /** Two sets may have any lengths, but they are of one `load`: anything else is a TypeError. These four make a new set, */
   union(other: FixedBitSet): FixedBitSet;
   intersection(other: FixedBitSet): FixedBitSet;
   difference(other: FixedBitSet): FixedBitSet;
@@ -57,11 +99,17 @@ export interface FixedBitSet extends Iterable<number> {
   intersect_with(other: FixedBitSet): void;
   difference_with(other: FixedBitSet): void;
   symmetric_difference_with(other: FixedBitSet): void;
+  /** These do the same, and answer whether a position came in or went. */
+  union_with_change(other: FixedBitSet): boolean;
+  intersect_with_change(other: FixedBitSet): boolean;
+  difference_with_change(other: FixedBitSet): boolean;
+  /** Adds the positions of `gens` that `kills` lacks, and answers whether one came in. The set grows to the length of `gens`. */
+  union_with_difference(gens: FixedBitSet, kills: FixedBitSet): boolean;
   union_count(other: FixedBitSet): number;
   intersection_count(other: FixedBitSet): number;
   difference_count(other: FixedBitSet): number;
   symmetric_difference_count(other: FixedBitSet): number;
-  /** The least position at or past `from` that both have. */
+  /** The least position at or past `from`, which may be any number, that both have. */
   next_common(other: FixedBitSet, from: number): number | undefined;
   /** The least position of the other that this set lacks. */
   first_lacking(other: FixedBitSet): number | undefined;
@@ -70,11 +118,29 @@ export interface FixedBitSet extends Iterable<number> {
   is_superset(other: FixedBitSet): boolean;
   /** Whether the lengths and the positions are equal. */
   equals(other: FixedBitSet): boolean;
+  /** -1, 0 or 1, for a sort: by the lengths, and then by the words of 64 bits from the first on. */
+  compare(other: FixedBitSet): number;
+}
+
+/** How many positions of a set stand below one, and which is the k-th. It has a copy of the set, and memory as a set has. */
+export interface Ranks extends Disposable {
+  /** How many positions of the set are below this one, which may be any number. */
+  rank(position: number): number;
+  /** The position with so many of the set below it: 0 asks for the first. */
+  select(index: number): number | undefined;
+  /** Gives the memory back at once, and leaves the ranks of the empty set. */
+  free(): void;
+  [Symbol.dispose](): void;
 }
 
 export interface FixedBitSetClass {
   /** A set of this length with these positions, or with none. */
   new (length?: number, positions?: Iterable<number>): FixedBitSet;
+  /**
+   * The set of this length with the positions that the bytes say, which `to_bytes` made. Missing bytes count as 0, and bits past
+   * the length are dropped. A number of a list that is no byte is a RangeError.
+   */
+  from_bytes(length: number, bytes: ArrayBuffer | ArrayBufferView | Iterable<number>): FixedBitSet;
 }
 
 /** The bytes of a module, or what fetch gives. */

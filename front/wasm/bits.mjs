@@ -1,10 +1,10 @@
 // Sets of bits for browsers and Node, answered by the calls of ../c/bits.h in a WebAssembly module of 32 bits or of 64.
 // bits.d.mts says what each method does.
 
-import { Room } from "./room.mjs";
+import { Room, bytesOf } from "./room.mjs";
 
-// The bytes of a set's struct, before its words, and of a walk; and how many positions a walk gives at once.
-const HEAD = 32, WALK = 64, HANDFUL = 512;
+// The bytes of a set's struct, before its words, of a walk, and of ranks; and how many positions go into the module at once.
+const HEAD = 32, WALK = 64, RANKS = 64, HANDFUL = 512;
 
 /** The class of the sets in a new instance of the module, whose bytes are given, or a Response with them. */
 export async function load(source) {
@@ -12,12 +12,41 @@ export async function load(source) {
   const { instance } = await WebAssembly.instantiate(await (given.arrayBuffer?.() ?? given));
   const room = new Room(instance.exports), { calls } = room, word = (number) => room.word(number);
   const left = new FinalizationRegistry((block) => room.give(block));
-  const empty = word(room.take(HEAD).start), scratch = room.take(WALK + 8 * HANDFUL).start, walk = word(scratch);
+  const empty = word(room.take(HEAD).start), scratch = room.take(WALK + 9 * HANDFUL).start, walk = word(scratch);
+  const places = scratch + WALK, answers = places + 8 * HANDFUL;
   room.words(scratch + (room.isWide ? 32 : 24), 1)[0] = word(8); // (BITS_WALK of bits.h)
+  const noRanks = [8, 0, 0, 8, 0].map(word), unranked = room.take(RANKS).start; // (BITS_RANKS)
+  room.words(unranked, noRanks.length).set(noRanks);
   /** What a call answers, which has a sign here, as a number without one; undefined where it is BITS_NONE. */
   function found(answer) {
     const number = Number(answer);
     return number === -1 ? undefined : number < 0 ? number + 2 ** 32 : number;
+  }
+  /** Calls with positions that are given as words, a handful at a time: with their place, and with how many they are. */
+  function byHandfuls(words, call) {
+    for (let from = 0; from < words.length; from += HANDFUL) {
+      const some = words.slice(from, from + HANDFUL);
+      room.words(places, some.length).set(some);
+      call(word(places), word(some.length));
+    }
+  }
+  const disposable = ({ prototype }) => Symbol.dispose && (prototype[Symbol.dispose] = prototype.free);
+
+  /** The ranks of a set that nobody else has, in a block with their directory. */
+  class Ranks {
+    #kept; #block; #at;
+
+    static { disposable(this); }
+    constructor(kept, block) {
+      left.register(this, block, this);
+      [this.#kept, this.#block, this.#at] = [kept, block, word(block.start)];
+    }
+    rank(position) { return found(calls.rank(this.#at, room.sought(position))); }
+    select(index) { return found(calls.select(this.#at, word(index))); }
+    free() {
+      if (left.unregister(this)) room.give(this.#block), this.#kept.free();
+      this.#at = word(unranked);
+    }
   }
 
   return class FixedBitSet {
@@ -26,6 +55,14 @@ export async function load(source) {
     constructor(length = 0, positions = []) {
       this.#move(length);
       for (const it of positions) this.insert(it);
+    }
+    static from_bytes(length, bytes) {
+      const given = bytesOf(bytes), made = new FixedBitSet(length);
+      room.lend(given.length, (start) => {
+        room.bytes(start, given.length).set(given);
+        calls.from_bytes(made.#at, word(start), word(given.length));
+      });
+      return made;
     }
     /** Moves what is below a length to a block for that length. */
     #move(length) {
@@ -47,42 +84,92 @@ export async function load(source) {
       if (calls.range_is_valid(this.#at, ...range)) return range;
       throw new RangeError(`${start} to ${end} is no range below the length ${this.#length}`);
     }
+    #ours(other) {
+      if (#at in Object(other)) return other;
+      throw new TypeError("the other has to be a FixedBitSet of this module: new FixedBitSet(length, positions) makes one of a Set");
+    }
     #joined(call, other, length) {
-      const made = new FixedBitSet(length);
+      const made = new FixedBitSet(length(this.#length, this.#ours(other).#length));
       calls[call](made.#at, this.#at, other.#at);
       return made;
     }
-    *#handfuls() {
-      for (let from = 0, some = [0]; some.length; from = some.at(-1) + 1) {
-        calls.ones_in(walk, this.#at, word(from), word(this.#length));
-        const many = Number(calls.ones_take(walk, word(scratch + WALK), word(HANDFUL)));
-        yield (some = room.numbers(scratch + WALK, many));
+    *#handfuls(kind = "ones", start = 0, end = Infinity) {
+      for (let from = start, some = [0]; some.length; from = some.at(-1) + 1) {
+        calls[`${kind}_in`](walk, this.#at, word(from), word(Math.min(end, this.#length)));
+        const many = Number(calls[`${kind}_take`](walk, word(places), word(HANDFUL)));
+        yield (some = room.numbers(places, many));
       }
+    }
+    *#walked(...which) { for (const some of this.#handfuls(...which)) yield* some; }
+    *#stretches(first, past) {
+      for (let end = 0, start; (start = this[first](end)) !== undefined; ) {
+        yield [start, (end = this[past](start) ?? this.#length)];
+      }
+    }
+    /** Gives a call all of the positions, or none where one is wrong. */
+    #all(call, positions) {
+      const words = [...positions].map((it) => this.#within(it));
+      byHandfuls(words, (start, count) => calls[call](this.#at, start, count));
     }
 
     get length() { return this.#length; }
     grow(length) { if (length > this.#length) this.#move(length); }
     free() { this.#move(0); }
-    clone() { return this.#joined("union_of", this, this.#length); }
-    *[Symbol.iterator]() { for (const some of this.#handfuls()) for (const it of some) yield it; }
+    clone() { return this.#joined("union_of", this, Math.max); }
+    [Symbol.iterator]() { return this.#walked(); }
+    ones(start = 0, end) { return this.#range(start, end ?? this.#length) && this.#walked("ones", start, end); }
+    zeroes(start = 0, end) { return this.#range(start, end ?? this.#length) && this.#walked("zeroes", start, end); }
+    runs() { return this.#stretches("next_one", "next_zero"); }
+    zero_runs() { return this.#stretches("next_zero", "next_one"); }
     positions() {
       const all = [];
       for (const some of this.#handfuls()) all.push(...some);
       return all;
     }
+    to_bytes() {
+      const count = calls.bytes(word(this.#length)), size = Number(count);
+      return room.lend(size, (start) => (calls.to_bytes(this.#at, word(start), count), room.bytes(start, size).slice()));
+    }
+    toJSON() { return { length: this.#length, data: [...this.to_bytes()] }; }
+    [Symbol.for("nodejs.util.inspect.custom")](depth, { maxArrayLength = 100 } = {}) {
+      if (depth < 0) return "[FixedBitSet]";
+      const shown = [], count = this.count_ones();
+      for (let at = 0; shown.length < Math.min(count, maxArrayLength); at = shown.at(-1) + 1) shown.push(this.next_one(at));
+      const words = count > shown.length ? [...shown, `... ${count - shown.length} more`] : shown;
+      return `FixedBitSet(${this.#length}) {${words.map((it) => ` ${it}`)}${words.length ? " " : ""}}`;
+    }
     contains(position) { return Boolean(calls.contains(this.#at, word(position))); }
+    contains_each(positions) {
+      const all = [];
+      byHandfuls(Array.from(positions, word), (start, count) => {
+        calls.contains_each(this.#at, start, count, word(answers), count);
+        for (const it of room.bytes(answers, Number(count))) all.push(it === 1);
+      });
+      return all;
+    }
     insert(position) { calls.insert(this.#at, this.#within(position)); }
     remove(position) { calls.remove(this.#at, this.#within(position)); }
+    insert_all(positions) { this.#all("insert_all", positions); }
+    remove_all(positions) { this.#all("remove_all", positions); }
     set(position, enabled) { calls.set(this.#at, this.#within(position), Boolean(enabled)); }
-    next_one(from) { return found(calls.next_one(this.#at, word(from))); }
-    next_common(other, from) { return found(calls.next_common(this.#at, other.#at, word(from))); }
-    equals(other) { return Boolean(calls.equal(this.#at, other.#at)); }
-    is_superset(other) { return other.is_subset(this); }
-    union(other) { return this.#joined("union_of", other, Math.max(this.#length, other.#length)); }
-    intersection(other) { return this.#joined("intersection_of", other, Math.min(this.#length, other.#length)); }
-    difference(other) { return this.#joined("difference_of", other, this.#length); }
-    symmetric_difference(other) {
-      return this.#joined("symmetric_difference_of", other, Math.max(this.#length, other.#length));
+    next_common(other, from) { return found(calls.next_common(this.#at, this.#ours(other).#at, room.sought(from))); }
+    equals(other) { return Boolean(calls.equal(this.#at, this.#ours(other).#at)); }
+    is_superset(other) { return this.#ours(other).is_subset(this); }
+    union(other) { return this.#joined("union_of", other, Math.max); }
+    intersection(other) { return this.#joined("intersection_of", other, Math.min); }
+    difference(other) { return this.#joined("difference_of", other, (length) => length); }
+    symmetric_difference(other) { return this.#joined("symmetric_difference_of", other, Math.max); }
+    slice(start = 0, end = this.#length) {
+      const range = this.#range(start, end), made = new FixedBitSet(end - start);
+      calls.slice(made.#at, this.#at, ...range);
+      return made;
+    }
+    ranks() {
+      const kept = this.clone(), entries = calls.ranks_entries(word(this.#length));
+      const block = room.take(RANKS + 8 * Number(entries));
+      room.words(block.start, noRanks.length).set(noRanks);
+      calls.ranks_fill(word(block.start), kept.#at, word(block.start + RANKS), entries);
+      return new Ranks(kept, block);
     }
 
     static {
@@ -94,26 +181,44 @@ export async function load(source) {
         };
       });
       const nothing = () => {}, none = () => [], number = (set, it) => [word(it)];
+      const from = (set, it) => [room.sought(it)];
       const position = (set, it) => [set.#within(it)];
       const range = (set, start = 0, end = set.#length) => set.#range(start, end);
-      const another = (set, other) => [other.#at];
+      const another = (set, other) => [set.#ours(other).#at];
       // (What a call changes overlaps nothing else, so a set that is joined with itself is read as a copy.)
-      const beside = (set, other) => [(set === other ? set.clone() : other).#at];
-      const grown = (set, other) => (set.grow(other.#length), beside(set, other));
+      const beside = (set, other) => [(set === other ? set.clone() : set.#ours(other)).#at];
+      const grown = (set, other) => set.#ours(other) && (set.grow(other.#length), beside(set, other));
+      // (Whether the set changed stands at a place of the call's.)
+      const change = () => (room.bytes(answers, 1).fill(0), word(answers)), changed = () => room.bytes(answers, 1)[0] === 1;
 
+      disposable(this);
       each(nothing, "clear", none);
       each(nothing, "toggle", position);
+      each(nothing, "shift_up shift_down union_with_own_shift", number);
+      each(nothing, "union_with_shifted", (set, other, by) => [...beside(set, other), word(by)]);
+      each(nothing, "copy_range", (set, other, start, end, at) => {
+        const [first, past] = set.#ours(other).#range(start, end), [to] = set.#range(at, at + end - start);
+        return [...beside(set, other), first, past, to];
+      });
       each(Boolean, "put take", position);
       each(nothing, "insert_range remove_range toggle_range", range);
       each(Boolean, "contains_all_in_range contains_any_in_range", range);
       each(found, "count_ones count_zeroes", range);
       each(found, "minimum maximum", none);
       each(Boolean, "is_clear is_full", none);
-      each(found, "next_zero previous_one previous_zero nth_one", number);
+      each(found, "next_one next_zero previous_one previous_zero", from);
+      each(found, "nth_one", number);
+      each(found, "first_gap", (set, count, from = 0) => [word(count), room.sought(from)]);
+      each(found, "first_aligned_gap", (set, count, align, ...ends) => [word(count), word(align), ...range(set, ...ends)]);
       each(Boolean, "is_disjoint is_subset", another);
+      each(Number, "compare", another);
       each(found, "union_count intersection_count difference_count symmetric_difference_count first_lacking", another);
       each(nothing, "intersect_with difference_with", beside);
+      each(Boolean, "intersect_with_change difference_with_change", beside);
       each(nothing, "union_with symmetric_difference_with", grown);
+      each(changed, "union_with_change", (set, other) => [...grown(set, other), change()]);
+      each(changed, "union_with_difference", (set, gens, kills) => set.#ours(kills) &&
+        [...grown(set, gens), ...beside(set, kills), change()]);
     }
   };
 }

@@ -3,6 +3,15 @@
 
 const PAGE = 65536;
 
+/** The bytes of a buffer or of a view, or of a list of numbers. */
+export function bytesOf(given) {
+  if (given instanceof ArrayBuffer) return new Uint8Array(given);
+  if (ArrayBuffer.isView(given)) return new Uint8Array(given.buffer, given.byteOffset, given.byteLength);
+  const list = [...given], bytes = Uint8Array.from(list);
+  list.forEach((it, at) => { if (it !== bytes[at]) throw new RangeError(`${it} is no byte`); });
+  return bytes;
+}
+
 export class Room {
   #memory; #end; #free = new Map();
 
@@ -19,11 +28,17 @@ export class Room {
     if (!Number.isSafeInteger(number) || number < 0) throw new RangeError(`${number} is no position and no length`);
     return this.isWide ? BigInt(number) : Math.min(number, this.most);
   }
+  /** A number to seek from, which may be any: no position lies between that and the whole number which the calls take. */
+  sought(number) {
+    const least = typeof number === "number" ? Math.max(Math.ceil(number), 0) : number;
+    return this.word(least > Number.MAX_SAFE_INTEGER ? Number.MAX_SAFE_INTEGER : least);
+  }
   /** So many pointers, lengths or positions in the memory. */
   words(start, count) {
     return new (this.isWide ? BigUint64Array : Uint32Array)(this.#memory.buffer, start, count);
   }
-  /** The same as Numbers. */
+  bytes(start, count) { return new Uint8Array(this.#memory.buffer, start, count); }
+  /** So many words as Numbers. */
   numbers(start, count) {
     const words = this.words(start, count), numbers = new Array(count);
     for (let at = 0; at < count; at++) numbers[at] = Number(words[at]);
@@ -39,9 +54,17 @@ export class Room {
   give({ size, start }) {
     if (!this.#free.get(size)?.push(start)) this.#free.set(size, [start]);
   }
+  /** What is made with a block of so many bytes, which is given back then. */
+  lend(bytes, use) {
+    const block = this.take(bytes);
+    try { return use(block.start); } finally { this.give(block); }
+  }
+  /** Grows the memory by half, since V8 collects garbage each time, or by what is wanted where that is more or the half is refused. */
   #more(size) {
-    const pages = Math.ceil((this.#end + size - this.#memory.buffer.byteLength) / PAGE);
-    if (pages > 0) this.#memory.grow(`${pages}`);
+    const held = this.#memory.buffer.byteLength, pages = Math.ceil((this.#end + size - held) / PAGE);
+    if (pages > 0) {
+      try { this.#memory.grow(`${Math.max(pages, Math.ceil(held / PAGE / 2))}`); } catch { this.#memory.grow(`${pages}`); }
+    }
     this.#end += size;
     return this.#end - size;
   }
