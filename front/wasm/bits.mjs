@@ -86,7 +86,7 @@ export async function load(source) {
     }
     #ours(other) {
       if (#at in Object(other)) return other;
-      throw new TypeError("the other has to be a FixedBitSet of this module: new FixedBitSet(length, positions) makes one of a Set");
+      throw new TypeError("the other is no FixedBitSet of this module: new FixedBitSet(length, positions) makes one of a Set");
     }
     #joined(call, other, length) {
       const made = new FixedBitSet(length(this.#length, this.#ours(other).#length));
@@ -188,8 +188,8 @@ export async function load(source) {
       // (What a call changes overlaps nothing else, so a set that is joined with itself is read as a copy.)
       const beside = (set, other) => [(set === other ? set.clone() : set.#ours(other)).#at];
       const grown = (set, other) => set.#ours(other) && (set.grow(other.#length), beside(set, other));
-      // (Whether the set changed stands at a place of the call's.)
-      const change = () => (room.bytes(answers, 1).fill(0), word(answers)), changed = () => room.bytes(answers, 1)[0] === 1;
+      // (Where these calls write whether the set changed.)
+      const change = word(answers), changed = () => room.bytes(answers, 1)[0] === 1;
 
       disposable(this);
       each(nothing, "clear", none);
@@ -216,9 +216,9 @@ export async function load(source) {
       each(nothing, "intersect_with difference_with", beside);
       each(Boolean, "intersect_with_change difference_with_change", beside);
       each(nothing, "union_with symmetric_difference_with", grown);
-      each(changed, "union_with_change", (set, other) => [...grown(set, other), change()]);
+      each(changed, "union_with_change", (set, other) => [...grown(set, other), change]);
       each(changed, "union_with_difference", (set, gens, kills) => set.#ours(kills) &&
-        [...grown(set, gens), ...beside(set, kills), change()]);
+        [...grown(set, gens), ...beside(set, kills), change]);
     }
   };
 }

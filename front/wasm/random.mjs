@@ -1,6 +1,8 @@
 // Random calls on sets of a module, beside a Set of JavaScript with a length: `node --expose-gc random.mjs MODULE STEPS START`.
-// Each answer is the same, and so is each set after each call. Memory comes back. It prints how many calls it made.
+// Each answer is the same, and so is each set after each call. Memory comes back. Each export is called that README.md does not
+// name. It prints how many calls it made.
 import { readFile } from "node:fs/promises";
+import { inspect } from "node:util";
 import assert from "node:assert/strict";
 import { load } from "./bits.mjs";
 
@@ -14,6 +16,25 @@ class Slow {
   }
   ones(start, end) { return this.all(start, end).filter((it) => this.has.has(it)); }
   zeroes(start, end) { return this.all(start, end).filter((it) => !this.has.has(it)); }
+  runs(enabled) {
+    const found = [];
+    for (const at of this.all().filter((it) => this.has.has(it) === enabled)) {
+      if (found.at(-1)?.[1] === at) found.at(-1)[1]++;
+      else found.push([at, at + 1]);
+    }
+    return found;
+  }
+  gap(count, align, start, end) {
+    for (let at = start; at + count <= end; at++) {
+      if ((align ? at % align : at) === 0 && this.ones(at, at + count).length === 0) return at;
+    }
+  }
+  compare(other) {
+    if (this.length !== other.length) return this.length < other.length ? -1 : 1;
+    const unlike = this.all().filter((it) => this.has.has(it) !== other.has.has(it));
+    const greatest = unlike.findLast((it) => it >> 6 === unlike[0] >> 6);
+    return greatest === undefined ? 0 : this.has.has(greatest) ? 1 : -1;
+  }
   put(position, enabled) { enabled ? this.has.add(position) : this.has.delete(position); }
   keep(length, test, ...sets) {
     const found = new Slow(length);
@@ -23,6 +44,18 @@ class Slow {
 }
 
 const [module, steps, start] = [process.argv[2], Number(process.argv[3]), Number(process.argv[4])];
+
+// (Which exports are called is noted.)
+const called = new Map(), instantiate = WebAssembly.instantiate;
+WebAssembly.instantiate = async (...given) => {
+  const { memory, ...exports } = (await instantiate(...given)).instance.exports, noted = { memory };
+  for (const [name, call] of Object.entries(exports).filter(([, it]) => typeof it === "function")) {
+    const short = name.replace(/^(fixedbitset_)?bits_/, "");
+    called.set(short, called.get(short) ?? 0);
+    noted[name] = (...words) => (called.set(short, called.get(short) + 1), call(...words));
+  }
+  return { instance: { exports: noted } };
+};
 const FixedBitSet = await load(readFile(module));
 
 // (mulberry32)
@@ -79,17 +112,93 @@ function range(set) {
   for (const it of slow.all(start, end)) slow.put(it, kind === 0 || (kind === 2 && !ones.includes(it)));
 }
 
+/** A position, past the length too, or any number. */
+function anywhere(length) {
+  const at = below(length + 80);
+  return below(2) ? at : [at - 0.5, -at, -0.5, 2 ** 33 * at, Infinity, -Infinity][below(6)];
+}
+
+/** Several positions at once. */
+function several({ fast, slow }) {
+  const past = slow.length + (below(2) ? 0 : 3), positions = Array.from({ length: past && below(1200) }, () => below(past));
+  assert.deepEqual(fast.contains_each(new Set(positions)), [...new Set(positions)].map((it) => slow.has.has(it)));
+  const enabled = below(2) === 1, call = () => fast[enabled ? "insert_all" : "remove_all"](positions.values());
+  if (positions.some((it) => it >= slow.length)) return refused(call);
+  call();
+  for (const it of positions) slow.put(it, enabled);
+}
+
 function neighbours({ fast, slow }) {
-  const at = below(slow.length + 80) * (below(9) ? 1 : 2 ** 33), ones = slow.ones(), zeroes = slow.zeroes();
+  const at = anywhere(slow.length), index = below(slow.length + 3) * (below(9) ? 1 : 2 ** 33);
+  const ones = slow.ones(), zeroes = slow.zeroes();
   assert.equal(fast.next_one(at), ones.find((it) => it >= at));
   assert.equal(fast.next_zero(at), zeroes.find((it) => it >= at));
   assert.equal(fast.previous_one(at), ones.findLast((it) => it < at));
   assert.equal(fast.previous_zero(at), zeroes.findLast((it) => it < at));
-  assert.equal(fast.nth_one(at), ones[at]);
+  assert.equal(fast.nth_one(index), ones[index]);
   assert.equal(fast.minimum(), ones[0]);
   assert.equal(fast.maximum(), ones.at(-1));
   assert.deepEqual([fast.is_clear(), fast.is_full()], [ones.length === 0, zeroes.length === 0]);
   assert.deepEqual([fast.count_ones(), fast.count_zeroes()], [ones.length, zeroes.length]);
+}
+
+/** Walks over positions and stretches, gaps, and what the console shows. */
+function walks({ fast, slow }) {
+  const start = below(slow.length + 1), end = start + below(slow.length + 1 - start), at = anywhere(slow.length);
+  assert.deepEqual([[...fast.ones(start, end)], [...fast.zeroes(start, end)]], [slow.ones(start, end), slow.zeroes(start, end)]);
+  assert.deepEqual([[...fast], [...fast.zeroes()]], [slow.ones(), slow.zeroes()]);
+  assert.deepEqual([[...fast.runs()], [...fast.zero_runs()]], [slow.runs(true), slow.runs(false)]);
+  const count = below(12), align = below(20);
+  assert.equal(fast.first_gap(count, at), slow.gap(count, 1, Math.max(Math.ceil(at), 0), slow.length));
+  assert.equal(fast.first_aligned_gap(count, align, start, end), slow.gap(count, align, start, end));
+  for (const name of ["ones", "zeroes"]) refused(() => fast[name](start, slow.length + 1));
+  refused(() => fast.first_aligned_gap(count, align, start, slow.length + 1));
+  const ones = slow.ones(), shown = ones.slice(0, count), more = ones.length - shown.length;
+  const words = more ? [...shown, `... ${more} more`] : shown, inside = words.length ? ` ${words.join(", ")} ` : "";
+  assert.equal(inspect(fast, { maxArrayLength: count }), `FixedBitSet(${slow.length}) {${inside}}`);
+}
+
+/** Ranks, which stay where the set changes. */
+function ranked({ fast, slow }) {
+  const ranks = fast.ranks(), ones = slow.ones(), at = anywhere(slow.length), index = below(slow.length + 3);
+  const enabled = below(2) === 1;
+  if (slow.length) fast.set(0, enabled), slow.put(0, enabled);
+  assert.equal(ranks.rank(at), ones.filter((it) => it < at).length);
+  assert.equal(ranks.select(index), ones[index]);
+  if (below(2)) return;
+  for (const name of ["free", below(2) ? "free" : Symbol.dispose]) ranks[name]();
+  assert.deepEqual([ranks.rank(at), ranks.select(0)], [0, undefined]);
+}
+
+/** A set as bytes, in each form in which these are taken, and as JSON. */
+function bytes({ fast, slow }) {
+  const data = fast.to_bytes(), length = someLength();
+  const forms = [data, data.buffer, [...data], new Uint8Array([255, ...data]).subarray(1)];
+  assert.equal(data.length, 8 * Math.ceil(slow.length / 64));
+  assert.deepEqual(slow.all(0, 8 * data.length).filter((it) => (data[it >> 3] >> (it & 7)) & 1), slow.ones());
+  assert.equal(JSON.stringify(fast), `{"length":${slow.length},"data":[${data}]}`);
+  const kept = slow.ones().filter((it) => it < length);
+  same({ fast: FixedBitSet.from_bytes(length, forms[below(4)]), slow: new Slow(length, kept) });
+}
+
+/** A part of a set, and positions that are moved. */
+function moved({ fast, slow }) {
+  const { fast: other, slow: theirs } = some();
+  const start = below(theirs.length + 1), end = start + below(theirs.length + 1 - start);
+  same({ fast: other.slice(start, end), slow: new Slow(end - start, theirs.ones(start, end).map((it) => it - start)) });
+  refused(() => other.slice(start, theirs.length + 1));
+  const mine = new Set(slow.has), added = new Set(theirs.has), by = below(9) ? below(300) : 2 ** 33, at = below(slow.length + 3);
+  const isOver = (it) => it >= at && it < at + end - start;
+  const [name, given, test] = [
+    ["shift_up", [by], (it) => mine.has(it - by)],
+    ["shift_down", [by], (it) => mine.has(it + by)],
+    ["union_with_own_shift", [by], (it) => mine.has(it) || mine.has(it - by)],
+    ["union_with_shifted", [other, by], (it) => mine.has(it) || added.has(it - by)],
+    ["copy_range", [other, start, end, at], (it) => (isOver(it) ? added.has(it - at + start) : mine.has(it))],
+  ][below(5)];
+  if (name === "copy_range" && at + end - start > slow.length) return refused(() => fast[name](...given));
+  fast[name](...given);
+  slow.has = new Set(slow.all().filter(test));
 }
 
 const joins = [
@@ -101,7 +210,7 @@ const joins = [
 
 /** Joins of two sets, which may be one. */
 function pair(set) {
-  const other = some(), [fast, slow] = [set.fast, set.slow], lengths = [slow.length, other.slow.length], from = below(slow.length + 3);
+  const other = some(), { fast, slow } = set, lengths = [slow.length, other.slow.length], from = anywhere(slow.length);
   for (const [name, , test, length] of joins) {
     const wanted = slow.keep(length(...lengths), test, other.slow), made = fast[name](other.fast);
     same({ fast: made, slow: wanted });
@@ -115,9 +224,18 @@ function pair(set) {
   assert.equal(fast.is_superset(other.fast), lacks.length === 0);
   assert.equal(other.fast.is_subset(fast), lacks.length === 0);
   assert.equal(fast.equals(other.fast), String([slow.length, ...slow.ones()]) === String([other.slow.length, ...other.slow.ones()]));
-  const [, name, test, , length] = joins[below(joins.length)];
-  fast[name](other.fast);
+  assert.equal(fast.compare(other.fast), slow.compare(other.slow));
+  const [, name, test, , length] = joins[below(joins.length)], tells = below(2) && name !== "symmetric_difference_with";
+  const answer = fast[tells ? `${name}_change` : name](other.fast);
   set.slow = slow.keep(length(...lengths), test, other.slow);
+  assert.equal(answer, tells ? `${slow.ones()}` !== `${set.slow.ones()}` : undefined);
+}
+
+/** A join of three sets. */
+function three(set) {
+  const [gens, kills] = [some(), some()], { fast, slow } = set, length = Math.max(slow.length, gens.slow.length);
+  set.slow = slow.keep(length, (mine, gen, kill) => mine || (gen && !kill), gens.slow, kills.slow);
+  assert.equal(fast.union_with_difference(gens.fast, kills.fast), `${slow.ones()}` !== `${set.slow.ones()}`);
 }
 
 /** Calls that make or free memory. */
@@ -127,7 +245,7 @@ function memory(set) {
     () => Object.assign(set, make()),
     () => (fast.grow(length), (slow.length = Math.max(length, slow.length))),
     () => (fast.clear(), slow.has.clear()),
-    () => (fast.free(), (set.slow = new Slow(0))),
+    () => (fast[below(2) ? "free" : Symbol.dispose](), (set.slow = new Slow(0))),
     () => (set.fast = fast.clone()),
   ];
   kinds[below(kinds.length)]();
@@ -136,6 +254,19 @@ function memory(set) {
 function same({ fast, slow }) {
   assert.equal(fast.length, slow.length);
   assert.deepEqual(fast.positions(), slow.ones());
+}
+
+/** What is no set of the module is told, by each call that takes another set, and changes nothing. */
+async function strangers(set) {
+  const Other = await load(readFile(module)), names = joins.flatMap(([made, changed]) => [made, `${made}_count`, changed]);
+  names.push("union_with_change", "intersect_with_change", "difference_with_change", "union_with_shifted", "copy_range");
+  names.push("next_common", "first_lacking", "is_disjoint", "is_subset", "is_superset", "equals", "compare", "union_with_difference");
+  const wrong = { name: "TypeError", message: /^the other is no FixedBitSet of this module: new FixedBitSet/ };
+  for (const it of [new Other(3), new Set([1]), [1], 1, null, undefined]) {
+    for (const name of names) assert.throws(() => set[name](it, 0, 0, 0), wrong, name);
+    assert.throws(() => set.union_with_difference(new FixedBitSet(3), it), wrong);
+  }
+  assert.equal(set.length, 0);
 }
 
 /** Walks in whose midst the set changes, numbers that are none, and sets of another instance. */
@@ -149,10 +280,15 @@ async function others() {
   }
   assert.deepEqual(seen, [...Array(600).keys(), ...Array.from({ length: 2 * 512 - 600 }, (_, it) => 2000 + it)]);
   assert.equal(set.length, 0);
-  for (const it of [-1, 0.5, NaN, 2 ** 53, "1", undefined]) refused(() => set.contains(it));
+  for (const it of [-1, 0.5, NaN, 2 ** 53, "1", undefined]) {
+    for (const name of ["contains", "shift_up", "nth_one", "first_gap"]) refused(() => set[name](it));
+  }
+  for (const it of [NaN, "1", undefined, null]) for (const name of ["next_one", "previous_zero"]) refused(() => set[name](it));
   for (const it of [-1, 0.5, 2 ** 53 - 1]) refused(() => new FixedBitSet(it));
-  const Other = await load(readFile(module));
-  assert.throws(() => set.union(new Other(3)), TypeError);
+  for (const it of [256, -1, 0.5, "a"]) refused(() => FixedBitSet.from_bytes(8, [it]));
+  assert.throws(() => FixedBitSet.from_bytes(8, 8), TypeError);
+  assert.equal(inspect({ a: { b: { c: set } } }), "{ a: { b: { c: [FixedBitSet] } } }");
+  await strangers(set);
   const half = 2 ** 31, large = new FixedBitSet(half + 100, [5, half + 50]); // (a number of 32 bits that has a sign ends there)
   assert.deepEqual([large.positions(), large.maximum(), large.count_zeroes()], [[5, half + 50], half + 50, half + 98]);
   large.free();
@@ -164,35 +300,85 @@ async function collected() {
   await new Promise((done) => setTimeout(done));
 }
 
-/** The memory of sets that are freed is taken again, and so is that of sets that nobody holds. */
-async function freed() {
+/** Has each growth of a memory told, before it is made. */
+function told(tell) {
   const grow = WebAssembly.Memory.prototype.grow;
-  let pages = 0;
   WebAssembly.Memory.prototype.grow = function (more) {
-    pages += Number(more);
+    tell(Number(more));
     return grow.call(this, more);
   };
-  for (let turn = 0; turn < 100; turn++) new FixedBitSet(8_000_000).free();
-  for (let turn = 0; turn < 100; turn++) {
-    new FixedBitSet(8_000_000).grow(9_000_000);
-    if (turn % 10 === 9) await collected();
-  }
-  WebAssembly.Memory.prototype.grow = grow;
-  assert(pages < 1000, `the memory grew by ${pages} pages`);
+  return () => (WebAssembly.Memory.prototype.grow = grow);
 }
 
-await others();
-await freed();
+/** The memory of sets and ranks that are freed is taken again, and so is that of those that nobody holds. */
+async function freed() {
+  const Own = await load(readFile(module));
+  let pages = 0;
+  const untold = told((more) => (pages += more));
+  for (let turn = 0; turn < 100; turn++) new Own(8_000_000).free();
+  for (let turn = 0; turn < 100; turn++) {
+    new Own(8_000_000).grow(9_000_000);
+    if (turn % 10 === 9) await collected();
+  }
+  assert(pages < 1000, `the memory grew by ${pages} pages`);
+  const large = new Own(40_000_000);
+  large.ranks().free();
+  pages = 0;
+  for (let turn = 0; turn < 100; turn++) large.ranks().free();
+  large.to_bytes();
+  for (let turn = 0; turn < 10; turn++) large.to_bytes();
+  assert(pages < 300, `the memory grew by ${pages} pages for ranks and bytes`);
+  untold();
+}
+
+/** The memory grows seldom, and by what is wanted where more is refused. */
+async function grown() {
+  const Own = await load(readFile(module)), kept = [];
+  let [times, most] = [0, Infinity];
+  const untold = told((more) => {
+    times++;
+    if (more > most) throw new RangeError("too much");
+  });
+  const fill = () => { for (let turn = 0; turn < 20_000; turn++) kept.push(new Own(1000)); };
+  fill();
+  assert(times > 1 && times < 10, `the memory grew ${times} times`);
+  most = 1;
+  fill();
+  untold();
+  assert(times > 20, `the memory grew ${times} times`);
+}
+
+/** Those exports were not called that README.md names in the first column below the title. */
+async function reached() {
+  const [, out] = `${await readFile(new URL("README.md", import.meta.url))}`.match(/\n## What is out of reach\n(.*?)\n## /s);
+  const named = [...out.matchAll(/^\|([^|]*)\|/gm)].flatMap(([, names]) => [...names.matchAll(/`(\w+)`/g)].map(([, it]) => it));
+  assert.deepEqual([...called.keys()].filter((it) => !called.get(it)).sort(), named.sort());
+}
+
+// Each step is one of the first kinds, and some are of the others too.
 const kinds = [position, position, position, range, neighbours, pair, memory];
-for (let step = 0; step < steps; step++) {
-  const set = some();
-  if (step % 500 === 0) await collected();
-  try {
-    kinds[below(kinds.length)](set);
-    sets.forEach(same);
-  } catch (fault) {
-    fault.message = `step ${step} of ${start}: ${fault.message}`;
-    throw fault;
+const more = [several, walks, ranked, bytes, moved, three];
+async function run(from, to) {
+  for (let step = from; step < to; step++) {
+    if (step % 500 === 0) await collected();
+    try {
+      const set = some();
+      kinds[below(kinds.length)](set);
+      if (below(3) === 0) more[below(more.length)](set);
+      sets.forEach(same);
+    } catch (fault) {
+      fault.message = `step ${step} of ${start}: ${fault.message}`;
+      throw fault;
+    }
   }
 }
+
+// (Most wrong lines are found by the first steps.)
+const first = Math.min(steps, 1000);
+await run(0, first);
+await others();
+await freed();
+await grown();
+await run(first, steps);
+await reached();
 console.log(steps);

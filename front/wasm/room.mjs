@@ -59,7 +59,7 @@ export class Room {
     const block = this.take(bytes);
     try { return use(block.start); } finally { this.give(block); }
   }
-  /** Grows the memory by half, since V8 collects garbage each time, or by what is wanted where that is more or the half is refused. */
+  /** A new block. The memory grows by half, since V8 collects garbage each time, and by less where that is refused. */
   #more(size) {
     const held = this.#memory.buffer.byteLength, pages = Math.ceil((this.#end + size - held) / PAGE);
     if (pages > 0) {
