@@ -14,11 +14,16 @@ class Slow {
     for (let at = start; at < end; at++) made.push(at);
     return made;
   }
-  ones(start, end) { return this.all(start, end).filter((it) => this.has.has(it)); }
-  zeroes(start, end) { return this.all(start, end).filter((it) => !this.has.has(it)); }
+  those(enabled, start = 0, end = this.length) {
+    const made = [];
+    for (let at = start; at < end; at++) if (this.has.has(at) === enabled) made.push(at);
+    return made;
+  }
+  ones(start, end) { return this.those(true, start, end); }
+  zeroes(start, end) { return this.those(false, start, end); }
   runs(enabled) {
     const found = [];
-    for (const at of this.all().filter((it) => this.has.has(it) === enabled)) {
+    for (const at of this.those(enabled)) {
       if (found.at(-1)?.[1] === at) found.at(-1)[1]++;
       else found.push([at, at + 1]);
     }
@@ -253,7 +258,8 @@ function memory(set) {
 
 function same({ fast, slow }) {
   assert.equal(fast.length, slow.length);
-  assert.deepEqual(fast.positions(), slow.ones());
+  const found = fast.positions(), wanted = slow.ones(); // (deepEqual takes a quarter of the time of a run)
+  if (found.length !== wanted.length || found.some((it, at) => it !== wanted[at])) assert.deepEqual(found, wanted);
 }
 
 /** What is no set of the module is told, by each call that takes another set, and changes nothing. */
@@ -321,13 +327,13 @@ async function freed() {
     if (turn % 10 === 9) await collected();
   }
   assert(pages < 1000, `the memory grew by ${pages} pages`);
-  const large = new Own(40_000_000);
-  large.ranks().free();
-  pages = 0;
-  for (let turn = 0; turn < 100; turn++) large.ranks().free();
-  large.to_bytes();
-  for (let turn = 0; turn < 10; turn++) large.to_bytes();
-  assert(pages < 300, `the memory grew by ${pages} pages for ranks and bytes`);
+  const large = new Own(20_000_000), calls = [() => large.ranks().free(), () => large.to_bytes()];
+  for (const call of calls) {
+    call();
+    pages = 0;
+    for (let turn = 0; turn < 20; turn++) call();
+    assert.equal(pages, 0);
+  }
   untold();
 }
 
