@@ -55,7 +55,7 @@ static bool is_number(const char *text) {
     return digits > 0 && text[digits] == '\0';
 }
 
-/* Refuses the text, and says at which character. (Version 18 has no pg_attribute_noreturn().) */
+/* Refuses the text, and says at which character. */
 static void __attribute__((noreturn)) fail(const Parser *parser, int code, const char *what) {
     int before = pg_mbstrlen_with_len(parser->text, parser->at - parser->text);
     ereport(ERROR, (errcode(code), errmsg("invalid input syntax for type bitset: \"%s\"", parser->text),

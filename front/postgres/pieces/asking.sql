@@ -10,7 +10,10 @@ CREATE TABLE facts (name text, piece int, least bigint, greatest bigint) PARTITI
 CREATE TABLE totals (server text, name text, ones bigint) PARTITION BY LIST (server);
 CREATE TABLE pairs (server text, a text, b text, shared bigint) PARTITION BY LIST (server);
 CREATE TABLE unions (server text, target text, a text, b text) PARTITION BY LIST (server);
+CREATE TABLE kept (server text, least int, past int) PARTITION BY LIST (server);
 CREATE TABLE keepers (server text PRIMARY KEY, port int, least int, past int);
+-- (what a server says that it keeps is no secret, and each question asks it)
+GRANT SELECT ON kept TO PUBLIC;
 
 -- Registers a server that keeps the pieces from `least` up to and without `past`.
 --
@@ -32,7 +35,8 @@ BEGIN
         CREATE FOREIGN TABLE %5$I PARTITION OF totals FOR VALUES IN (%10$L) SERVER %1$I OPTIONS (table_name 'totals');
         CREATE FOREIGN TABLE %6$I PARTITION OF pairs FOR VALUES IN (%10$L) SERVER %1$I OPTIONS (table_name 'pairs');
         CREATE FOREIGN TABLE %7$I PARTITION OF unions FOR VALUES IN (%10$L) SERVER %1$I OPTIONS (table_name 'unions');
-        CREATE FOREIGN TABLE %11$I (least int, past int) SERVER %1$I OPTIONS (table_name 'kept')$f$,
+        CREATE FOREIGN TABLE %11$I PARTITION OF kept FOR VALUES IN (%10$L) SERVER %1$I OPTIONS (table_name 'kept');
+        GRANT SELECT ON %11$I TO PUBLIC$f$,
         server, port, 'pieces_' || server, 'facts_' || server, 'totals_' || server, 'pairs_' || server, 'unions_' || server,
         least, past, server, 'kept_' || server);
     INSERT INTO keepers VALUES (server, port, least, past);
@@ -41,20 +45,23 @@ $$;
 SELECT pieces_register('first', :first, 0, 333334), pieces_register('second', :second, 333334, 666667),
     pieces_register('third', :third, 666667, 1000000);
 
--- True, or an error: each server in keepers has its partition of each table, nobody else has one, and no piece is without a
--- server. Each question asks it, for a server that is left out would be missing in the answer without a word.
-CREATE FUNCTION pieces_are_registered() RETURNS boolean STABLE LANGUAGE plpgsql AS $$
+-- True, or an error: each server in keepers has its partition of each table, nobody else has one, no piece is without a server,
+-- and each server says itself that it keeps these pieces. Each question asks it: a server that is left out would be missing in
+-- the answer without a word, and one that comes back from an old backup would count pieces that another one has. A question
+-- about one piece asks its server alone. (The column `server` is not asked for, as the servers have none.)
+CREATE FUNCTION pieces_are_registered(asked bigint DEFAULT NULL) RETURNS boolean STABLE LANGUAGE plpgsql AS $$
 DECLARE
     fault text;
+    one text;
 BEGIN
     SELECT string_agg(format('%s %s of server %s', of, bound, coalesce(server, 'none')), ', ' ORDER BY of, bound) INTO fault
     FROM (
         SELECT of, server, CASE WHEN of IN ('pieces', 'facts') THEN format('FOR VALUES FROM (%s) TO (%s)', least, past)
             ELSE format('FOR VALUES IN (%L)', server) END AS bound, true AS is_wanted
-        FROM keepers, unnest('{pieces,facts,totals,pairs,unions}'::text[]) of
+        FROM keepers, unnest('{pieces,facts,totals,pairs,unions,kept}'::text[]) of
     ) wanted FULL JOIN (
         SELECT parent.relname::text AS of, srvname::text AS server, pg_get_expr(part.relpartbound, part.oid) AS bound, true AS is_found
-        FROM unnest('{pieces,facts,totals,pairs,unions}'::regclass[]) of JOIN pg_class parent ON parent.oid = of
+        FROM unnest('{pieces,facts,totals,pairs,unions,kept}'::regclass[]) of JOIN pg_class parent ON parent.oid = of
         JOIN pg_inherits ON inhparent = of JOIN pg_class part ON part.oid = inhrelid
         LEFT JOIN pg_foreign_table ON ftrelid = part.oid LEFT JOIN pg_foreign_server s ON s.oid = ftserver
     ) found USING (of, server, bound)
@@ -65,6 +72,16 @@ BEGIN
     IF fault IS NOT NULL THEN
         RAISE object_not_in_prerequisite_state USING MESSAGE = 'keepers and partitions do not agree: ' || fault,
             HINT = 'Servers are added by pieces_register or pieces_add.';
+    END IF;
+    SELECT k.server INTO one FROM keepers k WHERE k.least <= asked AND asked < k.past;
+    EXECUTE format($f$
+        SELECT string_agg(format('%%s keeps %%s to %%s, not %%s to %%s', coalesce(k.server, told.of::text), told.least, told.past, k.least, k.past), ', ')
+        FROM (SELECT tableoid::regclass AS of, least, past FROM %I) told
+        FULL JOIN (SELECT * FROM keepers WHERE $1 IS NULL OR server = $1) k ON told.of = ('kept_' || k.server)::regclass
+        WHERE (told.least, told.past) IS DISTINCT FROM (k.least, k.past)$f$, coalesce('kept_' || one, 'kept')) INTO fault USING one;
+    IF fault IS NOT NULL THEN
+        RAISE object_not_in_prerequisite_state USING MESSAGE = 'keepers and servers do not agree: ' || fault,
+            HINT = 'A server that comes back from a backup has to be given what was moved since.';
     END IF;
     RETURN true;
 END
@@ -79,7 +96,7 @@ DECLARE
     moved bigint;
     arrived bigint;
 BEGIN
-    LOCK TABLE pieces, facts, totals, pairs, unions, keepers IN ACCESS EXCLUSIVE MODE;
+    LOCK TABLE pieces, facts, totals, pairs, unions, kept, keepers IN ACCESS EXCLUSIVE MODE;
     PERFORM pieces_are_registered();
     SELECT * INTO STRICT giver FROM keepers k WHERE k.least < pieces_add.least AND pieces_add.least < k.past;
     UPDATE keepers k SET past = pieces_add.least WHERE k.server = giver.server;
@@ -105,7 +122,7 @@ $$;
 CREATE FUNCTION pieces_contains(name text, "position" bigint) RETURNS boolean STABLE LANGUAGE sql
     SET enable_partitionwise_join = on AS $$
     SELECT EXISTS (SELECT FROM pieces s WHERE s.name = $1 AND s.piece = $2 / 1000000 AND s.part @> ($2 % 1000000))
-    WHERE pieces_are_registered()
+    WHERE pieces_are_registered($2 / 1000000)
 $$;
 
 -- How many positions the set has: the sum over its pieces. Each server sends the sum over its own.

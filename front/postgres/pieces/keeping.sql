@@ -23,12 +23,13 @@ $$;
 CREATE TRIGGER make_check AFTER INSERT OR UPDATE ON kept FOR EACH ROW EXECUTE FUNCTION make_check();
 INSERT INTO kept VALUES (:least, :past);
 
--- The ends of each piece, and sums over all pieces here: of a set, and of two sets.
+-- The ends of each piece, and sums over the pieces that are kept here: of a set, and of two sets.
 CREATE VIEW facts AS SELECT name, piece, minimum(part) AS least, maximum(part) AS greatest FROM pieces;
-CREATE VIEW totals AS SELECT NULL AS server, name, sum(count_ones(part)) AS ones FROM pieces GROUP BY name;
+CREATE VIEW totals AS
+    SELECT NULL AS server, name, sum(count_ones(part)) AS ones FROM pieces JOIN kept ON piece >= least AND piece < past GROUP BY name;
 CREATE VIEW pairs AS
     SELECT NULL AS server, a.name AS a, b.name AS b, sum(intersection_count(a.part, b.part)) AS shared
-    FROM pieces a JOIN pieces b USING (piece) GROUP BY a.name, b.name;
+    FROM pieces a JOIN kept ON piece >= least AND piece < past JOIN pieces b USING (piece) GROUP BY a.name, b.name;
 
 -- A row that is inserted here makes the union of two sets' pieces, of those that this server keeps.
 CREATE VIEW unions AS SELECT name AS server, name AS target, name AS a, name AS b FROM pieces WHERE false;
@@ -45,4 +46,4 @@ CREATE TRIGGER make_union INSTEAD OF INSERT ON unions FOR EACH ROW EXECUTE FUNCT
 
 -- As whom the server that is asked comes here for a role of its own that is not its owner. It may read, and not write.
 CREATE ROLE pieces_reader LOGIN;
-GRANT SELECT ON pieces, facts, totals, pairs TO pieces_reader;
+GRANT SELECT ON pieces, facts, totals, pairs, kept TO pieces_reader;
