@@ -179,6 +179,13 @@ static void loop(void) {
     BITS_FOR_EACH(p, &set) changed = p;
 }
 
+CALL(loop_back, bits set = {words, 1, 64}; BITS_FOR_EACH_BACK(p, &set) changed = p)
+CALL(loop_of_zeroes, bits set = {words, 1, 64}; BITS_FOR_EACH_ZERO(p, &set) changed = p)
+CALL(loop_of_two, bits set = {words, 1, 64}, other = good(9); BITS_FOR_EACH_UNION(p, &other, &set) changed = p)
+CALL(row_of_few_words, bits_rows table = {words, 6, 3, 70}; changed = bits_rows_row(&table, 0).length)
+CALL(row_with_a_tail, bits_rows table = BITS_ROWS_OF(words, 3, 70); words[5] = 64; changed = bits_rows_row(&table, 1).length)
+CALL(row_past, bits_rows table = BITS_ROWS_OF(words, 3, 70); changed = bits_rows_row(&table, 3).length)
+
 static void loop_of_runs(void) {
     bits set = {words, 1, 64};
     BITS_FOR_EACH_RUN(start, end, &set) changed = start < end;
@@ -401,7 +408,7 @@ CALL(freed_array, bits set = good(200); bits_free(&set))
 
 CALL(load_of_a_word, bits set = good(70); uint64_t number; bits_load(&set, 6, 64, &number))
 CALL(store_of_a_word, bits set = good(70); bits_store(&set, 0, 64, 1))
-CALL(gap_of_none_past, bits set = good(70); changed = bits_first_gap(&set, 0, 500) == BITS_NONE)
+CALL(gap_of_none_past, bits set = good(70); if (bits_first_gap(&set, 0, 500) != BITS_NONE) abort())
 CALL(of_no_set, bits_walk walk; memset(&walk, 0, sizeof walk); bits_ones_next(&walk, list))
 CALL(zeroes_as_ones, bits set = good(70); bits_walk walk = BITS_WALK; bits_zeroes(&walk, &set); bits_ones_next(&walk, list))
 
@@ -454,7 +461,13 @@ static const struct {
     {walk_of_null, "bits_union_next: `walk` has NULL for words, and says that it has 4", 1},
     {handful_of_null, "bits_difference_batch: `positions` is NULL, and there are to be 1", 1},
     {handful_of_half_numbers, "bits_ones_batch_u32: `positions` is not aligned to 4 bytes", 1},
-    {loop, "bits_ones: `set` has 1 words, and BITS_WORDS(64) is 4", 1},
+    {loop, "bits_each: `set` has 1 words, and BITS_WORDS(64) is 4", 1},
+    {loop_back, "bits_each_back: `set` has 1 words, and BITS_WORDS(64) is 4", 1},
+    {loop_of_zeroes, "bits_each_zero: `set` has 1 words, and BITS_WORDS(64) is 4", 1},
+    {loop_of_two, "bits_each_of_two: `other` has 1 words, and BITS_WORDS(64) is 4", 1},
+    {row_of_few_words, "bits_rows_row: `rows` has 6 words, and bits_rows_words(3, 70) is 12", 1},
+    {row_with_a_tail, "bits_rows_row: `rows[1]` has a bit past its 70 columns", 1},
+    {row_past, "bits_rows_row: `row` is 3, which is not below 3", 2},
     {loop_of_runs, "bits_runs: `set` has 1 words, and BITS_WORDS(64) is 4", 1},
     {entries, "bits_rank: `ranks` has 1 entries, and bits_ranks_entries(0) is 0", 1},
     {null_directory, "bits_ranks_fill: `directory` is NULL, and there are to be 1", 1},

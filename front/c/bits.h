@@ -126,6 +126,19 @@ typedef struct bits_pair {
     bits_sieve second;
 } bits_pair;
 
+/* What the loops below are over. */
+enum { BITS_ONES, BITS_ZEROES, BITS_INTERSECTION, BITS_DIFFERENCE, BITS_UNION, BITS_SYMMETRIC_DIFFERENCE };
+
+/* What the loops below keep: the bits that are left of a word, its first position, and the first behind the last word. */
+typedef struct bits_loop {
+    uint64_t left;
+    size_t first;
+    size_t end;
+    unsigned kind;
+    const bits *set;
+    const bits *other;
+} bits_loop;
+
 /* A table of bits: `rows` rows of `columns` columns. It points to `count` words, which is bits_rows_words(rows, columns).
  * These are the words of a set of `columns` positions for each row, one row behind the other. Zeros are the table with no
  * bit. What holds of the words of a set that a call changes or reads holds of those of a table. */
@@ -184,23 +197,35 @@ typedef struct bits_ranks {
 /* No position: what bits_minimum, bits_maximum and their kin answer where there is none. */
 #define BITS_NONE SIZE_MAX
 
-/* A loop over the positions of the set, in ascending order. `break` and `continue` are as in any loop, and loops may stand
- * in each other. */
-#define BITS_FOR_EACH(p, set)                                                                                          \
-    for (BITS_NAME(bits_walk) bits_walk_##p = BITS_WALK,                                                               \
-                              *bits_once_##p = (BITS_NAME(bits_ones)(&bits_walk_##p, (set)), &bits_walk_##p);          \
-         bits_once_##p; bits_once_##p = NULL)                                                                          \
-        for (size_t p = 0; BITS_NAME(bits_ones_next)(&bits_walk_##p, &p);)
+/* Loops over positions in ascending order: over those of the set, and over those below the length that it has not; over those
+ * of the set at or past `from`; and over those of the set in descending order. `break` and `continue` are as in any loop, and
+ * loops may stand in each other. Until the end of a loop the set may not change. These loops read the words by code of this
+ * header, which is tested; what is proved is the iterators below. They take a third of an iterator's time. */
+#define BITS_FOR_EACH(p, set) BITS_LOOP(p, BITS_NAME(bits_each)((set), 0), next)
+#define BITS_FOR_EACH_ZERO(p, set) BITS_LOOP(p, BITS_NAME(bits_each_zero)((set), 0), next)
+#define BITS_FOR_EACH_FROM(p, set, from) BITS_LOOP(p, BITS_NAME(bits_each)((set), (from)), next)
+#define BITS_FOR_EACH_BACK(p, set) BITS_LOOP(p, BITS_NAME(bits_each_back)((set)), next_back)
+
+/* The same over two sets, of any two lengths, in ascending order: over the positions of both, those of the first that the
+ * second lacks, those of either, and those of exactly one. */
+#define BITS_FOR_EACH_INTERSECTION(p, set, other) BITS_LOOP(p, BITS_NAME(bits_each_of_two)((set), (other), BITS_INTERSECTION), next)
+#define BITS_FOR_EACH_DIFFERENCE(p, set, other) BITS_LOOP(p, BITS_NAME(bits_each_of_two)((set), (other), BITS_DIFFERENCE), next)
+#define BITS_FOR_EACH_UNION(p, set, other) BITS_LOOP(p, BITS_NAME(bits_each_of_two)((set), (other), BITS_UNION), next)
+#define BITS_FOR_EACH_SYMMETRIC_DIFFERENCE(p, set, other) BITS_LOOP(p, BITS_NAME(bits_each_of_two)((set), (other), BITS_SYMMETRIC_DIFFERENCE), next)
+
+#define BITS_LOOP(p, begin, step)                                                                                     \
+    for (BITS_NAME(bits_loop) fixedbitset_loop_##p = begin, *fixedbitset_once_##p = &fixedbitset_loop_##p;            \
+         fixedbitset_once_##p; fixedbitset_once_##p = NULL)                                                           \
+        for (size_t p = 0; fixedbitset_loop_##step(&fixedbitset_loop_##p, &p);)
 
 /* A loop over the stretches of positions of the set, each from `start` up to and without `end`, in ascending order. */
-#define BITS_FOR_EACH_RUN(start, end, set)                                                                             \
-    for (BITS_NAME(bits_run_walk) bits_walk_##start = BITS_RUNS,                                                       \
-                                  *bits_once_##start = (BITS_NAME(bits_runs)(&bits_walk_##start, (set)), &bits_walk_##start); \
-         bits_once_##start; bits_once_##start = NULL)                                                                  \
-        for (size_t start = 0, end = 0; BITS_NAME(bits_runs_next)(&bits_walk_##start, &start, &end);)
+#define BITS_FOR_EACH_RUN(start, end, set)                                                                            \
+    for (BITS_NAME(bits_run_walk) fixedbitset_walk_##start = BITS_RUNS,                                               \
+         *fixedbitset_once_##start = (BITS_NAME(bits_runs)(&fixedbitset_walk_##start, (set)), &fixedbitset_walk_##start); \
+         fixedbitset_once_##start; fixedbitset_once_##start = NULL)                                                   \
+        for (size_t start = 0, end = 0; BITS_NAME(bits_runs_next)(&fixedbitset_walk_##start, &start, &end);)
 
-/* ---- sets made. These functions stand in this header, and so do the tables made below; all other calls are those of the
- *      archive. */
+/* ---- sets made. The functions with a body stand in this header; all other calls are those of the archive. */
 
 /* The set of this length with these words, which are BITS_WORDS(length). */
 static inline bits bits_of(uint64_t *words, size_t length) {
@@ -240,6 +265,65 @@ static inline void bits_free(bits *set) {
     *set = bits_of(NULL, 0);
 }
 
+/* ---- what the loops are made of */
+
+/* The word of a loop, of a set or of two; where a set is the shorter it is 0. */
+static inline uint64_t fixedbitset_loop_word(const bits_loop *loop) {
+    const size_t at = loop->first / 64;
+    const uint64_t one = loop->kind < BITS_UNION || at < loop->set->count ? loop->set->words[at] : 0;
+    const uint64_t other = loop->kind > BITS_ZEROES && (loop->kind == BITS_INTERSECTION || at < loop->other->count) ? loop->other->words[at] : 0;
+    switch (loop->kind) {
+    case BITS_ONES: return one;
+    case BITS_ZEROES: return loop->end - loop->first < 64 ? ~one & (((uint64_t)1 << loop->end % 64) - 1) : ~one;
+    case BITS_INTERSECTION: return one & other;
+    case BITS_DIFFERENCE: return one & ~other;
+    case BITS_UNION: return one | other;
+    default: return one ^ other;
+    }
+}
+
+/* The next position, and the one before; false where none is left. */
+static inline bool fixedbitset_loop_next(bits_loop *loop, size_t *position) {
+    while (!loop->left) {
+        loop->first += 64;
+        if (loop->first >= loop->end)
+            return false;
+        loop->left = fixedbitset_loop_word(loop);
+    }
+    *position = loop->first + (unsigned)__builtin_ctzll(loop->left);
+    loop->left &= loop->left - 1;
+    return true;
+}
+
+static inline bool fixedbitset_loop_next_back(bits_loop *loop, size_t *position) {
+    while (!loop->left) {
+        if (loop->first == 0)
+            return false;
+        loop->first -= 64;
+        loop->left = fixedbitset_loop_word(loop);
+    }
+    const unsigned bit = 63 ^ (unsigned)__builtin_clzll(loop->left);
+    *position = loop->first + bit;
+    loop->left ^= (uint64_t)1 << bit;
+    return true;
+}
+
+/* A loop over the words below `end`, which begins at or past `from`. */
+static inline bits_loop fixedbitset_loop_of(const bits *set, const bits *other, unsigned kind, size_t end, size_t from) {
+    bits_loop loop;
+    loop.left = 0;
+    loop.first = from - from % 64;
+    loop.end = end;
+    loop.kind = kind;
+    loop.set = set;
+    loop.other = other;
+    if (from < end)
+        loop.left = fixedbitset_loop_word(&loop) & UINT64_MAX << from % 64;
+    else
+        loop.first = end;
+    return loop;
+}
+
 #ifdef __cplusplus
 #ifdef BITS_CHECK
 namespace fixedbitset_untested {
@@ -247,10 +331,32 @@ namespace fixedbitset_untested {
 extern "C" {
 #endif
 
+/* How the loops begin. */
+static inline bits_loop bits_each(const bits *set, size_t from) {
+    return fixedbitset_loop_of(set, set, BITS_ONES, 64 * set->count, from);
+}
+static inline bits_loop bits_each_zero(const bits *set, size_t from) {
+    return fixedbitset_loop_of(set, set, BITS_ZEROES, set->length, from);
+}
+static inline bits_loop bits_each_back(const bits *set) {
+    return fixedbitset_loop_of(set, set, BITS_ONES, 64 * set->count, SIZE_MAX);
+}
+static inline bits_loop bits_each_of_two(const bits *set, const bits *other, unsigned kind) {
+    const bool ends_with_other = set->count < other->count ? kind > BITS_DIFFERENCE : kind == BITS_INTERSECTION;
+    return fixedbitset_loop_of(set, other, kind, 64 * (ends_with_other ? other->count : set->count), 0);
+}
+
 /* The set of this length over the first BITS_WORDS(length) of `count` words. Where there are fewer, the set has no words, which
  * are NULL, and the length 0; with BITS_CHECK the program ends. */
 static inline bits bits_over(uint64_t *words, size_t count, size_t length) {
     return count < BITS_WORDS(length) ? bits_of(NULL, 0) : bits_of(words, length);
+}
+
+/* A row of the table as a set of its columns, which each call takes: what is changed there is changed in the table. Where there
+ * is no such row the set has no words, which are NULL, and the length 0. */
+static inline bits bits_rows_row(const bits_rows *rows, size_t row) {
+    const size_t wide = BITS_WORDS(rows->columns);
+    return row < rows->rows ? bits_of(wide ? rows->words + row * wide : rows->words, rows->columns) : bits_of(NULL, 0);
 }
 
 /* ---- words */
@@ -312,7 +418,8 @@ size_t bits_next_zero(const bits *set, size_t from) BITS_SYMBOL(bits_next_zero);
 /* The position that has exactly `index` positions of the set below it, or BITS_NONE: 0 asks for the first. It counts word by
  * word; bits_select has a directory. */
 size_t bits_nth_one(const bits *set, size_t index) BITS_SYMBOL(bits_nth_one);
-/* The least number at or past `from` with `count` clear positions from there on, or BITS_NONE. */
+/* The least number at or past `from` with `count` clear positions from there on, all below the length, or BITS_NONE; that too
+ * where `from` is past the length. */
 size_t bits_first_gap(const bits *set, size_t count, size_t from) BITS_SYMBOL(bits_first_gap);
 /* The least multiple of `align` in the range with `count` clear positions from there on, all in the range, or BITS_NONE; that
  * too where the range is not valid. The only multiple of 0 is 0. */
@@ -549,7 +656,7 @@ using fixedbitset_untested::bits_words;
 #endif
 #endif
 
-/* ---- tables made */
+/* ---- tables made, and their rows as sets */
 
 /* The table of so many rows and columns with these words, which are bits_rows_words(rows, columns). */
 static inline bits_rows bits_rows_of(uint64_t *words, size_t rows, size_t columns) {
@@ -559,6 +666,20 @@ static inline bits_rows bits_rows_of(uint64_t *words, size_t rows, size_t column
     table.rows = rows;
     table.columns = columns;
     return table;
+}
+
+/* A new table of so many rows and columns without a bit; bits_rows_free gives its words back. Where memory is refused it has no
+ * words, which are NULL, and no rows, and so has a table that no memory holds. */
+static inline bits_rows bits_rows_new(size_t rows, size_t columns) {
+    const size_t count = bits_rows_words(rows, columns);
+    uint64_t *words = count == BITS_NONE ? NULL : (uint64_t *)BITS_CALLOC(count ? count : 4, sizeof(uint64_t));
+    return bits_rows_of(words, words ? rows : 0, columns);
+}
+
+/* Gives back the words that bits_rows_new made. What is left is a table without rows, which may be given back once more. */
+static inline void bits_rows_free(bits_rows *rows) {
+    BITS_FREE(rows->words);
+    *rows = bits_rows_of(NULL, 0, rows->columns);
 }
 
 #ifdef BITS_CHECK

@@ -332,6 +332,13 @@ static inline void fixedbitset_ask_done(fixedbitset_place here, bool is_done) {
 
 BITS_TESTED(bits, over, (uint64_t *words, size_t count, size_t length), (words, count, length),
             fixedbitset_ask_enough(here, words, count, length);)
+BITS_TESTED(bits_loop, each, (const bits *set, size_t from), (set, from), BITS_ASK_SET(set))
+BITS_TESTED(bits_loop, each_zero, (const bits *set, size_t from), (set, from), BITS_ASK_SET(set))
+BITS_TESTED(bits_loop, each_back, (const bits *set), (set), BITS_ASK_SET(set))
+BITS_TESTED(bits_loop, each_of_two, (const bits *set, const bits *other, unsigned kind), (set, other, kind),
+            BITS_ASK_SET(set) BITS_ASK_SET(other))
+BITS_TESTED(bits, rows_row, (const bits_rows *rows, size_t row), (rows, row),
+            fixedbitset_ask_rows(here, rows); fixedbitset_ask_row(here, rows, row); BITS_ASK_BELOW(row, rows->rows))
 BITS_TESTED_DONE(settle, (uint64_t *words, size_t count, size_t length, size_t kept), (words, count, length, kept),
                  BITS_ASK_LIST(words, count) BITS_ASK_EQUAL(count, bits_words(length)) BITS_ASK_AT_MOST(kept, length))
 BITS_TESTED(bool, is_clean, (const uint64_t *words, size_t count, size_t length), (words, count, length),
@@ -486,6 +493,11 @@ BITS_TESTED_RUN_STEP(runs_next_back)
 
 #ifdef BITS_NO_SHORT_NAMES
 #define fixedbitset_bits_over(...) BITS_CALL(over, __VA_ARGS__)
+#define fixedbitset_bits_each(...) BITS_CALL(each, __VA_ARGS__)
+#define fixedbitset_bits_each_zero(...) BITS_CALL(each_zero, __VA_ARGS__)
+#define fixedbitset_bits_each_back(...) BITS_CALL(each_back, __VA_ARGS__)
+#define fixedbitset_bits_each_of_two(...) BITS_CALL(each_of_two, __VA_ARGS__)
+#define fixedbitset_bits_rows_row(...) BITS_CALL(rows_row, __VA_ARGS__)
 #define fixedbitset_bits_settle(...) BITS_CALL(settle, __VA_ARGS__)
 #define fixedbitset_bits_is_clean(...) BITS_CALL(is_clean, __VA_ARGS__)
 #define fixedbitset_bits_take_lowest_bit(...) BITS_CALL(take_lowest_bit, __VA_ARGS__)
@@ -602,6 +614,11 @@ BITS_TESTED_RUN_STEP(runs_next_back)
 #define fixedbitset_bits_symmetric_difference_batch_back(...) BITS_CALL(symmetric_difference_batch_back, __VA_ARGS__)
 #else
 #define bits_over(...) BITS_CALL(over, __VA_ARGS__)
+#define bits_each(...) BITS_CALL(each, __VA_ARGS__)
+#define bits_each_zero(...) BITS_CALL(each_zero, __VA_ARGS__)
+#define bits_each_back(...) BITS_CALL(each_back, __VA_ARGS__)
+#define bits_each_of_two(...) BITS_CALL(each_of_two, __VA_ARGS__)
+#define bits_rows_row(...) BITS_CALL(rows_row, __VA_ARGS__)
 #define bits_settle(...) BITS_CALL(settle, __VA_ARGS__)
 #define bits_is_clean(...) BITS_CALL(is_clean, __VA_ARGS__)
 #define bits_take_lowest_bit(...) BITS_CALL(take_lowest_bit, __VA_ARGS__)

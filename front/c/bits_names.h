@@ -9,6 +9,7 @@
 #define bits_run_walk fixedbitset_bits_run_walk
 #define bits_sieve fixedbitset_bits_sieve
 #define bits_pair fixedbitset_bits_pair
+#define bits_loop fixedbitset_bits_loop
 #define bits_rows fixedbitset_bits_rows
 #define bits_ranks fixedbitset_bits_ranks
 #define bits_own fixedbitset_bits_own
@@ -18,7 +19,12 @@
 #define bits_of_view fixedbitset_bits_of_view
 #define bits_new fixedbitset_bits_new
 #define bits_free fixedbitset_bits_free
+#define bits_each fixedbitset_bits_each
+#define bits_each_zero fixedbitset_bits_each_zero
+#define bits_each_back fixedbitset_bits_each_back
+#define bits_each_of_two fixedbitset_bits_each_of_two
 #define bits_over fixedbitset_bits_over
+#define bits_rows_row fixedbitset_bits_rows_row
 #define bits_words fixedbitset_bits_words
 #define bits_blocks fixedbitset_bits_blocks
 #define bits_settle fixedbitset_bits_settle
@@ -139,6 +145,8 @@
 #define bits_symmetric_difference_batch fixedbitset_bits_symmetric_difference_batch
 #define bits_symmetric_difference_batch_back fixedbitset_bits_symmetric_difference_batch_back
 #define bits_rows_of fixedbitset_bits_rows_of
+#define bits_rows_new fixedbitset_bits_rows_new
+#define bits_rows_free fixedbitset_bits_rows_free
 #define bits_own_free fixedbitset_bits_own_free
 #define bits_own_reserve fixedbitset_bits_own_reserve
 #define bits_own_resize fixedbitset_bits_own_resize
@@ -159,6 +167,7 @@
 #undef bits_run_walk
 #undef bits_sieve
 #undef bits_pair
+#undef bits_loop
 #undef bits_rows
 #undef bits_ranks
 #undef bits_own
@@ -168,7 +177,12 @@
 #undef bits_of_view
 #undef bits_new
 #undef bits_free
+#undef bits_each
+#undef bits_each_zero
+#undef bits_each_back
+#undef bits_each_of_two
 #undef bits_over
+#undef bits_rows_row
 #undef bits_words
 #undef bits_blocks
 #undef bits_settle
@@ -289,6 +303,8 @@
 #undef bits_symmetric_difference_batch
 #undef bits_symmetric_difference_batch_back
 #undef bits_rows_of
+#undef bits_rows_new
+#undef bits_rows_free
 #undef bits_own_free
 #undef bits_own_reserve
 #undef bits_own_resize

@@ -296,6 +296,8 @@ static void walks(void) {
     assert(bits_runs_next(&runs, &start, &end) && start == 0 && end == 1);
     assert(bits_runs_next(&runs, &start, &end) && bits_runs_next(&runs, &start, &end) && start == 4);
     assert(!bits_runs_next(&runs, &start, &end) && !bits_runs_next_back(&runs, &start, &end));
+    assert(bits_first_gap(&b, 0, 71) == 71 && bits_first_gap(&b, 0, 72) == BITS_NONE && bits_first_gap(&b, 1, 71) == BITS_NONE);
+    assert(bits_first_gap(&b, 0, SIZE_MAX) == BITS_NONE && bits_first_gap(&b, SIZE_MAX, 0) == BITS_NONE);
     assert(bits_first_gap(&b, 3, 0) == 4 && bits_first_gap(&b, 66, 0) == BITS_NONE);
     assert(bits_first_aligned_gap(&b, 3, 8, 0, 71) == 8 && bits_first_aligned_gap(&b, 5, 8, 9, 24) == 16);
     assert(bits_first_aligned_gap(&b, 3, 8, 9, 18) == BITS_NONE && bits_first_aligned_gap(&b, 1, 8, 9, 72) == BITS_NONE);

@@ -93,6 +93,13 @@ static void loops(void) {
     }
     assert(sum == 1 + (1 + 3 + 64) + (1 + 3 + 64 + 65));
     const size_t stretches[][2] = {{1, 2}, {3, 4}, {64, 66}, {69, 70}};
+    k = 5;
+    BITS_FOR_EACH_BACK(p, &set) assert(p == wanted[--k]);
+    assert(k == 0);
+    k = 2;
+    BITS_FOR_EACH_FROM(p, &set, 64) assert(p == wanted[k++]);
+    BITS_FOR_EACH_FROM(p, &set, SIZE_MAX) assert(p && false);
+    assert(k == 5);
     k = 0;
     BITS_FOR_EACH_RUN(start, end, &set) {
         assert(start == stretches[k][0] && end == stretches[k][1]);
@@ -102,6 +109,69 @@ static void loops(void) {
     sum = 0;
     BITS_FOR_EACH_RUN(start, end, &set) BITS_FOR_EACH_RUN(from, to, &set) sum += from == start && to == end;
     assert(sum == 4);
+}
+
+/* Loops over two sets of every two lengths up to some, beside a loop over all positions. */
+#define IS_EACH(loop, is_given)                                  \
+    do {                                                         \
+        size_t at = 0;                                           \
+        loop {                                                   \
+            for (; at < p; at++)                                 \
+                assert(!(is_given));                             \
+            assert(at == p && (is_given));                       \
+            at++;                                                \
+        }                                                        \
+        for (; at < 600; at++)                                   \
+            assert(!(is_given));                                 \
+    } while (0)
+static void loops_over_two(void) {
+    for (size_t length = 0; length < 520; length += length % 64 < 2 ? 1 : 31)
+        for (size_t other_length = 0; other_length < 520; other_length += other_length % 64 < 2 ? 1 : 31) {
+            bits set = bits_new(length), other = bits_new(other_length);
+            for (size_t p = 0; p < 520; p++) {
+                assert(bits_set(&set, p, p * p % 7 < 3) == (p < length));
+                assert(bits_set(&other, p, p % 3 != 1) == (p < other_length));
+            }
+            IS_EACH(BITS_FOR_EACH(p, &set), bits_contains(&set, at));
+            IS_EACH(BITS_FOR_EACH_ZERO(p, &set), at < length && !bits_contains(&set, at));
+            IS_EACH(BITS_FOR_EACH_FROM(p, &set, other_length), at >= other_length && bits_contains(&set, at));
+            IS_EACH(BITS_FOR_EACH_INTERSECTION(p, &set, &other), bits_contains(&set, at) && bits_contains(&other, at));
+            IS_EACH(BITS_FOR_EACH_DIFFERENCE(p, &set, &other), bits_contains(&set, at) && !bits_contains(&other, at));
+            IS_EACH(BITS_FOR_EACH_UNION(p, &set, &other), bits_contains(&set, at) || bits_contains(&other, at));
+            IS_EACH(BITS_FOR_EACH_SYMMETRIC_DIFFERENCE(p, &set, &other), bits_contains(&set, at) != bits_contains(&other, at));
+            size_t at = 520;
+            BITS_FOR_EACH_BACK(p, &set) {
+                while (--at > p)
+                    assert(!bits_contains(&set, at));
+                assert(at == p && bits_contains(&set, at));
+            }
+            assert(bits_count_ones(&set, 0, at < length ? at : length) == 0);
+            bits_free(&set);
+            bits_free(&other);
+        }
+}
+
+static void tables(void) {
+    bits_rows table = bits_rows_new(3, 300), none = bits_rows_new(0, 70), wide = bits_rows_new(5, 0);
+    bits_rows refused = bits_rows_new(SIZE_MAX / 4, 70), more = bits_rows_new(SIZE_MAX, SIZE_MAX);
+    assert(table.words && table.count == 24 && table.rows == 3 && table.columns == 300 && !bits_rows_get(&table, 2, 299));
+    assert(none.words && !none.count && !none.rows && wide.words && !wide.count && wide.rows == 5);
+    assert(!refused.words && !refused.rows && !refused.count && !more.words && !more.rows && !more.count);
+    bits row = bits_rows_row(&table, 1), empty = bits_rows_row(&wide, 4);
+    assert(row.words == table.words + 8 && row.count == 8 && row.length == 300 && !empty.count && !empty.length);
+    assert(bits_insert(&row, 299) && bits_rows_get(&table, 1, 299) && !bits_rows_get(&table, 0, 299));
+    BITS_FOR_EACH(p, &row) assert(p == 299);
+#if BITS_CHECK + 0 < 2
+    row = bits_rows_row(&table, 3);
+    assert(!row.words && !row.count && !row.length);
+#endif
+    bits_rows_free(&table);
+    bits_rows_free(&table);
+    bits_rows_free(&none);
+    bits_rows_free(&wide);
+    bits_rows_free(&refused);
+    bits_rows_free(&more);
+    assert(!table.words && !table.count && !table.rows);
 }
 
 static void new_sets(void) {
@@ -144,6 +214,8 @@ int main(void) {
     structs();
     nothing();
     loops();
+    loops_over_two();
+    tables();
     new_sets();
     nulls();
     return 0;
