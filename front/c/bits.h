@@ -119,8 +119,8 @@ typedef struct bits_sieve {
     size_t other_count;
 } bits_sieve;
 
-/* Two walks in turn. Make it BITS_PAIR, and begin it by bits_union_iter or bits_symmetric_difference_iter. Until its last call neither
- * set may change. */
+/* Two walks in turn. Make it BITS_PAIR, and begin it by bits_union_iter or bits_symmetric_difference_iter. Until its last call
+ * neither set may change. */
 typedef struct bits_pair {
     bits_sieve first;
     bits_sieve second;
@@ -161,12 +161,16 @@ typedef struct bits_ranks {
 
 #ifdef __cplusplus
 #define BITS_VALUE(type, ...) (type{__VA_ARGS__})
+#define BITS_CAST(type, value) static_cast<type>(value)
+#define BITS_RECAST(type, value) reinterpret_cast<type>(value)
 #else
 #define BITS_VALUE(type, ...) ((type){__VA_ARGS__})
+#define BITS_CAST(type, value) ((type)(value))
+#define BITS_RECAST(type, value) ((type)(value))
 #endif
 
 /* How many words a set of length n has: bits_words(n), as a constant where n is one. So it is the size of an array. */
-#define BITS_WORDS(n) (((size_t)(n) / 256 + ((size_t)(n) % 256 != 0)) * 4)
+#define BITS_WORDS(n) ((BITS_CAST(size_t, n) / 256 + (BITS_CAST(size_t, n) % 256 != 0)) * 4)
 
 /* What a set of length n with these words begins with, where n is a constant. The words are BITS_WORDS(n):
  *     static uint64_t words[BITS_WORDS(1000)];
@@ -186,13 +190,13 @@ typedef struct bits_ranks {
 #define BITS_ROWS_OF(w, r, n) BITS_NAME(bits_rows_of)((w), (r), (n))
 
 /* Walks over no words. */
-#define BITS_WALK BITS_VALUE(BITS_NAME(bits_walk), 0, 0, 0, 0, (const uint64_t *)8, 0)
-#define BITS_RUNS BITS_VALUE(BITS_NAME(bits_run_walk), false, 0, 0, 0, (const uint64_t *)8, 0)
-#define BITS_SIEVE BITS_VALUE(BITS_NAME(bits_sieve), BITS_WALK, (const uint64_t *)8, 0)
+#define BITS_WALK BITS_VALUE(BITS_NAME(bits_walk), 0, 0, 0, 0, BITS_RECAST(const uint64_t *, 8), 0)
+#define BITS_RUNS BITS_VALUE(BITS_NAME(bits_run_walk), false, 0, 0, 0, BITS_RECAST(const uint64_t *, 8), 0)
+#define BITS_SIEVE BITS_VALUE(BITS_NAME(bits_sieve), BITS_WALK, BITS_RECAST(const uint64_t *, 8), 0)
 #define BITS_PAIR BITS_VALUE(BITS_NAME(bits_pair), BITS_SIEVE, BITS_SIEVE)
 
 /* Ranks of no set. */
-#define BITS_RANKS BITS_VALUE(BITS_NAME(bits_ranks), (const uint64_t *)8, 0, 0, (const size_t *)8, 0)
+#define BITS_RANKS BITS_VALUE(BITS_NAME(bits_ranks), BITS_RECAST(const uint64_t *, 8), 0, 0, BITS_RECAST(const size_t *, 8), 0)
 
 /* No position: what bits_minimum, bits_maximum and their kin answer where there is none. */
 #define BITS_NONE SIZE_MAX
@@ -208,11 +212,12 @@ typedef struct bits_ranks {
 
 /* The same over two sets, of any two lengths, in ascending order: over the positions of both, those of the first that the
  * second lacks, those of either, and those of exactly one. */
-#define BITS_FOR_EACH_INTERSECTION(p, set, other) BITS_LOOP(p, BITS_NAME(bits_each_of_two)((set), (other), BITS_INTERSECTION), next)
-#define BITS_FOR_EACH_DIFFERENCE(p, set, other) BITS_LOOP(p, BITS_NAME(bits_each_of_two)((set), (other), BITS_DIFFERENCE), next)
-#define BITS_FOR_EACH_UNION(p, set, other) BITS_LOOP(p, BITS_NAME(bits_each_of_two)((set), (other), BITS_UNION), next)
-#define BITS_FOR_EACH_SYMMETRIC_DIFFERENCE(p, set, other) BITS_LOOP(p, BITS_NAME(bits_each_of_two)((set), (other), BITS_SYMMETRIC_DIFFERENCE), next)
+#define BITS_FOR_EACH_INTERSECTION(p, set, other) BITS_LOOP_OF_TWO(p, set, other, BITS_INTERSECTION)
+#define BITS_FOR_EACH_DIFFERENCE(p, set, other) BITS_LOOP_OF_TWO(p, set, other, BITS_DIFFERENCE)
+#define BITS_FOR_EACH_UNION(p, set, other) BITS_LOOP_OF_TWO(p, set, other, BITS_UNION)
+#define BITS_FOR_EACH_SYMMETRIC_DIFFERENCE(p, set, other) BITS_LOOP_OF_TWO(p, set, other, BITS_SYMMETRIC_DIFFERENCE)
 
+#define BITS_LOOP_OF_TWO(p, set, other, kind) BITS_LOOP(p, BITS_NAME(bits_each_of_two)((set), (other), (kind)), next)
 #define BITS_LOOP(p, begin, step)                                                                                     \
     for (BITS_NAME(bits_loop) fixedbitset_loop_##p = begin, *fixedbitset_once_##p = &fixedbitset_loop_##p;            \
          fixedbitset_once_##p; fixedbitset_once_##p = NULL)                                                           \
@@ -247,7 +252,7 @@ static inline bits_view bits_view_of(const uint64_t *words, size_t length) {
 
 /* The view as the calls take it that change nothing: they write no word of it. */
 static inline const bits *bits_of_view(const bits_view *view) {
-    return (const bits *)view;
+    return BITS_RECAST(const bits *, view);
 }
 
 /* A new set of this length without a position; bits_free gives its words back. Where memory is refused it has no words, which
@@ -255,7 +260,7 @@ static inline const bits *bits_of_view(const bits_view *view) {
  * looks at. */
 static inline bits bits_new(size_t length) {
     const size_t count = BITS_WORDS(length);
-    uint64_t *words = (uint64_t *)BITS_CALLOC(count ? count : 4, sizeof(uint64_t));
+    uint64_t *words = BITS_CAST(uint64_t *, BITS_CALLOC(count ? count : 4, sizeof(uint64_t)));
     return bits_of(words, words ? length : 0);
 }
 
@@ -271,10 +276,11 @@ static inline void bits_free(bits *set) {
 static inline uint64_t fixedbitset_loop_word(const bits_loop *loop) {
     const size_t at = loop->first / 64;
     const uint64_t one = loop->kind < BITS_UNION || at < loop->set->count ? loop->set->words[at] : 0;
-    const uint64_t other = loop->kind > BITS_ZEROES && (loop->kind == BITS_INTERSECTION || at < loop->other->count) ? loop->other->words[at] : 0;
+    const uint64_t other =
+        loop->kind > BITS_ZEROES && (loop->kind == BITS_INTERSECTION || at < loop->other->count) ? loop->other->words[at] : 0;
     switch (loop->kind) {
     case BITS_ONES: return one;
-    case BITS_ZEROES: return loop->end - loop->first < 64 ? ~one & (((uint64_t)1 << loop->end % 64) - 1) : ~one;
+    case BITS_ZEROES: return loop->end - loop->first < 64 ? ~one & ((UINT64_C(1) << loop->end % 64) - 1) : ~one;
     case BITS_INTERSECTION: return one & other;
     case BITS_DIFFERENCE: return one & ~other;
     case BITS_UNION: return one | other;
@@ -290,21 +296,22 @@ static inline bool fixedbitset_loop_next(bits_loop *loop, size_t *position) {
             return false;
         loop->left = fixedbitset_loop_word(loop);
     }
-    *position = loop->first + (unsigned)__builtin_ctzll(loop->left);
+    *position = loop->first + BITS_CAST(unsigned, __builtin_ctzll(loop->left));
     loop->left &= loop->left - 1;
     return true;
 }
 
 static inline bool fixedbitset_loop_next_back(bits_loop *loop, size_t *position) {
+    unsigned bit;
     while (!loop->left) {
         if (loop->first == 0)
             return false;
         loop->first -= 64;
         loop->left = fixedbitset_loop_word(loop);
     }
-    const unsigned bit = 63 ^ (unsigned)__builtin_clzll(loop->left);
+    bit = 63 ^ BITS_CAST(unsigned, __builtin_clzll(loop->left));
     *position = loop->first + bit;
-    loop->left ^= (uint64_t)1 << bit;
+    loop->left ^= UINT64_C(1) << bit;
     return true;
 }
 
@@ -672,7 +679,7 @@ static inline bits_rows bits_rows_of(uint64_t *words, size_t rows, size_t column
  * words, which are NULL, and no rows, and so has a table that no memory holds. */
 static inline bits_rows bits_rows_new(size_t rows, size_t columns) {
     const size_t count = bits_rows_words(rows, columns);
-    uint64_t *words = count == BITS_NONE ? NULL : (uint64_t *)BITS_CALLOC(count ? count : 4, sizeof(uint64_t));
+    uint64_t *words = count == BITS_NONE ? NULL : BITS_CAST(uint64_t *, BITS_CALLOC(count ? count : 4, sizeof(uint64_t)));
     return bits_rows_of(words, words ? rows : 0, columns);
 }
 

@@ -73,7 +73,7 @@ __attribute__((__noreturn__, __cold__, __format__(__printf__, 2, 3))) static inl
 static inline void fixedbitset_ask_place(fixedbitset_place here, const char *who, const void *place, size_t size) {
     if (!place)
         fixedbitset_stop(here, "`%s` is NULL", who);
-    if ((uintptr_t)place % BITS_ASK_ALIGNMENT(size))
+    if (BITS_RECAST(uintptr_t, place) % BITS_ASK_ALIGNMENT(size))
         fixedbitset_stop(here, "`%s` is not aligned to %zu bytes", who, BITS_ASK_ALIGNMENT(size));
 }
 
@@ -81,7 +81,8 @@ static inline void fixedbitset_ask_place(fixedbitset_place here, const char *who
 static inline void fixedbitset_ask_memory(fixedbitset_place here, const char *who, const void *values, size_t count,
                                           size_t size) {
 #ifdef BITS_ASK_MEMORY
-    if (count && (count > SIZE_MAX / size || __asan_region_is_poisoned((void *)(uintptr_t)values, count * size)))
+    void *const begin = BITS_RECAST(void *, BITS_RECAST(uintptr_t, values));
+    if (count && (count > SIZE_MAX / size || __asan_region_is_poisoned(begin, count * size)))
         fixedbitset_stop(here, "`%s` has %zu values of %zu bytes in memory that is not the program's, or is freed", who, count,
                          size);
 #else
@@ -93,7 +94,7 @@ static inline void fixedbitset_ask_memory(fixedbitset_place here, const char *wh
 static inline void fixedbitset_ask_array(fixedbitset_place here, const char *who, const void *values, size_t count, size_t size) {
     if (!values && count)
         fixedbitset_stop(here, "`%s` is NULL, and there are to be %zu", who, count);
-    if ((uintptr_t)values % BITS_ASK_ALIGNMENT(size))
+    if (BITS_RECAST(uintptr_t, values) % BITS_ASK_ALIGNMENT(size))
         fixedbitset_stop(here, "`%s` is not aligned to %zu bytes", who, BITS_ASK_ALIGNMENT(size));
     fixedbitset_ask_memory(here, who, values, count, size);
 }
@@ -102,7 +103,7 @@ static inline void fixedbitset_ask_array(fixedbitset_place here, const char *who
 static inline void fixedbitset_ask_words(fixedbitset_place here, const char *who, const uint64_t *words, size_t count) {
     if (!words && count)
         fixedbitset_stop(here, "`%s` has NULL for words, and says that it has %zu", who, count);
-    if ((uintptr_t)words % sizeof(size_t))
+    if (BITS_RECAST(uintptr_t, words) % sizeof(size_t))
         fixedbitset_stop(here, "`%s` has words that are not aligned to %zu bytes", who, sizeof(size_t));
     fixedbitset_ask_memory(here, who, words, count, sizeof *words);
 }
@@ -136,7 +137,7 @@ static inline void fixedbitset_ask_room(fixedbitset_place here, const char *who,
 /* What is written, `wide` bytes from `written` on, overlaps nothing of what is read. */
 static inline void fixedbitset_ask_apart(fixedbitset_place here, const char *who, const void *written, size_t wide,
                                          const void *read, size_t size) {
-    const uintptr_t first = (uintptr_t)written, second = (uintptr_t)read;
+    const uintptr_t first = BITS_RECAST(uintptr_t, written), second = BITS_RECAST(uintptr_t, read);
     if (wide && size && first < second + size && second < first + wide)
         fixedbitset_stop(here, "`%s` overlaps what the call writes", who);
 }
@@ -156,10 +157,9 @@ static inline void fixedbitset_ask_ranks(fixedbitset_place here, const bits_rank
 
 static inline void fixedbitset_ask_rows(fixedbitset_place here, const bits_rows *rows) {
     fixedbitset_ask_place(here, "rows", rows, sizeof *rows);
-    const size_t count = bits_rows_words(rows->rows, rows->columns);
-    if (rows->count != count)
+    if (rows->count != bits_rows_words(rows->rows, rows->columns))
         fixedbitset_stop(here, "`rows` has %zu words, and bits_rows_words(%zu, %zu) is %zu", rows->count, rows->rows,
-                         rows->columns, count);
+                         rows->columns, bits_rows_words(rows->rows, rows->columns));
     fixedbitset_ask_words(here, "rows", rows->words, rows->count);
 }
 
@@ -264,8 +264,9 @@ static inline void fixedbitset_ask_done(fixedbitset_place here, bool is_done) {
 #define BITS_TESTED_DONE_BY(result, done, name, parameters, arguments, tests)                           \
     BITS_TESTED_ADDRESS(result, name, parameters, arguments)                                            \
     BITS_NODISCARD static inline result BITS_TESTED_NAME(name)(BITS_TESTED_THESE parameters, BITS_TESTED_AT) { \
+        result answer;                                                                                  \
         BITS_TESTED_HERE(name)                                                                          \
-        tests const result answer = BITS_UNTESTED(name) arguments;                                      \
+        tests answer = BITS_UNTESTED(name) arguments;                                                   \
         fixedbitset_ask_done(here, answer == done);                                                     \
         return answer;                                                                                  \
     }

@@ -57,9 +57,10 @@ static inline void bits_own_free(bits_own *own) {
 /* Sees to it that the set can be of this length without any more memory, and answers whether it can. The length stays. */
 BITS_NODISCARD static inline bool bits_own_reserve(bits_own *own, size_t length) {
     const size_t count = BITS_WORDS(length);
+    uint64_t *words;
     if (count <= own->room)
         return true;
-    uint64_t *words = (uint64_t *)BITS_REALLOC(own->set.words, count * sizeof(uint64_t));
+    words = BITS_CAST(uint64_t *, BITS_REALLOC(own->set.words, count * sizeof(uint64_t)));
     if (!words)
         return false;
     own->set.words = words;
@@ -81,11 +82,13 @@ BITS_NODISCARD static inline bool bits_own_resize(bits_own *own, size_t length) 
 /* Makes the set at least this long, and answers whether memory was there. Where it takes memory it takes room for half as
  * many words again, if these are to be had. So to grow by one position many times copies each word few times. */
 BITS_NODISCARD static inline bool bits_own_grow(bits_own *own, size_t length) {
+    const size_t half_more = own->set.length + own->set.length / 2;
+    const bool has_room = BITS_WORDS(length) <= own->room;
     if (length <= own->set.length)
         return true;
-    const size_t half_more = own->set.length + own->set.length / 2;
-    const bool has_room = BITS_WORDS(length) <= own->room || (length < half_more && bits_own_reserve(own, half_more));
-    return (has_room || bits_own_reserve(own, length)) && bits_own_resize(own, length);
+    if (!has_room && !(length < half_more && bits_own_reserve(own, half_more)) && !bits_own_reserve(own, length))
+        return false;
+    return bits_own_resize(own, length);
 }
 
 /* Sets the position, and makes the set long enough for it. It answers whether memory was there; of SIZE_MAX, which no set has,
@@ -121,7 +124,7 @@ static inline void fixedbitset_text_put_number(char *text, size_t room, size_t *
     char digits[20];
     size_t count = 0;
     do
-        digits[count++] = (char)('0' + number % 10);
+        digits[count++] = BITS_CAST(char, '0' + number % 10);
     while (number /= 10);
     while (count)
         fixedbitset_text_put(text, room, at, digits[--count]);
@@ -154,7 +157,7 @@ static inline bool fixedbitset_text_number(const char *text, size_t size, size_t
     size_t behind = *at;
     *number = 0;
     for (; behind < size && text[behind] >= '0' && text[behind] <= '9'; behind++) {
-        const size_t digit = (size_t)(text[behind] - '0');
+        const size_t digit = BITS_CAST(size_t, text[behind] - '0');
         if (*number > (SIZE_MAX - digit) / 10)
             return false;
         *number = *number * 10 + digit;
@@ -168,9 +171,10 @@ static inline bool fixedbitset_text_number(const char *text, size_t size, size_t
 /* Reads one stretch at `*at` and the comma behind it, where one is, and answers whether it could. Then `*at` is where the next
  * one stands, or `size`, and else where the fault is. */
 static inline bool fixedbitset_text_stretch(const char *text, size_t size, size_t *at, size_t length, size_t *start, size_t *end) {
+    size_t last;
     if (!fixedbitset_text_number(text, size, at, length, start))
         return false;
-    size_t last = *start;
+    last = *start;
     if (*at < size && text[*at] == '-') {
         const size_t behind = *at + 1;
         size_t second = behind;
