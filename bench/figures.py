@@ -33,6 +33,23 @@ KINDS = [
     ("`hash`, text", r"hash|to_string"),
     ("single positions, `clear`", r""),
 ]
+# The calls that upstream does not have: there its side is a loop of front/bench/theirs.rs.
+BEYOND = re.compile(
+    r"append|close|first_gap|first_lacking|load|next_one|ones_in|rank|remove_all|runs|select|shift_|slice|store"
+    r"|\w+_of\b(?! )|union_rows|\w+_with_(?:change|difference|shifted|own_shift)")
+# The kinds of upstream's own calls, in the order of use.
+KINDS_IN_USE = [
+    ("insert, contains, remove, set, toggle", r"(insert|contains|remove|set|toggle|put|grow_and_insert)$"),
+    ("iterate: ones, zeroes, into_ones", r"ones|zeroes|into_ones"),
+    ("count_ones, count_zeroes", r"count_"),
+    ("a range: insert_range and others; clear", r"\w+_range\b|contains_a|clear"),
+    ("in place: union_with and others", r"\w+_with\b"),
+    ("count two sets: union_count and others", r"\w+_count\b"),
+    ("==, cmp, is_subset, minimum, hash", r"==|cmp|is_|minimum|maximum|hash"),
+    ("iterate over two: union and others", r"(union|intersection|difference|symmetric_difference)\b"),
+    ("an iterator's count()", r"count of"),
+    ("new, clone, grow, collect, bitor, text", r"with_capacity|clone|grow by|extend|from_iter|bit|to_string"),
+]
 KINDS_OF_LINES = [
     ("`text`, `as_slice`", r"text|as_slice"),
     ("`to_value`", r"to_value"),
@@ -80,6 +97,11 @@ def ratios_of_calls():
 def ratios_of_lines():
     """The ratios of the program to the lean one."""
     return [Ratio("", it["call"], int(it["lines"]), rounded(it["bits_program"], it["lean"])) for it in rows(LINES)]
+
+
+def is_beyond(call):
+    """Whether upstream has no such call."""
+    return bool(BEYOND.match(call))
 
 
 def kind_of(call, kinds):
