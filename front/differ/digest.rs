@@ -3,7 +3,7 @@
 //! usage: digest STEPS START    For wasm32 it is a library with the one call `digest`.
 //!
 //! With `--cfg counting` the crate is one whose `Steps` counts, as front/wrong_translations makes it, and the number is also one
-//! of the lanes and words that each call went over.
+//! of the lanes and words that each call went over, and of the calls of counted.rs.
 #![allow(dead_code)]
 
 mod erased_side {
@@ -15,10 +15,13 @@ mod erased_side {
 const STEPS_OF_ONE: u32 = 20_000;
 
 #[cfg(counting)]
+extern "C" {
+    static TAKEN: std::sync::atomic::AtomicU64;
+    fn counted(calls: u32, start: u64) -> u64;
+}
+
+#[cfg(counting)]
 fn taken() -> u64 {
-    extern "C" {
-        static TAKEN: std::sync::atomic::AtomicU64;
-    }
     // SAFETY: the crate has it, and nothing changes it but by its own calls.
     unsafe { TAKEN.load(std::sync::atomic::Ordering::Relaxed) }
 }
@@ -49,5 +52,8 @@ fn main() {
     let (Some(Ok(steps)), Some(Ok(start))) = (numbers.next(), numbers.next()) else {
         panic!("usage: digest STEPS START");
     };
+    // SAFETY: the crate has it, and it asks nothing of its caller.
+    #[cfg(counting)]
+    println!("{:016x} {:016x}", unsafe { counted(steps, start as u64) }, taken());
     println!("{:016x}", digest(steps, start));
 }
