@@ -35,8 +35,6 @@ export interface FixedBitSet extends Iterable<number>, Disposable {
 
   /** Whether the position is in the set: false past the length. */
   contains(position: number): boolean;
-  /** The same of each position, in fewer calls into the module. */
-  contains_each(positions: Iterable<number>): boolean[];
   insert(position: number): void;
   remove(position: number): void;
   toggle(position: number): void;
@@ -45,9 +43,6 @@ export interface FixedBitSet extends Iterable<number>, Disposable {
   put(position: number): boolean;
   /** Removes the position, and answers whether it was there. */
   take(position: number): boolean;
-  /** Where one of the positions is a RangeError, the set is as it was. */
-  insert_all(positions: Iterable<number>): void;
-  remove_all(positions: Iterable<number>): void;
   /** Removes all positions. */
   clear(): void;
 

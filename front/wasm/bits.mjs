@@ -3,7 +3,7 @@
 
 import { Room, bytesOf } from "./room.mjs";
 
-// The bytes of a set's struct, before its words, of a walk, and of ranks; and how many positions go into the module at once.
+// The bytes of a set's struct, before its words, of a walk, and of ranks; and how many positions a walk gives at once.
 const HEAD = 32, WALK = 64, RANKS = 64, HANDFUL = 512;
 
 /** The class of the sets in a new instance of the module, whose bytes are given, or a Response with them. */
@@ -12,8 +12,8 @@ export async function load(source) {
   const { instance } = await WebAssembly.instantiate(await (given.arrayBuffer?.() ?? given));
   const room = new Room(instance.exports), { calls } = room, word = (number) => room.word(number);
   const left = new FinalizationRegistry((block) => room.give(block));
-  const empty = word(room.take(HEAD).start), scratch = room.take(WALK + 9 * HANDFUL).start, walk = word(scratch);
-  const places = scratch + WALK, answers = places + 8 * HANDFUL;
+  const empty = word(room.take(HEAD).start), scratch = room.take(WALK + 8 * HANDFUL + 8).start, walk = word(scratch);
+  const places = scratch + WALK, flag = places + 8 * HANDFUL;
   room.words(scratch + (room.isWide ? 32 : 24), 1)[0] = word(8); // (BITS_WALK of bits.h)
   const noRanks = [8, 0, 0, 8, 0].map(word), unranked = room.take(RANKS).start; // (BITS_RANKS)
   room.words(unranked, noRanks.length).set(noRanks);
@@ -21,14 +21,6 @@ export async function load(source) {
   function found(answer) {
     const number = Number(answer);
     return number === -1 ? undefined : number < 0 ? number + 2 ** 32 : number;
-  }
-  /** Calls with positions that are given as words, a handful at a time: with their place, and with how many they are. */
-  function byHandfuls(words, call) {
-    for (let from = 0; from < words.length; from += HANDFUL) {
-      const some = words.slice(from, from + HANDFUL);
-      room.words(places, some.length).set(some);
-      call(word(places), word(some.length));
-    }
   }
   const disposable = ({ prototype }) => Symbol.dispose && (prototype[Symbol.dispose] = prototype.free);
 
@@ -106,11 +98,6 @@ export async function load(source) {
         yield [start, (end = this[past](start) ?? this.#length)];
       }
     }
-    /** Gives a call all of the positions, or none where one is wrong. */
-    #all(call, positions) {
-      const words = [...positions].map((it) => this.#within(it));
-      byHandfuls(words, (start, count) => calls[call](this.#at, start, count));
-    }
 
     get length() { return this.#length; }
     grow(length) { if (length > this.#length) this.#move(length); }
@@ -139,18 +126,8 @@ export async function load(source) {
       return `FixedBitSet(${this.#length}) {${words.map((it) => ` ${it}`)}${words.length ? " " : ""}}`;
     }
     contains(position) { return Boolean(calls.contains(this.#at, word(position))); }
-    contains_each(positions) {
-      const all = [];
-      byHandfuls(Array.from(positions, word), (start, count) => {
-        calls.contains_each(this.#at, start, count, word(answers), count);
-        for (const it of room.bytes(answers, Number(count))) all.push(it === 1);
-      });
-      return all;
-    }
     insert(position) { calls.insert(this.#at, this.#within(position)); }
     remove(position) { calls.remove(this.#at, this.#within(position)); }
-    insert_all(positions) { this.#all("insert_all", positions); }
-    remove_all(positions) { this.#all("remove_all", positions); }
     set(position, enabled) { calls.set(this.#at, this.#within(position), Boolean(enabled)); }
     next_common(other, from) { return found(calls.next_common(this.#at, this.#ours(other).#at, room.sought(from))); }
     equals(other) { return Boolean(calls.equal(this.#at, this.#ours(other).#at)); }
@@ -189,7 +166,7 @@ export async function load(source) {
       const beside = (set, other) => [(set === other ? set.clone() : set.#ours(other)).#at];
       const grown = (set, other) => set.#ours(other) && (set.grow(other.#length), beside(set, other));
       // (Where these calls write whether the set changed.)
-      const change = word(answers), changed = () => room.bytes(answers, 1)[0] === 1;
+      const change = word(flag), changed = () => room.bytes(flag, 1)[0] === 1;
 
       disposable(this);
       each(nothing, "clear", none);
