@@ -256,7 +256,8 @@ function same({ fast, slow }) {
 async function strangers(set) {
   const Other = await load(readFile(module)), names = joins.flatMap(([made, changed]) => [made, `${made}_count`, changed]);
   names.push("union_with_change", "intersect_with_change", "difference_with_change", "union_with_shifted", "copy_range");
-  names.push("next_common", "first_lacking", "is_disjoint", "is_subset", "is_superset", "equals", "compare", "union_with_difference");
+  names.push("next_common", "first_lacking", "is_disjoint", "is_subset", "is_superset", "equals", "compare");
+  names.push("union_with_difference");
   const wrong = { name: "TypeError", message: /^the other is no FixedBitSet of this module: new FixedBitSet/ };
   for (const it of [new Other(3), new Set([1]), [1], 1, null, undefined]) {
     for (const name of names) assert.throws(() => set[name](it, 0, 0, 0), wrong, name);
@@ -276,6 +277,13 @@ async function others() {
   }
   assert.deepEqual(seen, [...Array(600).keys(), ...Array.from({ length: 2 * 512 - 600 }, (_, it) => 2000 + it)]);
   assert.equal(set.length, 0);
+  const other = new FixedBitSet(100, [1, 2, 50]), runs = [];
+  for (const run of other.runs()) {
+    runs.push(run);
+    if (run[0] === 1) other.insert_range(60, 100);
+    if (run[0] === 60) other.free();
+  }
+  assert.deepEqual(runs, [[1, 3], [50, 51], [60, 100]]);
   for (const it of [-1, 0.5, NaN, 2 ** 53, "1", undefined]) {
     for (const name of ["contains", "shift_up", "nth_one", "first_gap"]) refused(() => set[name](it));
   }
