@@ -1,6 +1,9 @@
 /// <reference lib="esnext.disposable" />
 
-/** A set of positions below a length. A position or range that is not below it is a RangeError, where nothing else is said. */
+/**
+ * A set of positions below a length. A position or range that is not below it is a RangeError, where nothing else is said.
+ * Node's console.log shows the length, and the positions up to its maxArrayLength: FixedBitSet(10) { 0, 2, 4 }.
+ */
 export interface FixedBitSet extends Iterable<number>, Disposable {
   /** How many positions there may be. */
   readonly length: number;
