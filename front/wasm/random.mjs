@@ -345,7 +345,7 @@ async function grown() {
     times++;
     if (more > most) throw new RangeError("too much");
   });
-  const fill = () => { for (let turn = 0; turn < 20_000; turn++) kept.push(new Own(1000)); };
+  const fill = () => { for (let turn = 0; turn < 10_000; turn++) kept.push(new Own(2000)); };
   fill();
   assert(times > 1 && times < 10, `the memory grew ${times} times`);
   most = 1;
@@ -370,7 +370,7 @@ async function run(from, to) {
     try {
       const set = some();
       kinds[below(kinds.length)](set);
-      if (below(3) === 0) more[below(more.length)](set);
+      if (below(4) === 0) more[below(more.length)](set);
       sets.forEach(same);
     } catch (fault) {
       fault.message = `step ${step} of ${start}: ${fault.message}`;
