@@ -12,6 +12,7 @@
 #include <errno.h>
 #include <fcntl.h>
 #include <stddef.h>
+#include <stdio.h>
 #include <stdlib.h>
 #include <unistd.h>
 
@@ -25,9 +26,7 @@ static unsigned long at, from, requests, refused;
 
 static unsigned long number_of(const char *name) {
   const char *text = getenv(name);
-  unsigned long number = 0;
-  for (; text != NULL && *text >= '0' && *text <= '9'; text++) number = 10 * number + (unsigned long)(*text - '0');
-  return number;
+  return text == NULL ? 0 : strtoul(text, NULL, 10);
 }
 
 __attribute__((constructor)) static void begin(void) {
@@ -61,23 +60,12 @@ int posix_memalign(void **block, size_t alignment, size_t size) {
   return 0;
 }
 
-/* Puts the number and a byte behind it into the text, and answers where the text goes on. */
-static char *put_number(char *text, unsigned long number, char behind) {
-  char digits[20];
-  int count = 0;
-  do digits[count++] = (char)('0' + number % 10);
-  while (number /= 10);
-  while (count > 0) *text++ = digits[--count];
-  *text++ = behind;
-  return text;
-}
-
 __attribute__((destructor)) static void end(void) {
   const char *file = getenv("REFUSE_REPORT");
-  char text[2 * 21];
-  char *behind = put_number(put_number(text, requests, ' '), refused, '\n');
+  char text[2 * 21 + 1];
+  int length = snprintf(text, sizeof text, "%lu %lu\n", requests, refused);
   int target = file == NULL ? -1 : open(file, O_WRONLY | O_CREAT | O_TRUNC, 0666);
   if (target < 0) return;
-  if (write(target, text, (size_t)(behind - text)) < 0) _exit(125);
+  if (write(target, text, (size_t)length) < 0) _exit(125);
   close(target);
 }
