@@ -59,7 +59,7 @@ class Plan:
 
     def first(self):
         """What needs no proof, the quickest first."""
-        script = ("bits", "use", "tools/launch", "tools/calls.py", "README.md", "HANDLES", "crates.txt", PROGRAM)
+        script = ("bits", "use", "tools/launch", "tools/calls.py", "README.md", "crates.txt", PROGRAM)
         programs = (".ci", "bits", "use", "test", "tools", "front", "bench")
         calls = (*programs, "tests/libraries.txt", "crates.txt", "README.md", "CONTRIBUTING.md")
         return [
