@@ -1,0 +1,1 @@
+/* (Version 16 has moved these macros out of postgres.h.) */
