@@ -34,22 +34,15 @@ FUNCTION(bitset_from_positions) {
 CHANGE(bitset_insert_all, change_each(fcinfo, 1, &changed, bits_insert))
 CHANGE(bitset_remove_all, change_each(fcinfo, 1, &changed, bits_remove))
 
-/* Whether a set has each position of an array. It has no null. */
-static bool has_each(const bits *set, ArrayType *array) {
-    const int64 *positions = (const int64 *)ARR_DATA_PTR(array);
-    int count = ArrayGetNItems(ARR_NDIM(array), ARR_DIMS(array)), k = 0;
-    if (array_contains_nulls(array))
-        return false;
-    while (k < count && bits_contains(set, positions[k]))
-        k++;
-    return k == count;
-}
-
-/* The set is argument n, and the array the other one. */
+/* Whether a set has each position of an array, and no null: the set is argument n, and the array the other one. */
 static Datum contains_each(FunctionCallInfo fcinfo, int n) {
     READ(set, n);
     ArrayType *array = PG_GETARG_ARRAYTYPE_P(1 - n);
-    bool answer = has_each(set, array);
+    const int64 *positions = (const int64 *)ARR_DATA_PTR(array);
+    int left = ArrayGetNItems(ARR_NDIM(array), ARR_DIMS(array));
+    bool answer = !array_contains_nulls(array);
+    while (answer && left > 0)
+        answer = bits_contains(set, positions[--left]);
     PG_FREE_IF_COPY(array, 1 - n);
     PG_RETURN_BOOL(answer);
 }

@@ -26,8 +26,12 @@ enum { MOST_OF_CONSTANT = 100000 };
  * where these are at most so many for each row of the table: then it takes less time than all rows. */
 enum { MOST_LOOKUPS = 4 };
 
-/* An operand's value, where it can be known. A subquery of an expression alone, as policies have them, is that expression. */
-static Node *value_of(PlannerInfo *root, Node *operand) {
+#define ROOT ((PlannerInfo *)PG_GETARG_POINTER(0))
+#define OPERANDS ((List *)PG_GETARG_POINTER(2))
+
+/* An operand's value, or NULL where it is not known, or null. A subquery of an expression alone, as policies have them, is that
+ * expression. */
+static const Const *value_of(PlannerInfo *root, Node *operand) {
     ListCell *cell;
     foreach (cell, IsA(operand, Param) ? root->init_plans : NIL) {
         SubPlan *subplan = lfirst_node(SubPlan, cell);
@@ -35,12 +39,13 @@ static Node *value_of(PlannerInfo *root, Node *operand) {
         if (list_member_int(subplan->setParam, ((Param *)operand)->paramid) && IsA(plan, Result) && plan->lefttree == NULL)
             operand = (Node *)linitial_node(TargetEntry, plan->targetlist)->expr;
     }
-    return estimate_expression_value(root, operand);
+    operand = estimate_expression_value(root, operand);
+    return IsA(operand, Const) && !((Const *)operand)->constisnull ? (Const *)operand : NULL;
 }
 
-/* Whether an operand is a constant set. A position is passed by value. */
-static bool is_set(const Const *operand) {
-    return IsA(operand, Const) && !operand->constisnull && !operand->constbyval && operand->consttype != INT8ARRAYOID;
+/* Whether a value is a set. A position is passed by value. */
+static bool is_set(const Const *value) {
+    return value && !value->constbyval && value->consttype != INT8ARRAYOID;
 }
 
 /* How many positions a constant set has. */
@@ -54,20 +59,18 @@ static size_t count_of(const Const *constant) {
 
 /* How many positions a constant range has: one that is not known, or has no end, as many as the longest set. */
 static double width_of(const Const *constant) {
-    Span span = {0, MAX_LENGTH};
-    if (IsA(constant, Const) && !constant->constisnull)
-        span = span_of(constant->constvalue, MAX_LENGTH);
+    Span span = constant ? span_of(constant->constvalue, MAX_LENGTH) : (Span){0, MAX_LENGTH};
     return (double)span.end - (double)span.start;
 }
 
 /* An operand as PostgreSQL's estimate takes it: a constant as an array of its positions, and all else as if it were one. */
 static Node *as_array(PlannerInfo *root, Node *operand) {
-    Const *constant = (Const *)value_of(root, operand);
+    const Const *constant = value_of(root, operand);
     Datum *positions, array;
     int count = 1;
     bits_walk walk = BITS_WALK;
     Reading reading;
-    if (!IsA(constant, Const) || constant->constisnull)
+    if (constant == NULL)
         return (Node *)makeRelabelType((Expr *)strip_implicit_coercions(operand), INT8ARRAYOID, -1, InvalidOid,
                                        COERCE_IMPLICIT_CAST);
     if (constant->consttype == INT8ARRAYOID)
@@ -85,11 +88,9 @@ static Node *as_array(PlannerInfo *root, Node *operand) {
 
 /* The share of the rows for which an operator holds: that of the operator of arrays. */
 static double share(FunctionCallInfo fcinfo, Oid of_arrays) {
-    PlannerInfo *root = (PlannerInfo *)PG_GETARG_POINTER(0);
-    List *operands = (List *)PG_GETARG_POINTER(2);
-    List *arrays = list_make2(as_array(root, linitial(operands)), as_array(root, lsecond(operands)));
+    List *arrays = list_make2(as_array(ROOT, linitial(OPERANDS)), as_array(ROOT, lsecond(OPERANDS)));
     return DatumGetFloat8(
-        DirectFunctionCall4(arraycontsel, PointerGetDatum(root), of_arrays, PointerGetDatum(arrays), PG_GETARG_DATUM(3)));
+        DirectFunctionCall4(arraycontsel, PG_GETARG_DATUM(0), of_arrays, PointerGetDatum(arrays), PG_GETARG_DATUM(3)));
 }
 
 /* What ANALYZE has stored of a column: the shares of the frequent positions, and the counts. */
@@ -110,8 +111,10 @@ static bool know(Known *known, PlannerInfo *root, Node *operand, int table) {
     HeapTuple tuple;
     examine_variable(root, operand, table, &known->column);
     tuple = known->column.statsTuple;
-    if (HeapTupleIsValid(tuple) && get_attstatsslot(&known->counts, tuple, STATISTIC_KIND_DECHIST, InvalidOid, ATTSTATSSLOT_NUMBERS)) {
-        get_attstatsslot(&known->positions, tuple, STATISTIC_KIND_MCELEM, InvalidOid, ATTSTATSSLOT_VALUES + ATTSTATSSLOT_NUMBERS);
+    if (HeapTupleIsValid(tuple) &&
+        get_attstatsslot(&known->counts, tuple, STATISTIC_KIND_DECHIST, InvalidOid, ATTSTATSSLOT_NUMBERS)) {
+        get_attstatsslot(&known->positions, tuple, STATISTIC_KIND_MCELEM, InvalidOid,
+                         ATTSTATSSLOT_VALUES + ATTSTATSSLOT_NUMBERS);
         return true;
     }
     ReleaseVariableStats(known->column);
@@ -136,32 +139,24 @@ static double clear_share(const Known *known) {
     return (double)clear / bounds;
 }
 
-/* How many positions of the mean row a set has. Of those that are not frequent it has no more than there are, and each no more
- * often than the most frequent of them. `without` gets the share of the rows that have no frequent position that the set lacks,
- * as if positions were independent. */
-static double mean_inside(const Known *known, const bits *set, double *without) {
-    const AttStatsSlot *positions = &known->positions;
-    size_t found = 0;
-    double frequent = 0, inside = 0, others = 0;
-    *without = 1;
+/* The share of the rows whose positions all are in a set. It is no more than that of the rows without the frequent positions that
+ * the set lacks, as if positions were independent. And it is no more than the mean over the counts, as if each position of a row
+ * were in the set as often as one of the mean row is: of the others the set has no more than there are, and each no more often
+ * than the most frequent of them. */
+static double contained_share(const Known *known, const bits *set) {
+    const AttStatsSlot *positions = &known->positions, *counts = &known->counts;
+    int bounds = counts->nnumbers - 1, found = 0;
+    double without = 1, frequent = 0, inside = 0, others = 0, all = 0;
     for (int k = 0; k < positions->nvalues; k++) {
         bool has = bits_contains(set, DatumGetInt64(positions->values[k]));
         frequent += positions->numbers[k];
         inside += has ? positions->numbers[k] : 0;
-        *without *= has ? 1 : 1 - positions->numbers[k];
+        without *= has ? 1 : 1 - positions->numbers[k];
         found += has;
     }
     if (positions->nvalues > 0)
         others = positions->numbers[positions->nvalues] * (bits_count_ones(set, 0, set->length) - found);
-    return inside + Min(others, Max(mean_count(known) - frequent, 0));
-}
-
-/* The share of the rows whose positions all are in a set: the lesser of that above, and of the mean over the counts, as if each
- * position of a row were in the set as often as one of the mean row is. */
-static double contained_share(const Known *known, const bits *set) {
-    const AttStatsSlot *counts = &known->counts;
-    int bounds = counts->nnumbers - 1;
-    double without, inside = mean_inside(known, set, &without), all = 0;
+    inside += Min(others, Max(mean_count(known) - frequent, 0));
     for (int k = 0; k < bounds; k++)
         all += counts->numbers[k] > 0 ? pow(Min(inside / mean_count(known), 1), counts->numbers[k]) : 1;
     return Min(without, all / bounds);
@@ -169,7 +164,7 @@ static double contained_share(const Known *known, const bits *set) {
 
 /* That share, where the operands are a column of which it is known and a constant set. */
 static bool is_known(PlannerInfo *root, Node *column, Node *operand, int table, float8 *share_of_rows) {
-    Const *constant = (Const *)value_of(root, operand);
+    const Const *constant = value_of(root, operand);
     Known known;
     Reading reading;
     if (!is_set(constant) || !know(&known, root, column, table))
@@ -182,10 +177,8 @@ static bool is_known(PlannerInfo *root, Node *column, Node *operand, int table, 
 
 /* The share of the rows for which `@>` or `<@` holds. `inner` is the operand whose positions all have to be in the other one. */
 static Datum share_by_containment(FunctionCallInfo fcinfo, Oid of_arrays, int inner) {
-    PlannerInfo *root = (PlannerInfo *)PG_GETARG_POINTER(0);
-    List *operands = (List *)PG_GETARG_POINTER(2);
     float8 found;
-    if (!is_known(root, list_nth(operands, inner), list_nth(operands, 1 - inner), PG_GETARG_INT32(3), &found))
+    if (!is_known(ROOT, list_nth(OPERANDS, inner), list_nth(OPERANDS, 1 - inner), PG_GETARG_INT32(3), &found))
         found = share(fcinfo, of_arrays);
     PG_RETURN_FLOAT8(found);
 }
@@ -202,7 +195,7 @@ FUNCTION(bitset_overlap_share) {
 FUNCTION(bitset_found_share) {
     float8 found = share(fcinfo, OID_ARRAY_OVERLAP_OP);
     Known known;
-    if (know(&known, (PlannerInfo *)PG_GETARG_POINTER(0), linitial((List *)PG_GETARG_POINTER(2)), PG_GETARG_INT32(3))) {
+    if (know(&known, ROOT, linitial(OPERANDS), PG_GETARG_INT32(3))) {
         found = Min(found + clear_share(&known) * not_null(&known), 1);
         forget(&known);
     }
@@ -215,19 +208,24 @@ FUNCTION(bitset_found_share) {
 static Datum index_condition(FunctionCallInfo fcinfo, int inner) {
     SupportRequestIndexCondition *request = (SupportRequestIndexCondition *)PG_GETARG_POINTER(0);
     List *operands;
-    Const *outer;
+    const Const *outer;
+    Expr *condition;
+    Selectivity found;
     Oid type, operator;
     if (!IsA(request, SupportRequestIndexCondition) || request->index->relam != GIN_AM_OID || request->indexarg != inner)
         PG_RETURN_POINTER(NULL);
     operands = IsA(request->node, OpExpr) ? ((OpExpr *)request->node)->args : ((FuncExpr *)request->node)->args;
     operands = list_make2(list_nth(operands, inner), list_nth(operands, 1 - inner));
-    outer = (Const *)value_of(request->root, lsecond(operands));
+    outer = value_of(request->root, lsecond(operands));
     type = request->index->opcintype[request->indexcol];
     operator = get_opfamily_member(request->opfamily, type, type, SUBSET);
-    if (!is_set(outer) || count_of(outer) * restriction_selectivity(request->root, operator, operands, InvalidOid,
-                                                                    request->index->rel->relid) > MOST_LOOKUPS)
+    if (!is_set(outer))
         PG_RETURN_POINTER(NULL);
-    PG_RETURN_POINTER(list_make1(make_opclause(operator, BOOLOID, false, linitial(operands), lsecond(operands), InvalidOid, InvalidOid)));
+    found = restriction_selectivity(request->root, operator, operands, InvalidOid, request->index->rel->relid);
+    if (count_of(outer) * found > MOST_LOOKUPS)
+        PG_RETURN_POINTER(NULL);
+    condition = make_opclause(operator, BOOLOID, false, linitial(operands), lsecond(operands), InvalidOid, InvalidOid);
+    PG_RETURN_POINTER(list_make1(condition));
 }
 
 BY(bitset_subset_support, index_condition, 0)
@@ -238,12 +236,12 @@ BY(bitset_superset_support, index_condition, 1)
 FUNCTION(bitset_ones_support) {
     SupportRequestRows *request = (SupportRequestRows *)PG_GETARG_POINTER(0);
     List *arguments;
-    Const *set;
+    const Const *set;
     Known known;
     if (!IsA(request, SupportRequestRows) || request->root == NULL || !IsA(request->node, FuncExpr))
         PG_RETURN_POINTER(NULL);
     arguments = ((FuncExpr *)request->node)->args;
-    set = (Const *)value_of(request->root, linitial(arguments));
+    set = value_of(request->root, linitial(arguments));
     if (is_set(set))
         request->rows = count_of(set);
     else if (know(&known, request->root, linitial(arguments), 0)) {
@@ -252,6 +250,6 @@ FUNCTION(bitset_ones_support) {
     } else
         PG_RETURN_POINTER(NULL);
     if (list_length(arguments) == 2)
-        request->rows = Min(request->rows, width_of((Const *)value_of(request->root, lsecond(arguments))));
+        request->rows = Min(request->rows, width_of(value_of(request->root, lsecond(arguments))));
     PG_RETURN_POINTER(request);
 }

@@ -15,40 +15,41 @@ FUNCTION(bitset_gin_value) {
     PG_RETURN_POINTER(positions_of(set, (int32 *)PG_GETARG_POINTER(1), "an index"));
 }
 
-/* Keys of a set that a row has to have all: of more than MOST_KEYS so many, spread over the set. */
+/* Which of so many positions is asked for as key k of those that a row has to have all: they are spread over the positions. */
+static int64 spread(int64 k, int64 positions) {
+    return positions <= MOST_KEYS ? k : k * (positions - 1) / (MOST_KEYS - 1);
+}
+
+/* The keys of a set that a row has to have all. */
 static Datum *all_of(const bits *set, int32 *count) {
     size_t ones = bits_count_ones(set, 0, set->length);
-    Datum *keys;
-    if (ones <= MOST_KEYS)
-        return positions_of(set, count, "an index");
-    keys = palloc(MOST_KEYS * sizeof(Datum));
-    *count = MOST_KEYS;
-    for (size_t k = 0; k < MOST_KEYS; k++)
-        keys[k] = Int64GetDatum(bits_nth_one(set, k * (ones - 1) / (MOST_KEYS - 1)));
+    Datum *keys = palloc(MOST_KEYS * sizeof(Datum));
+    *count = Min(ones, MOST_KEYS);
+    for (int32 k = 0; k < *count; k++)
+        keys[k] = Int64GetDatum(bits_nth_one(set, spread(k, ones)));
     return keys;
 }
 
 /* The same of an array. One with a null is in no row, so there is no key to ask for. */
 static Datum *all_of_array(ArrayType *array, int32 *count, int32 *mode) {
-    Datum *keys;
-    if (array_contains_nulls(array))
-        return NULL;
-    deconstruct_array(array, INT8OID, sizeof(int64), FLOAT8PASSBYVAL, TYPALIGN_DOUBLE, &keys, NULL, count);
-    for (int64 k = 0; k < MOST_KEYS && *count > MOST_KEYS; k++)
-        keys[k] = keys[k * (*count - 1) / (MOST_KEYS - 1)];
-    *mode = *count == 0 ? GIN_SEARCH_MODE_ALL : GIN_SEARCH_MODE_DEFAULT;
-    *count = Min(*count, MOST_KEYS);
+    Datum *keys = NULL;
+    int positions = 0;
+    if (!array_contains_nulls(array)) {
+        deconstruct_array(array, INT8OID, sizeof(int64), FLOAT8PASSBYVAL, TYPALIGN_DOUBLE, &keys, NULL, &positions);
+        *mode = positions == 0 ? GIN_SEARCH_MODE_ALL : GIN_SEARCH_MODE_DEFAULT;
+    }
+    *count = Min(positions, MOST_KEYS);
+    for (int32 k = 0; k < *count; k++)
+        keys[k] = keys[spread(k, positions)];
     return keys;
 }
 
-/* The keys of a set. Each row has those of the set without positions, and a subset of a set has one of its keys or none at all. */
+/* The keys of a set. Each row has those of the set without positions, and a subset has one of the keys or none at all. */
 static Datum *keys_of_set(FunctionCallInfo fcinfo, StrategyNumber operator, int32 *count, int32 *mode) {
     READ(set, 0);
     Datum *keys = operator == CONTAINS ? all_of(set, count) : positions_of(set, count, "an index");
-    if (operator == CONTAINS && *count == 0)
-        *mode = GIN_SEARCH_MODE_ALL;
-    if (operator == SUBSET)
-        *mode = GIN_SEARCH_MODE_INCLUDE_EMPTY;
+    bool is_each = operator == CONTAINS && *count == 0;
+    *mode = operator == SUBSET ? GIN_SEARCH_MODE_INCLUDE_EMPTY : is_each ? GIN_SEARCH_MODE_ALL : GIN_SEARCH_MODE_DEFAULT;
     return keys;
 }
 
@@ -56,15 +57,13 @@ static Datum *keys_of_set(FunctionCallInfo fcinfo, StrategyNumber operator, int3
 FUNCTION(bitset_gin_query) {
     int32 *count = (int32 *)PG_GETARG_POINTER(1), *mode = (int32 *)PG_GETARG_POINTER(6);
     StrategyNumber operator = PG_GETARG_UINT16(2);
-    Datum *keys;
-    *count = 0;
-    if (operator == CONTAINS_EACH)
-        PG_RETURN_POINTER(all_of_array(PG_GETARG_ARRAYTYPE_P(0), count, mode));
-    if (operator != CONTAINS_POSITION)
-        PG_RETURN_POINTER(keys_of_set(fcinfo, operator, count, mode));
-    keys = palloc(sizeof(Datum));
+    Datum *keys = palloc(sizeof(Datum));
     keys[0] = PG_GETARG_DATUM(0);
     *count = 1;
+    if (operator == CONTAINS_EACH)
+        keys = all_of_array(PG_GETARG_ARRAYTYPE_P(0), count, mode);
+    else if (operator != CONTAINS_POSITION)
+        keys = keys_of_set(fcinfo, operator, count, mode);
     PG_RETURN_POINTER(keys);
 }
 

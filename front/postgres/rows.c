@@ -6,10 +6,8 @@
 #include "utils/rangetypes.h"
 #include "utils/typcache.h"
 
-#if PG_VERSION_NUM >= 160000
-#define RANGE_OF(type, lower, upper) range_serialize(type, lower, upper, false, NULL)
-#else
-#define RANGE_OF(type, lower, upper) range_serialize(type, lower, upper, false)
+#if PG_VERSION_NUM < 160000
+#define range_serialize(type, lower, upper, empty, context) range_serialize(type, lower, upper, empty)
 #endif
 
 /* What is kept from one row to the next: a copy of the set, and a walk over its positions or over its runs. */
@@ -62,7 +60,7 @@ static Datum rows_of_runs(FunctionCallInfo fcinfo, void (*begin)(bits_run_walk *
         RangeBound lower = {.val = Int64GetDatum(start), .inclusive = true, .lower = true};
         RangeBound upper = {.val = Int64GetDatum(end)};
         TypeCacheEntry *type = lookup_type_cache(INT8RANGEOID, TYPECACHE_RANGE_INFO);
-        SRF_RETURN_NEXT(call, RangeTypePGetDatum(RANGE_OF(type, &lower, &upper)));
+        SRF_RETURN_NEXT(call, RangeTypePGetDatum(range_serialize(type, &lower, &upper, false, NULL)));
     }
     SRF_RETURN_DONE(call);
 }

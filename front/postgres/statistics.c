@@ -6,10 +6,8 @@
 #include "commands/vacuum.h"
 #include "utils/typcache.h"
 
-#if PG_VERSION_NUM >= 180000
-#define DELAY_POINT() vacuum_delay_point(true)
-#else
-#define DELAY_POINT() vacuum_delay_point()
+#if PG_VERSION_NUM < 180000
+#define vacuum_delay_point(is_analyze) vacuum_delay_point()
 #endif
 
 /* As many positions are looked at of a sample of rows. */
@@ -92,7 +90,7 @@ static void compute(VacAttrStats *stats, AnalyzeAttrFetchFunc fetch, int sampled
         Datum value = fetch(stats, k * INT64CONST(15485863) % sampled, &is_null);
         Reading reading;
         const bits *set = is_null ? NULL : read_set(&reading, value);
-        DELAY_POINT();
+        vacuum_delay_point(true);
         if (set == NULL)
             continue;
         counts[rows] = Min(bits_count_ones(set, 0, set->length), MOST_OF_ROWS + 1);

@@ -49,18 +49,13 @@ typedef struct Parser {
     bool with_spaces;
 } Parser;
 
-/* Whether a text is a number, as that of a position in quotes. */
-static bool is_number(const char *text) {
-    size_t digits = strspn(text, "-0123456789");
-    return digits > 0 && text[digits] == '\0';
-}
-
-/* Refuses the text, and says at which character. */
+/* Refuses the text, and says at which character. A number is that of a position in quotes. */
 static void __attribute__((noreturn)) fail(const Parser *parser, int code, const char *what) {
     int before = pg_mbstrlen_with_len(parser->text, parser->at - parser->text);
+    bool is_number = *parser->text && parser->text[strspn(parser->text, "-0123456789")] == '\0';
     ereport(ERROR, (errcode(code), errmsg("invalid input syntax for type bitset: \"%s\"", parser->text),
                     errdetail("%s at character %d.", what, before + 1),
-                    is_number(parser->text) ? errhint("A position has no quotes, or a cast: s @> 7, s @> '7'::bigint.") : 0));
+                    is_number ? errhint("A position has no quotes, or a cast: s @> 7, s @> '7'::bigint.") : 0));
 }
 
 /* Refuses the text for its form, unless it is as it should be. */
