@@ -309,6 +309,7 @@ CALL(null_fault, bits_own own = BITS_OWN; bits_own_from_text(&own, "1", 1, 9, NU
 /* ---- refused */
 
 CALL(settle_of_few_words, bits_settle(words, 2, 100, 0))
+CALL(load_of_65, bits set = good(70); uint64_t number; bits_load(&set, 0, 65, &number))
 CALL(settle_keeps_more, bits_settle(words, 4, 100, 101))
 CALL(removed, bits set = good(70); bits_remove(&set, (size_t)-1))
 CALL(toggled, bits set = good(70); bits_toggle(&set, 70))
@@ -505,6 +506,7 @@ static const struct {
     {block, "bits_set_block: `index` is 2, which is not below 2", 2},
     {column, "bits_rows_set: `column` is 70, which is not below 70", 2},
     {settle_of_few_words, "bits_settle: `count` is 2, and has to be 4", 2},
+    {load_of_65, "bits_load: `width` is 65, which is not below 65", 2},
     {settle_keeps_more, "bits_settle: `kept` is 101, which is more than 100", 2},
     {removed, "bits_remove: `bit` is 18446744073709551615, which is not below 70", 2},
     {toggled, "bits_toggle: `bit` is 70, which is not below 70", 2},

@@ -14,32 +14,38 @@
 #include <sys/mman.h>
 
 #define HOLDS(what) ((what) ? (void)0 : fail(__LINE__, #what))
-/* No set is longer, and no memory that is lent wider than a page. */
-#define MOST 700
+/* No set is longer, and no memory that is lent wider: in most runs, and in those of long sets. */
+#define SHORT 700
+#define LONG 100000
 #define PAGE 4096
+#define PAGES_OF_LONG 160
 #define SETS 3
 /* How many calls an input makes at least. */
 #define STEPS 100
 #define ROWS 6
 #define COLUMNS 150
+#define LONG_COLUMNS 20000
 #define UNUSED 0xa5
 
 /* A set and its model. */
 typedef struct one {
     bits set;
-    uint8_t has[MOST];
+    uint8_t has[LONG];
 } one;
 
-/* The pages for what is lent: the words of each set, and by their names what else there is. */
+/* The areas of what is lent: the words of each set, and by their names what else there is. */
 enum { TABLE = SETS, LIST, ANSWERS, BYTES, PAGES };
 
 static one sets[SETS];
-static uint8_t *pages[PAGES];
-/* What of each page is lent now. */
-static struct {
+/* What stands between guard pages, and what of it is lent now: for sets that are short, and for long ones. */
+typedef struct area {
+    uint8_t *begin;
     size_t from;
     size_t size;
-} lent[PAGES];
+} area;
+static area areas[2][PAGES], *lent;
+/* The longest set of this run, and how many bytes an area of it has. */
+static size_t most, space;
 static const uint8_t *input;
 static size_t left;
 /* What the bytes behind the input's end are made of. */
@@ -67,8 +73,12 @@ static uint8_t byte(void) {
 }
 
 static size_t below(size_t end) {
-    const size_t low = byte();
-    return end ? (low | (size_t)byte() << 8) % end : 0;
+    size_t low = byte();
+    if (end)
+        low |= (size_t)byte() << 8;
+    if (end > 65536)
+        low |= (size_t)byte() << 16;
+    return end ? low % end : 0;
 }
 
 /* Any number, often one at which a set of this length may go wrong. */
@@ -77,8 +87,8 @@ static size_t number(size_t length) {
     case 0: return length;
     case 1: return length - 1;
     case 2: return SIZE_MAX - byte() % 70;
-    case 3: return 64 * (size_t)(byte() % 13);
-    case 4: return 64 * (size_t)(byte() % 13) - 1;
+    case 3: return 64 * (most == SHORT ? (size_t)(byte() % 13) : below(most / 64));
+    case 4: return 64 * (most == SHORT ? (size_t)(byte() % 13) : below(most / 64)) - 1;
     case 5: return length + byte();
     default: return below(length + 1);
     }
@@ -88,16 +98,16 @@ static size_t number(size_t length) {
 
 /* Lends so many bytes of the page, at its begin or at its end. All that is not lent has one value, and keeps it. */
 static void *lend_at(int page, size_t size, bool is_at_begin) {
-    if (!pages[page]) {
-        uint8_t *place = (uint8_t *)mmap(NULL, 3 * PAGE, PROT_NONE, MAP_PRIVATE | MAP_ANONYMOUS, -1, 0);
-        HOLDS(place != MAP_FAILED && mprotect(place + PAGE, PAGE, PROT_READ | PROT_WRITE) == 0);
-        pages[page] = place + PAGE;
+    if (!lent[page].begin) {
+        uint8_t *place = (uint8_t *)mmap(NULL, space + 2 * PAGE, PROT_NONE, MAP_PRIVATE | MAP_ANONYMOUS, -1, 0);
+        HOLDS(place != MAP_FAILED && mprotect(place + PAGE, space, PROT_READ | PROT_WRITE) == 0);
+        lent[page].begin = place + PAGE;
     }
-    HOLDS(size <= PAGE);
-    lent[page].from = is_at_begin ? 0 : PAGE - size;
+    HOLDS(size <= space);
+    lent[page].from = is_at_begin ? 0 : space - size;
     lent[page].size = size;
-    memset(pages[page], UNUSED, PAGE);
-    return pages[page] + lent[page].from;
+    memset(lent[page].begin, UNUSED, space);
+    return lent[page].begin + lent[page].from;
 }
 
 static void *lend(int page, size_t size) {
@@ -105,11 +115,12 @@ static void *lend(int page, size_t size) {
 }
 
 static void nothing_else_is_written(void) {
-    static uint8_t unused[PAGE];
-    memset(unused, UNUSED, PAGE);
+    static uint8_t unused[PAGES_OF_LONG * PAGE];
+    memset(unused, UNUSED, space);
     for (int page = 0; page < PAGES; page++) {
         const size_t from = lent[page].from, end = from + lent[page].size;
-        HOLDS(!pages[page] || (!memcmp(pages[page], unused, from) && !memcmp(pages[page] + end, unused, PAGE - end)));
+        const uint8_t *begin = lent[page].begin;
+        HOLDS(!begin || (!memcmp(begin, unused, from) && !memcmp(begin + end, unused, space - end)));
     }
 }
 
@@ -132,7 +143,7 @@ static void is_right(const one *it) {
 
 /* A set of any positions. */
 static void begin(int k) {
-    const size_t length = below(MOST + 1), count = BITS_WORDS(length);
+    const size_t length = below(most + 1), count = BITS_WORDS(length);
     const unsigned kind = byte() % 4;
     one *it = &sets[k];
     it->set = BITS_OF((uint64_t *)lend(k, 8 * count), length);
@@ -184,8 +195,8 @@ static void numbers(one *it) {
 
 /* The set gets another length in the same memory, or in other memory. */
 static void settle(one *it) {
-    const size_t length = below(MOST + 1), kept = number(length), had = it->set.length;
-    uint64_t old[BITS_WORDS(MOST)];
+    const size_t length = below(most + 1), kept = number(length), had = it->set.length;
+    static uint64_t old[BITS_WORDS(LONG)];
     memset(old, byte(), sizeof old);
     memcpy(old, it->set.words, 8 * it->set.count);
     uint64_t *words = (uint64_t *)lend((int)(it - sets), 8 * BITS_WORDS(length));
@@ -283,23 +294,25 @@ static void neighbours(one *it) {
     }
 }
 
-static void aligned_gap(one *it, size_t count, size_t align, size_t start, size_t end) {
-    size_t wanted = BITS_NONE;
-    for (size_t p = start; wanted == BITS_NONE && p <= end && count <= end - p; p++)
-        if ((align ? p % align : p) == 0 && !counted(it, p, p + count))
-            wanted = p;
-    HOLDS(bits_first_aligned_gap(&it->set, count, align, start, end) == wanted);
+/* How many clear positions there are from each one on. */
+static const size_t *clear_from(const one *it) {
+    static size_t clear[LONG + 1];
+    clear[it->set.length] = 0;
+    for (size_t p = it->set.length; p-- > 0;)
+        clear[p] = it->has[p] ? 0 : clear[p + 1] + 1;
+    return clear;
 }
 
 static void gap(one *it) {
     const size_t count = byte() % 4 ? below(130) : number(it->set.length), from = number(it->set.length);
-    size_t at = from;
-    while (at <= it->set.length && count <= it->set.length - at && counted(it, at, at + count))
+    const size_t align = count % 67, start = from / 2, end = it->set.length - it->set.length / 5, *clear = clear_from(it);
+    size_t at = from, aligned = start;
+    while (at <= it->set.length && clear[at] < count)
         at++;
-    const bool found = at <= it->set.length && count <= it->set.length - at;
-    const size_t answer = bits_first_gap(&it->set, count, from);
-    HOLDS(answer == (found ? at : BITS_NONE));
-    aligned_gap(it, count, count % 67, from / 2, it->set.length - it->set.length / 5);
+    HOLDS(bits_first_gap(&it->set, count, from) == (at <= it->set.length ? at : BITS_NONE));
+    while (aligned <= end && (clear[aligned] < count || count > end - aligned || (align ? aligned % align : aligned)))
+        aligned++;
+    HOLDS(bits_first_aligned_gap(&it->set, count, align, start, end) == (aligned <= end ? aligned : BITS_NONE));
 }
 
 static void range(one *it) {
@@ -348,7 +361,7 @@ static void ranks(one *it) {
     bits_ranks ranks = BITS_RANKS;
     HOLDS(bits_ranks_fill(&ranks, &it->set, (size_t *)lend(LIST, 8 * entries), entries) == (entries == wanted));
     HOLDS(bits_rank(&ranks, p) == (entries == wanted ? counted(it, 0, p) : 0));
-    size_t index = number(counted(it, 0, MOST)), at = entries == wanted ? next(it, 0, true) : BITS_NONE;
+    size_t index = number(counted(it, 0, most)), at = entries == wanted ? next(it, 0, true) : BITS_NONE;
     HOLDS(index == 0 || bits_select(&ranks, 0) == at);
     for (size_t k = 0; k < index && at != BITS_NONE; k++)
         at = next(it, at + 1, true);
@@ -402,13 +415,13 @@ static void three_sets(one *it, const one *gens, const one *kills) {
 
 static void questions(const one *it, const one *other) {
     size_t both = 0, first = 0, second = 0, lacking = BITS_NONE, common = BITS_NONE;
-    for (size_t p = MOST; p-- > 0;) {
+    for (size_t p = most; p-- > 0;) {
         both += has(it, p) && has(other, p);
         first += has(it, p) && !has(other, p);
         second += !has(it, p) && has(other, p);
         lacking = !has(it, p) && has(other, p) ? p : lacking;
         common = has(it, p) && has(other, p) ? p : common;
-        HOLDS(bits_next_common(&it->set, &other->set, p) == common);
+        HOLDS((most == LONG && p % 97) || bits_next_common(&it->set, &other->set, p) == common);
     }
     HOLDS(bits_union_count(&it->set, &other->set) == both + first + second && bits_intersection_count(&it->set, &other->set) == both);
     HOLDS(bits_difference_count(&it->set, &other->set) == first);
@@ -428,8 +441,8 @@ static void copies(one *it, const one *set, const one *other) {
     const unsigned kind = byte() % 5;
     const size_t one_length = set->set.length, two_length = other->set.length;
     const size_t greater = one_length > two_length ? one_length : two_length, smaller = one_length < two_length ? one_length : two_length;
-    const size_t lengths[] = {below(MOST + 1), greater, greater, smaller, one_length}, wanted = lengths[kind];
-    const size_t length = byte() % 4 ? wanted : below(MOST + 1);
+    const size_t lengths[] = {below(most + 1), greater, greater, smaller, one_length}, wanted = lengths[kind];
+    const size_t length = byte() % 4 ? wanted : below(most + 1);
     bool (*const calls[])(bits *, const bits *, const bits *) = {
         NULL, bits_union_of, bits_symmetric_difference_of, bits_intersection_of, bits_difference_of};
     bits to = BITS_OF((uint64_t *)lend((int)(it - sets), 8 * BITS_WORDS(length)), length);
@@ -484,7 +497,7 @@ static size_t take_both(bits_walk *walk, size_t *taken, size_t room) {
         size_t low = 0, high = many;                                                         \
         for (int turns = 0; turns < 40 && (low < high || turns < 3); turns++) {              \
             const unsigned call = byte() % 4;                                                \
-            const size_t room = call < 2 ? 1 : byte() % 40;                                  \
+            const size_t room = call < 2 ? 1 : most == SHORT ? byte() % 40 : below(4000);    \
             size_t *taken = (size_t *)lend(LIST, 8 * room);                                  \
             const size_t had = room < high - low ? room : high - low;                        \
             HOLDS((call == 0   ? (size_t)name##_next(&walk, taken)                           \
@@ -499,7 +512,8 @@ static size_t take_both(bits_walk *walk, size_t *taken, size_t room) {
     } while (0)
 
 static void walks(const one *it) {
-    size_t wanted[MOST], many = 0;
+    static size_t wanted[LONG];
+    size_t many = 0;
     const size_t start = number(it->set.length), end = number(it->set.length);
     const unsigned kind = byte() % 4;
     const bool is_set = kind % 2, is_valid = start <= end && end <= it->set.length;
@@ -518,14 +532,15 @@ static void walks(const one *it) {
 }
 
 static void walks_of_two(const one *it, const one *other) {
-    size_t wanted[2 * MOST], many = 0;
+    static size_t wanted[2 * LONG];
+    size_t many = 0;
     const unsigned kind = byte() % 4;
     bits_sieve sieve = BITS_SIEVE;
     bits_pair pair = BITS_PAIR;
-    for (size_t p = 0; p < MOST; p++)
+    for (size_t p = 0; p < most; p++)
         if (has(it, p) && (kind == 0 ? has(other, p) : kind == 2 || !has(other, p)))
             wanted[many++] = p;
-    for (size_t p = 0; kind > 1 && p < MOST; p++)
+    for (size_t p = 0; kind > 1 && p < most; p++)
         if (has(other, p) && !has(it, p))
             wanted[many++] = p;
     switch (kind) {
@@ -560,13 +575,34 @@ static void runs(const one *it) {
     }
 }
 
-static void loops(const one *it) {
-    size_t at = 0, low = 0;
-    BITS_FOR_EACH(p, &it->set) {
-        HOLDS(p == next(it, at, true));
-        at = p + 1;
+/* A loop of the header that ascends gives the positions below `most` of which this holds. */
+#define LOOPS(loop, is_given)                  \
+    do {                                       \
+        size_t k = 0;                          \
+        loop {                                 \
+            for (; k < p; k++)                 \
+                HOLDS(!(is_given));            \
+            HOLDS(k == p && (is_given));       \
+            k++;                               \
+        }                                      \
+        for (; k < most; k++)                  \
+            HOLDS(!(is_given));                \
+    } while (0)
+
+static void loops(const one *it, const one *other) {
+    size_t at = SIZE_MAX, low = 0, from = number(it->set.length);
+    LOOPS(BITS_FOR_EACH(p, &it->set), has(it, k));
+    LOOPS(BITS_FOR_EACH_ZERO(p, &it->set), k < it->set.length && !has(it, k));
+    LOOPS(BITS_FOR_EACH_FROM(p, &it->set, from), k >= from && has(it, k));
+    LOOPS(BITS_FOR_EACH_INTERSECTION(p, &it->set, &other->set), has(it, k) && has(other, k));
+    LOOPS(BITS_FOR_EACH_DIFFERENCE(p, &it->set, &other->set), has(it, k) && !has(other, k));
+    LOOPS(BITS_FOR_EACH_UNION(p, &it->set, &other->set), has(it, k) || has(other, k));
+    LOOPS(BITS_FOR_EACH_SYMMETRIC_DIFFERENCE(p, &it->set, &other->set), has(it, k) != has(other, k));
+    BITS_FOR_EACH_BACK(p, &it->set) {
+        HOLDS(p == previous(it, at, true));
+        at = p;
     }
-    HOLDS(next(it, at, true) == BITS_NONE);
+    HOLDS(previous(it, at, true) == BITS_NONE);
     BITS_FOR_EACH_RUN(start, end, &it->set) {
         HOLDS(start == next(it, low, true) && start < end && counted(it, start, end) == end - start && !has(it, end));
         low = end;
@@ -576,7 +612,7 @@ static void loops(const one *it) {
 
 /* ---- tables */
 
-static void table_is(const bits_rows *table, bool has[ROWS][COLUMNS]) {
+static void table_is(const bits_rows *table, bool has[ROWS][LONG_COLUMNS]) {
     for (size_t row = 0; row < table->rows; row++) {
         const uint64_t *words = table->words + row * BITS_WORDS(table->columns);
         for (size_t p = 0; p < 64 * BITS_WORDS(table->columns); p++)
@@ -584,7 +620,7 @@ static void table_is(const bits_rows *table, bool has[ROWS][COLUMNS]) {
     }
 }
 
-static void table_step(bits_rows *table, bool has[ROWS][COLUMNS]) {
+static void table_step(bits_rows *table, bool has[ROWS][LONG_COLUMNS]) {
     const size_t row = number(table->rows), into = number(table->rows), column = number(table->columns);
     const bool within = row < table->rows && column < table->columns, both = row < table->rows && into < table->rows;
     const bool enabled = byte() % 8;
@@ -599,18 +635,21 @@ static void table_step(bits_rows *table, bool has[ROWS][COLUMNS]) {
         has[into][p] |= has[row][p];
     }
     HOLDS(changed == differs);
-    size_t wanted[COLUMNS], many = 0;
+    static size_t wanted[LONG_COLUMNS];
+    size_t many = 0;
     bits_walk walk = BITS_WALK;
     HOLDS(bits_rows_ones(&walk, table, row) == (row < table->rows));
     for (size_t p = 0; row < table->rows && p < table->columns; p++)
         if (has[row][p])
             wanted[many++] = p;
     WALKS(walk, bits_ones, take_both);
+    bits part = bits_rows_row(table, row);
+    HOLDS(part.length == (row < table->rows ? table->columns : 0) && bits_count_ones(&part, 0, part.length) == many);
 }
 
 static void tables(void) {
-    static bool has[ROWS][COLUMNS];
-    const size_t many_rows = byte() % (ROWS + 1), columns = byte() % 4 ? many_rows : below(COLUMNS + 1);
+    static bool has[ROWS][LONG_COLUMNS];
+    const size_t many_rows = byte() % (ROWS + 1), columns = byte() % 4 ? many_rows : below((most == SHORT ? COLUMNS : LONG_COLUMNS) + 1);
     const size_t count = bits_rows_words(many_rows, columns);
     HOLDS(count == many_rows * BITS_WORDS(columns) && bits_rows_words(SIZE_MAX, columns + 1) == BITS_NONE);
     bits_rows table = BITS_ROWS_OF((uint64_t *)lend(TABLE, 8 * count), many_rows, columns);
@@ -642,7 +681,7 @@ static void read_slowly(one *it, char *text) {
 
 static void texts(one *it) {
     const size_t wide = bits_to_text(&it->set, NULL, 0), room = byte() % 2 ? wide + 1 : below(wide + 9);
-    HOLDS(wide < PAGE - 9);
+    HOLDS(wide < space - 9);
     char *text = (char *)lend(BYTES, room);
     size_t fault = 77777;
     HOLDS(bits_to_text(&it->set, text, room) == wide && (!room || strlen(text) == (room <= wide ? room - 1 : wide)));
@@ -663,10 +702,10 @@ static void texts(one *it) {
 static void growth(const one *it) {
     bits_own own = BITS_OWN;
     size_t fault = 77777, length = 0;
-    static uint8_t has[2 * MOST];
+    static uint8_t has[2 * LONG];
     memset(has, 0, sizeof has);
     for (unsigned steps = byte() % 16; steps; steps--) {
-        const size_t p = below(2 * MOST);
+        const size_t p = below(2 * most);
         switch (byte() % 5) {
         case 0: HOLDS(bits_own_resize(&own, p)), length = p, memset(has + p, 0, sizeof has - p); break;
         case 1: HOLDS(bits_own_union(&own, &it->set)), length = length < it->set.length ? it->set.length : length;
@@ -702,7 +741,7 @@ static void step(void) {
     case 18: walks(it); break;
     case 19: walks_of_two(it, other); break;
     case 20: runs(it); break;
-    case 21: loops(it); break;
+    case 21: loops(it, other); break;
     case 22: tables(); break;
     case 23: growth(it); break;
     case 24: load_and_store(it); break;
@@ -717,6 +756,10 @@ int LLVMFuzzerTestOneInput(const uint8_t *data, size_t size) {
     input = data;
     left = size;
     behind = 1;
+    /* One of eight inputs has long sets, by its first byte. */
+    most = size && data[0] % 8 == 5 ? LONG : SHORT;
+    space = most == LONG ? PAGES_OF_LONG * PAGE : PAGE;
+    lent = areas[most == LONG];
     for (int k = 0; k < SETS; k++)
         begin(k);
     for (int steps = 0; left || steps < STEPS; steps++) {

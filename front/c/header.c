@@ -32,6 +32,18 @@ static void constants(void) {
     assert(bits_count_ones(bits_of_view(&part), 0, 70) == 3 && bits_maximum(bits_of_view(&part)) == 69);
 }
 
+/* A view is changed through one pointer and read as a set through another: neither is taken for memory of its own. */
+__attribute__((__noinline__)) static size_t length_of_both(bits_view *view, const bits *set) {
+    const size_t before = set->length;
+    view->length = before + 1;
+    return set->length;
+}
+
+static void views(void) {
+    bits_view view = BITS_VIEW_OF(some, 70);
+    assert(length_of_both(&view, bits_of_view(&view)) == 71);
+}
+
 /* The arguments of the macros that make structs: ints, each taken once. */
 static void structs(void) {
     uint64_t words[8] = {0};
@@ -211,6 +223,7 @@ static void nulls(void) {
 
 int main(void) {
     constants();
+    views();
     structs();
     nothing();
     loops();
