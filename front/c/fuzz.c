@@ -20,8 +20,9 @@
 #define PAGE 4096
 #define PAGES_OF_LONG 160
 #define SETS 3
-/* How many calls an input makes at least. */
+/* How many calls an input makes at least, and how many of them where its sets are long. */
 #define STEPS 100
+#define LONG_STEPS 40
 #define ROWS 6
 #define COLUMNS 150
 #define LONG_COLUMNS 20000
@@ -756,13 +757,13 @@ int LLVMFuzzerTestOneInput(const uint8_t *data, size_t size) {
     input = data;
     left = size;
     behind = 1;
-    /* One of eight inputs has long sets, by its first byte. */
-    most = size && data[0] % 8 == 5 ? LONG : SHORT;
+    /* The inputs with this first byte have long sets. */
+    most = size && data[0] == 'L' ? LONG : SHORT;
     space = most == LONG ? PAGES_OF_LONG * PAGE : PAGE;
     lent = areas[most == LONG];
     for (int k = 0; k < SETS; k++)
         begin(k);
-    for (int steps = 0; left || steps < STEPS; steps++) {
+    for (int steps = 0; left || steps < (most == LONG ? LONG_STEPS : STEPS); steps++) {
         if (steps % 32 == 31)
             begin(byte() % SETS);
         step();
