@@ -5,8 +5,7 @@
 
 #[cfg(test)]
 mod bitranks_laws;
-#[cfg(test)]
-mod calling_1;
+pub mod calling_1;
 #[cfg(test)]
 mod calling_3;
 #[cfg(test)]
