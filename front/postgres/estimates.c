@@ -219,7 +219,7 @@ static Datum index_condition(FunctionCallInfo fcinfo, int inner) {
     outer = value_of(request->root, lsecond(operands));
     type = request->index->opcintype[request->indexcol];
     operator = get_opfamily_member(request->opfamily, type, type, SUBSET);
-    if (!is_set(outer))
+    if (!is_set(outer) || !OidIsValid(operator))
         PG_RETURN_POINTER(NULL);
     found = restriction_selectivity(request->root, operator, operands, InvalidOid, request->index->rel->relid);
     if (count_of(outer) * found > MOST_LOOKUPS)
