@@ -29,7 +29,7 @@
  * hidden: a shared object with the archive in it does not export them.
  *
  * A program that defines BITS_NO_SHORT_NAMES before it includes this header has `bits` and each name that begins with bits_
- * behind fixedbitset_ alone: fixedbitset_bits_insert(&set, 7). All other names are macros, which begin with BITS_.
+ * behind fixedbitset_ alone: fixedbitset_bits_insert(&set, 7). All other names begin with BITS_ or with fixedbitset_.
  */
 #ifndef BITS_H
 #define BITS_H
@@ -204,7 +204,7 @@ typedef struct bits_ranks {
 /* Loops over positions in ascending order: over those of the set, and over those below the length that it has not; over those
  * of the set at or past `from`; and over those of the set in descending order. `break` and `continue` are as in any loop, and
  * loops may stand in each other. Until the end of a loop the set may not change. These loops read the words by code of this
- * header, which is tested; what is proved is the iterators below. They take a third of an iterator's time. */
+ * header, which is tested and not proved; the iterators below are proved, and slower. */
 #define BITS_FOR_EACH(p, set) BITS_LOOP(p, BITS_NAME(bits_each)((set), 0), next)
 #define BITS_FOR_EACH_ZERO(p, set) BITS_LOOP(p, BITS_NAME(bits_each_zero)((set), 0), next)
 #define BITS_FOR_EACH_FROM(p, set, from) BITS_LOOP(p, BITS_NAME(bits_each)((set), (from)), next)
