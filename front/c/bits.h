@@ -129,7 +129,7 @@ typedef struct bits_pair {
 /* What the loops below are over. */
 enum { BITS_ONES, BITS_ZEROES, BITS_INTERSECTION, BITS_DIFFERENCE, BITS_UNION, BITS_SYMMETRIC_DIFFERENCE };
 
-/* What the loops below keep: the bits that are left of a word, its first position, and the first behind the last word. */
+/* What the loops below keep: the bits that are left of a word, its first position, and where the loop ends. */
 typedef struct bits_loop {
     uint64_t left;
     size_t first;
@@ -291,9 +291,9 @@ static inline uint64_t fixedbitset_loop_word(const bits_loop *loop) {
 /* The next position, and the one before; false where none is left. */
 static inline bool fixedbitset_loop_next(bits_loop *loop, size_t *position) {
     while (!loop->left) {
-        loop->first += 64;
-        if (loop->first >= loop->end)
+        if (loop->end - loop->first <= 64)
             return false;
+        loop->first += 64;
         loop->left = fixedbitset_loop_word(loop);
     }
     *position = loop->first + BITS_CAST(unsigned, __builtin_ctzll(loop->left));
@@ -315,7 +315,7 @@ static inline bool fixedbitset_loop_next_back(bits_loop *loop, size_t *position)
     return true;
 }
 
-/* A loop over the words below `end`, which begins at or past `from`. */
+/* A loop over the positions at or past `from` and below `end`. */
 static inline bits_loop fixedbitset_loop_of(const bits *set, const bits *other, unsigned kind, size_t end, size_t from) {
     bits_loop loop;
     loop.left = 0;
@@ -340,17 +340,19 @@ extern "C" {
 
 /* How the loops begin. */
 static inline bits_loop bits_each(const bits *set, size_t from) {
-    return fixedbitset_loop_of(set, set, BITS_ONES, 64 * set->count, from);
+    return fixedbitset_loop_of(set, set, BITS_ONES, set->length, from);
 }
 static inline bits_loop bits_each_zero(const bits *set, size_t from) {
     return fixedbitset_loop_of(set, set, BITS_ZEROES, set->length, from);
 }
+/* (It begins with the last word. A set of length 0 has none.) */
 static inline bits_loop bits_each_back(const bits *set) {
-    return fixedbitset_loop_of(set, set, BITS_ONES, 64 * set->count, SIZE_MAX);
+    const size_t last = set->length - 1;
+    return fixedbitset_loop_of(set, set, BITS_ONES, set->length, last - last % 64);
 }
 static inline bits_loop bits_each_of_two(const bits *set, const bits *other, unsigned kind) {
-    const bool ends_with_other = set->count < other->count ? kind > BITS_DIFFERENCE : kind == BITS_INTERSECTION;
-    return fixedbitset_loop_of(set, other, kind, 64 * (ends_with_other ? other->count : set->count), 0);
+    const bool ends_with_other = set->length < other->length ? kind > BITS_DIFFERENCE : kind == BITS_INTERSECTION;
+    return fixedbitset_loop_of(set, other, kind, ends_with_other ? other->length : set->length, 0);
 }
 
 /* The set of this length over the first BITS_WORDS(length) of `count` words. Where there are fewer, the set has no words, which
@@ -690,7 +692,13 @@ static inline void bits_rows_free(bits_rows *rows) {
 }
 
 #ifdef BITS_CHECK
+#ifdef __cplusplus
+extern "C++" {
 #include "bits_check.h"
+}
+#else
+#include "bits_check.h"
+#endif
 #endif
 
 #ifdef BITS_NO_SHORT_NAMES

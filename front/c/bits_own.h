@@ -251,6 +251,9 @@ BITS_NODISCARD static inline bits_told bits_own_from_text(bits_own *own, const c
 #endif
 
 #ifdef BITS_CHECK
+#ifdef __cplusplus
+extern "C++" {
+#endif
 
 /* The set is right, and its words are the first of the room. */
 static inline void fixedbitset_ask_own(fixedbitset_place here, const bits_own *own) {
@@ -290,7 +293,9 @@ BITS_TESTED_DONE_BY(bits_told, BITS_TOLD, own_from_text,
                     fixedbitset_ask_own(here, own); BITS_ASK_LIST(text, size)
                     BITS_ASK_LIST_APART(text, size, own->set.words, own->room) BITS_ASK_PLACE(fault))
 
-#ifndef __cplusplus
+#ifdef __cplusplus
+}
+#else
 #ifdef BITS_NO_SHORT_NAMES
 #define fixedbitset_bits_own_free(...) BITS_CALL(own_free, __VA_ARGS__)
 #define fixedbitset_bits_own_reserve(...) BITS_CALL(own_reserve, __VA_ARGS__)

@@ -13,7 +13,15 @@ enum { bits_own = 3, bits_told };
 #define BITS_SET 7
 #define BITS_RANGE(it) ((it) + 1)
 #define BITS_READS 5
+#ifdef __cplusplus
+#include <cstdio>
+#include <cstdlib>
+extern "C" {
 #include "bits_own.h"
+}
+#else
+#include "bits_own.h"
+#endif
 
 #ifdef BITS_NO_SHORT_NAMES
 #define OF_HEADER(name) fixedbitset_##name
