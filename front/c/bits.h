@@ -345,10 +345,8 @@ static inline bits_loop bits_each(const bits *set, size_t from) {
 static inline bits_loop bits_each_zero(const bits *set, size_t from) {
     return fixedbitset_loop_of(set, set, BITS_ZEROES, set->length, from);
 }
-/* (It begins with the last word. A set of length 0 has none.) */
 static inline bits_loop bits_each_back(const bits *set) {
-    const size_t last = set->length - 1;
-    return fixedbitset_loop_of(set, set, BITS_ONES, set->length, last - last % 64);
+    return fixedbitset_loop_of(set, set, BITS_ONES, set->length, set->length - set->length % 64);
 }
 static inline bits_loop bits_each_of_two(const bits *set, const bits *other, unsigned kind) {
     const bool ends_with_other = set->length < other->length ? kind > BITS_DIFFERENCE : kind == BITS_INTERSECTION;
