@@ -82,8 +82,8 @@ pub fn runs_are_the_set()
     ensures zeroes { ZeroRunsAreTheOthers }
 {}
 
-/// `first_gap` returns the least number with room, and none exactly where no number has room. There
-/// is room where the positions are below the length and none of them is set.
+/// `first_gap` returns the least number with room, and `None` exactly where no number has room.
+/// There is room where the positions are below the length and none of them is set.
 ///
 /// ```
 /// let set = FixedBitSet::from_iter(alloc, [3, 4, 9])?;
@@ -197,7 +197,7 @@ pub fn steps_of_range()
     ensures search { SearchBound }
 {}
 
-/// Toggling one range twice leaves the value as it was.
+/// Toggling a range is an involution: twice, it leaves the value as it was.
 ///
 /// ```
 /// let mut set = FixedBitSet::from_iter(alloc, [3, 64])?;
@@ -240,7 +240,8 @@ pub fn tests_of_range()
     ensures any { ContainsAnyTells }
 {}
 
-/// The positions of either set and those of both, counted, are as many as those of the two sets.
+/// Inclusion-exclusion: the positions of either set and those of both, counted, are as many as
+/// those of the two sets.
 ///
 /// ```
 /// let set = FixedBitSet::from_iter(alloc, [1, 3])?;
@@ -355,9 +356,10 @@ pub fn turns_of_calls()
     ensures of_split { SplitsOnce }
 {}
 
-/// Joins of sets of any lengths: which set stands first plays no part, nor which two of three sets
-/// are joined first, and a set joined with itself is that set. `intersection` keeps the length of
-/// its first set, so it is `bitand` only where that is the shorter one.
+/// `union`, `symmetric_difference` and `bitand` of sets of any lengths are commutative; these and
+/// `intersection` are associative, and all but `symmetric_difference` are idempotent.
+/// `intersection` keeps the length of its first set, so it is `bitand` only where that is the
+/// shorter one.
 ///
 /// ```
 /// let set = FixedBitSet::from_iter(alloc, [3, 64])?;
@@ -380,8 +382,8 @@ pub fn joins_in_any_order()
     ensures is_bitand { IntersectionIsBitand }
 {}
 
-/// Union and intersection of sets of any lengths: what one adds the other takes away, and each goes
-/// into the two sides of the other.
+/// The absorption laws of union and intersection, for sets of any lengths, and each is distributive
+/// over the other.
 ///
 /// ```
 /// let mut set = FixedBitSet::from_iter(alloc, [3, 64])?;
@@ -398,8 +400,9 @@ pub fn joins_of_joins()
     ensures union_distributes { Distributes union intersection }
 {}
 
-/// Subsets are ordered, and two sets of one length are equal if each is a subset of the other. The
-/// union is the least set that has both, and the intersection the greatest that both have.
+/// Subsets are a partial order: reflexive and transitive, and antisymmetric for two sets of one
+/// length. The union is the least upper bound of two sets, and the intersection the greatest lower
+/// bound.
 ///
 /// ```
 /// let set = FixedBitSet::from_iter(alloc, [3, 64])?;
@@ -416,9 +419,9 @@ pub fn subsets_are_ordered()
     ensures intersection_is_greatest { IntersectionIsGreatest }
 {}
 
-/// The complement of a set has the positions below its length that are not set. Twice it is the
-/// set. De Morgan's laws hold of two sets of one length, and the difference is what is in the first
-/// set and in the complement of a second that is no shorter.
+/// The complement of a set has the positions below its length that are not set, and is an
+/// involution. De Morgan's laws hold of two sets of one length, and the difference is the
+/// intersection of the first set with the complement of a second that is no shorter.
 ///
 /// ```
 /// let set = FixedBitSet::from_iter(alloc, [3, 5])?;

@@ -31,7 +31,8 @@ pub fn select_of_rank()
     ensures { SelectOfRank }
 {}
 
-/// The rank grows with the position, and from the length on it is how many positions the set has.
+/// The rank is monotone in the position, and from the length on it is how many positions the set
+/// has.
 ///
 /// ```
 /// let set = FixedBitSet::from_iter(alloc, [3, 64])?;

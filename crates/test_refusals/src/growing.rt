@@ -94,7 +94,7 @@ fn is_grown(set: &FixedBitSet, call: Growing) -> bool {
 }
 
 // Whether the set is what the call leaves where an allocation fails. Of the items of `extend` those
-// before the refused one stand.
+// before the one that failed stand.
 fn is_left(set: &FixedBitSet, call: Growing) -> bool {
     match call {
         Growing::Extend => is_value(set, 10, &[3, 4]),

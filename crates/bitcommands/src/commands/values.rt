@@ -1,5 +1,5 @@
-//! JSON values, written through a formatter without memory. The library's own
-//! `Display` promises no text.
+//! JSON values, written through a formatter that does not allocate. The library's own `Display`
+//! promises no text.
 ghost use Rattle.std.specs.Prelude.{◌≡◌, ◌++◌, false, codes};
 ghost use Rattle.std.specs.Fmt.{WritesOnOk};
 ghost use Rattle.bitcommands.specs.Quoting.{in_quotes};

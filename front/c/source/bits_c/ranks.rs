@@ -30,9 +30,9 @@ fn write_directory(set: &Bits<'_>, directory: &mut [usize]) -> bool {
     }
 }
 
-/// Writes the directory of the set's words, and the whole struct `ranks` from any before. It
-/// returns whether the directory has as many entries as `bits_ranks_entries` says; else the ranks
-/// are those of the set of length 0, and the directory stays.
+/// Writes the directory of the set's words, and the whole struct `ranks`, whatever it held before.
+/// It returns whether the directory has as many entries as `bits_ranks_entries` says; else the
+/// ranks are those of the set of length 0, and the directory stays.
 pub fn bits_ranks_fill<'a>(
     ranks: &mut Ranks<'a>,
     set: &Bits<'a>,

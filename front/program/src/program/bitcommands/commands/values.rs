@@ -1,6 +1,6 @@
 // Made by front/erase from crates/bitcommands/src/commands/values.rt: change that, and not this.
-//! JSON values, written through a formatter without memory. The library's own
-//! `Display` promises no text.
+//! JSON values, written through a formatter that does not allocate. The library's own `Display`
+//! promises no text.
 
 use crate::shim::prelude::{String, WriteChar};
 use crate::shim::serde_json::{Map, Number, Value};
