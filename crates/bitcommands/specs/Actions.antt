@@ -24,7 +24,7 @@ use Rattle.bitcommands.specs.declared.commands.walking.Walk.TheVariants as walks
 abbrev pub Range : Type 0
 Range = Option ℕ × Option ℕ
 
--- Numbers of sets, positions, lengths, words, ranges, lists, JSON values and ends of walks, in the order in which a
+-- Numbers of sets, positions, lengths, words, ranges, lists, JSON values and ends of iterators, in the order in which a
 -- line has them. A line below has commands of one shape.
 pub data Action : Type 0 where
   new default len is_empty is_clear is_full minimum maximum : ℕ → Action
@@ -122,7 +122,7 @@ compare_action (compares.IsSuperset a b) = is_superset a b
 compare_action (compares.Eq a b) = eq a b
 compare_action (compares.Cmp a b) = cmp a b
 
--- what a command that walks over a set or two means
+-- what a command that iterates over a set or two means
 abbrev pub walk_action : Walk → Action
 walk_action (walks.Ones k ends) = ones k ends.items
 walk_action (walks.IntoOnes k ends) = into_ones k ends.items

@@ -22,7 +22,7 @@ combination Intersection v w = sets.intersection v w
 combination Difference v w = sets.difference v w
 combination Copy v w = w
 
--- whether memory may be refused
+-- whether an allocation may fail
 abbrev pub joint_may_lack_memory : Joint → Bits → Bits → Bool
 joint_may_lack_memory Union v w = needs_more_words v w.length
 joint_may_lack_memory SymmetricDifference v w = needs_more_words v w.length
@@ -30,7 +30,7 @@ joint_may_lack_memory Intersection v w = false
 joint_may_lack_memory Difference v w = false
 joint_may_lack_memory Copy v w = needs_more_words v w.length
 
--- a function changes set a by set b; where it does not, it answers why, and nothing changes
+-- a function changes set a by set b; where it does not, it returns why, and nothing changes
 abbrev pub Joins : Sets → Joint → ℕ → ℕ → Result Reply Refusal → Sets → Type 0
 Joins old joint a b result new = MatchOption (no_sets old a b)
     (((replied result ≡ answer.done) × (new ≡ slice_set old a (combination joint (at old a) (at old b))))

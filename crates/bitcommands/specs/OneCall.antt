@@ -1,5 +1,5 @@
 -- No public clause cites this module.
--- One call of a walk, from its front or from its back.
+-- One call of an iterator, from its front or from its back.
 use Rattle.std.specs.Prelude.{ℕ, ◌-◌, List, length, take, drop, slice_get, Option}
 use Rattle.bitcommands.specs.declared.commands.arguments.End.{End}
 use Rattle.bitcommands.specs.declared.commands.arguments.End.TheVariants.{Front, Back}

@@ -1,4 +1,4 @@
--- What the functions of a group answer, and what a check of a guard answers.
+-- What the functions of a group return, and what a check of a guard returns.
 use Rattle.std.specs.Prelude.{◌≡◌, ℕ, List, [], Option, Some, None, Result, Ok, Err, MatchOption, IsOk, decimal}
 use Rattle.fixedbitset.specs.declared.extend.ExtendFault.{ExtendFault}
 use Rattle.fixedbitset.specs.declared.extend.ExtendFault.TheVariants as fault
@@ -13,16 +13,16 @@ use Rattle.bitcommands.specs.Answers.{Answer, answer_of}
 use Rattle.bitcommands.specs.Sets.{Sets}
 use Rattle.bitcommands.specs.Steps.{Step}
 
--- a check answers the first refusal of its guard
+-- a check returns the first refusal of its guard
 abbrev pub Passes : {A : Type 0} → Result A Refusal → Option Refusal → Type 0
 Passes result guard = MatchOption guard (IsOk result) (λ f. result ≡ Err f)
 
--- a refusal that is answered as an error is the reply
+-- a refusal that is returned as an error is the reply
 abbrev pub replied : Result Reply Refusal → Answer
 replied (Ok r) = answer_of r
 replied (Err f) = answer.refused f
 
--- a function that answers a refusal as an error makes a step
+-- a function that returns a refusal as an error makes a step
 abbrev pub Answers : ℕ → Sets → Action → Result Reply Refusal → Sets → Type 0
 Answers m old c result new = Step m old c (replied result) new
 
@@ -30,12 +30,12 @@ Answers m old c result new = Step m old c (replied result) new
 abbrev pub AnswersAlways : Sets → Action → Result Reply Refusal → Sets → Type 0
 AnswersAlways old c result new = (m : ℕ) → Answers m old c result new
 
--- the refusal that a fault of `extend` or `from_iter` is
+-- the refusal that an error of `extend` or `from_iter` is
 abbrev pub fault_refusal : ExtendFault → Refusal
 fault_refusal fault.Position = refusal.Greatest
 fault_refusal fault.Memory = refusal.Memory
 
--- the refusal that a fault of a JSON value is
+-- the refusal that an error of a JSON value is
 abbrev pub json_refusal : JsonFault → Refusal
 json_refusal json.Memory = refusal.Memory
 json_refusal f = refusal.Json f

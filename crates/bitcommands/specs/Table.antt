@@ -1,4 +1,4 @@
--- The table: how a line has each command, what the command answers, and what it leaves.
+-- The table: how a line has each command, what the command returns, and what it leaves.
 use Prim.Native.String.{String}
 use Rattle.std.specs.Prelude.{ℕ, ◌+◌, Bool, true, false, List, [], ◌∷◌, ◌++◌, map, length}
 use Rattle.std.specs.Prelude.{Option, nat_lt, ◌==◌, if◌then◌else◌, codes, slice_set, not}
@@ -28,8 +28,8 @@ use Rattle.bitcommands.specs.Guards.{no_set, no_sets, no_position, no_word, no_r
 use Rattle.bitcommands.specs.Guards.{no_value, past_limit, before_greatest, has_greatest, needs_more_words}
 use Rattle.bitcommands.specs.Calls.{calls}
 
--- What a command does: the first of its guards that refuses; where none does, its answer and the sets left;
--- and whether memory may be refused in their place.
+-- What a command does: the first of its guards that refuses; where none does, its reply and the sets left;
+-- and whether an allocation may fail in their place.
 abbrev pub Row : Type 0
 Row = record { refusal : Option Refusal; answer : Answer; left : Sets; may_lack_memory : Bool }
 
@@ -51,7 +51,7 @@ abbrev pub makes_of : String → ℕ → ℕ → ℕ → (Bits → Bits → Bits
 makes_of word d a b join = entry word (number d ∷ number a ∷ number b ∷ [])
     (λ m s. row (option_or (no_set s d) (no_sets s a b)) answer.done (slice_set s d (join (at s a) (at s b))) true)
 
--- set k is asked, with these other arguments, and nothing changes; the answer may take memory
+-- set k is asked, with these other arguments, and nothing changes; the reply may allocate
 abbrev pub asks : String → ℕ → List Argument → Bool → (Bits → Answer) → Entry
 asks word k others takes_memory tell =
     entry word (number k ∷ others) (λ m s. row (no_set s k) (tell (at s k)) s takes_memory)
@@ -61,7 +61,7 @@ abbrev pub asks_range : {A : Type 0} → String → ℕ → Range → (A → Ans
 asks_range word k r seen_as tell =
     entry word (number k ∷ range r ∷ []) (λ m s. row (no_range s k r) (seen_as (over tell (at s k) r.0 r.1)) s false)
 
--- the sets a and b are asked, with these other arguments, and nothing changes; the answer may take memory
+-- the sets a and b are asked, with these other arguments, and nothing changes; the reply may allocate
 abbrev pub asks_both : String → ℕ → ℕ → List Argument → Bool → (Bits → Bits → Answer) → Entry
 asks_both word a b others takes_memory tell =
     entry word (number a ∷ number b ∷ others) (λ m s. row (no_sets s a b) (tell (at s a) (at s b)) s takes_memory)
@@ -80,7 +80,7 @@ changes_range word k r others change = entry word (number k ∷ range r ∷ othe
 abbrev pub counts : String → ℕ → ℕ → (FinSet nat_cmp → FinSet nat_cmp → FinSet nat_cmp) → Entry
 counts word a b join = asks_both word a b [] false (λ v w. answer.number (set.len (join v.positions w.positions)))
 
--- set a changes by set b, where a test of set a and the length of set b tells whether memory may be refused
+-- set a changes by set b, where a test of set a and the length of set b tells whether an allocation may fail
 abbrev pub changes_by : String → ℕ → ℕ → (Bits → ℕ → Bool) → (Bits → Bits → Bits) → Entry
 changes_by word a b takes_memory join = entry word (number a ∷ number b ∷ [])
     (λ m s. row (no_sets s a b) answer.done (slice_set s a (join (at s a) (at s b)))

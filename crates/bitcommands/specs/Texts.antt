@@ -16,7 +16,7 @@ use Rattle.bitcommands.specs.declared.commands.refusals.Refusal.TheVariants.{Gre
 use Rattle.bitcommands.specs.Answers as answer
 use Rattle.bitcommands.specs.Answers.{Answer}
 
--- the number of a fault of a JSON value; behind that of an item stands its index
+-- the number of an error of a JSON value; behind that of an item stands its index
 abbrev pub json_fault_text : JsonFault → List ℕ
 json_fault_text fault.Shape = codes "J1"
 json_fault_text fault.Count = codes "J2"
@@ -61,7 +61,7 @@ order_text Less = codes "less"
 order_text Equal = codes "equal"
 order_text Greater = codes "greater"
 
--- the text of an answer; that of a JSON value has no space
+-- the text of a reply; that of a JSON value has no space
 abbrev pub answer_text : Answer → List ℕ
 answer_text answer.done = codes "ok"
 answer_text (answer.bool e) = flag_text e
@@ -74,7 +74,7 @@ answer_text (answer.text characters) = characters
 answer_text (answer.value d) = compact_text d
 answer_text (answer.refused f) = refusal_text f
 
--- whether an answer has but one text: a JSON value has it if it has no number with a fraction or an exponent
+-- whether a reply has but one text: a JSON value has it if it has no number with a fraction or an exponent
 abbrev pub has_one_text : Answer → Bool
 has_one_text (answer.value d) = not (has_float d)
 has_one_text r = true
@@ -83,7 +83,7 @@ has_one_text r = true
 abbrev pub one_text : Answer → Option (List ℕ)
 one_text r = if has_one_text r then Some (answer_text r) else None
 
--- the JSON value that is answered, if one is
+-- the JSON value that is returned, if one is
 abbrev pub value_of : Answer → Option Data
 value_of (answer.value d) = Some d
 value_of r = None

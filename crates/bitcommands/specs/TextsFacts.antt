@@ -1,4 +1,4 @@
--- The answers of the table have one text each, with no line end in it, for those who
+-- The replies of the table have one text each, with no line end in it, for those who
 -- print replies and cut an output into lines.
 use Rattle.std.proofs.Common.{◌≡◌, ℕ, zero, suc, ◌/◌, ◌%◌, List, [], ◌∷◌, ◌++◌, map, Option, Some, None}
 use Rattle.std.proofs.Common.{MatchOption, Bool, true, false, not, eqb, ◌⊎◌, inl, inr, refl, arith}
@@ -71,9 +71,9 @@ value_line : (v : Bits) → is_one_line (compact_text (written v)) ≡ true
 unfolding json_text
 value_line v = rw text-written (grind (arith, after, decimal_line, joined_line decimal 44 refl decimal_line (bytes v)))
 
--- ---- the answers of the table
+-- ---- the replies of the table
 
--- an answer that is a text has no line end, and one that is a JSON value has none and no float
+-- a reply that is a text has no line end, and one that is a JSON value has none and no float
 abbrev IsPlain : Answer → Type 0
 IsPlain (answer.text characters) = is_one_line characters ≡ true
 IsPlain (answer.value d) = (is_one_line (compact_text d) ≡ true) × (has_float d ≡ false)
@@ -110,12 +110,12 @@ answered_plain r a None P Q R plain (inl h) = rw h.0 plain
 answered_plain r a None P Q R plain (inr h) = rw h.0 tt
 answered_plain r a (Some f) P Q R plain h = rw h.0 tt
 
--- each step answers what has no line end
+-- each step returns what has no line end
 pub step_line : (m : ℕ) (old new : Sets) (c : Action) (r : Answer) → Step m old c r new
     → is_one_line (answer_text r) ≡ true
 step_line m old new c r step = answer_line r (answered_plain r _ _ _ _ _ (row_plain m old c) step)
 
--- each step answers what has one text
+-- each step returns what has one text
 pub step_one_text : (m : ℕ) (old new : Sets) (c : Action) (r : Answer) → Step m old c r new
     → one_text r ≡ Some (answer_text r)
 step_one_text m old new c r step = answer_one r (answered_plain r _ _ _ _ _ (row_plain m old c) step)

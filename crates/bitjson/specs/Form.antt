@@ -11,12 +11,12 @@ use Rattle.bitjson.specs.declared.fault.JsonFault.{JsonFault}
 use Rattle.bitjson.specs.declared.fault.JsonFault.TheVariants as fault
 
 infixl 10 ◌>>=◌
--- what comes of an answer, or the fault that is there already
+-- what comes of a result, or the error that is there already
 abbrev pub ◌>>=◌ : {A B : Type 0} → Result A JsonFault → (A → Result B JsonFault) → Result B JsonFault
 (Ok x) >>= f = f x
 (Err e) >>= f = Err e
 
--- what is there, or the fault where nothing is
+-- what is there, or the error where nothing is
 abbrev pub or_fault : {A : Type 0} → Option A → JsonFault → Result A JsonFault
 or_fault (Some x) f = Ok x
 or_fault None f = Err f
@@ -58,7 +58,7 @@ bytes (string s) = Err fault.Data
 bytes (array ds) = bytes_from 0 ds
 bytes (object ms) = Err fault.Data
 
--- the length and the bytes of a value in the form, or the first fault
+-- the length and the bytes of a value in the form, or the first error
 unfoldable pub form : Data → Result (ℕ × List ℕ) JsonFault
 form d = do
   p ← parts d

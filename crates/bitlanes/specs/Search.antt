@@ -1,4 +1,4 @@
--- The words of a row that are not 0, beside a place of it.
+-- The words of a row that are not 0, before and after a place of it.
 use Rattle.std.specs.Prelude.{◌≡◌, ◌≢◌, ℕ, ◌<◌, ◌≤◌, List, length, slice_index}
 
 -- word k is there and not 0, and each word from place `from` up to it is 0

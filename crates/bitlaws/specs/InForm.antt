@@ -1,4 +1,4 @@
--- The JSON form as a predicate, and what each fault says of a value.
+-- The JSON form as a predicate, and what each error says of a value.
 use Rattle.std.specs.Prelude.{◌≡◌, ◌≢◌, ◌⊎◌, ℕ, ◌<◌, nat_lt, List, true, Some, None, codes}
 use Rattle.std.specs.List.{list_all}
 use Rattle.serde_json.specs.Data.{Data, Items, Members, number, array, object, no_items, item, unsigned}
@@ -25,7 +25,7 @@ abbrev pub IsFirstNoByte : Items → ℕ → Type 0
 IsFirstNoByte ds k = (e : Data) × (get_item k ds ≡ Some e) × ((b : ℕ) → b < 256 → e ≢ number (unsigned b))
     × ((j : ℕ) → j < k → (b : ℕ) × (b < 256) × (get_item j ds ≡ Some (number (unsigned b))))
 
--- the fault that a value has: of any value at most one
+-- the error that a value has: of any value at most one
 abbrev pub HasFault : Data → JsonFault → Type 0
 HasFault d fault.Shape = ((ds : Items) → d ≢ array ds) × ((ms : Members) → d ≢ object ms)
 HasFault d fault.Count = (ds : Items) × (d ≡ array ds) × (items_len ds ≢ 2)

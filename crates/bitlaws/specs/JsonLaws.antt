@@ -7,8 +7,8 @@ use Rattle.fixedbitset.specs.Bits.{Bits}
 use Rattle.fixedbitset.specs.Json as json
 use Rattle.bitlaws.specs.InForm.{InForm, HasFault}
 
--- it answers what `of` makes of a length and bytes exactly where the value is in the form with these,
--- and a fault exactly where the value has it
+-- it returns what `of` makes of a length and bytes exactly where the value is in the form with these,
+-- and an error exactly where the value has it
 abbrev pub ReadsForm : {A : Type 0} → (Data → Result A JsonFault) → (ℕ → List ℕ → A) → Type 0
 ReadsForm {A} read of =
     (d : Data) → ((x : A) → (read d ≡ Ok x) ↔ ((n : ℕ) × (bs : List ℕ) × InForm d n bs × (x ≡ of n bs)))

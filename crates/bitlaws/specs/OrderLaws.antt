@@ -9,7 +9,7 @@ use Rattle.fixedbitset.specs.Order.{IsBelow, equal, compare}
 abbrev pub EqualTells : Type 0
 EqualTells = (v w : Bits) → IsTrue (equal v w) ↔ ((v.length ≡ w.length) × ((p : ℕ) → contains v p ≡ contains w p))
 
--- `compare` answers which of two values comes before the other, or that they are equal
+-- `compare` returns which of two values comes before the other, or that they are equal
 abbrev pub CompareTells : Type 0
 CompareTells = (v w : Bits) → MatchOrdering (compare v w) (IsBelow v w) (v ≡ w) (IsBelow w v)
 

@@ -28,7 +28,7 @@ JoinsByPieces join = (v w : Bits) (cuts : List ℕ) → pieces (join v w) 0 cuts
 abbrev pub CountsByPieces : (Bits → Bits → ℕ) → Type 0
 CountsByPieces count = (v w : Bits) (cuts : List ℕ) → AreCuts v 0 cuts → count v w ≡ sum (by_pieces count v w cuts)
 
--- a question about two sets is answered `true` exactly if it is of each two pieces
+-- a test of two sets is `true` exactly if it is of each two pieces
 abbrev pub TestsByPieces : (Bits → Bits → Bool) → Type 0
 TestsByPieces test =
     (v w : Bits) (cuts : List ℕ) → AreCuts v 0 cuts → test v w ≡ list_all (λ answer. answer) (by_pieces test v w cuts)
@@ -74,6 +74,6 @@ abbrev pub MissingIsEmpty : Type 0
 MissingIsEmpty =
     (v : Bits) (start end : ℕ) → (slice v start end ≡ empty (end - start)) ↔ (¬ (IsTrue (contains_any v start end)))
 
--- what f answers of a set before the empty set of its length, and behind it
+-- what f returns of a set before the empty set of its length, and behind it
 abbrev pub WithNothing : {A : Type 0} → (Bits → Bits → A) → (before behind : Bits → A) → Type 0
 WithNothing f before behind = (v : Bits) → (f v (empty v.length) ≡ before v) × (f (empty v.length) v ≡ behind v)

@@ -24,7 +24,7 @@ abbrev pub ends : ℕ → Bits → List Bits → List ℕ
 ends start piece [] = []
 ends start piece (next ∷ others) = (start + piece.length) ∷ ends (start + piece.length) next others
 
--- what f answers of the first pieces of two sets, of the second ones, and so on
+-- what f returns of the first pieces of two sets, of the second ones, and so on
 abbrev pub by_pieces : {A : Type 0} → (Bits → Bits → A) → Bits → Bits → List ℕ → List A
 by_pieces f v w cuts = map (λ both. f both.0 both.1) (zip (pieces v 0 cuts) (pieces w 0 cuts))
 

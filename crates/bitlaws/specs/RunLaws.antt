@@ -1,4 +1,4 @@
--- What the stretches of a set are.
+-- What the runs of a set are.
 use Rattle.std.specs.Prelude.{◌≡◌, ◌↔◌, ℕ, ◌+◌, ◌<◌, ◌≤◌, Bool, true, false, IsTrue, MatchOption, List, [], ◌∷◌}
 use Rattle.bitwords.specs.Neighbours.{NonePasses}
 use Rattle.fixedbitset.specs.Bits.{Bits, contains, complement}

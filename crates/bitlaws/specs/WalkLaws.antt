@@ -1,11 +1,11 @@
--- What holds of calls of a walk from its two ends, in any order.
+-- What holds of calls of an iterator from its two ends, in any order.
 use Rattle.std.specs.Prelude.{◌≡◌, ℕ, ◌+◌, ◌*◌, ◌≤◌, List, [], ◌∷◌, ◌++◌, length, reverse, Option}
 use Rattle.std.specs.Option.{option_to_list}
 use Rattle.bitwords.specs.Walk.{Walk, GivesFirst, GivesLast}
 use Rattle.bitwalks.specs.Pairs.{Sieved, SievesFirst, SievesLast, Joined, joined_items, JoinsFirst}
 use Rattle.bitwalks.specs.Pairs.{JoinsLast, Split, split_items, SplitsFirst, SplitsLast}
 
--- a call from one end, and what it answered
+-- a call from one end, and what it returned
 pub data Call : Type 0 where
   from_front : Option ℕ → Call
   from_back : Option ℕ → Call
@@ -22,15 +22,15 @@ given_back [] = []
 given_back (from_front answer ∷ calls) = given_back calls
 given_back (from_back answer ∷ calls) = option_to_list answer ++ given_back calls
 
--- a walk, by what it has left and by what a call from each end does to it
+-- an iterator, by what it has left and by what a call from each end does to it
 module _ {S : Type 0} (items : S → List ℕ) (first last : S → Option ℕ → S → Type 0) where
-  -- these calls, one after the other, took the walk from s to t
+  -- these calls, one after the other, took the iterator from s to t
   abbrev pub Called : List Call → S → S → Type 0
   Called [] s t = s ≡ t
   Called (from_front answer ∷ calls) s t = (u : S) × first s answer u × Called calls u t
   Called (from_back answer ∷ calls) s t = (u : S) × last s answer u × Called calls u t
 
-  -- items from the front, then those left, then those from the back reversed, are the walk's list
+  -- items from the front, then those left, then those from the back reversed, are the iterator's list
   abbrev pub PartsAreTheList : Type 0
   PartsAreTheList = (calls : List Call) (s t : S) → Called calls s t
       → given_front calls ++ (items t ++ reverse (given_back calls)) ≡ items s
@@ -46,7 +46,7 @@ pub record TookWords (calls : ℕ) (s t : Walk) : Type 0 where
   pub taken : t.taken ≡ s.taken + length front + length back
   pub turns : t.turns ≡ s.turns + calls + length front + length back
 
--- whatever calls were made of a walk over one set
+-- whatever calls were made of an iterator over one set
 abbrev pub TurnsOfCalls : Type 0
 TurnsOfCalls = (calls : List Call) (s t : Walk) → Called (λ walk. walk.items) GivesFirst GivesLast calls s t
     → TookWords (length calls) s t
@@ -66,7 +66,7 @@ abbrev pub LooksUpOnce : Type 0
 LooksUpOnce = (calls : List Call) (s t : Sieved) → Called (λ sieved. sieved.items) SievesFirst SievesLast calls s t
     → LookedUp (length calls) s t
 
--- the same of a walk and then a sieve, over both: the items of the walk are not looked up
+-- the same of an iterator and then a sieve, over both: the items of the iterator are not looked up
 abbrev pub joined_effort : Joined → ℕ
 joined_effort walk = walk.first.turns + length walk.first.words + effort walk.second
 
@@ -76,7 +76,7 @@ pub record JoinedUp (calls : ℕ) (s t : Joined) : Type 0 where
   pub asked : t.second.asked + length t.second.source.items ≡ s.second.asked + length s.second.source.items
   pub turns : joined_effort t ≤ joined_effort s + 2 * calls
 
--- whatever calls were made of a walk and then a sieve
+-- whatever calls were made of an iterator and then a sieve
 abbrev pub JoinsOnce : Type 0
 JoinsOnce = (calls : List Call) (s t : Joined) → Called joined_items JoinsFirst JoinsLast calls s t
     → JoinedUp (length calls) s t

@@ -105,13 +105,13 @@ of_set_and_range set_and_range.ContainsAllInRange k r = action.contains_all_in_r
 of_set_and_range set_and_range.ContainsAnyInRange k r = action.contains_any_in_range k r
 of_set_and_range set_and_range.RangeIsValid k r = action.range_is_valid k r
 
--- a command on a set and the ends of a walk over it
+-- a command on a set and the ends of an iterator over it
 abbrev pub of_set_and_ends : SetAndEnds → ℕ → List End → Action
 of_set_and_ends set_and_ends.Ones k ends = action.ones k ends
 of_set_and_ends set_and_ends.IntoOnes k ends = action.into_ones k ends
 of_set_and_ends set_and_ends.Zeroes k ends = action.zeroes k ends
 
--- a command on two sets and the ends of a walk over them
+-- a command on two sets and the ends of an iterator over them
 abbrev pub of_two_sets_and_ends : TwoSetsAndEnds → ℕ → ℕ → List End → Action
 of_two_sets_and_ends two_sets_and_ends.Union a b ends = action.union a b ends
 of_two_sets_and_ends two_sets_and_ends.Intersection a b ends = action.intersection a b ends

@@ -25,7 +25,7 @@ use Rattle.bitlines.specs.declared.names.SetAndEnds.TheVariants.{Ones, IntoOnes,
 use Rattle.bitlines.specs.declared.names.TwoSetsAndEnds.TheVariants.{Union, Intersection, Difference}
 use Rattle.bitlines.specs.declared.names.TwoSetsAndEnds.TheVariants.{SymmetricDifference}
 
--- the name that stands beside this text, in a list of texts and names
+-- the name that stands next to this text, in a list of texts and names
 abbrev pub name_in : List (List ℕ × Name) → List ℕ → Option Name
 name_in [] word = None
 name_in (entry ∷ entries) word = if bytes_eq word entry.0 then Some entry.1 else name_in entries word

@@ -18,7 +18,7 @@ lines_of input = if length input == 0 then [] else slice_split (λ b. b == 10) (
 -- ---- the output
 
 -- The reply to a line, and the sets that it leaves: where the line stands for a command, the text of what a step
--- answers, at the limit 1,000,000; else the text of a fault, and nothing changes.
+-- returns, at the limit 1,000,000; else the text of an error, and nothing changes.
 abbrev pub Replies : Sets → List ℕ → List ℕ → Sets → Type 0
 Replies old line reply new = MatchOption (command_of line) ((reply ≡ codes "F8 not a command") × (new ≡ old))
     (λ c. (r : Answer) × Step 1000000 old c r new × (reply ≡ answer_text r))

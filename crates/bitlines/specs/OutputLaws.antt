@@ -6,11 +6,11 @@ use Rattle.bitcommands.specs.Sets.{Sets}
 use Rattle.bitcommands.specs.Texts.{refusal_text}
 use Rattle.bitlines.specs.Output.{IsOutput, Replies, lines_of}
 
--- no line of the output says that memory was refused
+-- no line of the output says that an allocation failed
 abbrev pub LacksNothing : List ℕ → Type 0
 LacksNothing output = ¬ Contains (lines_of output) (refusal_text Memory)
 
--- two outputs of one input, neither with a line that says that memory was refused, are equal
+-- two outputs of one input, neither with a line that says that an allocation failed, are equal
 abbrev pub OneOutput : Type 0
 OneOutput = (input first second : List ℕ) → IsOutput input first → IsOutput input second
     → LacksNothing first → LacksNothing second → first ≡ second

@@ -1,4 +1,4 @@
--- Rank and select of a value, and the directory that answers them.
+-- Rank and select of a value, and the directory for them.
 use Rattle.std.specs.Prelude.{◌≡◌, ℕ, ◌+◌, ◌-◌, ◌*◌, ◌/◌, ◌%◌, ◌^◌, ◌<◌, ◌≤◌}
 use Rattle.std.specs.Prelude.{min, Option, List, length, slice_get, slice_index}
 use Rattle.std.specs.Int.{div_ceil}

@@ -1,4 +1,4 @@
--- What a clause sees of a table over lent words: the table of the words and the numbers of rows and columns.
+-- What a clause sees of a table over borrowed words: the table of the words and the numbers of rows and columns.
 use Rattle.std.specs.Prelude.{◌≡◌}
 use Rattle.bitrows.specs.Stored.{table_in}
 use Rattle.bitrows.specs.Tables.{Table}

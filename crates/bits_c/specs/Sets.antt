@@ -1,4 +1,4 @@
--- What a contract sees of words that are lent, and of an answer.
+-- What a contract sees of words that are borrowed, and of a result.
 use Rattle.std.specs.Prelude.{ℤ, pos, negsuc}
 use Rattle.std.specs.declared.cmp.Ordering.{Ordering}
 use Rattle.std.specs.declared.cmp.Ordering.TheVariants.{Less, Equal, Greater}
@@ -10,7 +10,7 @@ use Rattle.bits_c.specs.declared.structs.Room.{Room}
 abbrev pub written : Room → Bits
 written room = of_words room.length room.words.now
 
--- the value of the set that is lent with its directory
+-- the value of the set that is borrowed with its directory
 abbrev pub ranked : Ranks → Bits
 ranked ranks = of_words ranks.length ranks.words.now
 

@@ -1,4 +1,4 @@
--- What a contract sees of a walk that a caller keeps: the positions left.
+-- What a contract sees of an iterator that a caller keeps: the positions left.
 use Rattle.std.specs.Prelude.{ℕ, ◌≡◌, ◌-◌, ◌/◌, ◌%◌, ◌^◌, min, Bool, if◌then◌else◌, Option, Some}
 use Rattle.std.specs.Prelude.{None, List, ◌++◌, length, take, drop, reverse, map, bit_and}
 use Rattle.std.specs.Int.{bit_not, w64, div_ceil}
@@ -24,7 +24,7 @@ ones_left walk = held_items walk.front_at walk.front walk.words.now walk.back
 abbrev pub zeroes_left : Zeroes → List ℕ
 zeroes_left walk = held_items walk.front_at walk.front (map (bit_not w64) walk.words.now) walk.back
 
--- the stretches left
+-- the runs left
 abbrev pub stretches_left : Runs → List (ℕ × ℕ)
 stretches_left walk = stretches (is_like walk.are_set walk.words.now) walk.end walk.low walk.high
 
@@ -36,7 +36,7 @@ words_between n = words_needed n - 2
 abbrev pub range_words_between : (start end : ℕ) → ℕ
 range_words_between start end = div_ceil end 64 - start / 64 - 2
 
--- the stretch that a call gave, if it says that it gave one
+-- the run that a call gave, if it says that it gave one
 abbrev pub given_run : Bool → ℕ → ℕ → Option (ℕ × ℕ)
 given_run found start end = if found then Some (start, end) else None
 

@@ -1,11 +1,11 @@
--- What a contract sees of a walk over two rows of words.
+-- What a contract sees of an iterator over two rows of words.
 use Rattle.std.specs.Prelude.{◌≡◌, ℕ, ◌+◌, ◌*◌, ◌≤◌, Bool, filter, List, ◌++◌, length, Option}
 use Rattle.std.specs.Iterator.{YieldsFirst, YieldsLast}
 use Rattle.bitwords.specs.Ascending.{ascending}
 use Rattle.bitwords.specs.Rows.{has_bit}
 use Rattle.bitwords.specs.Walk.{Walk, TakesFromFront, TakesFromBack, over_row}
 
--- ---- the walk over one row, sieved by another: the items left, how many items were
+-- ---- the iterator over one row, sieved by another: the items left, how many items were
 -- looked up in the other row, and the source
 
 pub record Sieved : Type 0 where
@@ -13,7 +13,7 @@ pub record Sieved : Type 0 where
   pub asked : ℕ
   pub source : Walk
 
--- the walk over a row, sieved by another, before its first call
+-- the iterator over a row, sieved by another, before its first call
 abbrev pub sieve_over : (Bool → Bool) → List ℕ → List ℕ → Sieved
 sieve_over passes words other = record {
   items = filter (λ p. passes (has_bit other p)) (ascending (has_bit words) 0 (64 * length words));
@@ -47,7 +47,7 @@ SievesFirst old result new = YieldsFirst (λ sieved. sieved.items) old result ne
 abbrev pub SievesLast : Sieved → Option ℕ → Sieved → Type 0
 SievesLast old result new = YieldsLast (λ sieved. sieved.items) old result new × AsksBack old new
 
--- ---- two walks in turn
+-- ---- two iterators in turn
 
 -- what each of the two shows, and whether the first may have items left: it has none once it gave none from the front
 pub record Two (A B : Type 0) : Type 0 where
@@ -55,13 +55,13 @@ pub record Two (A B : Type 0) : Type 0 where
   pub second : B
   pub first_left : Bool
 
--- a walk was called from the front once at most
+-- an iterator was called from the front once at most
 pub record WalksFront (old new : Walk) : Type 0 where
   pub calls : ℕ
   pub few : calls ≤ 1
   pub takes : TakesFromFront calls old new
 
--- a walk was called from the back once at most
+-- an iterator was called from the back once at most
 pub record WalksBack (old new : Walk) : Type 0 where
   pub calls : ℕ
   pub few : calls ≤ 1

@@ -1,4 +1,4 @@
--- A walk that no call was made of.
+-- An iterator that no call was made of.
 use Rattle.std.proofs.Common.{arith}
 use Rattle.bitwords.specs.Walk.{Walk}
 use Rattle.bitwords.specs.CallFacts.{takes_none, takes_none_back}

@@ -1,4 +1,4 @@
--- Calls of a walk one after the other.
+-- Calls of an iterator one after the other.
 use Rattle.std.specs.Prelude.{ℕ, ◌+◌, Option, Some, None, List, [], ◌∷◌, ◌++◌, length}
 use Rattle.std.specs.Iterator.{YieldsFirst, YieldsLast, item_count, MakesProgress}
 use Rattle.std.proofs.Common.{refl, sym, ap, ◌∙◌, arith, append_assoc, append-nil}
@@ -39,7 +39,7 @@ module _ (walk : Walk) where
         counts = record { taken = omega arith; turns = omega arith };
       }
 
--- a walk that yields the first, or the last, comes nearer its end
+-- an iterator that yields the first, or the last, comes nearer its end
 pub progress_first : {S A : Type 0} (rest : S → List A) (s : S) (r : Option A) (t : S) → YieldsFirst rest s r t
     → MakesProgress (λ _. Unit {0}) (item_count rest) s r t
 progress_first rest s None t gives = record { on = λ _. tt; keeps = tt; rests = λ _. tt }

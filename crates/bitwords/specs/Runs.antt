@@ -1,4 +1,4 @@
--- The stretches of numbers that pass a test without a gap, as start and end: the end is the first number behind.
+-- The runs of numbers that pass a test without a gap, as start and end: the end is the first number behind.
 use Rattle.std.specs.Prelude.{◌≡◌, ◌≢◌, ℕ, ◌-◌, ◌+◌, ◌/◌, ◌<◌, ◌≤◌, Bool, true, false, not}
 use Rattle.std.specs.Prelude.{◌&&◌, nat_lt, Option, IfSome, unwrap_or, List, map, slice_get}
 use Rattle.std.specs.Iterator.{YieldsFirst, YieldsLast}
@@ -13,7 +13,7 @@ begins test p = test p && not (nat_lt 0 p && test (p - 1))
 abbrev pub end_from : (ℕ → Bool) → (n p : ℕ) → ℕ
 end_from test n p = unwrap_or (slice_get (ascending (λ q. not (test q)) p (n - p)) 0) n
 
--- of the numbers below n, the stretches that begin from `low` up to and without `high`, in ascending order
+-- of the numbers below n, the runs that begin from `low` up to and without `high`, in ascending order
 abbrev pub stretches : (ℕ → Bool) → (n low high : ℕ) → List (ℕ × ℕ)
 stretches test n low high = map (λ p. (p, end_from test n p)) (ascending (begins test) low (high - low))
 
@@ -22,7 +22,7 @@ abbrev pub is_like : Bool → List ℕ → ℕ → Bool
 is_like true words p = has_bit words p
 is_like false words p = not (has_bit words p)
 
--- the stretches left, the ends of where they are, and the steps that were taken
+-- the runs left, the ends of where they are, and the steps that were taken
 pub record RunWalk : Type 0 where
   pub items : List (ℕ × ℕ)
   pub low : ℕ
@@ -44,12 +44,12 @@ pub record Passes (words : ℕ) (given : Option (ℕ × ℕ)) (before after : �
   pub more : IfSome given (λ _. before + words / 4 < after)
   pub most : after ≤ before + 4 + words / 4
 
--- a call gave the first of the stretches left, or `None` where none was left, and went over words from the front
+-- a call gave the first of the runs left, or `None` where none was left, and went over words from the front
 abbrev pub GivesFirstRun : RunWalk → Option (ℕ × ℕ) → RunWalk → Type 0
 GivesFirstRun old result new = YieldsFirst (λ walk. walk.items) old result new × (new.high ≡ old.high)
     × Passes (new.low / 64 - old.low / 64) result old.steps new.steps
 
--- a call gave the last of the stretches left, or `None` where none was left, and went over words from the back
+-- a call gave the last of the runs left, or `None` where none was left, and went over words from the back
 abbrev pub GivesLastRun : RunWalk → Option (ℕ × ℕ) → RunWalk → Type 0
 GivesLastRun old result new = YieldsLast (λ walk. walk.items) old result new × (new.low ≡ old.low)
     × Passes (old.high / 64 - new.high / 64) result old.steps new.steps

@@ -1,4 +1,4 @@
--- How the stretches fall into the first or the last and the others, for those who make a walk over them.
+-- How the runs fall into the first or the last and the others, for those who make an iterator over them.
 use Rattle.std.specs.Prelude.{slice_get}
 use Rattle.std.proofs.Common.{◌≡◌, ℕ, suc, ◌+◌, ◌-◌, ◌<◌, ◌≤◌, Bool, true, false, cond, not}
 use Rattle.std.proofs.Common.{◌&&◌, nat_lt, unwrap_or, [], ◌∷◌, ◌++◌, map, ap, ◌∙◌, arith}
@@ -20,7 +20,7 @@ and_begins a b c e f = grind arith
 pub and_first : (a b c : Bool) → a ≡ true → b ≡ false → (a && not (b && c)) ≡ true
 and_first a b c e f = grind arith
 
--- tests that agree below n have the same stretches
+-- tests that agree below n have the same runs
 pub stretches-same : (t u : ℕ → Bool) (n low high : ℕ) → high ≤ n → ((i : ℕ) → i < n → t i ≡ u i)
     → stretches t n low high ≡ stretches u n low high
 stretches-same t u n low high within same =
@@ -51,7 +51,7 @@ module _ (test : ℕ → Bool) (n : ℕ) where
       (λ j. cond (first j) (start ∷ ascending (begins test) (start + 1) k) (ascending (begins test) (start + 1) k))
       ∙ ap (λ xs. start ∷ xs) rest
 
-  -- the stretches before one, this one, and those behind it
+  -- the runs before one, this one, and those behind it
   pub around : (low start end high : ℕ) → low ≤ start → start < end → end ≤ high → begins test start ≡ true
       → ((i : ℕ) → start ≤ i → i < end → test i ≡ true)
       → ascending (begins test) low (high - low) ≡ ascending (begins test) low (start - low) ++ start ∷

@@ -1,4 +1,4 @@
--- What a contract sees of a walk over the positions of words.
+-- What a contract sees of an iterator over the positions of words.
 use Rattle.std.specs.Prelude.{◌≡◌, ℕ, ◌+◌, ◌-◌, ◌/◌, List, Option, ◌++◌, length, take, drop}
 use Rattle.std.specs.Int.{div_ceil}
 use Rattle.std.specs.Iterator.{YieldsFirst, YieldsLast}
@@ -16,12 +16,12 @@ pub record Walk : Type 0 where
 abbrev pub between_ends : List ℕ → List ℕ
 between_ends words = drop 1 (take (length words - 1) words)
 
--- the walk over the positions below `end` that a row of words has, before its first call
+-- the iterator over the positions below `end` that a row of words has, before its first call
 abbrev pub over_row : List ℕ → ℕ → Walk
 over_row words end =
     record { items = ascending (has_bit words) 0 end; words = between_ends words; turns = 0; taken = 0 }
 
--- the walk over those from `low` up to and without `end`, each moved up by `at`
+-- the iterator over those from `low` up to and without `end`, each moved up by `at`
 abbrev pub within_row : List ℕ → (at low end : ℕ) → Walk
 within_row words at low end =
     record {
@@ -35,7 +35,7 @@ within_row words at low end =
 abbrev pub range_cut : (start end : ℕ) → List ℕ → List ℕ
 range_cut start end words = take (div_ceil end 64 - start / 64) (drop (start / 64) words)
 
--- the walk over the positions from `start` up to and without `end` that a row of words has, before its first call
+-- the iterator over the positions from `start` up to and without `end` that a row of words has, before its first call
 abbrev pub range_row : List ℕ → (start end : ℕ) → Walk
 range_row words start end =
     record {

@@ -1,4 +1,4 @@
--- What runs of calls from a walk give, for those who make one.
+-- What runs of calls from an iterator give, for those who make one.
 use Rattle.std.specs.Prelude.{◌≡◌, ℕ, List, Option, Some, None}
 use Rattle.std.specs.Iterator.{YieldsFirst, YieldsLast}
 use Rattle.std.specs.Iterator.Runs.{EachRunFrom, ItemsAre, ItemsAreReversed, ItemsMapTo, ItemsMapToReversed}
@@ -34,7 +34,7 @@ module _ {S : Type 0} (items : S → List ℕ) (steps : S → Option ℕ → S �
       (from_back steps (λ x. x) items (λ s t h. ap length (gives s None t h).0) (λ s x t h. gives s (Some x) t h)
       run seen))
 
--- the same of the walks over one set
+-- the same of the iterators over one set
 module _ (walk : Walk) (xs : List ℕ) (left : walk.items ≡ xs) where
   pub walk_forwards : EachRunFrom GivesFirst walk (λ run. ItemsAre run xs)
   walk_forwards = runs_forwards (λ w. w.items) GivesFirst (λ s r t h. h.0) walk xs left

@@ -25,7 +25,7 @@ pub record IsSpaced (front_at back_at between back : ℕ) : Type 0 where
   pub order : front_at ≤ back_at
   pub fits : back_at + 64 ≤ 2 ^ 64
 
--- the walk that holds these, before its first call
+-- the iterator that holds these, before its first call
 abbrev pub held_walk : (front_at front : ℕ) → List ℕ → (back : ℕ) → Walk
 held_walk front_at front middle back =
     record { items = held_items front_at front middle back; words = middle; turns = 0; taken = 0 }

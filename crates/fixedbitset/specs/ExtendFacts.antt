@@ -6,7 +6,7 @@ use Rattle.fixedbitset.specs.Bits.{Bits, add_all}
 use Rattle.fixedbitset.specs.Extended.{Extends}
 
 module _ {S : Type 0} {gives : S → Option ℕ → S → Type 0} {it : S} {old new : Bits} {all : List ℕ} where
-  -- where a run ends with no fault, all that the iterator gives is added
+  -- where a run ends with no error, all that the iterator gives is added
   pub all_added : {R : Type 0} (result : Result R ExtendFault) → Extends gives it old new result
       → YieldsList gives (λ x. x) it all → OnOk result (new ≡ add_all old all)
   all_added (Ok x) e runs = let (rest, (last, run, none)) = e.next in

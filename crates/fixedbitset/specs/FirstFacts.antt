@@ -1,4 +1,4 @@
--- What one call of a walk tells: the first item is the least, and a walk with no item has none to give.
+-- What one call of an iterator tells: the first item is the least, and an iterator with no item has none to give.
 use Rattle.std.proofs.Common.{◌≡◌, ℕ, ◌<◌, ◌≤◌, IsTrue, false, List, [], ◌∷◌, Some, None, slice_get, refl, arith}
 use Rattle.std.proofs.lemmas.Bool.{false_from_ne_true}
 use Rattle.std.proofs.lemmas.Bool.Decides.{nat_tests}

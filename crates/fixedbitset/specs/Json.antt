@@ -12,11 +12,11 @@ use Rattle.fixedbitset.specs.Bits.{Bits, having, number_at, words_needed}
 unfoldable pub of_bytes : ℕ → List ℕ → Bits
 of_bytes n bs = having n (λ p. bit (slice_index bs (p / 8)) (p % 8))
 
--- the length of a value in the form, or the first fault
+-- the length of a value in the form, or the first error
 abbrev pub length_of : Data → Result ℕ JsonFault
 length_of d = form d >>= λ f. Ok f.0
 
--- what a value in the form means, or the first fault
+-- what a value in the form means, or the first error
 abbrev pub meaning : Data → Result Bits JsonFault
 meaning d = form d >>= λ f. Ok (of_bytes f.0 f.1)
 

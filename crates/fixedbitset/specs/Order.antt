@@ -7,7 +7,7 @@ use Rattle.std.specs.Hash as fed
 use Rattle.std.specs.Hash.{HashWrites}
 use Rattle.fixedbitset.specs.Bits.{Bits, contains, words}
 
--- some position is in w and not in v, and the two agree on all earlier stretches of 64 positions, and
+-- some position is in w and not in v, and the two agree on all earlier blocks of 64 positions, and
 -- on the greater positions of its own stretch
 abbrev pub Leads : Bits → Bits → Type 0
 Leads w v = (at : ℕ) × (contains w at ≡ true) × (contains v at ≡ false)

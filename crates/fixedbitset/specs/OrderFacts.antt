@@ -171,5 +171,5 @@ compare_partial = on_po key texts_po
 pub fed_alike : (v w : Bits) → IsTrue (equal v w) → fed_by v ≡ fed_by w
 fed_alike v w h = ap fed_by (same_if_equal v w h)
 
--- what a caller needs of an answer of `==`, of `cmp` and of a map
+-- what a caller needs of a result of `==`, of `cmp` and of a map
 pub ruleset facts = (equal_if_same, same_if_equal, same_if_tied)

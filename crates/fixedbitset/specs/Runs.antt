@@ -1,4 +1,4 @@
--- The stretches of a value: positions that follow each other without a gap, as
+-- The runs of a value: positions that follow each other without a gap, as
 -- start and end. The end is the first behind.
 use Rattle.std.specs.Prelude.{ℕ, ◌+◌, ◌-◌, Bool, not, ◌&&◌, nat_le, Option, List, slice_get}
 use Rattle.bitwords.specs.Ascending.{ascending}

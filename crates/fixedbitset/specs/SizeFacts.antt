@@ -163,9 +163,9 @@ is_full-counts v = same_truth _ _
 pub count_zeroes-full : (v : Bits) → is_full v ≡ true → count_zeroes v 0 v.length ≡ 0
 count_zeroes-full v full = omega (arith, range_counts_add_up v 0 v.length, eqb-true _ _ (sym (is_full-counts v) ∙ full))
 
--- ---- the items of a walk
+-- ---- the items of an iterator
 
--- a walk over the positions that are set has as many items as are counted
+-- an iterator over the positions that are set has as many items as are counted
 pub items_counted : (v : Bits) → length (asc v) ≡ count_ones v 0 v.length
 unfolding asc contains
 items_counted v = length-count (contains v) v.length ∙ sym (len-below v.length v.positions (contains_below v))

@@ -1,4 +1,4 @@
--- What a clause sees of a set over lent words: the value of the words and the length.
+-- What a clause sees of a set over borrowed words: the value of the words and the length.
 use Rattle.std.specs.Prelude.{◌≡◌}
 use Rattle.fixedbitset.specs.Bits as model
 use Rattle.fixedbitset.specs.declared.views.Bits.{Bits}

@@ -1,4 +1,4 @@
--- What the walks over the positions give, for those who call them.
+-- What the iterators over the positions give, for those who call them.
 use Rattle.std.proofs.Common.{IsTrue, ◌↔◌, ◌≡◌, ℕ, zero, suc, ◌+◌, ◌-◌, ◌<◌, ◌≤◌, Bool, true}
 use Rattle.std.proofs.Common.{false, cond, List, ◌∷◌, [], length, Contains, true≢false, refl}
 use Rattle.std.proofs.Common.{◌⊎◌, ⊎_elim, inl, inr, arith, get_or, sym, ap, subst}
@@ -13,7 +13,7 @@ pub use Rattle.bitwords.specs.WalkFacts.{list_forwards, walk_list}
 use Rattle.fixedbitset.specs.Bits.{Bits, contains, asc, complement}
 use Rattle.fixedbitset.specs.BitsFacts.{contains_below, length-complement, contains-complement}
 
--- a walk gives at most as many positions as there are
+-- an iterator gives at most as many positions as there are
 pub length-asc : (v : Bits) → length (asc v) ≤ v.length
 unfolding asc
 length-asc v = length-ascending (contains v) 0 v.length
@@ -57,7 +57,7 @@ pub item_of : (v : Bits) (p : ℕ) → contains v p ≡ true → (k : ℕ) × (k
 unfolding asc
 item_of v p one = (in_ascending (contains v) 0 v.length p).1 (one, omega arith, omega (arith, contains_below v p one))
 
--- what a caller needs of a walk over the positions that are set
+-- what a caller needs of an iterator over the positions that are set
 pub ruleset items = (contains_item, item_below, item_of)
 
 -- ---- a loop over the positions, said by members
@@ -86,7 +86,7 @@ pub all_done : (v : Bits) (P : ℕ → Type 0) → AreDone v P [] → (p : ℕ) 
 all_done v P done p one =
     ⊎_elim (λ (none : Contains [] p). absurd (omega (arith, none.1))) (λ (holds : P p). holds) (done.each p one)
 
--- what is left of a walk: the members from `low` on
+-- what is left of an iterator: the members from `low` on
 abbrev pub left_from : Bits → ℕ → List ℕ
 left_from v low = ascending (contains v) low (v.length - low)
 
@@ -142,7 +142,7 @@ walk_step v low t rest same =
       λ p. rw left (λ member. grind (arith, (members p).0 member), λ both. (members p).1 (grind arith)),
     )
 
--- ---- the walk over the zeros
+-- ---- the iterator over the zeros
 
 -- each item of it is below the length
 pub zero_below : (v : Bits) (k d : ℕ) → k < length (asc (complement v)) → get_or (asc (complement v)) k d < v.length

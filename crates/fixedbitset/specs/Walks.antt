@@ -1,11 +1,11 @@
--- What a contract sees of a walk over a set.
+-- What a contract sees of an iterator over a set.
 use Rattle.std.specs.Prelude.{ℕ, List, map}
 use Rattle.std.specs.Int.{bit_not, w64}
 use Rattle.bitwords.specs.Walk.{Walk, between_ends, range_cut}
 use Rattle.fixedbitset.specs.Bits.{Bits, asc, complement, words}
 use Rattle.fixedbitset.specs.Ranges.{within}
 
--- the walk over the positions of v, before its first call
+-- the iterator over the positions of v, before its first call
 abbrev pub begun : Bits → Walk
 begun v = record { items = asc v; words = between_ends (words v); turns = 0; taken = 0 }
 

@@ -1,4 +1,4 @@
--- Calls of a walk from its two ends, as a function of the list that was left.
+-- Calls of an iterator from its two ends, as a function of the list that was left.
 use Rattle.std.specs.Prelude.{ℕ, Bool, true, false, Option, Some, None, List, [], ◌∷◌, reverse}
 
 -- the first of a list, and the others
@@ -10,7 +10,7 @@ abbrev pub without_first : List ℕ → List ℕ
 without_first [] = []
 without_first (x ∷ xs) = xs
 
--- what a call from an end answers (`true` is the front), and what it leaves
+-- what a call from an end returns (`true` is the front), and what it leaves
 abbrev pub answer : Bool → List ℕ → Option ℕ
 answer true xs = first_of xs
 answer false xs = first_of (reverse xs)
@@ -19,7 +19,7 @@ abbrev pub rest : Bool → List ℕ → List ℕ
 rest true xs = without_first xs
 rest false xs = reverse (without_first (reverse xs))
 
--- the answers of calls from these ends in turn, and what they leave
+-- the results of calls from these ends in turn, and what they leave
 abbrev pub answers : List Bool → List ℕ → List (Option ℕ)
 answers [] xs = []
 answers (end ∷ ends) xs = answer end xs ∷ answers ends (rest end xs)

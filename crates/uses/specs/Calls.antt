@@ -5,7 +5,7 @@ use Rattle.fixedbitset.specs.Bits.{Bits, remove}
 use Rattle.fixedbitset.specs.Ranges.{remove_range}
 use Rattle.uses.specs.Pool.{IsTaken, IsTakenStretch, IsAnswer, IsLeft, IsStretchAnswer, IsStretchLeft}
 
--- a call of `take` and its answer, of `give_back` and its slot, or one of a stretch: `take_stretch` with its answer,
+-- a call of `take` and its result, of `give_back` and its slot, or one of a stretch: `take_stretch` with its result,
 -- and `give_back_stretch`
 pub data Call : Type 0 where
   Take : (answer : Option ℕ) → Call

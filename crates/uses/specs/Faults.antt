@@ -1,4 +1,4 @@
--- Which line a fault has.
+-- Which line an error has.
 use Rattle.std.specs.Prelude.{◌≡◌, ℕ, ◌+◌, ◌==◌, List, ◌∷◌, ◌++◌, All, length, take, count_by, ⊤}
 use Rattle.uses.specs.declared.text.Fault.{Fault}
 use Rattle.uses.specs.declared.text.Fault.TheVariants.{Memory, Input, Line}
@@ -11,7 +11,7 @@ pub record IsFirstOther {X : Type 0} (P : X → Type 0) (xs before : List X) (x 
   pub each : All P before
   pub other : ¬ (P x)
 
--- the fault has the line of this number
+-- the error has the line of this number
 abbrev pub HasLine : Fault → ℕ → Type 0
 HasLine Memory number = ⊥
 HasLine Input number = ⊥
@@ -21,7 +21,7 @@ HasLine (Line line _) number = line ≡ number
 abbrev pub line_of : ℕ → List ℕ → ℕ
 line_of place bytes = count_by (λ b. b == 10) (take place bytes) + 1
 
--- memory was refused, or the fault has the number of the first line that P does not hold of
+-- an allocation failed, or the error has the number of the first line that P does not hold of
 abbrev pub IsFaultOfLine : (List ℕ → Type 0) → List (List ℕ) → Fault → Type 0
 IsFaultOfLine P lines Memory = ⊤
 IsFaultOfLine P lines Input = ⊥
@@ -32,7 +32,7 @@ IsFaultOfLine P lines (Line number _) =
 abbrev pub AreAll : (List ℕ → Type 0) → List Row → Type 0
 AreAll P rows = All (λ (row : Row). P row.numbers.items) rows
 
--- memory was refused, or the fault has the number of the first row that is not as P says
+-- an allocation failed, or the error has the number of the first row that is not as P says
 abbrev pub IsFaultOfRow : (List ℕ → Type 0) → List Row → Fault → Type 0
 IsFaultOfRow P rows Memory = ⊤
 IsFaultOfRow P rows Input = ⊥

@@ -24,12 +24,12 @@ pub record HasFirst (rows : List Row) (number : ℕ) (others : List Row) : Type 
   pub parts : rows ≡ first ∷ others
   pub alone : first.numbers.items ≡ number ∷ []
 
--- the fault has the line of the first row, whose numbers are not as P says, or line 1 where there is no row
+-- the error has the line of the first row, whose numbers are not as P says, or line 1 where there is no row
 abbrev pub IsFaultOfFirst : (List ℕ → Type 0) → List Row → Fault → Type 0
 IsFaultOfFirst P [] fault = HasLine fault 1
 IsFaultOfFirst P (first ∷ others) fault = (¬ (P first.numbers.items)) × HasLine fault first.line
 
--- memory was refused, or the text is not as P says
+-- an allocation failed, or the text is not as P says
 abbrev pub IsRefusal : Type 0 → Fault → Type 0
 IsRefusal P Memory = ⊤
 IsRefusal P Input = ⊥
