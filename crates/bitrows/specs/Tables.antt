@@ -34,7 +34,7 @@ set_at t row column enabled = with_row t row (set_bit (row_of t row) column enab
 abbrev pub HaveSameSize : Table → Table → Type 0
 HaveSameSize old new = (length new.rows ≡ length old.rows) × (new.columns ≡ old.columns)
 
--- tables are told apart by these two
+-- two tables are equal if these two are
 abbrev pub code : Coded Table
 code = code_by (ℕ × List Bits) (coded× coded_ℕ (coded_list bits.code)) (λ t. (t.columns, t.rows))
     (λ d. record { columns = d.0; rows = d.1 }) (λ _. refl)

@@ -1,4 +1,4 @@
--- The value of a set of bits: a length and a set of positions below it, its words, and what each call makes of it.
+-- The value of a bit set: a length and a set of positions below it, its words, and what each call makes of it.
 use Rattle.std.specs.Prelude.{ℕ, ◌+◌, ◌-◌, ◌*◌, ◌^◌, max, Bool, not, ◌&&◌, ◌==◌, nat_lt, nat_le, IsTrue}
 use Rattle.std.specs.Prelude.{if◌then◌else◌, Option, List, [], ◌∷◌, map, filter, sum_by, slice_get, slice_set}
 use Rattle.std.specs.declared.option.Option.TheVariants.{None}

@@ -1,5 +1,5 @@
 -- No public clause cites this module.
--- Values of `Bits` are told apart by their lengths and their positions.
+-- Two values of `Bits` are equal if their lengths and their positions are.
 use Rattle.std.specs.Prelude.{◌≡◌, ℕ}
 use Rattle.std.specs.Ordering.{nat_cmp}
 use Rattle.std.specs.FinSet as set

@@ -1,4 +1,4 @@
--- What a slow value says of a set.
+-- What a reference value says of a set.
 use Rattle.std.specs.Prelude.{◌≡◌, ℕ, ◌<◌, Bool, false, List, length}
 use Rattle.std.specs.List.{slice_index_or}
 use Rattle.fixedbitset.specs.Bits.{Bits, contains}
