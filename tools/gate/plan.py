@@ -119,7 +119,17 @@ class Plan:
         inputs = ("front/program", "front/rust/src", *shared, *texts)
         program = Stage("the program by cargo", ("front/program/test",), inputs, ("cargo", "rustc", "cc", *gcc, *qemu))
         client = Stage("petgraph over the crate", ("front/client",), (*crate, "front/client", "front/rustdoc"), ("cargo", "rustc", "cc"))
-        return [front, targets, client] * self.has("bits_c") + [program] * self.has("bits")
+        return [front, targets, client] * self.has("bits_c") + [program, self.mutants()] * self.has("bits")
+
+    def mutants(self):
+        """The wrong bodies, as the tests of the crate, of the program and of the library for C see them. What a verdict stands by
+        is in front/wrong/seen, so those that have none are tried, and some by chance."""
+        edits = self.sources(*self.crates, parts=("src", "must-fail"))
+        makers = ("erase", "erase_source.py", "erase_tables.py", "wrong", "wrong_translations", "compilers", "registry")
+        made = [f"front/{it}" for it in (*makers, "c", "differ", "lib", "program", "rust")]
+        texts = ("docs/COMMANDS.md", "examples", "crates/bits/stdin", "crates/bits/stdout", "tools/memory/memory.txt")
+        inputs = (*edits, *made, *texts, "tools/kept.py", "tools/mutants")
+        return Stage("wrong bodies seen by tests", ("front/wrong_translations", "--jobs", "1"), inputs, ("cargo", "rustc", "cc"))
 
     def libraries(self):
         """What is built of the static library over the work of the proofs, and the type for PostgreSQL: some of its tests end
