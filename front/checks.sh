@@ -36,7 +36,8 @@ counted() {
 
 # is_there COMMAND..: whether it can be run
 is_there() {
-  "$@" >/dev/null 2>&1 || { echo "not here, so not tried: $1 ${2%%--*}"; false; }
+  local second=${2:-}
+  "$@" >/dev/null 2>&1 || { echo "not here, so not tried: $1 ${second%%--*}"; false; }
 }
 
 # block TITLE KIND: the first block of this kind below a title of README.md, which stands in the folder `top`
