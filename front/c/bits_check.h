@@ -6,14 +6,16 @@
  * Tested are: the pointer to each struct; the count of words for the length; that a pointer is aligned, and NULL only where
  * the number beside it is 0; that no bit past the length is set; and that sets and lists do not overlap what is written. It
  * takes as long for a long set as for a short one, but for bits_rows_close, which looks at each row. A program that is compiled
- * with -fsanitize=address also has tested that each word and each item is memory of the program's that is not freed.
+ * with -fsanitize=address also has tested that each word and each item is memory of the program's that is not freed; that takes
+ * the longer the more words there are.
  *
  * Where BITS_CHECK is 2 or more, a call also ends the program where it would refuse: where it would answer by false that
  * nothing is done, and where a position, a row, a column or a range is not in the set. That is for programs which never mean
  * to be refused.
  *
- * Arguments are evaluated once, as without this header. In C each call is then also a macro of its name. In C++ no name is a
- * macro, and each call has two more parameters with defaults, which are the caller's place. */
+ * Arguments are evaluated once, as without this header. In C each call is then also a function-like macro of its name, so a
+ * struct's member of that name is called by (it.bits_set)(..), or with BITS_NO_SHORT_NAMES. In C++ no name is a macro, and each
+ * call has two more parameters with defaults, which are the caller's place; that needs gcc, or clang 9 or later. */
 #ifndef BITS_CHECK_H
 #define BITS_CHECK_H
 
