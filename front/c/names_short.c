@@ -57,6 +57,9 @@ int main(void) {
     OF_HEADER(bits) set = BITS_OF(words, 300);
     OF_HEADER(bits_own) own = BITS_OWN;
     size_t sum = 0;
+    bool (*const insert)(OF_HEADER(bits) *, size_t) = OF_HEADER(bits_insert);
+    if (!insert(&set, 1) || !OF_HEADER(bits_take)(&set, 1))
+        return 4;
     if (BITS_SET + BITS_RANGE(2) + BITS_READS != 15 || others())
         return 1;
     if (!OF_HEADER(bits_set)(&set, 299, true) || !OF_HEADER(bits_own_insert)(&own, 3) || !OF_HEADER(bits_own_union)(&own, &set))
