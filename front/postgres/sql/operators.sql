@@ -36,7 +36,7 @@ SELECT (bitset_hash_extended(:s, 0) & 4294967295) = (bitset_hash(:s) & 429496729
 SELECT :s | 5 AS "or", :s - 7 AS minus, :s - 8 AS same, pg_typeof(:s | 5);
 SELECT :s | 64;
 SELECT :s - -1;
-SELECT :s @> ARRAY[3, 63] AS each, :s @> ARRAY[3, 8] AS not, :s @> ARRAY[3, 64] AS past, :s @> ARRAY[-1] AS negative, :s @> ARRAY[3, NULL] AS "null",
+SELECT :s @> ARRAY[3, 63] AS each, :s @> ARRAY[3, 8] AS not, :s @> ARRAY[8, 3] AS first_not, :s @> ARRAY[3, 64] AS past, :s @> ARRAY[-1] AS negative, :s @> ARRAY[3, NULL] AS "null",
 	:s @> '{}'::bigint[] AS none, ARRAY[3, 63] <@ :s AS contained, ARRAY[[3], [8]] <@ :s AS rows;
 
 -- positions alone, whatever the lengths are
