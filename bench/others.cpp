@@ -137,7 +137,7 @@ struct Sets {
         std::bernoulli_distribution drawn(share);
         for (size_t p = 0; p < LENGTH; p++)
             if (drawn(random)) {
-                bits_insert(&ours, p);
+                bits_put(&ours, p);
                 plain.set(p);
                 boost.set(p);
                 debian.add(of_debian, uint32_t(p));
