@@ -1,21 +1,21 @@
-/* What bits.h includes where BITS_CHECK is defined: each call of the archive tests what it asks of its caller before it is
- * made. Where that does not hold, the program prints a line and ends by abort():
+/* bits.h includes this file if BITS_CHECK is defined: each call of the archive then checks its preconditions before it does
+ * anything else. Where a precondition is violated, the program prints a line and ends by abort():
  *
  *     program.c:12: bits_insert: `set` has 1 words, and BITS_WORDS(64) is 4
  *
- * Tested are: the pointer to each struct; the count of words for the length; that a pointer is aligned, and NULL only where
- * the number beside it is 0; that no bit past the length is set; and that sets and lists do not overlap what is written. It
- * takes as long for a long set as for a short one, but for bits_rows_close, which looks at each row. A program that is compiled
- * with -fsanitize=address also has tested that each word and each item is memory of the program's that is not freed; that takes
- * the longer the more words there are.
+ * The checks are: the pointer to each struct; the count of words for the length; that a pointer is aligned, and NULL only where
+ * the number of its items is 0; that no bit at or past the length is set; and that sets and lists do not overlap (alias) what
+ * the call writes. The checks take as long for a long set as for a short set, except that bits_rows_close checks each row. In a
+ * program that is compiled with -fsanitize=address, the checks are also that each word and each item is in memory of the
+ * program, and not freed; that takes longer for more words.
  *
- * Where BITS_CHECK is 2 or more, a call also ends the program where it would refuse: where it would answer by false that
- * nothing is done, and where a position, a row, a column or a range is not in the set. That is for programs which never mean
- * to be refused.
+ * If BITS_CHECK is 2 or more, a call also ends the program where it would return false because it did nothing, and where a
+ * position, a row, a column or a range is out of range. That is for programs in which no call is expected to fail.
  *
  * Arguments are evaluated once, as without this header. In C each call is then also a function-like macro of its name, so a
  * struct's member of that name is called by (it.bits_set)(..), or with BITS_NO_SHORT_NAMES. In C++ no name is a macro, and each
- * call has two more parameters with defaults, which are the caller's place; that needs gcc, or clang 9 or later. */
+ * call has two more parameters with default arguments: the file and the line of the caller. They need gcc, or clang 9 or
+ * later. */
 #ifndef BITS_CHECK_H
 #define BITS_CHECK_H
 
@@ -34,12 +34,12 @@ extern "C"
 void *__asan_region_is_poisoned(void *begin, size_t size);
 #endif
 
-/* In C++ the call that is tested has the name, and the archive's is in a namespace. In C a macro has the name, below. */
+/* In C++ the checked call has the name, and the call of the archive is in a namespace. In C a macro has the name, below. */
 #ifdef __cplusplus
 #define BITS_UNTESTED(name) fixedbitset_untested::bits_##name
 #define BITS_TESTED_NAME(name) bits_##name
 #define BITS_TESTED_AT const char *file = __builtin_FILE(), int line = __builtin_LINE()
-/* (Its address is that of the archive's, which has no place.) */
+/* (A pointer to the call has the type of the archive's call, with no file and no line, and that call has no checks.) */
 #define BITS_TESTED_ADDRESS(result, name, parameters, arguments) \
     template <int = 0> static inline result bits_##name parameters { return BITS_UNTESTED(name) arguments; }
 #else
@@ -49,7 +49,7 @@ void *__asan_region_is_poisoned(void *begin, size_t size);
 #define BITS_TESTED_ADDRESS(result, name, parameters, arguments)
 #endif
 
-/* ---- what is tested. `here` says which call it is and where, and `who` which argument. */
+/* ---- the checks. `here` is the call with its file and line, and `who` is the argument. */
 
 typedef struct fixedbitset_place {
     const char *call;
@@ -68,10 +68,10 @@ __attribute__((__noreturn__, __cold__, __format__(__printf__, 2, 3))) static inl
     abort();
 }
 
-/* What a value of `size` bytes is aligned to, at the least: 8 bytes at the most, and 4 where a size_t has 32 bits. */
+/* The least alignment of a value of `size` bytes: at most 8 bytes, and at most 4 where size_t has 32 bits. */
 #define BITS_ASK_ALIGNMENT(size) ((size) < sizeof(size_t) ? (size) : sizeof(size_t))
 
-/* A pointer to one value of `size` bytes. */
+/* Checks a pointer to one value of `size` bytes. */
 static inline void fixedbitset_ask_place(fixedbitset_place here, const char *who, const void *place, size_t size) {
     if (!place)
         fixedbitset_stop(here, "`%s` is NULL", who);
@@ -79,7 +79,7 @@ static inline void fixedbitset_ask_place(fixedbitset_place here, const char *who
         fixedbitset_stop(here, "`%s` is not aligned to %zu bytes", who, BITS_ASK_ALIGNMENT(size));
 }
 
-/* The memory of `count` values: it is the program's, and not freed, where AddressSanitizer can say that. */
+/* Checks that the memory of `count` values is the program's, and is not freed, where AddressSanitizer can say that. */
 static inline void fixedbitset_ask_memory(fixedbitset_place here, const char *who, const void *values, size_t count,
                                           size_t size) {
 #ifdef BITS_ASK_MEMORY
@@ -92,7 +92,7 @@ static inline void fixedbitset_ask_memory(fixedbitset_place here, const char *wh
 #endif
 }
 
-/* A pointer to `count` values. */
+/* Checks a pointer to `count` values. */
 static inline void fixedbitset_ask_array(fixedbitset_place here, const char *who, const void *values, size_t count, size_t size) {
     if (!values && count)
         fixedbitset_stop(here, "`%s` is NULL, and there are to be %zu", who, count);
@@ -101,7 +101,7 @@ static inline void fixedbitset_ask_array(fixedbitset_place here, const char *who
     fixedbitset_ask_memory(here, who, values, count, size);
 }
 
-/* The words of a set, a walk or ranks. */
+/* Checks the words of a set, an iterator or ranks. */
 static inline void fixedbitset_ask_words(fixedbitset_place here, const char *who, const uint64_t *words, size_t count) {
     if (!words && count)
         fixedbitset_stop(here, "`%s` has NULL for words, and says that it has %zu", who, count);
@@ -119,7 +119,7 @@ static inline void fixedbitset_ask_clean(fixedbitset_place here, const char *who
         fixedbitset_stop(here, "`%s` has a bit past its length of %zu", who, length);
 }
 
-/* That there are words enough. */
+/* Checks that there are enough words. */
 static inline void fixedbitset_ask_enough(fixedbitset_place here, const uint64_t *words, size_t count, size_t length) {
     if (count < BITS_WORDS(length))
         fixedbitset_stop(here, "`words` has %zu words, and BITS_WORDS(%zu) is %zu", count, length, BITS_WORDS(length));
@@ -136,7 +136,7 @@ static inline void fixedbitset_ask_room(fixedbitset_place here, const char *who,
     fixedbitset_ask_words(here, who, room->words, room->count);
 }
 
-/* What is written, `wide` bytes from `written` on, overlaps nothing of what is read. */
+/* Checks that what is written, `wide` bytes from `written` on, does not overlap what is read. */
 static inline void fixedbitset_ask_apart(fixedbitset_place here, const char *who, const void *written, size_t wide,
                                          const void *read, size_t size) {
     const uintptr_t first = BITS_RECAST(uintptr_t, written), second = BITS_RECAST(uintptr_t, read);
@@ -165,7 +165,7 @@ static inline void fixedbitset_ask_rows(fixedbitset_place here, const bits_rows 
     fixedbitset_ask_words(here, "rows", rows->words, rows->count);
 }
 
-/* The row has no bit past its columns, where there is such a row. */
+/* Checks that the row has no bit past its columns, if there is such a row. */
 static inline void fixedbitset_ask_row(fixedbitset_place here, const bits_rows *rows, size_t row) {
     const size_t count = BITS_WORDS(rows->columns);
     if (row < rows->rows && !BITS_UNTESTED(is_clean)(rows->words + row * count, count, rows->columns))
@@ -197,7 +197,7 @@ static inline void fixedbitset_ask_pair(fixedbitset_place here, const bits_pair 
     fixedbitset_ask_sieve(here, &walk->second);
 }
 
-/* ---- what is tested where BITS_CHECK is 2 or more */
+/* ---- the checks if BITS_CHECK is 2 or more */
 
 static inline void fixedbitset_ask_below(fixedbitset_place here, const char *who, size_t number, size_t end) {
     if (BITS_CHECK + 0 >= 2 && number >= end)
@@ -224,13 +224,13 @@ static inline void fixedbitset_ask_equal(fixedbitset_place here, const char *who
         fixedbitset_stop(here, "`%s` is %zu, and has to be %zu", who, number, wanted);
 }
 
-/* What a call answers that does its work or nothing. */
+/* Checks the result of a call that does its work or does nothing. */
 static inline void fixedbitset_ask_done(fixedbitset_place here, bool is_done) {
     if (BITS_CHECK + 0 >= 2 && !is_done)
         fixedbitset_stop(here, "it is refused, and nothing is changed");
 }
 
-/* ---- the calls. A row has the tests of one, and makes it behind them. */
+/* ---- the checked calls. Each row has the checks of a call, and makes the call after them. */
 
 #define BITS_ASK_SET(set) fixedbitset_ask_set(here, #set, set);
 #define BITS_ASK_ROOM(room) fixedbitset_ask_room(here, #room, room);
@@ -248,8 +248,8 @@ static inline void fixedbitset_ask_done(fixedbitset_place here, bool is_done) {
 #define BITS_TESTED_THESE(...) __VA_ARGS__
 #define BITS_TESTED_HERE(name) const fixedbitset_place here = {"bits_" #name, file, line};
 
-/* A call of these parameters, which are given on as these arguments; one without a result; and one that does its work or
- * answers by false that it did nothing. */
+/* A checked call with these parameters, which are passed on as these arguments; a call without a result; and a call that
+ * returns false if it did nothing. */
 #define BITS_TESTED(result, name, parameters, arguments, tests)                                         \
     BITS_TESTED_ADDRESS(result, name, parameters, arguments)                                            \
     static inline result BITS_TESTED_NAME(name)(BITS_TESTED_THESE parameters, BITS_TESTED_AT) {         \
@@ -273,7 +273,7 @@ static inline void fixedbitset_ask_done(fixedbitset_place here, bool is_done) {
         return answer;                                                                                  \
     }
 
-/* The same of a set that is read, and of one that is changed, with a number or a range beside it. */
+/* Checked calls of a set that is read, and of a set that is changed, alone or with a number or a range. */
 #define BITS_TESTED_READS(result, name) BITS_TESTED(result, name, (const bits *set), (set), BITS_ASK_SET(set))
 #define BITS_TESTED_READS_AT(result, name, at) \
     BITS_TESTED(result, name, (const bits *set, size_t at), (set, at), BITS_ASK_SET(set))
@@ -292,7 +292,8 @@ static inline void fixedbitset_ask_done(fixedbitset_place here, bool is_done) {
 #define BITS_TESTED_CHANGES_RANGE(name)                                                  \
     BITS_TESTED_DONE(name, (bits *set, size_t start, size_t end), (set, start, end), \
                      BITS_ASK_SET(set) BITS_ASK_RANGE(start, end, set->length))
-/* Of two sets: read, joined, cut, and written over a third. */
+/* Checked calls of two sets: both are read, the second is joined to the first, the first is cut by the second, or a third is
+ * written. */
 #define BITS_TESTED_READS_TWO(result, name) \
     BITS_TESTED(result, name, (const bits *set, const bits *other), (set, other), BITS_ASK_SET(set) BITS_ASK_SET(other))
 #define BITS_TESTED_JOINS(name)                                                 \
@@ -309,7 +310,8 @@ static inline void fixedbitset_ask_done(fixedbitset_place here, bool is_done) {
                      BITS_ASK_ROOM(to) BITS_ASK_SET(set) BITS_ASK_SET(other) BITS_ASK_APART(to, set)         \
                          BITS_ASK_APART(to, other) BITS_ASK_EQUAL(to->length, wanted)                        \
                              BITS_ASK_EQUAL(to->count, bits_words(to->length)))
-/* Of an iterator of this kind: its begin over one set, over a range and over two, its steps, and batches of it. */
+/* The checked calls of an iterator of this kind: the call that initializes it over one set, over a range and over two sets,
+ * its steps, and its batches. */
 #define BITS_TESTED_BEGINS(kind, name) \
     BITS_TESTED_VOID(name, (bits_##kind *walk, const bits *set), (walk, set), BITS_ASK_PLACE(walk) BITS_ASK_SET(set))
 #define BITS_TESTED_BEGINS_IN(name)                                                                                       \
@@ -489,7 +491,7 @@ BITS_TESTED_STEPS(pair, symmetric_difference)
 BITS_TESTED_RUN_STEP(runs_next)
 BITS_TESTED_RUN_STEP(runs_next_back)
 
-/* ---- from here on each call in a C program is the tested one */
+/* ---- from here on each call in a C program is the checked call */
 
 #ifndef __cplusplus
 #define BITS_CALL(name, ...) fixedbitset_tested_##name(__VA_ARGS__, __FILE__, __LINE__)

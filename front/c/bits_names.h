@@ -1,5 +1,5 @@
-/* What bits.h and bits_own.h include where BITS_NO_SHORT_NAMES is defined, before what they declare and behind it: between the
- * two each name in small letters has fixedbitset_ before it. */
+/* bits.h and bits_own.h include this file if BITS_NO_SHORT_NAMES is defined, before and after their declarations: between
+ * the two includes each name in lowercase letters has the prefix fixedbitset_. */
 #ifndef BITS_NAMES_ARE_LONG
 #define BITS_NAMES_ARE_LONG
 

@@ -1,4 +1,4 @@
-/* Sets of bits that own their words and grow, and sets as text, over the calls of bits.h.
+/* Growable bit sets that own their words, and sets as text, over the calls of bits.h.
  *
  *     bits_own seen = BITS_OWN;
  *     if (!bits_own_insert(&seen, 1000))
@@ -6,13 +6,13 @@
  *     size_t count = bits_count_ones(&seen.set, 0, seen.set.length);
  *     bits_own_free(&seen);
  *
- * `seen.set` is a set as any other: each call of bits.h takes it. What makes it longer or shorter, or gives its words back,
- * are the calls below alone. A call that is refused memory answers false and leaves the set as it was. Memory comes from
- * BITS_REALLOC, and goes by BITS_FREE.
+ * `seen.set` is an ordinary set: each call of bits.h takes it. Only the calls below may make it longer or shorter, or free its
+ * words. On allocation failure a call returns false and leaves the set unchanged. Memory is allocated by BITS_REALLOC and freed
+ * by BITS_FREE.
  *
- * The text of a set is its positions in decimal, and its stretches with a dash: `0-3,8` has the positions 0, 1, 2, 3 and 8.
- * The empty text is the empty set. A text that is read may have its parts in any order and more than once; it has no blanks,
- * no signs and no line's end. */
+ * The text of a set has its positions in decimal, and runs of consecutive positions with a dash: for example, `0-3,8` has the
+ * positions 0, 1, 2, 3 and 8. The empty text is the empty set. A text that is parsed may have its parts in any order and more
+ * than once; it has no blanks, no signs and no newline. */
 #ifndef BITS_OWN_H
 #define BITS_OWN_H
 
@@ -22,7 +22,7 @@
 #include "bits_names.h"
 #endif
 
-/* A set, and how many words there is room for. Make it BITS_OWN, which is the set of length 0 and takes no memory. */
+/* A set, and its capacity in words. Set it to BITS_OWN, which is the set of length 0 and does not allocate. */
 typedef struct bits_own {
     bits set;
     size_t room;
@@ -34,27 +34,28 @@ typedef struct bits_own {
 #define BITS_OWN ((BITS_NAME(bits_own)){{NULL, 0, 0}, 0})
 #endif
 
-/* What came of reading a text. */
+/* The result of parsing a text. */
 typedef enum bits_told {
-    BITS_TOLD,     /* It is read. */
-    BITS_FAULT,    /* The text is no text of a set, or has a position at which no set of its caller's may be. */
-    BITS_NO_MEMORY /* Memory was refused. */
+    BITS_TOLD,     /* The text is parsed. */
+    BITS_FAULT,    /* The text is not the text of a set, or has a position that is not below the length that the caller allows. */
+    BITS_NO_MEMORY /* An allocation failed. */
 } bits_told;
 
 #if defined(__cplusplus) && defined(BITS_CHECK)
 namespace fixedbitset_untested {
 #endif
 
-/* (A name in parentheses is the call without its tests: BITS_CHECK has those of the calls below.) */
+/* (A name in parentheses calls the function without its checks: BITS_CHECK checks the calls below.) */
 
-/* Gives the words back. What is left is the set of length 0, which may grow again. */
+/* Frees the words. The set then has length 0, and may grow again. */
 static inline void bits_own_free(bits_own *own) {
     BITS_FREE(own->set.words);
     own->set = bits_of(NULL, 0);
     own->room = 0;
 }
 
-/* Sees to it that the set can be of this length without any more memory, and answers whether it can. The length stays. */
+/* Reserves capacity for a set of this length, so that growing to this length does not allocate, and returns true; returns
+ * false on allocation failure. The length stays. */
 BITS_NODISCARD static inline bool bits_own_reserve(bits_own *own, size_t length) {
     const size_t count = BITS_WORDS(length);
     uint64_t *words;
@@ -68,8 +69,8 @@ BITS_NODISCARD static inline bool bits_own_reserve(bits_own *own, size_t length)
     return true;
 }
 
-/* Makes the length this one, and answers whether memory was there. Positions past it fall away, and new ones are not set. It
- * takes no memory where there is room. */
+/* Sets the length and returns true; returns false on allocation failure. Positions at or past the new length are dropped,
+ * and new positions are not set. The call does not allocate if there is capacity. */
 BITS_NODISCARD static inline bool bits_own_resize(bits_own *own, size_t length) {
     const size_t kept = length < own->set.length ? length : own->set.length;
     if (!bits_own_reserve(own, length))
@@ -79,8 +80,9 @@ BITS_NODISCARD static inline bool bits_own_resize(bits_own *own, size_t length) 
     return (bits_settle)(own->set.words, own->set.count, length, kept);
 }
 
-/* Makes the set at least this long, and answers whether memory was there. Where it takes memory it takes room for half as
- * many words again, if these are to be had. So to grow by one position many times copies each word few times. */
+/* Makes the set at least this long and returns true; returns false on allocation failure. A call that allocates makes room
+ * for half as many words again, if that memory can be allocated. So a program that grows a set by one position many times
+ * copies each word few times. */
 BITS_NODISCARD static inline bool bits_own_grow(bits_own *own, size_t length) {
     const size_t half_more = own->set.length + own->set.length / 2;
     const bool has_room = BITS_WORDS(length) <= own->room;
@@ -91,13 +93,14 @@ BITS_NODISCARD static inline bool bits_own_grow(bits_own *own, size_t length) {
     return bits_own_resize(own, length);
 }
 
-/* Sets the position, and makes the set long enough for it. It answers whether memory was there; of SIZE_MAX, which no set has,
- * the answer is false. */
+/* Sets the position, makes the set long enough for it, and returns true; returns false on allocation failure, and for
+ * SIZE_MAX, which no set has. */
 BITS_NODISCARD static inline bool bits_own_insert(bits_own *own, size_t position) {
     return position != BITS_NONE && bits_own_grow(own, position + 1) && (bits_insert)(&own->set, position);
 }
 
-/* Makes the set equal to this one, whose words are not its own, and answers whether memory was there. */
+/* Makes `own` equal to `set`, whose words may not overlap the words of `own`, and returns true; returns false on allocation
+ * failure. */
 BITS_NODISCARD static inline bool bits_own_copy(bits_own *own, const bits *set) {
     if (!bits_own_reserve(own, set->length))
         return false;
@@ -105,15 +108,15 @@ BITS_NODISCARD static inline bool bits_own_copy(bits_own *own, const bits *set) 
     return (bits_copy)(&own->set, set);
 }
 
-/* Adds the positions of this set, whose words are not its own, and makes the set as long where it is shorter. It answers
- * whether memory was there. */
+/* Adds the positions of `set`, whose words may not overlap the words of `own`, makes `own` as long if it is shorter, and
+ * returns true; returns false on allocation failure. */
 BITS_NODISCARD static inline bool bits_own_union(bits_own *own, const bits *set) {
     return bits_own_grow(own, set->length) && (bits_union_with)(&own->set, set);
 }
 
 /* ---- text */
 
-/* Writes what fits of one character and counts it. */
+/* Writes one character, if it fits, and counts it. */
 static inline void fixedbitset_text_put(char *text, size_t room, size_t *at, char letter) {
     if (*at < room)
         text[*at] = letter;
@@ -130,9 +133,9 @@ static inline void fixedbitset_text_put_number(char *text, size_t room, size_t *
         fixedbitset_text_put(text, room, at, digits[--count]);
 }
 
-/* Writes the text of the set to `text`, which has room for so many characters, with a NUL behind it. It answers how many
- * characters the text has without the NUL, as snprintf does: where that is not less than `room`, what was written is the
- * beginning, with the NUL as its last character. `text` may be NULL where `room` is 0. */
+/* Writes the text of the set to `text`, which has room for `room` characters, and a NUL after it. Returns how many
+ * characters the text has without the NUL, like snprintf: if that is not less than `room`, what was written is the first
+ * part of the text, with the NUL as its last character. `text` may be NULL if `room` is 0. */
 static inline size_t bits_to_text(const bits *set, char *text, size_t room) {
     size_t at = 0, start = 0, end = 0;
     bits_run_walk walk = BITS_RUNS;
@@ -151,8 +154,8 @@ static inline size_t bits_to_text(const bits *set, char *text, size_t room) {
     return at;
 }
 
-/* Reads a number at `*at`, and answers whether there is one that is less than `end`. Then `*at` is behind it, and else where
- * the fault is: at the first digit of a number that is not less. */
+/* Parses a number at `*at`, and returns whether there is a number that is less than `end`. If so, `*at` is then the index
+ * after the number; else `*at` is the index of the error: the first digit of a number that is not less than `end`. */
 static inline bool fixedbitset_text_number(const char *text, size_t size, size_t *at, size_t end, size_t *number) {
     size_t behind = *at;
     *number = 0;
@@ -168,8 +171,8 @@ static inline bool fixedbitset_text_number(const char *text, size_t size, size_t
     return true;
 }
 
-/* Reads one stretch at `*at` and the comma behind it, where one is, and answers whether it could. Then `*at` is where the next
- * one stands, or `size`, and else where the fault is. */
+/* Parses one run at `*at` and the comma after it, if there is a comma, and returns whether they are valid. If so, `*at` is
+ * then the index of the next run, or `size`; else `*at` is the index of the error. */
 static inline bool fixedbitset_text_stretch(const char *text, size_t size, size_t *at, size_t length, size_t *start, size_t *end) {
     size_t last;
     if (!fixedbitset_text_number(text, size, at, length, start))
@@ -195,8 +198,8 @@ static inline bool fixedbitset_text_stretch(const char *text, size_t size, size_
     return true;
 }
 
-/* Reads the whole text without any set: whether it is the text of a set of this length, how long a set has to be for it, and
- * where it has a fault. */
+/* Parses the whole text without a set: returns whether it is the text of a set of this length, and writes how long a set has
+ * to be for the text, or the index of the error. */
 static inline bool fixedbitset_text_is_valid(const char *text, size_t size, size_t length, size_t *needed, size_t *fault) {
     size_t at = 0;
     *needed = 0;
@@ -218,9 +221,10 @@ static inline void fixedbitset_text_add(bits *set, const char *text, size_t size
         continue;
 }
 
-/* Makes the positions of the set those that a text of `size` characters says, and answers whether it did. The length stays.
- * Else nothing is changed, and `*fault` is the index of the first character at which the text is wrong: `size` where it ends
- * too early, and the first digit of a position that is not below the length, or that is less than the one before its dash. */
+/* Replaces the positions of the set by the positions in a text of `size` characters, and returns true. The length stays. If
+ * the text is not valid, returns false, the set is unchanged, and `*fault` is the index of the first wrong character: `size`
+ * if the text ends too early, and the first digit of a position that is not below the length, or that is less than the
+ * position before its dash. */
 BITS_NODISCARD static inline bool bits_from_text(bits *set, const char *text, size_t size, size_t *fault) {
     size_t needed = 0;
     if (!fixedbitset_text_is_valid(text, size, set->length, &needed, fault))
@@ -230,10 +234,10 @@ BITS_NODISCARD static inline bool bits_from_text(bits *set, const char *text, si
     return true;
 }
 
-/* Makes the positions of the set those that the text says, and the set longer where they need it; a set that is long enough
- * keeps its length. A position that is not below `longest` is a fault, so that no text makes the set longer than that; with
- * SIZE_MAX a few characters may take gigabytes. Unless the answer is BITS_TOLD nothing is changed; of BITS_FAULT alone `*fault`
- * is written, as above. */
+/* Replaces the positions of the set by the positions in the text, and makes the set longer if they need it; a set that is
+ * long enough keeps its length. A position that is not below `longest` is an error, so that no text makes the set longer
+ * than `longest`; with SIZE_MAX, a few characters may allocate gigabytes. Unless the call returns BITS_TOLD, the set is
+ * unchanged; `*fault` is written only for BITS_FAULT, with the index that bits_from_text writes. */
 BITS_NODISCARD static inline bits_told bits_own_from_text(bits_own *own, const char *text, size_t size, size_t longest,
                                                           size_t *fault) {
     size_t needed = 0;
@@ -255,7 +259,7 @@ BITS_NODISCARD static inline bits_told bits_own_from_text(bits_own *own, const c
 extern "C++" {
 #endif
 
-/* The set is right, and its words are the first of the room. */
+/* Checks that the set is valid, and that its words are the first words of the capacity. */
 static inline void fixedbitset_ask_own(fixedbitset_place here, const bits_own *own) {
     fixedbitset_ask_place(here, "own", own, sizeof *own);
     if (own->set.count > own->room)
