@@ -1,6 +1,7 @@
 """What the gate runs: each stage with all that it reads."""
 import pathlib
 import re
+import shutil
 
 from stages import Stage
 
@@ -53,6 +54,11 @@ class Plan:
         all_names = [it for it in self.crates if it in names or any(it in below(self.crates, name) for name in names)]
         paths = [f"crates/{name}/{part}" for name in all_names for part in parts]
         return ["crates.txt", *(it for it in paths if (self.top / it).is_dir())]
+
+    def missing(self):
+        """The commands that stages call and that are not here: these stages then leave out what needs them."""
+        tools = {tool for stage in (*self.fronts(), *self.libraries(), *self.last()) for tool in stage.tools}
+        return sorted(tool for tool in tools if not shutil.which(tool))
 
     def texts(self):
         return Stage("texts", (f"{SCRIPTS}/texts",))
