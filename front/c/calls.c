@@ -397,8 +397,25 @@ static void handfuls_of_32_bits(void) {
     }
 }
 
+/* A call leaves its struct over the same words, also where it has none, and a table its rows. */
+static void places(void) {
+    uint64_t words[8] = {0};
+    bits set = BITS_OF(words, 0), to = BITS_OF(words, 0);
+    bits_clear(&set);
+    bits_shift_down(&set, 1);
+    assert(bits_copy(&to, &set));
+    assert(set.words == words && to.words == words && set.count + set.length + to.count + to.length == 0);
+    assert(!bits_settle(words, 8, 70, 70) && bits_settle(words, 4, 70, 70));
+    bits_rows no_row = BITS_ROWS_OF(words, 0, 3), no_column = BITS_ROWS_OF(words, 5, 0);
+    bits_rows_close(&no_row);
+    bits_rows_close(&no_column);
+    assert(no_row.words == words && no_row.rows == 0 && no_row.columns == 3);
+    assert(no_column.words == words && no_column.rows == 5 && no_column.columns == 0);
+}
+
 int main(void) {
     words();
+    places();
     positions();
     ranges();
     pairs();
