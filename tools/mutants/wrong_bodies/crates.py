@@ -16,10 +16,10 @@ AFTER_SLASH = chr(ord("/") + 1)
 
 
 class Project:
-    """A checkout: its crates by their names, the lowest first. The edits stand in it, or below another folder. Without bounds
-    its proofs are read as if no search in them had one."""
-    def __init__(self, top, edits_top=None, has_bounds=True):
-        self.top, self.edits_top, self.has_bounds = top, edits_top or top, has_bounds
+    """A checkout: its crates by their names, the lowest first. The edits stand in it, or below another folder: in `must-fail`
+    of their crates, or in another folder there. Without bounds its proofs are read as if no search in them had one."""
+    def __init__(self, top, edits_top=None, has_bounds=True, kind="must-fail"):
+        self.top, self.edits_top, self.has_bounds, self.kind = top, edits_top or top, has_bounds, kind
         lines = (top / "crates.txt").read_text().splitlines()
         crates = [Crate(line, self) for line in lines if line.strip() and not line.startswith("#")]
         self.crates = {crate.name: crate for crate in crates}
@@ -47,7 +47,7 @@ class Crate:
         self.name, *kind = head.split()
         self.is_static = "staticlib" in kind
         self.folder = project.top / "crates" / self.name
-        self.must_fail = project.edits_top / "crates" / self.name / "must-fail"
+        self.edits_folder = project.edits_top / "crates" / self.name / project.kind
         self.root = "src/main.rt" if (self.folder / "src/main.rt").is_file() else "src/lib.rt"
         self.is_library = self.root == "src/lib.rt" and not self.is_static
         self.rlib = self.folder / "out/rlib"
@@ -109,7 +109,7 @@ class Crate:
         return f"{home}::{function.symbol.removeprefix(home + '::')}".removeprefix("::")
 
     def edits(self):
-        return [Edit(self, file) for file in sorted(self.must_fail.glob("*.edit"))]
+        return [Edit(self, file) for file in sorted(self.edits_folder.glob("*.edit"))]
 
 
 class Edit:

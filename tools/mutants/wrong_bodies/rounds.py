@@ -101,6 +101,8 @@ class Rounds:
             if verdict == verdicts.REFUSED:
                 self.runner.told.tell(edit, True, why, is_tried=True)
                 self.runner.kept.keep(edit, why)
+            elif verdict == verdicts.PROVED:
+                self.runner.told.tell(edit, False, why, is_tried=True)
             elif edit in self.by_goal:
                 over.append(edit)
             elif verdict == verdicts.WAITS and len(found) > 1:
@@ -125,9 +127,7 @@ class Rounds:
         own = verdicts.said_of(edit.crate, said)
         if edit in self.by_goal:
             return verdicts.judged_by_goal(edit, judges[0], own)
-        if self.runner.names:
-            naming.write_goal(edit, judges, own)
-        return verdicts.judged(edit, judges, own, is_by_itself)
+        return self.runner.judged(edit, judges, own, is_by_itself)
 
 
 class Runner:
@@ -205,6 +205,12 @@ class Runner:
         none. Where no check has left its work for them, the first round does."""
         by_goal = (edit for edit in left if self.by_goal and edit.names_a_goal)
         Rounds(self, work, most, is_source, by_goal).run(left, has_work)
+
+    def judged(self, edit, judges, said, is_by_itself):
+        """What a round by all goals says of an edit."""
+        if self.names:
+            naming.write_goal(edit, judges, said)
+        return verdicts.judged(edit, judges, said, is_by_itself)
 
     def alone(self, edit):
         """Tries an edit by a check of the whole crate, from nothing, and tells of it."""

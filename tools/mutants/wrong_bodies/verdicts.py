@@ -20,7 +20,7 @@ TAKEN = re.compile(r"(?m)^(?:logic|only)=")
 # A text that cannot be read. (Where an edit makes a statement false, the error begins with the statement's name.)
 UNREAD = re.compile(r"(?m)^(?:\./)?(?:src|specs)/\S+: error: (?:(?!`[^`]*`: ).*|.*(?:is not in scope|has no field).*)")
 
-REFUSED, WAITS, UNCLEAR = "refused", "waits", "unclear"
+REFUSED, PROVED, WAITS, UNCLEAR = "refused", "proved", "waits", "unclear"
 
 
 @dataclasses.dataclass
@@ -32,6 +32,9 @@ class Place:
 
     def __str__(self):
         return f"{self.path}:{self.line}: {self.text:.160}"
+
+    def is_below(self, folder):
+        return self.path.rpartition("/")[0] == folder
 
 
 @dataclasses.dataclass
@@ -72,10 +75,15 @@ def unproved_in(said):
 
 
 @functools.lru_cache(maxsize=16)
+def all_errors_in_proofs(said):
+    """The places of the errors in proofs."""
+    return [Place(path, int(line), text) for path, line, text in ERROR_IN_PROOF.findall(said)]
+
+
+@functools.lru_cache(maxsize=16)
 def errors_in_proofs(said):
     """The places of the errors in proofs, but for those that say only that a name is gone."""
-    places = [Place(path, int(line), text) for path, line, text in ERROR_IN_PROOF.findall(said)]
-    return [place for place in places if not NAMES.search(place.text)]
+    return [place for place in all_errors_in_proofs(said) if not NAMES.search(place.text)]
 
 
 def open_goal(said):
@@ -139,7 +147,7 @@ def place_of_refusal(unproved, judge, errors):
     if place := open_in(unproved, judge):
         return place
     for error in errors:
-        if error.path.rpartition("/")[0] == unproved.folder:
+        if error.is_below(unproved.folder):
             return without_number(error)
     return None
 
