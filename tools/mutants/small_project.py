@@ -140,7 +140,12 @@ EDITS = [
     ("ten-of_the_same_meaning", "IsLarge n = 9 < n", "IsLarge n = 9 + 1 < n + 1", "NOT REFUSED"),
 ]
 
-
+# Controls of the same form. The last one is wrong.
+CONTROLS = [
+    ("next-turned_round", "    number + 1", "    1 + number", "proved\n"),
+    ("again-local", "    next(number)", "    let after = next(number); after", "proved\n"),
+    ("second-first", "    next(next(number))", "    next(number)", "refused: src/lib.rt:17: "),
+]
 # Goals that edits name: one that is open, one that there is not, and one that is not open.
 GOALS = {"next-stands": "returns", "second-first": "nothing", "again-harmless": "returns"}
 
@@ -154,6 +159,8 @@ def write_project(top):
     for name, old, new, _ in EDITS:
         file = "specs/Sizes.antt" if old in SIZES else "src/lib.rt"
         write_edit(top / "edits", "numbers", name, file, old, new, GOALS.get(name))
+    for name, old, new, _ in CONTROLS:
+        write_edit(top / "edits", "numbers", name, "src/lib.rt", old, new, kind="controls")
     for name, (divisor, new, _) in PARTS.items():
         write(top / "crates" / name / "src/lib.rt", PART.replace("2", divisor))
         write_edit(top / "edits", name, "part-other", "src/lib.rt", f"    number / {divisor}", new)
@@ -169,6 +176,6 @@ def write(path, text):
     path.write_text(text)
 
 
-def write_edit(edits, crate, name, file, old, new, goal=None):
+def write_edit(edits, crate, name, file, old, new, goal=None, kind="must-fail"):
     text = f"file: {file}\nold: {old}\nnew: {new}\n" + (f"# goal: {goal}\n" if goal else "")
-    write(edits / "crates" / crate / "must-fail" / f"{name}.edit", text)
+    write(edits / "crates" / crate / kind / f"{name}.edit", text)

@@ -9,8 +9,10 @@ import re
 from . import rounds, verdicts
 
 FOLDER = "controls"
-# What a check says of a function that it proved. Where other functions have a hole it says `no holes`.
-PROVED_FUNCTION = re.compile(r"(?m)^fn (\S+?): (?:proved|no holes)$")
+# What a check says of a function that it proved. Where others have a hole it says `no holes`, or that the function rests on the
+# proofs of those that it calls: of these a round has the contracts alone.
+CALLED = r"`\S+\.Proof\.\w+_spec`"
+PROVED_FUNCTION = re.compile(rf"(?m)^fn (\S+?): (?:proved|no holes|depends on a hole in {CALLED}(?:, {CALLED})*)$")
 # The kinds of refusals, each by how its verdict begins.
 KINDS = {
     "at a bound": re.compile("refused at a bound: "),
@@ -20,9 +22,9 @@ KINDS = {
 
 
 class Runner(rounds.Runner):
-    """Tries controls."""
+    """Tries controls, each by all goals."""
     def __init__(self, *given, **how):
-        super().__init__(*given, **how)
+        super().__init__(*given, **(how | {"by_goal": False}))
         self.told = Told()
 
     def judged(self, edit, judges, said, is_by_itself):
