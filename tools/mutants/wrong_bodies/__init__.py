@@ -54,4 +54,8 @@ bodies, its types and constants, its specs, and what its `format` says of each f
 none of these: it changed code, sums, and what the library keeps for its own proofs. An edit that was refused alone has in
 its key the whole text of its crate, and the sums of all files of the libraries below. A crate of which all verdicts are
 kept is not checked. Beside `rt ci` they are told once it is proved.
+
+Controls (controls.py). A right body that is written otherwise is tried in such rounds too, by all goals. It is proved where the
+check says so of its function: no hole is left in its proof, or none but those of the functions that it calls, whose contracts
+the round has. An error that says only that a proof names what is gone refuses it: that proof was stored for another body.
 """
