@@ -13,20 +13,22 @@ ON_A_LEMMA = ON_A_CALL.replace("b.c.Proof.c_spec", "Lemmas.small")
 # An answer that names what the body does not have, as two lines say.
 MISSING = "proofs/next/Answers.antt:9:6: error: `returns`: record `C` (nearest: .args)\n  has no field `call`\nfn numbers::next: not proved\nonly=1"
 BOTH = BROKE_OFF + "\n" + FALSE.format(14, "overflow")
+NAME_FIRST = MISSING + "\n" + BROKE_OFF
 CLOSURE = NO_HOLES + "\nfn numbers::next::closure: not proved"
 # What the checks of a control say in turn, what has to be told, how it is counted, and the exit status.
 SAID = [
-    ("it has no hole", [NO_HOLES], "proved\n", "1 proved, 0 refused: 0 by an open goal, 0 by a stored answer, 0 at a bound", 0),
+    ("it has no hole", [NO_HOLES], "proved\n", "1 proved, 0 refused: 0 by an open goal, 0 by a stored answer, 0 by a name", 0),
     ("it is proved", [PROVED], "proved\n", "1 proved, 0 refused: ", 0),
     ("it rests on the contracts of two others", [ON_A_CALL], "proved\n", "1 proved, 0 refused: ", 0),
     ("it rests on a lemma with a hole", [ON_A_LEMMA, "logic=not-proved"], "UNCLEAR: ", "not judged: 1\n0 proved, 0 refused: ", 1),
     ("nothing is said, and all is proved", [NOTHING, "logic=proved"], "proved\n", "1 proved, 0 refused: ", 0),
     ("a closure in it is not proved", [CLOSURE, "logic=proved"], "proved\n", "1 proved, 0 refused: ", 0),
-    ("a goal is open", [NEXT], "refused: src/lib.rt:9: ", "0 proved, 1 refused: 1 by an open goal, 0 by", 0),
-    ("an answer does not fit", [FALSE.format(10, "returns")], "refused: proofs/next/Answers.antt:10: ", "1 by a stored answer, 0 at a bound", 0),
-    ("an answer names what is gone", [MISSING], "refused: proofs/next/Answers.antt:9: ", "1 by a stored answer, 0 at a bound", 0),
-    ("a search broke off", [BROKE_OFF], "refused at a bound: proofs/next/Answers.antt:10: ", "0 by a stored answer, 1 at a bound", 0),
-    ("one broke off, another answer does not fit", [BOTH], "refused: proofs/next/Answers.antt:14: ", "1 by a stored answer, 0 at a bound", 0),
+    ("a goal is open", [NEXT], "refused: src/lib.rt:9: ", "0 proved, 1 refused: 1 by an open goal, 0 by a", 0),
+    ("an answer does not fit", [FALSE.format(10, "returns")], "refused: proofs/next/Answers.antt:10: ", "1 by a stored answer, 0 by a name", 0),
+    ("an answer names what is gone", [MISSING], "refused by a name: proofs/next/Answers.antt:9: ", "0 by a stored answer, 1 by a name", 0),
+    ("a search broke off", [BROKE_OFF], "refused at a bound: proofs/next/Answers.antt:10: ", "0 by a name that is gone, 1 at a bound", 0),
+    ("one broke off, another answer does not fit", [BOTH], "refused: proofs/next/Answers.antt:14: ", "1 by a stored answer, 0 by a name", 0),
+    ("one names what is gone, another broke off", [NAME_FIRST], "refused at a bound: proofs/next/Answers.antt:10: ", "gone, 1 at a bound", 0),
     ("an open goal of the whole crate", [NOTHING, f"{NEXT}\nlogic=not-proved"], "refused alone: src/lib.rt:9:1: ", "1 by an open goal, 0 by", 0),
     ("it does not compile", ["error: a name", "no verdict"], "BAD EDIT: ", "not judged: 1\n0 proved, 0 refused: ", 1),
     ("it is not known", [NOTHING, "logic=not-proved"], "UNCLEAR: ", "not judged: 1\n0 proved, 0 refused: ", 1),
@@ -40,7 +42,7 @@ def check_controls(counts, project, runner_of, ran):
     told = ran("--controls", "--proved", "numbers")
     for name, _, _, wanted in CONTROLS:
         counts.report(f"the control {name}", "" if f"numbers/{name}: {wanted}" in told.stdout else f"found {told.stdout}")
-    wanted = "2 proved, 1 refused: 1 by an open goal, 0 by a stored answer, 0 at a bound\n"
+    wanted = "2 proved, 1 refused: 1 by an open goal, 0 by a stored answer, 0 by a name that is gone, 0 at a bound\n"
     counts.report("the last line has the counts of controls", "" if told.stdout.endswith(wanted) else f"found {told.stdout}")
     counts.compare("it passes where each control is judged", told.returncode, 0)
 

@@ -57,5 +57,5 @@ kept is not checked. Beside `rt ci` they are told once it is proved.
 
 Controls (controls.py). A right body that is written otherwise is tried in such rounds too, by all goals. It is proved where the
 check says so of its function: no hole is left in its proof, or none but those of the functions that it calls, whose contracts
-the round has. An error that says only that a proof names what is gone refuses it: that proof was stored for another body.
+the round has. An error that says only that a proof names what is gone refuses it too, and is counted by itself.
 """

@@ -13,9 +13,13 @@ FOLDER = "controls"
 # proofs of those that it calls: of these a round has the contracts alone.
 CALLED = r"`\S+\.Proof\.\w+_spec`"
 PROVED_FUNCTION = re.compile(rf"(?m)^fn (\S+?): (?:proved|no holes|depends on a hole in {CALLED}(?:, {CALLED})*)$")
+# How the errors in a proof refuse a control: of several, the one that comes first here. The last one only says that a name is
+# gone, and refuses no wrong body.
+HOW = NO_FIT, AT_BOUND, BY_NAME = "", " at a bound", " by a name"
 # The kinds of refusals, each by how its verdict begins.
 KINDS = {
     "at a bound": re.compile("refused at a bound: "),
+    "by a name that is gone": re.compile("refused by a name: "),
     "by a stored answer": re.compile("refused(?: alone)?: proofs/"),
     "by an open goal": re.compile("refused"),
 }
@@ -56,7 +60,7 @@ class Told(rounds.Told):
 
 def judged(judges, said):
     """What a round says of a control, by what it says of its judges and their closures: proved, refused, waits or unclear,
-    and why. An answer that names what the new body does not have refuses it too."""
+    and why."""
     unproved = [it for it in verdicts.unproved_in(said) if any(it.is_of(judge.function) for judge in judges)]
     proved = set(PROVED_FUNCTION.findall(said))
     left = [it for it in unproved if it.name not in proved]
@@ -67,8 +71,15 @@ def judged(judges, said):
             if place := verdicts.open_in(it, judge):
                 return verdicts.REFUSED, f"refused: {place}"
     errors = [error for it in left for error in verdicts.all_errors_in_proofs(said) if error.is_below(it.folder)]
-    for error in sorted(errors, key=lambda error: verdicts.broke_off(said, error)):
-        where = " at a bound" if verdicts.broke_off(said, error) else ""
-        return verdicts.REFUSED, f"refused{where}: {verdicts.without_number(error)}"
+    if errors:
+        error = min(errors, key=lambda error: HOW.index(how_it_refuses(said, error)))
+        return verdicts.REFUSED, f"refused{how_it_refuses(said, error)}: {verdicts.without_number(error)}"
     waits = left and all("it calls" in it.why for it in left)
     return (verdicts.WAITS if waits else verdicts.UNCLEAR), ""
+
+
+def how_it_refuses(said, error):
+    """How an error in the proof of a control refuses it."""
+    if verdicts.NAMES.search(error.text):
+        return BY_NAME
+    return AT_BOUND if verdicts.broke_off(said, error) else NO_FIT
