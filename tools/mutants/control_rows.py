@@ -7,11 +7,15 @@ from goal_rows import ANSWERS, BROKE_OFF, FALSE, NEXT, NOTHING, edit_of_next, st
 from kept_rows import StandIn
 from small_project import CONTROLS
 
+FILE = "proofs/next/Answers.antt"
 NO_HOLES, PROVED = "fn numbers::next: no holes\nonly=1", "fn numbers::next: proved\nonly=1"
-ON_A_CALL = "fn numbers::next: depends on a hole in `Rattle.numbers.proofs.a.Proof.a_spec`, `Rattle.numbers.proofs.b.c.Proof.c_spec`\nonly=1"
+ON_A_CALL = "fn numbers::next: depends on a hole in `Rattle.proofs.a.Proof.a_spec`, `Rattle.proofs.b.c.Proof.c_spec`\nonly=1"
 ON_A_LEMMA = ON_A_CALL.replace("b.c.Proof.c_spec", "Lemmas.small")
 # An answer that names what the body does not have, as two lines say.
-MISSING = "proofs/next/Answers.antt:9:6: error: `returns`: record `C` (nearest: .args)\n  has no field `call`\nfn numbers::next: not proved\nonly=1"
+MISSING = """proofs/next/Answers.antt:9:6: error: `returns`: record `C` (nearest: .args)
+  has no field `call`
+fn numbers::next: not proved
+only=1"""
 BOTH = BROKE_OFF + "\n" + FALSE.format(14, "overflow")
 NAME_FIRST = MISSING + "\n" + BROKE_OFF
 CLOSURE = NO_HOLES + "\nfn numbers::next::closure: not proved"
@@ -24,11 +28,11 @@ SAID = [
     ("nothing is said, and all is proved", [NOTHING, "logic=proved"], "proved\n", "1 proved, 0 refused: ", 0),
     ("a closure in it is not proved", [CLOSURE, "logic=proved"], "proved\n", "1 proved, 0 refused: ", 0),
     ("a goal is open", [NEXT], "refused: src/lib.rt:9: ", "0 proved, 1 refused: 1 by an open goal, 0 by a", 0),
-    ("an answer does not fit", [FALSE.format(10, "returns")], "refused: proofs/next/Answers.antt:10: ", "1 by a stored answer, 0 by a name", 0),
-    ("an answer names what is gone", [MISSING], "refused by a name: proofs/next/Answers.antt:9: ", "0 by a stored answer, 1 by a name", 0),
-    ("a search broke off", [BROKE_OFF], "refused at a bound: proofs/next/Answers.antt:10: ", "0 by a name that is gone, 1 at a bound", 0),
-    ("one broke off, another answer does not fit", [BOTH], "refused: proofs/next/Answers.antt:14: ", "1 by a stored answer, 0 by a name", 0),
-    ("one names what is gone, another broke off", [NAME_FIRST], "refused at a bound: proofs/next/Answers.antt:10: ", "gone, 1 at a bound", 0),
+    ("an answer does not fit", [FALSE.format(10, "returns")], f"refused: {FILE}:10: ", "1 by a stored answer, 0 by a name", 0),
+    ("an answer names what is gone", [MISSING], f"refused by a name: {FILE}:9: ", "0 by a stored answer, 1 by a name", 0),
+    ("a search broke off", [BROKE_OFF], f"refused at a bound: {FILE}:10: ", "0 by a name that is gone, 1 at a bound", 0),
+    ("one broke off, another answer does not fit", [BOTH], f"refused: {FILE}:14: ", "1 by a stored answer, 0 by a name", 0),
+    ("one names what is gone, another broke off", [NAME_FIRST], f"refused at a bound: {FILE}:10: ", "gone, 1 at a bound", 0),
     ("an open goal of the whole crate", [NOTHING, f"{NEXT}\nlogic=not-proved"], "refused alone: src/lib.rt:9:1: ", "1 by an open goal, 0 by", 0),
     ("it does not compile", ["error: a name", "no verdict"], "BAD EDIT: ", "not judged: 1\n0 proved, 0 refused: ", 1),
     ("it is not known", [NOTHING, "logic=not-proved"], "UNCLEAR: ", "not judged: 1\n0 proved, 0 refused: ", 1),
