@@ -4,7 +4,7 @@ mod counted_calls {
     use super::Steps;
     use crate::proved::bitranks::counted as ranks;
     use crate::proved::bitrows::{counted as rows, BitRows};
-    use crate::proved::fixedbitset::{counted, FixedBitSet};
+    use crate::proved::fixedbitset::{counted, Bits, FixedBitSet};
     use crate::shim::alloc::Global;
     use core::ops::Range;
 
@@ -46,6 +46,30 @@ mod counted_calls {
         |set, other, steps| (*set = counted::bitor(set, other, steps).unwrap(), 0).1,
         |set, other, steps| (*set = counted::bitxor(set, other, steps).unwrap(), 0).1,
     ];
+
+    const VIEWS: [fn(Bits<'_>, Bits<'_>, usize, &mut Steps) -> usize; 17] = [
+        |set, _, at, steps| place(set.first_gap(1 + at % 70, at / 2, steps)),
+        |set, _, at, steps| place(set.first_aligned_gap(1 + at % 70, 1 + at % 9, 0, set.length, steps)),
+        |set, _, at, steps| place(set.next_one(at, steps)),
+        |set, _, at, steps| place(set.next_zero(at, steps)),
+        |set, other, at, steps| place(set.next_common(other, at, steps)),
+        |set, _, at, steps| place(set.nth_one(at, steps)),
+        |set, _, at, steps| place(set.previous_one(at, steps)),
+        |set, _, at, steps| place(set.previous_zero(at, steps)),
+        |set, _, _, steps| place(set.minimum(steps)),
+        |set, _, _, steps| place(set.maximum(steps)),
+        |set, other, _, steps| place(set.first_lacking(other, steps)),
+        |set, _, _, steps| set.is_clear(steps) as usize,
+        |set, _, _, steps| set.is_full(steps) as usize,
+        |set, other, _, steps| set.is_superset(other, steps) as usize,
+        |set, other, _, steps| set.is_equal(other, steps) as usize,
+        |set, _, _, steps| set.is_equal(set, steps) as usize,
+        |set, other, _, steps| set.compare(other, steps) as usize,
+    ];
+
+    fn place(found: Option<usize>) -> usize {
+        found.unwrap_or(usize::MAX)
+    }
 
     struct Calls {
         random: u64,
@@ -100,12 +124,13 @@ mod counted_calls {
             let length = [length, self.below(most)][self.below(2)];
             let (other, third) = (self.set(length), self.set(length.min(set.len())));
             let (range, number) = (self.range(set.len()), self.below(set.len() + 70));
-            let value = match self.below(9) {
+            let value = match self.below(12) {
                 0 | 1 => RANGES[self.below(RANGES.len())](&mut set, range, &mut steps),
                 2 => (NUMBERS[self.below(NUMBERS.len())](&mut set, number, &mut steps), 0).1,
                 3..=5 => PAIRS[self.below(PAIRS.len())](&mut set, &other, &mut steps),
                 6 => self.of_more(&mut set, &other, &third, &mut steps),
                 7 => self.of_ranks(&set, number, &mut steps),
+                8..=10 => VIEWS[self.below(VIEWS.len())](set.as_bits(), other.as_bits(), number, &mut steps),
                 _ => self.of_rows(&mut steps),
             };
             self.add(value);

@@ -57,7 +57,7 @@ class Plan:
 
     def missing(self):
         """The commands that stages call and that are not here: these stages then leave out what needs them."""
-        tools = {tool for stage in (*self.fronts(), *self.libraries(), *self.last()) for tool in stage.tools}
+        tools = {tool for stage in (*self.fronts(), *self.mutants(), *self.libraries(), *self.last()) for tool in stage.tools}
         return sorted(tool for tool in tools if not shutil.which(tool))
 
     def texts(self):
@@ -125,17 +125,18 @@ class Plan:
         inputs = ("front/program", "front/rust/src", *shared, *texts)
         program = Stage("the program by cargo", ("front/program/test",), inputs, ("cargo", "rustc", "cc", *gcc, *qemu))
         client = Stage("petgraph over the crate", ("front/client",), (*crate, "front/client", "front/rustdoc"), ("cargo", "rustc", "cc"))
-        return [front, targets, client] * self.has("bits_c") + [program, self.mutants()] * self.has("bits")
+        return [front, targets, client] * self.has("bits_c") + [program] * self.has("bits")
 
     def mutants(self):
-        """The wrong bodies, as the tests of the crate, of the program and of the library for C see them. What a verdict stands by
-        is in front/wrong/seen, so those that have none are tried, and some by chance."""
+        """The wrong bodies, as the tests of the crate, of the program and of the library for C see them: those that have no verdict
+        in front/wrong/seen, and some by chance. (It reads them where they stand, and writes into folders of its own.)"""
         edits = self.sources(*self.crates, parts=("src", "must-fail"))
         makers = ("erase", "erase_source.py", "erase_tables.py", "wrong", "wrong_translations", "compilers", "registry")
         made = [f"front/{it}" for it in (*makers, "c", "differ", "lib", "program", "rust")]
         texts = ("docs/COMMANDS.md", "examples", "crates/bits/stdin", "crates/bits/stdout", "tools/memory/memory.txt")
         inputs = (*edits, *made, *texts, "tools/kept.py", "tools/mutants")
-        return Stage("wrong bodies seen by tests", ("front/wrong_translations", "--jobs", "1"), inputs, ("cargo", "rustc", "cc"))
+        stage = Stage("wrong bodies seen by tests", ("front/wrong_translations", "--jobs", "1"), inputs, ("cargo", "rustc", "cc"))
+        return [stage] * self.has("bits")
 
     def libraries(self):
         """What is built of the static library over the work of the proofs, and the type for PostgreSQL: some of its tests end
