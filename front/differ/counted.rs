@@ -9,7 +9,9 @@ mod counted_calls {
     use core::ops::Range;
 
     const ALLOC: Global = Global::Abort;
-    const RANGES: [fn(&mut FixedBitSet, Range<usize>, &mut Steps) -> usize; 7] = [
+    const RANGES: [fn(&mut FixedBitSet, Range<usize>, &mut Steps) -> usize; 9] = [
+        |set, range, _| all(set.ones_in(range)),
+        |set, range, _| all(set.zeroes_in(range)),
         |set, range, steps| counted::count_ones(set, range, steps),
         |set, range, steps| counted::count_zeroes(set, range, steps),
         |set, range, steps| counted::contains_all_in_range(set, range, steps) as usize,
@@ -47,7 +49,13 @@ mod counted_calls {
         |set, other, steps| (*set = counted::bitxor(set, other, steps).unwrap(), 0).1,
     ];
 
-    const VIEWS: [fn(Bits<'_>, Bits<'_>, usize, &mut Steps) -> usize; 17] = [
+    const VIEWS: [fn(Bits<'_>, Bits<'_>, usize, &mut Steps) -> usize; 23] = [
+        |set, _, _, steps| set.ones().count_left(steps),
+        |set, _, _, steps| set.zeroes().count_left(steps),
+        |set, other, _, steps| set.union(other).count_left(steps),
+        |set, other, _, steps| set.symmetric_difference(other).count_left(steps),
+        |set, other, _, steps| set.intersection(other).count_left(steps),
+        |set, other, _, steps| set.difference(other).count_left(steps),
         |set, _, at, steps| place(set.first_gap(1 + at % 70, at / 2, steps)),
         |set, _, at, steps| place(set.first_aligned_gap(1 + at % 70, 1 + at % 9, 0, set.length, steps)),
         |set, _, at, steps| place(set.next_one(at, steps)),
@@ -66,6 +74,10 @@ mod counted_calls {
         |set, _, _, steps| set.is_equal(set, steps) as usize,
         |set, other, _, steps| set.compare(other, steps) as usize,
     ];
+
+    fn all(positions: impl Iterator<Item = usize>) -> usize {
+        positions.fold(0, |all, position| all.wrapping_mul(31) ^ position)
+    }
 
     fn place(found: Option<usize>) -> usize {
         found.unwrap_or(usize::MAX)
@@ -118,19 +130,25 @@ mod counted_calls {
         fn call(&mut self) {
             let mut steps = Steps::new();
             (0..3).for_each(|_| steps.tick());
-            let most = [3, 130, 1_500][self.below(3)];
+            let most = match self.below(400) {
+                0 => 300_000,
+                1..=139 => 1_500,
+                140..=279 => 130,
+                _ => 3,
+            };
             let length = self.below(most);
             let mut set = self.set(length);
             let length = [length, self.below(most)][self.below(2)];
             let (other, third) = (self.set(length), self.set(length.min(set.len())));
             let (range, number) = (self.range(set.len()), self.below(set.len() + 70));
-            let value = match self.below(12) {
+            let value = match self.below(13) {
                 0 | 1 => RANGES[self.below(RANGES.len())](&mut set, range, &mut steps),
                 2 => (NUMBERS[self.below(NUMBERS.len())](&mut set, number, &mut steps), 0).1,
                 3..=5 => PAIRS[self.below(PAIRS.len())](&mut set, &other, &mut steps),
                 6 => self.of_more(&mut set, &other, &third, &mut steps),
                 7 => self.of_ranks(&set, number, &mut steps),
                 8..=10 => VIEWS[self.below(VIEWS.len())](set.as_bits(), other.as_bits(), number, &mut steps),
+                11 => FixedBitSet::from_bits(ALLOC, set.as_bits()).unwrap().into_ones().count_left(&mut steps),
                 _ => self.of_rows(&mut steps),
             };
             self.add(value);
