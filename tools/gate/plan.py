@@ -28,7 +28,7 @@ def read_crates(top):
 def below(crates, name):
     """The crates of the repository that one stands on."""
     found = set()
-    for it in crates[name]:
+    for it in crates.get(name, ()):
         if it in crates:
             found |= {it} | below(crates, it)
     return found
