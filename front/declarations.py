@@ -31,7 +31,7 @@ KINDS = {
     "&mut Sieve": "sieve*", "bits_sieve *": "sieve*",
     "&mut Pair": "pair*", "bits_pair *": "pair*",
     "&[u8]": "const byte* word", "*const u8": "const byte*", "const uint8_t *": "const byte*",
-    "&mut [u8]": "byte* word", "NonNull<u8>": "byte*", "uint8_t *": "byte*", "&mut [u32]": "half* word", "uint32_t *": "half*",
+    "&mut [u8]": "byte* word", "NonNull<u8>": "byte*", "uint8_t *": "byte*", "&mut [u32]": "half* word", "NonNull<u32>": "half*", "uint32_t *": "half*",
     "&mut RowsMut": "rows*", "&mut Rows": "rows*", "bits_rows *": "rows*", "&Rows": "const rows*", "const bits_rows *": "const rows*",
     "&mut Ranks": "ranks*", "&mut LentRanks": "ranks*", "bits_ranks *": "ranks*", "&LentRanks": "const ranks*",
     "&Ranks": "const ranks*", "const bits_ranks *": "const ranks*",
@@ -119,9 +119,7 @@ def wrong_calls(exported, archive, header, made):
     """What is wrong with the declarations of calls."""
     named = made.replace("unsafe extern", "extern").replace("fn fixedbitset_", "fn ")
     for side, declared in (("declared.rs", of_rust(archive)), ("bits.h", of_c(header)), ("exports.rs", of_rust(named))):
-        # (The program that compares need not declare all.)
-        names = declared.keys() if side == "declared.rs" else exported.keys() | declared.keys()
-        for it in sorted(names):
+        for it in sorted(exported.keys() | declared.keys()):
             if not agree(exported.get(it, []), declared.get(it, [])):
                 yield f"{side}: {it} is {exported.get(it)}, and declared {declared.get(it)}"
 

@@ -376,6 +376,7 @@ static inline bits bits_rows_row(const bits_rows *rows, size_t row) {
     return row < rows->rows ? bits_of(wide ? rows->words + row * wide : rows->words, rows->columns) : bits_of(NULL, 0);
 }
 
+/* made by front/calls from crates/bits_c */
 /* ---- words */
 
 /* Returns how many words a set of this length has: whole lanes of four words. */
@@ -430,8 +431,7 @@ void bits_clear(bits *set) BITS_SYMBOL(bits_clear);
 size_t bits_minimum(const bits *set) BITS_SYMBOL(bits_minimum);
 /* Returns the greatest position that is set, or BITS_NONE if no position is set. */
 size_t bits_maximum(const bits *set) BITS_SYMBOL(bits_maximum);
-/* Returns the least position at or past `from` that is set, or BITS_NONE. Any number may be passed, in this call and in the
- * next six. */
+/* Returns the least position at or past `from` that is set, or BITS_NONE. Any number may be passed. */
 size_t bits_next_one(const bits *set, size_t from) BITS_SYMBOL(bits_next_one);
 /* Returns the least position at or past `from` and below the length that is not set, or BITS_NONE. */
 size_t bits_next_zero(const bits *set, size_t from) BITS_SYMBOL(bits_next_zero);
@@ -485,8 +485,8 @@ BITS_NODISCARD bool bits_symmetric_difference_with(bits *set, const bits *other)
 void bits_intersect_with(bits *set, const bits *other) BITS_SYMBOL(bits_intersect_with);
 /* Leaves the positions of the first set that the second lacks (difference). The length of the first set stays. */
 void bits_difference_with(bits *set, const bits *other) BITS_SYMBOL(bits_difference_with);
-/* Like bits_union_with, and also writes to `changed` whether a position was added. If the call returns false, nothing is
- * written to `changed`. */
+/* Adds the positions of the second set (union), writes to `changed` whether a position was added, and returns true. Returns
+ * false, changes nothing, and writes nothing to `changed`, if the second set is longer than the first. */
 BITS_NODISCARD bool bits_union_with_change(bits *set, const bits *other, bool *changed) BITS_SYMBOL(bits_union_with_change);
 /* Like bits_intersect_with, and returns whether a position was removed. */
 bool bits_intersect_with_change(bits *set, const bits *other) BITS_SYMBOL(bits_intersect_with_change);
@@ -520,32 +520,36 @@ bool bits_equal(const bits *set, const bits *other) BITS_SYMBOL(bits_equal);
 ptrdiff_t bits_compare(const bits *set, const bits *other) BITS_SYMBOL(bits_compare);
 
 /* ---- sets written to `to`, whose words may hold anything. `to` has the length of the result, and bits_words(length) words.
- *      Each call returns true if it did its work; else it returns false and changes nothing. It writes each word once. */
+ *      Each call writes each word once. */
 
-/* Copies to `to` the positions of the set that are below the length of `to`. That length may be any number. */
+/* Copies to `to` the positions of the set that are below the length of `to`, which may be any number, and returns true;
+ * returns false and changes nothing if `to` does not have bits_words of its length. */
 BITS_NODISCARD bool bits_copy(bits *to, const bits *set) BITS_SYMBOL(bits_copy);
-/* Writes the positions in either set (union). The length of `to` has to be the greater of the two lengths. */
+/* Writes the positions in either set (union) to `to`, and returns true. Returns false and changes nothing if the length of
+ * `to` is not the greater of the two lengths, or its words are not bits_words of that length. */
 BITS_NODISCARD bool bits_union_of(bits *to, const bits *set, const bits *other) BITS_SYMBOL(bits_union_of);
-/* Writes the positions in exactly one of the sets (xor). The length of `to` has to be the greater of the two lengths. */
+/* Writes the positions in exactly one of the sets (xor) to `to`, and returns true. Returns false and changes nothing if the
+ * length of `to` is not the greater of the two lengths, or its words are not bits_words of that length. */
 BITS_NODISCARD bool bits_symmetric_difference_of(bits *to, const bits *set, const bits *other)
     BITS_SYMBOL(bits_symmetric_difference_of);
-/* Writes the positions in both sets (intersection). The length of `to` has to be the smaller of the two lengths. */
+/* Writes the positions in both sets (intersection) to `to`, and returns true. Returns false and changes nothing if the
+ * length of `to` is not the smaller of the two lengths, or its words are not bits_words of that length. */
 BITS_NODISCARD bool bits_intersection_of(bits *to, const bits *set, const bits *other) BITS_SYMBOL(bits_intersection_of);
-/* Writes the positions of the first set that the second lacks (difference). The length of `to` has to be the length of the
- * first. */
+/* Writes the positions of the first set that the second lacks (difference) to `to`, and returns true. Returns false and
+ * changes nothing if the length of `to` is not the length of the first, or its words are not bits_words of that length. */
 BITS_NODISCARD bool bits_difference_of(bits *to, const bits *set, const bits *other) BITS_SYMBOL(bits_difference_of);
 
-/* ---- shifts by any number, and slices. A position that a shift moves to or past the length is dropped, and the length stays.
- *      To append one set to another, make the first longer by bits_settle, and add the second by bits_union_with_shifted,
- *      shifted up by the old length. To truncate a set, pass fewer of its words and a smaller length to bits_settle. */
+/* ---- shifts by any number, and slices. The length stays. To append one set to another, make the first longer by
+ *      bits_settle, and add the second by bits_union_with_shifted, shifted up by the old length. To truncate a set, pass
+ *      fewer of its words and a smaller length to bits_settle. */
 
-/* Shifts each position up by `by`. */
+/* Shifts each position up by `by`; positions that come to or past the length are dropped. */
 void bits_shift_up(bits *set, size_t by) BITS_SYMBOL(bits_shift_up);
 /* Shifts each position down by `by`; positions below `by` are dropped. */
 void bits_shift_down(bits *set, size_t by) BITS_SYMBOL(bits_shift_down);
-/* Adds the positions of the second set, shifted up by `by`. */
+/* Adds the positions of the second set, shifted up by `by`; those that come to or past the length are dropped. */
 void bits_union_with_shifted(bits *set, const bits *other, size_t by) BITS_SYMBOL(bits_union_with_shifted);
-/* Adds the positions of the set itself, shifted up by `by`. */
+/* Adds the positions of the set itself, shifted up by `by`; those that come to or past the length are dropped. */
 void bits_union_with_own_shift(bits *set, size_t by) BITS_SYMBOL(bits_union_with_own_shift);
 /* Copies a slice: `part` gets the positions of the second set from `start` up to but not including `end`, each less `start`.
  * Returns true if the range is valid and the length of `part` is end - start; else returns false and changes nothing. */
@@ -572,8 +576,9 @@ size_t bits_bytes(size_t length) BITS_SYMBOL(bits_bytes);
 void bits_from_bytes(bits *set, const uint8_t *bytes, size_t count) BITS_SYMBOL(bits_from_bytes);
 /* Writes the bytes of the set and returns true; returns false and changes nothing if `count` is not bits_bytes(length). */
 BITS_NODISCARD bool bits_to_bytes(const bits *set, uint8_t *bytes, size_t count) BITS_SYMBOL(bits_to_bytes);
-/* Reverses the bits of each byte. The two calls above have the first of eight positions in the lowest bit of a byte; this
- * call turns bytes with that position in the highest bit (most significant bit first) into such bytes, and back. */
+/* Reverses the bits of each byte. bits_from_bytes and bits_to_bytes have the first of eight positions in the lowest bit of a
+ * byte; this call turns bytes with that position in the highest bit (most significant bit first) into such bytes, and
+ * back. */
 void bits_reverse_each_byte(uint8_t *bytes, size_t count) BITS_SYMBOL(bits_reverse_each_byte);
 
 /* ---- rank and select: how many positions that are set are below a position, and which position is the k-th that is set */
@@ -616,10 +621,10 @@ BITS_NODISCARD bool bits_rows_ones(bits_walk *walk, const bits_rows *rows, size_
 void bits_rows_close(bits_rows *rows) BITS_SYMBOL(bits_rows_close);
 
 /* ---- iterators: each call writes a position and returns true. Once no position is left, this call and all later calls
- *      return false. `next` writes the first position that is left, `next_back` the last; the two may be mixed.
- *      `batch` writes the first positions that are left to `positions`, as many as there is `room` for or as are left, and
- *      returns how many; `batch_back` writes the last positions that are left, the last first. The other places of `positions`
- *      stay as they are. Both may be mixed with the calls for one position. */
+ *      return false. `next` writes the first position that is left, `next_back` the last; the two may be mixed. `batch`
+ *      writes the first positions that are left to `positions`, as many as there is `room` for or as are left, and returns
+ *      how many; `batch_back` writes the last positions that are left, the last first. The other places of `positions` stay
+ *      as they are. Both may be mixed with the calls for one position. */
 
 /* Initializes the iterator over the positions that are set, in ascending order. */
 void bits_ones(bits_walk *walk, const bits *set) BITS_SYMBOL(bits_ones);
@@ -636,13 +641,16 @@ bool bits_zeroes_next(bits_walk *walk, size_t *position) BITS_SYMBOL(bits_zeroes
 bool bits_zeroes_next_back(bits_walk *walk, size_t *position) BITS_SYMBOL(bits_zeroes_next_back);
 size_t bits_zeroes_batch(bits_walk *walk, size_t *positions, size_t room) BITS_SYMBOL(bits_zeroes_take);
 size_t bits_zeroes_batch_back(bits_walk *walk, size_t *positions, size_t room) BITS_SYMBOL(bits_zeroes_take_back);
-/* Initializes the iterator over the positions from `start` up to but not including `end` that are set, or that are not set,
+/* Initializes the iterator over the positions from `start` up to but not including `end` that are set, in ascending order,
  * and returns true. Returns false if the range is not valid; the iterator is then empty. */
 BITS_NODISCARD bool bits_ones_in(bits_walk *walk, const bits *set, size_t start, size_t end) BITS_SYMBOL(bits_ones_in);
+/* Initializes the iterator over the positions from `start` up to but not including `end` that are not set, in ascending
+ * order, and returns true. Returns false if the range is not valid; the iterator is then empty. */
 BITS_NODISCARD bool bits_zeroes_in(bits_walk *walk, const bits *set, size_t start, size_t end) BITS_SYMBOL(bits_zeroes_in);
-/* Initializes the iterator over the runs of consecutive positions that are set, or that are not set, in ascending order. A
- * run has the positions from `start` up to but not including `end`; the cost of a run grows with the number of its words. */
+/* Initializes the iterator over the runs of consecutive positions that are set, in ascending order. A run has the positions
+ * from `start` up to but not including `end`; the cost of a run grows with the number of its words. */
 void bits_runs(bits_run_walk *walk, const bits *set) BITS_SYMBOL(bits_runs);
+/* Like bits_runs, over the positions below the length that are not set. */
 void bits_zero_runs(bits_run_walk *walk, const bits *set) BITS_SYMBOL(bits_zero_runs);
 bool bits_runs_next(bits_run_walk *walk, size_t *start, size_t *end) BITS_SYMBOL(bits_runs_next);
 bool bits_runs_next_back(bits_run_walk *walk, size_t *start, size_t *end) BITS_SYMBOL(bits_runs_next_back);
@@ -674,16 +682,19 @@ size_t bits_symmetric_difference_batch(bits_pair *walk, size_t *positions, size_
     BITS_SYMBOL(bits_symmetric_difference_take);
 size_t bits_symmetric_difference_batch_back(bits_pair *walk, size_t *positions, size_t room)
     BITS_SYMBOL(bits_symmetric_difference_take_back);
+/* end of what front/calls makes */
 
 #ifdef __cplusplus
 }
 #ifdef BITS_CHECK
 }
+/* made by front/calls */
 using fixedbitset_untested::bits_blocks;
 using fixedbitset_untested::bits_bytes;
 using fixedbitset_untested::bits_ranks_entries;
 using fixedbitset_untested::bits_rows_words;
 using fixedbitset_untested::bits_words;
+/* end of what front/calls makes */
 #endif
 #endif
 

@@ -273,68 +273,6 @@ static inline void fixedbitset_ask_done(fixedbitset_place here, bool is_done) {
         return answer;                                                                                  \
     }
 
-/* Checked calls of a set that is read, and of a set that is changed, alone or with a number or a range. */
-#define BITS_TESTED_READS(result, name) BITS_TESTED(result, name, (const bits *set), (set), BITS_ASK_SET(set))
-#define BITS_TESTED_READS_AT(result, name, at) \
-    BITS_TESTED(result, name, (const bits *set, size_t at), (set, at), BITS_ASK_SET(set))
-#define BITS_TESTED_READS_RANGE(result, name, tests) \
-    BITS_TESTED(result, name, (const bits *set, size_t start, size_t end), (set, start, end), BITS_ASK_SET(set) tests)
-#define BITS_TESTED_CHANGES_AT(name) \
-    BITS_TESTED_DONE(name, (bits *set, size_t bit), (set, bit), BITS_ASK_SET(set) BITS_ASK_BELOW(bit, set->length))
-#define BITS_TESTED_CHANGES_ALL(name)                                                                                         \
-    BITS_TESTED_DONE(name, (bits *set, const size_t *positions, size_t count), (set, positions, count),                       \
-                     BITS_ASK_SET(set) BITS_ASK_LIST(positions, count)                                                        \
-                         BITS_ASK_LIST_APART(positions, count, set->words, set->count)                                        \
-                             fixedbitset_ask_each_below(here, positions, count, set->length);)
-#define BITS_TESTED_WAS_AT(name) \
-    BITS_TESTED(bool, name, (bits *set, size_t bit), (set, bit), BITS_ASK_SET(set) BITS_ASK_BELOW(bit, set->length))
-#define BITS_TESTED_CHANGES_BY(name) BITS_TESTED_VOID(name, (bits *set, size_t by), (set, by), BITS_ASK_SET(set))
-#define BITS_TESTED_CHANGES_RANGE(name)                                                  \
-    BITS_TESTED_DONE(name, (bits *set, size_t start, size_t end), (set, start, end), \
-                     BITS_ASK_SET(set) BITS_ASK_RANGE(start, end, set->length))
-/* Checked calls of two sets: both are read, the second is joined to the first, the first is cut by the second, or a third is
- * written. */
-#define BITS_TESTED_READS_TWO(result, name) \
-    BITS_TESTED(result, name, (const bits *set, const bits *other), (set, other), BITS_ASK_SET(set) BITS_ASK_SET(other))
-#define BITS_TESTED_JOINS(name)                                                 \
-    BITS_TESTED_DONE(name, (bits *set, const bits *other), (set, other), \
-                     BITS_ASK_SET(set) BITS_ASK_SET(other) BITS_ASK_APART(set, other) BITS_ASK_NO_LONGER(other, set))
-#define BITS_TESTED_CUTS(name)                                                  \
-    BITS_TESTED_VOID(name, (bits *set, const bits *other), (set, other), \
-                     BITS_ASK_SET(set) BITS_ASK_SET(other) BITS_ASK_APART(set, other))
-#define BITS_TESTED_CUTS_CHANGE(name)                                           \
-    BITS_TESTED(bool, name, (bits *set, const bits *other), (set, other), \
-                BITS_ASK_SET(set) BITS_ASK_SET(other) BITS_ASK_APART(set, other))
-#define BITS_TESTED_WRITES(name, wanted)                                                                     \
-    BITS_TESTED_DONE(name, (bits *to, const bits *set, const bits *other), (to, set, other),                 \
-                     BITS_ASK_ROOM(to) BITS_ASK_SET(set) BITS_ASK_SET(other) BITS_ASK_APART(to, set)         \
-                         BITS_ASK_APART(to, other) BITS_ASK_EQUAL(to->length, wanted)                        \
-                             BITS_ASK_EQUAL(to->count, bits_words(to->length)))
-/* The checked calls of an iterator of this kind: the call that initializes it over one set, over a range and over two sets,
- * its steps, and its batches. */
-#define BITS_TESTED_BEGINS(kind, name) \
-    BITS_TESTED_VOID(name, (bits_##kind *walk, const bits *set), (walk, set), BITS_ASK_PLACE(walk) BITS_ASK_SET(set))
-#define BITS_TESTED_BEGINS_IN(name)                                                                                       \
-    BITS_TESTED_DONE(name, (bits_walk *walk, const bits *set, size_t start, size_t end), (walk, set, start, end), \
-                     BITS_ASK_PLACE(walk) BITS_ASK_SET(set) BITS_ASK_RANGE(start, end, set->length))
-#define BITS_TESTED_BEGINS_TWO(kind, name)                                                                      \
-    BITS_TESTED_VOID(name, (bits_##kind *walk, const bits *set, const bits *other), (walk, set, other), \
-                     BITS_ASK_PLACE(walk) BITS_ASK_SET(set) BITS_ASK_SET(other))
-#define BITS_TESTED_STEP(kind, name)                                                     \
-    BITS_TESTED(bool, name, (bits_##kind *walk, size_t *position), (walk, position), \
-                fixedbitset_ask_##kind(here, walk); BITS_ASK_PLACE(position))
-#define BITS_TESTED_BATCH(kind, name, number)                                                                \
-    BITS_TESTED(size_t, name, (bits_##kind *walk, number *positions, size_t room), (walk, positions, room), \
-                fixedbitset_ask_##kind(here, walk); BITS_ASK_LIST(positions, room))
-#define BITS_TESTED_RUN_STEP(name)                                                               \
-    BITS_TESTED(bool, name, (bits_run_walk *walk, size_t *start, size_t *end), (walk, start, end), \
-                fixedbitset_ask_run_walk(here, walk); BITS_ASK_PLACE(start) BITS_ASK_PLACE(end))
-#define BITS_TESTED_STEPS(kind, name)             \
-    BITS_TESTED_STEP(kind, name##_next)           \
-    BITS_TESTED_STEP(kind, name##_next_back)      \
-    BITS_TESTED_BATCH(kind, name##_batch, size_t)  \
-    BITS_TESTED_BATCH(kind, name##_batch_back, size_t)
-
 BITS_TESTED(bits, over, (uint64_t *words, size_t count, size_t length), (words, count, length),
             fixedbitset_ask_enough(here, words, count, length);)
 BITS_TESTED(bits_loop, each, (const bits *set, size_t from), (set, from), BITS_ASK_SET(set))
@@ -344,158 +282,226 @@ BITS_TESTED(bits_loop, each_of_two, (const bits *set, const bits *other, unsigne
             BITS_ASK_SET(set) BITS_ASK_SET(other))
 BITS_TESTED(bits, rows_row, (const bits_rows *rows, size_t row), (rows, row),
             fixedbitset_ask_rows(here, rows); fixedbitset_ask_row(here, rows, row); BITS_ASK_BELOW(row, rows->rows))
+/* made by front/calls */
 BITS_TESTED_DONE(settle, (uint64_t *words, size_t count, size_t length, size_t kept), (words, count, length, kept),
-                 BITS_ASK_LIST(words, count) BITS_ASK_EQUAL(count, bits_words(length)) BITS_ASK_AT_MOST(kept, length))
+    BITS_ASK_LIST(words, count) BITS_ASK_EQUAL(count, bits_words(length)) BITS_ASK_AT_MOST(kept, length))
 BITS_TESTED(bool, is_clean, (const uint64_t *words, size_t count, size_t length), (words, count, length),
-            BITS_ASK_LIST(words, count))
+    BITS_ASK_LIST(words, count))
 BITS_TESTED(size_t, take_lowest_bit, (uint64_t *word), (word), BITS_ASK_PLACE(word))
-
-BITS_TESTED_READS_AT(bool, contains, bit)
-BITS_TESTED_CHANGES_AT(insert)
-BITS_TESTED_CHANGES_AT(remove)
-BITS_TESTED_CHANGES_AT(toggle)
-BITS_TESTED_WAS_AT(put)
-BITS_TESTED_WAS_AT(take)
-BITS_TESTED_DONE(set, (bits *set, size_t bit, bool enabled), (set, bit, enabled),
-                 BITS_ASK_SET(set) BITS_ASK_BELOW(bit, set->length))
-BITS_TESTED_DONE(set_block, (bits *set, size_t index, uint64_t block), (set, index, block),
-                 BITS_ASK_SET(set) BITS_ASK_BELOW(index, bits_blocks(set->length)))
-BITS_TESTED_CHANGES_ALL(insert_all)
-BITS_TESTED_CHANGES_ALL(remove_all)
+BITS_TESTED(bool, contains, (const bits *set, size_t bit), (set, bit), BITS_ASK_SET(set))
+BITS_TESTED_DONE(insert, (bits *set, size_t bit), (set, bit), BITS_ASK_SET(set) BITS_ASK_BELOW(bit, set->length))
+BITS_TESTED_DONE(remove, (bits *set, size_t bit), (set, bit), BITS_ASK_SET(set) BITS_ASK_BELOW(bit, set->length))
+BITS_TESTED_DONE(toggle, (bits *set, size_t bit), (set, bit), BITS_ASK_SET(set) BITS_ASK_BELOW(bit, set->length))
+BITS_TESTED(bool, put, (bits *set, size_t bit), (set, bit), BITS_ASK_SET(set) BITS_ASK_BELOW(bit, set->length))
+BITS_TESTED(bool, take, (bits *set, size_t bit), (set, bit), BITS_ASK_SET(set) BITS_ASK_BELOW(bit, set->length))
+BITS_TESTED_DONE(set, (bits *set, size_t bit, bool enabled), (set, bit, enabled), BITS_ASK_SET(set)
+    BITS_ASK_BELOW(bit, set->length))
+BITS_TESTED_DONE(set_block, (bits *set, size_t index, uint64_t block), (set, index, block), BITS_ASK_SET(set)
+    BITS_ASK_BELOW(index, bits_blocks(set->length)))
+BITS_TESTED_DONE(insert_all, (bits *set, const size_t *positions, size_t count), (set, positions, count), BITS_ASK_SET(set)
+    BITS_ASK_LIST(positions, count) BITS_ASK_LIST_APART(positions, count, set->words, set->count)
+    fixedbitset_ask_each_below(here, positions, count, set->length);)
+BITS_TESTED_DONE(remove_all, (bits *set, const size_t *positions, size_t count), (set, positions, count), BITS_ASK_SET(set)
+    BITS_ASK_LIST(positions, count) BITS_ASK_LIST_APART(positions, count, set->words, set->count)
+    fixedbitset_ask_each_below(here, positions, count, set->length);)
 BITS_TESTED_DONE(contains_each, (const bits *set, const size_t *positions, size_t count, bool *answers, size_t places),
-                 (set, positions, count, answers, places),
-                 BITS_ASK_SET(set) BITS_ASK_LIST(positions, count) BITS_ASK_LIST(answers, places)
-                     BITS_ASK_LIST_APART(answers, places, set->words, set->count)
-                         BITS_ASK_LIST_APART(answers, places, positions, count) BITS_ASK_EQUAL(places, count))
+    (set, positions, count, answers, places), BITS_ASK_SET(set) BITS_ASK_LIST(positions, count)
+    BITS_ASK_LIST(answers, places) BITS_ASK_LIST_APART(answers, places, set->words, set->count)
+    BITS_ASK_LIST_APART(answers, places, positions, count) BITS_ASK_EQUAL(places, count))
 BITS_TESTED_VOID(clear, (bits *set), (set), BITS_ASK_SET(set))
-BITS_TESTED_READS(size_t, minimum)
-BITS_TESTED_READS(size_t, maximum)
-BITS_TESTED_READS_AT(size_t, next_one, from)
-BITS_TESTED_READS_AT(size_t, next_zero, from)
-BITS_TESTED_READS_AT(size_t, nth_one, index)
+BITS_TESTED(size_t, minimum, (const bits *set), (set), BITS_ASK_SET(set))
+BITS_TESTED(size_t, maximum, (const bits *set), (set), BITS_ASK_SET(set))
+BITS_TESTED(size_t, next_one, (const bits *set, size_t from), (set, from), BITS_ASK_SET(set))
+BITS_TESTED(size_t, next_zero, (const bits *set, size_t from), (set, from), BITS_ASK_SET(set))
+BITS_TESTED(size_t, nth_one, (const bits *set, size_t index), (set, index), BITS_ASK_SET(set))
 BITS_TESTED(size_t, first_gap, (const bits *set, size_t count, size_t from), (set, count, from), BITS_ASK_SET(set))
 BITS_TESTED(size_t, first_aligned_gap, (const bits *set, size_t count, size_t align, size_t start, size_t end),
-            (set, count, align, start, end), BITS_ASK_SET(set) BITS_ASK_RANGE(start, end, set->length))
-BITS_TESTED_READS_AT(size_t, previous_one, below)
-BITS_TESTED_READS_AT(size_t, previous_zero, below)
-BITS_TESTED_READS(bool, is_clear)
-BITS_TESTED_READS(bool, is_full)
-
-BITS_TESTED_READS_RANGE(bool, range_is_valid, )
-BITS_TESTED_CHANGES_RANGE(insert_range)
-BITS_TESTED_CHANGES_RANGE(remove_range)
-BITS_TESTED_CHANGES_RANGE(toggle_range)
-BITS_TESTED_READS_RANGE(size_t, count_ones, BITS_ASK_RANGE(start, end, set->length))
-BITS_TESTED_READS_RANGE(size_t, count_zeroes, BITS_ASK_RANGE(start, end, set->length))
-BITS_TESTED_READS_RANGE(bool, contains_all_in_range, BITS_ASK_RANGE(start, end, set->length))
-BITS_TESTED_READS_RANGE(bool, contains_any_in_range, BITS_ASK_RANGE(start, end, set->length))
-
-BITS_TESTED_JOINS(union_with)
-BITS_TESTED_JOINS(symmetric_difference_with)
-BITS_TESTED_CUTS(intersect_with)
-BITS_TESTED_CUTS(difference_with)
-BITS_TESTED_DONE(union_with_change, (bits *set, const bits *other, bool *changed), (set, other, changed),
-                 BITS_ASK_SET(set) BITS_ASK_SET(other) BITS_ASK_APART(set, other) BITS_ASK_PLACE(changed)
-                     BITS_ASK_NO_LONGER(other, set))
-BITS_TESTED_CUTS_CHANGE(intersect_with_change)
-BITS_TESTED_CUTS_CHANGE(difference_with_change)
+    (set, count, align, start, end), BITS_ASK_SET(set) BITS_ASK_RANGE(start, end, set->length))
+BITS_TESTED(size_t, previous_one, (const bits *set, size_t below), (set, below), BITS_ASK_SET(set))
+BITS_TESTED(size_t, previous_zero, (const bits *set, size_t below), (set, below), BITS_ASK_SET(set))
+BITS_TESTED(bool, is_clear, (const bits *set), (set), BITS_ASK_SET(set))
+BITS_TESTED(bool, is_full, (const bits *set), (set), BITS_ASK_SET(set))
+BITS_TESTED(bool, range_is_valid, (const bits *set, size_t start, size_t end), (set, start, end), BITS_ASK_SET(set))
+BITS_TESTED_DONE(insert_range, (bits *set, size_t start, size_t end), (set, start, end), BITS_ASK_SET(set)
+    BITS_ASK_RANGE(start, end, set->length))
+BITS_TESTED_DONE(remove_range, (bits *set, size_t start, size_t end), (set, start, end), BITS_ASK_SET(set)
+    BITS_ASK_RANGE(start, end, set->length))
+BITS_TESTED_DONE(toggle_range, (bits *set, size_t start, size_t end), (set, start, end), BITS_ASK_SET(set)
+    BITS_ASK_RANGE(start, end, set->length))
+BITS_TESTED(size_t, count_ones, (const bits *set, size_t start, size_t end), (set, start, end), BITS_ASK_SET(set)
+    BITS_ASK_RANGE(start, end, set->length))
+BITS_TESTED(size_t, count_zeroes, (const bits *set, size_t start, size_t end), (set, start, end), BITS_ASK_SET(set)
+    BITS_ASK_RANGE(start, end, set->length))
+BITS_TESTED(bool, contains_all_in_range, (const bits *set, size_t start, size_t end), (set, start, end), BITS_ASK_SET(set)
+    BITS_ASK_RANGE(start, end, set->length))
+BITS_TESTED(bool, contains_any_in_range, (const bits *set, size_t start, size_t end), (set, start, end), BITS_ASK_SET(set)
+    BITS_ASK_RANGE(start, end, set->length))
+BITS_TESTED_DONE(union_with, (bits *set, const bits *other), (set, other), BITS_ASK_SET(set) BITS_ASK_SET(other)
+    BITS_ASK_APART(set, other) BITS_ASK_NO_LONGER(other, set))
+BITS_TESTED_DONE(symmetric_difference_with, (bits *set, const bits *other), (set, other), BITS_ASK_SET(set)
+    BITS_ASK_SET(other) BITS_ASK_APART(set, other) BITS_ASK_NO_LONGER(other, set))
+BITS_TESTED_VOID(intersect_with, (bits *set, const bits *other), (set, other), BITS_ASK_SET(set) BITS_ASK_SET(other)
+    BITS_ASK_APART(set, other))
+BITS_TESTED_VOID(difference_with, (bits *set, const bits *other), (set, other), BITS_ASK_SET(set) BITS_ASK_SET(other)
+    BITS_ASK_APART(set, other))
+BITS_TESTED_DONE(union_with_change, (bits *set, const bits *other, bool *changed), (set, other, changed), BITS_ASK_SET(set)
+    BITS_ASK_SET(other) BITS_ASK_APART(set, other) BITS_ASK_PLACE(changed) BITS_ASK_NO_LONGER(other, set))
+BITS_TESTED(bool, intersect_with_change, (bits *set, const bits *other), (set, other), BITS_ASK_SET(set) BITS_ASK_SET(other)
+    BITS_ASK_APART(set, other))
+BITS_TESTED(bool, difference_with_change, (bits *set, const bits *other), (set, other), BITS_ASK_SET(set)
+    BITS_ASK_SET(other) BITS_ASK_APART(set, other))
 BITS_TESTED_DONE(union_with_difference, (bits *set, const bits *gens, const bits *kills, bool *changed),
-                 (set, gens, kills, changed),
-                 BITS_ASK_SET(set) BITS_ASK_SET(gens) BITS_ASK_SET(kills) BITS_ASK_APART(set, gens)
-                     BITS_ASK_APART(set, kills) BITS_ASK_PLACE(changed) BITS_ASK_NO_LONGER(gens, set))
-BITS_TESTED_READS_TWO(size_t, union_count)
-BITS_TESTED_READS_TWO(size_t, intersection_count)
-BITS_TESTED_READS_TWO(size_t, difference_count)
-BITS_TESTED_READS_TWO(size_t, symmetric_difference_count)
-BITS_TESTED_READS_TWO(bool, is_disjoint)
-BITS_TESTED_READS_TWO(bool, is_subset)
-BITS_TESTED_READS_TWO(size_t, first_lacking)
-BITS_TESTED(size_t, next_common, (const bits *set, const bits *other, size_t from), (set, other, from),
-            BITS_ASK_SET(set) BITS_ASK_SET(other))
-BITS_TESTED_READS_TWO(bool, equal)
-BITS_TESTED_READS_TWO(ptrdiff_t, compare)
-
-BITS_TESTED_DONE(copy, (bits *to, const bits *set), (to, set),
-                 BITS_ASK_ROOM(to) BITS_ASK_SET(set) BITS_ASK_APART(to, set) BITS_ASK_EQUAL(to->count, bits_words(to->length)))
-BITS_TESTED_WRITES(union_of, set->length < other->length ? other->length : set->length)
-BITS_TESTED_WRITES(symmetric_difference_of, set->length < other->length ? other->length : set->length)
-BITS_TESTED_WRITES(intersection_of, set->length < other->length ? set->length : other->length)
-BITS_TESTED_WRITES(difference_of, set->length)
-
-BITS_TESTED_CHANGES_BY(shift_up)
-BITS_TESTED_CHANGES_BY(shift_down)
-BITS_TESTED_VOID(union_with_shifted, (bits *set, const bits *other, size_t by), (set, other, by),
-                 BITS_ASK_SET(set) BITS_ASK_SET(other) BITS_ASK_APART(set, other))
-BITS_TESTED_CHANGES_BY(union_with_own_shift)
-BITS_TESTED_DONE(slice, (bits *part, const bits *set, size_t start, size_t end), (part, set, start, end),
-                 BITS_ASK_SET(part) BITS_ASK_SET(set) BITS_ASK_APART(part, set) BITS_ASK_RANGE(start, end, set->length)
-                     BITS_ASK_EQUAL(part->length, end - start))
-BITS_TESTED_DONE(copy_range, (bits *set, const bits *other, size_t start, size_t end, size_t at), (set, other, start, end, at),
-                 BITS_ASK_SET(set) BITS_ASK_SET(other) BITS_ASK_APART(set, other) BITS_ASK_RANGE(start, end, other->length)
-                     BITS_ASK_RANGE(at, at + (end - start), set->length))
+    (set, gens, kills, changed), BITS_ASK_SET(set) BITS_ASK_SET(gens) BITS_ASK_SET(kills) BITS_ASK_APART(set, gens)
+    BITS_ASK_APART(set, kills) BITS_ASK_PLACE(changed) BITS_ASK_NO_LONGER(gens, set))
+BITS_TESTED(size_t, union_count, (const bits *set, const bits *other), (set, other), BITS_ASK_SET(set) BITS_ASK_SET(other))
+BITS_TESTED(size_t, intersection_count, (const bits *set, const bits *other), (set, other), BITS_ASK_SET(set)
+    BITS_ASK_SET(other))
+BITS_TESTED(size_t, difference_count, (const bits *set, const bits *other), (set, other), BITS_ASK_SET(set)
+    BITS_ASK_SET(other))
+BITS_TESTED(size_t, symmetric_difference_count, (const bits *set, const bits *other), (set, other), BITS_ASK_SET(set)
+    BITS_ASK_SET(other))
+BITS_TESTED(bool, is_disjoint, (const bits *set, const bits *other), (set, other), BITS_ASK_SET(set) BITS_ASK_SET(other))
+BITS_TESTED(bool, is_subset, (const bits *set, const bits *other), (set, other), BITS_ASK_SET(set) BITS_ASK_SET(other))
+BITS_TESTED(size_t, first_lacking, (const bits *set, const bits *other), (set, other), BITS_ASK_SET(set) BITS_ASK_SET(other))
+BITS_TESTED(size_t, next_common, (const bits *set, const bits *other, size_t from), (set, other, from), BITS_ASK_SET(set)
+    BITS_ASK_SET(other))
+BITS_TESTED(bool, equal, (const bits *set, const bits *other), (set, other), BITS_ASK_SET(set) BITS_ASK_SET(other))
+BITS_TESTED(ptrdiff_t, compare, (const bits *set, const bits *other), (set, other), BITS_ASK_SET(set) BITS_ASK_SET(other))
+BITS_TESTED_DONE(copy, (bits *to, const bits *set), (to, set), BITS_ASK_ROOM(to) BITS_ASK_SET(set) BITS_ASK_APART(to, set)
+    BITS_ASK_EQUAL(to->count, bits_words(to->length)))
+BITS_TESTED_DONE(union_of, (bits *to, const bits *set, const bits *other), (to, set, other), BITS_ASK_ROOM(to)
+    BITS_ASK_SET(set) BITS_ASK_SET(other) BITS_ASK_APART(to, set) BITS_ASK_APART(to, other)
+    BITS_ASK_EQUAL(to->length, set->length < other->length ? other->length : set->length)
+    BITS_ASK_EQUAL(to->count, bits_words(to->length)))
+BITS_TESTED_DONE(symmetric_difference_of, (bits *to, const bits *set, const bits *other), (to, set, other),
+    BITS_ASK_ROOM(to) BITS_ASK_SET(set) BITS_ASK_SET(other) BITS_ASK_APART(to, set) BITS_ASK_APART(to, other)
+    BITS_ASK_EQUAL(to->length, set->length < other->length ? other->length : set->length)
+    BITS_ASK_EQUAL(to->count, bits_words(to->length)))
+BITS_TESTED_DONE(intersection_of, (bits *to, const bits *set, const bits *other), (to, set, other), BITS_ASK_ROOM(to)
+    BITS_ASK_SET(set) BITS_ASK_SET(other) BITS_ASK_APART(to, set) BITS_ASK_APART(to, other)
+    BITS_ASK_EQUAL(to->length, set->length < other->length ? set->length : other->length)
+    BITS_ASK_EQUAL(to->count, bits_words(to->length)))
+BITS_TESTED_DONE(difference_of, (bits *to, const bits *set, const bits *other), (to, set, other), BITS_ASK_ROOM(to)
+    BITS_ASK_SET(set) BITS_ASK_SET(other) BITS_ASK_APART(to, set) BITS_ASK_APART(to, other)
+    BITS_ASK_EQUAL(to->length, set->length) BITS_ASK_EQUAL(to->count, bits_words(to->length)))
+BITS_TESTED_VOID(shift_up, (bits *set, size_t by), (set, by), BITS_ASK_SET(set))
+BITS_TESTED_VOID(shift_down, (bits *set, size_t by), (set, by), BITS_ASK_SET(set))
+BITS_TESTED_VOID(union_with_shifted, (bits *set, const bits *other, size_t by), (set, other, by), BITS_ASK_SET(set)
+    BITS_ASK_SET(other) BITS_ASK_APART(set, other))
+BITS_TESTED_VOID(union_with_own_shift, (bits *set, size_t by), (set, by), BITS_ASK_SET(set))
+BITS_TESTED_DONE(slice, (bits *part, const bits *set, size_t start, size_t end), (part, set, start, end), BITS_ASK_SET(part)
+    BITS_ASK_SET(set) BITS_ASK_APART(part, set) BITS_ASK_RANGE(start, end, set->length)
+    BITS_ASK_EQUAL(part->length, end - start))
+BITS_TESTED_DONE(copy_range, (bits *set, const bits *other, size_t start, size_t end, size_t at),
+    (set, other, start, end, at), BITS_ASK_SET(set) BITS_ASK_SET(other) BITS_ASK_APART(set, other)
+    BITS_ASK_RANGE(start, end, other->length) BITS_ASK_RANGE(at, at + (end - start), set->length))
 BITS_TESTED_DONE(load, (const bits *set, size_t start, size_t width, uint64_t *number), (set, start, width, number),
-                 BITS_ASK_SET(set) BITS_ASK_PLACE(number) BITS_ASK_BELOW(width, 65)
-                     BITS_ASK_RANGE(start, start + width, set->length))
+    BITS_ASK_SET(set) BITS_ASK_PLACE(number) BITS_ASK_BELOW(width, 65) BITS_ASK_RANGE(start, start + width, set->length))
 BITS_TESTED_DONE(store, (bits *set, size_t start, size_t width, uint64_t number), (set, start, width, number),
-                 BITS_ASK_SET(set) BITS_ASK_BELOW(width, 65) BITS_ASK_RANGE(start, start + width, set->length))
-
-BITS_TESTED_VOID(from_bytes, (bits *set, const uint8_t *bytes, size_t count), (set, bytes, count),
-                 BITS_ASK_SET(set) BITS_ASK_LIST(bytes, count) BITS_ASK_LIST_APART(bytes, count, set->words, set->count))
-BITS_TESTED_DONE(to_bytes, (const bits *set, uint8_t *bytes, size_t count), (set, bytes, count),
-                 BITS_ASK_SET(set) BITS_ASK_LIST(bytes, count) BITS_ASK_LIST_APART(bytes, count, set->words, set->count)
-                     BITS_ASK_EQUAL(count, bits_bytes(set->length)))
+    BITS_ASK_SET(set) BITS_ASK_BELOW(width, 65) BITS_ASK_RANGE(start, start + width, set->length))
+BITS_TESTED_VOID(from_bytes, (bits *set, const uint8_t *bytes, size_t count), (set, bytes, count), BITS_ASK_SET(set)
+    BITS_ASK_LIST(bytes, count) BITS_ASK_LIST_APART(bytes, count, set->words, set->count))
+BITS_TESTED_DONE(to_bytes, (const bits *set, uint8_t *bytes, size_t count), (set, bytes, count), BITS_ASK_SET(set)
+    BITS_ASK_LIST(bytes, count) BITS_ASK_LIST_APART(bytes, count, set->words, set->count)
+    BITS_ASK_EQUAL(count, bits_bytes(set->length)))
 BITS_TESTED_VOID(reverse_each_byte, (uint8_t *bytes, size_t count), (bytes, count), BITS_ASK_LIST(bytes, count))
-
 BITS_TESTED_DONE(ranks_fill, (bits_ranks *ranks, const bits *set, size_t *directory, size_t entries),
-                 (ranks, set, directory, entries),
-                 BITS_ASK_PLACE(ranks) BITS_ASK_SET(set) BITS_ASK_LIST(directory, entries)
-                     BITS_ASK_LIST_APART(directory, entries, set->words, set->count)
-                         BITS_ASK_EQUAL(entries, bits_ranks_entries(set->length)))
+    (ranks, set, directory, entries), BITS_ASK_PLACE(ranks) BITS_ASK_SET(set) BITS_ASK_LIST(directory, entries)
+    BITS_ASK_LIST_APART(directory, entries, set->words, set->count) BITS_ASK_EQUAL(entries, bits_ranks_entries(set->length)))
 BITS_TESTED(size_t, rank, (const bits_ranks *ranks, size_t position), (ranks, position), fixedbitset_ask_ranks(here, ranks);)
 BITS_TESTED(size_t, select, (const bits_ranks *ranks, size_t index), (ranks, index), fixedbitset_ask_ranks(here, ranks);)
-
 BITS_TESTED_DONE(rows_clear, (uint64_t *words, size_t count, size_t rows, size_t columns), (words, count, rows, columns),
-                 BITS_ASK_LIST(words, count) BITS_ASK_EQUAL(count, bits_rows_words(rows, columns)))
+    BITS_ASK_LIST(words, count) BITS_ASK_EQUAL(count, bits_rows_words(rows, columns)))
 BITS_TESTED(bool, rows_get, (const bits_rows *rows, size_t row, size_t column), (rows, row, column),
-            fixedbitset_ask_rows(here, rows); fixedbitset_ask_row(here, rows, row);)
+    fixedbitset_ask_rows(here, rows); fixedbitset_ask_row(here, rows, row);)
 BITS_TESTED_DONE(rows_set, (bits_rows *rows, size_t row, size_t column, bool enabled), (rows, row, column, enabled),
-                 fixedbitset_ask_rows(here, rows); fixedbitset_ask_row(here, rows, row);
-                 BITS_ASK_BELOW(row, rows->rows) BITS_ASK_BELOW(column, rows->columns))
+    fixedbitset_ask_rows(here, rows); fixedbitset_ask_row(here, rows, row); BITS_ASK_BELOW(row, rows->rows)
+    BITS_ASK_BELOW(column, rows->columns))
 BITS_TESTED_DONE(rows_union, (bits_rows *rows, size_t from, size_t into, bool *changed), (rows, from, into, changed),
-                 fixedbitset_ask_rows(here, rows); fixedbitset_ask_row(here, rows, from);
-                 fixedbitset_ask_row(here, rows, into);
-                 BITS_ASK_PLACE(changed) BITS_ASK_BELOW(from, rows->rows) BITS_ASK_BELOW(into, rows->rows))
-BITS_TESTED_DONE(rows_ones, (bits_walk *walk, const bits_rows *rows, size_t row), (walk, rows, row),
-                 BITS_ASK_PLACE(walk) fixedbitset_ask_rows(here, rows); fixedbitset_ask_row(here, rows, row);
-                 BITS_ASK_BELOW(row, rows->rows))
+    fixedbitset_ask_rows(here, rows); fixedbitset_ask_row(here, rows, from); fixedbitset_ask_row(here, rows, into);
+    BITS_ASK_PLACE(changed) BITS_ASK_BELOW(from, rows->rows) BITS_ASK_BELOW(into, rows->rows))
+BITS_TESTED_DONE(rows_ones, (bits_walk *walk, const bits_rows *rows, size_t row), (walk, rows, row), BITS_ASK_PLACE(walk)
+    fixedbitset_ask_rows(here, rows); fixedbitset_ask_row(here, rows, row); BITS_ASK_BELOW(row, rows->rows))
 BITS_TESTED_VOID(rows_close, (bits_rows *rows), (rows), fixedbitset_ask_rows(here, rows);
-                 fixedbitset_ask_each_row(here, rows);)
-
-BITS_TESTED_BEGINS(walk, ones)
-BITS_TESTED_BEGINS(walk, zeroes)
-BITS_TESTED_BEGINS_IN(ones_in)
-BITS_TESTED_BEGINS_IN(zeroes_in)
-BITS_TESTED_BEGINS(run_walk, runs)
-BITS_TESTED_BEGINS(run_walk, zero_runs)
-BITS_TESTED_BEGINS_TWO(sieve, intersection_iter)
-BITS_TESTED_BEGINS_TWO(sieve, difference_iter)
-BITS_TESTED_BEGINS_TWO(pair, union_iter)
-BITS_TESTED_BEGINS_TWO(pair, symmetric_difference_iter)
-BITS_TESTED_STEPS(walk, ones)
-BITS_TESTED_BATCH(walk, ones_batch_u32, uint32_t)
-BITS_TESTED_STEPS(walk, zeroes)
-BITS_TESTED_STEPS(sieve, intersection)
-BITS_TESTED_STEPS(sieve, difference)
-BITS_TESTED_STEPS(pair, union)
-BITS_TESTED_STEPS(pair, symmetric_difference)
-BITS_TESTED_RUN_STEP(runs_next)
-BITS_TESTED_RUN_STEP(runs_next_back)
+    fixedbitset_ask_each_row(here, rows);)
+BITS_TESTED_VOID(ones, (bits_walk *walk, const bits *set), (walk, set), BITS_ASK_PLACE(walk) BITS_ASK_SET(set))
+BITS_TESTED_VOID(zeroes, (bits_walk *walk, const bits *set), (walk, set), BITS_ASK_PLACE(walk) BITS_ASK_SET(set))
+BITS_TESTED_DONE(ones_in, (bits_walk *walk, const bits *set, size_t start, size_t end), (walk, set, start, end),
+    BITS_ASK_PLACE(walk) BITS_ASK_SET(set) BITS_ASK_RANGE(start, end, set->length))
+BITS_TESTED_DONE(zeroes_in, (bits_walk *walk, const bits *set, size_t start, size_t end), (walk, set, start, end),
+    BITS_ASK_PLACE(walk) BITS_ASK_SET(set) BITS_ASK_RANGE(start, end, set->length))
+BITS_TESTED_VOID(runs, (bits_run_walk *walk, const bits *set), (walk, set), BITS_ASK_PLACE(walk) BITS_ASK_SET(set))
+BITS_TESTED_VOID(zero_runs, (bits_run_walk *walk, const bits *set), (walk, set), BITS_ASK_PLACE(walk) BITS_ASK_SET(set))
+BITS_TESTED_VOID(intersection_iter, (bits_sieve *walk, const bits *set, const bits *other), (walk, set, other),
+    BITS_ASK_PLACE(walk) BITS_ASK_SET(set) BITS_ASK_SET(other))
+BITS_TESTED_VOID(difference_iter, (bits_sieve *walk, const bits *set, const bits *other), (walk, set, other),
+    BITS_ASK_PLACE(walk) BITS_ASK_SET(set) BITS_ASK_SET(other))
+BITS_TESTED_VOID(union_iter, (bits_pair *walk, const bits *set, const bits *other), (walk, set, other), BITS_ASK_PLACE(walk)
+    BITS_ASK_SET(set) BITS_ASK_SET(other))
+BITS_TESTED_VOID(symmetric_difference_iter, (bits_pair *walk, const bits *set, const bits *other), (walk, set, other),
+    BITS_ASK_PLACE(walk) BITS_ASK_SET(set) BITS_ASK_SET(other))
+BITS_TESTED(bool, ones_next, (bits_walk *walk, size_t *position), (walk, position), fixedbitset_ask_walk(here, walk);
+    BITS_ASK_PLACE(position))
+BITS_TESTED(bool, ones_next_back, (bits_walk *walk, size_t *position), (walk, position), fixedbitset_ask_walk(here, walk);
+    BITS_ASK_PLACE(position))
+BITS_TESTED(size_t, ones_batch, (bits_walk *walk, size_t *positions, size_t room), (walk, positions, room),
+    fixedbitset_ask_walk(here, walk); BITS_ASK_LIST(positions, room))
+BITS_TESTED(size_t, ones_batch_back, (bits_walk *walk, size_t *positions, size_t room), (walk, positions, room),
+    fixedbitset_ask_walk(here, walk); BITS_ASK_LIST(positions, room))
+BITS_TESTED(size_t, ones_batch_u32, (bits_walk *walk, uint32_t *positions, size_t room), (walk, positions, room),
+    fixedbitset_ask_walk(here, walk); BITS_ASK_LIST(positions, room))
+BITS_TESTED(bool, zeroes_next, (bits_walk *walk, size_t *position), (walk, position), fixedbitset_ask_walk(here, walk);
+    BITS_ASK_PLACE(position))
+BITS_TESTED(bool, zeroes_next_back, (bits_walk *walk, size_t *position), (walk, position), fixedbitset_ask_walk(here, walk);
+    BITS_ASK_PLACE(position))
+BITS_TESTED(size_t, zeroes_batch, (bits_walk *walk, size_t *positions, size_t room), (walk, positions, room),
+    fixedbitset_ask_walk(here, walk); BITS_ASK_LIST(positions, room))
+BITS_TESTED(size_t, zeroes_batch_back, (bits_walk *walk, size_t *positions, size_t room), (walk, positions, room),
+    fixedbitset_ask_walk(here, walk); BITS_ASK_LIST(positions, room))
+BITS_TESTED(bool, intersection_next, (bits_sieve *walk, size_t *position), (walk, position),
+    fixedbitset_ask_sieve(here, walk); BITS_ASK_PLACE(position))
+BITS_TESTED(bool, intersection_next_back, (bits_sieve *walk, size_t *position), (walk, position),
+    fixedbitset_ask_sieve(here, walk); BITS_ASK_PLACE(position))
+BITS_TESTED(size_t, intersection_batch, (bits_sieve *walk, size_t *positions, size_t room), (walk, positions, room),
+    fixedbitset_ask_sieve(here, walk); BITS_ASK_LIST(positions, room))
+BITS_TESTED(size_t, intersection_batch_back, (bits_sieve *walk, size_t *positions, size_t room), (walk, positions, room),
+    fixedbitset_ask_sieve(here, walk); BITS_ASK_LIST(positions, room))
+BITS_TESTED(bool, difference_next, (bits_sieve *walk, size_t *position), (walk, position),
+    fixedbitset_ask_sieve(here, walk); BITS_ASK_PLACE(position))
+BITS_TESTED(bool, difference_next_back, (bits_sieve *walk, size_t *position), (walk, position),
+    fixedbitset_ask_sieve(here, walk); BITS_ASK_PLACE(position))
+BITS_TESTED(size_t, difference_batch, (bits_sieve *walk, size_t *positions, size_t room), (walk, positions, room),
+    fixedbitset_ask_sieve(here, walk); BITS_ASK_LIST(positions, room))
+BITS_TESTED(size_t, difference_batch_back, (bits_sieve *walk, size_t *positions, size_t room), (walk, positions, room),
+    fixedbitset_ask_sieve(here, walk); BITS_ASK_LIST(positions, room))
+BITS_TESTED(bool, union_next, (bits_pair *walk, size_t *position), (walk, position), fixedbitset_ask_pair(here, walk);
+    BITS_ASK_PLACE(position))
+BITS_TESTED(bool, union_next_back, (bits_pair *walk, size_t *position), (walk, position), fixedbitset_ask_pair(here, walk);
+    BITS_ASK_PLACE(position))
+BITS_TESTED(size_t, union_batch, (bits_pair *walk, size_t *positions, size_t room), (walk, positions, room),
+    fixedbitset_ask_pair(here, walk); BITS_ASK_LIST(positions, room))
+BITS_TESTED(size_t, union_batch_back, (bits_pair *walk, size_t *positions, size_t room), (walk, positions, room),
+    fixedbitset_ask_pair(here, walk); BITS_ASK_LIST(positions, room))
+BITS_TESTED(bool, symmetric_difference_next, (bits_pair *walk, size_t *position), (walk, position),
+    fixedbitset_ask_pair(here, walk); BITS_ASK_PLACE(position))
+BITS_TESTED(bool, symmetric_difference_next_back, (bits_pair *walk, size_t *position), (walk, position),
+    fixedbitset_ask_pair(here, walk); BITS_ASK_PLACE(position))
+BITS_TESTED(size_t, symmetric_difference_batch, (bits_pair *walk, size_t *positions, size_t room), (walk, positions, room),
+    fixedbitset_ask_pair(here, walk); BITS_ASK_LIST(positions, room))
+BITS_TESTED(size_t, symmetric_difference_batch_back, (bits_pair *walk, size_t *positions, size_t room),
+    (walk, positions, room), fixedbitset_ask_pair(here, walk); BITS_ASK_LIST(positions, room))
+BITS_TESTED(bool, runs_next, (bits_run_walk *walk, size_t *start, size_t *end), (walk, start, end),
+    fixedbitset_ask_run_walk(here, walk); BITS_ASK_PLACE(start) BITS_ASK_PLACE(end))
+BITS_TESTED(bool, runs_next_back, (bits_run_walk *walk, size_t *start, size_t *end), (walk, start, end),
+    fixedbitset_ask_run_walk(here, walk); BITS_ASK_PLACE(start) BITS_ASK_PLACE(end))
+/* end of what front/calls makes */
 
 /* ---- from here on each call in a C program is the checked call */
 
 #ifndef __cplusplus
 #define BITS_CALL(name, ...) fixedbitset_tested_##name(__VA_ARGS__, __FILE__, __LINE__)
 
+/* made by front/calls */
 #ifdef BITS_NO_SHORT_NAMES
 #define fixedbitset_bits_over(...) BITS_CALL(over, __VA_ARGS__)
 #define fixedbitset_bits_each(...) BITS_CALL(each, __VA_ARGS__)
@@ -739,6 +745,7 @@ BITS_TESTED_RUN_STEP(runs_next_back)
 #define bits_symmetric_difference_batch(...) BITS_CALL(symmetric_difference_batch, __VA_ARGS__)
 #define bits_symmetric_difference_batch_back(...) BITS_CALL(symmetric_difference_batch_back, __VA_ARGS__)
 #endif
+/* end of what front/calls makes */
 #endif
 
 #endif

@@ -1,4 +1,6 @@
-/* bits.h and bits_own.h include this file if BITS_NO_SHORT_NAMES is defined, before and after their declarations: between
+/* Made by front/calls from bits.h and bits_own.h: change those, and not this.
+ *
+ * bits.h and bits_own.h include this file if BITS_NO_SHORT_NAMES is defined, before and after their declarations: between
  * the two includes each name in lowercase letters has the prefix fixedbitset_. */
 #ifndef BITS_NAMES_ARE_LONG
 #define BITS_NAMES_ARE_LONG

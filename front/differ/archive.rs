@@ -21,79 +21,6 @@ fn position(answer: usize) -> Option<usize> {
     (answer != usize::MAX).then_some(answer)
 }
 
-/// Calls on one set.
-macro_rules! calls {
-    ($($name:ident($($number:ident: $type:ty),*) -> $answer:ty = $call:ident;)*) => { $(
-        pub fn $name(&self, $($number: $type),*) -> $answer {
-            unsafe { $call(&self.lent(), $($number),*) }
-        }
-    )* };
-}
-
-/// Calls that answer a position.
-macro_rules! positions {
-    ($($name:ident($($number:ident),*) = $call:ident;)*) => { $(
-        pub fn $name(&self, $($number: usize),*) -> Option<usize> {
-            position(unsafe { $call(&self.lent(), $($number),*) })
-        }
-    )* };
-}
-
-/// Calls about a range.
-macro_rules! of_ranges {
-    ($($name:ident -> $answer:ty = $call:ident;)*) => { $(
-        pub fn $name(&self, range: Range<usize>) -> $answer {
-            unsafe { $call(&self.lent(), range.start, range.end) }
-        }
-    )* };
-}
-
-/// Calls that change a set by numbers. Each has to be done.
-macro_rules! changes {
-    ($($name:ident($($number:ident: $type:ty),*) = $call:ident;)*) => { $(
-        pub fn $name(&mut self, $($number: $type),*) {
-            assert!(unsafe { $call(&mut self.lent_mut(), $($number),*) });
-        }
-    )* };
-}
-
-/// Calls that change a range. Each has to be done.
-macro_rules! changes_of_ranges {
-    ($($name:ident = $call:ident;)*) => { $(
-        pub fn $name(&mut self, range: Range<usize>) {
-            assert!(unsafe { $call(&mut self.lent_mut(), range.start, range.end) });
-        }
-    )* };
-}
-
-/// Calls on two sets.
-macro_rules! of_two {
-    ($($name:ident -> $answer:ty = $call:ident;)*) => { $(
-        pub fn $name(&self, other: &Self) -> $answer {
-            unsafe { $call(&self.lent(), &other.lent()) }
-        }
-    )* };
-}
-
-/// Joins that leave the length.
-macro_rules! joins {
-    ($($name:ident -> $answer:ty = $call:ident;)*) => { $(
-        pub fn $name(&mut self, other: &Self) -> $answer {
-            unsafe { $call(&mut self.lent_mut(), &other.lent()) }
-        }
-    )* };
-}
-
-/// Joins that take in the positions past the length, so that the set has to grow first.
-macro_rules! unions {
-    ($($name:ident = $call:ident;)*) => { $(
-        pub fn $name(&mut self, other: &Self) {
-            self.grow(other.length);
-            assert!(unsafe { $call(&mut self.lent_mut(), &other.lent()) });
-        }
-    )* };
-}
-
 /// Calls that write a set over this one, each with the length of the result.
 macro_rules! writes {
     ($($name:ident = $call:ident, $length:expr;)*) => { $(
@@ -105,94 +32,12 @@ macro_rules! writes {
     )* };
 }
 
-/// Walks over one set and over two.
-macro_rules! walks {
-    ($($name:ident($($other:ident)?) -> $walk:ident = $call:ident, $next:ident, $next_back:ident, $words:expr;)*) => { $(
-        pub fn $name<'a>(&'a self $(, $other: &'a Self)?) -> Walked<'a, $walk> {
-            let mut walk = $walk::NONE;
-            unsafe { $call(&mut walk, &self.lent() $(, &$other.lent())?) };
-            Walked { walk, next: $next, next_back: $next_back, words: $words, lent: PhantomData }
-        }
-    )* };
-}
-
 impl FixedBitSet {
-    calls! {
-        contains(bit: usize) -> bool = bits_contains;
-        is_clear() -> bool = bits_is_clear;
-        is_full() -> bool = bits_is_full;
-    }
-    positions! {
-        minimum() = bits_minimum;
-        maximum() = bits_maximum;
-        next_one(from) = bits_next_one;
-        next_zero(from) = bits_next_zero;
-        nth_one(index) = bits_nth_one;
-        previous_one(below) = bits_previous_one;
-        previous_zero(below) = bits_previous_zero;
-        first_gap(count, from) = bits_first_gap;
-    }
-    pub fn first_aligned_gap(
-        &self,
-        count: usize,
-        align: usize,
-        range: Range<usize>,
-    ) -> Option<usize> {
-        let set = self.lent();
-        position(unsafe { bits_first_aligned_gap(&set, count, align, range.start, range.end) })
-    }
-    of_ranges! {
-        count_ones -> usize = bits_count_ones;
-        count_zeroes -> usize = bits_count_zeroes;
-        contains_all_in_range -> bool = bits_contains_all_in_range;
-        contains_any_in_range -> bool = bits_contains_any_in_range;
-    }
-    changes! {
-        insert(bit: usize) = bits_insert;
-        remove(bit: usize) = bits_remove;
-        toggle(bit: usize) = bits_toggle;
-        set(bit: usize, enabled: bool) = bits_set;
-        set_block(index: usize, value: usize) = bits_set_block;
-    }
-    changes_of_ranges! {
-        insert_range = bits_insert_range;
-        remove_range = bits_remove_range;
-        toggle_range = bits_toggle_range;
-    }
-    of_two! {
-        union_count -> usize = bits_union_count;
-        intersection_count -> usize = bits_intersection_count;
-        difference_count -> usize = bits_difference_count;
-        symmetric_difference_count -> usize = bits_symmetric_difference_count;
-        is_disjoint -> bool = bits_is_disjoint;
-        is_subset -> bool = bits_is_subset;
-    }
-    joins! {
-        intersect_with -> () = bits_intersect_with;
-        difference_with -> () = bits_difference_with;
-        intersect_with_change -> bool = bits_intersect_with_change;
-        difference_with_change -> bool = bits_difference_with_change;
-    }
-    unions! {
-        union_with = bits_union_with;
-        symmetric_difference_with = bits_symmetric_difference_with;
-    }
     writes! {
         union_of = bits_union_of, usize::max;
         symmetric_difference_of = bits_symmetric_difference_of, usize::max;
         intersection_of = bits_intersection_of, usize::min;
         difference_of = bits_difference_of, |length, _| length;
-    }
-    walks! {
-        ones() -> Walk = bits_ones, bits_ones_next, bits_ones_next_back, |walk| walk.count + 2;
-        zeroes() -> Walk = bits_zeroes, bits_zeroes_next, bits_zeroes_next_back, |walk| walk.count + 2;
-        intersection(other) -> Sieve = bits_intersection, bits_intersection_next, bits_intersection_next_back,
-            |sieve| sieve.walk.count + 2;
-        difference(other) -> Sieve = bits_difference, bits_difference_next, bits_difference_next_back,
-            |sieve| sieve.walk.count + 2;
-        union(other) -> Pair = bits_union, bits_union_next, bits_union_next_back, Pair::words;
-        symmetric_difference(other) -> Pair = bits_symmetric_difference, bits_symmetric_difference_next,
-            bits_symmetric_difference_next_back, Pair::words;
     }
 
     pub fn new() -> Self {
@@ -260,44 +105,9 @@ impl FixedBitSet {
         self.insert(bit);
     }
 
-    pub fn put(&mut self, bit: usize) -> bool {
-        unsafe { bits_put(&mut self.lent_mut(), bit) }
-    }
-
-    pub fn take(&mut self, bit: usize) -> bool {
-        unsafe { bits_take(&mut self.lent_mut(), bit) }
-    }
-
     pub fn copy_bit(&mut self, from: usize, to: usize) {
         let enabled = self.contains(from);
         self.set(to, enabled);
-    }
-
-    pub fn clear(&mut self) {
-        unsafe { bits_clear(&mut self.lent_mut()) }
-    }
-
-    pub fn insert_all(&mut self, positions: &[usize]) {
-        let (list, count) = (positions.as_ptr(), positions.len());
-        assert!(unsafe { bits_insert_all(&mut self.lent_mut(), list, count) });
-    }
-
-    pub fn remove_all(&mut self, positions: &[usize]) {
-        let (list, count) = (positions.as_ptr(), positions.len());
-        assert!(unsafe { bits_remove_all(&mut self.lent_mut(), list, count) });
-    }
-
-    pub fn contains_each(&self, positions: &[usize], answers: &mut [bool]) {
-        let (places, count) = (NonNull::from(&mut *answers).cast(), answers.len());
-        assert!(unsafe {
-            bits_contains_each(
-                &self.lent(),
-                positions.as_ptr(),
-                positions.len(),
-                places,
-                count,
-            )
-        });
     }
 
     pub fn set_range(&mut self, range: Range<usize>, enabled: bool) {
@@ -308,72 +118,14 @@ impl FixedBitSet {
         }
     }
 
-    pub fn union_with_change(&mut self, other: &Self) -> bool {
-        self.grow(other.length);
-        let mut changed = false;
-        assert!(unsafe {
-            bits_union_with_change(&mut self.lent_mut(), &other.lent(), &mut changed)
-        });
-        changed
-    }
-
-    pub fn union_with_difference(&mut self, gens: &Self, kills: &Self) -> bool {
-        self.grow(gens.length);
-        let mut changed = false;
-        let (gens, kills) = (gens.lent(), kills.lent());
-        assert!(unsafe {
-            bits_union_with_difference(&mut self.lent_mut(), &gens, &kills, &mut changed)
-        });
-        changed
-    }
-
     pub fn is_superset(&self, other: &Self) -> bool {
         other.is_subset(self)
-    }
-
-    pub fn next_common(&self, other: &Self, from: usize) -> Option<usize> {
-        position(unsafe { bits_next_common(&self.lent(), &other.lent(), from) })
-    }
-
-    pub fn first_lacking(&self, other: &Self) -> Option<usize> {
-        position(unsafe { bits_first_lacking(&self.lent(), &other.lent()) })
-    }
-
-    pub fn shift_up(&mut self, by: usize) {
-        unsafe { bits_shift_up(&mut self.lent_mut(), by) }
-    }
-
-    pub fn shift_down(&mut self, by: usize) {
-        unsafe { bits_shift_down(&mut self.lent_mut(), by) }
-    }
-
-    pub fn union_with_shifted(&mut self, other: &Self, by: usize) {
-        unsafe { bits_union_with_shifted(&mut self.lent_mut(), &other.lent(), by) }
-    }
-
-    pub fn union_with_own_shift(&mut self, by: usize) {
-        unsafe { bits_union_with_own_shift(&mut self.lent_mut(), by) }
     }
 
     pub fn slice(&self, range: Range<usize>) -> Self {
         let mut part = Self::with_capacity(range.end - range.start);
         assert!(unsafe { bits_slice(&mut part.lent_mut(), &self.lent(), range.start, range.end) });
         part
-    }
-
-    pub fn copy_range(&mut self, other: &Self, range: Range<usize>, at: usize) {
-        let (to, other) = (&mut self.lent_mut(), other.lent());
-        assert!(unsafe { bits_copy_range(to, &other, range.start, range.end, at) });
-    }
-
-    pub fn load(&self, start: usize, width: usize) -> u64 {
-        let mut number = 0;
-        assert!(unsafe { bits_load(&self.lent(), start, width, &mut number) });
-        number as u64
-    }
-
-    pub fn store(&mut self, start: usize, width: usize, number: u64) {
-        assert!(unsafe { bits_store(&mut self.lent_mut(), start, width, number as usize) });
     }
 
     pub fn append(&mut self, other: &Self) {
@@ -395,18 +147,6 @@ impl FixedBitSet {
         bytes
     }
 
-    pub fn ones_in(&self, range: Range<usize>) -> Walked<'_, Walk> {
-        let mut walked = self.ones();
-        assert!(unsafe { bits_ones_in(&mut walked.walk, &self.lent(), range.start, range.end) });
-        walked
-    }
-
-    pub fn zeroes_in(&self, range: Range<usize>) -> Walked<'_, Walk> {
-        let mut walked = self.zeroes();
-        assert!(unsafe { bits_zeroes_in(&mut walked.walk, &self.lent(), range.start, range.end) });
-        walked
-    }
-
     pub fn into_ones(self) -> Owned {
         let Walked {
             walk,
@@ -425,18 +165,6 @@ impl FixedBitSet {
         Owned { walked, _set: self }
     }
 
-    pub fn runs(&self) -> Runs {
-        let mut runs = Runs::NONE;
-        unsafe { bits_runs(&mut runs, &self.lent()) };
-        runs
-    }
-
-    pub fn zero_runs(&self) -> Runs {
-        let mut runs = Runs::NONE;
-        unsafe { bits_zero_runs(&mut runs, &self.lent()) };
-        runs
-    }
-
     fn lent(&self) -> Lent {
         Lent {
             words: NonNull::from(&self.words[..]).cast(),
@@ -452,6 +180,294 @@ impl FixedBitSet {
             length: self.length,
         }
     }
+}
+
+/// The calls that take what the crate's do. A set grows before it takes in a longer one.
+#[rustfmt::skip]
+impl FixedBitSet {
+    // made by front/calls from crates/bits_c
+    pub fn contains(&self, bit: usize) -> bool {
+        unsafe { bits_contains(&self.lent(), bit) }
+    }
+
+    pub fn insert(&mut self, bit: usize) {
+        assert!(unsafe { bits_insert(&mut self.lent_mut(), bit) });
+    }
+
+    pub fn remove(&mut self, bit: usize) {
+        assert!(unsafe { bits_remove(&mut self.lent_mut(), bit) });
+    }
+
+    pub fn toggle(&mut self, bit: usize) {
+        assert!(unsafe { bits_toggle(&mut self.lent_mut(), bit) });
+    }
+
+    pub fn put(&mut self, bit: usize) -> bool {
+        unsafe { bits_put(&mut self.lent_mut(), bit) }
+    }
+
+    pub fn take(&mut self, bit: usize) -> bool {
+        unsafe { bits_take(&mut self.lent_mut(), bit) }
+    }
+
+    pub fn set(&mut self, bit: usize, enabled: bool) {
+        assert!(unsafe { bits_set(&mut self.lent_mut(), bit, enabled) });
+    }
+
+    pub fn set_block(&mut self, index: usize, block: usize) {
+        assert!(unsafe { bits_set_block(&mut self.lent_mut(), index, block) });
+    }
+
+    pub fn insert_all(&mut self, positions: &[usize]) {
+        assert!(unsafe { bits_insert_all(&mut self.lent_mut(), positions.as_ptr(), positions.len()) });
+    }
+
+    pub fn remove_all(&mut self, positions: &[usize]) {
+        assert!(unsafe { bits_remove_all(&mut self.lent_mut(), positions.as_ptr(), positions.len()) });
+    }
+
+    pub fn contains_each(&self, positions: &[usize], answers: &mut [bool]) {
+        assert!(unsafe { bits_contains_each(&self.lent(), positions.as_ptr(), positions.len(), NonNull::from(&mut *answers).cast(), answers.len()) });
+    }
+
+    pub fn clear(&mut self) {
+        unsafe { bits_clear(&mut self.lent_mut()) };
+    }
+
+    pub fn minimum(&self) -> Option<usize> {
+        position(unsafe { bits_minimum(&self.lent()) })
+    }
+
+    pub fn maximum(&self) -> Option<usize> {
+        position(unsafe { bits_maximum(&self.lent()) })
+    }
+
+    pub fn next_one(&self, from: usize) -> Option<usize> {
+        position(unsafe { bits_next_one(&self.lent(), from) })
+    }
+
+    pub fn next_zero(&self, from: usize) -> Option<usize> {
+        position(unsafe { bits_next_zero(&self.lent(), from) })
+    }
+
+    pub fn nth_one(&self, index: usize) -> Option<usize> {
+        position(unsafe { bits_nth_one(&self.lent(), index) })
+    }
+
+    pub fn first_gap(&self, count: usize, from: usize) -> Option<usize> {
+        position(unsafe { bits_first_gap(&self.lent(), count, from) })
+    }
+
+    pub fn first_aligned_gap(&self, count: usize, align: usize, range: Range<usize>) -> Option<usize> {
+        position(unsafe { bits_first_aligned_gap(&self.lent(), count, align, range.start, range.end) })
+    }
+
+    pub fn previous_one(&self, below: usize) -> Option<usize> {
+        position(unsafe { bits_previous_one(&self.lent(), below) })
+    }
+
+    pub fn previous_zero(&self, below: usize) -> Option<usize> {
+        position(unsafe { bits_previous_zero(&self.lent(), below) })
+    }
+
+    pub fn is_clear(&self) -> bool {
+        unsafe { bits_is_clear(&self.lent()) }
+    }
+
+    pub fn is_full(&self) -> bool {
+        unsafe { bits_is_full(&self.lent()) }
+    }
+
+    pub fn insert_range(&mut self, range: Range<usize>) {
+        assert!(unsafe { bits_insert_range(&mut self.lent_mut(), range.start, range.end) });
+    }
+
+    pub fn remove_range(&mut self, range: Range<usize>) {
+        assert!(unsafe { bits_remove_range(&mut self.lent_mut(), range.start, range.end) });
+    }
+
+    pub fn toggle_range(&mut self, range: Range<usize>) {
+        assert!(unsafe { bits_toggle_range(&mut self.lent_mut(), range.start, range.end) });
+    }
+
+    pub fn count_ones(&self, range: Range<usize>) -> usize {
+        unsafe { bits_count_ones(&self.lent(), range.start, range.end) }
+    }
+
+    pub fn count_zeroes(&self, range: Range<usize>) -> usize {
+        unsafe { bits_count_zeroes(&self.lent(), range.start, range.end) }
+    }
+
+    pub fn contains_all_in_range(&self, range: Range<usize>) -> bool {
+        unsafe { bits_contains_all_in_range(&self.lent(), range.start, range.end) }
+    }
+
+    pub fn contains_any_in_range(&self, range: Range<usize>) -> bool {
+        unsafe { bits_contains_any_in_range(&self.lent(), range.start, range.end) }
+    }
+
+    pub fn union_with(&mut self, other: &Self) {
+        self.grow(other.length);
+        assert!(unsafe { bits_union_with(&mut self.lent_mut(), &other.lent()) });
+    }
+
+    pub fn symmetric_difference_with(&mut self, other: &Self) {
+        self.grow(other.length);
+        assert!(unsafe { bits_symmetric_difference_with(&mut self.lent_mut(), &other.lent()) });
+    }
+
+    pub fn intersect_with(&mut self, other: &Self) {
+        unsafe { bits_intersect_with(&mut self.lent_mut(), &other.lent()) };
+    }
+
+    pub fn difference_with(&mut self, other: &Self) {
+        unsafe { bits_difference_with(&mut self.lent_mut(), &other.lent()) };
+    }
+
+    pub fn union_with_change(&mut self, other: &Self) -> bool {
+        self.grow(other.length);
+        let mut changed = false;
+        assert!(unsafe { bits_union_with_change(&mut self.lent_mut(), &other.lent(), &mut changed) });
+        changed
+    }
+
+    pub fn intersect_with_change(&mut self, other: &Self) -> bool {
+        unsafe { bits_intersect_with_change(&mut self.lent_mut(), &other.lent()) }
+    }
+
+    pub fn difference_with_change(&mut self, other: &Self) -> bool {
+        unsafe { bits_difference_with_change(&mut self.lent_mut(), &other.lent()) }
+    }
+
+    pub fn union_with_difference(&mut self, gens: &Self, kills: &Self) -> bool {
+        self.grow(gens.length);
+        let mut changed = false;
+        assert!(unsafe { bits_union_with_difference(&mut self.lent_mut(), &gens.lent(), &kills.lent(), &mut changed) });
+        changed
+    }
+
+    pub fn union_count(&self, other: &Self) -> usize {
+        unsafe { bits_union_count(&self.lent(), &other.lent()) }
+    }
+
+    pub fn intersection_count(&self, other: &Self) -> usize {
+        unsafe { bits_intersection_count(&self.lent(), &other.lent()) }
+    }
+
+    pub fn difference_count(&self, other: &Self) -> usize {
+        unsafe { bits_difference_count(&self.lent(), &other.lent()) }
+    }
+
+    pub fn symmetric_difference_count(&self, other: &Self) -> usize {
+        unsafe { bits_symmetric_difference_count(&self.lent(), &other.lent()) }
+    }
+
+    pub fn is_disjoint(&self, other: &Self) -> bool {
+        unsafe { bits_is_disjoint(&self.lent(), &other.lent()) }
+    }
+
+    pub fn is_subset(&self, other: &Self) -> bool {
+        unsafe { bits_is_subset(&self.lent(), &other.lent()) }
+    }
+
+    pub fn first_lacking(&self, other: &Self) -> Option<usize> {
+        position(unsafe { bits_first_lacking(&self.lent(), &other.lent()) })
+    }
+
+    pub fn next_common(&self, other: &Self, from: usize) -> Option<usize> {
+        position(unsafe { bits_next_common(&self.lent(), &other.lent(), from) })
+    }
+
+    pub fn shift_up(&mut self, by: usize) {
+        unsafe { bits_shift_up(&mut self.lent_mut(), by) };
+    }
+
+    pub fn shift_down(&mut self, by: usize) {
+        unsafe { bits_shift_down(&mut self.lent_mut(), by) };
+    }
+
+    pub fn union_with_shifted(&mut self, other: &Self, by: usize) {
+        unsafe { bits_union_with_shifted(&mut self.lent_mut(), &other.lent(), by) };
+    }
+
+    pub fn union_with_own_shift(&mut self, by: usize) {
+        unsafe { bits_union_with_own_shift(&mut self.lent_mut(), by) };
+    }
+
+    pub fn copy_range(&mut self, other: &Self, range: Range<usize>, at: usize) {
+        assert!(unsafe { bits_copy_range(&mut self.lent_mut(), &other.lent(), range.start, range.end, at) });
+    }
+
+    pub fn load(&self, start: usize, width: usize) -> u64 {
+        let mut number = 0;
+        assert!(unsafe { bits_load(&self.lent(), start, width, &mut number) });
+        number as u64
+    }
+
+    pub fn store(&mut self, start: usize, width: usize, number: u64) {
+        assert!(unsafe { bits_store(&mut self.lent_mut(), start, width, number as usize) });
+    }
+
+    pub fn ones<'a>(&'a self) -> Walked<'a, Walk> {
+        let mut walk = Walk::NONE;
+        unsafe { bits_ones(&mut walk, &self.lent()) };
+        Walked { walk, next: bits_ones_next, next_back: bits_ones_next_back, words: Walk::words, lent: PhantomData }
+    }
+
+    pub fn zeroes<'a>(&'a self) -> Walked<'a, Walk> {
+        let mut walk = Walk::NONE;
+        unsafe { bits_zeroes(&mut walk, &self.lent()) };
+        Walked { walk, next: bits_zeroes_next, next_back: bits_zeroes_next_back, words: Walk::words, lent: PhantomData }
+    }
+
+    pub fn ones_in<'a>(&'a self, range: Range<usize>) -> Walked<'a, Walk> {
+        let mut walk = Walk::NONE;
+        assert!(unsafe { bits_ones_in(&mut walk, &self.lent(), range.start, range.end) });
+        Walked { walk, next: bits_ones_next, next_back: bits_ones_next_back, words: Walk::words, lent: PhantomData }
+    }
+
+    pub fn zeroes_in<'a>(&'a self, range: Range<usize>) -> Walked<'a, Walk> {
+        let mut walk = Walk::NONE;
+        assert!(unsafe { bits_zeroes_in(&mut walk, &self.lent(), range.start, range.end) });
+        Walked { walk, next: bits_zeroes_next, next_back: bits_zeroes_next_back, words: Walk::words, lent: PhantomData }
+    }
+
+    pub fn runs(&self) -> Runs {
+        let mut walk = Runs::NONE;
+        unsafe { bits_runs(&mut walk, &self.lent()) };
+        walk
+    }
+
+    pub fn zero_runs(&self) -> Runs {
+        let mut walk = Runs::NONE;
+        unsafe { bits_zero_runs(&mut walk, &self.lent()) };
+        walk
+    }
+
+    pub fn intersection<'a>(&'a self, other: &'a Self) -> Walked<'a, Sieve> {
+        let mut walk = Sieve::NONE;
+        unsafe { bits_intersection(&mut walk, &self.lent(), &other.lent()) };
+        Walked { walk, next: bits_intersection_next, next_back: bits_intersection_next_back, words: Sieve::words, lent: PhantomData }
+    }
+
+    pub fn difference<'a>(&'a self, other: &'a Self) -> Walked<'a, Sieve> {
+        let mut walk = Sieve::NONE;
+        unsafe { bits_difference(&mut walk, &self.lent(), &other.lent()) };
+        Walked { walk, next: bits_difference_next, next_back: bits_difference_next_back, words: Sieve::words, lent: PhantomData }
+    }
+
+    pub fn union<'a>(&'a self, other: &'a Self) -> Walked<'a, Pair> {
+        let mut walk = Pair::NONE;
+        unsafe { bits_union(&mut walk, &self.lent(), &other.lent()) };
+        Walked { walk, next: bits_union_next, next_back: bits_union_next_back, words: Pair::words, lent: PhantomData }
+    }
+
+    pub fn symmetric_difference<'a>(&'a self, other: &'a Self) -> Walked<'a, Pair> {
+        let mut walk = Pair::NONE;
+        unsafe { bits_symmetric_difference(&mut walk, &self.lent(), &other.lent()) };
+        Walked { walk, next: bits_symmetric_difference_next, next_back: bits_symmetric_difference_next_back, words: Pair::words, lent: PhantomData }
+    }
+    // end of what front/calls makes
 }
 
 impl PartialEq for FixedBitSet {
@@ -653,7 +669,7 @@ impl BitRows {
             walk,
             next,
             next_back,
-            words: |walk| walk.count + 2,
+            words: Walk::words,
             lent: PhantomData,
         }
     }

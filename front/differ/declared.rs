@@ -68,6 +68,8 @@ pub struct LentRanks {
 /// Declares calls whose symbols in the archive are their names behind a prefix, as BITS_SYMBOL of bits.h has it.
 macro_rules! of_archive {
     ($(pub fn $name:ident($($parameter:ident: $kind:ty),* $(,)?) $(-> $answer:ty)?;)*) => {
+        // (The crate for Rust has no call like some of these.)
+        #[allow(dead_code)]
         unsafe extern "C" {
             $(
                 #[link_name = concat!("fixedbitset_", stringify!($name))]
@@ -77,10 +79,13 @@ macro_rules! of_archive {
     };
 }
 
+// made by front/calls from crates/bits_c
 of_archive! {
     pub fn bits_words(length: usize) -> usize;
     pub fn bits_blocks(length: usize) -> usize;
     pub fn bits_settle(words: NonNull<usize>, count: usize, length: usize, kept: usize) -> bool;
+    pub fn bits_is_clean(words: *const usize, count: usize, length: usize) -> bool;
+    pub fn bits_take_lowest_bit(word: &mut usize) -> usize;
     pub fn bits_contains(set: &Lent, bit: usize) -> bool;
     pub fn bits_insert(set: &mut Lent, bit: usize) -> bool;
     pub fn bits_remove(set: &mut Lent, bit: usize) -> bool;
@@ -91,13 +96,7 @@ of_archive! {
     pub fn bits_set_block(set: &mut Lent, index: usize, block: usize) -> bool;
     pub fn bits_insert_all(set: &mut Lent, positions: *const usize, count: usize) -> bool;
     pub fn bits_remove_all(set: &mut Lent, positions: *const usize, count: usize) -> bool;
-    pub fn bits_contains_each(
-        set: &Lent,
-        positions: *const usize,
-        count: usize,
-        answers: NonNull<bool>,
-        places: usize,
-    ) -> bool;
+    pub fn bits_contains_each(set: &Lent, positions: *const usize, count: usize, answers: NonNull<bool>, places: usize) -> bool;
     pub fn bits_clear(set: &mut Lent);
     pub fn bits_minimum(set: &Lent) -> usize;
     pub fn bits_maximum(set: &Lent) -> usize;
@@ -105,17 +104,12 @@ of_archive! {
     pub fn bits_next_zero(set: &Lent, from: usize) -> usize;
     pub fn bits_nth_one(set: &Lent, index: usize) -> usize;
     pub fn bits_first_gap(set: &Lent, count: usize, from: usize) -> usize;
-    pub fn bits_first_aligned_gap(
-        set: &Lent,
-        count: usize,
-        align: usize,
-        start: usize,
-        end: usize,
-    ) -> usize;
+    pub fn bits_first_aligned_gap(set: &Lent, count: usize, align: usize, start: usize, end: usize) -> usize;
     pub fn bits_previous_one(set: &Lent, below: usize) -> usize;
     pub fn bits_previous_zero(set: &Lent, below: usize) -> usize;
     pub fn bits_is_clear(set: &Lent) -> bool;
     pub fn bits_is_full(set: &Lent) -> bool;
+    pub fn bits_range_is_valid(set: &Lent, start: usize, end: usize) -> bool;
     pub fn bits_insert_range(set: &mut Lent, start: usize, end: usize) -> bool;
     pub fn bits_remove_range(set: &mut Lent, start: usize, end: usize) -> bool;
     pub fn bits_toggle_range(set: &mut Lent, start: usize, end: usize) -> bool;
@@ -130,16 +124,7 @@ of_archive! {
     pub fn bits_union_with_change(set: &mut Lent, other: &Lent, changed: &mut bool) -> bool;
     pub fn bits_intersect_with_change(set: &mut Lent, other: &Lent) -> bool;
     pub fn bits_difference_with_change(set: &mut Lent, other: &Lent) -> bool;
-    pub fn bits_union_with_difference(
-        set: &mut Lent,
-        gens: &Lent,
-        kills: &Lent,
-        changed: &mut bool,
-    ) -> bool;
-    pub fn bits_union_of(to: &mut Lent, set: &Lent, other: &Lent) -> bool;
-    pub fn bits_symmetric_difference_of(to: &mut Lent, set: &Lent, other: &Lent) -> bool;
-    pub fn bits_intersection_of(to: &mut Lent, set: &Lent, other: &Lent) -> bool;
-    pub fn bits_difference_of(to: &mut Lent, set: &Lent, other: &Lent) -> bool;
+    pub fn bits_union_with_difference(set: &mut Lent, gens: &Lent, kills: &Lent, changed: &mut bool) -> bool;
     pub fn bits_union_count(set: &Lent, other: &Lent) -> usize;
     pub fn bits_intersection_count(set: &Lent, other: &Lent) -> usize;
     pub fn bits_difference_count(set: &Lent, other: &Lent) -> usize;
@@ -150,44 +135,45 @@ of_archive! {
     pub fn bits_next_common(set: &Lent, other: &Lent, from: usize) -> usize;
     pub fn bits_equal(set: &Lent, other: &Lent) -> bool;
     pub fn bits_compare(set: &Lent, other: &Lent) -> isize;
+    pub fn bits_copy(to: &mut Lent, set: &Lent) -> bool;
+    pub fn bits_union_of(to: &mut Lent, set: &Lent, other: &Lent) -> bool;
+    pub fn bits_symmetric_difference_of(to: &mut Lent, set: &Lent, other: &Lent) -> bool;
+    pub fn bits_intersection_of(to: &mut Lent, set: &Lent, other: &Lent) -> bool;
+    pub fn bits_difference_of(to: &mut Lent, set: &Lent, other: &Lent) -> bool;
     pub fn bits_shift_up(set: &mut Lent, by: usize);
     pub fn bits_shift_down(set: &mut Lent, by: usize);
     pub fn bits_union_with_shifted(set: &mut Lent, other: &Lent, by: usize);
     pub fn bits_union_with_own_shift(set: &mut Lent, by: usize);
     pub fn bits_slice(part: &mut Lent, set: &Lent, start: usize, end: usize) -> bool;
-    pub fn bits_copy_range(
-        set: &mut Lent,
-        other: &Lent,
-        start: usize,
-        end: usize,
-        at: usize,
-    ) -> bool;
+    pub fn bits_copy_range(set: &mut Lent, other: &Lent, start: usize, end: usize, at: usize) -> bool;
     pub fn bits_load(set: &Lent, start: usize, width: usize, number: &mut usize) -> bool;
     pub fn bits_store(set: &mut Lent, start: usize, width: usize, number: usize) -> bool;
     pub fn bits_bytes(length: usize) -> usize;
     pub fn bits_from_bytes(set: &mut Lent, bytes: *const u8, count: usize);
     pub fn bits_to_bytes(set: &Lent, bytes: NonNull<u8>, count: usize) -> bool;
+    pub fn bits_reverse_each_byte(bytes: NonNull<u8>, count: usize);
+    pub fn bits_ranks_entries(length: usize) -> usize;
+    pub fn bits_ranks_fill(ranks: &mut LentRanks, set: &Lent, directory: NonNull<usize>, entries: usize) -> bool;
+    pub fn bits_rank(ranks: &LentRanks, position: usize) -> usize;
+    pub fn bits_select(ranks: &LentRanks, index: usize) -> usize;
     pub fn bits_rows_words(rows: usize, columns: usize) -> usize;
+    pub fn bits_rows_clear(words: NonNull<usize>, count: usize, rows: usize, columns: usize) -> bool;
     pub fn bits_rows_get(rows: &Rows, row: usize, column: usize) -> bool;
     pub fn bits_rows_set(rows: &mut Rows, row: usize, column: usize, enabled: bool) -> bool;
     pub fn bits_rows_union(rows: &mut Rows, from: usize, into: usize, changed: &mut bool) -> bool;
     pub fn bits_rows_ones(walk: &mut Walk, rows: &Rows, row: usize) -> bool;
     pub fn bits_rows_close(rows: &mut Rows);
-    pub fn bits_ranks_entries(length: usize) -> usize;
-    pub fn bits_ranks_fill(
-        ranks: &mut LentRanks,
-        set: &Lent,
-        directory: NonNull<usize>,
-        entries: usize,
-    ) -> bool;
-    pub fn bits_rank(ranks: &LentRanks, position: usize) -> usize;
-    pub fn bits_select(ranks: &LentRanks, index: usize) -> usize;
     pub fn bits_ones(walk: &mut Walk, set: &Lent);
     pub fn bits_ones_next(walk: &mut Walk, position: &mut usize) -> bool;
     pub fn bits_ones_next_back(walk: &mut Walk, position: &mut usize) -> bool;
+    pub fn bits_ones_take(walk: &mut Walk, positions: NonNull<usize>, room: usize) -> usize;
+    pub fn bits_ones_take_back(walk: &mut Walk, positions: NonNull<usize>, room: usize) -> usize;
+    pub fn bits_ones_take_u32(walk: &mut Walk, positions: NonNull<u32>, room: usize) -> usize;
     pub fn bits_zeroes(walk: &mut Walk, set: &Lent);
     pub fn bits_zeroes_next(walk: &mut Walk, position: &mut usize) -> bool;
     pub fn bits_zeroes_next_back(walk: &mut Walk, position: &mut usize) -> bool;
+    pub fn bits_zeroes_take(walk: &mut Walk, positions: NonNull<usize>, room: usize) -> usize;
+    pub fn bits_zeroes_take_back(walk: &mut Walk, positions: NonNull<usize>, room: usize) -> usize;
     pub fn bits_ones_in(walk: &mut Walk, set: &Lent, start: usize, end: usize) -> bool;
     pub fn bits_zeroes_in(walk: &mut Walk, set: &Lent, start: usize, end: usize) -> bool;
     pub fn bits_runs(walk: &mut Runs, set: &Lent);
@@ -197,16 +183,25 @@ of_archive! {
     pub fn bits_intersection(walk: &mut Sieve, set: &Lent, other: &Lent);
     pub fn bits_intersection_next(walk: &mut Sieve, position: &mut usize) -> bool;
     pub fn bits_intersection_next_back(walk: &mut Sieve, position: &mut usize) -> bool;
+    pub fn bits_intersection_take(walk: &mut Sieve, positions: NonNull<usize>, room: usize) -> usize;
+    pub fn bits_intersection_take_back(walk: &mut Sieve, positions: NonNull<usize>, room: usize) -> usize;
     pub fn bits_difference(walk: &mut Sieve, set: &Lent, other: &Lent);
     pub fn bits_difference_next(walk: &mut Sieve, position: &mut usize) -> bool;
     pub fn bits_difference_next_back(walk: &mut Sieve, position: &mut usize) -> bool;
+    pub fn bits_difference_take(walk: &mut Sieve, positions: NonNull<usize>, room: usize) -> usize;
+    pub fn bits_difference_take_back(walk: &mut Sieve, positions: NonNull<usize>, room: usize) -> usize;
     pub fn bits_union(walk: &mut Pair, set: &Lent, other: &Lent);
     pub fn bits_union_next(walk: &mut Pair, position: &mut usize) -> bool;
     pub fn bits_union_next_back(walk: &mut Pair, position: &mut usize) -> bool;
+    pub fn bits_union_take(walk: &mut Pair, positions: NonNull<usize>, room: usize) -> usize;
+    pub fn bits_union_take_back(walk: &mut Pair, positions: NonNull<usize>, room: usize) -> usize;
     pub fn bits_symmetric_difference(walk: &mut Pair, set: &Lent, other: &Lent);
     pub fn bits_symmetric_difference_next(walk: &mut Pair, position: &mut usize) -> bool;
     pub fn bits_symmetric_difference_next_back(walk: &mut Pair, position: &mut usize) -> bool;
+    pub fn bits_symmetric_difference_take(walk: &mut Pair, positions: NonNull<usize>, room: usize) -> usize;
+    pub fn bits_symmetric_difference_take_back(walk: &mut Pair, positions: NonNull<usize>, room: usize) -> usize;
 }
+// end of what front/calls makes
 
 impl Walk {
     /// Over no words.
@@ -218,6 +213,10 @@ impl Walk {
         words: NonNull::dangling(),
         count: 0,
     };
+
+    pub fn words(&self) -> usize {
+        self.count + 2
+    }
 }
 
 impl Sieve {
@@ -226,6 +225,10 @@ impl Sieve {
         other: NonNull::dangling(),
         other_count: 0,
     };
+
+    pub fn words(&self) -> usize {
+        self.walk.words()
+    }
 }
 
 impl Pair {

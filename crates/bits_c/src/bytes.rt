@@ -9,7 +9,7 @@ ghost use Rattle.fixedbitset.specs.Views.{value, held};
 use crate::bits_blocks;
 use fixedbitset::views::{Bits, BitsMut};
 
-/// How many bytes `bits_to_bytes` writes: eight for each word that the length needs.
+/// Returns how many bytes a set of this length has: eight for each word that the length needs.
 #[unsafe(no_mangle)]
 pub extern "C" fn bits_bytes(length: usize) -> usize
     ensures { result ≡ 8 * words_needed length }
@@ -17,8 +17,8 @@ pub extern "C" fn bits_bytes(length: usize) -> usize
     8 * bits_blocks(length)
 }
 
-/// Leaves the positions that the bytes say. Bytes that are missing count as 0, and bits past
-/// the length are dropped.
+/// Replaces the positions of the set by the positions in the bytes. Any number of bytes may be
+/// passed: missing bytes count as 0, and bits past the length are dropped.
 #[unsafe(no_mangle)]
 pub extern "C" fn bits_from_bytes(set: &mut BitsMut<'_>, bytes: &[u8])
     ensures value { held set.new ≡ json.of_bytes set.old.length bytes.now }
@@ -27,8 +27,8 @@ pub extern "C" fn bits_from_bytes(set: &mut BitsMut<'_>, bytes: &[u8])
     set.assign_bytes(bytes);
 }
 
-/// Writes the bytes of the set, and returns whether there are as many as `bits_bytes` says; else
-/// nothing is changed.
+/// Writes the bytes of the set and returns `true`; returns `false` and changes nothing if `count`
+/// is not `bits_bytes(length)`.
 #[unsafe(no_mangle)]
 pub extern "C" fn bits_to_bytes(set: &Bits<'_>, bytes: &mut [u8]) -> bool
     ensures answer { result ≡ (length bytes.old == 8 * words_needed set.now.length) }
@@ -42,8 +42,9 @@ pub extern "C" fn bits_to_bytes(set: &Bits<'_>, bytes: &mut [u8]) -> bool
     }
 }
 
-/// Reverses the bits of each byte. So bytes that have the first of eight positions in the uppermost
-/// bit become those that have it in the lowest, and vice versa.
+/// Reverses the bits of each byte. `bits_from_bytes` and `bits_to_bytes` have the first of eight
+/// positions in the lowest bit of a byte; this call turns bytes with that position in the highest
+/// bit (most significant bit first) into such bytes, and back.
 #[unsafe(no_mangle)]
 pub extern "C" fn bits_reverse_each_byte(bytes: &mut [u8])
     ensures { bytes.new ≡ map (reverse_bits w8) bytes.old }

@@ -13,8 +13,9 @@ use crate::bits_words;
 use crate::structs::Room;
 use fixedbitset::views::Bits;
 
-/// Makes the words those of the set's positions that are below the length of the room, and returns
-/// whether it did: where there are `bits_words` of this length. Else nothing is changed.
+/// Copies to `to` the positions of the set that are below the length of `to`, which may be any
+/// number, and returns `true`; returns `false` and changes nothing if `to` does not have
+/// `bits_words` of its length.
 #[unsafe(no_mangle)]
 pub extern "C" fn bits_copy(to: &mut Room<'_>, set: &Bits<'_>) -> bool
     ensures answer { result ≡ (length to.old.words.now == storage_words to.old.length) }
@@ -33,8 +34,9 @@ pub extern "C" fn bits_copy(to: &mut Room<'_>, set: &Bits<'_>) -> bool
     }
 }
 
-/// Makes the words those of the positions of either set, and returns whether it did: where the room
-/// has the greater of their lengths, and `bits_words` of it. Else nothing is changed.
+/// Writes the positions in either set (union) to `to`, and returns `true`. Returns `false` and
+/// changes nothing if the length of `to` is not the greater of the two lengths, or its words are
+/// not `bits_words` of that length.
 #[unsafe(no_mangle)]
 pub extern "C" fn bits_union_of(to: &mut Room<'_>, set: &Bits<'_>, other: &Bits<'_>) -> bool
     ensures answer { result ≡ (length to.old.words.now == storage_words to.old.length
@@ -54,8 +56,9 @@ pub extern "C" fn bits_union_of(to: &mut Room<'_>, set: &Bits<'_>, other: &Bits<
     }
 }
 
-/// Makes the words those of the positions of exactly one set, and returns whether it did: where the
-/// room has the greater of their lengths, and `bits_words` of it. Else nothing is changed.
+/// Writes the positions in exactly one of the sets (xor) to `to`, and returns `true`. Returns
+/// `false` and changes nothing if the length of `to` is not the greater of the two lengths, or its
+/// words are not `bits_words` of that length.
 #[unsafe(no_mangle)]
 pub extern "C" fn bits_symmetric_difference_of(
     to: &mut Room<'_>,
@@ -79,8 +82,9 @@ pub extern "C" fn bits_symmetric_difference_of(
     }
 }
 
-/// Makes the words those of the positions of both sets, and returns whether it did: where the room
-/// has the smaller of their lengths, and `bits_words` of it. Else nothing is changed.
+/// Writes the positions in both sets (intersection) to `to`, and returns `true`. Returns `false`
+/// and changes nothing if the length of `to` is not the smaller of the two lengths, or its words
+/// are not `bits_words` of that length.
 #[unsafe(no_mangle)]
 pub extern "C" fn bits_intersection_of(to: &mut Room<'_>, set: &Bits<'_>, other: &Bits<'_>) -> bool
     ensures answer { result ≡ (length to.old.words.now == storage_words to.old.length
@@ -100,9 +104,9 @@ pub extern "C" fn bits_intersection_of(to: &mut Room<'_>, set: &Bits<'_>, other:
     }
 }
 
-/// Makes the words those of the positions of the first set that the second lacks, and returns
-/// whether it did: where the room has the length of the first, and `bits_words` of it. Else nothing
-/// is changed.
+/// Writes the positions of the first set that the second lacks (difference) to `to`, and returns
+/// `true`. Returns `false` and changes nothing if the length of `to` is not the length of the
+/// first, or its words are not `bits_words` of that length.
 #[unsafe(no_mangle)]
 pub extern "C" fn bits_difference_of(to: &mut Room<'_>, set: &Bits<'_>, other: &Bits<'_>) -> bool
     ensures answer { result ≡ (length to.old.words.now == storage_words to.old.length

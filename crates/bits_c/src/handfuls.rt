@@ -300,8 +300,8 @@ fn fill_both_back<A: Giver + Drop, B: Giver + Drop>(
     (count, back.giver, front.giver)
 }
 
-/// Writes the first positions left to `positions`, from its front on and in ascending order: as
-/// many as there is room for, or as are left. It returns how many.
+/// Writes the first positions that are left to `positions`, as many as there is room for or as are
+/// left, and returns how many.
 #[unsafe(no_mangle)]
 pub extern "C" fn bits_ones_take(walk: &mut Ones<'_>, positions: &mut [usize]) -> usize
     ensures { TakesFirst ones_left walk.old positions.old result positions.new walk.new }
@@ -312,9 +312,8 @@ pub extern "C" fn bits_ones_take(walk: &mut Ones<'_>, positions: &mut [usize]) -
     count
 }
 
-/// Writes the first positions left to `positions`, from its front on and in ascending order: as
-/// many as there is room for, or as are left. It returns how many. A place takes the low 32 bits of
-/// its position, which are the position itself in a set of at most 2^32 bits.
+/// Like `bits_ones_take`, in half of the memory: each place holds the low 32 bits of its position,
+/// which are the position itself in a set of at most 2^32 bits.
 #[unsafe(no_mangle)]
 pub extern "C" fn bits_ones_take_u32(walk: &mut Ones<'_>, positions: &mut [u32]) -> usize
     ensures { TakesNarrow ones_left walk.old positions.old result positions.new walk.new }
@@ -329,8 +328,8 @@ pub extern "C" fn bits_ones_take_u32(walk: &mut Ones<'_>, positions: &mut [u32])
     count
 }
 
-/// Writes the last positions left to `positions`, from its front on and in descending order: as
-/// many as there is room for, or as are left. It returns how many.
+/// Writes the last positions that are left to `positions`, the last first, as many as there is room
+/// for or as are left, and returns how many.
 #[unsafe(no_mangle)]
 pub extern "C" fn bits_ones_take_back(walk: &mut Ones<'_>, positions: &mut [usize]) -> usize
     ensures { TakesLast ones_left walk.old positions.old result positions.new walk.new }
@@ -340,8 +339,8 @@ pub extern "C" fn bits_ones_take_back(walk: &mut Ones<'_>, positions: &mut [usiz
     count
 }
 
-/// Writes the first positions left to `positions`, from its front on and in ascending order: as
-/// many as there is room for, or as are left. It returns how many.
+/// Writes the first positions that are left to `positions`, as many as there is room for or as are
+/// left, and returns how many.
 #[unsafe(no_mangle)]
 pub extern "C" fn bits_zeroes_take(walk: &mut Zeroes<'_>, positions: &mut [usize]) -> usize
     ensures { TakesFirst zeroes_left walk.old positions.old result positions.new walk.new }
@@ -352,8 +351,8 @@ pub extern "C" fn bits_zeroes_take(walk: &mut Zeroes<'_>, positions: &mut [usize
     count
 }
 
-/// Writes the last positions left to `positions`, from its front on and in descending order: as
-/// many as there is room for, or as are left. It returns how many.
+/// Writes the last positions that are left to `positions`, the last first, as many as there is room
+/// for or as are left, and returns how many.
 #[unsafe(no_mangle)]
 pub extern "C" fn bits_zeroes_take_back(walk: &mut Zeroes<'_>, positions: &mut [usize]) -> usize
     ensures { TakesLast zeroes_left walk.old positions.old result positions.new walk.new }
@@ -363,8 +362,8 @@ pub extern "C" fn bits_zeroes_take_back(walk: &mut Zeroes<'_>, positions: &mut [
     count
 }
 
-/// Writes the first positions left to `positions`, from its front on and in ascending order: as
-/// many as there is room for, or as are left. It returns how many.
+/// Writes the first positions that are left to `positions`, as many as there is room for or as are
+/// left, and returns how many.
 #[unsafe(no_mangle)]
 pub extern "C" fn bits_intersection_take(walk: &mut Sieve<'_>, positions: &mut [usize]) -> usize
     ensures { TakesFirst shared_left walk.old positions.old result positions.new walk.new }
@@ -375,8 +374,8 @@ pub extern "C" fn bits_intersection_take(walk: &mut Sieve<'_>, positions: &mut [
     count
 }
 
-/// Writes the last positions left to `positions`, from its front on and in descending order: as
-/// many as there is room for, or as are left. It returns how many.
+/// Writes the last positions that are left to `positions`, the last first, as many as there is room
+/// for or as are left, and returns how many.
 #[unsafe(no_mangle)]
 pub extern "C" fn bits_intersection_take_back(
     walk: &mut Sieve<'_>,
@@ -389,8 +388,8 @@ pub extern "C" fn bits_intersection_take_back(
     count
 }
 
-/// Writes the first positions left to `positions`, from its front on and in ascending order: as
-/// many as there is room for, or as are left. It returns how many.
+/// Writes the first positions that are left to `positions`, as many as there is room for or as are
+/// left, and returns how many.
 #[unsafe(no_mangle)]
 pub extern "C" fn bits_difference_take(walk: &mut Sieve<'_>, positions: &mut [usize]) -> usize
     ensures { TakesFirst lacked_left walk.old positions.old result positions.new walk.new }
@@ -401,8 +400,8 @@ pub extern "C" fn bits_difference_take(walk: &mut Sieve<'_>, positions: &mut [us
     count
 }
 
-/// Writes the last positions left to `positions`, from its front on and in descending order: as
-/// many as there is room for, or as are left. It returns how many.
+/// Writes the last positions that are left to `positions`, the last first, as many as there is room
+/// for or as are left, and returns how many.
 #[unsafe(no_mangle)]
 pub extern "C" fn bits_difference_take_back(walk: &mut Sieve<'_>, positions: &mut [usize]) -> usize
     ensures { TakesLast lacked_left walk.old positions.old result positions.new walk.new }
@@ -412,8 +411,8 @@ pub extern "C" fn bits_difference_take_back(walk: &mut Sieve<'_>, positions: &mu
     count
 }
 
-/// Writes the first positions left to `positions`, from its front on and in the order of the
-/// iterator: as many as there is room for, or as are left. It returns how many.
+/// Writes the first positions that are left to `positions`, as many as there is room for or as are
+/// left, and returns how many.
 #[unsafe(no_mangle)]
 pub extern "C" fn bits_union_take(walk: &mut Pair<'_>, positions: &mut [usize]) -> usize
     ensures { TakesFirst joined_left walk.old positions.old result positions.new walk.new }
@@ -426,8 +425,8 @@ pub extern "C" fn bits_union_take(walk: &mut Pair<'_>, positions: &mut [usize]) 
     count
 }
 
-/// Writes the last positions left to `positions`, from its front on and against the order of the
-/// iterator: as many as there is room for, or as are left. It returns how many.
+/// Writes the last positions that are left to `positions`, the last first, as many as there is room
+/// for or as are left, and returns how many.
 #[unsafe(no_mangle)]
 pub extern "C" fn bits_union_take_back(walk: &mut Pair<'_>, positions: &mut [usize]) -> usize
     ensures { TakesLast joined_left walk.old positions.old result positions.new walk.new }
@@ -440,8 +439,8 @@ pub extern "C" fn bits_union_take_back(walk: &mut Pair<'_>, positions: &mut [usi
     count
 }
 
-/// Writes the first positions left to `positions`, from its front on and in the order of the
-/// iterator: as many as there is room for, or as are left. It returns how many.
+/// Writes the first positions that are left to `positions`, as many as there is room for or as are
+/// left, and returns how many.
 #[unsafe(no_mangle)]
 pub extern "C" fn bits_symmetric_difference_take(
     walk: &mut Pair<'_>,
@@ -457,8 +456,8 @@ pub extern "C" fn bits_symmetric_difference_take(
     count
 }
 
-/// Writes the last positions left to `positions`, from its front on and against the order of the
-/// iterator: as many as there is room for, or as are left. It returns how many.
+/// Writes the last positions that are left to `positions`, the last first, as many as there is room
+/// for or as are left, and returns how many.
 #[unsafe(no_mangle)]
 pub extern "C" fn bits_symmetric_difference_take_back(
     walk: &mut Pair<'_>,

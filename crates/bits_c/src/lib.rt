@@ -8,7 +8,9 @@
 //! call allocates or waits, and only the initialisation of an iterator keeps a pointer.
 //!
 //! Each call is that of the two types with its name, and looks at as many words. A clause sees a
-//! set as its value, a length and the positions below it.
+//! set as its value, a length and the positions below it. C passes a slice as a pointer and a
+//! number, which the docs name as `bits.h` does: `count`, `places`, `entries` or `room`.
+//! `front/calls` makes the comments of `bits.h` of the docs.
 #![tactic(auto)]
 
 ghost use Rattle.std.specs.Prelude.{◌≡◌, ◌≢◌, ◌↔◌, IsTrue, ◌<◌, ◌≤◌, ◌-◌, ◌^◌, ◌&&◌};
@@ -44,7 +46,7 @@ use fixedbitset::views::{Bits, BitsMut};
 /// What a call returns for 'no position'. No set has this position.
 pub const NONE: usize = usize::MAX;
 
-/// How many words a set of so many positions has: whole lanes of four.
+/// Returns how many words a set of this length has: whole lanes of four words.
 #[unsafe(no_mangle)]
 pub extern "C" fn bits_words(length: usize) -> usize
     ensures { result ≡ model.storage_words length }
@@ -52,7 +54,7 @@ pub extern "C" fn bits_words(length: usize) -> usize
     LANE * length.div_ceil(BITS).div_ceil(LANE)
 }
 
-/// How many of them hold positions below the length.
+/// Returns how many words of a set of this length hold positions below the length.
 #[unsafe(no_mangle)]
 pub extern "C" fn bits_blocks(length: usize) -> usize
     ensures { result ≡ model.words_needed length }
@@ -60,9 +62,11 @@ pub extern "C" fn bits_blocks(length: usize) -> usize
     length.div_ceil(BITS)
 }
 
-/// Makes any words those of a set of `length` positions: of the positions that they have those
-/// below `kept` stay. It returns whether it did: where there are `bits_words(length)` words and
-/// `kept` is not past the length.
+/// Turns any words into the words of a set of `length` positions: positions below `kept` stay, and
+/// all others are cleared. Returns `true` if `count` is `bits_words(length)` and `kept` is at most
+/// the length; else returns `false` and changes nothing. For example, a `kept` of 0 makes the set
+/// empty, a `kept` of the length takes over words from elsewhere, and a `kept` of the old length
+/// makes a set longer in memory that has room.
 #[unsafe(no_mangle)]
 pub extern "C" fn bits_settle(words: &mut [Block], length: usize, kept: usize) -> bool
     ensures answer { result
@@ -80,8 +84,9 @@ pub extern "C" fn bits_settle(words: &mut [Block], length: usize, kept: usize) -
     }
 }
 
-/// Whether the words are those of a set of `length` positions as they stand: `bits_words(length)`
-/// words, and no bit past the length.
+/// Returns whether the words, as they are, are the words of a set of `length` positions: `count` is
+/// `bits_words(length)`, and no bit at or past the length is set. With this call a program can
+/// reject words from elsewhere, where `bits_settle` would drop the bits past the length.
 #[unsafe(no_mangle)]
 pub extern "C" fn bits_is_clean(words: &[Block], length: usize) -> bool
     ensures { IsTrue result ↔ IsClean length words.now }
@@ -89,7 +94,7 @@ pub extern "C" fn bits_is_clean(words: &[Block], length: usize) -> bool
     Bits::over(words, length).is_some()
 }
 
-/// Whether the position is set: `false` at or past the length.
+/// Returns whether the position is set; `false` if the position is out of range.
 #[unsafe(no_mangle)]
 pub extern "C" fn bits_contains(set: &Bits<'_>, bit: usize) -> bool
     ensures { result ≡ model.contains (value set.now) bit }
@@ -97,7 +102,8 @@ pub extern "C" fn bits_contains(set: &Bits<'_>, bit: usize) -> bool
     set.contains(bit)
 }
 
-/// Sets the position, and returns whether it is below the length; else nothing is changed.
+/// Sets the position and returns `true`; returns `false` and changes nothing if the position is out
+/// of range.
 #[unsafe(no_mangle)]
 pub extern "C" fn bits_insert(set: &mut BitsMut<'_>, bit: usize) -> bool
     ensures answer { result ≡ nat_lt bit set.old.length }
@@ -113,7 +119,8 @@ pub extern "C" fn bits_insert(set: &mut BitsMut<'_>, bit: usize) -> bool
     }
 }
 
-/// Clears the position, and returns whether it is below the length; else nothing is changed.
+/// Clears the position and returns `true`; returns `false` and changes nothing if the position is
+/// out of range.
 #[unsafe(no_mangle)]
 pub extern "C" fn bits_remove(set: &mut BitsMut<'_>, bit: usize) -> bool
     ensures answer { result ≡ nat_lt bit set.old.length }
@@ -129,8 +136,8 @@ pub extern "C" fn bits_remove(set: &mut BitsMut<'_>, bit: usize) -> bool
     }
 }
 
-/// Sets the position if it is clear and clears it if it is set, and returns whether it is below the
-/// length; else nothing is changed.
+/// Flips the position and returns `true`; returns `false` and changes nothing if the position is
+/// out of range.
 #[unsafe(no_mangle)]
 pub extern "C" fn bits_toggle(set: &mut BitsMut<'_>, bit: usize) -> bool
     ensures answer { result ≡ nat_lt bit set.old.length }
@@ -146,8 +153,8 @@ pub extern "C" fn bits_toggle(set: &mut BitsMut<'_>, bit: usize) -> bool
     }
 }
 
-/// Sets the position, or clears it where `enabled` is false, and returns whether it is below the
-/// length; else nothing is changed.
+/// Sets the position, or clears it if `enabled` is `false`, and returns `true`; returns `false` and
+/// changes nothing if the position is out of range.
 #[unsafe(no_mangle)]
 pub extern "C" fn bits_set(set: &mut BitsMut<'_>, bit: usize, enabled: bool) -> bool
     ensures answer { result ≡ nat_lt bit set.old.length }
@@ -163,8 +170,8 @@ pub extern "C" fn bits_set(set: &mut BitsMut<'_>, bit: usize, enabled: bool) -> 
     }
 }
 
-/// Sets the position, and returns whether it was set before. At or past the length nothing is
-/// changed, and it returns `false`.
+/// Sets the position, and returns whether the position was set before; returns `false` and changes
+/// nothing if the position is out of range.
 #[tactic(auto, using(crate::proofs::Sets::none_past))]
 #[unsafe(no_mangle)]
 pub extern "C" fn bits_put(set: &mut BitsMut<'_>, bit: usize) -> bool
@@ -180,8 +187,8 @@ pub extern "C" fn bits_put(set: &mut BitsMut<'_>, bit: usize) -> bool
     }
 }
 
-/// Clears the position, and returns whether it was set before. At or past the length nothing is
-/// changed, and it returns `false`.
+/// Clears the position, and returns whether the position was set before; returns `false` and
+/// changes nothing if the position is out of range.
 #[tactic(auto, using(crate::proofs::Sets::none_past))]
 #[unsafe(no_mangle)]
 pub extern "C" fn bits_take(set: &mut BitsMut<'_>, bit: usize) -> bool
@@ -197,8 +204,8 @@ pub extern "C" fn bits_take(set: &mut BitsMut<'_>, bit: usize) -> bool
     }
 }
 
-/// Makes word `index` the given one, without its bits past the length. It returns whether the
-/// length needs a word of this index; else nothing is changed.
+/// Writes the block to word `index`, without the bits of the block at or past the length, and
+/// returns `true`; returns `false` and changes nothing if the length needs no such word.
 #[unsafe(no_mangle)]
 pub extern "C" fn bits_set_block(set: &mut BitsMut<'_>, index: usize, block: Block) -> bool
     ensures answer { result ≡ nat_lt index (model.words_needed set.old.length) }
@@ -223,7 +230,7 @@ pub extern "C" fn bits_clear(set: &mut BitsMut<'_>)
     set.clear(&mut Steps::new());
 }
 
-/// Whether no position is set.
+/// Returns whether no position is set.
 #[unsafe(no_mangle)]
 pub extern "C" fn bits_is_clear(set: &Bits<'_>) -> bool
     ensures { result ≡ model.is_clear (value set.now) }
@@ -231,7 +238,7 @@ pub extern "C" fn bits_is_clear(set: &Bits<'_>) -> bool
     set.is_clear(&mut Steps::new())
 }
 
-/// Whether each position below the length is set.
+/// Returns whether each position below the length is set.
 #[unsafe(no_mangle)]
 pub extern "C" fn bits_is_full(set: &Bits<'_>) -> bool
     ensures { result ≡ model.is_full (value set.now) }
@@ -239,7 +246,7 @@ pub extern "C" fn bits_is_full(set: &Bits<'_>) -> bool
     set.is_full(&mut Steps::new())
 }
 
-/// The least position that is set, or `NONE`.
+/// Returns the least position that is set, or `NONE` if no position is set.
 #[unsafe(no_mangle)]
 pub extern "C" fn bits_minimum(set: &Bits<'_>) -> usize
     ensures { result ≡ unwrap_or (model.minimum (value set.now)) NONE }
@@ -247,7 +254,7 @@ pub extern "C" fn bits_minimum(set: &Bits<'_>) -> usize
     set.minimum(&mut Steps::new()).unwrap_or(NONE)
 }
 
-/// The greatest position that is set, or `NONE`.
+/// Returns the greatest position that is set, or `NONE` if no position is set.
 #[unsafe(no_mangle)]
 pub extern "C" fn bits_maximum(set: &Bits<'_>) -> usize
     ensures { result ≡ unwrap_or (model.maximum (value set.now)) NONE }
@@ -255,7 +262,8 @@ pub extern "C" fn bits_maximum(set: &Bits<'_>) -> usize
     set.maximum(&mut Steps::new()).unwrap_or(NONE)
 }
 
-/// Clears the lowest bit of the word that is set, and returns its index. Of 0 the result is `NONE`.
+/// Clears the lowest bit of the word that is set, and returns the index of that bit; returns `NONE`
+/// if the word is 0.
 #[unsafe(no_mangle)]
 pub extern "C" fn bits_take_lowest_bit(word: &mut Block) -> usize
     ensures zero { word.old ≡ 0 → (result ≡ NONE) × (word.new ≡ 0) }

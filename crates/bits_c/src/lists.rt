@@ -8,8 +8,8 @@ ghost use Rattle.fixedbitset.specs.Views.{value, held};
 
 use fixedbitset::views::{Bits, BitsMut};
 
-/// Sets each position of the list, and returns whether all of them are below the length; else
-/// nothing is changed.
+/// Sets each of `count` positions and returns `true`; returns `false` and changes nothing if a
+/// position is out of range.
 #[unsafe(no_mangle)]
 pub extern "C" fn bits_insert_all(set: &mut BitsMut<'_>, positions: &[usize]) -> bool
     ensures answer { IsTrue result ↔ All (λ p. p < set.old.length) positions.now }
@@ -25,8 +25,8 @@ pub extern "C" fn bits_insert_all(set: &mut BitsMut<'_>, positions: &[usize]) ->
     }
 }
 
-/// Clears each position of the list, and returns whether all of them are below the length; else
-/// nothing is changed.
+/// Clears each of `count` positions and returns `true`; returns `false` and changes nothing if a
+/// position is out of range.
 #[unsafe(no_mangle)]
 pub extern "C" fn bits_remove_all(set: &mut BitsMut<'_>, positions: &[usize]) -> bool
     ensures answer { IsTrue result ↔ All (λ p. p < set.old.length) positions.now }
@@ -42,8 +42,9 @@ pub extern "C" fn bits_remove_all(set: &mut BitsMut<'_>, positions: &[usize]) ->
     }
 }
 
-/// Writes for each position of the list whether it is set: `false` at or past the length. It
-/// returns whether there are as many places as positions; else nothing is written.
+/// Writes to `answers`, for each of `count` positions, whether the position is set (`false` if it
+/// is out of range), and returns `true`; returns `false` and writes nothing if `places` is not
+/// `count`.
 #[unsafe(no_mangle)]
 pub extern "C" fn bits_contains_each(
     set: &Bits<'_>,

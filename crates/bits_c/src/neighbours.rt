@@ -13,7 +13,7 @@ use crate::ranges::bits_range_is_valid;
 use bitlanes::Steps;
 use fixedbitset::views::Bits;
 
-/// The least position at or past `from` that is set, or `NONE`.
+/// Returns the least position at or past `from` that is set, or `NONE`. Any number may be passed.
 #[unsafe(no_mangle)]
 pub extern "C" fn bits_next_one(set: &Bits<'_>, from: usize) -> usize
     ensures { result ≡ unwrap_or (neighbours.next_one (value set.now) from) NONE }
@@ -21,7 +21,7 @@ pub extern "C" fn bits_next_one(set: &Bits<'_>, from: usize) -> usize
     set.next_one(from, &mut Steps::new()).unwrap_or(NONE)
 }
 
-/// The least position at or past `from` and below the length that is not set, or `NONE`.
+/// Returns the least position at or past `from` and below the length that is not set, or `NONE`.
 #[unsafe(no_mangle)]
 pub extern "C" fn bits_next_zero(set: &Bits<'_>, from: usize) -> usize
     ensures { result ≡ unwrap_or (neighbours.next_zero (value set.now) from) NONE }
@@ -29,7 +29,8 @@ pub extern "C" fn bits_next_zero(set: &Bits<'_>, from: usize) -> usize
     set.next_zero(from, &mut Steps::new()).unwrap_or(NONE)
 }
 
-/// The least position at or past `from` that both sets have, or `NONE`.
+/// Returns the least position at or past `from` that is in both sets, or `NONE`. Any number may be
+/// passed.
 #[unsafe(no_mangle)]
 pub extern "C" fn bits_next_common(set: &Bits<'_>, other: &Bits<'_>, from: usize) -> usize
     ensures { result ≡ unwrap_or
@@ -39,7 +40,9 @@ pub extern "C" fn bits_next_common(set: &Bits<'_>, other: &Bits<'_>, from: usize
         .unwrap_or(NONE)
 }
 
-/// The position that has exactly `index` positions of the set below it, or `NONE`.
+/// Returns the position of the set that has exactly `index` positions of the set below it (select),
+/// or `NONE`; the first position has index 0. The call counts word by word; `bits_select` has a
+/// directory.
 #[unsafe(no_mangle)]
 pub extern "C" fn bits_nth_one(set: &Bits<'_>, index: usize) -> usize
     ensures { result ≡ unwrap_or (slice_get (asc (value set.now)) index) NONE }
@@ -47,7 +50,8 @@ pub extern "C" fn bits_nth_one(set: &Bits<'_>, index: usize) -> usize
     set.nth_one(index, &mut Steps::new()).unwrap_or(NONE)
 }
 
-/// The least number at or past `from` with `count` clear positions from there on, or `NONE`.
+/// Returns the least number at or past `from` from which `count` consecutive positions are clear,
+/// all below the length, or `NONE`; `NONE` too if `from` is past the length.
 #[unsafe(no_mangle)]
 pub extern "C" fn bits_first_gap(set: &Bits<'_>, count: usize, from: usize) -> usize
     ensures { result ≡ unwrap_or (stretches.first_gap (value set.now) count from) NONE }
@@ -56,8 +60,9 @@ pub extern "C" fn bits_first_gap(set: &Bits<'_>, count: usize, from: usize) -> u
         .unwrap_or(NONE)
 }
 
-/// The least multiple of `align` in the range with `count` clear positions from there on, all in
-/// the range, or `NONE`; `NONE` too where the range is not valid.
+/// Returns the least multiple of `align` in the range from which `count` consecutive positions are
+/// clear, all in the range, or `NONE`; `NONE` too if the range is not valid. The only multiple of 0
+/// is 0.
 #[unsafe(no_mangle)]
 pub extern "C" fn bits_first_aligned_gap(
     set: &Bits<'_>,
@@ -78,7 +83,7 @@ pub extern "C" fn bits_first_aligned_gap(
     }
 }
 
-/// The greatest position below `below` that is set, or `NONE`.
+/// Returns the greatest position below `below` that is set, or `NONE`.
 #[unsafe(no_mangle)]
 pub extern "C" fn bits_previous_one(set: &Bits<'_>, below: usize) -> usize
     ensures { result ≡ unwrap_or (neighbours.previous_one (value set.now) below) NONE }
@@ -86,7 +91,7 @@ pub extern "C" fn bits_previous_one(set: &Bits<'_>, below: usize) -> usize
     set.previous_one(below, &mut Steps::new()).unwrap_or(NONE)
 }
 
-/// The greatest position below `below` and below the length that is not set, or `NONE`.
+/// Returns the greatest position below `below` and below the length that is not set, or `NONE`.
 #[unsafe(no_mangle)]
 pub extern "C" fn bits_previous_zero(set: &Bits<'_>, below: usize) -> usize
     ensures { result ≡ unwrap_or (neighbours.previous_zero (value set.now) below) NONE }

@@ -62,8 +62,8 @@ impl<'a> Pair<'a> {
     }
 }
 
-/// Initialises the iterator over the positions of the first set, and then over those of the second
-/// that the first lacks, each part in ascending order.
+/// Initializes the iterator over the positions of the first set, ascending, and then the positions
+/// that only the second set has, ascending.
 #[unsafe(no_mangle)]
 pub extern "C" fn bits_union<'a>(walk: &mut Pair<'a>, set: &Bits<'a>, other: &Bits<'a>)
     ensures left { joined_left walk.new ≡ model.asc (value set.now)
@@ -80,7 +80,7 @@ pub extern "C" fn bits_union<'a>(walk: &mut Pair<'a>, set: &Bits<'a>, other: &Bi
     };
 }
 
-/// Gives the first position left.
+/// Writes the first position that is left to `position`, and returns whether there was one.
 #[tactic(auto, using(crate::proofs::Given::first_given))]
 #[unsafe(no_mangle)]
 pub extern "C" fn bits_union_next(walk: &mut Pair<'_>, position: &mut usize) -> bool
@@ -94,7 +94,7 @@ pub extern "C" fn bits_union_next(walk: &mut Pair<'_>, position: &mut usize) -> 
     hand_out(item, position)
 }
 
-/// Gives the last position left.
+/// Writes the last position that is left to `position`, and returns whether there was one.
 #[tactic(auto, using(crate::proofs::Given::last_given))]
 #[unsafe(no_mangle)]
 pub extern "C" fn bits_union_next_back(walk: &mut Pair<'_>, position: &mut usize) -> bool
@@ -112,8 +112,8 @@ pub extern "C" fn bits_union_next_back(walk: &mut Pair<'_>, position: &mut usize
     hand_out(item, position)
 }
 
-/// Initialises the iterator over the positions of the first set that the second lacks, and then
-/// over those of the second that the first lacks, each part in ascending order.
+/// Initializes the iterator over the positions that only the first set has, ascending, and then the
+/// positions that only the second set has, ascending.
 #[unsafe(no_mangle)]
 pub extern "C" fn bits_symmetric_difference<'a>(
     walk: &mut Pair<'a>,
@@ -132,7 +132,7 @@ pub extern "C" fn bits_symmetric_difference<'a>(
     };
 }
 
-/// Gives the first position left.
+/// Writes the first position that is left to `position`, and returns whether there was one.
 #[tactic(auto, using(crate::proofs::Given::first_given))]
 #[unsafe(no_mangle)]
 pub extern "C" fn bits_symmetric_difference_next(walk: &mut Pair<'_>, position: &mut usize) -> bool
@@ -146,7 +146,7 @@ pub extern "C" fn bits_symmetric_difference_next(walk: &mut Pair<'_>, position: 
     hand_out(item, position)
 }
 
-/// Gives the last position left.
+/// Writes the last position that is left to `position`, and returns whether there was one.
 #[tactic(auto, using(crate::proofs::Given::last_given))]
 #[unsafe(no_mangle)]
 pub extern "C" fn bits_symmetric_difference_next_back(

@@ -9,7 +9,7 @@ ghost use Rattle.fixedbitset.specs.Views.{value, held};
 use bitlanes::Steps;
 use fixedbitset::views::{Bits, BitsMut};
 
-/// Whether the range is valid.
+/// Returns whether the range is valid: `start <= end`, and `end <= length`.
 #[unsafe(no_mangle)]
 pub extern "C" fn bits_range_is_valid(set: &Bits<'_>, start: usize, end: usize) -> bool
     ensures { result ≡ is_valid (value set.now) start end }
@@ -17,7 +17,8 @@ pub extern "C" fn bits_range_is_valid(set: &Bits<'_>, start: usize, end: usize) 
     set.range_is_valid(start, end)
 }
 
-/// Sets the positions of the range, and returns whether it is valid; else nothing is changed.
+/// Sets each position of the range and returns `true`; returns `false` and changes nothing if the
+/// range is not valid.
 #[unsafe(no_mangle)]
 pub extern "C" fn bits_insert_range(set: &mut BitsMut<'_>, start: usize, end: usize) -> bool
     ensures answer { result ≡ is_valid (held set.old) start end }
@@ -33,7 +34,8 @@ pub extern "C" fn bits_insert_range(set: &mut BitsMut<'_>, start: usize, end: us
     }
 }
 
-/// Clears the positions of the range, and returns whether it is valid; else nothing is changed.
+/// Clears each position of the range and returns `true`; returns `false` and changes nothing if the
+/// range is not valid.
 #[unsafe(no_mangle)]
 pub extern "C" fn bits_remove_range(set: &mut BitsMut<'_>, start: usize, end: usize) -> bool
     ensures answer { result ≡ is_valid (held set.old) start end }
@@ -49,8 +51,8 @@ pub extern "C" fn bits_remove_range(set: &mut BitsMut<'_>, start: usize, end: us
     }
 }
 
-/// Sets each position of the range that is clear and clears each that is set, and returns whether
-/// it is valid; else nothing is changed.
+/// Flips each position of the range and returns `true`; returns `false` and changes nothing if the
+/// range is not valid.
 #[unsafe(no_mangle)]
 pub extern "C" fn bits_toggle_range(set: &mut BitsMut<'_>, start: usize, end: usize) -> bool
     ensures answer { result ≡ is_valid (held set.old) start end }
@@ -66,7 +68,8 @@ pub extern "C" fn bits_toggle_range(set: &mut BitsMut<'_>, start: usize, end: us
     }
 }
 
-/// How many positions of the range are set; 0 where it is not valid.
+/// Returns how many positions of the range are set (the population count, popcount); 0 if the range
+/// is not valid.
 #[unsafe(no_mangle)]
 pub extern "C" fn bits_count_ones(set: &Bits<'_>, start: usize, end: usize) -> usize
     ensures { result ≡ (if is_valid (value set.now) start end
@@ -79,7 +82,7 @@ pub extern "C" fn bits_count_ones(set: &Bits<'_>, start: usize, end: usize) -> u
     }
 }
 
-/// How many positions of the range are not set; 0 where it is not valid.
+/// Returns how many positions of the range are not set; 0 if the range is not valid.
 #[unsafe(no_mangle)]
 pub extern "C" fn bits_count_zeroes(set: &Bits<'_>, start: usize, end: usize) -> usize
     ensures { result ≡ (if is_valid (value set.now) start end
@@ -92,7 +95,7 @@ pub extern "C" fn bits_count_zeroes(set: &Bits<'_>, start: usize, end: usize) ->
     }
 }
 
-/// Whether each position of the range is set; `false` where it is not valid.
+/// Returns whether each position of the range is set; `false` if the range is not valid.
 #[unsafe(no_mangle)]
 pub extern "C" fn bits_contains_all_in_range(set: &Bits<'_>, start: usize, end: usize) -> bool
     ensures { result
@@ -101,7 +104,7 @@ pub extern "C" fn bits_contains_all_in_range(set: &Bits<'_>, start: usize, end: 
     bits_range_is_valid(set, start, end) && set.contains_all_in_range(start, end, &mut Steps::new())
 }
 
-/// Whether some position of the range is set; `false` where it is not valid.
+/// Returns whether some position of the range is set; `false` if the range is not valid.
 #[unsafe(no_mangle)]
 pub extern "C" fn bits_contains_any_in_range(set: &Bits<'_>, start: usize, end: usize) -> bool
     ensures { result

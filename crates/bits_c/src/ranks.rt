@@ -17,8 +17,8 @@ use bitlanes::Steps;
 use bitranks::directory;
 use fixedbitset::views::Bits;
 
-/// How many entries the directory of a set of so many positions has: one for each
-/// eight words, rounded up.
+/// Returns how many entries the directory of a set of this length has: one for each eight words,
+/// rounded up.
 #[unsafe(no_mangle)]
 pub extern "C" fn bits_ranks_entries(length: usize) -> usize
     ensures { result ≡ model.entries (storage_words length) }
@@ -45,9 +45,9 @@ fn write_directory(set: &Bits<'_>, directory: &mut [usize]) -> bool
     }
 }
 
-/// Writes the directory of the set's words, and the whole struct `ranks`, whatever it held before.
-/// It returns whether the directory has as many entries as `bits_ranks_entries` says; else the
-/// ranks are those of the set of length 0, and the directory stays.
+/// Writes the directory of the words of the set to `directory`, initializes the whole of `ranks`,
+/// and returns `true`. If `entries` is not `bits_ranks_entries` of the length of the set, returns
+/// `false`: the ranks are then the ranks of no set, and the directory is unchanged.
 #[tactic(auto, using(crate::proofs::Ranked::all_fit, crate::proofs::Ranked::nothing_clean, crate::proofs::Ranked::nothing_kept, crate::proofs::Ranked::nothing_ranked))]
 #[unsafe(no_mangle)]
 pub extern "C" fn bits_ranks_fill<'a>(
@@ -76,7 +76,8 @@ pub extern "C" fn bits_ranks_fill<'a>(
     }
 }
 
-/// How many positions below this one are set. Past the length all are below it.
+/// Returns the rank: how many positions below this position are set. For a position past the length
+/// these are all positions of the set.
 #[tactic(auto, using(crate::proofs::Ranked::lent_rank))]
 #[unsafe(no_mangle)]
 pub extern "C" fn bits_rank(ranks: &Ranks<'_>, position: usize) -> usize
@@ -85,7 +86,8 @@ pub extern "C" fn bits_rank(ranks: &Ranks<'_>, position: usize) -> usize
     directory::rank(ranks.words, ranks.directory, position, &mut Steps::new())
 }
 
-/// The position that is set and has so many positions that are set below it, or `NONE`.
+/// Returns the position that is set and has exactly `index` positions that are set below it, or
+/// `NONE`. The first position has index 0.
 #[tactic(auto, using(crate::proofs::Ranked::all_fit, crate::proofs::Ranked::lent_select))]
 #[unsafe(no_mangle)]
 pub extern "C" fn bits_select(ranks: &Ranks<'_>, index: usize) -> usize

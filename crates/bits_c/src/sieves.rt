@@ -86,7 +86,7 @@ impl<'a> Sieve<'a> {
     }
 }
 
-/// Initialises the iterator over the positions that both sets have, in ascending order.
+/// Initializes the iterator over the positions that are in both sets, in ascending order.
 #[unsafe(no_mangle)]
 pub extern "C" fn bits_intersection<'a>(walk: &mut Sieve<'a>, set: &Bits<'a>, other: &Bits<'a>)
     ensures left { shared_left walk.new
@@ -97,7 +97,7 @@ pub extern "C" fn bits_intersection<'a>(walk: &mut Sieve<'a>, set: &Bits<'a>, ot
     *walk = Sieve::of(set.intersection(*other));
 }
 
-/// Gives the least position left.
+/// Writes the first position that is left to `position`, and returns whether there was one.
 #[tactic(auto, using(crate::proofs::Given::first_given))]
 #[unsafe(no_mangle)]
 pub extern "C" fn bits_intersection_next(walk: &mut Sieve<'_>, position: &mut usize) -> bool
@@ -107,7 +107,7 @@ pub extern "C" fn bits_intersection_next(walk: &mut Sieve<'_>, position: &mut us
     hand_out(walk.take_first::<And>(), position)
 }
 
-/// Gives the greatest position left.
+/// Writes the last position that is left to `position`, and returns whether there was one.
 #[tactic(auto, using(crate::proofs::Given::last_given))]
 #[unsafe(no_mangle)]
 pub extern "C" fn bits_intersection_next_back(walk: &mut Sieve<'_>, position: &mut usize) -> bool
@@ -117,7 +117,7 @@ pub extern "C" fn bits_intersection_next_back(walk: &mut Sieve<'_>, position: &m
     hand_out(walk.take_last::<And>(), position)
 }
 
-/// Initialises the iterator over the positions of the first set that the second lacks, in ascending
+/// Initializes the iterator over the positions of the first set that the second lacks, in ascending
 /// order.
 #[unsafe(no_mangle)]
 pub extern "C" fn bits_difference<'a>(walk: &mut Sieve<'a>, set: &Bits<'a>, other: &Bits<'a>)
@@ -128,7 +128,7 @@ pub extern "C" fn bits_difference<'a>(walk: &mut Sieve<'a>, set: &Bits<'a>, othe
     *walk = Sieve::lacking(set, other);
 }
 
-/// Gives the least position left.
+/// Writes the first position that is left to `position`, and returns whether there was one.
 #[tactic(auto, using(crate::proofs::Given::first_given))]
 #[unsafe(no_mangle)]
 pub extern "C" fn bits_difference_next(walk: &mut Sieve<'_>, position: &mut usize) -> bool
@@ -138,7 +138,7 @@ pub extern "C" fn bits_difference_next(walk: &mut Sieve<'_>, position: &mut usiz
     hand_out(walk.take_first::<AndNot>(), position)
 }
 
-/// Gives the greatest position left.
+/// Writes the last position that is left to `position`, and returns whether there was one.
 #[tactic(auto, using(crate::proofs::Given::last_given))]
 #[unsafe(no_mangle)]
 pub extern "C" fn bits_difference_next_back(walk: &mut Sieve<'_>, position: &mut usize) -> bool

@@ -13,8 +13,8 @@ use bitlanes::Steps;
 use fixedbitset::views::{Bits, BitsMut};
 use std::cmp::Ordering;
 
-/// Leaves the positions of either set, and returns whether the second is no longer than the first;
-/// else nothing is changed.
+/// Adds the positions of the second set (union) and returns `true`; returns `false` and changes
+/// nothing if the second set is longer than the first.
 #[unsafe(no_mangle)]
 pub extern "C" fn bits_union_with(set: &mut BitsMut<'_>, other: &Bits<'_>) -> bool
     ensures answer { result ≡ nat_le other.now.length set.old.length }
@@ -30,8 +30,8 @@ pub extern "C" fn bits_union_with(set: &mut BitsMut<'_>, other: &Bits<'_>) -> bo
     }
 }
 
-/// Leaves the positions of exactly one of the sets, and returns whether the second is no longer
-/// than the first; else nothing is changed.
+/// Leaves the positions that are in exactly one of the sets (xor) and returns `true`; returns
+/// `false` and changes nothing if the second set is longer than the first.
 #[unsafe(no_mangle)]
 pub extern "C" fn bits_symmetric_difference_with(set: &mut BitsMut<'_>, other: &Bits<'_>) -> bool
     ensures answer { result ≡ nat_le other.now.length set.old.length }
@@ -47,7 +47,7 @@ pub extern "C" fn bits_symmetric_difference_with(set: &mut BitsMut<'_>, other: &
     }
 }
 
-/// Leaves the positions of both sets, and the length.
+/// Leaves the positions that are in both sets (intersection). The length of the first set stays.
 #[unsafe(no_mangle)]
 pub extern "C" fn bits_intersect_with(set: &mut BitsMut<'_>, other: &Bits<'_>)
     ensures value { held set.new ≡ sets.intersection (held set.old) (value other.now) }
@@ -56,7 +56,8 @@ pub extern "C" fn bits_intersect_with(set: &mut BitsMut<'_>, other: &Bits<'_>)
     set.intersect_with(*other, &mut Steps::new());
 }
 
-/// Leaves the positions of the first set that the second lacks, and the length.
+/// Leaves the positions of the first set that the second lacks (difference). The length of the
+/// first set stays.
 #[unsafe(no_mangle)]
 pub extern "C" fn bits_difference_with(set: &mut BitsMut<'_>, other: &Bits<'_>)
     ensures value { held set.new ≡ sets.difference (held set.old) (value other.now) }
@@ -65,8 +66,9 @@ pub extern "C" fn bits_difference_with(set: &mut BitsMut<'_>, other: &Bits<'_>)
     set.difference_with(*other, &mut Steps::new());
 }
 
-/// As `bits_union_with`, and writes to `changed` whether a position came in. Where the second is
-/// longer, nothing is written there.
+/// Adds the positions of the second set (union), writes to `changed` whether a position was added,
+/// and returns `true`. Returns `false`, changes nothing, and writes nothing to `changed`, if the
+/// second set is longer than the first.
 #[unsafe(no_mangle)]
 pub extern "C" fn bits_union_with_change(
     set: &mut BitsMut<'_>,
@@ -88,7 +90,7 @@ pub extern "C" fn bits_union_with_change(
     }
 }
 
-/// Leaves the positions of both sets, and the length, and returns whether a position went.
+/// Like `bits_intersect_with`, and returns whether a position was removed.
 #[unsafe(no_mangle)]
 pub extern "C" fn bits_intersect_with_change(set: &mut BitsMut<'_>, other: &Bits<'_>) -> bool
     ensures value { held set.new ≡ sets.intersection (held set.old) (value other.now) }
@@ -98,8 +100,7 @@ pub extern "C" fn bits_intersect_with_change(set: &mut BitsMut<'_>, other: &Bits
     set.intersect_with_change(*other, &mut Steps::new())
 }
 
-/// Leaves the positions of the first set that the second lacks, and the length, and returns whether
-/// a position went.
+/// Like `bits_difference_with`, and returns whether a position was removed.
 #[unsafe(no_mangle)]
 pub extern "C" fn bits_difference_with_change(set: &mut BitsMut<'_>, other: &Bits<'_>) -> bool
     ensures value { held set.new ≡ sets.difference (held set.old) (value other.now) }
@@ -109,9 +110,9 @@ pub extern "C" fn bits_difference_with_change(set: &mut BitsMut<'_>, other: &Bit
     set.difference_with_change(*other, &mut Steps::new())
 }
 
-/// Takes in the positions of `gens` that `kills` lacks, and returns whether `gens` is no longer
-/// than the first; else nothing is changed. It writes to `changed` whether a position came in;
-/// where `gens` is longer, nothing is written there.
+/// Adds the positions of `gens` that `kills` lacks, writes to `changed` whether a position was
+/// added, and returns `true`. Returns `false`, changes nothing, and writes nothing to `changed`, if
+/// `gens` is longer than the first set.
 #[unsafe(no_mangle)]
 pub extern "C" fn bits_union_with_difference(
     set: &mut BitsMut<'_>,
@@ -135,7 +136,7 @@ pub extern "C" fn bits_union_with_difference(
     }
 }
 
-/// How many positions are in either set.
+/// Returns how many positions are in either set.
 #[unsafe(no_mangle)]
 pub extern "C" fn bits_union_count(set: &Bits<'_>, other: &Bits<'_>) -> usize
     ensures { result ≡ sets.union_count (value set.now) (value other.now) }
@@ -143,7 +144,7 @@ pub extern "C" fn bits_union_count(set: &Bits<'_>, other: &Bits<'_>) -> usize
     set.union_count(*other, &mut Steps::new())
 }
 
-/// How many positions are in both sets.
+/// Returns how many positions are in both sets.
 #[unsafe(no_mangle)]
 pub extern "C" fn bits_intersection_count(set: &Bits<'_>, other: &Bits<'_>) -> usize
     ensures { result ≡ sets.intersection_count (value set.now) (value other.now) }
@@ -151,7 +152,7 @@ pub extern "C" fn bits_intersection_count(set: &Bits<'_>, other: &Bits<'_>) -> u
     set.intersection_count(*other, &mut Steps::new())
 }
 
-/// How many positions of the first set the second lacks.
+/// Returns how many positions of the first set the second lacks.
 #[unsafe(no_mangle)]
 pub extern "C" fn bits_difference_count(set: &Bits<'_>, other: &Bits<'_>) -> usize
     ensures { result ≡ sets.difference_count (value set.now) (value other.now) }
@@ -159,7 +160,7 @@ pub extern "C" fn bits_difference_count(set: &Bits<'_>, other: &Bits<'_>) -> usi
     set.difference_count(*other, &mut Steps::new())
 }
 
-/// How many positions are in exactly one of the sets.
+/// Returns how many positions are in exactly one of the sets.
 #[unsafe(no_mangle)]
 pub extern "C" fn bits_symmetric_difference_count(set: &Bits<'_>, other: &Bits<'_>) -> usize
     ensures { result ≡ sets.symmetric_difference_count (value set.now) (value other.now) }
@@ -167,7 +168,7 @@ pub extern "C" fn bits_symmetric_difference_count(set: &Bits<'_>, other: &Bits<'
     set.symmetric_difference_count(*other, &mut Steps::new())
 }
 
-/// Whether no position is in both sets.
+/// Returns whether no position is in both sets.
 #[unsafe(no_mangle)]
 pub extern "C" fn bits_is_disjoint(set: &Bits<'_>, other: &Bits<'_>) -> bool
     ensures { result ≡ sets.is_disjoint (value set.now) (value other.now) }
@@ -175,7 +176,8 @@ pub extern "C" fn bits_is_disjoint(set: &Bits<'_>, other: &Bits<'_>) -> bool
     set.is_disjoint(*other, &mut Steps::new())
 }
 
-/// Whether each position of the first set is one of the second.
+/// Returns whether the first set is a subset of the second: the second has each position of the
+/// first. The lengths do not matter.
 #[unsafe(no_mangle)]
 pub extern "C" fn bits_is_subset(set: &Bits<'_>, other: &Bits<'_>) -> bool
     ensures { result ≡ sets.is_subset (value set.now) (value other.now) }
@@ -183,7 +185,7 @@ pub extern "C" fn bits_is_subset(set: &Bits<'_>, other: &Bits<'_>) -> bool
     set.is_subset(*other, &mut Steps::new())
 }
 
-/// The least position of the second set that the first lacks, or `NONE`.
+/// Returns the least position of the second set that the first lacks, or `NONE`.
 #[unsafe(no_mangle)]
 pub extern "C" fn bits_first_lacking(set: &Bits<'_>, other: &Bits<'_>) -> usize
     ensures { result ≡ unwrap_or
@@ -192,7 +194,7 @@ pub extern "C" fn bits_first_lacking(set: &Bits<'_>, other: &Bits<'_>) -> usize
     set.first_lacking(*other, &mut Steps::new()).unwrap_or(NONE)
 }
 
-/// Whether the lengths and the positions are equal.
+/// Returns whether the lengths and the positions are equal.
 #[unsafe(no_mangle)]
 pub extern "C" fn bits_equal(set: &Bits<'_>, other: &Bits<'_>) -> bool
     ensures { result ≡ order.equal (value set.now) (value other.now) }
@@ -200,8 +202,8 @@ pub extern "C" fn bits_equal(set: &Bits<'_>, other: &Bits<'_>) -> bool
     set.is_equal(*other, &mut Steps::new())
 }
 
-/// Which set comes first, in the order of `FixedBitSet`: -1 where the first does, 1 where the
-/// second does, and 0 where the two are equal.
+/// Returns -1 if the first set comes before the second, 0 if they are equal, and 1 if the first
+/// comes after the second. The order is by length, and then by the words from the first word on.
 #[unsafe(no_mangle)]
 pub extern "C" fn bits_compare(set: &Bits<'_>, other: &Bits<'_>) -> isize
     ensures { result ≡ sign (order.compare (value set.now) (value other.now)) }

@@ -1,7 +1,7 @@
 //! The calls of `bits.h` for any target that rustc knows: `make -C front/c from-source` makes a static library of this.
 //!
 //! `proved` and `bits_c` are the proved sources without their contracts, as `front/erase` makes them. `crossing` has the structs
-//! of `bits.h`, `exports` a function for each call, as `front/exports` makes them, and `system` what a library says that has no
+//! of `bits.h`, `exports` a function for each call, as `front/calls` makes them, and `system` what a library says that has no
 //! system below it: these three alone have `unsafe`. A set of C is its words by a pointer and a number; here it becomes a slice
 //! for the time of a call.
 #![no_std]

@@ -4,19 +4,19 @@
 use crate::bits_c::bits_blocks;
 use crate::proved::fixedbitset::views::{Bits, BitsMut};
 
-/// How many bytes `bits_to_bytes` writes: eight for each word that the length needs.
+/// Returns how many bytes a set of this length has: eight for each word that the length needs.
 pub fn bits_bytes(length: usize) -> usize {
     8 * bits_blocks(length)
 }
 
-/// Leaves the positions that the bytes say. Bytes that are missing count as 0, and bits past
-/// the length are dropped.
+/// Replaces the positions of the set by the positions in the bytes. Any number of bytes may be
+/// passed: missing bytes count as 0, and bits past the length are dropped.
 pub fn bits_from_bytes(set: &mut BitsMut<'_>, bytes: &[u8]) {
     set.assign_bytes(bytes);
 }
 
-/// Writes the bytes of the set, and returns whether there are as many as `bits_bytes` says; else
-/// nothing is changed.
+/// Writes the bytes of the set and returns `true`; returns `false` and changes nothing if `count`
+/// is not `bits_bytes(length)`.
 pub fn bits_to_bytes(set: &Bits<'_>, bytes: &mut [u8]) -> bool {
     if bytes.len() == bits_bytes(set.length) {
         set.to_bytes(bytes);
@@ -26,8 +26,9 @@ pub fn bits_to_bytes(set: &Bits<'_>, bytes: &mut [u8]) -> bool {
     }
 }
 
-/// Reverses the bits of each byte. So bytes that have the first of eight positions in the uppermost
-/// bit become those that have it in the lowest, and vice versa.
+/// Reverses the bits of each byte. `bits_from_bytes` and `bits_to_bytes` have the first of eight
+/// positions in the lowest bit of a byte; this call turns bytes with that position in the highest
+/// bit (most significant bit first) into such bytes, and back.
 pub fn bits_reverse_each_byte(bytes: &mut [u8]) {
     for byte in bytes.iter_mut() {
         *byte = byte.reverse_bits();

@@ -6,8 +6,9 @@ use crate::bits_c::bits_words;
 use crate::bits_c::structs::Room;
 use crate::proved::fixedbitset::views::Bits;
 
-/// Makes the words those of the set's positions that are below the length of the room, and returns
-/// whether it did: where there are `bits_words` of this length. Else nothing is changed.
+/// Copies to `to` the positions of the set that are below the length of `to`, which may be any
+/// number, and returns `true`; returns `false` and changes nothing if `to` does not have
+/// `bits_words` of its length.
 pub fn bits_copy(to: &mut Room<'_>, set: &Bits<'_>) -> bool {
     if to.words.len() == bits_words(to.length) {
         set.copy_to(to.words, to.length);
@@ -17,8 +18,9 @@ pub fn bits_copy(to: &mut Room<'_>, set: &Bits<'_>) -> bool {
     }
 }
 
-/// Makes the words those of the positions of either set, and returns whether it did: where the room
-/// has the greater of their lengths, and `bits_words` of it. Else nothing is changed.
+/// Writes the positions in either set (union) to `to`, and returns `true`. Returns `false` and
+/// changes nothing if the length of `to` is not the greater of the two lengths, or its words are
+/// not `bits_words` of that length.
 pub fn bits_union_of(to: &mut Room<'_>, set: &Bits<'_>, other: &Bits<'_>) -> bool {
     if to.words.len() == bits_words(to.length) && to.length == set.length.max(other.length) {
         set.union_to(*other, to.words);
@@ -28,8 +30,9 @@ pub fn bits_union_of(to: &mut Room<'_>, set: &Bits<'_>, other: &Bits<'_>) -> boo
     }
 }
 
-/// Makes the words those of the positions of exactly one set, and returns whether it did: where the
-/// room has the greater of their lengths, and `bits_words` of it. Else nothing is changed.
+/// Writes the positions in exactly one of the sets (xor) to `to`, and returns `true`. Returns
+/// `false` and changes nothing if the length of `to` is not the greater of the two lengths, or its
+/// words are not `bits_words` of that length.
 pub fn bits_symmetric_difference_of(
     to: &mut Room<'_>,
     set: &Bits<'_>,
@@ -43,8 +46,9 @@ pub fn bits_symmetric_difference_of(
     }
 }
 
-/// Makes the words those of the positions of both sets, and returns whether it did: where the room
-/// has the smaller of their lengths, and `bits_words` of it. Else nothing is changed.
+/// Writes the positions in both sets (intersection) to `to`, and returns `true`. Returns `false`
+/// and changes nothing if the length of `to` is not the smaller of the two lengths, or its words
+/// are not `bits_words` of that length.
 pub fn bits_intersection_of(to: &mut Room<'_>, set: &Bits<'_>, other: &Bits<'_>) -> bool {
     if to.words.len() == bits_words(to.length) && to.length == set.length.min(other.length) {
         set.intersection_to(*other, to.words);
@@ -54,9 +58,9 @@ pub fn bits_intersection_of(to: &mut Room<'_>, set: &Bits<'_>, other: &Bits<'_>)
     }
 }
 
-/// Makes the words those of the positions of the first set that the second lacks, and returns
-/// whether it did: where the room has the length of the first, and `bits_words` of it. Else nothing
-/// is changed.
+/// Writes the positions of the first set that the second lacks (difference) to `to`, and returns
+/// `true`. Returns `false` and changes nothing if the length of `to` is not the length of the
+/// first, or its words are not `bits_words` of that length.
 pub fn bits_difference_of(to: &mut Room<'_>, set: &Bits<'_>, other: &Bits<'_>) -> bool {
     if to.words.len() == bits_words(to.length) && to.length == set.length {
         set.difference_to(*other, to.words);

@@ -256,8 +256,8 @@ fn fill_both_back<A: Giver, B: Giver>(
     (count, back.giver, front.giver)
 }
 
-/// Writes the first positions left to `positions`, from its front on and in ascending order: as
-/// many as there is room for, or as are left. It returns how many.
+/// Writes the first positions that are left to `positions`, as many as there is room for or as are
+/// left, and returns how many.
 pub fn bits_ones_take(walk: &mut Ones<'_>, positions: &mut [usize]) -> usize {
     let mut ones = Ones::of(walk.cursor());
     let count = fill_by_words(&mut ones, positions);
@@ -265,9 +265,8 @@ pub fn bits_ones_take(walk: &mut Ones<'_>, positions: &mut [usize]) -> usize {
     count
 }
 
-/// Writes the first positions left to `positions`, from its front on and in ascending order: as
-/// many as there is room for, or as are left. It returns how many. A place takes the low 32 bits of
-/// its position, which are the position itself in a set of at most 2^32 bits.
+/// Like `bits_ones_take`, in half of the memory: each place holds the low 32 bits of its position,
+/// which are the position itself in a set of at most 2^32 bits.
 pub fn bits_ones_take_u32(walk: &mut Ones<'_>, positions: &mut [u32]) -> usize {
     let mut ones = Ones::of(walk.cursor());
     let count = if positions.len() > FEW {
@@ -279,16 +278,16 @@ pub fn bits_ones_take_u32(walk: &mut Ones<'_>, positions: &mut [u32]) -> usize {
     count
 }
 
-/// Writes the last positions left to `positions`, from its front on and in descending order: as
-/// many as there is room for, or as are left. It returns how many.
+/// Writes the last positions that are left to `positions`, the last first, as many as there is room
+/// for or as are left, and returns how many.
 pub fn bits_ones_take_back(walk: &mut Ones<'_>, positions: &mut [usize]) -> usize {
     let (count, ones) = fill_back_by_words(Ones::of(walk.cursor()), positions);
     *walk = ones;
     count
 }
 
-/// Writes the first positions left to `positions`, from its front on and in ascending order: as
-/// many as there is room for, or as are left. It returns how many.
+/// Writes the first positions that are left to `positions`, as many as there is room for or as are
+/// left, and returns how many.
 pub fn bits_zeroes_take(walk: &mut Zeroes<'_>, positions: &mut [usize]) -> usize {
     let mut zeroes = Zeroes::of(walk.cursor());
     let count = fill_by_words(&mut zeroes, positions);
@@ -296,16 +295,16 @@ pub fn bits_zeroes_take(walk: &mut Zeroes<'_>, positions: &mut [usize]) -> usize
     count
 }
 
-/// Writes the last positions left to `positions`, from its front on and in descending order: as
-/// many as there is room for, or as are left. It returns how many.
+/// Writes the last positions that are left to `positions`, the last first, as many as there is room
+/// for or as are left, and returns how many.
 pub fn bits_zeroes_take_back(walk: &mut Zeroes<'_>, positions: &mut [usize]) -> usize {
     let (count, zeroes) = fill_back_by_words(Zeroes::of(walk.cursor()), positions);
     *walk = zeroes;
     count
 }
 
-/// Writes the first positions left to `positions`, from its front on and in ascending order: as
-/// many as there is room for, or as are left. It returns how many.
+/// Writes the first positions that are left to `positions`, as many as there is room for or as are
+/// left, and returns how many.
 pub fn bits_intersection_take(walk: &mut Sieve<'_>, positions: &mut [usize]) -> usize {
     let mut shared = walk.cursor::<And>();
     let count = fill(&mut shared, positions);
@@ -313,8 +312,8 @@ pub fn bits_intersection_take(walk: &mut Sieve<'_>, positions: &mut [usize]) -> 
     count
 }
 
-/// Writes the last positions left to `positions`, from its front on and in descending order: as
-/// many as there is room for, or as are left. It returns how many.
+/// Writes the last positions that are left to `positions`, the last first, as many as there is room
+/// for or as are left, and returns how many.
 pub fn bits_intersection_take_back(
     walk: &mut Sieve<'_>,
     positions: &mut [usize],
@@ -324,8 +323,8 @@ pub fn bits_intersection_take_back(
     count
 }
 
-/// Writes the first positions left to `positions`, from its front on and in ascending order: as
-/// many as there is room for, or as are left. It returns how many.
+/// Writes the first positions that are left to `positions`, as many as there is room for or as are
+/// left, and returns how many.
 pub fn bits_difference_take(walk: &mut Sieve<'_>, positions: &mut [usize]) -> usize {
     let mut lacked = walk.cursor::<AndNot>();
     let count = fill(&mut lacked, positions);
@@ -333,16 +332,16 @@ pub fn bits_difference_take(walk: &mut Sieve<'_>, positions: &mut [usize]) -> us
     count
 }
 
-/// Writes the last positions left to `positions`, from its front on and in descending order: as
-/// many as there is room for, or as are left. It returns how many.
+/// Writes the last positions that are left to `positions`, the last first, as many as there is room
+/// for or as are left, and returns how many.
 pub fn bits_difference_take_back(walk: &mut Sieve<'_>, positions: &mut [usize]) -> usize {
     let (count, lacked) = fill_back(walk.cursor::<AndNot>(), positions);
     *walk = Sieve::of(lacked);
     count
 }
 
-/// Writes the first positions left to `positions`, from its front on and in the order of the
-/// iterator: as many as there is room for, or as are left. It returns how many.
+/// Writes the first positions that are left to `positions`, as many as there is room for or as are
+/// left, and returns how many.
 pub fn bits_union_take(walk: &mut Pair<'_>, positions: &mut [usize]) -> usize {
     let mut first = walk.first.walk.cursor();
     let mut second = walk.second.cursor::<AndNot>();
@@ -352,8 +351,8 @@ pub fn bits_union_take(walk: &mut Pair<'_>, positions: &mut [usize]) -> usize {
     count
 }
 
-/// Writes the last positions left to `positions`, from its front on and against the order of the
-/// iterator: as many as there is room for, or as are left. It returns how many.
+/// Writes the last positions that are left to `positions`, the last first, as many as there is room
+/// for or as are left, and returns how many.
 pub fn bits_union_take_back(walk: &mut Pair<'_>, positions: &mut [usize]) -> usize {
     let first = walk.first.walk.cursor();
     let second = walk.second.cursor::<AndNot>();
@@ -363,8 +362,8 @@ pub fn bits_union_take_back(walk: &mut Pair<'_>, positions: &mut [usize]) -> usi
     count
 }
 
-/// Writes the first positions left to `positions`, from its front on and in the order of the
-/// iterator: as many as there is room for, or as are left. It returns how many.
+/// Writes the first positions that are left to `positions`, as many as there is room for or as are
+/// left, and returns how many.
 pub fn bits_symmetric_difference_take(
     walk: &mut Pair<'_>,
     positions: &mut [usize],
@@ -377,8 +376,8 @@ pub fn bits_symmetric_difference_take(
     count
 }
 
-/// Writes the last positions left to `positions`, from its front on and against the order of the
-/// iterator: as many as there is room for, or as are left. It returns how many.
+/// Writes the last positions that are left to `positions`, the last first, as many as there is room
+/// for or as are left, and returns how many.
 pub fn bits_symmetric_difference_take_back(
     walk: &mut Pair<'_>,
     positions: &mut [usize],

@@ -3,8 +3,8 @@
 
 use crate::proved::fixedbitset::views::{Bits, BitsMut};
 
-/// Sets each position of the list, and returns whether all of them are below the length; else
-/// nothing is changed.
+/// Sets each of `count` positions and returns `true`; returns `false` and changes nothing if a
+/// position is out of range.
 pub fn bits_insert_all(set: &mut BitsMut<'_>, positions: &[usize]) -> bool {
     if all_below(positions, set.length) {
         set.insert_all(positions);
@@ -14,8 +14,8 @@ pub fn bits_insert_all(set: &mut BitsMut<'_>, positions: &[usize]) -> bool {
     }
 }
 
-/// Clears each position of the list, and returns whether all of them are below the length; else
-/// nothing is changed.
+/// Clears each of `count` positions and returns `true`; returns `false` and changes nothing if a
+/// position is out of range.
 pub fn bits_remove_all(set: &mut BitsMut<'_>, positions: &[usize]) -> bool {
     if all_below(positions, set.length) {
         set.remove_all(positions);
@@ -25,8 +25,9 @@ pub fn bits_remove_all(set: &mut BitsMut<'_>, positions: &[usize]) -> bool {
     }
 }
 
-/// Writes for each position of the list whether it is set: `false` at or past the length. It
-/// returns whether there are as many places as positions; else nothing is written.
+/// Writes to `answers`, for each of `count` positions, whether the position is set (`false` if it
+/// is out of range), and returns `true`; returns `false` and writes nothing if `places` is not
+/// `count`.
 pub fn bits_contains_each(
     set: &Bits<'_>,
     positions: &[usize],

@@ -9,7 +9,9 @@
 //! call allocates or waits, and only the initialisation of an iterator keeps a pointer.
 //!
 //! Each call is that of the two types with its name, and looks at as many words. A clause sees a
-//! set as its value, a length and the positions below it.
+//! set as its value, a length and the positions below it. C passes a slice as a pointer and a
+//! number, which the docs name as `bits.h` does: `count`, `places`, `entries` or `room`.
+//! `front/calls` makes the comments of `bits.h` of the docs.
 
 pub mod bytes;
 pub mod copies;
@@ -35,19 +37,21 @@ use crate::proved::fixedbitset::views::{Bits, BitsMut};
 /// What a call returns for 'no position'. No set has this position.
 pub const NONE: usize = usize::MAX;
 
-/// How many words a set of so many positions has: whole lanes of four.
+/// Returns how many words a set of this length has: whole lanes of four words.
 pub fn bits_words(length: usize) -> usize {
     LANE * length.div_ceil(BITS).div_ceil(LANE)
 }
 
-/// How many of them hold positions below the length.
+/// Returns how many words of a set of this length hold positions below the length.
 pub fn bits_blocks(length: usize) -> usize {
     length.div_ceil(BITS)
 }
 
-/// Makes any words those of a set of `length` positions: of the positions that they have those
-/// below `kept` stay. It returns whether it did: where there are `bits_words(length)` words and
-/// `kept` is not past the length.
+/// Turns any words into the words of a set of `length` positions: positions below `kept` stay, and
+/// all others are cleared. Returns `true` if `count` is `bits_words(length)` and `kept` is at most
+/// the length; else returns `false` and changes nothing. For example, a `kept` of 0 makes the set
+/// empty, a `kept` of the length takes over words from elsewhere, and a `kept` of the old length
+/// makes a set longer in memory that has room.
 pub fn bits_settle(words: &mut [Block], length: usize, kept: usize) -> bool {
     if words.len() == bits_words(length) && kept <= length {
         BitsMut::settle(words, length, kept);
@@ -57,18 +61,20 @@ pub fn bits_settle(words: &mut [Block], length: usize, kept: usize) -> bool {
     }
 }
 
-/// Whether the words are those of a set of `length` positions as they stand: `bits_words(length)`
-/// words, and no bit past the length.
+/// Returns whether the words, as they are, are the words of a set of `length` positions: `count` is
+/// `bits_words(length)`, and no bit at or past the length is set. With this call a program can
+/// reject words from elsewhere, where `bits_settle` would drop the bits past the length.
 pub fn bits_is_clean(words: &[Block], length: usize) -> bool {
     Bits::over(words, length).is_some()
 }
 
-/// Whether the position is set: `false` at or past the length.
+/// Returns whether the position is set; `false` if the position is out of range.
 pub fn bits_contains(set: &Bits<'_>, bit: usize) -> bool {
     set.contains(bit)
 }
 
-/// Sets the position, and returns whether it is below the length; else nothing is changed.
+/// Sets the position and returns `true`; returns `false` and changes nothing if the position is out
+/// of range.
 pub fn bits_insert(set: &mut BitsMut<'_>, bit: usize) -> bool {
     if bit < set.length {
         set.insert(bit);
@@ -78,7 +84,8 @@ pub fn bits_insert(set: &mut BitsMut<'_>, bit: usize) -> bool {
     }
 }
 
-/// Clears the position, and returns whether it is below the length; else nothing is changed.
+/// Clears the position and returns `true`; returns `false` and changes nothing if the position is
+/// out of range.
 pub fn bits_remove(set: &mut BitsMut<'_>, bit: usize) -> bool {
     if bit < set.length {
         set.remove(bit);
@@ -88,8 +95,8 @@ pub fn bits_remove(set: &mut BitsMut<'_>, bit: usize) -> bool {
     }
 }
 
-/// Sets the position if it is clear and clears it if it is set, and returns whether it is below the
-/// length; else nothing is changed.
+/// Flips the position and returns `true`; returns `false` and changes nothing if the position is
+/// out of range.
 pub fn bits_toggle(set: &mut BitsMut<'_>, bit: usize) -> bool {
     if bit < set.length {
         set.toggle(bit);
@@ -99,8 +106,8 @@ pub fn bits_toggle(set: &mut BitsMut<'_>, bit: usize) -> bool {
     }
 }
 
-/// Sets the position, or clears it where `enabled` is false, and returns whether it is below the
-/// length; else nothing is changed.
+/// Sets the position, or clears it if `enabled` is `false`, and returns `true`; returns `false` and
+/// changes nothing if the position is out of range.
 pub fn bits_set(set: &mut BitsMut<'_>, bit: usize, enabled: bool) -> bool {
     if bit < set.length {
         set.set(bit, enabled);
@@ -110,8 +117,8 @@ pub fn bits_set(set: &mut BitsMut<'_>, bit: usize, enabled: bool) -> bool {
     }
 }
 
-/// Sets the position, and returns whether it was set before. At or past the length nothing is
-/// changed, and it returns `false`.
+/// Sets the position, and returns whether the position was set before; returns `false` and changes
+/// nothing if the position is out of range.
 pub fn bits_put(set: &mut BitsMut<'_>, bit: usize) -> bool {
     if bit < set.length {
         set.put(bit)
@@ -120,8 +127,8 @@ pub fn bits_put(set: &mut BitsMut<'_>, bit: usize) -> bool {
     }
 }
 
-/// Clears the position, and returns whether it was set before. At or past the length nothing is
-/// changed, and it returns `false`.
+/// Clears the position, and returns whether the position was set before; returns `false` and
+/// changes nothing if the position is out of range.
 pub fn bits_take(set: &mut BitsMut<'_>, bit: usize) -> bool {
     if bit < set.length {
         set.take(bit)
@@ -130,8 +137,8 @@ pub fn bits_take(set: &mut BitsMut<'_>, bit: usize) -> bool {
     }
 }
 
-/// Makes word `index` the given one, without its bits past the length. It returns whether the
-/// length needs a word of this index; else nothing is changed.
+/// Writes the block to word `index`, without the bits of the block at or past the length, and
+/// returns `true`; returns `false` and changes nothing if the length needs no such word.
 pub fn bits_set_block(set: &mut BitsMut<'_>, index: usize, block: Block) -> bool {
     if index < bits_blocks(set.length) {
         set.set_block(index, block);
@@ -146,27 +153,28 @@ pub fn bits_clear(set: &mut BitsMut<'_>) {
     set.clear(&mut Steps::new());
 }
 
-/// Whether no position is set.
+/// Returns whether no position is set.
 pub fn bits_is_clear(set: &Bits<'_>) -> bool {
     set.is_clear(&mut Steps::new())
 }
 
-/// Whether each position below the length is set.
+/// Returns whether each position below the length is set.
 pub fn bits_is_full(set: &Bits<'_>) -> bool {
     set.is_full(&mut Steps::new())
 }
 
-/// The least position that is set, or `NONE`.
+/// Returns the least position that is set, or `NONE` if no position is set.
 pub fn bits_minimum(set: &Bits<'_>) -> usize {
     set.minimum(&mut Steps::new()).unwrap_or(NONE)
 }
 
-/// The greatest position that is set, or `NONE`.
+/// Returns the greatest position that is set, or `NONE` if no position is set.
 pub fn bits_maximum(set: &Bits<'_>) -> usize {
     set.maximum(&mut Steps::new()).unwrap_or(NONE)
 }
 
-/// Clears the lowest bit of the word that is set, and returns its index. Of 0 the result is `NONE`.
+/// Clears the lowest bit of the word that is set, and returns the index of that bit; returns `NONE`
+/// if the word is 0.
 pub fn bits_take_lowest_bit(word: &mut Block) -> usize {
     if *word == 0 {
         NONE

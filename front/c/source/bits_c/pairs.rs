@@ -46,8 +46,8 @@ impl<'a> Pair<'a> {
     }
 }
 
-/// Initialises the iterator over the positions of the first set, and then over those of the second
-/// that the first lacks, each part in ascending order.
+/// Initializes the iterator over the positions of the first set, ascending, and then the positions
+/// that only the second set has, ascending.
 pub fn bits_union<'a>(walk: &mut Pair<'a>, set: &Bits<'a>, other: &Bits<'a>) {
     *walk = Pair {
         first: Sieve {
@@ -58,7 +58,7 @@ pub fn bits_union<'a>(walk: &mut Pair<'a>, set: &Bits<'a>, other: &Bits<'a>) {
     };
 }
 
-/// Gives the first position left.
+/// Writes the first position that is left to `position`, and returns whether there was one.
 pub fn bits_union_next(walk: &mut Pair<'_>, position: &mut usize) -> bool {
     let item = match walk.first.walk.take_first() {
         Some(found) => Some(found),
@@ -67,7 +67,7 @@ pub fn bits_union_next(walk: &mut Pair<'_>, position: &mut usize) -> bool {
     hand_out(item, position)
 }
 
-/// Gives the last position left.
+/// Writes the last position that is left to `position`, and returns whether there was one.
 pub fn bits_union_next_back(walk: &mut Pair<'_>, position: &mut usize) -> bool {
     let item = match walk.second.take_last::<AndNot>() {
         Some(found) => Some(found),
@@ -80,8 +80,8 @@ pub fn bits_union_next_back(walk: &mut Pair<'_>, position: &mut usize) -> bool {
     hand_out(item, position)
 }
 
-/// Initialises the iterator over the positions of the first set that the second lacks, and then
-/// over those of the second that the first lacks, each part in ascending order.
+/// Initializes the iterator over the positions that only the first set has, ascending, and then the
+/// positions that only the second set has, ascending.
 pub fn bits_symmetric_difference<'a>(
     walk: &mut Pair<'a>,
     set: &Bits<'a>,
@@ -93,7 +93,7 @@ pub fn bits_symmetric_difference<'a>(
     };
 }
 
-/// Gives the first position left.
+/// Writes the first position that is left to `position`, and returns whether there was one.
 pub fn bits_symmetric_difference_next(walk: &mut Pair<'_>, position: &mut usize) -> bool {
     let item = match walk.first.take_first::<AndNot>() {
         Some(found) => Some(found),
@@ -102,7 +102,7 @@ pub fn bits_symmetric_difference_next(walk: &mut Pair<'_>, position: &mut usize)
     hand_out(item, position)
 }
 
-/// Gives the last position left.
+/// Writes the last position that is left to `position`, and returns whether there was one.
 pub fn bits_symmetric_difference_next_back(
     walk: &mut Pair<'_>,
     position: &mut usize,

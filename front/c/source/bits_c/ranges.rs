@@ -5,12 +5,13 @@
 use crate::proved::bitlanes::Steps;
 use crate::proved::fixedbitset::views::{Bits, BitsMut};
 
-/// Whether the range is valid.
+/// Returns whether the range is valid: `start <= end`, and `end <= length`.
 pub fn bits_range_is_valid(set: &Bits<'_>, start: usize, end: usize) -> bool {
     set.range_is_valid(start, end)
 }
 
-/// Sets the positions of the range, and returns whether it is valid; else nothing is changed.
+/// Sets each position of the range and returns `true`; returns `false` and changes nothing if the
+/// range is not valid.
 pub fn bits_insert_range(set: &mut BitsMut<'_>, start: usize, end: usize) -> bool {
     if set.as_bits().range_is_valid(start, end) {
         set.insert_range(start, end, &mut Steps::new());
@@ -20,7 +21,8 @@ pub fn bits_insert_range(set: &mut BitsMut<'_>, start: usize, end: usize) -> boo
     }
 }
 
-/// Clears the positions of the range, and returns whether it is valid; else nothing is changed.
+/// Clears each position of the range and returns `true`; returns `false` and changes nothing if the
+/// range is not valid.
 pub fn bits_remove_range(set: &mut BitsMut<'_>, start: usize, end: usize) -> bool {
     if set.as_bits().range_is_valid(start, end) {
         set.remove_range(start, end, &mut Steps::new());
@@ -30,8 +32,8 @@ pub fn bits_remove_range(set: &mut BitsMut<'_>, start: usize, end: usize) -> boo
     }
 }
 
-/// Sets each position of the range that is clear and clears each that is set, and returns whether
-/// it is valid; else nothing is changed.
+/// Flips each position of the range and returns `true`; returns `false` and changes nothing if the
+/// range is not valid.
 pub fn bits_toggle_range(set: &mut BitsMut<'_>, start: usize, end: usize) -> bool {
     if set.as_bits().range_is_valid(start, end) {
         set.toggle_range(start, end, &mut Steps::new());
@@ -41,7 +43,8 @@ pub fn bits_toggle_range(set: &mut BitsMut<'_>, start: usize, end: usize) -> boo
     }
 }
 
-/// How many positions of the range are set; 0 where it is not valid.
+/// Returns how many positions of the range are set (the population count, popcount); 0 if the range
+/// is not valid.
 pub fn bits_count_ones(set: &Bits<'_>, start: usize, end: usize) -> usize {
     if bits_range_is_valid(set, start, end) {
         set.count_ones(start, end, &mut Steps::new())
@@ -50,7 +53,7 @@ pub fn bits_count_ones(set: &Bits<'_>, start: usize, end: usize) -> usize {
     }
 }
 
-/// How many positions of the range are not set; 0 where it is not valid.
+/// Returns how many positions of the range are not set; 0 if the range is not valid.
 pub fn bits_count_zeroes(set: &Bits<'_>, start: usize, end: usize) -> usize {
     if bits_range_is_valid(set, start, end) {
         set.count_zeroes(start, end, &mut Steps::new())
@@ -59,12 +62,12 @@ pub fn bits_count_zeroes(set: &Bits<'_>, start: usize, end: usize) -> usize {
     }
 }
 
-/// Whether each position of the range is set; `false` where it is not valid.
+/// Returns whether each position of the range is set; `false` if the range is not valid.
 pub fn bits_contains_all_in_range(set: &Bits<'_>, start: usize, end: usize) -> bool {
     bits_range_is_valid(set, start, end) && set.contains_all_in_range(start, end, &mut Steps::new())
 }
 
-/// Whether some position of the range is set; `false` where it is not valid.
+/// Returns whether some position of the range is set; `false` if the range is not valid.
 pub fn bits_contains_any_in_range(set: &Bits<'_>, start: usize, end: usize) -> bool {
     bits_range_is_valid(set, start, end) && set.contains_any_in_range(start, end, &mut Steps::new())
 }

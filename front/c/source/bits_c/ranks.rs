@@ -11,8 +11,8 @@ use crate::proved::bitlanes::Steps;
 use crate::proved::bitranks::directory;
 use crate::proved::fixedbitset::views::Bits;
 
-/// How many entries the directory of a set of so many positions has: one for each
-/// eight words, rounded up.
+/// Returns how many entries the directory of a set of this length has: one for each eight words,
+/// rounded up.
 pub fn bits_ranks_entries(length: usize) -> usize {
     directory::entries(bits_words(length))
 }
@@ -30,9 +30,9 @@ fn write_directory(set: &Bits<'_>, directory: &mut [usize]) -> bool {
     }
 }
 
-/// Writes the directory of the set's words, and the whole struct `ranks`, whatever it held before.
-/// It returns whether the directory has as many entries as `bits_ranks_entries` says; else the
-/// ranks are those of the set of length 0, and the directory stays.
+/// Writes the directory of the words of the set to `directory`, initializes the whole of `ranks`,
+/// and returns `true`. If `entries` is not `bits_ranks_entries` of the length of the set, returns
+/// `false`: the ranks are then the ranks of no set, and the directory is unchanged.
 pub fn bits_ranks_fill<'a>(
     ranks: &mut Ranks<'a>,
     set: &Bits<'a>,
@@ -55,12 +55,14 @@ pub fn bits_ranks_fill<'a>(
     }
 }
 
-/// How many positions below this one are set. Past the length all are below it.
+/// Returns the rank: how many positions below this position are set. For a position past the length
+/// these are all positions of the set.
 pub fn bits_rank(ranks: &Ranks<'_>, position: usize) -> usize {
     directory::rank(ranks.words, ranks.directory, position, &mut Steps::new())
 }
 
-/// The position that is set and has so many positions that are set below it, or `NONE`.
+/// Returns the position that is set and has exactly `index` positions that are set below it, or
+/// `NONE`. The first position has index 0.
 pub fn bits_select(ranks: &Ranks<'_>, index: usize) -> usize {
     directory::select(ranks.words, ranks.directory, index, &mut Steps::new()).unwrap_or(NONE)
 }

@@ -12,14 +12,15 @@ use crate::proved::bitlanes::{Block, Steps};
 use crate::proved::bitrows::{Rows, RowsMut};
 use crate::proved::bitwords::cursors::{Cursor, Plain};
 
-/// How many words a table of so many rows and columns has, or `NONE` where they are more
-/// than there are numbers.
+/// Returns how many words a table of this many rows and columns has, or `NONE` if that number does
+/// not fit in a `usize`.
 pub fn bits_rows_words(rows: usize, columns: usize) -> usize {
     rows.checked_mul(bits_words(columns)).unwrap_or(NONE)
 }
 
-/// Makes any words those of a table of so many rows and columns, with no bit. It returns whether
-/// there are as many as `bits_rows_words` says; else nothing is changed.
+/// Turns any words into the words of a table of this many rows and columns with no bit set, and
+/// returns `true`; returns `false` and changes nothing if `count` is not `bits_rows_words(rows,
+/// columns)`. Words that are all zeros are already the words of such a table.
 pub fn bits_rows_clear(words: &mut [Block], rows: usize, columns: usize) -> bool {
     if words.len() == bits_rows_words(rows, columns) {
         RowsMut::blank(words, rows, columns);
@@ -29,7 +30,8 @@ pub fn bits_rows_clear(words: &mut [Block], rows: usize, columns: usize) -> bool
     }
 }
 
-/// Whether the row has a bit at the column: `false` past the rows and past the columns.
+/// Returns whether the row has a bit at the column; `false` if the row or the column is out of
+/// range.
 pub fn bits_rows_get(rows: &Rows<'_>, row: usize, column: usize) -> bool {
     if row < rows.rows {
         rows.get(row, column)
@@ -38,8 +40,8 @@ pub fn bits_rows_get(rows: &Rows<'_>, row: usize, column: usize) -> bool {
     }
 }
 
-/// Sets the bit of the row at the column, or clears it where `enabled` is false, and returns
-/// whether the table has both; else nothing is changed.
+/// Sets the bit of the row at the column, or clears it if `enabled` is `false`, and returns `true`;
+/// returns `false` and changes nothing if the row or the column is out of range.
 pub fn bits_rows_set(
     rows: &mut RowsMut<'_>,
     row: usize,
@@ -54,9 +56,9 @@ pub fn bits_rows_set(
     }
 }
 
-/// Row `into` takes in the bits of row `from`, and the result is whether the table has both; else
-/// nothing is changed. It writes to `changed` whether a bit came in; where the table has not both,
-/// nothing.
+/// Adds the bits of row `from` to row `into`, writes to `changed` whether a bit was added, and
+/// returns `true`. Returns `false`, changes nothing, and writes nothing to `changed`, if a row is
+/// out of range.
 pub fn bits_rows_union(
     rows: &mut RowsMut<'_>,
     from: usize,
@@ -71,8 +73,9 @@ pub fn bits_rows_union(
     }
 }
 
-/// Initialises the iterator over the columns at which the row has a bit, in ascending order, and
-/// returns whether the table has the row; else the iterator gives none.
+/// Initializes the iterator over the columns at which the row has a bit, in ascending order, and
+/// returns `true`; `bits_ones_next` and `bits_ones_next_back` return the columns. Returns `false`
+/// if the row is out of range; the iterator is then empty.
 pub fn bits_rows_ones<'a>(walk: &mut Ones<'a>, rows: &Rows<'a>, row: usize) -> bool {
     if row < rows.rows {
         *walk = Ones::of(rows.row(row).ones());
@@ -83,9 +86,9 @@ pub fn bits_rows_ones<'a>(walk: &mut Ones<'a>, rows: &Rows<'a>, row: usize) -> b
     }
 }
 
-/// The transitive closure of the graph that has an edge from each row to each column at which the
-/// row has a bit: afterwards row `a` has a bit at column `b` exactly if some path of one or more
-/// edges led from `a` to `b`. The table keeps its size.
+/// Replaces the table by the transitive closure of the graph with an edge from each row to each
+/// column at which the row has a bit: afterwards row `a` has a bit at column `b` if and only if
+/// some path of one or more edges led from `a` to `b`.
 pub fn bits_rows_close(rows: &mut RowsMut<'_>) {
     rows.close(&mut Steps::new());
 }

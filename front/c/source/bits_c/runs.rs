@@ -49,18 +49,19 @@ fn hand_out_run(run: Option<(usize, usize)>, start: &mut usize, end: &mut usize)
     }
 }
 
-/// Initialises the iterator over the runs of positions that are set, in ascending order.
+/// Initializes the iterator over the runs of consecutive positions that are set, in ascending
+/// order. A run has the positions from `start` up to but not including `end`; the cost of a run
+/// grows with the number of its words.
 pub fn bits_runs<'a>(walk: &mut Runs<'a>, set: &Bits<'a>) {
     *walk = Runs::of(set.runs());
 }
 
-/// Initialises the iterator over the runs of positions below the length that are not set, in
-/// ascending order.
+/// Like `bits_runs`, over the positions below the length that are not set.
 pub fn bits_zero_runs<'a>(walk: &mut Runs<'a>, set: &Bits<'a>) {
     *walk = Runs::of(set.zero_runs());
 }
 
-/// Gives the first run left.
+/// Writes the ends of the first run that is left, and returns whether there was one.
 pub fn bits_runs_next(walk: &mut Runs<'_>, start: &mut usize, end: &mut usize) -> bool {
     let mut left = walk.walk();
     let run = left.next();
@@ -68,7 +69,7 @@ pub fn bits_runs_next(walk: &mut Runs<'_>, start: &mut usize, end: &mut usize) -
     hand_out_run(run, start, end)
 }
 
-/// Gives the last run left.
+/// Writes the ends of the last run that is left, and returns whether there was one.
 pub fn bits_runs_next_back(
     walk: &mut Runs<'_>,
     start: &mut usize,

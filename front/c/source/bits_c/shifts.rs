@@ -6,30 +6,31 @@ use crate::proved::bitlanes::word::BITS;
 use crate::proved::bitlanes::{Block, Steps};
 use crate::proved::fixedbitset::views::{Bits, BitsMut};
 
-/// Moves each position up by `by`. Those that are not below the length then fall away.
+/// Shifts each position up by `by`; positions that come to or past the length are dropped.
 pub fn bits_shift_up(set: &mut BitsMut<'_>, by: usize) {
     set.shift_up(by, &mut Steps::new());
 }
 
-/// Moves each position down by `by`. Those below `by` fall away.
+/// Shifts each position down by `by`; positions below `by` are dropped.
 pub fn bits_shift_down(set: &mut BitsMut<'_>, by: usize) {
     set.shift_down(by, &mut Steps::new());
 }
 
-/// Takes in each position of the second set moved up by `by`, as far as it is
-/// below the length then.
+/// Adds the positions of the second set, shifted up by `by`; those that come to or past the length
+/// are dropped.
 pub fn bits_union_with_shifted(set: &mut BitsMut<'_>, other: &Bits<'_>, by: usize) {
     set.union_with_shifted(*other, by, &mut Steps::new());
 }
 
-/// Takes in each position of the set itself moved up by `by`, as far as it is
-/// below the length then.
+/// Adds the positions of the set itself, shifted up by `by`; those that come to or past the length
+/// are dropped.
 pub fn bits_union_with_own_shift(set: &mut BitsMut<'_>, by: usize) {
     set.union_with_own_shift(by, &mut Steps::new());
 }
 
-/// Makes `part` the positions of the range, less its start, and returns whether it did: where the
-/// range is one of the set and `part` has its length. Else nothing is changed.
+/// Copies a slice: `part` gets the positions of the second set from `start` up to but not including
+/// `end`, each less `start`. Returns `true` if the range is valid and the length of `part` is `end
+/// - start`; else returns `false` and changes nothing.
 pub fn bits_slice(
     part: &mut BitsMut<'_>,
     set: &Bits<'_>,
@@ -44,9 +45,10 @@ pub fn bits_slice(
     }
 }
 
-/// Writes the positions of the range of the second set over those of the first from `at` on, and
-/// returns whether it did: where the range is one of the second set, and from `at` on ends within
-/// the first. Else nothing is changed.
+/// Copies the range from `start` up to but not including `end` of the second set over the positions
+/// of the first set from `at` on; all other positions stay. Returns `true` if the range is valid in
+/// the second set, and its copy, from `at` on, ends within the first; else returns `false` and
+/// changes nothing.
 pub fn bits_copy_range(
     set: &mut BitsMut<'_>,
     other: &Bits<'_>,
@@ -64,9 +66,9 @@ pub fn bits_copy_range(
     true
 }
 
-/// Writes the `width` positions from `start` on as a number: its bit `i` is position `start + i`.
-/// It returns whether it did: where the width is 64 at most, and the positions are below the
-/// length. Else nothing is written.
+/// Writes the `width` positions from `start` on to `number`: bit `i` of the number is position
+/// `start + i`. Returns `true` if `width` is at most 64 and the positions are below the length;
+/// else returns `false` and writes nothing.
 pub fn bits_load(set: &Bits<'_>, start: usize, width: usize, number: &mut Block) -> bool {
     if is_part(set.length, start, width) {
         *number = set.load(start, width);
@@ -76,9 +78,9 @@ pub fn bits_load(set: &Bits<'_>, start: usize, width: usize, number: &mut Block)
     }
 }
 
-/// Makes the `width` positions from `start` on the lowest bits of the number: position `start + i`
-/// becomes its bit `i`. It returns whether it did: where the width is 64 at most, and the positions
-/// are below the length. Else nothing is changed.
+/// Writes the lowest `width` bits of the number to the positions from `start` on: position `start +
+/// i` becomes bit `i` of the number. Returns `true` if `width` is at most 64 and the positions are
+/// below the length; else returns `false` and changes nothing.
 pub fn bits_store(
     set: &mut BitsMut<'_>,
     start: usize,

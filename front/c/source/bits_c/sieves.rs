@@ -67,33 +67,33 @@ impl<'a> Sieve<'a> {
     }
 }
 
-/// Initialises the iterator over the positions that both sets have, in ascending order.
+/// Initializes the iterator over the positions that are in both sets, in ascending order.
 pub fn bits_intersection<'a>(walk: &mut Sieve<'a>, set: &Bits<'a>, other: &Bits<'a>) {
     *walk = Sieve::of(set.intersection(*other));
 }
 
-/// Gives the least position left.
+/// Writes the first position that is left to `position`, and returns whether there was one.
 pub fn bits_intersection_next(walk: &mut Sieve<'_>, position: &mut usize) -> bool {
     hand_out(walk.take_first::<And>(), position)
 }
 
-/// Gives the greatest position left.
+/// Writes the last position that is left to `position`, and returns whether there was one.
 pub fn bits_intersection_next_back(walk: &mut Sieve<'_>, position: &mut usize) -> bool {
     hand_out(walk.take_last::<And>(), position)
 }
 
-/// Initialises the iterator over the positions of the first set that the second lacks, in ascending
+/// Initializes the iterator over the positions of the first set that the second lacks, in ascending
 /// order.
 pub fn bits_difference<'a>(walk: &mut Sieve<'a>, set: &Bits<'a>, other: &Bits<'a>) {
     *walk = Sieve::lacking(set, other);
 }
 
-/// Gives the least position left.
+/// Writes the first position that is left to `position`, and returns whether there was one.
 pub fn bits_difference_next(walk: &mut Sieve<'_>, position: &mut usize) -> bool {
     hand_out(walk.take_first::<AndNot>(), position)
 }
 
-/// Gives the greatest position left.
+/// Writes the last position that is left to `position`, and returns whether there was one.
 pub fn bits_difference_next_back(walk: &mut Sieve<'_>, position: &mut usize) -> bool {
     hand_out(walk.take_last::<AndNot>(), position)
 }

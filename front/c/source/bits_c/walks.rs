@@ -95,23 +95,24 @@ pub(crate) fn hand_out(item: Option<usize>, position: &mut usize) -> bool {
     }
 }
 
-/// Initialises the iterator over the positions that are set, in ascending order.
+/// Initializes the iterator over the positions that are set, in ascending order.
 pub fn bits_ones<'a>(walk: &mut Ones<'a>, set: &Bits<'a>) {
     *walk = Ones::of(set.ones());
 }
 
-/// Gives the least position left.
+/// Writes the first position that is left to `position`, and returns whether there was one.
 pub fn bits_ones_next(walk: &mut Ones<'_>, position: &mut usize) -> bool {
     hand_out(walk.take_first(), position)
 }
 
-/// Gives the greatest position left.
+/// Writes the last position that is left to `position`, and returns whether there was one.
 pub fn bits_ones_next_back(walk: &mut Ones<'_>, position: &mut usize) -> bool {
     hand_out(walk.take_last(), position)
 }
 
-/// Initialises the iterator over the positions of the range that are set, in ascending order, and
-/// returns whether the range is valid; else the iterator gives none.
+/// Initializes the iterator over the positions from `start` up to but not including `end` that are
+/// set, in ascending order, and returns `true`. Returns `false` if the range is not valid; the
+/// iterator is then empty.
 pub fn bits_ones_in<'a>(
     walk: &mut Ones<'a>,
     set: &Bits<'a>,
@@ -127,8 +128,9 @@ pub fn bits_ones_in<'a>(
     }
 }
 
-/// Initialises the iterator over the positions of the range that are not set, in ascending order,
-/// and returns whether the range is valid; else the iterator gives none.
+/// Initializes the iterator over the positions from `start` up to but not including `end` that are
+/// not set, in ascending order, and returns `true`. Returns `false` if the range is not valid; the
+/// iterator is then empty.
 pub fn bits_zeroes_in<'a>(
     walk: &mut Zeroes<'a>,
     set: &Bits<'a>,
@@ -145,13 +147,13 @@ pub fn bits_zeroes_in<'a>(
     }
 }
 
-/// Initialises the iterator over the positions below the length that are not set, in ascending
+/// Initializes the iterator over the positions below the length that are not set, in ascending
 /// order.
 pub fn bits_zeroes<'a>(walk: &mut Zeroes<'a>, set: &Bits<'a>) {
     *walk = Zeroes::of(set.zeroes());
 }
 
-/// Gives the least position left.
+/// Writes the first position that is left to `position`, and returns whether there was one.
 pub fn bits_zeroes_next(walk: &mut Zeroes<'_>, position: &mut usize) -> bool {
     let mut cursor = walk.cursor();
     let item = cursor.next();
@@ -159,7 +161,7 @@ pub fn bits_zeroes_next(walk: &mut Zeroes<'_>, position: &mut usize) -> bool {
     hand_out(item, position)
 }
 
-/// Gives the greatest position left.
+/// Writes the last position that is left to `position`, and returns whether there was one.
 pub fn bits_zeroes_next_back(walk: &mut Zeroes<'_>, position: &mut usize) -> bool {
     let mut cursor = walk.cursor();
     let item = cursor.next_back();
