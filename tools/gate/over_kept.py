@@ -16,6 +16,7 @@ import subprocess
 import kept
 from plan import below
 from running import arguments
+from wrong_bodies.checks import link_or_copy
 
 # What a program is run on, and what it has to answer, as the kit has it.
 SECONDS = 120
@@ -61,13 +62,6 @@ def take(of, to):
             to.mkdir(parents=True, exist_ok=True)
             shutil.copyfile(file, to / file.name)
             (to / file.name).chmod(0o755)
-
-
-def link_or_copy(of, to):
-    try:
-        os.link(of, to)
-    except OSError:
-        shutil.copy2(of, to)
 
 
 class Trees:

@@ -34,6 +34,21 @@ def below(crates, name):
     return found
 
 
+def as_source(crates, name, top, kit):
+    """The words that pass all that a crate stands on as source, the kit's libraries too, each with those that it may use."""
+    words, of_kit = [], {"core", "std"}
+    for it in sorted(below(crates, name)):
+        uses = ["core", "std", *(other for other in crates[it] if other not in ("core", "std"))]
+        words.append(f"--lib={it}:{','.join(uses)}={top}/crates/{it}/src/lib.rt")
+        of_kit |= {other for other in uses if other not in crates}
+    left = sorted(of_kit | {it for it in crates[name] if it not in crates})
+    for it in left:
+        uses = re.findall(r"(?m)^dep (\w+)$", (kit / f"rlibs/{it}.rlib/format").read_text())
+        words.append(f"--lib={it}:{','.join(uses)}={kit}/rattle/{it}/src/lib.rt")
+        left += [other for other in uses if other not in left]
+    return words
+
+
 def with_those_above(crates, names):
     """These crates and all that stand on one of them, in the order of crates.txt."""
     return [it for it in crates if it in names or below(crates, it) & set(names)]
@@ -128,15 +143,18 @@ class Plan:
         return [front, targets, client] * self.has("bits_c") + [program] * self.has("bits")
 
     def mutants(self):
-        """The wrong bodies, as the tests of the crate, of the program and of the library for C see them: those that have no verdict
-        in front/wrong/seen, and some by chance. (It reads them where they stand, and writes into folders of its own.)"""
+        """The wrong bodies, as the tests of the crate, of the program and of the library for C see them, and as runs see those of the
+        uses and of what only tests use: those that have no verdict in front/wrong, and some by chance. (They are read where they
+        stand, and what is written goes into other folders.)"""
         edits = self.sources(*self.crates, parts=("src", "must-fail"))
         makers = ("erase", "erase_source.py", "erase_tables.py", "wrong", "wrong_translations", "compilers", "registry")
         made = [f"front/{it}" for it in (*makers, "c", "differ", "lib", "program", "rust")]
         texts = ("docs/COMMANDS.md", "examples", "crates/bits/stdin", "crates/bits/stdout", "tools/memory/memory.txt")
         inputs = (*edits, *made, *texts, "tools/kept.py", "tools/mutants")
         stage = Stage("wrong bodies seen by tests", ("front/wrong_translations", "--jobs", "1"), inputs, ("cargo", "rustc", "cc"))
-        return [stage] * self.has("bits")
+        inputs = (*edits, *made[:5], "tests", "crates/uses", *SHARED, "tools/mutants", "tools/gate", "tools/fuzz/slow_answers.py")
+        runs = Stage("wrong bodies seen by runs", ("tools/mutants/wrong_runs",), inputs)
+        return [stage] * self.has("bits") + [runs] * self.has("uses")
 
     def libraries(self):
         """What is built of the static library over the work of the proofs, and the type for PostgreSQL: some of its tests end

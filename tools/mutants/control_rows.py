@@ -16,6 +16,7 @@ MISSING = """proofs/next/Answers.antt:9:6: error: `returns`: record `C` (nearest
   has no field `call`
 fn numbers::next: not proved
 only=1"""
+NO_FIELD = FALSE.format(9, "returns").replace("the goal fails", "`call` is not a field of record `C`")
 BOTH = BROKE_OFF + "\n" + FALSE.format(14, "overflow")
 NAME_FIRST = MISSING + "\n" + BROKE_OFF
 CLOSURE = NO_HOLES + "\nfn numbers::next::closure: not proved"
@@ -30,6 +31,7 @@ SAID = [
     ("a goal is open", [NEXT], "refused: src/lib.rt:9: ", "0 proved, 1 refused: 1 by an open goal, 0 by a", 0),
     ("an answer does not fit", [FALSE.format(10, "returns")], f"refused: {FILE}:10: ", "1 by a stored answer, 0 by a name", 0),
     ("an answer names what is gone", [MISSING], f"refused by a name: {FILE}:9: ", "0 by a stored answer, 1 by a name", 0),
+    ("a record has no such field", [NO_FIELD], f"refused by a name: {FILE}:9: ", "0 by a stored answer, 1 by a name", 0),
     ("a search broke off", [BROKE_OFF], f"refused at a bound: {FILE}:10: ", "0 by a name that is gone, 1 at a bound", 0),
     ("one broke off, another answer does not fit", [BOTH], f"refused: {FILE}:14: ", "1 by a stored answer, 0 by a name", 0),
     ("one names what is gone, another broke off", [NAME_FIRST], f"refused at a bound: {FILE}:10: ", "gone, 1 at a bound", 0),

@@ -59,6 +59,7 @@ NEXT = OPEN + "fn numbers::next: no proof: `search` did not prove `returns`\nonl
 # What a check says where the answer that stands for `returns`, or the other, is false, in which lines.
 FALSE = "proofs/next/Answers.antt:{}:5: error: `{}`: the goal fails\nfn numbers::next: not proved\nonly=1"
 BROKE_OFF = FALSE.format(10, "returns").replace("\n", "\n  `search` broke off: more than 300000 steps\n", 1)
+GONE = FALSE.format(10, "returns").replace("the goal fails", "`call` is not a field of record `C`")
 NOTHING = "fn numbers::next: perhaps\nonly=1"
 # A goal and the answers that are stored, what the checks of an edit say in turn, and what has to be told.
 SAID = [
@@ -67,6 +68,7 @@ SAID = [
     ("no goal of it is open", "returns", "", [NOTHING, NOTHING, "logic=proved"], "NOT REFUSED"),
     ("the answer of its goal is false", "returns", ANSWERS, [FALSE.format(10, "returns")], "refused: proofs/next/Answers.antt:10: "),
     ("the search for the answer broke off", "returns", ANSWERS, [BROKE_OFF], "refused at a bound: proofs/next/Answers.antt:10: "),
+    ("its answer names what is gone", "returns", ANSWERS, [GONE, GONE, f"{GONE}\nlogic=not-proved"], "A NAME IS GONE: "),
     ("a goal that no tactic was asked for is open", "returns", ANSWERS, [NEXT, NEXT], "refused: src/lib.rt:9: "),
     ("the answer of another goal is false", "returns", ANSWERS, [FALSE.format(14, "overflow"), NEXT], "refused: src/lib.rt:9: "),
 ]

@@ -15,7 +15,7 @@ import threading
 import time
 
 # The seconds between two looks at what runs here. A look reads a file for each thread, and takes some 20 ms of a processor.
-SECONDS = 4
+SECONDS = 8
 
 
 class Processes:

@@ -30,7 +30,9 @@ What a check says (verdicts.py):
             `tools/mutants/edits --whole` tries those edits without the bounds
   waits     no goal of its own is open, but it calls a function that another edit changed: a later round tries it
   else      it is tried alone, by a check of the whole crate from nothing, and that answer stands: refused alone; NOT REFUSED;
-            BAD EDIT where its text does not compile or read; UNCLEAR where the check says what is not known here
+            BAD EDIT where its text does not compile or read; A NAME IS GONE where the check says only that a stored proof
+            names what the edit took away, which any change of the text would bring about; UNCLEAR where it says what is not
+            known here
 The rounds rest on the wording of the kit's checks, so `./test --kit`, which tries the edits one by one, has to be run after
 each change of the kit.
 

@@ -4,6 +4,13 @@ import pathlib
 import shutil
 
 
+def link_or_copy(of, to):
+    try:
+        os.link(of, to)
+    except OSError:
+        shutil.copy2(of, to)
+
+
 class Checks:
     """Checks of copies of a project's crates, each with one job."""
     def __init__(self, project, processes):
@@ -14,14 +21,14 @@ class Checks:
 
     def check(self, copy, work=None, fills=False):
         """What a check says of a copy: from nothing, or over a copy of the work that a check left in a folder, or over that
-        folder itself, which it fills."""
+        folder itself, which it fills. (A check writes no file of its work anew, but another in its place. So links are a copy.)"""
         with self.room() as room:
             for path, text in copy.files().items():
                 os.makedirs(os.path.dirname(f"{room}/{path}"), exist_ok=True)
                 pathlib.Path(room, path).write_text(text)
             words = self.words(copy)
             if work and not fills:
-                work = shutil.copytree(work, f"{room}/kept")
+                work = shutil.copytree(work, f"{room}/kept", copy_function=link_or_copy)
             words += [f"--incremental={work}"] if work else []
             words += [f"--only={symbol}" for symbol in sorted(copy.only)]
             words += ["--allow-holes"] if copy.has_holes else []

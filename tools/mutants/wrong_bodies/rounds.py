@@ -8,7 +8,7 @@ from . import copies, naming, together, verdicts
 
 BAD = "BAD EDIT: a text behind 'old:' is not in its file exactly once"
 # The most edits of a round.
-MOST = 180
+MOST = 200
 # A crate that `rt ci` has proved is checked once more where it has more edits that each have a round of their own.
 ROUNDS_THAT_GAIN = 2
 

@@ -1,7 +1,7 @@
 """Chooses which edits stand in a round together."""
 
 # A crate with more edits than these has rounds of its own. The others share some.
-FEW = 24
+FEW = 26
 
 
 def taken_together(edits, most):

@@ -6,9 +6,9 @@ import re
 from . import goals
 
 # An error that says only that a proof file names what the edit took away.
-NAMES = re.compile(r"has no field|is not in scope|has no `|was not admitted")
+NAMES = re.compile(r"has no field|is not a field of|is not in scope|has no `|was not admitted")
 # Where such an error goes on in a second line.
-WRAPPED = re.compile(r"\n +(?=has no )")
+WRAPPED = re.compile(r"\n +(?=has no |is not a field|not a field|a field of|field of)")
 OPEN_GOAL = re.compile(r"(?m)^(?:note: |\./)?(\S+:\d+:\d+: it is not proved .*|proofs/\S+: error: .*)")
 ERROR_IN_PROOF = re.compile(r"(?m)^(?:\./)?(proofs/\S+?\.antt):(\d+):\d+: error: (.*)")
 # What is said of a place, with the lines that go on with it.
@@ -18,7 +18,7 @@ NOT_PROVED = re.compile(r"fn (\S+?): (?!proved)(.*)")
 # The line that a check ends with once the front end has taken the text.
 TAKEN = re.compile(r"(?m)^(?:logic|only)=")
 # A text that cannot be read. (Where an edit makes a statement false, the error begins with the statement's name.)
-UNREAD = re.compile(r"(?m)^(?:\./)?(?:src|specs)/\S+: error: (?:(?!`[^`]*`: ).*|.*(?:is not in scope|has no field).*)")
+UNREAD = re.compile(r"(?m)^(?:\./)?(?:src|specs)/\S+: error: (?:(?!`[^`]*`: ).*|.*(?:is not in scope|has no field|is not a field of).*)")
 
 REFUSED, PROVED, WAITS, UNCLEAR = "refused", "proved", "waits", "unclear"
 
@@ -88,10 +88,11 @@ def errors_in_proofs(said):
 
 def open_goal(said):
     """The first goal that is open anywhere, as a check says it, or None."""
-    for found in OPEN_GOAL.findall(in_whole_lines(said)):
-        if not NAMES.search(found):
-            return f"{found:.200}"
-    return None
+    return next((f"{found:.200}" for found in open_goals(said) if not NAMES.search(found)), None)
+
+
+def open_goals(said):
+    return OPEN_GOAL.findall(in_whole_lines(said))
 
 
 def judged(edit, judges, said, is_by_itself):
@@ -176,7 +177,10 @@ def judged_alone(said):
     if last[1] == "proved":
         return False, "NOT REFUSED: the crate is still proved with this edit"
     goal = open_goal(said)
-    return (True, f"refused alone: {goal}") if goal else (False, f"UNCLEAR: {said.strip()[-300:]}")
+    if goal:
+        return True, f"refused alone: {goal}"
+    gone = next(iter(open_goals(said)), None)
+    return False, f"A NAME IS GONE: {gone:.200}" if gone else f"UNCLEAR: {said.strip()[-300:]}"
 
 
 def is_proved(said):
