@@ -27,6 +27,8 @@ WRITTEN = {
     ("crates/fixedbitset/src/text.rt",
      "fn text_of ( digits : & [ u8 ] ) -> & str { unsafe { str :: from_utf8_unchecked ( digits ) } }"): "use shim::text_of;",
 }
+# The functions that Rust calls in constants too, by their source: the length of an array is the number of words of a set.
+CONSTANT = {("crates/fixedbitset/src/views/positions.rt", "fn storage_words")}
 # The names that Rattle's prelude brings into each module and that mean something else in Rust: the shim has them, and a module
 # that has one imports it. A type with an `impl Clone` copies itself by a call that may be refused memory.
 PRELUDE = {"Clone", "Vec"}

@@ -69,16 +69,24 @@ use alloc::vec::Vec;
 impl FixedBitSet {
 """, "self.as_bits()", ("set", "bits", "ranges", "questions", "whole", "of_two", "parts", "shifts", "neighbours", "walks", "pairs",
                         "extend")),
+    "published_arrays.rs": File("ArrayBitSet", """\
+//! The calls of a set in an array, by those of views.
+use crate::proved::bitlanes::Steps;
+use crate::{ArrayBitSet, Block, Difference, IndexRange, Intersection, Ones, Zeroes};
+
+impl<const WORDS: usize> ArrayBitSet<WORDS> {
+""", ""),
 }
 
 # The lines of a call, and its one call, which `made` of its result and `handed` of its parameters stand in.
 METHOD = """\
-{inline}{track}    pub fn {name}{generics}({parameters}){result} {{
+{inline}{must}{track}    pub fn {name}{generics}({parameters}){result} {{
 {tests}        {made}
     }}
 """
 INLINE = "    #[inline]\n"
 TRACK = "    #[track_caller]\n"
+MUST = "    #[must_use]\n"
 CALL = "self.view.{name}({handed})"
 # A call of a set by its own, on a set and on none, and what stands before one of a view that changes a range.
 SET, OF_SETS = "self.set.", "set::FixedBitSet::"
@@ -186,6 +194,10 @@ SET_RESULTS = {
 TRIED = {"clone_from", "extend", "from_iter", "grow_and_insert"}
 # Calls that go over words and are no part of the program of each that makes them.
 OUTLINED = {"union_with", "symmetric_difference_with", "union_with_change", "union_with_difference"}
+# The calls of views that a set in an array has by their names. The others it has by its views.
+ARRAYS = set("as_slice contains insert remove put take toggle set count_ones insert_range remove_range minimum maximum is_clear next_one "
+             "next_zero ones zeroes first_gap union_with intersect_with difference_with symmetric_difference_with union_with_change "
+             "is_subset is_disjoint intersection_count intersection difference first_lacking".split())
 # Sentences with one of these speak of what the call of the crate has not.
 # (The allocator zeroes a new row that is long, so nothing is written.)
 LEFT_OUT = ("`Err`", "The set is then as it was.", "(`range_is_valid`)", "`to_value`", "It writes `bits / 64` words",
@@ -229,7 +241,7 @@ HIDDEN = {
 
 # All text of Rust in these tables, but for what stands for another.
 TEMPLATES = [
-    METHOD, INLINE, TRACK, CALL, SET, OF_SETS, DIRECT, *(it.head for it in FILES.values()),
+    METHOD, INLINE, TRACK, MUST, CALL, SET, OF_SETS, DIRECT, *(it.head for it in FILES.values()),
     *(it.test for table in (FORMS, SET_FORMS) for it in table.values()),
     *(handed for table in (PARAMETERS, SET_PARAMETERS) for *_, handed in table.values()),
     *(text for table in (RESULTS, SET_RESULTS) for it in table.values() for text in (it.made, it.try_made)),

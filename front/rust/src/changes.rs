@@ -26,6 +26,7 @@ impl BitsMut<'_> {
     /// assert_eq!(BitsMut::over(&mut words, 70).unwrap().len(), 70);
     /// ```
     #[inline]
+    #[must_use]
     pub fn len(&self) -> usize {
         self.view.length
     }
@@ -39,6 +40,7 @@ impl BitsMut<'_> {
     /// assert!(BitsMut::over(&mut [], 0).unwrap().is_empty());
     /// ```
     #[inline]
+    #[must_use]
     pub fn is_empty(&self) -> bool {
         self.len() == 0
     }

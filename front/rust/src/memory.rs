@@ -13,6 +13,7 @@ impl AllocError {
     /// let refused = FixedBitSet::try_with_capacity(usize::MAX).unwrap_err();
     /// assert_eq!(refused.bytes(), 1 << (usize::BITS - 3));
     /// ```
+    #[must_use]
     pub fn bytes(&self) -> usize {
         self.bytes
     }

@@ -1,19 +1,54 @@
 //! Operators, and sets from positions. The proved calls are made, and nothing is put together.
 use crate::memory::OrAbort;
-use crate::{Bits, BitsMut, FixedBitSet};
-use core::ops::{BitAnd, BitAndAssign, BitOr, BitOrAssign, BitXor, BitXorAssign, Index};
+use crate::{ArrayBitSet, Bits, BitsMut, FixedBitSet};
+use alloc::vec::Vec;
+use core::ops::{BitAnd, BitAndAssign, BitOr, BitOrAssign, BitXor, BitXorAssign};
+use core::ops::{Index, Not, Sub, SubAssign};
 
-/// Declares an operator that makes a set of two, and the one that changes a set.
+/// Declares an operator that makes a set of two: of two that stay, and of one that is given up. Then the ones that change a set.
 macro_rules! operators {
-    ($($name:ident $call:ident $changing:ident $change:ident $join:ident;)*) => { $(
-        /// Proved: the set, for any two sets ([contract](crate::contracts#fixedbitsetwhole)).
+    ($($name:ident $call:ident $changing:ident $change:ident $join:ident, |$one:ident, $other:ident| $made:expr, $of_own:expr;)*) => { $(
+        /// Proved: the set, for any two sets (contracts of [`&`, `|` and `^`](crate::contracts#fixedbitsetwhole) and of
+        /// [`-`](crate::contracts#fixedbitsetbitsmutdifference_with)).
         impl $name for &FixedBitSet {
             type Output = FixedBitSet;
 
             #[inline]
             fn $call(self, other: &FixedBitSet) -> FixedBitSet {
-                let set = self.set.$call(&other.set).or_abort();
-                FixedBitSet { set }
+                let ($one, $other) = (self, other);
+                $made
+            }
+        }
+
+        /// Proved: the set, as that of two that stay ([contract](crate::contracts#fixedbitsetwhole)).
+        impl $name<&FixedBitSet> for FixedBitSet {
+            type Output = FixedBitSet;
+
+            #[inline]
+            fn $call(self, other: &FixedBitSet) -> FixedBitSet {
+                #[allow(unused_mut)]
+                let (mut $one, $other) = (self, other);
+                $of_own
+            }
+        }
+
+        /// Proved: the set, as that of two that stay ([contract](crate::contracts#fixedbitsetwhole)).
+        impl $name for FixedBitSet {
+            type Output = FixedBitSet;
+
+            #[inline]
+            fn $call(self, other: FixedBitSet) -> FixedBitSet {
+                self.$call(&other)
+            }
+        }
+
+        /// Proved: the set, as that of two that stay ([contract](crate::contracts#fixedbitsetwhole)).
+        impl $name<FixedBitSet> for &FixedBitSet {
+            type Output = FixedBitSet;
+
+            #[inline]
+            fn $call(self, other: FixedBitSet) -> FixedBitSet {
+                self.$call(&other)
             }
         }
 
@@ -30,19 +65,55 @@ macro_rules! operators {
                 self.$join(other);
             }
         }
+
+        /// **Panics** where it would set a position of a longer set. Proved: what it leaves, wherever it does not panic
+        /// ([contract](crate::contracts#fixedbitsetviews)).
+        impl $changing<Bits<'_>> for BitsMut<'_> {
+            #[track_caller]
+            fn $change(&mut self, other: Bits<'_>) {
+                self.$join(other);
+            }
+        }
     )* };
 }
 operators! {
-    BitAnd bitand BitAndAssign bitand_assign intersect_with;
-    BitOr bitor BitOrAssign bitor_assign union_with;
-    BitXor bitxor BitXorAssign bitxor_assign symmetric_difference_with;
+    BitAnd bitand BitAndAssign bitand_assign intersect_with,
+        |one, other| FixedBitSet { set: one.set.bitand(&other.set).or_abort() }, BitAnd::bitand(&one, other);
+    BitOr bitor BitOrAssign bitor_assign union_with,
+        |one, other| FixedBitSet { set: one.set.bitor(&other.set).or_abort() }, { one.union_with(other); one };
+    BitXor bitxor BitXorAssign bitxor_assign symmetric_difference_with,
+        |one, other| FixedBitSet { set: one.set.bitxor(&other.set).or_abort() }, { one.symmetric_difference_with(other); one };
+    Sub sub SubAssign sub_assign difference_with,
+        |one, other| one.clone() - other, { one.difference_with(other); one };
+}
+
+/// Proved: what it leaves, for all sets ([contract](crate::contracts#fixedbitsetbitsmuttoggle_range)).
+impl Not for FixedBitSet {
+    type Output = FixedBitSet;
+
+    /// The complement: the positions below the length that are clear.
+    #[inline]
+    fn not(mut self) -> FixedBitSet {
+        self.toggle_range(..);
+        self
+    }
+}
+
+/// Proved: the set, as that of one that is given up ([contract](crate::contracts#fixedbitsetbitsmuttoggle_range)).
+impl Not for &FixedBitSet {
+    type Output = FixedBitSet;
+
+    /// The complement: the positions below the length that are clear.
+    fn not(self) -> FixedBitSet {
+        !self.clone()
+    }
 }
 
 /// Declares that `set[bit]` is `set.contains(bit)`.
 macro_rules! indices {
-    ($($name:ty $(, $lent:ident)?;)*) => { $(
+    ($($name:ty $(where [$($of:tt)*])? $(, $lent:ident)?;)*) => { $(
         /// Proved: the result, for all sets and all numbers ([contract](crate::contracts#fixedbitsetbitscontains)).
-        impl Index<usize> for $name {
+        impl$(<$($of)*>)? Index<usize> for $name {
             type Output = bool;
 
             /// Whether the position is set. At or past the length none is.
@@ -61,6 +132,7 @@ indices! {
     FixedBitSet;
     Bits<'_>;
     BitsMut<'_>, as_bits;
+    ArrayBitSet<WORDS> where [const WORDS: usize];
 }
 
 /// Proved: what each position leaves, once the length is great enough ([contract](crate::contracts#fixedbitsetbitsmutinsert)).
@@ -79,4 +151,32 @@ impl FromIterator<usize> for FixedBitSet {
     fn from_iter<I: IntoIterator<Item = usize>>(positions: I) -> Self {
         Self::try_from_iter(positions).or_abort()
     }
+}
+
+/// Proved: what each position leaves, once the length is great enough ([contract](crate::contracts#fixedbitsetbitsmutinsert)).
+impl<'a> Extend<&'a usize> for FixedBitSet {
+    /// The same for borrowed positions.
+    #[track_caller]
+    fn extend<I: IntoIterator<Item = &'a usize>>(&mut self, positions: I) {
+        self.extend(positions.into_iter().copied());
+    }
+}
+
+/// Declares that a list of positions becomes the set of them.
+macro_rules! lists {
+    ($($name:ty $(where [$($of:tt)*])?;)*) => { $(
+        /// Proved: what each position leaves, once the length is great enough
+        /// ([contract](crate::contracts#fixedbitsetbitsmutinsert)).
+        impl$(<$($of)*>)? From<$name> for FixedBitSet {
+            /// The set of these positions, with the least length that has them. **Panics** at the position `usize::MAX`.
+            #[track_caller]
+            fn from(positions: $name) -> Self {
+                positions.into_iter().collect()
+            }
+        }
+    )* };
+}
+lists! {
+    [usize; COUNT] where [const COUNT: usize];
+    Vec<usize>;
 }

@@ -25,6 +25,7 @@ impl<'a> Bits<'a> {
     /// assert_eq!(set.as_bits().first_gap(5, 62), None);
     /// ```
     #[inline]
+    #[must_use]
     pub fn first_gap(self, count: usize, from: usize) -> Option<usize> {
         self.view.first_gap(count, from, &mut Steps::new())
     }
@@ -53,6 +54,7 @@ impl<'a> Bits<'a> {
     /// assert_eq!(set.as_bits().first_aligned_gap(5, 32, 1..36), None);
     /// ```
     #[inline]
+    #[must_use]
     #[track_caller]
     pub fn first_aligned_gap<T: IndexRange>(
         self,
@@ -79,6 +81,7 @@ impl<'a> Bits<'a> {
     /// assert_eq!(set.as_bits().next_one(66), None);
     /// ```
     #[inline]
+    #[must_use]
     pub fn next_one(self, from: usize) -> Option<usize> {
         self.view.next_one(from, &mut Steps::new())
     }
@@ -97,6 +100,7 @@ impl<'a> Bits<'a> {
     /// assert_eq!(set.as_bits().next_zero(64), None);
     /// ```
     #[inline]
+    #[must_use]
     pub fn next_zero(self, from: usize) -> Option<usize> {
         self.view.next_zero(from, &mut Steps::new())
     }
@@ -119,6 +123,7 @@ impl<'a> Bits<'a> {
     /// assert_eq!(next, Some(65));
     /// ```
     #[inline]
+    #[must_use]
     pub fn next_common(self, other: Bits<'_>, from: usize) -> Option<usize> {
         self.view.next_common(other.view, from, &mut Steps::new())
     }
@@ -140,6 +145,7 @@ impl<'a> Bits<'a> {
     /// assert_eq!(set.as_bits().nth_one(3), None);
     /// ```
     #[inline]
+    #[must_use]
     pub fn nth_one(self, index: usize) -> Option<usize> {
         self.view.nth_one(index, &mut Steps::new())
     }
@@ -158,6 +164,7 @@ impl<'a> Bits<'a> {
     /// assert_eq!(set.as_bits().previous_one(0), None);
     /// ```
     #[inline]
+    #[must_use]
     pub fn previous_one(self, below: usize) -> Option<usize> {
         self.view.previous_one(below, &mut Steps::new())
     }
@@ -176,6 +183,7 @@ impl<'a> Bits<'a> {
     /// assert_eq!(set.as_bits().previous_zero(1), None);
     /// ```
     #[inline]
+    #[must_use]
     pub fn previous_zero(self, below: usize) -> Option<usize> {
         self.view.previous_zero(below, &mut Steps::new())
     }
@@ -192,6 +200,7 @@ impl<'a> Bits<'a> {
     /// assert_eq!(set.as_bits().as_slice(), [9, 2].as_slice());
     /// ```
     #[inline]
+    #[must_use]
     pub fn as_slice(self) -> &'a [Block] {
         self.view.as_slice()
     }
@@ -209,6 +218,7 @@ impl<'a> Bits<'a> {
     /// assert!(!set.as_bits().contains(500));
     /// ```
     #[inline]
+    #[must_use]
     pub fn contains(self, bit: usize) -> bool {
         self.view.contains(bit)
     }
@@ -249,6 +259,7 @@ impl<'a> Bits<'a> {
     /// assert!(set.as_bits().is_clear());
     /// ```
     #[inline]
+    #[must_use]
     pub fn is_clear(self) -> bool {
         self.view.is_clear(&mut Steps::new())
     }
@@ -267,6 +278,7 @@ impl<'a> Bits<'a> {
     /// assert_eq!(set.as_bits().minimum(), Some(65));
     /// ```
     #[inline]
+    #[must_use]
     pub fn minimum(self) -> Option<usize> {
         self.view.minimum(&mut Steps::new())
     }
@@ -285,6 +297,7 @@ impl<'a> Bits<'a> {
     /// assert_eq!(set.as_bits().maximum(), Some(69));
     /// ```
     #[inline]
+    #[must_use]
     pub fn maximum(self) -> Option<usize> {
         self.view.maximum(&mut Steps::new())
     }
@@ -303,6 +316,7 @@ impl<'a> Bits<'a> {
     /// assert_eq!(set.as_bits().count_ones(1..65), 2);
     /// ```
     #[inline]
+    #[must_use]
     #[track_caller]
     pub fn count_ones<T: IndexRange>(self, range: T) -> usize {
         let (start, end) = self.part(&range);
@@ -323,6 +337,7 @@ impl<'a> Bits<'a> {
     /// assert_eq!(set.as_bits().count_zeroes(1..65), 62);
     /// ```
     #[inline]
+    #[must_use]
     #[track_caller]
     pub fn count_zeroes<T: IndexRange>(self, range: T) -> usize {
         let (start, end) = self.part(&range);
@@ -343,6 +358,7 @@ impl<'a> Bits<'a> {
     /// assert!(set.as_bits().contains_all_in_range(64..66));
     /// ```
     #[inline]
+    #[must_use]
     #[track_caller]
     pub fn contains_all_in_range<T: IndexRange>(self, range: T) -> bool {
         let (start, end) = self.part(&range);
@@ -361,6 +377,7 @@ impl<'a> Bits<'a> {
     /// assert!(set.as_bits().is_full());
     /// ```
     #[inline]
+    #[must_use]
     pub fn is_full(self) -> bool {
         self.view.is_full(&mut Steps::new())
     }
@@ -379,6 +396,7 @@ impl<'a> Bits<'a> {
     /// assert!(!set.as_bits().contains_any_in_range(4..64));
     /// ```
     #[inline]
+    #[must_use]
     #[track_caller]
     pub fn contains_any_in_range<T: IndexRange>(self, range: T) -> bool {
         let (start, end) = self.part(&range);
@@ -404,6 +422,7 @@ impl<'a> Bits<'a> {
     /// assert_eq!(set.as_bits().load(0, 64), 9 | 1 << 63);
     /// ```
     #[inline]
+    #[must_use]
     #[track_caller]
     pub fn load(self, start: usize, width: usize) -> u64 {
         self.assert_part(start, width);
@@ -422,6 +441,7 @@ impl<'a> Bits<'a> {
     /// assert!(set.as_bits().ones().eq([0, 3, 65]));
     /// ```
     #[inline]
+    #[must_use]
     pub fn ones(self) -> Ones<'a> {
         let walk = self.view.ones();
         Ones { walk }
@@ -441,6 +461,7 @@ impl<'a> Bits<'a> {
     /// assert!(set.as_bits().intersection(other.as_bits()).eq([0, 65]));
     /// ```
     #[inline]
+    #[must_use]
     pub fn intersection(self, other: Bits<'a>) -> Intersection<'a> {
         let walk = self.view.intersection(other.view);
         Intersection { walk }
@@ -459,6 +480,7 @@ impl<'a> Bits<'a> {
     /// assert!(set.as_bits().difference(other.as_bits()).eq([3]));
     /// ```
     #[inline]
+    #[must_use]
     pub fn difference(self, other: Bits<'a>) -> Difference<'a> {
         let walk = self.view.difference(other.view);
         Difference { walk }
@@ -479,6 +501,7 @@ impl<'a> Bits<'a> {
     /// assert_eq!((walk.next(), walk.next_back()), (Some(0), Some(1)));
     /// ```
     #[inline]
+    #[must_use]
     pub fn union(self, other: Bits<'a>) -> Union<'a> {
         let walk = self.view.union(other.view);
         Union { walk }
@@ -499,6 +522,7 @@ impl<'a> Bits<'a> {
     /// assert_eq!((walk.next(), walk.next_back()), (Some(3), Some(1)));
     /// ```
     #[inline]
+    #[must_use]
     pub fn symmetric_difference(self, other: Bits<'a>) -> SymmetricDifference<'a> {
         let walk = self.view.symmetric_difference(other.view);
         SymmetricDifference { walk }
@@ -516,6 +540,7 @@ impl<'a> Bits<'a> {
     /// assert!(set.as_bits().zeroes().eq([3, 64, 65]));
     /// ```
     #[inline]
+    #[must_use]
     pub fn zeroes(self) -> Zeroes<'a> {
         let walk = self.view.zeroes();
         Zeroes { walk }
@@ -533,6 +558,7 @@ impl<'a> Bits<'a> {
     /// assert!(set.as_bits().runs().eq([(0, 65)]));
     /// ```
     #[inline]
+    #[must_use]
     pub fn runs(self) -> Runs<'a> {
         let walk = self.view.runs();
         Runs { walk }
@@ -551,6 +577,7 @@ impl<'a> Bits<'a> {
     /// assert!(set.as_bits().zero_runs().eq([(65, 70)]));
     /// ```
     #[inline]
+    #[must_use]
     pub fn zero_runs(self) -> Runs<'a> {
         let walk = self.view.zero_runs();
         Runs { walk }
@@ -573,6 +600,7 @@ impl<'a> Bits<'a> {
     /// assert!(set.as_bits().ones_in(1..66).eq([3, 65]));
     /// ```
     #[inline]
+    #[must_use]
     #[track_caller]
     pub fn ones_in<T: IndexRange>(self, range: T) -> Ones<'a> {
         let (start, end) = self.part(&range);
@@ -597,6 +625,7 @@ impl<'a> Bits<'a> {
     /// assert!(set.as_bits().zeroes_in(4..65).eq([64]));
     /// ```
     #[inline]
+    #[must_use]
     #[track_caller]
     pub fn zeroes_in<T: IndexRange>(self, range: T) -> Zeroes<'a> {
         let (start, end) = self.part(&range);
@@ -616,6 +645,7 @@ impl<'a> Bits<'a> {
     /// assert_eq!(set.as_bits().union_count(other.as_bits()), 4);
     /// ```
     #[inline]
+    #[must_use]
     pub fn union_count(self, other: Bits<'_>) -> usize {
         self.view.union_count(other.view, &mut Steps::new())
     }
@@ -633,6 +663,7 @@ impl<'a> Bits<'a> {
     /// assert_eq!(set.as_bits().intersection_count(other.as_bits()), 1);
     /// ```
     #[inline]
+    #[must_use]
     pub fn intersection_count(self, other: Bits<'_>) -> usize {
         self.view.intersection_count(other.view, &mut Steps::new())
     }
@@ -649,6 +680,7 @@ impl<'a> Bits<'a> {
     /// assert_eq!(set.as_bits().difference_count(other.as_bits()), 2);
     /// ```
     #[inline]
+    #[must_use]
     pub fn difference_count(self, other: Bits<'_>) -> usize {
         self.view.difference_count(other.view, &mut Steps::new())
     }
@@ -667,6 +699,7 @@ impl<'a> Bits<'a> {
     /// assert_eq!(count, 3);
     /// ```
     #[inline]
+    #[must_use]
     pub fn symmetric_difference_count(self, other: Bits<'_>) -> usize {
         self.view
             .symmetric_difference_count(other.view, &mut Steps::new())
@@ -684,6 +717,7 @@ impl<'a> Bits<'a> {
     /// assert!(set.as_bits().is_disjoint(other.as_bits()));
     /// ```
     #[inline]
+    #[must_use]
     pub fn is_disjoint(self, other: Bits<'_>) -> bool {
         self.view.is_disjoint(other.view, &mut Steps::new())
     }
@@ -700,6 +734,7 @@ impl<'a> Bits<'a> {
     /// assert!(set.as_bits().is_subset(other.as_bits()));
     /// ```
     #[inline]
+    #[must_use]
     pub fn is_subset(self, other: Bits<'_>) -> bool {
         self.view.is_subset(other.view, &mut Steps::new())
     }
@@ -716,6 +751,7 @@ impl<'a> Bits<'a> {
     /// assert!(set.as_bits().is_superset(other.as_bits()));
     /// ```
     #[inline]
+    #[must_use]
     pub fn is_superset(self, other: Bits<'_>) -> bool {
         self.view.is_superset(other.view, &mut Steps::new())
     }
@@ -735,6 +771,7 @@ impl<'a> Bits<'a> {
     /// assert_eq!(lacking, Some(1));
     /// ```
     #[inline]
+    #[must_use]
     pub fn first_lacking(self, other: Bits<'_>) -> Option<usize> {
         self.view.first_lacking(other.view, &mut Steps::new())
     }

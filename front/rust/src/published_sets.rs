@@ -25,6 +25,7 @@ impl FixedBitSet {
     /// assert_eq!(set.as_slice(), [0, 0].as_slice());
     /// ```
     #[inline]
+    #[must_use]
     pub fn with_capacity(bits: usize) -> Self {
         let set = set::FixedBitSet::with_capacity(Global::Abort, bits).or_abort();
         FixedBitSet { set }
@@ -66,6 +67,7 @@ impl FixedBitSet {
     /// assert!(set.contains(66) && !set.contains(67));
     /// ```
     #[inline]
+    #[must_use]
     pub fn with_capacity_and_blocks<I: IntoIterator<Item = Block>>(bits: usize, blocks: I) -> Self {
         let set = set::FixedBitSet::with_capacity_and_blocks(Global::Abort, bits, blocks).or_abort();
         FixedBitSet { set }
@@ -173,6 +175,7 @@ impl FixedBitSet {
     /// assert_eq!(set.as_slice(), [9, 2].as_slice());
     /// ```
     #[inline]
+    #[must_use]
     pub fn from_bits(bits: Bits<'_>) -> Self {
         let set = set::FixedBitSet::from_bits(Global::Abort, bits.view).or_abort();
         FixedBitSet { set }
@@ -244,6 +247,7 @@ impl FixedBitSet {
     /// assert_eq!(set.count_ones(..), 2);
     /// ```
     #[inline]
+    #[must_use]
     pub fn len(&self) -> usize {
         self.set.len()
     }
@@ -259,6 +263,7 @@ impl FixedBitSet {
     /// assert_eq!(set.as_slice(), [1 << 63, 3].as_slice());
     /// ```
     #[inline]
+    #[must_use]
     pub fn as_slice(&self) -> &[Block] {
         self.as_bits().as_slice()
     }
@@ -276,6 +281,7 @@ impl FixedBitSet {
     /// assert!(!set.contains(usize::MAX));
     /// ```
     #[inline]
+    #[must_use]
     pub fn contains(&self, bit: usize) -> bool {
         self.as_bits().contains(bit)
     }
@@ -504,6 +510,7 @@ impl FixedBitSet {
     /// assert_eq!(set.count_ones(9..9), 0);
     /// ```
     #[inline]
+    #[must_use]
     #[track_caller]
     pub fn count_ones<T: IndexRange>(&self, range: T) -> usize {
         self.as_bits().count_ones(range)
@@ -524,6 +531,7 @@ impl FixedBitSet {
     /// assert_eq!(set.count_zeroes(63..66), 2);
     /// ```
     #[inline]
+    #[must_use]
     #[track_caller]
     pub fn count_zeroes<T: IndexRange>(&self, range: T) -> usize {
         self.as_bits().count_zeroes(range)
@@ -632,6 +640,7 @@ impl FixedBitSet {
     /// assert!(set.contains_all_in_range(9..9));
     /// ```
     #[inline]
+    #[must_use]
     #[track_caller]
     pub fn contains_all_in_range<T: IndexRange>(&self, range: T) -> bool {
         self.as_bits().contains_all_in_range(range)
@@ -653,6 +662,7 @@ impl FixedBitSet {
     /// assert!(!set.contains_any_in_range(64..64));
     /// ```
     #[inline]
+    #[must_use]
     #[track_caller]
     pub fn contains_any_in_range<T: IndexRange>(&self, range: T) -> bool {
         self.as_bits().contains_any_in_range(range)
@@ -670,6 +680,7 @@ impl FixedBitSet {
     /// assert!(set.is_clear() && !set.is_empty());
     /// ```
     #[inline]
+    #[must_use]
     pub fn is_empty(&self) -> bool {
         self.set.is_empty()
     }
@@ -688,6 +699,7 @@ impl FixedBitSet {
     /// assert!(!set.is_clear());
     /// ```
     #[inline]
+    #[must_use]
     pub fn is_clear(&self) -> bool {
         self.as_bits().is_clear()
     }
@@ -707,6 +719,7 @@ impl FixedBitSet {
     /// assert_eq!(set.minimum(), Some(64));
     /// ```
     #[inline]
+    #[must_use]
     pub fn minimum(&self) -> Option<usize> {
         self.as_bits().minimum()
     }
@@ -726,6 +739,7 @@ impl FixedBitSet {
     /// assert_eq!(set.maximum(), Some(129));
     /// ```
     #[inline]
+    #[must_use]
     pub fn maximum(&self) -> Option<usize> {
         self.as_bits().maximum()
     }
@@ -743,6 +757,7 @@ impl FixedBitSet {
     /// assert!(set.is_full());
     /// ```
     #[inline]
+    #[must_use]
     pub fn is_full(&self) -> bool {
         self.as_bits().is_full()
     }
@@ -997,6 +1012,7 @@ impl FixedBitSet {
     /// assert_eq!(set.union_count(&other), 4);
     /// ```
     #[inline]
+    #[must_use]
     pub fn union_count(&self, other: &FixedBitSet) -> usize {
         self.as_bits().union_count(other.as_bits())
     }
@@ -1013,6 +1029,7 @@ impl FixedBitSet {
     /// assert_eq!(set.intersection_count(&other), 1);
     /// ```
     #[inline]
+    #[must_use]
     pub fn intersection_count(&self, other: &FixedBitSet) -> usize {
         self.as_bits().intersection_count(other.as_bits())
     }
@@ -1029,6 +1046,7 @@ impl FixedBitSet {
     /// assert_eq!(other.difference_count(&set), 1);
     /// ```
     #[inline]
+    #[must_use]
     pub fn difference_count(&self, other: &FixedBitSet) -> usize {
         self.as_bits().difference_count(other.as_bits())
     }
@@ -1045,6 +1063,7 @@ impl FixedBitSet {
     /// assert_eq!(set.symmetric_difference_count(&other), 3);
     /// ```
     #[inline]
+    #[must_use]
     pub fn symmetric_difference_count(&self, other: &FixedBitSet) -> usize {
         self.as_bits().symmetric_difference_count(other.as_bits())
     }
@@ -1061,6 +1080,7 @@ impl FixedBitSet {
     /// assert!(set.is_disjoint(&FixedBitSet::from_iter([0, 65])));
     /// ```
     #[inline]
+    #[must_use]
     pub fn is_disjoint(&self, other: &FixedBitSet) -> bool {
         self.as_bits().is_disjoint(other.as_bits())
     }
@@ -1078,6 +1098,7 @@ impl FixedBitSet {
     /// assert!(!other.is_subset(&set));
     /// ```
     #[inline]
+    #[must_use]
     pub fn is_subset(&self, other: &FixedBitSet) -> bool {
         self.as_bits().is_subset(other.as_bits())
     }
@@ -1094,6 +1115,7 @@ impl FixedBitSet {
     /// assert!(!longer.is_superset(&set));
     /// ```
     #[inline]
+    #[must_use]
     pub fn is_superset(&self, other: &FixedBitSet) -> bool {
         self.as_bits().is_superset(other.as_bits())
     }
@@ -1112,6 +1134,7 @@ impl FixedBitSet {
     /// assert_eq!(other.first_lacking(&set), Some(1));
     /// ```
     #[inline]
+    #[must_use]
     pub fn first_lacking(&self, other: &FixedBitSet) -> Option<usize> {
         self.as_bits().first_lacking(other.as_bits())
     }
@@ -1324,6 +1347,7 @@ impl FixedBitSet {
     /// assert!(part.ones().eq([0, 2]));
     /// ```
     #[inline]
+    #[must_use]
     #[track_caller]
     pub fn slice<T: IndexRange>(&self, range: T) -> Self {
         let (start, end) = self.as_bits().part(&range);
@@ -1401,6 +1425,7 @@ impl FixedBitSet {
     /// assert_eq!(set.load(70, 0), 0);
     /// ```
     #[inline]
+    #[must_use]
     #[track_caller]
     pub fn load(&self, start: usize, width: usize) -> u64 {
         self.as_bits().load(start, width)
@@ -1558,6 +1583,7 @@ impl FixedBitSet {
     /// assert_eq!(set.as_slice(), [844].as_slice());
     /// ```
     #[inline]
+    #[must_use]
     pub fn from_bytes(bits: usize, source: &[u8]) -> Self {
         let set = set::FixedBitSet::from_bytes(Global::Abort, bits, source).or_abort();
         FixedBitSet { set }
@@ -1596,6 +1622,7 @@ impl FixedBitSet {
     /// assert_eq!(data.as_slice(), [4, 2, 0, 0, 0, 0, 0, 0].as_slice());
     /// ```
     #[inline]
+    #[must_use]
     pub fn to_bytes(&self) -> Vec<u8> {
         self.set.to_bytes(Global::Abort).or_abort().0
     }
@@ -1703,6 +1730,7 @@ impl FixedBitSet {
     /// assert_eq!(set.next_one(130), None);
     /// ```
     #[inline]
+    #[must_use]
     pub fn next_one(&self, from: usize) -> Option<usize> {
         self.as_bits().next_one(from)
     }
@@ -1721,6 +1749,7 @@ impl FixedBitSet {
     /// assert_eq!(set.next_zero(200), None);
     /// ```
     #[inline]
+    #[must_use]
     pub fn next_zero(&self, from: usize) -> Option<usize> {
         self.as_bits().next_zero(from)
     }
@@ -1743,6 +1772,7 @@ impl FixedBitSet {
     /// assert_eq!(set.next_common(&other, 71), None);
     /// ```
     #[inline]
+    #[must_use]
     pub fn next_common(&self, other: &FixedBitSet, from: usize) -> Option<usize> {
         self.as_bits().next_common(other.as_bits(), from)
     }
@@ -1764,6 +1794,7 @@ impl FixedBitSet {
     /// assert_eq!(set.nth_one(3), None);
     /// ```
     #[inline]
+    #[must_use]
     pub fn nth_one(&self, index: usize) -> Option<usize> {
         self.as_bits().nth_one(index)
     }
@@ -1786,6 +1817,7 @@ impl FixedBitSet {
     /// assert_eq!(set.first_gap(100, 0), None);
     /// ```
     #[inline]
+    #[must_use]
     pub fn first_gap(&self, count: usize, from: usize) -> Option<usize> {
         self.as_bits().first_gap(count, from)
     }
@@ -1813,6 +1845,7 @@ impl FixedBitSet {
     /// assert_eq!(set.first_aligned_gap(3, 4, 9..14), None);
     /// ```
     #[inline]
+    #[must_use]
     #[track_caller]
     pub fn first_aligned_gap<T: IndexRange>(
         &self,
@@ -1836,6 +1869,7 @@ impl FixedBitSet {
     /// assert_eq!(set.previous_one(64), None);
     /// ```
     #[inline]
+    #[must_use]
     pub fn previous_one(&self, below: usize) -> Option<usize> {
         self.as_bits().previous_one(below)
     }
@@ -1854,6 +1888,7 @@ impl FixedBitSet {
     /// assert_eq!(set.previous_zero(0), None);
     /// ```
     #[inline]
+    #[must_use]
     pub fn previous_zero(&self, below: usize) -> Option<usize> {
         self.as_bits().previous_zero(below)
     }
@@ -1870,6 +1905,7 @@ impl FixedBitSet {
     /// assert_eq!(items.as_slice(), [3, 64].as_slice());
     /// ```
     #[inline]
+    #[must_use]
     pub fn ones(&self) -> Ones<'_> {
         self.as_bits().ones()
     }
@@ -1886,6 +1922,7 @@ impl FixedBitSet {
     /// assert_eq!(items.as_slice(), [64, 9, 3].as_slice());
     /// ```
     #[inline]
+    #[must_use]
     pub fn into_ones(self) -> IntoOnes {
         let walk = self.set.into_ones();
         IntoOnes { walk }
@@ -1904,6 +1941,7 @@ impl FixedBitSet {
     /// assert_eq!(items.as_slice(), [0, 65].as_slice());
     /// ```
     #[inline]
+    #[must_use]
     pub fn zeroes(&self) -> Zeroes<'_> {
         self.as_bits().zeroes()
     }
@@ -1926,6 +1964,7 @@ impl FixedBitSet {
     /// assert_eq!(set.ones_in(..=60).next(), Some(60));
     /// ```
     #[inline]
+    #[must_use]
     #[track_caller]
     pub fn ones_in<T: IndexRange>(&self, range: T) -> Ones<'_> {
         self.as_bits().ones_in(range)
@@ -1948,6 +1987,7 @@ impl FixedBitSet {
     /// assert!(set.zeroes_in(58..132).eq([58, 59, 130, 131]));
     /// ```
     #[inline]
+    #[must_use]
     #[track_caller]
     pub fn zeroes_in<T: IndexRange>(&self, range: T) -> Zeroes<'_> {
         self.as_bits().zeroes_in(range)
@@ -1966,6 +2006,7 @@ impl FixedBitSet {
     /// assert!(set.runs().eq([(3, 4), (60, 130)]));
     /// ```
     #[inline]
+    #[must_use]
     pub fn runs(&self) -> Runs<'_> {
         self.as_bits().runs()
     }
@@ -1983,6 +2024,7 @@ impl FixedBitSet {
     /// assert!(set.zero_runs().eq([(0, 60), (130, 200)]));
     /// ```
     #[inline]
+    #[must_use]
     pub fn zero_runs(&self) -> Runs<'_> {
         self.as_bits().zero_runs()
     }
@@ -2001,6 +2043,7 @@ impl FixedBitSet {
     /// assert_eq!(items.as_slice(), [3, 64].as_slice());
     /// ```
     #[inline]
+    #[must_use]
     pub fn intersection<'a>(&'a self, other: &'a FixedBitSet) -> Intersection<'a> {
         self.as_bits().intersection(other.as_bits())
     }
@@ -2018,6 +2061,7 @@ impl FixedBitSet {
     /// assert_eq!(items.as_slice(), [1, 200].as_slice());
     /// ```
     #[inline]
+    #[must_use]
     pub fn difference<'a>(&'a self, other: &'a FixedBitSet) -> Difference<'a> {
         self.as_bits().difference(other.as_bits())
     }
@@ -2036,6 +2080,7 @@ impl FixedBitSet {
     /// assert_eq!(items.as_slice(), [9, 200, 3].as_slice());
     /// ```
     #[inline]
+    #[must_use]
     pub fn union<'a>(&'a self, other: &'a FixedBitSet) -> Union<'a> {
         self.as_bits().union(other.as_bits())
     }
@@ -2054,6 +2099,7 @@ impl FixedBitSet {
     /// assert_eq!(items.as_slice(), [200, 3].as_slice());
     /// ```
     #[inline]
+    #[must_use]
     pub fn symmetric_difference<'a>(&'a self, other: &'a FixedBitSet) -> SymmetricDifference<'a> {
         self.as_bits().symmetric_difference(other.as_bits())
     }

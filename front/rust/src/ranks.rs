@@ -34,6 +34,7 @@ impl<'a> Ranks<'a> {
     /// let set: FixedBitSet = [3, 64, 70].into_iter().collect();
     /// assert_eq!(Ranks::of(&set).rank(usize::MAX), 3);
     /// ```
+    #[must_use]
     pub fn of(set: &'a FixedBitSet) -> Self {
         let ranks = bitranks::Ranks::of(Global::Abort, &set.set).or_abort();
         Ranks { set, ranks }
@@ -64,6 +65,7 @@ impl<'a> Ranks<'a> {
     /// assert_eq!(Ranks::of(&set).set().len(), 71);
     /// ```
     #[inline]
+    #[must_use]
     pub fn set(&self) -> &'a FixedBitSet {
         self.set
     }
@@ -80,6 +82,7 @@ impl<'a> Ranks<'a> {
     /// assert_eq!([3, 4, 70, 1000].map(|position| ranks.rank(position)), [0, 1, 2, 3]);
     /// ```
     #[inline]
+    #[must_use]
     pub fn rank(&self, position: usize) -> usize {
         self.ranks.rank(position)
     }
@@ -96,6 +99,7 @@ impl<'a> Ranks<'a> {
     /// assert_eq!([0, 1, 2, 3].map(|index| ranks.select(index)), [Some(3), Some(64), Some(70), None]);
     /// ```
     #[inline]
+    #[must_use]
     pub fn select(&self, index: usize) -> Option<usize> {
         self.ranks.select(index)
     }

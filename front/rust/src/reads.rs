@@ -12,6 +12,7 @@ impl Bits<'_> {
     /// assert_eq!(set.len(), 70);
     /// ```
     #[inline]
+    #[must_use]
     pub fn len(self) -> usize {
         self.view.length
     }
@@ -25,6 +26,7 @@ impl Bits<'_> {
     /// assert!(Bits::over(&[], 0).unwrap().is_empty());
     /// ```
     #[inline]
+    #[must_use]
     pub fn is_empty(self) -> bool {
         self.len() == 0
     }

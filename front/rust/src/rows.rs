@@ -4,6 +4,7 @@ use crate::proved::bitrows::table;
 use crate::shim::alloc::Global;
 use crate::{panics, AllocError, Ones};
 use core::fmt::{Debug, Formatter, Result as Written};
+use core::hash::{Hash, Hasher};
 
 /// A table of bits: so many rows of so many columns.
 ///
@@ -38,6 +39,7 @@ impl BitRows {
     /// let table = BitRows::new(3, 70);
     /// assert!(!table.get(2, 69));
     /// ```
+    #[must_use]
     #[track_caller]
     pub fn new(rows: usize, columns: usize) -> Self {
         let table = table::BitRows::new(Global::Abort, rows, columns).or_abort();
@@ -68,6 +70,7 @@ impl BitRows {
     /// assert_eq!(BitRows::new(3, 70).rows(), 3);
     /// ```
     #[inline]
+    #[must_use]
     pub fn rows(&self) -> usize {
         self.table.rows()
     }
@@ -81,6 +84,7 @@ impl BitRows {
     /// assert_eq!(BitRows::new(3, 70).columns(), 70);
     /// ```
     #[inline]
+    #[must_use]
     pub fn columns(&self) -> usize {
         self.table.columns()
     }
@@ -96,6 +100,7 @@ impl BitRows {
     /// assert!(table.get(1, 69) && !table.get(2, 69) && !table.get(3, 70));
     /// ```
     #[inline]
+    #[must_use]
     pub fn get(&self, row: usize, column: usize) -> bool {
         row < self.rows() && self.table.get(row, column)
     }
@@ -163,6 +168,7 @@ impl BitRows {
     /// assert_eq!(table.row(1).rev().collect::<Vec<_>>(), [69, 3]);
     /// ```
     #[inline]
+    #[must_use]
     #[track_caller]
     pub fn row(&self, row: usize) -> Ones<'_> {
         let rows = self.rows();
@@ -190,6 +196,36 @@ impl BitRows {
     /// ```
     pub fn close(&mut self) {
         self.table.close();
+    }
+}
+
+impl BitRows {
+    /// A row that is there, as a set.
+    fn bits(&self, row: usize) -> crate::Bits<'_> {
+        let view = self.table.as_rows().row(row);
+        crate::Bits { view }
+    }
+}
+
+/// Proved: of two rows whether they are equal ([contract](crate::contracts#fixedbitsetbitsis_equal)).
+impl PartialEq for BitRows {
+    /// Whether both have the same numbers of rows and of columns, and the same bits.
+    fn eq(&self, other: &Self) -> bool {
+        let rows = self.rows();
+        let is_like = rows == other.rows() && self.columns() == other.columns();
+        is_like && (0..rows).all(|row| self.bits(row) == other.bits(row))
+    }
+}
+
+/// Proved: of two rows that they are equal exactly where their positions are
+/// ([contract](crate::contracts#fixedbitsetbitsis_equal)).
+impl Eq for BitRows {}
+
+/// Not proved: it feeds the number of rows, and each row as a set.
+impl Hash for BitRows {
+    fn hash<H: Hasher>(&self, state: &mut H) {
+        self.rows().hash(state);
+        (0..self.rows()).for_each(|row| self.bits(row).hash(state));
     }
 }
 

@@ -178,7 +178,8 @@ pub mod prelude {
 /// A row of numbers. A call that may take memory asks for all of it first, and what follows is that of Rust's own `Vec`.
 pub mod row {
     use super::alloc::{AllocError, Global};
-    use alloc::{collections::TryReserveError, vec};
+    use alloc::vec;
+    use core::alloc::Layout;
     use core::ops::{Deref, DerefMut};
 
     /// From so many numbers on a new row is zeroed by the allocator, which writes none of them. (For fewer that takes longer.)
@@ -207,14 +208,15 @@ pub mod row {
         #[inline(never)]
         fn try_with_capacity(count: usize) -> Result<Self, AllocError> {
             let mut row = vec::Vec::new();
-            row.try_reserve_exact(count).map_err(refused::<T>(count))?;
+            row.try_reserve_exact(count)
+                .map_err(refused::<T, _>(count))?;
             Ok(Vec(row))
         }
 
         #[inline]
         pub(crate) fn reserve(&mut self, more: usize) -> Result<(), AllocError> {
             let count = self.0.len().saturating_add(more);
-            self.0.try_reserve(more).map_err(refused::<T>(count))
+            self.0.try_reserve(more).map_err(refused::<T, _>(count))
         }
     }
 
@@ -227,7 +229,7 @@ pub mod row {
                 if let Global::Try = alloc {
                     drop(core::hint::black_box(Self::try_with_capacity(count)?));
                 }
-                return Ok(Vec(long(item, count)));
+                return Ok(Vec(long(item, count)?));
             }
             let mut row = Self::with_capacity(alloc, count)?;
             row.0.resize(count, item);
@@ -285,12 +287,14 @@ pub mod row {
 
     #[cold]
     #[inline(never)]
-    fn long<T: Clone>(item: T, count: usize) -> vec::Vec<T> {
-        alloc::vec![item; count]
+    fn long<T: Clone>(item: T, count: usize) -> Result<vec::Vec<T>, AllocError> {
+        // (Rust's own vector would panic there, and name this file.)
+        Layout::array::<T>(count).map_err(refused::<T, _>(count))?;
+        Ok(alloc::vec![item; count])
     }
 
     /// What makes the error where there is no memory for so many.
-    fn refused<T>(count: usize) -> impl FnOnce(TryReserveError) -> AllocError {
+    fn refused<T, E>(count: usize) -> impl FnOnce(E) -> AllocError {
         let bytes = count.saturating_mul(core::mem::size_of::<T>());
         move |_| AllocError { bytes }
     }

@@ -1,8 +1,9 @@
 //! Sets over words that someone else owns. Upstream has none.
 use crate::proved::bitlanes::Steps;
 use crate::proved::fixedbitset::views;
-use crate::{panics, Block, FixedBitSet};
+use crate::{panics, ArrayBitSet, Block, FixedBitSet};
 use core::cmp::Ordering;
+use core::hash::{Hash, Hasher};
 
 /// A set over borrowed words, to be read: to a [`FixedBitSet`] what a slice is to a `Vec`.
 ///
@@ -64,10 +65,13 @@ pub struct BitsMut<'a> {
 ///
 /// ```
 /// # use fixedbitset::storage_words;
+/// static WORDS: [fixedbitset::Block; storage_words(100)] = [9, 1 << 35, 0, 0];
+/// assert!(fixedbitset::Bits::over(&WORDS, 100).is_some());
 /// assert_eq!([0, 1, 256, 257].map(storage_words), [0, 4, 4, 8]);
 /// ```
 #[inline]
-pub fn storage_words(bits: usize) -> usize {
+#[must_use]
+pub const fn storage_words(bits: usize) -> usize {
     views::storage_words(bits)
 }
 
@@ -84,6 +88,7 @@ impl<'a> Bits<'a> {
     /// assert!(Bits::over(&[8, 63], 70).is_none());
     /// ```
     #[inline]
+    #[must_use]
     pub fn over(words: &'a [Block], length: usize) -> Option<Self> {
         let view = views::Bits::over(words, length)?;
         Some(Bits { view })
@@ -103,6 +108,7 @@ impl<'a> BitsMut<'a> {
     /// assert_eq!(words, [8, 0, 0, 0]);
     /// ```
     #[inline]
+    #[must_use]
     pub fn over(words: &'a mut [Block], length: usize) -> Option<Self> {
         let view = views::BitsMut::over(words, length)?;
         Some(BitsMut { view })
@@ -124,6 +130,7 @@ impl<'a> BitsMut<'a> {
     /// assert_eq!(words, [8, 3, 0, 0]);
     /// ```
     #[inline]
+    #[must_use]
     #[track_caller]
     pub fn settle(words: &'a mut [Block], length: usize, kept: usize) -> Self {
         if words.len() != storage_words(length) {
@@ -147,6 +154,7 @@ impl<'a> BitsMut<'a> {
     /// assert_eq!(set.as_bits().count_ones(..), 2);
     /// ```
     #[inline]
+    #[must_use]
     pub fn as_bits(&self) -> Bits<'_> {
         let view = self.view.as_bits();
         Bits { view }
@@ -164,6 +172,7 @@ impl FixedBitSet {
     /// assert_eq!(set.as_bits(), Bits::over(&[9, 0, 0, 0], 4).unwrap());
     /// ```
     #[inline]
+    #[must_use]
     pub fn as_bits(&self) -> Bits<'_> {
         let view = self.set.as_bits();
         Bits { view }
@@ -220,6 +229,42 @@ impl Ord for Bits<'_> {
     #[inline]
     fn cmp(&self, other: &Self) -> Ordering {
         self.view.compare(other.view, &mut Steps::new())
+    }
+}
+
+/// Proved: the words ([contract](crate::contracts#fixedbitsetbitsas_slice)). That they are fed after the length is not.
+impl Hash for Bits<'_> {
+    /// Feeds the length, and then the words that it needs as one slice. (Its length says how many they are.)
+    #[inline]
+    fn hash<H: Hasher>(&self, state: &mut H) {
+        self.len().hash(state);
+        Block::hash_slice(self.as_slice(), state);
+    }
+}
+
+/// Declares that a set feeds a hasher what its view feeds.
+macro_rules! hashes {
+    ($($name:ty $(where [$($of:tt)*])?;)*) => { $(
+        /// Proved: the words ([contract](crate::contracts#fixedbitsetbitsas_slice)). That they are fed after the length is not.
+        impl$(<$($of)*>)? Hash for $name {
+            #[inline]
+            fn hash<H: Hasher>(&self, state: &mut H) {
+                self.as_bits().hash(state);
+            }
+        }
+    )* };
+}
+hashes! {
+    FixedBitSet;
+    ArrayBitSet<WORDS> where [const WORDS: usize];
+}
+
+/// Proved: the result, for any two sets ([contract](crate::contracts#fixedbitsetbitsis_equal)). A set with a view on its right
+/// cannot be: `set == positions.collect()` would no longer say what is collected.
+impl PartialEq<FixedBitSet> for Bits<'_> {
+    #[inline]
+    fn eq(&self, other: &FixedBitSet) -> bool {
+        *self == other.as_bits()
     }
 }
 

@@ -4,7 +4,7 @@ use crate::proved::bitlanes::word::take_lowest_bit;
 use crate::proved::bitlanes::Steps;
 use crate::proved::bitwalks::{self, in_turn::InTurn};
 use crate::proved::bitwords::cursors::{Beside, Cursor, Inverted, Plain};
-use crate::{panics, Block};
+use crate::{panics, ArrayBitSet, Bits, Block, FixedBitSet};
 use core::fmt::{Debug, Formatter, Result};
 use core::iter::FusedIterator;
 
@@ -256,6 +256,28 @@ walks! {
     Union<'_>: usize, take_first, take_last, debug_set, in_turn;
     SymmetricDifference<'_>: usize, take_first, take_last, debug_set, in_turn;
     Runs<'_>: (usize, usize), next, next_back, debug_list, as_rust_has_them;
+}
+
+/// Declares that `for position in set` goes over the positions of the set.
+macro_rules! loops {
+    ($($name:ty $(where [$($of:tt)*])? => $walk:ty, $ones:ident;)*) => { $(
+        /// Proved: each item ([contract](crate::contracts#fixedbitsetbitsones)).
+        impl$(<$($of)*>)? IntoIterator for $name {
+            type Item = usize;
+            type IntoIter = $walk;
+
+            #[inline]
+            fn into_iter(self) -> $walk {
+                self.$ones()
+            }
+        }
+    )* };
+}
+loops! {
+    FixedBitSet => IntoOnes, into_ones;
+    &'a FixedBitSet where ['a] => Ones<'a>, ones;
+    Bits<'a> where ['a] => Ones<'a>, ones;
+    &'a ArrayBitSet<WORDS> where ['a, const WORDS: usize] => Ones<'a>, ones;
 }
 
 impl Ones<'_> {

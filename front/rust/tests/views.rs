@@ -601,6 +601,7 @@ fn a_set_lends_its_words() {
                 )
                 .unwrap()
         );
-        assert!(FixedBitSet::from(copied) == set);
+        let made = FixedBitSet::from(copied);
+        assert!(made == set);
     }
 }

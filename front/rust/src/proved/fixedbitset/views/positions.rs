@@ -353,7 +353,7 @@ impl<'a> BitsMut<'a> {
 /// assert_eq!(views::storage_words(257), 8);
 /// ```
 #[inline]
-pub fn storage_words(bits: usize) -> usize {
+pub const fn storage_words(bits: usize) -> usize {
     lanes::LANE * bits.div_ceil(BITS).div_ceil(lanes::LANE)
 }
 
