@@ -1,5 +1,6 @@
 """The figures of the runs, as the files in results/ have them, and the kinds that calls and lines are shown by."""
 import csv
+import math
 import pathlib
 import re
 from collections import namedtuple
@@ -33,7 +34,17 @@ KINDS = [
     ("`hash`, text", r"hash|to_string"),
     ("single positions, `clear`", r""),
 ]
-# The calls that upstream does not have: there its side is a loop of front/bench/theirs.rs.
+# The calls that upstream does not have: there its side is a loop of front/bench/theirs.rs. Below, what that is for each kind.
+BESIDE = {
+    "runs, gaps, `ones_in`": "`ones`, item by item; `difference(..).next()` for `first_lacking`",
+    "shifts, slices, `append`": "a loop over the words",
+    "rank and select": "a count for each eighth word; `count_ones(..p)`",
+    "bit matrices": "a set for each row",
+    "`union_of` and the like": "`clone_from`, then `union_with`",
+    "the same, which report a change": "`is_subset`, then `union_with`",
+    "`next_one`": "upstream's `ones` (for a loop of `next_one`), or a loop over the words",
+    "single positions, `clear`": "a loop of `remove`; words by masks",
+}
 BEYOND = re.compile(
     r"append|close|first_gap|first_lacking|load|next_one|ones_in|rank|remove_all|runs|select|shift_|slice|store"
     r"|\w+_of\b(?! )|union_rows|\w+_with_(?:change|difference|shifted|own_shift)")
@@ -92,6 +103,20 @@ def rounded(ours, theirs):
 def ratios_of_calls():
     """The ratios of the crate for Rust to upstream's."""
     return [Ratio(it["processor"], it["call"], int(it["bits"]), rounded(it["ours"], it["upstream"])) for it in rows(TIMES)]
+
+
+def ratios_of_own_calls(processor):
+    """The ratios of upstream's own calls on a processor, not rounded, by kind in the order of use."""
+    taken = {kind: [] for kind, _ in KINDS_IN_USE}
+    for row in rows(TIMES):
+        if row["processor"] == processor and not is_beyond(row["call"]):
+            taken[kind_of(row["call"], KINDS_IN_USE)].append(float(row["ours"]) / float(row["upstream"]))
+    return taken
+
+
+def mean(ratios):
+    """The geometric mean."""
+    return math.exp(sum(map(math.log, ratios)) / len(ratios))
 
 
 def ratios_of_lines():

@@ -1,7 +1,7 @@
 //! Times the positions of a set written to a list, beside loops that write them to a list of as many places and eight more:
 //! as quick as we know how to list positions, for the limits.
 
-use crate::declared::{Lent, Walk, bits_ones, bits_words};
+use crate::declared::{Lent, Walk, bits_ones, bits_ones_take, bits_ones_take_u32, bits_words};
 use crate::turns::turns;
 use std::hint::black_box;
 use std::ptr::NonNull;
@@ -122,13 +122,6 @@ fn by_table(words: &[usize], list: &mut [usize]) -> usize {
     count
 }
 
-unsafe extern "C" {
-    #[link_name = "fixedbitset_bits_ones_take"]
-    fn bits_ones_take(walk: &mut Walk, positions: *mut usize, room: usize) -> usize;
-    #[link_name = "fixedbitset_bits_ones_take_u32"]
-    fn bits_ones_take_u32(walk: &mut Walk, positions: *mut u32, room: usize) -> usize;
-}
-
 /// A walk over the set of these words.
 fn walk_over(words: &[usize]) -> Walk {
     let set = Lent {
@@ -143,12 +136,14 @@ fn walk_over(words: &[usize]) -> Walk {
 
 /// The call: all that such a walk gives.
 fn taken(words: &[usize], list: &mut [usize]) -> usize {
-    unsafe { bits_ones_take(&mut walk_over(words), list.as_mut_ptr(), list.len()) }
+    let (places, room) = (NonNull::from(&mut *list).cast(), list.len());
+    unsafe { bits_ones_take(&mut walk_over(words), places, room) }
 }
 
 /// The same in places of 32 bits.
 fn taken_u32(words: &[usize], list: &mut [u32]) -> usize {
-    unsafe { bits_ones_take_u32(&mut walk_over(words), list.as_mut_ptr(), list.len()) }
+    let (places, room) = (NonNull::from(&mut *list).cast(), list.len());
+    unsafe { bits_ones_take_u32(&mut walk_over(words), places, room) }
 }
 
 /// The words of a set of which about so many of a hundred thousand positions are set, in no order.
