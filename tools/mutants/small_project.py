@@ -162,8 +162,8 @@ def write_project(top):
         write_edit(top / "edits", "numbers", name, file, old, new, GOALS.get(name))
     for name, old, new, _ in APART:
         write_edit(top / "apart", "numbers", name, "src/lib.rt", old, new)
-    for name, old, new, _ in CONTROLS:
-        write_edit(top / "edits", "numbers", name, "src/lib.rt", old, new, kind="controls")
+    texts = [f"edit: {name}\nfile: src/lib.rt\nold: {old}\nnew: {new}\n" for name, old, new, _ in CONTROLS]
+    write(top / "edits/crates/numbers/controls.edits", "\n".join(texts))
     for name, (divisor, new, _) in PARTS.items():
         write(top / "crates" / name / "src/lib.rt", PART.replace("2", divisor))
         write_edit(top / "edits", name, "part-other", "src/lib.rt", f"    number / {divisor}", new)
@@ -179,6 +179,6 @@ def write(path, text):
     path.write_text(text)
 
 
-def write_edit(edits, crate, name, file, old, new, goal=None, kind="must-fail"):
+def write_edit(edits, crate, name, file, old, new, goal=None):
     text = f"file: {file}\nold: {old}\nnew: {new}\n" + (f"# goal: {goal}\n" if goal else "")
-    write(edits / "crates" / crate / kind / f"{name}.edit", text)
+    write(edits / "crates" / crate / "must-fail" / f"{name}.edit", text)

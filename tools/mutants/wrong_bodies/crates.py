@@ -109,7 +109,12 @@ class Crate:
         return f"{home}::{function.symbol.removeprefix(home + '::')}".removeprefix("::")
 
     def edits(self):
-        return [Edit(self, file) for file in sorted(self.edits_folder.glob("*.edit"))]
+        """Its edits, each in a file of its own, or all in one: there each begins with a line that has its name."""
+        file = self.edits_folder.with_suffix(".edits")
+        if not file.is_file():
+            return [Edit(self, it) for it in sorted(self.edits_folder.glob("*.edit"))]
+        _, *parts = re.split(r"(?m)^edit: (.+)\n", file.read_text())
+        return [Edit(self, file, *named) for named in zip(parts[::2], parts[1::2])]
 
 
 class Edit:
@@ -122,9 +127,9 @@ class Edit:
     symbols     the functions that judge it
     reach       the functions and the files of lemmas that rest on what it changes, or None where that is not known
     """
-    def __init__(self, crate, file):
-        self.crate, self.name = crate, file.name.removesuffix(".edit")
-        self.file, text = file, file.read_text()
+    def __init__(self, crate, file, name=None, text=None):
+        self.crate, self.file, self.name = crate, file, name or file.name.removesuffix(".edit")
+        text = file.read_text() if text is None else text
         self.pairs, (self.goal, self.others) = pairs_of(text), goals.named_in(text)
         changes = []
         self.is_bad = self.applied({}, changes) is None
