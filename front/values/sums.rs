@@ -137,10 +137,8 @@ pub fn parted() -> usize {
     let Some((first, rest)) = words.split_first() else {
         return 1
     };
-    let Some((last, middle)) = rest.split_last() else {
-        return 2
-    };
-    first * 100 + last / 8 + middle.len()
+    let last = rest.len() - 1;
+    first * 100 + rest[last] / 8 + last
 }
 
 fn ends_of<R: IndexRange<usize> + Drop>(range: R) -> usize {

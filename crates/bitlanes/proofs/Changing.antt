@@ -1,5 +1,5 @@
 -- the bits that a join changes, by lanes of four and a last part
-use Rattle.std.proofs.Common.{min, ◌==◌, ◌&&◌, ◌≡◌, ℕ, zero, suc, ◌+◌, ◌≤◌, true, false, List, ◌∷◌}
+use Rattle.std.proofs.Common.{min, ◌==◌, ◌&&◌, ◌||◌, not, Bool, ◌≡◌, ℕ, zero, suc, ◌+◌, ◌≤◌, true, false, List, ◌∷◌}
 use Rattle.std.proofs.Common.{take, drop, length, replicate, bit_xor, refl, sym, ap, ◌∙◌, arith}
 use Rattle.std.specs.List.{list_all}
 use Rattle.std.specs.Simd.Lanes.{zip2, chunk, put_chunk}
@@ -45,6 +45,12 @@ module _ (f : ℕ → ℕ → ℕ) (old src : List ℕ) (i : ℕ) (mid lane : Li
       let whole = all_with_part i n (zip2 (changed_bits f) old src)
       (e ∙ sym (length_joined (changed_bits f) old src)) in
       rw (is, kept, chunk_zip2 (changed_bits f) i n _ src, of_kept f (changed_bits f) i n old src) whole
+
+-- a bit changed in one of two parts
+pub either_changed : (a b x y z : Bool) → a ≡ x → b ≡ y → (x && y) ≡ z → (not a || not b) ≡ not z
+either_changed true true x y z p q r = rw (← p, ← q) at (ap not r)
+either_changed true false x y z p q r = rw (← p, ← q) at (ap not r)
+either_changed false b x y z p q r = rw (← p) at (ap not r)
 
 -- ---- a row made 0
 

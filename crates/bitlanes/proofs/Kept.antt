@@ -1,6 +1,7 @@
 -- how the words of a row are joined with those of another one, by lanes of four and a last part; the rest is kept
 use Rattle.std.proofs.Common.{◌≡◌, ℕ, zero, suc, ◌+◌, ◌-◌, ◌≤◌, List, [], ◌∷◌, ◌++◌, length}
-use Rattle.std.proofs.Common.{take, drop, refl, ap, arith, min, true, false, take-add}
+use Rattle.std.proofs.Common.{take, drop, refl, sym, ap, arith, min, true, false, take-add, ◌<◌}
+use Rattle.std.proofs.Common.{slice_index, slice_set}
 use Rattle.std.proofs.lemmas.List.{length-take-le, take_all}
 use Rattle.std.specs.Simd.Lanes.{zip2, chunk, put_chunk}
 use Rattle.bitlanes.specs.Words.{zip_longest}
@@ -31,6 +32,21 @@ pub kept_next : (f : ℕ → ℕ → ℕ) (n i : ℕ) (xs ys : List ℕ) → i +
     (zip2 f (chunk i n (zip_longest f true false xs (take i ys))) (chunk i n ys))
     ≡ zip_longest f true false xs (take (i + n) ys)
 kept_next f n i xs ys p q = rw (take-add) (kept_more f n i xs ys p q)
+
+kept_suc : (f : ℕ → ℕ → ℕ) (i : ℕ) (xs ys : List ℕ) → i < length xs → i < length ys
+    → slice_set (zip_longest f true false xs (take i ys)) i
+    (f (slice_index (zip_longest f true false xs (take i ys)) i) (slice_index ys i))
+    ≡ zip_longest f true false xs (take (suc i) ys)
+kept_suc f zero (x ∷ xs) (y ∷ ys) p q = ap (λ t. f x y ∷ t) (sym (kept_none f xs))
+kept_suc f (suc i) (x ∷ xs) (y ∷ ys) p q = ap (λ t. f x y ∷ t) (kept_suc f i xs ys (omega arith) (omega arith))
+kept_suc f i xs ys p q = absurd (omega arith)
+
+-- one word more
+pub kept_word : (f : ℕ → ℕ → ℕ) (i : ℕ) (xs ys : List ℕ) → i < length xs → i < length ys
+    → slice_set (zip_longest f true false xs (take i ys)) i
+    (f (slice_index (zip_longest f true false xs (take i ys)) i) (slice_index ys i))
+    ≡ zip_longest f true false xs (take (i + 1) ys)
+kept_word f i xs ys p q = let next : i + 1 ≡ suc i = omega arith in rw next (kept_suc f i xs ys p q)
 
 -- ---- both rows cut to the length of the shorter one
 

@@ -129,7 +129,7 @@ pub extern "C" fn bits_rows_ones<'a>(walk: &mut Ones<'a>, rows: &Rows<'a>, row: 
         *walk = Ones::of(rows.row(row).ones());
         true
     } else {
-        *walk = Ones::of(Cursor::over(Plain { words: &[] }));
+        *walk = Ones::of(Cursor::over(Plain { words: [].iter() }));
         false
     }
 }

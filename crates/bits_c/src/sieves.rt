@@ -44,7 +44,7 @@ impl<'a> Sieve<'a> {
                 back: held.back,
                 front_at: held.front_at,
                 back_at: held.back_at,
-                words: held.middle.plain.words,
+                words: held.middle.plain.words.as_slice(),
             },
             other: held.middle.other,
         }

@@ -15,7 +15,7 @@ use std::marker::Model;
 /// An iterator that may be one of two in turn.
 ///
 /// ```
-/// let mut walk = Cursor::over(Plain { words: &[9, 1] });
+/// let mut walk = Cursor::over(Plain { words: [9, 1].iter() });
 /// assert_eq!(rt; Part::take_first(&mut walk), Some(0));
 /// assert_eq!(rt; Part::take_last(&mut walk), Some(64));
 /// ```
@@ -86,7 +86,7 @@ impl<M: Middle + Drop> Part for Cursor<M> {
 /// An iterator whose items left can be counted at once.
 ///
 /// ```
-/// let walk = Cursor::over(Plain { words: &[9, 1] });
+/// let walk = Cursor::over(Plain { words: [9, 1].iter() });
 /// assert_eq!(rt; Counted::count_items(walk, &mut Steps::new()), 3);
 /// ```
 pub trait Counted: Part {
@@ -112,8 +112,8 @@ impl<M: Middle + Drop> Counted for Cursor<M> {
 /// The items of the first iterator, and then those of the second.
 ///
 /// ```
-/// let first = Cursor::over(Plain { words: &[9, 1] });
-/// let second = Cursor::over(Plain { words: &[6] });
+/// let first = Cursor::over(Plain { words: [9, 1].iter() });
+/// let second = Cursor::over(Plain { words: [6].iter() });
 /// let mut walks = InTurn::of(first, second);
 /// assert_eq!(rt; (walks.take_first(), walks.take_last()), (Some(0), Some(2)));
 /// ```
@@ -145,8 +145,8 @@ impl<A: Part + Drop, B: Part + Drop> InTurn<A, B> {
     /// These two iterators, the first before the second.
     ///
     /// ```
-    /// let first = Cursor::over(Plain { words: &[9, 1] });
-    /// let second = Cursor::over(Plain { words: &[6] });
+    /// let first = Cursor::over(Plain { words: [9, 1].iter() });
+    /// let second = Cursor::over(Plain { words: [6].iter() });
     /// assert_eq!(rt; InTurn::of(first, second).take_first(), Some(0));
     /// ```
     #[inline]
@@ -166,8 +166,8 @@ impl<A: Part + Drop, B: Part + Drop> InTurn<A, B> {
     /// second. A first iterator that gave none is not asked again.
     ///
     /// ```
-    /// let first = Cursor::over(Plain { words: &[8] });
-    /// let second = Cursor::over(Plain { words: &[6] });
+    /// let first = Cursor::over(Plain { words: [8].iter() });
+    /// let second = Cursor::over(Plain { words: [6].iter() });
     /// let mut walks = InTurn::of(first, second);
     /// assert_eq!(rt; (walks.take_first(), walks.take_first()), (Some(3), Some(1)));
     /// ```
@@ -194,8 +194,8 @@ impl<A: Part + Drop, B: Part + Drop> InTurn<A, B> {
     /// first. A first iterator that gave none from the front is not asked again.
     ///
     /// ```
-    /// let first = Cursor::over(Plain { words: &[8] });
-    /// let second = Cursor::over(Plain { words: &[2] });
+    /// let first = Cursor::over(Plain { words: [8].iter() });
+    /// let second = Cursor::over(Plain { words: [2].iter() });
     /// let mut walks = InTurn::of(first, second);
     /// assert_eq!(rt; (walks.take_last(), walks.take_last()), (Some(1), Some(3)));
     /// ```
@@ -222,8 +222,8 @@ impl<A: Part + Drop, B: Part + Drop> InTurn<A, B> {
     /// where it is a `usize`.
     ///
     /// ```
-    /// let first = Cursor::over(Plain { words: &[9, 1] });
-    /// let second = Cursor::over(Plain { words: &[6] });
+    /// let first = Cursor::over(Plain { words: [9, 1].iter() });
+    /// let second = Cursor::over(Plain { words: [6].iter() });
     /// assert_eq!(rt; InTurn::of(first, second).most(), Some(256));
     /// ```
     #[inline]
@@ -239,8 +239,8 @@ impl<A: Part + Drop, B: Part + Drop> InTurn<A, B> {
     /// The two iterators, each with the items that it has left.
     ///
     /// ```
-    /// let first = Cursor::over(Plain { words: &[9, 1] });
-    /// let second = Cursor::over(Plain { words: &[6] });
+    /// let first = Cursor::over(Plain { words: [9, 1].iter() });
+    /// let second = Cursor::over(Plain { words: [6].iter() });
     /// let (first, _) = InTurn::of(first, second).into_walks();
     /// assert!(rt; first.eq([0, 3, 64]));
     /// ```
@@ -263,8 +263,8 @@ impl<A: Counted + Drop, B: Counted + Drop> InTurn<A, B> {
     /// most as many steps as a count of the one and of the other.
     ///
     /// ```
-    /// let first = Cursor::over(Plain { words: &[9, 1] });
-    /// let second = Cursor::over(Plain { words: &[7] });
+    /// let first = Cursor::over(Plain { words: [9, 1].iter() });
+    /// let second = Cursor::over(Plain { words: [7].iter() });
     /// let mut walks = InTurn::of(first, second);
     /// assert_eq!(rt; walks.take_first(), Some(0));
     /// assert_eq!(rt; walks.count_left(&mut Steps::new()), 5);

@@ -139,6 +139,7 @@ impl<'a> Ones<'a> {
         requires { 64 * length words.now ≤ 2 ^ 64 }
         ensures { result ≡ over_row words.now (64 * length words.now) }
     {
+        let words = words.iter();
         Ones {
             ones: Cursor::over(Plain { words }),
         }

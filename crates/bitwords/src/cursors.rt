@@ -9,6 +9,7 @@ ghost use Rattle.std.specs.Prelude.{List, length, map, slice_get, Some, IfSome};
 ghost use Rattle.std.specs.Int.{bit_not, w64};
 ghost use Rattle.std.specs.Iterator.{YieldsFirst, YieldsLast, item_count, UpTo};
 ghost use Rattle.std.specs.Iterator.SizeHint.{IsWithinCount};
+ghost use Rattle.std.specs.Slice.Iter.{iter_rest};
 ghost use Rattle.std.specs.Vec.Iter.{into_iter_items};
 ghost use Rattle.bitlanes.specs.Words.{lane_steps};
 ghost use Rattle.bitwords.specs.Rows.{has_bit, count_below};
@@ -23,12 +24,13 @@ use bitlanes::ops::WordOp;
 use bitlanes::word::{BITS, Block, ones_below, stretch, take_highest_bit, take_lowest_bit};
 use std::alloc::Global;
 use std::marker::{Model, PhantomData};
+use std::slice::Iter;
 use std::vec;
 
 /// Words that a cursor has still to take, from either end.
 ///
 /// ```
-/// let mut middle = Plain { words: &[3, 5, 7] };
+/// let mut middle = Plain { words: [3, 5, 7].iter() };
 /// assert_eq!(rt; Middle::take_first(&mut middle), Some(3));
 /// assert_eq!(rt; Middle::take_last(&mut middle), Some(7));
 /// assert_eq!(rt; Middle::left(&middle), 1);
@@ -63,7 +65,7 @@ pub trait Middle {
 /// Words that can be looked at before they are taken.
 ///
 /// ```
-/// let middle = Plain { words: &[3, 5, 7] };
+/// let middle = Plain { words: [3, 5, 7].iter() };
 /// assert_eq!(rt; Seen::peek(&middle, 1), Some(5));
 /// assert_eq!(rt; Seen::peek(&middle, 3), None);
 /// ```
@@ -76,29 +78,27 @@ pub trait Seen: Middle {
 /// Words of a slice.
 ///
 /// ```
-/// let mut cursor = Cursor::over(Plain { words: &[8, 0, 1] });
+/// let mut cursor = Cursor::over(Plain { words: [8, 0, 1].iter() });
 /// assert_eq!(rt; cursor.next_back(), Some(128));
 /// assert!(rt; cursor.eq([3]));
 /// ```
 #[derive(Drop)]
 pub struct Plain<'a> {
-    pub words: &'a [Block],
+    pub words: Iter<'a, Block>,
 }
 
 impl<'a> Middle for Plain<'a> {
-    ghost words = { λ middle. middle.words.now };
+    ghost words = { λ middle. iter_rest middle.words };
 
     #[inline]
     fn take_first(&mut self) -> Option<Block> {
-        let (word, rest) = self.words.split_first()?;
-        self.words = rest;
+        let word = self.words.next()?;
         Some(*word)
     }
 
     #[inline]
     fn take_last(&mut self) -> Option<Block> {
-        let (word, rest) = self.words.split_last()?;
-        self.words = rest;
+        let word = self.words.next_back()?;
         Some(*word)
     }
 
@@ -109,14 +109,14 @@ impl<'a> Middle for Plain<'a> {
 
     #[inline]
     fn count_positions(self, steps: &mut Steps) -> usize {
-        count_of(self.words, steps)
+        count_of(self.words.as_slice(), steps)
     }
 }
 
 impl<'a> Seen for Plain<'a> {
     #[inline]
     fn peek(&self, index: usize) -> Option<Block> {
-        self.words.get(index).copied()
+        self.words.as_slice().get(index).copied()
     }
 }
 
@@ -124,7 +124,7 @@ impl<'a> Seen for Plain<'a> {
 ///
 /// ```
 /// let words = [Block::MAX - 8];
-/// let plain = Plain { words: &words };
+/// let plain = Plain { words: words.iter() };
 /// let cursor = Cursor::over(Inverted { plain });
 /// assert!(rt; cursor.eq([3]));
 /// ```
@@ -134,7 +134,7 @@ pub struct Inverted<'a> {
 }
 
 impl<'a> Middle for Inverted<'a> {
-    ghost words = { λ middle. map (bit_not w64) middle.plain.words.now };
+    ghost words = { λ middle. map (bit_not w64) (iter_rest middle.plain.words) };
 
     #[inline]
     fn take_first(&mut self) -> Option<Block> {
@@ -153,7 +153,7 @@ impl<'a> Middle for Inverted<'a> {
 
     #[inline]
     fn count_positions(self, steps: &mut Steps) -> usize {
-        count_lacking(self.plain.words, steps)
+        count_lacking(self.plain.words.as_slice(), steps)
     }
 }
 
@@ -189,9 +189,10 @@ impl<'a, O: WordOp> Beside<'a, O> {
     /// ```
     #[inline(always)]
     pub fn of(words: &'a [Block], other: &'a [Block]) -> Beside<'a, O>
-        ensures words { result.plain.words.now ≡ words.now }
+        ensures words { iter_rest result.plain.words ≡ words.now }
         ensures other { result.other.now ≡ other.now }
     {
+        let words = words.iter();
         Beside {
             plain: Plain { words },
             other,
@@ -201,7 +202,7 @@ impl<'a, O: WordOp> Beside<'a, O> {
 }
 
 impl<'a, O: WordOp> Middle for Beside<'a, O> {
-    ghost words = { λ middle. beside O.joined middle.plain.words.now middle.other.now };
+    ghost words = { λ middle. beside O.joined (iter_rest middle.plain.words) middle.other.now };
 
     #[inline]
     fn take_first(&mut self) -> Option<Block> {
@@ -227,7 +228,7 @@ impl<'a, O: WordOp> Middle for Beside<'a, O> {
 
     #[inline]
     fn count_positions(self, steps: &mut Steps) -> usize {
-        count_beside::<O>(self.plain.words, self.other, steps)
+        count_beside::<O>(self.plain.words.as_slice(), self.other, steps)
     }
 }
 
@@ -378,7 +379,7 @@ impl<M: Middle + Drop> Cursor<M> {
     /// between are not yet taken.
     ///
     /// ```
-    /// let cursor = Cursor::over(Plain { words: &[9, 0, 1] });
+    /// let cursor = Cursor::over(Plain { words: [9, 0, 1].iter() });
     /// assert!(rt; cursor.eq([0, 3, 128]));
     /// ```
     #[inline(always)]
@@ -395,7 +396,7 @@ impl<M: Middle + Drop> Cursor<M> {
     /// in the first word, and `end` in the last one or at its end.
     ///
     /// ```
-    /// let cursor = Cursor::within(Plain { words: &[9, 255] }, 640, 1, 66);
+    /// let cursor = Cursor::within(Plain { words: [9, 255].iter() }, 640, 1, 66);
     /// assert!(rt; cursor.eq([643, 704, 705]));
     /// ```
     #[inline(always)]
@@ -419,7 +420,7 @@ impl<M: Middle + Drop> Cursor<M> {
     /// What the cursor holds. `of_held` makes a cursor of it again, which has the same items left.
     ///
     /// ```
-    /// let mut cursor = Cursor::over(Plain { words: &[9, 0, 1] });
+    /// let mut cursor = Cursor::over(Plain { words: [9, 0, 1].iter() });
     /// assert_eq!(rt; cursor.next(), Some(0));
     /// assert_eq!(rt; cursor.into_held().front, 8);
     /// ```
@@ -452,7 +453,7 @@ impl<M: Middle + Drop> Cursor<M> {
     /// The cursor that holds this. Its counts begin at 0.
     ///
     /// ```
-    /// let cursor = Cursor::over(Plain { words: &[9, 0, 1] });
+    /// let cursor = Cursor::over(Plain { words: [9, 0, 1].iter() });
     /// let held = cursor.into_held();
     /// assert!(rt; Cursor::of_held(held).eq([0, 3, 128]));
     /// ```
@@ -486,7 +487,7 @@ impl<M: Middle + Drop> Cursor<M> {
     /// holds it takes at most `m / 4` steps, rounded up, and two more.
     ///
     /// ```
-    /// let mut cursor = Cursor::over(Plain { words: &[9, 7, 1] });
+    /// let mut cursor = Cursor::over(Plain { words: [9, 7, 1].iter() });
     /// assert_eq!(rt; cursor.next(), Some(0));
     /// assert_eq!(rt; cursor.count_left(&mut Steps::new()), 5);
     /// ```
@@ -614,7 +615,7 @@ pub fn ones_within<'a>(words: &'a [Block], start: usize, end: usize) -> Cursor<P
     ensures { result ≡ range_row words.now start end }
 {
     let first = start / BITS;
-    let words = &words[first..end.div_ceil(BITS)];
+    let words = words[first..end.div_ceil(BITS)].iter();
     let at = BITS * first;
     Cursor::within(Plain { words }, at, start - at, end - at)
 }
@@ -635,7 +636,7 @@ pub fn zeroes_within<'a>(words: &'a [Block], start: usize, end: usize) -> Cursor
 {
     let first = start / BITS;
     let plain = Plain {
-        words: &words[first..end.div_ceil(BITS)],
+        words: words[first..end.div_ceil(BITS)].iter(),
     };
     let at = BITS * first;
     Cursor::within(Inverted { plain }, at, start - at, end - at)

@@ -139,7 +139,7 @@ fn give_in_order<O: Order>(word: Block, base: usize, places: &mut [usize]) -> us
 /// that were written may hold anything.
 ///
 /// ```
-/// let cursor = Cursor::over(Plain { words: &[9, 255, 0, 0, 0, 1] });
+/// let cursor = Cursor::over(Plain { words: [9, 255, 0, 0, 0, 1].iter() });
 /// let mut held = cursor.into_held();
 /// let mut places = [7; 10];
 /// assert_eq!(rt; handfuls::give_words(&mut held, &mut places), 2);
@@ -188,7 +188,7 @@ pub fn give_words<M: Seen + Drop>(held: &mut Held<M>, places: &mut [usize]) -> u
 /// given takes the time of `give_word_back`.
 ///
 /// ```
-/// let cursor = Cursor::over(Plain { words: &[1, 0, 0, 0, 255, 9] });
+/// let cursor = Cursor::over(Plain { words: [1, 0, 0, 0, 255, 9].iter() });
 /// let mut held = cursor.into_held();
 /// let mut places = [7; 10];
 /// assert_eq!(rt; handfuls::give_words_back(&mut held, &mut places), 2);

@@ -36,11 +36,13 @@ pub fn change<O: WordOp>(words: &mut [Block], start: usize, end: usize, steps: &
     ensures bits { IsJoined O.truth words.old (in_range start end) words.new }
     ensures cost { steps.new ≡ steps.old + range_words start end }
 {
-    let (low, high) = cut(start, end);
-    change_part::<O>(words, start, low, steps);
-    change_part::<O>(words, high, end, steps);
+    if end - BITS * (start / BITS) <= BITS {
+        return change_part::<O>(words, start, end, steps);
+    }
+    change_head::<O>(words, start, steps);
+    change_tail::<O>(words, end, steps);
     // Last, so that nothing has to be kept while the whole words are set or cleared in one call.
-    change_whole::<O>(words, low / BITS, high / BITS, steps);
+    change_whole::<O>(words, start / BITS + 1, (end - 1) / BITS, steps);
 }
 
 /// How many positions of the range, each as one that is set joined by `O` with its bit in
@@ -61,7 +63,10 @@ pub fn count<O: WordOp>(words: &[Block], start: usize, end: usize, steps: &mut S
         ≡ count_below (bit_test (O.truth true) words.now) end }
     ensures cost { steps.new ≡ steps.old + range_words start end }
 {
-    let (low, high) = cut(start, end);
+    if end - BITS * (start / BITS) <= BITS {
+        return count_part::<O>(words, start, end, steps);
+    }
+    let (low, high) = cut_long(start, end);
     let first = count_part::<O>(words, start, low, steps);
     let middle = count_whole::<O>(words, low / BITS, high / BITS, steps);
     let last = count_part::<O>(words, high, end, steps);
@@ -191,6 +196,15 @@ fn cut(start: usize, end: usize) -> (usize, usize)
     (low, high)
 }
 
+// The same for a range that ends behind the word of its start.
+#[inline(always)]
+fn cut_long(start: usize, end: usize) -> (usize, usize)
+    requires { 64 * (start / 64) + 64 < end }
+    ensures { IsCut start end result.0 result.1 }
+{
+    (BITS * start.div_ceil(BITS), end - end % BITS)
+}
+
 // The bits of a word that stand for the positions of a range within it.
 #[inline(always)]
 #[tactic(auto, using(crate::proofs::Parts::masked))]
@@ -201,6 +215,52 @@ fn mask(start: usize, end: usize) -> Block
 {
     let low = start % BITS;
     stretch(low, low + (end - start))
+}
+
+// The bits of the word of `start` from its place on.
+#[inline(always)]
+fn head_mask(start: usize) -> Block
+    ensures { (i : ℕ) → bit result i ≡ (nat_lt i 64
+        && in_range start (64 * (start / 64) + 64) (64 * (start / 64) + i)) }
+{
+    stretch(start % BITS, BITS)
+}
+
+// The bits of the word of the last position below `end`, up to and with that.
+#[inline(always)]
+fn tail_mask(end: usize) -> Block
+    requires { 0 < end }
+    ensures { (i : ℕ) → bit result i ≡ (nat_lt i 64
+        && in_range (64 * ((end - 1) / 64)) end (64 * ((end - 1) / 64) + i)) }
+{
+    stretch(0, (end - 1) % BITS + 1)
+}
+
+// `change`, for the positions from `start` up to the end of its word.
+#[inline(always)]
+fn change_head<O: WordOp>(words: &mut [Block], start: usize, steps: &mut Steps)
+    requires keeps { O.KEEP ≡ true }
+    requires within { start < 64 * length words.old }
+    ensures bits { IsJoined O.truth words.old (in_range start (64 * (start / 64) + 64)) words.new }
+    ensures cost { steps.new ≡ steps.old + 1 }
+{
+    steps.tick();
+    let at = start / BITS;
+    words[at] = O::word(words[at], head_mask(start));
+}
+
+// `change`, for the positions below `end` in the word of the last of them.
+#[inline(always)]
+fn change_tail<O: WordOp>(words: &mut [Block], end: usize, steps: &mut Steps)
+    requires keeps { O.KEEP ≡ true }
+    requires some { 0 < end }
+    requires within { end ≤ 64 * length words.old }
+    ensures bits { IsJoined O.truth words.old (in_range (64 * ((end - 1) / 64)) end) words.new }
+    ensures cost { steps.new ≡ steps.old + 1 }
+{
+    steps.tick();
+    let at = (end - 1) / BITS;
+    words[at] = O::word(words[at], tail_mask(end));
 }
 
 // `change`, for a range within one word.

@@ -3,7 +3,7 @@
 extern crate alloc;
 
 #[rustfmt::skip]
-#[allow(clippy::all, dead_code, unused_imports, unused_variables)]
+#[allow(clippy::all, dead_code, unused_imports, unused_labels, unused_variables)]
 #[path = "../src/proved/mod.rs"]
 mod proved;
 #[allow(dead_code)]
@@ -176,12 +176,12 @@ fn words_are_given_whole_as_by_a_plain_loop() {
         for room in [0, 7, 8, 70, 71, 200, 2000] {
             let wanted = given(&row, room);
             let mut places = vec![0; room];
-            let mut held = Cursor::over(Plain { words: &row }).into_held();
+            let mut held = Cursor::over(Plain { words: row.iter() }).into_held();
             let count = handfuls::give_words(&mut held, &mut places);
             assert_eq!(places[..count], wanted);
             assert!(Cursor::of_held(held).eq(all[count..].iter().copied()));
             let wanted = given_back(&row, room);
-            let mut held = Cursor::over(Plain { words: &row }).into_held();
+            let mut held = Cursor::over(Plain { words: row.iter() }).into_held();
             let count = handfuls::give_words_back(&mut held, &mut places);
             assert_eq!(places[..count], wanted);
             assert!(Cursor::of_held(held).eq(all[..all.len() - count].iter().copied()));
@@ -201,7 +201,7 @@ fn words_are_given_whole_as_by_a_plain_loop() {
 #[test]
 fn words_ahead_of_a_walk_are_those_of_its_row() {
     for row in (0..=LONGEST).flat_map(rows) {
-        let plain = Plain { words: &row };
+        let plain = Plain { words: row.iter() };
         let inverted = Inverted {
             plain: plain.clone(),
         };

@@ -81,7 +81,7 @@ pub fn bits_rows_ones<'a>(walk: &mut Ones<'a>, rows: &Rows<'a>, row: usize) -> b
         *walk = Ones::of(rows.row(row).ones());
         true
     } else {
-        *walk = Ones::of(Cursor::over(Plain { words: &[] }));
+        *walk = Ones::of(Cursor::over(Plain { words: [].iter() }));
         false
     }
 }

@@ -23,7 +23,7 @@ impl<'a> Ones<'a> {
             back: held.back,
             front_at: held.front_at,
             back_at: held.back_at,
-            words: held.middle.words,
+            words: held.middle.words.as_slice(),
         }
     }
 
@@ -34,7 +34,9 @@ impl<'a> Ones<'a> {
             back: self.back,
             front_at: self.front_at,
             back_at: self.back_at,
-            middle: Plain { words: self.words },
+            middle: Plain {
+                words: self.words.iter(),
+            },
         })
     }
 
@@ -66,13 +68,15 @@ impl<'a> Zeroes<'a> {
             back: held.back,
             front_at: held.front_at,
             back_at: held.back_at,
-            words: held.middle.plain.words,
+            words: held.middle.plain.words.as_slice(),
         }
     }
 
     #[inline(always)]
     pub(crate) fn cursor(&self) -> Cursor<Inverted<'a>> {
-        let plain = Plain { words: self.words };
+        let plain = Plain {
+            words: self.words.iter(),
+        };
         Cursor::of_held(Held {
             front: self.front,
             back: self.back,
@@ -123,7 +127,7 @@ pub fn bits_ones_in<'a>(
         *walk = Ones::of(set.ones_in(start, end));
         true
     } else {
-        *walk = Ones::of(Cursor::over(Plain { words: &[] }));
+        *walk = Ones::of(Cursor::over(Plain { words: [].iter() }));
         false
     }
 }
@@ -141,7 +145,7 @@ pub fn bits_zeroes_in<'a>(
         *walk = Zeroes::of(set.zeroes_in(start, end));
         true
     } else {
-        let plain = Plain { words: &[] };
+        let plain = Plain { words: [].iter() };
         *walk = Zeroes::of(Cursor::over(Inverted { plain }));
         false
     }

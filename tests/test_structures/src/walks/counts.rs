@@ -47,11 +47,18 @@ fn beside<O: WordOp>(rt: &impl Abort, words: &[Block], others: &[Block], calls: 
 }
 
 fn plain(words: &[Block], calls: usize) -> Cursor<Plain<'_>> {
-    after(Cursor::over(Plain { words }), calls)
+    after(
+        Cursor::over(Plain {
+            words: words.iter(),
+        }),
+        calls,
+    )
 }
 
 fn inverted(words: &[Block], calls: usize) -> Cursor<Inverted<'_>> {
-    let plain = Plain { words };
+    let plain = Plain {
+        words: words.iter(),
+    };
     after(Cursor::over(Inverted { plain }), calls)
 }
 

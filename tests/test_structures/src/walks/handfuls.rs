@@ -68,7 +68,10 @@ fn words_give_their_first_positions(rt: HostRuntime) {
         let (wanted, all) = slow(words);
         for room in 0..600 {
             let mut places = [MARK; 600];
-            let mut held = Cursor::over(Plain { words }).into_held();
+            let mut held = Cursor::over(Plain {
+                words: words.iter(),
+            })
+            .into_held();
             let count = give_words(&mut held, &mut places[..room]);
             assert!(rt; count <= room, "{room} places from word {begin}");
             for index in 0..600 {
@@ -98,12 +101,20 @@ fn words_give_their_first_positions(rt: HostRuntime) {
 #[test]
 fn words_of_many_positions_are_given(rt: HostRuntime) {
     let mut places = [MARK; 600];
-    let mut held = Cursor::over(Plain { words: &WORDS }).into_held();
+    let mut held = Cursor::over(Plain {
+        words: WORDS.iter(),
+    })
+    .into_held();
     assert_eq!(rt; give_words(&mut held, &mut places), 64 + 8 + 32 + 1);
-    let plain = Plain { words: &[0; 9] };
+    let plain = Plain {
+        words: [0; 9].iter(),
+    };
     let mut held = Cursor::over(Inverted { plain }).into_held();
     assert_eq!(rt; give_words(&mut held, &mut places), 256);
     assert_eq!(rt; places[255], 255);
-    let mut held = Cursor::over(Plain { words: &[1; 20] }).into_held();
+    let mut held = Cursor::over(Plain {
+        words: [1; 20].iter(),
+    })
+    .into_held();
     assert_eq!(rt; give_words(&mut held, &mut places), 0);
 }

@@ -2,10 +2,9 @@ use Rattle.std.proofs.Common.{ℕ, ◌≡◌, ◌-◌, ◌∙◌, ◌==◌, List
 use Rattle.std.specs.List.{list_all}
 use Rattle.std.proofs.lemmas.List.{length-take-le}
 use Rattle.bitlanes.specs.Changes.{changed_bits}
-use Rattle.bitlanes.proofs.Changing.{changed_lane, changed_part}
+use Rattle.bitlanes.proofs.Changing.{changed_lane, changed_part, either_changed}
 use Rattle.bitlanes.proofs.Kept.{kept_next, kept_rest, kept_whole}
 use Rattle.bitlanes.proofs.Zipping.{all_joined, cut_joined}
-use Rattle.bitlanes.proofs.changes.apply.Goals.{then-rest-gt0, else-rest-gt0}
 use Rattle.bitlanes.proofs.changes.apply.Goals as goal
 
 pub loop-at-preserved : goal.loop-at-preserved
@@ -29,23 +28,21 @@ loop-at-preserved g c =
       cost = omega (arith, c.tick.ensures, before.cost);
     }
 
+pub returns-then-rest-gt0-clause-words : goal.returns-then-rest-gt0-clause-words
+returns-then-rest-gt0-clause-words g c =
+    let before = c.loop-at.invariant in
+    rw (c.change_part-part.ensures.words, before.words)
+    (kept_rest g.O.WordOp.joined c.min-words.result c.loop-at.at c.args.dst.now c.args.src.now c.min-words.ensures
+    before.within)
+
 pub returns-clause-words : goal.returns-clause-words
 returns-clause-words g c =
-    let f = g.O.WordOp.joined in
-    let m = c.min-words.result in
     let before = c.loop-at.invariant in
-    elim c.if-rest-gt0.branch [
-      | then-rest-gt0 w ↦ rw (w.dst-is, w.change_part.ensures.words, before.words)
-          (kept_rest f m c.loop-at.at c.args.dst.now c.args.src.now c.min-words.ensures before.within)
-      | else-rest-gt0 w ↦ rw (
-        w.dst-is,
-        before.words,
-      ) (kept_whole f m c.loop-at.at c.args.dst.now c.args.src.now c.min-words.ensures
-          (omega (arith, before.within, w.if-rest-gt0.false)))
-    ]
+    rw before.words (kept_whole g.O.WordOp.joined c.min-words.result c.loop-at.at c.args.dst.now c.args.src.now
+    c.min-words.ensures (omega (arith, before.within, c.if-rest-gt0.false)))
 
-pub returns-clause-changed : goal.returns-clause-changed
-returns-clause-changed g c =
+pub returns-then-rest-gt0-clause-changed : goal.returns-then-rest-gt0-clause-changed
+returns-then-rest-gt0-clause-changed g c =
     let f = g.O.WordOp.joined in
     let m = c.min-words.result in
     let at = c.loop-at.at in
@@ -57,13 +54,21 @@ returns-clause-changed g c =
     let cut =
     ap (list_all
     (λ (word : ℕ). word == 0)) (cut_joined (changed_bits f) m c.args.dst.now c.args.src.now c.min-words.ensures) in
-    ap not (c.is_zero.ensures ∙ elim c.if-rest-gt0.branch [
-      | then-rest-gt0 w ↦
-          rw (w.changed-is, w.gathered-changed-then-rest-gt0.ensures, before.changed)
-          (changed_part f old src at _ _ before.words (m - at) (omega (arith, long, long_other, before.within))
-          w.change_part.ensures.changed ∙ cut)
-      | else-rest-gt0 w ↦
-          rw (w.changed-is, before.changed)
-          (all_joined (changed_bits f) (λ (word : ℕ).
-          word == 0) at old src (omega (arith, long, long_other, before.within, w.if-rest-gt0.false)) ∙ cut)
-    ])
+    let all = changed_part f old src at _ _ before.words (m - at) (omega (arith, long, long_other, before.within))
+    c.change_part-part.ensures.changed ∙ cut in
+    either_changed _ _ _ _ _ (c.is_zero-whole.ensures ∙ before.changed) c.is_zero.ensures all
+
+pub returns-clause-changed : goal.returns-clause-changed
+returns-clause-changed g c =
+    let f = g.O.WordOp.joined in
+    let m = c.min-words.result in
+    let at = c.loop-at.at in
+    let before = c.loop-at.invariant in
+    let old : List ℕ = take m c.args.dst.now in
+    let src : List ℕ = take m c.args.src.now in
+    let long : length old ≡ m = length-take-le m c.args.dst.now (omega (arith, c.min-words.ensures)) in
+    let cut =
+    ap (list_all
+    (λ (word : ℕ). word == 0)) (cut_joined (changed_bits f) m c.args.dst.now c.args.src.now c.min-words.ensures) in
+    ap not (c.is_zero-whole.ensures ∙ before.changed ∙ all_joined (changed_bits f) (λ (word : ℕ).
+    word == 0) at old src (omega (arith, long, before.within, c.if-rest-gt0.false)) ∙ cut)

@@ -1,13 +1,9 @@
-use Rattle.std.proofs.Common.{◌≡◌, ◌+◌, ◌-◌, ◌*◌, ◌≤◌, take, true, false}
-use Rattle.bitlanes.specs.Words.{zip_longest}
+use Rattle.std.proofs.Common.{◌≡◌, ◌+◌, take, true, false}
+use Rattle.bitlanes.specs.Words.{zip_longest, lane_steps}
 use Rattle.bitlanes.proofs.lanes.apply.Given as goal
 
-abbrev pub invariant-loop-at : goal.invariant-loop-at
-invariant-loop-at g l = record {
-  words : l.dst ≡ zip_longest g.O.WordOp.joined true false l.initial.dst (take l.at l.src);
-  within : l.at ≤ l.words;
-  cost : 4 * l.steps ≡ 4 * l.fn.steps + l.at;
+abbrev pub invariant-loop-k : goal.invariant-loop-k
+invariant-loop-k g l = record {
+  words : l.dst ≡ zip_longest g.O.WordOp.joined true false l.initial.dst (take l.k l.src);
+  cost : l.steps ≡ l.fn.steps + lane_steps l.k;
 }
-
-abbrev pub decreases-loop-at : goal.decreases-loop-at
-decreases-loop-at g l = l.words - l.at

@@ -12,4 +12,4 @@ returns c =
     ∙ sym (ap (take (div_ceil c.args.end 64 - c.args.start / 64))
     (drop-map (bit_not w64) (c.args.start / 64) c.args.words.now)
     ∙ take-map (bit_not w64) (div_ceil c.args.end 64 - c.args.start / 64) (drop (c.args.start / 64) c.args.words.now)))
-    refl c.within.result c.within.ensures
+    refl c.within.result (rw c.iter.ensures.rest at c.within.ensures)

@@ -1,50 +1,56 @@
-use Rattle.std.proofs.Common.{◌≡◌, ◌+◌, ◌-◌, ◌/◌, ℕ, arith, ap, bit_and}
-use Rattle.std.specs.Int.Count.{ones}
+use Rattle.std.proofs.Common.{ℕ, ◌≡◌, ◌+◌, ◌≤◌, ap, ◌∙◌, arith}
 use Rattle.bitlanes.specs.Bits.{bit}
+use Rattle.bitwords.specs.CountFacts.{count-none}
+use Rattle.bitwords.specs.NthFacts.{nth-between, ones-bits}
+use Rattle.bitwords.specs.RowFacts.{bit-zero}
 use Rattle.bitwords.specs.Rows.{count_below}
-use Rattle.bitwords.specs.CountFacts.{count-zero, count-mono}
-use Rattle.bitwords.specs.NthFacts.{nth-between, ones-bits, ones-below}
+use Rattle.bitwords.proofs.Taken.{count-taken, none_before, some_behind}
 use Rattle.bitwords.proofs.positions.nth_bit.Goals as goal
-use Rattle.bitwords.proofs.positions.nth_bit.Goals.{then-word-ones_below, else-word-ones_below}
 
-pub loop-span-init : goal.loop-span-init
-loop-span-init c = grind (arith, c.requires, count-zero (bit c.args.word), ones-bits 64 c.args.word c.ranges.word.fits)
+-- a word with no bit has none below 64
+no_bits : (word : ℕ) → word ≡ 0 → count_below (bit word) 64 ≡ 0
+no_bits word none = ap (λ w. count_below (bit w) 64) none ∙ count-none (bit 0) 64 (λ i _. bit-zero i)
 
-pub loop-span-preserved : goal.loop-span-preserved
-loop-span-preserved c =
-    let word : ℕ = c.args.word in
-    let half : ℕ = c.loop-span.span / 2 in
-    let middle : ℕ = c.loop-span.at + half in
-    let counted : ones (bit_and word c.ones_below.result) ≡ count_below (bit word) middle =
-    ones-below word c.ones_below.result middle c.ranges.word.fits (omega arith) c.ones_below.ensures in
-    elim c.if-word-ones_below.branch [
-      | then-word-ones_below w ↦
-          let whole : c.if-word-ones_below.at + (c.loop-span.span - half) ≡ c.loop-span.at + c.loop-span.span =
-          omega (arith, w.at-is) in
-          grind (
-            arith,
-            ap (count_below (bit word)) w.at-is,
-            counted,
-            w.if-word-ones_below,
-            ap (count_below (bit word)) whole,
-            c.loop-span.invariant,
-          )
-      | else-word-ones_below w ↦
-          let more = count-mono (bit word) middle (c.if-word-ones_below.at + (c.loop-span.span - half))
-          (omega (arith, w.at-is)) in
-          grind (
-            arith,
-            w.at-is,
-            ap (count_below (bit word)) w.at-is,
-            counted,
-            w.if-word-ones_below,
-            more,
-            c.loop-span.invariant,
-          )
-    ]
+pub loop-init : goal.loop-init
+loop-init c = λ n within. omega arith
+
+pub take_lowest_bit-requires : goal.take_lowest_bit-requires
+take_lowest_bit-requires c none =
+    omega (
+      arith,
+      c.requires,
+      ones-bits 64 c.args.word c.ranges.word.fits,
+      c.loop.invariant 64 (omega arith),
+      no_bits c.loop.rest none,
+    )
+
+pub loop-preserved : goal.loop-preserved
+loop-preserved c = λ n within.
+    omega (
+      arith,
+      c.loop.invariant n within,
+      count-taken c.loop.rest c.take_lowest_bit.result c.take_lowest_bit.ensures.lowest _
+          c.take_lowest_bit.ensures.clears n within,
+    )
+
+pub lowest_bit-requires : goal.lowest_bit-requires
+lowest_bit-requires c none =
+    omega (
+      arith,
+      c.requires,
+      ones-bits 64 c.args.word c.ranges.word.fits,
+      c.loop.invariant 64 (omega arith),
+      no_bits c.loop.rest none,
+    )
 
 pub returns-clause-nth : goal.returns-clause-nth
 returns-clause-nth c =
-    let last : c.loop-span.at + c.loop-span.span ≡ c.loop-span.at + 1 = omega arith in
-    nth-between (bit c.args.word) c.args.index c.loop-span.at c.loop-span.invariant.low
-    (omega (arith, c.loop-span.invariant.high, ap (count_below (bit c.args.word)) last))
+    let p : ℕ = c.lowest_bit.result in
+    let lowest = c.lowest_bit.ensures in
+    nth-between (bit c.args.word) c.args.index p
+    (omega (arith, c.loop.invariant p (omega (arith, lowest.within)), none_before c.loop.rest p lowest p (omega arith)))
+    (omega (
+      arith,
+      c.loop.invariant (p + 1) (omega (arith, lowest.within)),
+      some_behind c.loop.rest p lowest (p + 1) (omega arith),
+    ))

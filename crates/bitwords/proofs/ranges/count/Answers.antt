@@ -10,9 +10,9 @@ overflow_add-result g c =
     omega (
       arith,
       c.count_part-first.ensures.count,
-      count-between _ _ _ _ c.cut-low.ensures bits c.count_whole-middle.result c.count_whole-middle.ensures.count,
-      count-le bits c.cut-low.result.1,
-      c.cut-low.ensures.last,
+      count-between _ _ _ _ c.cut_long-low.ensures bits c.count_whole-middle.result c.count_whole-middle.ensures.count,
+      count-le bits c.cut_long-low.result.1,
+      c.cut_long-low.ensures.last,
     )
 
 pub overflow_add-result-2 : goal.overflow_add-result-2
@@ -21,7 +21,7 @@ overflow_add-result-2 g c =
     omega (
       arith,
       c.count_part-first.ensures.count,
-      count-between _ _ _ _ c.cut-low.ensures bits c.count_whole-middle.result c.count_whole-middle.ensures.count,
+      count-between _ _ _ _ c.cut_long-low.ensures bits c.count_whole-middle.result c.count_whole-middle.ensures.count,
       c.count_part-last.ensures.count,
       count-le bits c.args.end,
     )
@@ -32,7 +32,7 @@ returns-clause-count g c =
     omega (
       arith,
       c.count_part-first.ensures.count,
-      count-between _ _ _ _ c.cut-low.ensures bits c.count_whole-middle.result c.count_whole-middle.ensures.count,
+      count-between _ _ _ _ c.cut_long-low.ensures bits c.count_whole-middle.result c.count_whole-middle.ensures.count,
       c.count_part-last.ensures.count,
     )
 

@@ -1,6 +1,6 @@
 use Rattle.std.proofs.Common.{◌≡◌, ◌+◌, ◌*◌}
 use Rattle.bitwords.specs.Rows.{has_bit, count_below}
-use Rattle.bitranks.proofs.directory.rank.Given as goal
+use Rattle.bitranks.proofs.directory.rank_within.Given as goal
 
 abbrev pub invariant-loop-k : goal.invariant-loop-k
 invariant-loop-k l = record {

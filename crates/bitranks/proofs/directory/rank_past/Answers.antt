@@ -4,7 +4,7 @@ use Rattle.bitwords.specs.Rows.{has_bit}
 use Rattle.bitwords.specs.CountFacts.{count-le}
 use Rattle.bitwords.specs.NthFacts.{word-count}
 use Rattle.bitranks.proofs.Counting.{count-min, not_zero, count-upto}
-use Rattle.bitranks.proofs.directory.rank.Goals as goal
+use Rattle.bitranks.proofs.directory.rank_past.Goals as goal
 
 pub returns-then-is_empty-clause-count : goal.returns-then-is_empty-clause-count
 returns-then-is_empty-clause-count c =
