@@ -105,6 +105,21 @@ impl FixedBitSet {
         self.insert(bit);
     }
 
+    pub fn grow_and_put(&mut self, bit: usize) -> bool {
+        self.grow(bit + 1);
+        self.put(bit)
+    }
+
+    pub fn pop_first(&mut self) -> Option<usize> {
+        let first = self.minimum()?;
+        self.take(first).then_some(first)
+    }
+
+    pub fn pop_last(&mut self) -> Option<usize> {
+        let last = self.maximum()?;
+        self.take(last).then_some(last)
+    }
+
     pub fn copy_bit(&mut self, from: usize, to: usize) {
         let enabled = self.contains(from);
         self.set(to, enabled);

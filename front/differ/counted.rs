@@ -28,7 +28,9 @@ mod counted_calls {
         |set, bits, steps| counted::resize(set, bits, false, steps).unwrap(),
         |set, _, steps| counted::clear(set, steps),
     ];
-    const PAIRS: [fn(&mut FixedBitSet, &FixedBitSet, &mut Steps) -> usize; 18] = [
+    const PAIRS: [fn(&mut FixedBitSet, &FixedBitSet, &mut Steps) -> usize; 20] = [
+        |set, _, steps| place(counted::pop_first(set, steps)),
+        |set, _, steps| place(counted::pop_last(set, steps)),
         |set, other, steps| counted::union_count(set, other, steps),
         |set, other, steps| counted::intersection_count(set, other, steps),
         |set, other, steps| counted::difference_count(set, other, steps),

@@ -30,6 +30,8 @@ const MADE: Calls = &[
     |w, s, _, _| { let told = s.is_clear(); w.say(told as u64); }, // is_clear
     |w, s, _, _| { let told = s.minimum(); w.say_if(told); }, // minimum
     |w, s, _, _| { let told = s.maximum(); w.say_if(told); }, // maximum
+    |w, s, _, _| { let told = s.pop_first(); w.say_if(told); }, // pop_first
+    |w, s, _, _| { let told = s.pop_last(); w.say_if(told); }, // pop_last
     |w, s, _, _| { let told = s.is_full(); w.say(told as u64); }, // is_full
     |_, s, t, _| { s.union_with(t); }, // union_with
     |_, s, t, _| { s.symmetric_difference_with(t); }, // symmetric_difference_with
@@ -80,4 +82,5 @@ const MADE: Calls = &[
     |w, s, t, _| { w.walk(s.union(t)); }, // union
     |w, s, t, _| { w.walk(s.symmetric_difference(t)); }, // symmetric_difference
     |w, s, _, _| { let bits = w.length(); if bits < 100_000 { s.grow_and_insert(bits); } }, // grow_and_insert
+    |w, s, _, _| { let bits = w.length(); if bits < 100_000 { let told = s.grow_and_put(bits); w.say(told as u64); } }, // grow_and_put
 ];

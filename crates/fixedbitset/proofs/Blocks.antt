@@ -1,6 +1,6 @@
 -- Words written anew: from an iterator, one alone, or cut at a length; and words that are made 0.
 use Rattle.std.proofs.Common.{◌≡◌, ℕ, zero, suc, ◌-◌, ◌*◌, ◌%◌, ◌^◌, ◌<◌, ◌≤◌, min, ◌&&◌, nat_lt, List, []}
-use Rattle.std.proofs.Common.{◌∷◌, ◌++◌, drop, replicate, length, set, bit_and, refl, sym, ap, ◌∙◌, arith}
+use Rattle.std.proofs.Common.{◌∷◌, ◌++◌, drop, replicate, length, set, slice_set, bit_and, refl, sym, ap, ◌∙◌, arith}
 use Rattle.std.proofs.lemmas.Bool.Decides.{nat_tests}
 use Rattle.std.proofs.lemmas.List.{length-set}
 use Rattle.bitlanes.specs.Bits.{bit}
@@ -103,3 +103,13 @@ keeps_block n ws index value mask clean within masked =
 pub zeroed : (n : ℕ) (ws new : List ℕ) → IsClean n ws → new ≡ replicate (length ws) 0 → Keeps n new (empty n)
 zeroed n ws new clean zeros_all =
     let are : new ≡ zeros (storage_words n) = zeros_all ∙ ap zeros clean.count in rw are (keeps_zeros n clean.fits)
+
+-- a lane of zeros, word by word
+pub four_zeros : (ws : List ℕ) → length ws ≡ 4
+    → slice_set (slice_set (slice_set (slice_set ws 0 0) 1 0) 2 0) 3 0 ≡ replicate (length ws) 0
+four_zeros [] e = absurd (omega (arith, e))
+four_zeros (a ∷ []) e = absurd (omega (arith, e))
+four_zeros (a ∷ b ∷ []) e = absurd (omega (arith, e))
+four_zeros (a ∷ b ∷ c ∷ []) e = absurd (omega (arith, e))
+four_zeros (a ∷ b ∷ c ∷ d ∷ []) e = refl
+four_zeros (a ∷ b ∷ c ∷ d ∷ f ∷ ws) e = absurd (omega (arith, e))

@@ -1,6 +1,7 @@
 -- One word is replaced: what that does to the value.
 use Rattle.std.proofs.Common.{◌≡◌, ◌≢◌, ℕ, ◌*◌, ◌/◌, ◌%◌, ◌^◌, ◌<◌, ◌≤◌, Bool, true, false, cond, not, ◌==◌, List}
 use Rattle.std.proofs.Common.{[], length, get_or, set, refl, sym, ap, ◌∙◌, arith, bit_or, bit_and, bit_xor, lit<}
+use Rattle.std.proofs.Common.{Option, Some, None, IfSome, IfNone}
 use Rattle.std.specs.Int.{bit_at, bit_not, w64}
 use Rattle.std.proofs.lemmas.Bool.Decides.{nat_tests}
 use Rattle.std.proofs.lemmas.List.{length-set}
@@ -11,9 +12,14 @@ use Rattle.bitlanes.specs.BitLaws.{test_of_and}
 use Rattle.bitwords.specs.CountFacts.{indicator}
 use Rattle.bitwords.specs.Rows.{has_bit}
 use Rattle.bitwords.specs.RowFacts.{has_bit-past}
-use Rattle.fixedbitset.specs.Bits.{Bits, contains, insert, remove, set_bit, toggle, empty, of_words}
-use Rattle.fixedbitset.specs.BitsFacts.{length-set_bit, contains-set_bit, length-empty, contains-empty, contains-past}
+use Rattle.fixedbitset.specs.Bits.{Bits, contains, insert, remove, set_bit, toggle, empty, minimum, maximum, of_words}
+use Rattle.fixedbitset.specs.BitsFacts.{length-set_bit, contains-set_bit, length-empty, contains-empty}
+use Rattle.fixedbitset.specs.BitsFacts.{contains_below, contains-past}
+use Rattle.fixedbitset.specs.FirstFacts.{minimum_least}
+use Rattle.fixedbitset.specs.NeighbourFacts.{maximum_greatest}
 use Rattle.fixedbitset.specs.Stored.{IsClean}
+use Rattle.fixedbitset.specs.Views.{held, Becomes}
+use Rattle.fixedbitset.specs.declared.views.BitsMut.{BitsMut}
 use Rattle.fixedbitset.specs.WordsFacts.{length-of_words, has_bit-written}
 use Rattle.fixedbitset.proofs.Words.{Keeps, keeps, contains_word}
 
@@ -93,6 +99,21 @@ module _ (n : ℕ) (ws : List ℕ) (bit : ℕ) (clean : IsClean n ws) (inside : 
   pub read_bit : not (bit_and x (1 * 2 ^ (bit % 64) % 2 ^ 64) == 0) ≡ contains (of_words n ws) bit
   unfolding has_bit
   read_bit = test_of_and x (bit % 64) (omega arith) ∙ contains_word n ws bit clean
+
+-- the first and the last position of words are below the length
+pub first_within : (n : ℕ) (ws : List ℕ) (p : ℕ) → minimum (of_words n ws) ≡ Some p → p < n
+first_within n ws p is =
+    omega (arith, length-of_words n ws, contains_below (of_words n ws) p (minimum_least _ p is).0)
+
+pub last_within : (n : ℕ) (ws : List ℕ) (p : ℕ) → maximum (of_words n ws) ≡ Some p → p < n
+last_within n ws p is =
+    omega (arith, length-of_words n ws, contains_below (of_words n ws) p (maximum_greatest _ p is).0)
+
+-- a call takes out the position that it finds, or finds none: either way it leaves a value
+pub popped : (old new : BitsMut) (found : Option ℕ) → IfSome found (λ p. Becomes old new (remove (held old) p))
+    → IfNone found (Becomes old new (held old)) → (v : Bits) × Becomes old new v
+popped old new None taken unchanged = (held old, unchanged)
+popped old new (Some p) taken unchanged = (remove (held old) p, taken)
 
 -- no position past the length is set
 pub none_past : (v : Bits) (bit : ℕ) → v.length ≤ bit → false ≡ contains v bit

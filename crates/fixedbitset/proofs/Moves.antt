@@ -11,7 +11,7 @@ use Rattle.std.specs.Int.{div_ceil}
 use Rattle.bitlanes.specs.Bits.{bit}
 use Rattle.bitlanes.specs.Shifts.{up_steps}
 use Rattle.bitlanes.specs.Words.{lane_steps}
-use Rattle.bitwords.specs.Steps.{join_steps}
+use Rattle.bitwords.specs.Steps.{join_steps, join_up_steps}
 use Rattle.bitwords.specs.Rows.{has_bit, IsJoined, IsCopied}
 use Rattle.bitwords.specs.RowFacts.{has_bit-past}
 use Rattle.fixedbitset.specs.Bits.{Bits, contains, grow, having, number_at, of_words, storage_words, words_needed}
@@ -176,6 +176,19 @@ up_cost keep n by k long words old mid new used same count left moved =
     let more = up_less low (4 * div_ceil low 4) by (omega arith) in
     rw (moved, left, same, count, used, lanes_upto low (by / 64))
     (swap_behind old (up_steps low by) (up_steps (4 * div_ceil low 4) by) _ more)
+
+-- the same where they are joined with m words of another row that are moved up
+pub join_up_cost : (n m by k long words other old mid new : ℕ) → k ≡ words_needed n → long ≡ k
+    → words ≡ storage_words n → other ≡ storage_words m
+    → mid ≡ old + (join_up_steps words other by - join_up_steps k other by)
+    → new ≡ mid + join_up_steps long other by → new ≡ old + join_up_steps (storage_words n) (storage_words m) by
+join_up_cost n m by k long words other old mid new used same count count_other left moved =
+    let low : ℕ = words_needed n in
+    let high : ℕ = storage_words n in
+    let split : ℕ = min (by % 64) 1 in
+    let lanes = lanes_less (min (low - by / 64 - split) other) (min (high - by / 64 - split) other) (omega arith) in
+    let less : join_up_steps low other by ≤ join_up_steps high other by = omega (arith, lanes) in
+    rw (← count_other, moved, left, same, count, used) (omega (arith, less))
 
 -- ---- what the tests of moved rows mean
 

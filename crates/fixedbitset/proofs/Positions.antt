@@ -5,8 +5,8 @@ use Rattle.std.proofs.Common.{Option, Some, None, is_some, true, false, refl, sy
 use Rattle.std.specs.Int.{bit_not, w64, div_ceil}
 use Rattle.std.specs.List.{last_or}
 use Rattle.std.proofs.Math.Pow.{pow_pos}
-use Rattle.std.proofs.lemmas.Bool.{cases_lt}
-use Rattle.std.proofs.lemmas.Bool.Decides.{nat_tests}
+use Rattle.std.proofs.lemmas.Bool.{cases_lt, false_from_ne_true, true≢false}
+use Rattle.std.proofs.lemmas.Bool.Decides.{nat_tests, same_from_decides}
 use Rattle.std.proofs.lemmas.List.{get_or-map, get_or_past, take_all, length-append}
 use Rattle.bitlanes.specs.BitLaws.{bit-not}
 use Rattle.bitlanes.specs.Ops.{IsWordOp}
@@ -28,8 +28,8 @@ use Rattle.fixedbitset.specs.BitsFacts.{length-complement, contains-complement, 
 use Rattle.fixedbitset.specs.FirstFacts.{minimum_least, minimum_none}
 use Rattle.fixedbitset.specs.MemberFacts.{is_clear-tells}
 use Rattle.fixedbitset.specs.Stored.{IsClean}
-use Rattle.fixedbitset.specs.TwoSets.{intersection, difference}
-use Rattle.fixedbitset.specs.TwoSetsFacts.{length-intersection, contains-intersection}
+use Rattle.fixedbitset.specs.TwoSets.{intersection, difference, is_disjoint}
+use Rattle.fixedbitset.specs.TwoSetsFacts.{length-intersection, contains-intersection, is_disjoint-tells}
 use Rattle.fixedbitset.specs.TwoSetsFacts.{length-difference, contains-difference}
 use Rattle.fixedbitset.specs.WalkFacts.{length-asc}
 use Rattle.fixedbitset.specs.WordsFacts.{length-words, has_bit-words, are_words, words_is, words-asc}
@@ -101,6 +101,15 @@ none_is_clear v (Some p) none same is =
     let one = (minimum_least v p (sym same)).0 in
     let clear : is_clear v ≡ true → contains v p ≡ false = λ e. (is_clear-tells v).0 e p in
     grind (arith, one, clear)
+
+-- a set is apart from itself exactly where it has no position
+pub apart_from_itself : (v : Bits) → is_disjoint v v ≡ is_clear v
+apart_from_itself v =
+    let apart = is_disjoint-tells v v in
+    same_from_decides (is_disjoint v v) (is_clear v) (
+      λ e p. false_from_ne_true _ (λ one. apart.0 e p one one),
+      λ none. apart.1 (λ p one _. true≢false (sym one ∙ none p)),
+    ) (is_clear-tells v)
 
 module _ (v : Bits) where
   abbrev inverted : List ℕ

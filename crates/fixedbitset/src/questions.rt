@@ -1,12 +1,13 @@
 //! Questions about one whole set: whether it has no position or all, and the first
-//! and the last that it has.
+//! and the last that it has; and both of these taken out of the set.
 //!
 //! No call allocates. Each stops at the first lane that decides, from the end at which it begins; a
 //! search looks at up to sixteen words with that lane at once.
 
-ghost use Rattle.std.specs.Prelude.{◌≡◌, ◌==◌};
+ghost use Rattle.std.specs.Prelude.{◌≡◌, ◌==◌, IfSome, IfNone};
 ghost use Rattle.fixedbitset.specs.Bits as model;
 
+use crate::counted;
 use crate::set::FixedBitSet;
 use bitlanes::Steps;
 
@@ -72,6 +73,48 @@ impl FixedBitSet {
         ensures { result ≡ model.maximum self.now }
     {
         self.as_bits().maximum(&mut Steps::new())
+    }
+
+    /// Clears the first position that is set, and returns it. Where none is set, the set stays as
+    /// it was and the result is `None`. It looks at four words at a time from the first on, up to
+    /// the one that has this position, so a loop over it goes over the cleared words again.
+    ///
+    /// Upstream has no such call.
+    ///
+    /// ```
+    /// let mut set = FixedBitSet::from_iter(alloc, [3, 64])?;
+    /// assert_eq!(rt; set.pop_first(), Some(3));
+    /// assert_eq!(rt; set.pop_first(), Some(64));
+    /// assert!(rt; set.pop_first().is_none() && set.len() == 65);
+    /// ```
+    #[inline]
+    pub fn pop_first(&mut self) -> Option<usize>
+        ensures first { result ≡ model.minimum self.old }
+        ensures taken { IfSome result (λ p. self.new ≡ model.remove self.old p) }
+        ensures unchanged { IfNone result (self.new ≡ self.old) }
+    {
+        counted::pop_first(self, &mut Steps::new())
+    }
+
+    /// Clears the last position that is set, and returns it. Where none is set, the set stays as
+    /// it was and the result is `None`. It looks at four words at a time from the last on, down to
+    /// the one that has this position, so a loop over it goes over the cleared words again.
+    ///
+    /// Upstream has no such call.
+    ///
+    /// ```
+    /// let mut set = FixedBitSet::from_iter(alloc, [3, 64])?;
+    /// assert_eq!(rt; set.pop_last(), Some(64));
+    /// assert_eq!(rt; set.pop_last(), Some(3));
+    /// assert!(rt; set.pop_last().is_none() && set.len() == 65);
+    /// ```
+    #[inline]
+    pub fn pop_last(&mut self) -> Option<usize>
+        ensures last { result ≡ model.maximum self.old }
+        ensures taken { IfSome result (λ p. self.new ≡ model.remove self.old p) }
+        ensures unchanged { IfNone result (self.new ≡ self.old) }
+    {
+        counted::pop_last(self, &mut Steps::new())
     }
 
     /// Whether each position below the length is set; so `true` at length 0.

@@ -9,8 +9,8 @@ use std::alloc::AllocError;
 
 /// A change of a set. A name that ends in `WithSecond` is a change by the second of two others.
 /// The two `..UnionWithDifference`, and those that end in `Of`, are changes by both. `ShiftUp`,
-/// `ShiftDown`, `UnionWithOwnShift`, `Truncate` and `CountedClear` take no other set. All the
-/// rest are changes by the first.
+/// `ShiftDown`, `UnionWithOwnShift`, `Truncate`, `CountedPopFirst`, `CountedPopLast` and
+/// `CountedClear` take no other set. All the rest are changes by the first.
 #[derive(Clone, Copy)]
 pub enum Change {
     UnionWith,
@@ -45,6 +45,8 @@ pub enum Change {
     CountedIntersectWithChange,
     CountedIntersectWith,
     CountedDifferenceWithSecond,
+    CountedPopFirst,
+    CountedPopLast,
     CountedClear,
 }
 
@@ -99,10 +101,12 @@ pub const COUNTED_JOINS: &[Row; 7] = &[
 ];
 
 /// The counted calls on a short set.
-pub const COUNTED_LESSER: &[Row; 4] = &[
+pub const COUNTED_LESSER: &[Row; 6] = &[
     (Change::CountedIntersectWith, 10, SHORT),
     (Change::CountedDifferenceWithSecond, 10, SHORT),
     (Change::CountedIntersectWithChange, 10, SHORT),
+    (Change::CountedPopFirst, 10, &[]),
+    (Change::CountedPopLast, 10, &[]),
     (Change::CountedClear, 10, &[]),
 ];
 
@@ -194,6 +198,8 @@ fn lessen(
         Change::DifferenceWithSecond => set.difference_with(second),
         Change::CountedIntersectWith => counted::intersect_with(set, first, steps),
         Change::CountedDifferenceWithSecond => counted::difference_with(set, second, steps),
+        Change::CountedPopFirst => return counted::pop_first(set, steps) == Some(3),
+        Change::CountedPopLast => return counted::pop_last(set, steps).is_none(),
         Change::CountedClear => counted::clear(set, steps),
         _ => return move_positions(set, first, change),
     }

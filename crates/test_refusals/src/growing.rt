@@ -14,6 +14,7 @@ use std::alloc::AllocError;
 pub enum Growing {
     Grow,
     GrowAndInsert,
+    GrowAndPut,
     Extend,
     Append,
     Resize,
@@ -21,9 +22,10 @@ pub enum Growing {
     By(Change),
 }
 
-pub const CALLS: &[(&str, Call); 20] = &[
+pub const CALLS: &[(&str, Call); 21] = &[
     ("grow", Call::Growing(Growing::Grow)),
     ("grow_and_insert", Call::Growing(Growing::GrowAndInsert)),
+    ("grow_and_put", Call::Growing(Growing::GrowAndPut)),
     ("extend", Call::Growing(Growing::Extend)),
     ("clone_from", Call::Growing(Growing::By(Change::CloneFrom))),
     ("union_with", Call::Growing(Growing::By(Change::UnionWith))),
@@ -85,7 +87,7 @@ fn is_grown(set: &FixedBitSet, call: Growing) -> bool {
     match call {
         Growing::Grow | Growing::Resize => is_value(set, LONG, SHORT),
         Growing::Append => is_value(set, 10 + LONG, &[3, 9 + LONG]),
-        Growing::GrowAndInsert => is_value(set, LONG + 1, &[3, LONG]),
+        Growing::GrowAndInsert | Growing::GrowAndPut => is_value(set, LONG + 1, &[3, LONG]),
         Growing::Extend => is_value(set, LONG + 1, &[3, 4, 5, LONG]),
         Growing::By(Change::CloneFrom | Change::CountedCloneFrom) => is_long(set),
         Growing::By(Change::DifferenceOf) => is_value(set, LONG, LAST),
@@ -122,6 +124,7 @@ fn make_growth(set: &mut FixedBitSet, starts: &Starts, call: Growing) -> Result<
     match call {
         Growing::Grow => grow(set, starts.forgets)?,
         Growing::GrowAndInsert => set.grow_and_insert(LONG)?,
+        Growing::GrowAndPut => return Ok(!set.grow_and_put(LONG)?),
         Growing::Extend => return extend(set),
         Growing::Append => append(set, &starts.long)?,
         Growing::Resize => set.resize(LONG, false)?,

@@ -113,10 +113,12 @@ fn replaces(set: &mut FixedBitSet) -> bool {
     if set.as_slice().is_empty() {
         return false;
     }
-    set.set_block(0, 6);
-    let is_set = is_value(set, 10, &[1, 2]);
+    set.set_block(0, 14);
+    let is_set = is_value(set, 10, &[1, 2, 3]);
+    let has_popped = set.pop_first() == Some(1) && set.pop_last() == Some(3);
+    let is_left = is_value(set, 10, &[2]);
     set.clear();
-    is_set && is_value(set, 10, &[])
+    is_set && has_popped && is_left && is_value(set, 10, &[])
 }
 
 fn sees_all(set: &FixedBitSet) -> bool {
@@ -466,8 +468,9 @@ fn growth_in_place(set: &mut FixedBitSet, starts: &mut Starts) -> Result<bool, F
 fn grows_in_place(set: &mut FixedBitSet) -> Result<bool, Fault> {
     set.grow(64)?;
     set.grow_and_insert(63)?;
+    let was_set = set.grow_and_put(63)?;
     set.extend([5, 63, 6])?;
-    Ok(is_value(set, 64, &[3, 5, 6, 63]))
+    Ok(was_set && is_value(set, 64, &[3, 5, 6, 63]))
 }
 
 fn stops(set: &mut FixedBitSet) -> bool {

@@ -168,11 +168,13 @@ fn what_has_room_asks_for_nothing() {
     let calls = calls! {
         |_, _| FixedBitSet::new();
         |set, _| (set.put(3), set.take(3), set.insert_all(&[5, 999]));
+        |set, _| (set.insert(3), set.pop_first(), set.pop_last());
         |set, other| (set.contains_each(&[1, 2], &mut [false; 2]), &*set == other, &*set < other);
         |set, _| (set.set_block(15, 5), set.store(60, 9, 5), set.insert_range(3..900), set.clear());
         |set, _| (set.shift_up(70), set.shift_down(3), set.union_with_own_shift(70));
         |set, other| (set.union_with_shifted(other, 70), set.copy_range(other, ..500, 30));
         |set, _| (set.grow(1_024), set.grow_and_insert(1_023), set.extend([1_023, 3]));
+        |set, _| set.grow_and_put(1_023);
         |set, _| (set.truncate(0), set.grow(1_000));
         |set, _| (set.resize(3, true), set.resize(1_000, true));
         |set, other| (set.truncate(100), set.append(other));
@@ -230,6 +232,7 @@ fn what_grows_doubles_its_memory() {
     let calls = calls! {
         |set, longer| set.grow(longer.len());
         |set, longer| set.grow_and_insert(longer.len() - 1);
+        |set, longer| set.grow_and_put(longer.len() - 1);
         |set, longer| set.extend([longer.len() - 1]);
         |set, longer| set.resize(longer.len(), true);
         |set, longer| set.union_with(longer);

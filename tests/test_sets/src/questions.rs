@@ -43,6 +43,48 @@ fn assert_answers(rt: &impl Abort, set: &FixedBitSet, flags: &[bool]) {
     );
 }
 
+// Each position is taken out from one end, and one call more changes nothing.
+fn assert_pops(rt: &impl Abort, set: &mut FixedBitSet, flags: &[bool], is_first: bool) {
+    let mut wanted = Slow::of(flags);
+    let (mut start, mut end) = (0, flags.len());
+    for _ in 0..set.count_ones(..) + 1 {
+        let mut left = flags[start..end].iter();
+        let (popped, at) = if is_first {
+            (set.pop_first(), left.position(|flag| *flag))
+        } else {
+            (set.pop_last(), left.rposition(|flag| *flag))
+        };
+        assert_eq!(rt;
+            popped,
+            at.map(|at| start + at),
+            "{is_first} at {}",
+            flags.len()
+        );
+        if let Some(position) = popped {
+            wanted.set(position, false);
+            (start, end) = if is_first {
+                (position + 1, end)
+            } else {
+                (start, position)
+            };
+        }
+        assert!(rt; wanted.is(set), "{is_first} at {}", flags.len());
+    }
+    assert!(rt; set.is_clear());
+}
+
+#[test]
+fn positions_are_taken_out_from_both_ends(rt: HostRuntime) -> Result<(), Fail> {
+    for length in 0..131 {
+        for flags in fillings(rt.alloc(), length)? {
+            let mut set = filled(rt.alloc(), &flags)?;
+            assert_pops(&rt, &mut set.clone()?, &flags, true);
+            assert_pops(&rt, &mut set, &flags, false);
+        }
+    }
+    Ok(())
+}
+
 #[test]
 fn answers_at_every_length(rt: HostRuntime) -> Result<(), Fail> {
     for length in 0..131 {

@@ -90,6 +90,27 @@ fn each_call_changes_its_position_alone(rt: HostRuntime) -> Result<(), Fail> {
 
 // ---- growth
 
+// A position at any place, in a set that is shorter or longer.
+#[test]
+fn a_put_grows_and_says_what_was(rt: HostRuntime) -> Result<(), Fail> {
+    for length in 0..131 {
+        let fifths = multiples(rt.alloc(), length, 5)?;
+        for position in 0..200 {
+            let (mut set, mut wanted) = (filled(rt.alloc(), &fifths)?, Slow::of(&fifths));
+            let was_set = wanted.has(position);
+            assert!(rt;
+                set.grow_and_put(position)? == was_set,
+                "{position} of {length}"
+            );
+            wanted = wanted.resized(length.max(position + 1), false);
+            wanted.set(position, true);
+            assert!(rt; wanted.is(&set), "{position} of {length}");
+            assert!(rt; set.grow_and_put(position)?, "{position} of {length}");
+        }
+    }
+    Ok(())
+}
+
 #[test]
 fn growing_keeps_the_positions(rt: HostRuntime) -> Result<(), Fail> {
     for length in 0..131 {
@@ -118,6 +139,7 @@ fn refused_growth_changes_nothing(rt: HostRuntime) -> Result<(), Fail> {
         assert!(rt; set.len() == 70);
         set.insert(69);
         assert!(rt; set.grow(bits).is_err(), "{bits}");
+        assert!(rt; set.grow_and_put(bits - 1).is_err(), "{bits}");
         assert!(rt; set.resize(bits, true).is_err(), "{bits}");
         assert_eq!(rt; set.len(), 70);
         assert_eq!(rt; set.as_slice(), [0, 32].as_slice());

@@ -4,10 +4,11 @@
 //! lanes, rounded up. A change or a count takes exactly one step for each lane that both sets have,
 //! and one for each that only one of them has, where these are cleared or counted. A comparison
 //! that returns `true` takes exactly as many, and one that returns `false` exactly those up to the
-//! lane that decides. `first_lacking` takes exactly those up to the lane of the position, or all
-//! where there is none. What `grow` writes is not counted.
+//! lane that decides. `first_lacking` and `pop_first` take exactly those up to the lane of the
+//! position, and `pop_last` those from the last lane down to it, or all where there is none. What
+//! `grow` writes is not counted.
 
-ghost use Rattle.std.specs.Prelude.{◌≡◌, ◌≢◌, ◌<◌, ◌≤◌, ◌↔◌, ◌+◌, ◌/◌, IsTrue};
+ghost use Rattle.std.specs.Prelude.{◌≡◌, ◌≢◌, ◌<◌, ◌≤◌, ◌↔◌, ◌+◌, ◌-◌, ◌/◌, IsTrue};
 ghost use Rattle.std.specs.Prelude.{IsOk, OnOk, OnErr, IfSome, IfNone, true, false};
 ghost use Rattle.std.specs.declared.cmp.Ordering.TheVariants.{Equal};
 ghost use Rattle.bitlanes.specs.Words.{lane_steps};
@@ -39,6 +40,49 @@ pub fn clear(set: &mut FixedBitSet, steps: &mut Steps)
 {
     let (words, length) = (&mut *set.words.as_mut_slice(), set.length);
     BitsMut { words, length }.clear(steps);
+}
+
+/// [`FixedBitSet::pop_first`], with the steps that it takes.
+///
+/// ```
+/// let mut set = FixedBitSet::from_iter(alloc, [3, 64])?;
+/// assert_eq!(rt; counted::pop_first(&mut set, &mut Steps::new()), Some(3));
+/// assert_eq!(rt; set.as_slice(), [0, 1].as_slice());
+/// ```
+#[inline]
+#[tactic(auto, using(crate::proofs::Words::given_back, crate::proofs::Words::viewed_length))]
+pub fn pop_first(set: &mut FixedBitSet, steps: &mut Steps) -> Option<usize>
+    ensures first { result ≡ model.minimum set.old }
+    ensures taken { IfSome result (λ p. set.new ≡ model.remove set.old p) }
+    ensures unchanged { IfNone result (set.new ≡ set.old) }
+    ensures cost { IfSome result (λ p. steps.new ≡ steps.old + lane_steps (p / 64 + 1)) }
+    ensures exact_if_none { IfNone result
+        (steps.new ≡ steps.old + lane_steps (model.storage_words set.old.length)) }
+{
+    let (words, length) = (&mut *set.words.as_mut_slice(), set.length);
+    BitsMut { words, length }.pop_first(steps)
+}
+
+/// [`FixedBitSet::pop_last`], with the steps that it takes.
+///
+/// ```
+/// let mut set = FixedBitSet::from_iter(alloc, [3, 64])?;
+/// assert_eq!(rt; counted::pop_last(&mut set, &mut Steps::new()), Some(64));
+/// assert_eq!(rt; set.as_slice(), [8, 0].as_slice());
+/// ```
+#[inline]
+#[tactic(auto, using(crate::proofs::Words::given_back, crate::proofs::Words::viewed_length))]
+pub fn pop_last(set: &mut FixedBitSet, steps: &mut Steps) -> Option<usize>
+    ensures last { result ≡ model.maximum set.old }
+    ensures taken { IfSome result (λ p. set.new ≡ model.remove set.old p) }
+    ensures unchanged { IfNone result (set.new ≡ set.old) }
+    ensures cost { IfSome result (λ p. steps.new
+        ≡ steps.old + lane_steps (model.storage_words set.old.length - p / 64)) }
+    ensures exact_if_none { IfNone result
+        (steps.new ≡ steps.old + lane_steps (model.storage_words set.old.length)) }
+{
+    let (words, length) = (&mut *set.words.as_mut_slice(), set.length);
+    BitsMut { words, length }.pop_last(steps)
 }
 
 /// [`FixedBitSet::union_with`], with the steps that it takes.

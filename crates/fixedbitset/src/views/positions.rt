@@ -1,7 +1,7 @@
 //! Views of words, and single positions.
 
 ghost use Rattle.std.specs.Prelude.{◌≡◌, ◌↔◌, ◌<◌, ◌≤◌, ◌+◌, ◌-◌, ◌*◌, ◌/◌};
-ghost use Rattle.std.specs.Prelude.{min, map, IsTrue, IfSome, IfNone, IsSome};
+ghost use Rattle.std.specs.Prelude.{min, map, length, replicate, IsTrue, IfSome, IfNone, IsSome};
 ghost use Rattle.std.specs.Prelude as prelude;
 ghost use Rattle.std.specs.List.{All};
 ghost use Rattle.bitlanes.specs.Words.{lane_steps};
@@ -14,6 +14,10 @@ use crate::views::{Bits, BitsMut};
 use bitlanes::word::{BITS, Block, ones_below};
 use bitlanes::{Steps, lanes};
 use bitwords::positions;
+
+// Up to how many words a set is asked lane by lane whether it is clear. In a longer one a search is
+// faster, since it looks at sixteen words at a time.
+const SHORT: usize = 4 * lanes::LANE;
 
 impl<'a> Bits<'a> {
     /// The words as a set of `length` positions, or `None` where they are not those of one as they
@@ -124,7 +128,12 @@ impl<'a> Bits<'a> {
         ensures exact_if_true { IsTrue result
             → steps.new ≡ steps.old + lane_steps (storage_words self.entry.length) }
     {
-        self.minimum(steps).is_none()
+        let words = self.words.len();
+        if words > SHORT {
+            self.minimum(steps).is_none()
+        } else {
+            self.is_disjoint(self, steps)
+        }
     }
 
     /// The first position that is set, or `None` where none is.
@@ -323,6 +332,63 @@ impl<'a> BitsMut<'a> {
         is_taken
     }
 
+    /// Clears the first position that is set, and returns it. Where none is set, the set stays as
+    /// it was and the result is `None`.
+    ///
+    /// It takes one step for each lane from the first on up to the one that has the position, or
+    /// for all of them, and writes one word at most.
+    ///
+    /// ```
+    /// let mut words = [9, 1, 0, 0];
+    /// let mut set = BitsMut::settle(&mut words, 70, 70);
+    /// assert_eq!(rt; set.pop_first(&mut Steps::new()), Some(0));
+    /// assert_eq!(rt; words, [8, 1, 0, 0]);
+    /// ```
+    #[inline(always)]
+    #[tactic(auto, using(crate::proofs::Changes::first_within))]
+    pub fn pop_first(&mut self, steps: &mut Steps) -> Option<usize>
+        ensures first { result ≡ model.minimum (held self.old) }
+        ensures taken { IfSome result
+            (λ p. Becomes self.old self.new (model.remove (held self.old) p)) }
+        ensures unchanged { IfNone result (Becomes self.old self.new (held self.old)) }
+        ensures cost { IfSome result (λ p. steps.new ≡ steps.old + lane_steps (p / 64 + 1)) }
+        ensures exact_if_none { IfNone result
+            (steps.new ≡ steps.old + lane_steps (storage_words self.old.length)) }
+    {
+        let first = self.as_bits().minimum(steps)?;
+        self.remove(first);
+        Some(first)
+    }
+
+    /// Clears the last position that is set, and returns it. Where none is set, the set stays as
+    /// it was and the result is `None`.
+    ///
+    /// It takes one step for each lane from the last on down to the one that has the position, or
+    /// for all of them, and writes one word at most.
+    ///
+    /// ```
+    /// let mut words = [9, 1, 0, 0];
+    /// let mut set = BitsMut::settle(&mut words, 70, 70);
+    /// assert_eq!(rt; set.pop_last(&mut Steps::new()), Some(64));
+    /// assert_eq!(rt; words, [9, 0, 0, 0]);
+    /// ```
+    #[inline(always)]
+    #[tactic(auto, using(crate::proofs::Changes::last_within))]
+    pub fn pop_last(&mut self, steps: &mut Steps) -> Option<usize>
+        ensures last { result ≡ model.maximum (held self.old) }
+        ensures taken { IfSome result
+            (λ p. Becomes self.old self.new (model.remove (held self.old) p)) }
+        ensures unchanged { IfNone result (Becomes self.old self.new (held self.old)) }
+        ensures cost { IfSome result (λ p. steps.new
+            ≡ steps.old + lane_steps (storage_words self.old.length - p / 64)) }
+        ensures exact_if_none { IfNone result
+            (steps.new ≡ steps.old + lane_steps (storage_words self.old.length)) }
+    {
+        let last = self.as_bits().maximum(steps)?;
+        self.remove(last);
+        Some(last)
+    }
+
     /// Sets the position, or clears it where `enabled` is false. It has to be below the length.
     ///
     /// ```
@@ -438,7 +504,7 @@ impl<'a> BitsMut<'a> {
         ensures value { Becomes self.old self.new (model.empty self.old.length) }
         ensures cost { steps.new ≡ steps.old + lane_steps (storage_words self.old.length) }
     {
-        lanes::zero(self.words, steps);
+        zero_row(self.words, steps);
     }
 }
 
@@ -454,6 +520,34 @@ pub fn storage_words(bits: usize) -> usize
     ensures { result ≡ storage_words bits }
 {
     lanes::LANE * bits.div_ceil(BITS).div_ceil(lanes::LANE)
+}
+
+// Makes each word 0. A single lane is written by itself: `memset` would write it by one store of 64
+// bytes of which half is masked, and a load within these waits for it.
+#[inline(always)]
+#[tactic(auto, using(crate::proofs::Blocks::four_zeros))]
+fn zero_row(words: &mut [Block], steps: &mut Steps)
+    ensures words { words.new ≡ replicate (length words.old) 0 }
+    ensures cost { steps.new ≡ steps.old + lane_steps (length words.old) }
+{
+    if words.len() == lanes::LANE {
+        steps.tick();
+        words[0] = 0;
+        words[1] = 0;
+        words[2] = 0;
+        words[3] = 0;
+    } else {
+        zero_long(words, steps);
+    }
+}
+
+// It is a call of its own, so that it is not joined with the stores of a lane.
+#[inline(never)]
+fn zero_long(words: &mut [Block], steps: &mut Steps)
+    ensures words { words.new ≡ replicate (length words.old) 0 }
+    ensures cost { steps.new ≡ steps.old + lane_steps (length words.old) }
+{
+    lanes::zero(words, steps);
 }
 
 // The first of the words, as many as the length needs.

@@ -37,7 +37,7 @@ impl<'a> Bits<'a> {
         ensures turns { result.turns ≡ 0 }
         ensures taken { result.taken ≡ 0 }
     {
-        let words = self.as_slice();
+        let words = self.as_slice().iter();
         Cursor::over(Plain { words })
     }
 

@@ -311,6 +311,18 @@ impl Set {
         self.grow(bits + 1); self.ones.insert(bits);
     }
 
+    pub fn grow_and_put(&mut self, bits: usize) -> bool {
+        self.grow(bits + 1); !self.ones.insert(bits)
+    }
+
+    pub fn pop_first(&mut self) -> Option<usize> {
+        self.ones.pop_first()
+    }
+
+    pub fn pop_last(&mut self) -> Option<usize> {
+        self.ones.pop_last()
+    }
+
     pub fn truncate(&mut self, bits: usize) {
         self.length = self.length.min(bits); self.ones.retain(|bit| *bit < bits);
     }

@@ -46,6 +46,8 @@ pub fn set_calls() -> Vec<&'static str> {
         "is_clear" is Set::is_clear, fn(&Set) -> bool;
         "minimum" is Set::minimum, fn(&Set) -> Option<usize>;
         "maximum" is Set::maximum, fn(&Set) -> Option<usize>;
+        "pop_first" is Set::pop_first, fn(&mut Set) -> Option<usize>;
+        "pop_last" is Set::pop_last, fn(&mut Set) -> Option<usize>;
         "is_full" is Set::is_full, fn(&Set) -> bool;
         "union_with" is Set::union_with, fn(&mut Set, &Set);
         "try_union_with" is Set::try_union_with, fn(&mut Set, &Set) -> Result<(), AllocError>;
@@ -113,6 +115,8 @@ pub fn set_calls() -> Vec<&'static str> {
         "union" is Set::union, for<'a> fn(&'a Set, &'a Set) -> Union<'a>;
         "symmetric_difference" is Set::symmetric_difference, for<'a> fn(&'a Set, &'a Set) -> SymmetricDifference<'a>;
         "try_grow_and_insert" is Set::try_grow_and_insert, fn(&mut Set, usize) -> Result<(), AllocError>;
+        "grow_and_put" is Set::grow_and_put, fn(&mut Set, usize) -> bool;
+        "try_grow_and_put" is Set::try_grow_and_put, fn(&mut Set, usize) -> Result<bool, AllocError>;
         "try_extend" is Set::try_extend, fn(&mut Set, Vec<usize>) -> Result<(), ExtendFault>;
         "try_from_iter" is Set::try_from_iter, fn(Vec<usize>) -> Result<Set, ExtendFault>;
     }
@@ -181,6 +185,8 @@ pub fn change_calls() -> Vec<&'static str> {
         "toggle" is BitsMut::toggle, fn(&mut BitsMut<'static>, usize);
         "put" is BitsMut::put, fn(&mut BitsMut<'static>, usize) -> bool;
         "take" is BitsMut::take, fn(&mut BitsMut<'static>, usize) -> bool;
+        "pop_first" is BitsMut::pop_first, fn(&mut BitsMut<'static>) -> Option<usize>;
+        "pop_last" is BitsMut::pop_last, fn(&mut BitsMut<'static>) -> Option<usize>;
         "set" is BitsMut::set, fn(&mut BitsMut<'static>, usize, bool);
         "copy_bit" is BitsMut::copy_bit, fn(&mut BitsMut<'static>, usize, usize);
         "insert_all" is BitsMut::insert_all, fn(&mut BitsMut<'static>, &[usize]);

@@ -20,7 +20,7 @@ over-requires c =
       c.args.self.clean.fits,
       c.as_slice-words.ensures.count,
       ap length c.of.ensures.words,
-      length-beside bit_without c.of.result.plain.words.now c.of.result.other.now,
+      length-beside bit_without c.of.result.plain.words.rest.now c.of.result.other.now,
     )
 
 pub returns-clause-items : goal.returns-clause-items

@@ -24,7 +24,7 @@ over-requires c =
       used.ensures.count,
       ap length c.of.ensures.words,
       length-take c.min-shared.result used.result.now,
-      length-beside bit_and c.of.result.plain.words.now c.of.result.other.now,
+      length-beside bit_and c.of.result.plain.words.rest.now c.of.result.other.now,
     )
 
 -- the first words of a value have its positions
