@@ -1,2 +1,3 @@
 pub mod Totals
 pub mod Turning
+pub mod Ordering

@@ -7,9 +7,11 @@
 //! In(v) that are not in Kill(v) (`specs/Flow.antt`).
 #![tactic(auto)]
 
+pub mod postorder;
 pub mod problem;
 mod rounds;
 pub mod solver;
 
+pub use postorder::{in_order, solve_in_order};
 pub use problem::is_problem;
 pub use solver::{Solution, solve};

@@ -13,6 +13,30 @@ fn clear(rt: HostRuntime) {
 }
 
 #[test]
+fn pop_first(rt: HostRuntime) {
+    let alloc = rt.alloc();
+    let mut set = set_of(&rt, alloc, &[3, 64]);
+    equal(
+        &rt,
+        counted::pop_first(&mut set, &mut Steps::new()),
+        Some(3),
+    );
+    equal(&rt, set.as_slice(), [0, 1].as_slice());
+}
+
+#[test]
+fn pop_last(rt: HostRuntime) {
+    let alloc = rt.alloc();
+    let mut set = set_of(&rt, alloc, &[3, 64]);
+    equal(
+        &rt,
+        counted::pop_last(&mut set, &mut Steps::new()),
+        Some(64),
+    );
+    equal(&rt, set.as_slice(), [8, 0].as_slice());
+}
+
+#[test]
 fn union_with(rt: HostRuntime) {
     let alloc = rt.alloc();
     let mut set = set_of(&rt, alloc, &[1, 3]);

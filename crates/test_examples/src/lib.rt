@@ -33,6 +33,8 @@ mod pairs;
 #[cfg(test)]
 mod parts;
 #[cfg(test)]
+mod postorder;
+#[cfg(test)]
 mod problem;
 #[cfg(test)]
 mod questions;

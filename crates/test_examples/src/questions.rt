@@ -1,7 +1,7 @@
 //! The examples in the docs of `fixedbitset::questions`.
 //! tools/docs/make_examples writes this file.
 
-use crate::calls::{cleared, equal, holds};
+use crate::calls::{cleared, equal, holds, known, set_of};
 use fixedbitset::FixedBitSet;
 
 #[test]
@@ -41,6 +41,24 @@ fn maximum(rt: HostRuntime) {
     equal(&rt, set.maximum(), None);
     set.insert_range(64..130);
     equal(&rt, set.maximum(), Some(129));
+}
+
+#[test]
+fn pop_first(rt: HostRuntime) {
+    let alloc = rt.alloc();
+    let mut set = set_of(&rt, alloc, &[3, 64]);
+    equal(&rt, set.pop_first(), Some(3));
+    equal(&rt, set.pop_first(), Some(64));
+    known(&rt, set.pop_first().is_none() && set.len() == 65);
+}
+
+#[test]
+fn pop_last(rt: HostRuntime) {
+    let alloc = rt.alloc();
+    let mut set = set_of(&rt, alloc, &[3, 64]);
+    equal(&rt, set.pop_last(), Some(64));
+    equal(&rt, set.pop_last(), Some(3));
+    known(&rt, set.pop_last().is_none() && set.len() == 65);
 }
 
 #[test]

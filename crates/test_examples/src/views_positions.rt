@@ -141,6 +141,24 @@ fn take(rt: HostRuntime) {
 
 #[test]
 #[tactic(auto, using(fixedbitset::specs::WordsFacts::facts))]
+fn pop_first(rt: HostRuntime) {
+    let mut words = [9, 1, 0, 0];
+    let mut set = BitsMut::settle(&mut words, 70, 70);
+    equal(&rt, set.pop_first(&mut Steps::new()), Some(0));
+    equal(&rt, words, [8, 1, 0, 0]);
+}
+
+#[test]
+#[tactic(auto, using(fixedbitset::specs::WordsFacts::facts))]
+fn pop_last(rt: HostRuntime) {
+    let mut words = [9, 1, 0, 0];
+    let mut set = BitsMut::settle(&mut words, 70, 70);
+    equal(&rt, set.pop_last(&mut Steps::new()), Some(64));
+    equal(&rt, words, [9, 0, 0, 0]);
+}
+
+#[test]
+#[tactic(auto, using(fixedbitset::specs::WordsFacts::facts))]
 fn set(rt: HostRuntime) {
     let mut words = [9, 0, 0, 0];
     let mut set = BitsMut::settle(&mut words, 70, 70);

@@ -9,7 +9,9 @@ use fixedbitset::{Block, Steps};
 
 #[test]
 fn middle(rt: HostRuntime) {
-    let mut middle = Plain { words: &[3, 5, 7] };
+    let mut middle = Plain {
+        words: [3, 5, 7].iter(),
+    };
     equal(&rt, Middle::take_first(&mut middle), Some(3));
     equal(&rt, Middle::take_last(&mut middle), Some(7));
     equal(&rt, Middle::left(&middle), 1);
@@ -18,14 +20,18 @@ fn middle(rt: HostRuntime) {
 
 #[test]
 fn seen(rt: HostRuntime) {
-    let middle = Plain { words: &[3, 5, 7] };
+    let middle = Plain {
+        words: [3, 5, 7].iter(),
+    };
     equal(&rt, Seen::peek(&middle, 1), Some(5));
     equal(&rt, Seen::peek(&middle, 3), None);
 }
 
 #[test]
 fn plain(rt: HostRuntime) {
-    let mut cursor = Cursor::over(Plain { words: &[8, 0, 1] });
+    let mut cursor = Cursor::over(Plain {
+        words: [8, 0, 1].iter(),
+    });
     equal(&rt, cursor.next_back(), Some(128));
     gives(&rt, cursor, &[3]);
 }
@@ -33,7 +39,9 @@ fn plain(rt: HostRuntime) {
 #[test]
 fn inverted(rt: HostRuntime) {
     let words = [Block::MAX - 8];
-    let plain = Plain { words: &words };
+    let plain = Plain {
+        words: words.iter(),
+    };
     let cursor = Cursor::over(Inverted { plain });
     gives(&rt, cursor, &[3]);
 }
@@ -61,33 +69,48 @@ fn cursor(rt: HostRuntime) {
 
 #[test]
 fn over(rt: HostRuntime) {
-    let cursor = Cursor::over(Plain { words: &[9, 0, 1] });
+    let cursor = Cursor::over(Plain {
+        words: [9, 0, 1].iter(),
+    });
     gives(&rt, cursor, &[0, 3, 128]);
 }
 
 #[test]
 fn within(rt: HostRuntime) {
-    let cursor = Cursor::within(Plain { words: &[9, 255] }, 640, 1, 66);
+    let cursor = Cursor::within(
+        Plain {
+            words: [9, 255].iter(),
+        },
+        640,
+        1,
+        66,
+    );
     gives(&rt, cursor, &[643, 704, 705]);
 }
 
 #[test]
 fn into_held(rt: HostRuntime) {
-    let mut cursor = Cursor::over(Plain { words: &[9, 0, 1] });
+    let mut cursor = Cursor::over(Plain {
+        words: [9, 0, 1].iter(),
+    });
     equal(&rt, cursor.next(), Some(0));
     equal(&rt, cursor.into_held().front, 8);
 }
 
 #[test]
 fn of_held(rt: HostRuntime) {
-    let cursor = Cursor::over(Plain { words: &[9, 0, 1] });
+    let cursor = Cursor::over(Plain {
+        words: [9, 0, 1].iter(),
+    });
     let held = cursor.into_held();
     gives(&rt, Cursor::of_held(held), &[0, 3, 128]);
 }
 
 #[test]
 fn count_left(rt: HostRuntime) {
-    let mut cursor = Cursor::over(Plain { words: &[9, 7, 1] });
+    let mut cursor = Cursor::over(Plain {
+        words: [9, 7, 1].iter(),
+    });
     equal(&rt, cursor.next(), Some(0));
     equal(&rt, cursor.count_left(&mut Steps::new()), 5);
 }

@@ -23,7 +23,7 @@ fn give_word_back(rt: HostRuntime) {
 #[test]
 fn give_words(rt: HostRuntime) {
     let cursor = Cursor::over(Plain {
-        words: &[9, 255, 0, 0, 0, 1],
+        words: [9, 255, 0, 0, 0, 1].iter(),
     });
     let mut held = cursor.into_held();
     let mut places = [7; 10];
@@ -35,7 +35,7 @@ fn give_words(rt: HostRuntime) {
 #[test]
 fn give_words_back(rt: HostRuntime) {
     let cursor = Cursor::over(Plain {
-        words: &[1, 0, 0, 0, 255, 9],
+        words: [1, 0, 0, 0, 255, 9].iter(),
     });
     let mut held = cursor.into_held();
     let mut places = [7; 10];

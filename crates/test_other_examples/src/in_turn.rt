@@ -8,21 +8,27 @@ use fixedbitset::Steps;
 
 #[test]
 fn part(rt: HostRuntime) {
-    let mut walk = Cursor::over(Plain { words: &[9, 1] });
+    let mut walk = Cursor::over(Plain {
+        words: [9, 1].iter(),
+    });
     equal(&rt, Part::take_first(&mut walk), Some(0));
     equal(&rt, Part::take_last(&mut walk), Some(64));
 }
 
 #[test]
 fn counted(rt: HostRuntime) {
-    let walk = Cursor::over(Plain { words: &[9, 1] });
+    let walk = Cursor::over(Plain {
+        words: [9, 1].iter(),
+    });
     equal(&rt, Counted::count_items(walk, &mut Steps::new()), 3);
 }
 
 #[test]
 fn in_turn(rt: HostRuntime) {
-    let first = Cursor::over(Plain { words: &[9, 1] });
-    let second = Cursor::over(Plain { words: &[6] });
+    let first = Cursor::over(Plain {
+        words: [9, 1].iter(),
+    });
+    let second = Cursor::over(Plain { words: [6].iter() });
     let mut walks = InTurn::of(first, second);
     equal(
         &rt,
@@ -33,15 +39,17 @@ fn in_turn(rt: HostRuntime) {
 
 #[test]
 fn of(rt: HostRuntime) {
-    let first = Cursor::over(Plain { words: &[9, 1] });
-    let second = Cursor::over(Plain { words: &[6] });
+    let first = Cursor::over(Plain {
+        words: [9, 1].iter(),
+    });
+    let second = Cursor::over(Plain { words: [6].iter() });
     equal(&rt, InTurn::of(first, second).take_first(), Some(0));
 }
 
 #[test]
 fn in_turn_take_first(rt: HostRuntime) {
-    let first = Cursor::over(Plain { words: &[8] });
-    let second = Cursor::over(Plain { words: &[6] });
+    let first = Cursor::over(Plain { words: [8].iter() });
+    let second = Cursor::over(Plain { words: [6].iter() });
     let mut walks = InTurn::of(first, second);
     equal(
         &rt,
@@ -52,8 +60,8 @@ fn in_turn_take_first(rt: HostRuntime) {
 
 #[test]
 fn take_last(rt: HostRuntime) {
-    let first = Cursor::over(Plain { words: &[8] });
-    let second = Cursor::over(Plain { words: &[2] });
+    let first = Cursor::over(Plain { words: [8].iter() });
+    let second = Cursor::over(Plain { words: [2].iter() });
     let mut walks = InTurn::of(first, second);
     equal(
         &rt,
@@ -64,23 +72,29 @@ fn take_last(rt: HostRuntime) {
 
 #[test]
 fn most(rt: HostRuntime) {
-    let first = Cursor::over(Plain { words: &[9, 1] });
-    let second = Cursor::over(Plain { words: &[6] });
+    let first = Cursor::over(Plain {
+        words: [9, 1].iter(),
+    });
+    let second = Cursor::over(Plain { words: [6].iter() });
     equal(&rt, InTurn::of(first, second).most(), Some(256));
 }
 
 #[test]
 fn into_walks(rt: HostRuntime) {
-    let first = Cursor::over(Plain { words: &[9, 1] });
-    let second = Cursor::over(Plain { words: &[6] });
+    let first = Cursor::over(Plain {
+        words: [9, 1].iter(),
+    });
+    let second = Cursor::over(Plain { words: [6].iter() });
     let (first, _) = InTurn::of(first, second).into_walks();
     gives(&rt, first, &[0, 3, 64]);
 }
 
 #[test]
 fn count_left(rt: HostRuntime) {
-    let first = Cursor::over(Plain { words: &[9, 1] });
-    let second = Cursor::over(Plain { words: &[7] });
+    let first = Cursor::over(Plain {
+        words: [9, 1].iter(),
+    });
+    let second = Cursor::over(Plain { words: [7].iter() });
     let mut walks = InTurn::of(first, second);
     equal(&rt, walks.take_first(), Some(0));
     equal(&rt, walks.count_left(&mut Steps::new()), 5);

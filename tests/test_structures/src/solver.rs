@@ -2,6 +2,7 @@
 //! problem of many nodes, and small problems beside a solver that tries all solutions.
 
 mod large;
+mod order;
 mod slow;
 mod small;
 mod worked;

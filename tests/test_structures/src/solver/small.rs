@@ -2,7 +2,7 @@
 
 use crate::solver::slow::{FACTS, NODES, Sets, Small, least};
 use fixedbitset::{FixedBitSet, Steps};
-use flow::{is_problem, solve};
+use flow::{is_problem, solve, solve_in_order};
 use std::alloc::{AllocError, Global};
 use std::process::Abort;
 use std::test::Fail;
@@ -112,6 +112,9 @@ fn assert_least(
     let kills = sets_of(alloc, problem.kills)?;
     assert!(rt; is_problem(FACTS, &edges, &gens, &kills));
     let answer = solve(alloc, FACTS, &edges, &gens, &kills, &mut Steps::new())?;
+    assert_sets(rt, alloc, &answer.ins, wanted.ins, problem)?;
+    assert_sets(rt, alloc, &answer.outs, wanted.outs, problem)?;
+    let answer = solve_in_order(alloc, FACTS, &edges, &gens, &kills, &mut Steps::new())?;
     assert_sets(rt, alloc, &answer.ins, wanted.ins, problem)?;
     assert_sets(rt, alloc, &answer.outs, wanted.outs, problem)
 }
