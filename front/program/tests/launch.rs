@@ -287,8 +287,12 @@ fn an_output_that_cannot_be_written() {
 /// A pipe that nobody reads any more.
 fn nobody() -> Stdio {
     let mut reader = Command::new("true").stdin(Stdio::piped()).spawn().unwrap();
-    let pipe = reader.stdin.take().unwrap();
+    let mut pipe = reader.stdin.take().unwrap();
     reader.wait().unwrap();
+    // (A process that another test begins has the other end too, until it is the program.)
+    while pipe.write_all(b"\n").is_ok() {
+        std::thread::sleep(Duration::from_millis(10));
+    }
     pipe.into()
 }
 
