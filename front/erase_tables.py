@@ -19,19 +19,38 @@ CRATES = {
         "walks", "whole"],
     "bitranks": ["counted", "directory", "ranks"],
     "bitrows": ["counted", "table", "views", "views/changes", "views/reads"],
+    "flow": ["problem", "rounds", "solver"],
 }
 # The items that are written otherwise, by their source. `Block` is `usize` where that has 64 bits, as upstream's is, else `u64`.
-# A text of ASCII digits is made with no test in Rattle, which in Rust is `unsafe`.
+# A text of ASCII digits is made with no test in Rattle, which in Rust is `unsafe`. The solver counts its rounds by a number that
+# Rust reads too, and its first sets take their memory as the caller says, where a copy of a set would end the program.
 WRITTEN = {
     ("crates/bitlanes/src/word.rt", "pub type Block = u64 ;"): "pub use shim::Block;",
     ("crates/fixedbitset/src/text.rt",
      "fn text_of ( digits : & [ u8 ] ) -> & str { unsafe { str :: from_utf8_unchecked ( digits ) } }"): "use shim::text_of;",
+    **{(f"crates/flow/src/{it}.rt", "use fixedbitset :: { FixedBitSet , Steps } ;"): "use fixedbitset::FixedBitSet;\nuse shim::Steps;"
+       for it in ("rounds", "solver")},
+    ("crates/flow/src/solver.rt",
+     "fn start ( alloc : Global , facts : usize , gens : & [ FixedBitSet ] ) -> Result < Solution , AllocError > { let ins = vec ! [ in "
+     "alloc ; FixedBitSet :: with_capacity ( alloc , facts ) ? ; gens . len ( ) ] ? ; let outs = gens . to_vec ( alloc ) ? ; Ok ( "
+     "Solution { ins , outs } ) }"):
+    """fn start(alloc: Global, facts: usize, gens: &[FixedBitSet]) -> Result<Solution, AllocError> {
+    let mut ins = Vec::with_capacity(alloc, gens.len())?;
+    let mut outs = Vec::with_capacity(alloc, gens.len())?;
+    for out in gens {
+        ins.push(FixedBitSet::with_capacity(alloc, facts)?)?;
+        outs.push(FixedBitSet::from_bits(alloc, out.as_bits())?)?;
+    }
+    Ok(Solution { ins, outs })
+}""",
 }
 # The functions that Rust calls in constants too, by their source: the length of an array is the number of words of a set.
 CONSTANT = {("crates/fixedbitset/src/views/positions.rt", "fn storage_words")}
 # The names that Rattle's prelude brings into each module and that mean something else in Rust: the shim has them, and a module
 # that has one imports it. A type with an `impl Clone` copies itself by a call that may be refused memory.
 PRELUDE = {"Clone", "Vec"}
+# The types of other crates that copy themselves so. A struct that has such a value has no copy of its own.
+COPIED = {"FixedBitSet"}
 # The macros, by what stands behind the name: `vec![in alloc; item; count]` makes a row, or says where memory is refused.
 MACROS = {"vec ! [ in": "crate::shim::row"}
 
@@ -66,22 +85,24 @@ FOREIGN = {"Middle for IntoIter", "Part for Block", "Part for Option", *(f"Index
     "Range", "RangeFrom", "RangeFull", "RangeInclusive", "RangeTo", "RangeToInclusive"))}
 # The modules of std that are used, and what stands for them.
 STD = {"alloc": "crate::shim", "cmp": "core", "fmt": "core", "hash": "core", "iter": "core", "marker": "core", "mem": "core",
-       "ops": "core", "vec": "alloc", "simd": "crate::shim", "snapshot": "crate::shim"}
+       "ops": "core", "slice": "core", "vec": "alloc", "simd": "crate::shim", "snapshot": "crate::shim"}
 # What is named of modules and types that are not of these modules.
-MEMBERS = {"cmp": {"Ordering"}, "iter": {"FusedIterator"}, "marker": {"PhantomData"}, "mem": {"replace"}, "vec": {"IntoIter"},
-           "alloc": {"AllocError", "Global"}, "fmt": {"Binary", "Display", "Formatter", "Result"}, "hash": {"Hash", "Hasher"},
+MEMBERS = {"cmp": {"Ordering"}, "iter": {"FusedIterator"}, "marker": {"PhantomData"}, "mem": {"replace", "swap"}, "slice": {"Iter"},
+           "vec": {"IntoIter"}, "alloc": {"AllocError", "Global"}, "fmt": {"Binary", "Display", "Formatter", "Result"},
+           "hash": {"Hash", "Hasher"},
            "ops": {"Range", "RangeFrom", "RangeFull", "RangeInclusive", "RangeTo", "RangeToInclusive"},
-           "simd": {"prelude"}, "prelude": {"u64x4"}, "snapshot": {"Snapshot"}, "shim": {"Block", "text_of"},
+           "simd": {"prelude"}, "prelude": {"u64x4"}, "snapshot": {"Snapshot"}, "shim": {"Block", "Steps", "text_of"},
            "Block": {"MAX", "from_le_bytes"}, "u64x4": {"from_array", "from_slice", "splat"}, "Snapshot": {"of"},
            "Vec": {"from_clones", "from_slice", "new", "with_capacity"}, "Binary": {"fmt"}, "usize": {"MAX"},
            "Ordering": {"Equal"}}
 # Methods of Rust, and of the shim. Others have to be declared in these modules, as some that Rust has too are.
 METHODS = set("checked_add checked_mul checked_next_multiple_of checked_sub div_ceil leading_zeros max min saturating_add "
-              "saturating_sub trailing_zeros copied is_none split_at_mut split_first split_last unwrap_or rev copy_to_slice "
+              "saturating_sub trailing_zeros copied is_none split_at_mut split_first unwrap_or rev copy_to_slice "
               "reduce_or to_array wrapping_add wrapping_sub iter enumerate zip map map_err into_iter allocator as_mut_slice "
-              "copy_from_slice extend_from_slice alternate write_str".split())
+              "copy_from_slice extend_from_slice alternate write_str all push".split())
 # The closures that may stand.
-CLOSURES = {". map ( | ( word , other ) | O :: word ( * word , * other ) )", ". map_err ( | _ | ExtendFault :: Memory )"}
+CLOSURES = {". map ( | ( word , other ) | O :: word ( * word , * other ) )", ". map_err ( | _ | ExtendFault :: Memory )",
+            ". all ( | set | set . len ( ) == facts )", ". all ( | ( from , to ) | * from < nodes && * to < nodes )"}
 # The methods that Rust finds by a trait that each type has, or each struct here has by its derive, those of edition 2024 too, and
 # those of its iterators. Rust takes one by value before one of these modules that borrows, so none here may have its name: the
 # first on no type, the others on no iterator and in no trait.
@@ -138,7 +159,7 @@ OF_C = Target(
     "crate::",
     below=CRATES,
     members={"u32": {"MAX"}, "Ordering": {"Greater", "Less"}},
-    methods=set("all is_some iter_mut reverse_bits".split()),
+    methods=set("is_some iter_mut reverse_bits".split()),
     words={"isize"},
     closures={". all ( | position | * position < length )"},
 )
@@ -158,8 +179,8 @@ OF_PROGRAM = Target(
         "u64": {"MAX"}, "ops": {"BitAndAssign", "Index"}, "io": {"Read", "Write"}, "Display": {"fmt"},
         "serde_json": {"Map", "Number", "Value", "json"},
         "Value": set("Array Bool Null Number Object String from from_slice".split())},
-    methods=set("all as_array as_bytes as_i64 as_str as_u64 chars clone flush is_ascii_digit is_err is_memory ok_or position "
-                "push read simd_eq take_while to_bitmask to_string to_vec unwrap write write_char".split()),
+    methods=set("as_array as_bytes as_i64 as_str as_u64 chars clone flush is_ascii_digit is_err is_memory ok_or position "
+                "read simd_eq take_while to_bitmask to_string to_vec unwrap write write_char".split()),
     words=set("$ \" ..= /= char const macro_rules static str super u64 union".split()),
     closures={". take_while ( | item | * * item != usize :: MAX )", ". all ( | item | * item < limit )",
               ". map ( | block | * block as Block )", ". position ( | b | * b == byte )"},

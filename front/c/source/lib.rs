@@ -12,7 +12,7 @@ extern crate alloc;
 
 #[path = "../../rust/src/shim.rs"]
 mod shim;
-#[allow(unused_imports)]
+#[allow(unused_imports, unused_labels)]
 #[path = "../../rust/src/proved/mod.rs"]
 mod proved;
 

@@ -22,7 +22,7 @@ mod program;
 mod program_examples;
 #[path = "../../rust/src/proved/mod.rs"]
 #[rustfmt::skip]
-#[allow(clippy::all, dead_code, unused_imports, unused_variables)]
+#[allow(clippy::all, dead_code, unused_imports, unused_labels, unused_variables)]
 mod proved;
 mod shim;
 #[cfg(test)]

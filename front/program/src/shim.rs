@@ -74,17 +74,6 @@ pub mod serde_json {
     pub(crate) use json;
 }
 
-impl<T> row::Vec<T> {
-    #[inline]
-    pub fn push(&mut self, item: T) -> Result<(), alloc::AllocError> {
-        if self.0.len() == self.0.capacity() {
-            self.reserve(1)?;
-        }
-        self.0.push(item);
-        Ok(())
-    }
-}
-
 impl<'a, T> IntoIterator for &'a row::Vec<T> {
     type Item = &'a T;
     type IntoIter = core::slice::Iter<'a, T>;

@@ -58,12 +58,15 @@ impl BitsMut<'_> {
             length != self.len() => panics::unfit(length, self.len());
     }
 
-    /// Names the first position past the length.
+    /// Names the first position past the length. Whether there is one is found with no branch, so rustc makes vectors of it.
     #[inline]
     #[track_caller]
     pub(crate) fn assert_all_below(&self, call: &str, positions: &[usize]) {
-        if let Some(past) = positions.iter().find(|bit| **bit >= self.len()) {
-            self.assert_below(call, *past);
+        let length = self.len();
+        if positions.iter().filter(|bit| **bit >= length).count() > 0 {
+            if let Some(past) = positions.iter().find(|bit| **bit >= length) {
+                self.assert_below(call, *past);
+            }
         }
     }
 }

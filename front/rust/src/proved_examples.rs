@@ -16,7 +16,7 @@ fn bitjson_bytes_16() {
     use crate::proved::bitlanes::{word, Block, IndexRange, Steps};
     use crate::proved::bitwalks::in_turn::*;
     use crate::proved::bitwords::cursors::*;
-    use crate::proved::bitranks;
+    use crate::proved::{bitranks, flow};
     use crate::proved::fixedbitset::{Bits, BitsMut, ExtendFault, FixedBitSet};
     use crate::proved::bitjson::*;
     use crate::shim::alloc::Global;
@@ -36,7 +36,7 @@ fn bitjson_bytes_30() {
     use crate::proved::bitlanes::{word, Block, IndexRange, Steps};
     use crate::proved::bitwalks::in_turn::*;
     use crate::proved::bitwords::cursors::*;
-    use crate::proved::bitranks;
+    use crate::proved::{bitranks, flow};
     use crate::proved::fixedbitset::{Bits, BitsMut, ExtendFault, FixedBitSet};
     use crate::proved::bitjson::*;
     use crate::shim::alloc::Global;
@@ -56,7 +56,7 @@ fn bitjson_fills_11() {
     use crate::proved::bitlanes::{word, Block, IndexRange, Steps};
     use crate::proved::bitwalks::in_turn::*;
     use crate::proved::bitwords::cursors::*;
-    use crate::proved::bitranks;
+    use crate::proved::{bitranks, flow};
     use crate::proved::fixedbitset::{Bits, BitsMut, ExtendFault, FixedBitSet};
     use crate::proved::bitjson::*;
     use crate::shim::alloc::Global;
@@ -76,7 +76,7 @@ fn bitjson_fills_28() {
     use crate::proved::bitlanes::{word, Block, IndexRange, Steps};
     use crate::proved::bitwalks::in_turn::*;
     use crate::proved::bitwords::cursors::*;
-    use crate::proved::bitranks;
+    use crate::proved::{bitranks, flow};
     use crate::proved::fixedbitset::{Bits, BitsMut, ExtendFault, FixedBitSet};
     use crate::proved::bitjson::*;
     use crate::shim::alloc::Global;
@@ -96,7 +96,7 @@ fn bitlanes_changes_16() {
     use crate::proved::bitlanes::{word, Block, IndexRange, Steps};
     use crate::proved::bitwalks::in_turn::*;
     use crate::proved::bitwords::cursors::*;
-    use crate::proved::bitranks;
+    use crate::proved::{bitranks, flow};
     use crate::proved::fixedbitset::{Bits, BitsMut, ExtendFault, FixedBitSet};
     use crate::proved::bitlanes::*;
     use crate::shim::alloc::Global;
@@ -112,12 +112,12 @@ fn bitlanes_changes_16() {
 }
 
 #[test]
-fn bitlanes_changes_47() {
+fn bitlanes_changes_49() {
     use crate::proved::bitlanes::ops::*;
     use crate::proved::bitlanes::{word, Block, IndexRange, Steps};
     use crate::proved::bitwalks::in_turn::*;
     use crate::proved::bitwords::cursors::*;
-    use crate::proved::bitranks;
+    use crate::proved::{bitranks, flow};
     use crate::proved::fixedbitset::{Bits, BitsMut, ExtendFault, FixedBitSet};
     use crate::proved::bitlanes::*;
     use crate::shim::alloc::Global;
@@ -134,12 +134,12 @@ fn bitlanes_changes_47() {
 }
 
 #[test]
-fn bitlanes_changes_84() {
+fn bitlanes_changes_88() {
     use crate::proved::bitlanes::ops::*;
     use crate::proved::bitlanes::{word, Block, IndexRange, Steps};
     use crate::proved::bitwalks::in_turn::*;
     use crate::proved::bitwords::cursors::*;
-    use crate::proved::bitranks;
+    use crate::proved::{bitranks, flow};
     use crate::proved::fixedbitset::{Bits, BitsMut, ExtendFault, FixedBitSet};
     use crate::proved::bitlanes::*;
     use crate::shim::alloc::Global;
@@ -160,7 +160,7 @@ fn bitlanes_counter_26() {
     use crate::proved::bitlanes::{word, Block, IndexRange, Steps};
     use crate::proved::bitwalks::in_turn::*;
     use crate::proved::bitwords::cursors::*;
-    use crate::proved::bitranks;
+    use crate::proved::{bitranks, flow};
     use crate::proved::fixedbitset::{Bits, BitsMut, ExtendFault, FixedBitSet};
     use crate::proved::bitlanes::*;
     use crate::shim::alloc::Global;
@@ -180,7 +180,7 @@ fn bitlanes_counter_40() {
     use crate::proved::bitlanes::{word, Block, IndexRange, Steps};
     use crate::proved::bitwalks::in_turn::*;
     use crate::proved::bitwords::cursors::*;
-    use crate::proved::bitranks;
+    use crate::proved::{bitranks, flow};
     use crate::proved::fixedbitset::{Bits, BitsMut, ExtendFault, FixedBitSet};
     use crate::proved::bitlanes::*;
     use crate::shim::alloc::Global;
@@ -201,7 +201,7 @@ fn bitlanes_counter_55() {
     use crate::proved::bitlanes::{word, Block, IndexRange, Steps};
     use crate::proved::bitwalks::in_turn::*;
     use crate::proved::bitwords::cursors::*;
-    use crate::proved::bitranks;
+    use crate::proved::{bitranks, flow};
     use crate::proved::fixedbitset::{Bits, BitsMut, ExtendFault, FixedBitSet};
     use crate::proved::bitlanes::*;
     use crate::shim::alloc::Global;
@@ -216,12 +216,12 @@ fn bitlanes_counter_55() {
 }
 
 #[test]
-fn bitlanes_lanes_29() {
+fn bitlanes_lanes_30() {
     use crate::proved::bitlanes::ops::*;
     use crate::proved::bitlanes::{word, Block, IndexRange, Steps};
     use crate::proved::bitwalks::in_turn::*;
     use crate::proved::bitwords::cursors::*;
-    use crate::proved::bitranks;
+    use crate::proved::{bitranks, flow};
     use crate::proved::fixedbitset::{Bits, BitsMut, ExtendFault, FixedBitSet};
     use crate::proved::bitlanes::*;
     use crate::shim::alloc::Global;
@@ -236,12 +236,12 @@ fn bitlanes_lanes_29() {
 }
 
 #[test]
-fn bitlanes_lanes_56() {
+fn bitlanes_lanes_58() {
     use crate::proved::bitlanes::ops::*;
     use crate::proved::bitlanes::{word, Block, IndexRange, Steps};
     use crate::proved::bitwalks::in_turn::*;
     use crate::proved::bitwords::cursors::*;
-    use crate::proved::bitranks;
+    use crate::proved::{bitranks, flow};
     use crate::proved::fixedbitset::{Bits, BitsMut, ExtendFault, FixedBitSet};
     use crate::proved::bitlanes::*;
     use crate::shim::alloc::Global;
@@ -255,12 +255,12 @@ fn bitlanes_lanes_56() {
 }
 
 #[test]
-fn bitlanes_lanes_76() {
+fn bitlanes_lanes_78() {
     use crate::proved::bitlanes::ops::*;
     use crate::proved::bitlanes::{word, Block, IndexRange, Steps};
     use crate::proved::bitwalks::in_turn::*;
     use crate::proved::bitwords::cursors::*;
-    use crate::proved::bitranks;
+    use crate::proved::{bitranks, flow};
     use crate::proved::fixedbitset::{Bits, BitsMut, ExtendFault, FixedBitSet};
     use crate::proved::bitlanes::*;
     use crate::shim::alloc::Global;
@@ -274,12 +274,12 @@ fn bitlanes_lanes_76() {
 }
 
 #[test]
-fn bitlanes_lanes_104() {
+fn bitlanes_lanes_106() {
     use crate::proved::bitlanes::ops::*;
     use crate::proved::bitlanes::{word, Block, IndexRange, Steps};
     use crate::proved::bitwalks::in_turn::*;
     use crate::proved::bitwords::cursors::*;
-    use crate::proved::bitranks;
+    use crate::proved::{bitranks, flow};
     use crate::proved::fixedbitset::{Bits, BitsMut, ExtendFault, FixedBitSet};
     use crate::proved::bitlanes::*;
     use crate::shim::alloc::Global;
@@ -294,12 +294,12 @@ fn bitlanes_lanes_104() {
 }
 
 #[test]
-fn bitlanes_lanes_125() {
+fn bitlanes_lanes_127() {
     use crate::proved::bitlanes::ops::*;
     use crate::proved::bitlanes::{word, Block, IndexRange, Steps};
     use crate::proved::bitwalks::in_turn::*;
     use crate::proved::bitwords::cursors::*;
-    use crate::proved::bitranks;
+    use crate::proved::{bitranks, flow};
     use crate::proved::fixedbitset::{Bits, BitsMut, ExtendFault, FixedBitSet};
     use crate::proved::bitlanes::*;
     use crate::shim::alloc::Global;
@@ -313,12 +313,12 @@ fn bitlanes_lanes_125() {
 }
 
 #[test]
-fn bitlanes_lanes_140() {
+fn bitlanes_lanes_142() {
     use crate::proved::bitlanes::ops::*;
     use crate::proved::bitlanes::{word, Block, IndexRange, Steps};
     use crate::proved::bitwalks::in_turn::*;
     use crate::proved::bitwords::cursors::*;
-    use crate::proved::bitranks;
+    use crate::proved::{bitranks, flow};
     use crate::proved::fixedbitset::{Bits, BitsMut, ExtendFault, FixedBitSet};
     use crate::proved::bitlanes::*;
     use crate::shim::alloc::Global;
@@ -332,12 +332,12 @@ fn bitlanes_lanes_140() {
 }
 
 #[test]
-fn bitlanes_lanes_169() {
+fn bitlanes_lanes_171() {
     use crate::proved::bitlanes::ops::*;
     use crate::proved::bitlanes::{word, Block, IndexRange, Steps};
     use crate::proved::bitwalks::in_turn::*;
     use crate::proved::bitwords::cursors::*;
-    use crate::proved::bitranks;
+    use crate::proved::{bitranks, flow};
     use crate::proved::fixedbitset::{Bits, BitsMut, ExtendFault, FixedBitSet};
     use crate::proved::bitlanes::*;
     use crate::shim::alloc::Global;
@@ -356,7 +356,7 @@ fn bitlanes_ops_11() {
     use crate::proved::bitlanes::{word, Block, IndexRange, Steps};
     use crate::proved::bitwalks::in_turn::*;
     use crate::proved::bitwords::cursors::*;
-    use crate::proved::bitranks;
+    use crate::proved::{bitranks, flow};
     use crate::proved::fixedbitset::{Bits, BitsMut, ExtendFault, FixedBitSet};
     use crate::proved::bitlanes::*;
     use crate::shim::alloc::Global;
@@ -376,7 +376,7 @@ fn bitlanes_ops_33() {
     use crate::proved::bitlanes::{word, Block, IndexRange, Steps};
     use crate::proved::bitwalks::in_turn::*;
     use crate::proved::bitwords::cursors::*;
-    use crate::proved::bitranks;
+    use crate::proved::{bitranks, flow};
     use crate::proved::fixedbitset::{Bits, BitsMut, ExtendFault, FixedBitSet};
     use crate::proved::bitlanes::*;
     use crate::shim::alloc::Global;
@@ -395,7 +395,7 @@ fn bitlanes_ops_58() {
     use crate::proved::bitlanes::{word, Block, IndexRange, Steps};
     use crate::proved::bitwalks::in_turn::*;
     use crate::proved::bitwords::cursors::*;
-    use crate::proved::bitranks;
+    use crate::proved::{bitranks, flow};
     use crate::proved::fixedbitset::{Bits, BitsMut, ExtendFault, FixedBitSet};
     use crate::proved::bitlanes::*;
     use crate::shim::alloc::Global;
@@ -414,7 +414,7 @@ fn bitlanes_ops_83() {
     use crate::proved::bitlanes::{word, Block, IndexRange, Steps};
     use crate::proved::bitwalks::in_turn::*;
     use crate::proved::bitwords::cursors::*;
-    use crate::proved::bitranks;
+    use crate::proved::{bitranks, flow};
     use crate::proved::fixedbitset::{Bits, BitsMut, ExtendFault, FixedBitSet};
     use crate::proved::bitlanes::*;
     use crate::shim::alloc::Global;
@@ -433,7 +433,7 @@ fn bitlanes_ops_108() {
     use crate::proved::bitlanes::{word, Block, IndexRange, Steps};
     use crate::proved::bitwalks::in_turn::*;
     use crate::proved::bitwords::cursors::*;
-    use crate::proved::bitranks;
+    use crate::proved::{bitranks, flow};
     use crate::proved::fixedbitset::{Bits, BitsMut, ExtendFault, FixedBitSet};
     use crate::proved::bitlanes::*;
     use crate::shim::alloc::Global;
@@ -452,7 +452,7 @@ fn bitlanes_ops_133() {
     use crate::proved::bitlanes::{word, Block, IndexRange, Steps};
     use crate::proved::bitwalks::in_turn::*;
     use crate::proved::bitwords::cursors::*;
-    use crate::proved::bitranks;
+    use crate::proved::{bitranks, flow};
     use crate::proved::fixedbitset::{Bits, BitsMut, ExtendFault, FixedBitSet};
     use crate::proved::bitlanes::*;
     use crate::shim::alloc::Global;
@@ -471,7 +471,7 @@ fn bitlanes_range_12() {
     use crate::proved::bitlanes::{word, Block, IndexRange, Steps};
     use crate::proved::bitwalks::in_turn::*;
     use crate::proved::bitwords::cursors::*;
-    use crate::proved::bitranks;
+    use crate::proved::{bitranks, flow};
     use crate::proved::fixedbitset::{Bits, BitsMut, ExtendFault, FixedBitSet};
     use crate::proved::bitlanes::*;
     use crate::shim::alloc::Global;
@@ -493,7 +493,7 @@ fn bitlanes_search_23() {
     use crate::proved::bitlanes::{word, Block, IndexRange, Steps};
     use crate::proved::bitwalks::in_turn::*;
     use crate::proved::bitwords::cursors::*;
-    use crate::proved::bitranks;
+    use crate::proved::{bitranks, flow};
     use crate::proved::fixedbitset::{Bits, BitsMut, ExtendFault, FixedBitSet};
     use crate::proved::bitlanes::*;
     use crate::shim::alloc::Global;
@@ -513,7 +513,7 @@ fn bitlanes_search_39() {
     use crate::proved::bitlanes::{word, Block, IndexRange, Steps};
     use crate::proved::bitwalks::in_turn::*;
     use crate::proved::bitwords::cursors::*;
-    use crate::proved::bitranks;
+    use crate::proved::{bitranks, flow};
     use crate::proved::fixedbitset::{Bits, BitsMut, ExtendFault, FixedBitSet};
     use crate::proved::bitlanes::*;
     use crate::shim::alloc::Global;
@@ -533,7 +533,7 @@ fn bitlanes_search_52() {
     use crate::proved::bitlanes::{word, Block, IndexRange, Steps};
     use crate::proved::bitwalks::in_turn::*;
     use crate::proved::bitwords::cursors::*;
-    use crate::proved::bitranks;
+    use crate::proved::{bitranks, flow};
     use crate::proved::fixedbitset::{Bits, BitsMut, ExtendFault, FixedBitSet};
     use crate::proved::bitlanes::*;
     use crate::shim::alloc::Global;
@@ -550,12 +550,12 @@ fn bitlanes_search_52() {
 }
 
 #[test]
-fn bitlanes_search_85() {
+fn bitlanes_search_90() {
     use crate::proved::bitlanes::ops::*;
     use crate::proved::bitlanes::{word, Block, IndexRange, Steps};
     use crate::proved::bitwalks::in_turn::*;
     use crate::proved::bitwords::cursors::*;
-    use crate::proved::bitranks;
+    use crate::proved::{bitranks, flow};
     use crate::proved::fixedbitset::{Bits, BitsMut, ExtendFault, FixedBitSet};
     use crate::proved::bitlanes::*;
     use crate::shim::alloc::Global;
@@ -571,12 +571,12 @@ fn bitlanes_search_85() {
 }
 
 #[test]
-fn bitlanes_search_108() {
+fn bitlanes_search_113() {
     use crate::proved::bitlanes::ops::*;
     use crate::proved::bitlanes::{word, Block, IndexRange, Steps};
     use crate::proved::bitwalks::in_turn::*;
     use crate::proved::bitwords::cursors::*;
-    use crate::proved::bitranks;
+    use crate::proved::{bitranks, flow};
     use crate::proved::fixedbitset::{Bits, BitsMut, ExtendFault, FixedBitSet};
     use crate::proved::bitlanes::*;
     use crate::shim::alloc::Global;
@@ -593,12 +593,12 @@ fn bitlanes_search_108() {
 }
 
 #[test]
-fn bitlanes_search_145() {
+fn bitlanes_search_169() {
     use crate::proved::bitlanes::ops::*;
     use crate::proved::bitlanes::{word, Block, IndexRange, Steps};
     use crate::proved::bitwalks::in_turn::*;
     use crate::proved::bitwords::cursors::*;
-    use crate::proved::bitranks;
+    use crate::proved::{bitranks, flow};
     use crate::proved::fixedbitset::{Bits, BitsMut, ExtendFault, FixedBitSet};
     use crate::proved::bitlanes::*;
     use crate::shim::alloc::Global;
@@ -618,7 +618,7 @@ fn bitlanes_shifts_19() {
     use crate::proved::bitlanes::{word, Block, IndexRange, Steps};
     use crate::proved::bitwalks::in_turn::*;
     use crate::proved::bitwords::cursors::*;
-    use crate::proved::bitranks;
+    use crate::proved::{bitranks, flow};
     use crate::proved::fixedbitset::{Bits, BitsMut, ExtendFault, FixedBitSet};
     use crate::proved::bitlanes::*;
     use crate::shim::alloc::Global;
@@ -638,7 +638,7 @@ fn bitlanes_shifts_52() {
     use crate::proved::bitlanes::{word, Block, IndexRange, Steps};
     use crate::proved::bitwalks::in_turn::*;
     use crate::proved::bitwords::cursors::*;
-    use crate::proved::bitranks;
+    use crate::proved::{bitranks, flow};
     use crate::proved::fixedbitset::{Bits, BitsMut, ExtendFault, FixedBitSet};
     use crate::proved::bitlanes::*;
     use crate::shim::alloc::Global;
@@ -658,7 +658,7 @@ fn bitlanes_shifts_83() {
     use crate::proved::bitlanes::{word, Block, IndexRange, Steps};
     use crate::proved::bitwalks::in_turn::*;
     use crate::proved::bitwords::cursors::*;
-    use crate::proved::bitranks;
+    use crate::proved::{bitranks, flow};
     use crate::proved::fixedbitset::{Bits, BitsMut, ExtendFault, FixedBitSet};
     use crate::proved::bitlanes::*;
     use crate::shim::alloc::Global;
@@ -678,7 +678,7 @@ fn bitlanes_shifts_117() {
     use crate::proved::bitlanes::{word, Block, IndexRange, Steps};
     use crate::proved::bitwalks::in_turn::*;
     use crate::proved::bitwords::cursors::*;
-    use crate::proved::bitranks;
+    use crate::proved::{bitranks, flow};
     use crate::proved::fixedbitset::{Bits, BitsMut, ExtendFault, FixedBitSet};
     use crate::proved::bitlanes::*;
     use crate::shim::alloc::Global;
@@ -697,7 +697,7 @@ fn bitlanes_word_12() {
     use crate::proved::bitlanes::{word, Block, IndexRange, Steps};
     use crate::proved::bitwalks::in_turn::*;
     use crate::proved::bitwords::cursors::*;
-    use crate::proved::bitranks;
+    use crate::proved::{bitranks, flow};
     use crate::proved::fixedbitset::{Bits, BitsMut, ExtendFault, FixedBitSet};
     use crate::proved::bitlanes::*;
     use crate::shim::alloc::Global;
@@ -716,7 +716,7 @@ fn bitlanes_word_23() {
     use crate::proved::bitlanes::{word, Block, IndexRange, Steps};
     use crate::proved::bitwalks::in_turn::*;
     use crate::proved::bitwords::cursors::*;
-    use crate::proved::bitranks;
+    use crate::proved::{bitranks, flow};
     use crate::proved::fixedbitset::{Bits, BitsMut, ExtendFault, FixedBitSet};
     use crate::proved::bitlanes::*;
     use crate::shim::alloc::Global;
@@ -735,7 +735,7 @@ fn bitlanes_word_34() {
     use crate::proved::bitlanes::{word, Block, IndexRange, Steps};
     use crate::proved::bitwalks::in_turn::*;
     use crate::proved::bitwords::cursors::*;
-    use crate::proved::bitranks;
+    use crate::proved::{bitranks, flow};
     use crate::proved::fixedbitset::{Bits, BitsMut, ExtendFault, FixedBitSet};
     use crate::proved::bitlanes::*;
     use crate::shim::alloc::Global;
@@ -754,7 +754,7 @@ fn bitlanes_word_46() {
     use crate::proved::bitlanes::{word, Block, IndexRange, Steps};
     use crate::proved::bitwalks::in_turn::*;
     use crate::proved::bitwords::cursors::*;
-    use crate::proved::bitranks;
+    use crate::proved::{bitranks, flow};
     use crate::proved::fixedbitset::{Bits, BitsMut, ExtendFault, FixedBitSet};
     use crate::proved::bitlanes::*;
     use crate::shim::alloc::Global;
@@ -773,7 +773,7 @@ fn bitlanes_word_57() {
     use crate::proved::bitlanes::{word, Block, IndexRange, Steps};
     use crate::proved::bitwalks::in_turn::*;
     use crate::proved::bitwords::cursors::*;
-    use crate::proved::bitranks;
+    use crate::proved::{bitranks, flow};
     use crate::proved::fixedbitset::{Bits, BitsMut, ExtendFault, FixedBitSet};
     use crate::proved::bitlanes::*;
     use crate::shim::alloc::Global;
@@ -793,7 +793,7 @@ fn bitlanes_word_71() {
     use crate::proved::bitlanes::{word, Block, IndexRange, Steps};
     use crate::proved::bitwalks::in_turn::*;
     use crate::proved::bitwords::cursors::*;
-    use crate::proved::bitranks;
+    use crate::proved::{bitranks, flow};
     use crate::proved::fixedbitset::{Bits, BitsMut, ExtendFault, FixedBitSet};
     use crate::proved::bitlanes::*;
     use crate::shim::alloc::Global;
@@ -813,7 +813,7 @@ fn bitlanes_word_85() {
     use crate::proved::bitlanes::{word, Block, IndexRange, Steps};
     use crate::proved::bitwalks::in_turn::*;
     use crate::proved::bitwords::cursors::*;
-    use crate::proved::bitranks;
+    use crate::proved::{bitranks, flow};
     use crate::proved::fixedbitset::{Bits, BitsMut, ExtendFault, FixedBitSet};
     use crate::proved::bitlanes::*;
     use crate::shim::alloc::Global;
@@ -832,7 +832,7 @@ fn bitlanes_word_103() {
     use crate::proved::bitlanes::{word, Block, IndexRange, Steps};
     use crate::proved::bitwalks::in_turn::*;
     use crate::proved::bitwords::cursors::*;
-    use crate::proved::bitranks;
+    use crate::proved::{bitranks, flow};
     use crate::proved::fixedbitset::{Bits, BitsMut, ExtendFault, FixedBitSet};
     use crate::proved::bitlanes::*;
     use crate::shim::alloc::Global;
@@ -852,7 +852,7 @@ fn bitranks_counted_16() {
     use crate::proved::bitlanes::{word, Block, IndexRange, Steps};
     use crate::proved::bitwalks::in_turn::*;
     use crate::proved::bitwords::cursors::*;
-    use crate::proved::bitranks;
+    use crate::proved::{bitranks, flow};
     use crate::proved::fixedbitset::{Bits, BitsMut, ExtendFault, FixedBitSet};
     use crate::proved::bitranks::*;
     use crate::shim::alloc::Global;
@@ -874,7 +874,7 @@ fn bitranks_counted_40() {
     use crate::proved::bitlanes::{word, Block, IndexRange, Steps};
     use crate::proved::bitwalks::in_turn::*;
     use crate::proved::bitwords::cursors::*;
-    use crate::proved::bitranks;
+    use crate::proved::{bitranks, flow};
     use crate::proved::fixedbitset::{Bits, BitsMut, ExtendFault, FixedBitSet};
     use crate::proved::bitranks::*;
     use crate::shim::alloc::Global;
@@ -895,7 +895,7 @@ fn bitranks_counted_54() {
     use crate::proved::bitlanes::{word, Block, IndexRange, Steps};
     use crate::proved::bitwalks::in_turn::*;
     use crate::proved::bitwords::cursors::*;
-    use crate::proved::bitranks;
+    use crate::proved::{bitranks, flow};
     use crate::proved::fixedbitset::{Bits, BitsMut, ExtendFault, FixedBitSet};
     use crate::proved::bitranks::*;
     use crate::shim::alloc::Global;
@@ -916,7 +916,7 @@ fn bitranks_directory_22() {
     use crate::proved::bitlanes::{word, Block, IndexRange, Steps};
     use crate::proved::bitwalks::in_turn::*;
     use crate::proved::bitwords::cursors::*;
-    use crate::proved::bitranks;
+    use crate::proved::{bitranks, flow};
     use crate::proved::fixedbitset::{Bits, BitsMut, ExtendFault, FixedBitSet};
     use crate::proved::bitranks::*;
     use crate::shim::alloc::Global;
@@ -936,7 +936,7 @@ fn bitranks_directory_38() {
     use crate::proved::bitlanes::{word, Block, IndexRange, Steps};
     use crate::proved::bitwalks::in_turn::*;
     use crate::proved::bitwords::cursors::*;
-    use crate::proved::bitranks;
+    use crate::proved::{bitranks, flow};
     use crate::proved::fixedbitset::{Bits, BitsMut, ExtendFault, FixedBitSet};
     use crate::proved::bitranks::*;
     use crate::shim::alloc::Global;
@@ -956,7 +956,7 @@ fn bitranks_directory_61() {
     use crate::proved::bitlanes::{word, Block, IndexRange, Steps};
     use crate::proved::bitwalks::in_turn::*;
     use crate::proved::bitwords::cursors::*;
-    use crate::proved::bitranks;
+    use crate::proved::{bitranks, flow};
     use crate::proved::fixedbitset::{Bits, BitsMut, ExtendFault, FixedBitSet};
     use crate::proved::bitranks::*;
     use crate::shim::alloc::Global;
@@ -972,12 +972,12 @@ fn bitranks_directory_61() {
 }
 
 #[test]
-fn bitranks_directory_94() {
+fn bitranks_directory_120() {
     use crate::proved::bitlanes::ops::*;
     use crate::proved::bitlanes::{word, Block, IndexRange, Steps};
     use crate::proved::bitwalks::in_turn::*;
     use crate::proved::bitwords::cursors::*;
-    use crate::proved::bitranks;
+    use crate::proved::{bitranks, flow};
     use crate::proved::fixedbitset::{Bits, BitsMut, ExtendFault, FixedBitSet};
     use crate::proved::bitranks::*;
     use crate::shim::alloc::Global;
@@ -998,7 +998,7 @@ fn bitranks_ranks_26() {
     use crate::proved::bitlanes::{word, Block, IndexRange, Steps};
     use crate::proved::bitwalks::in_turn::*;
     use crate::proved::bitwords::cursors::*;
-    use crate::proved::bitranks;
+    use crate::proved::{bitranks, flow};
     use crate::proved::fixedbitset::{Bits, BitsMut, ExtendFault, FixedBitSet};
     use crate::proved::bitranks::*;
     use crate::shim::alloc::Global;
@@ -1020,7 +1020,7 @@ fn bitranks_ranks_38() {
     use crate::proved::bitlanes::{word, Block, IndexRange, Steps};
     use crate::proved::bitwalks::in_turn::*;
     use crate::proved::bitwords::cursors::*;
-    use crate::proved::bitranks;
+    use crate::proved::{bitranks, flow};
     use crate::proved::fixedbitset::{Bits, BitsMut, ExtendFault, FixedBitSet};
     use crate::proved::bitranks::*;
     use crate::shim::alloc::Global;
@@ -1041,7 +1041,7 @@ fn bitranks_ranks_53() {
     use crate::proved::bitlanes::{word, Block, IndexRange, Steps};
     use crate::proved::bitwalks::in_turn::*;
     use crate::proved::bitwords::cursors::*;
-    use crate::proved::bitranks;
+    use crate::proved::{bitranks, flow};
     use crate::proved::fixedbitset::{Bits, BitsMut, ExtendFault, FixedBitSet};
     use crate::proved::bitranks::*;
     use crate::shim::alloc::Global;
@@ -1064,7 +1064,7 @@ fn bitranks_ranks_71() {
     use crate::proved::bitlanes::{word, Block, IndexRange, Steps};
     use crate::proved::bitwalks::in_turn::*;
     use crate::proved::bitwords::cursors::*;
-    use crate::proved::bitranks;
+    use crate::proved::{bitranks, flow};
     use crate::proved::fixedbitset::{Bits, BitsMut, ExtendFault, FixedBitSet};
     use crate::proved::bitranks::*;
     use crate::shim::alloc::Global;
@@ -1087,7 +1087,7 @@ fn bitrows_counted_11() {
     use crate::proved::bitlanes::{word, Block, IndexRange, Steps};
     use crate::proved::bitwalks::in_turn::*;
     use crate::proved::bitwords::cursors::*;
-    use crate::proved::bitranks;
+    use crate::proved::{bitranks, flow};
     use crate::proved::fixedbitset::{Bits, BitsMut, ExtendFault, FixedBitSet};
     use crate::proved::bitrows::*;
     use crate::shim::alloc::Global;
@@ -1109,7 +1109,7 @@ fn bitrows_table_32() {
     use crate::proved::bitlanes::{word, Block, IndexRange, Steps};
     use crate::proved::bitwalks::in_turn::*;
     use crate::proved::bitwords::cursors::*;
-    use crate::proved::bitranks;
+    use crate::proved::{bitranks, flow};
     use crate::proved::fixedbitset::{Bits, BitsMut, ExtendFault, FixedBitSet};
     use crate::proved::bitrows::*;
     use crate::shim::alloc::Global;
@@ -1131,7 +1131,7 @@ fn bitrows_table_51() {
     use crate::proved::bitlanes::{word, Block, IndexRange, Steps};
     use crate::proved::bitwalks::in_turn::*;
     use crate::proved::bitwords::cursors::*;
-    use crate::proved::bitranks;
+    use crate::proved::{bitranks, flow};
     use crate::proved::fixedbitset::{Bits, BitsMut, ExtendFault, FixedBitSet};
     use crate::proved::bitrows::*;
     use crate::shim::alloc::Global;
@@ -1151,7 +1151,7 @@ fn bitrows_table_62() {
     use crate::proved::bitlanes::{word, Block, IndexRange, Steps};
     use crate::proved::bitwalks::in_turn::*;
     use crate::proved::bitwords::cursors::*;
-    use crate::proved::bitranks;
+    use crate::proved::{bitranks, flow};
     use crate::proved::fixedbitset::{Bits, BitsMut, ExtendFault, FixedBitSet};
     use crate::proved::bitrows::*;
     use crate::shim::alloc::Global;
@@ -1171,7 +1171,7 @@ fn bitrows_table_73() {
     use crate::proved::bitlanes::{word, Block, IndexRange, Steps};
     use crate::proved::bitwalks::in_turn::*;
     use crate::proved::bitwords::cursors::*;
-    use crate::proved::bitranks;
+    use crate::proved::{bitranks, flow};
     use crate::proved::fixedbitset::{Bits, BitsMut, ExtendFault, FixedBitSet};
     use crate::proved::bitrows::*;
     use crate::shim::alloc::Global;
@@ -1191,7 +1191,7 @@ fn bitrows_table_89() {
     use crate::proved::bitlanes::{word, Block, IndexRange, Steps};
     use crate::proved::bitwalks::in_turn::*;
     use crate::proved::bitwords::cursors::*;
-    use crate::proved::bitranks;
+    use crate::proved::{bitranks, flow};
     use crate::proved::fixedbitset::{Bits, BitsMut, ExtendFault, FixedBitSet};
     use crate::proved::bitrows::*;
     use crate::shim::alloc::Global;
@@ -1213,7 +1213,7 @@ fn bitrows_table_103() {
     use crate::proved::bitlanes::{word, Block, IndexRange, Steps};
     use crate::proved::bitwalks::in_turn::*;
     use crate::proved::bitwords::cursors::*;
-    use crate::proved::bitranks;
+    use crate::proved::{bitranks, flow};
     use crate::proved::fixedbitset::{Bits, BitsMut, ExtendFault, FixedBitSet};
     use crate::proved::bitrows::*;
     use crate::shim::alloc::Global;
@@ -1236,7 +1236,7 @@ fn bitrows_table_125() {
     use crate::proved::bitlanes::{word, Block, IndexRange, Steps};
     use crate::proved::bitwalks::in_turn::*;
     use crate::proved::bitwords::cursors::*;
-    use crate::proved::bitranks;
+    use crate::proved::{bitranks, flow};
     use crate::proved::fixedbitset::{Bits, BitsMut, ExtendFault, FixedBitSet};
     use crate::proved::bitrows::*;
     use crate::shim::alloc::Global;
@@ -1259,7 +1259,7 @@ fn bitrows_table_147() {
     use crate::proved::bitlanes::{word, Block, IndexRange, Steps};
     use crate::proved::bitwalks::in_turn::*;
     use crate::proved::bitwords::cursors::*;
-    use crate::proved::bitranks;
+    use crate::proved::{bitranks, flow};
     use crate::proved::fixedbitset::{Bits, BitsMut, ExtendFault, FixedBitSet};
     use crate::proved::bitrows::*;
     use crate::shim::alloc::Global;
@@ -1281,7 +1281,7 @@ fn bitrows_table_166() {
     use crate::proved::bitlanes::{word, Block, IndexRange, Steps};
     use crate::proved::bitwalks::in_turn::*;
     use crate::proved::bitwords::cursors::*;
-    use crate::proved::bitranks;
+    use crate::proved::{bitranks, flow};
     use crate::proved::fixedbitset::{Bits, BitsMut, ExtendFault, FixedBitSet};
     use crate::proved::bitrows::*;
     use crate::shim::alloc::Global;
@@ -1305,7 +1305,7 @@ fn bitrows_views_changes_16() {
     use crate::proved::bitlanes::{word, Block, IndexRange, Steps};
     use crate::proved::bitwalks::in_turn::*;
     use crate::proved::bitwords::cursors::*;
-    use crate::proved::bitranks;
+    use crate::proved::{bitranks, flow};
     use crate::proved::fixedbitset::{Bits, BitsMut, ExtendFault, FixedBitSet};
     use crate::proved::bitrows::*;
     use crate::shim::alloc::Global;
@@ -1325,7 +1325,7 @@ fn bitrows_views_changes_33() {
     use crate::proved::bitlanes::{word, Block, IndexRange, Steps};
     use crate::proved::bitwalks::in_turn::*;
     use crate::proved::bitwords::cursors::*;
-    use crate::proved::bitranks;
+    use crate::proved::{bitranks, flow};
     use crate::proved::fixedbitset::{Bits, BitsMut, ExtendFault, FixedBitSet};
     use crate::proved::bitrows::*;
     use crate::shim::alloc::Global;
@@ -1345,7 +1345,7 @@ fn bitrows_views_changes_50() {
     use crate::proved::bitlanes::{word, Block, IndexRange, Steps};
     use crate::proved::bitwalks::in_turn::*;
     use crate::proved::bitwords::cursors::*;
-    use crate::proved::bitranks;
+    use crate::proved::{bitranks, flow};
     use crate::proved::fixedbitset::{Bits, BitsMut, ExtendFault, FixedBitSet};
     use crate::proved::bitrows::*;
     use crate::shim::alloc::Global;
@@ -1366,7 +1366,7 @@ fn bitrows_views_changes_68() {
     use crate::proved::bitlanes::{word, Block, IndexRange, Steps};
     use crate::proved::bitwalks::in_turn::*;
     use crate::proved::bitwords::cursors::*;
-    use crate::proved::bitranks;
+    use crate::proved::{bitranks, flow};
     use crate::proved::fixedbitset::{Bits, BitsMut, ExtendFault, FixedBitSet};
     use crate::proved::bitrows::*;
     use crate::shim::alloc::Global;
@@ -1388,7 +1388,7 @@ fn bitrows_views_changes_89() {
     use crate::proved::bitlanes::{word, Block, IndexRange, Steps};
     use crate::proved::bitwalks::in_turn::*;
     use crate::proved::bitwords::cursors::*;
-    use crate::proved::bitranks;
+    use crate::proved::{bitranks, flow};
     use crate::proved::fixedbitset::{Bits, BitsMut, ExtendFault, FixedBitSet};
     use crate::proved::bitrows::*;
     use crate::shim::alloc::Global;
@@ -1411,7 +1411,7 @@ fn bitrows_views_reads_11() {
     use crate::proved::bitlanes::{word, Block, IndexRange, Steps};
     use crate::proved::bitwalks::in_turn::*;
     use crate::proved::bitwords::cursors::*;
-    use crate::proved::bitranks;
+    use crate::proved::{bitranks, flow};
     use crate::proved::fixedbitset::{Bits, BitsMut, ExtendFault, FixedBitSet};
     use crate::proved::bitrows::*;
     use crate::shim::alloc::Global;
@@ -1432,7 +1432,7 @@ fn bitrows_views_reads_30() {
     use crate::proved::bitlanes::{word, Block, IndexRange, Steps};
     use crate::proved::bitwalks::in_turn::*;
     use crate::proved::bitwords::cursors::*;
-    use crate::proved::bitranks;
+    use crate::proved::{bitranks, flow};
     use crate::proved::fixedbitset::{Bits, BitsMut, ExtendFault, FixedBitSet};
     use crate::proved::bitrows::*;
     use crate::shim::alloc::Global;
@@ -1454,7 +1454,7 @@ fn bitwalks_in_turn_10() {
     use crate::proved::bitlanes::{word, Block, IndexRange, Steps};
     use crate::proved::bitwalks::in_turn::*;
     use crate::proved::bitwords::cursors::*;
-    use crate::proved::bitranks;
+    use crate::proved::{bitranks, flow};
     use crate::proved::fixedbitset::{Bits, BitsMut, ExtendFault, FixedBitSet};
     use crate::proved::bitwalks::*;
     use crate::shim::alloc::Global;
@@ -1463,7 +1463,7 @@ fn bitwalks_in_turn_10() {
     use core::cmp::Ordering;
     use core::mem::{size_of, size_of_val};
 
-    let mut walk = Cursor::over(Plain { words: &[9, 1] });
+    let mut walk = Cursor::over(Plain { words: [9, 1].iter() });
     assert_eq!(Part::take_first(&mut walk), Some(0));
     assert_eq!(Part::take_last(&mut walk), Some(64));
 }
@@ -1474,7 +1474,7 @@ fn bitwalks_in_turn_45() {
     use crate::proved::bitlanes::{word, Block, IndexRange, Steps};
     use crate::proved::bitwalks::in_turn::*;
     use crate::proved::bitwords::cursors::*;
-    use crate::proved::bitranks;
+    use crate::proved::{bitranks, flow};
     use crate::proved::fixedbitset::{Bits, BitsMut, ExtendFault, FixedBitSet};
     use crate::proved::bitwalks::*;
     use crate::shim::alloc::Global;
@@ -1483,7 +1483,7 @@ fn bitwalks_in_turn_45() {
     use core::cmp::Ordering;
     use core::mem::{size_of, size_of_val};
 
-    let walk = Cursor::over(Plain { words: &[9, 1] });
+    let walk = Cursor::over(Plain { words: [9, 1].iter() });
     assert_eq!(Counted::count_items(walk, &mut Steps::new()), 3);
 }
 
@@ -1493,7 +1493,7 @@ fn bitwalks_in_turn_63() {
     use crate::proved::bitlanes::{word, Block, IndexRange, Steps};
     use crate::proved::bitwalks::in_turn::*;
     use crate::proved::bitwords::cursors::*;
-    use crate::proved::bitranks;
+    use crate::proved::{bitranks, flow};
     use crate::proved::fixedbitset::{Bits, BitsMut, ExtendFault, FixedBitSet};
     use crate::proved::bitwalks::*;
     use crate::shim::alloc::Global;
@@ -1502,8 +1502,8 @@ fn bitwalks_in_turn_63() {
     use core::cmp::Ordering;
     use core::mem::{size_of, size_of_val};
 
-    let first = Cursor::over(Plain { words: &[9, 1] });
-    let second = Cursor::over(Plain { words: &[6] });
+    let first = Cursor::over(Plain { words: [9, 1].iter() });
+    let second = Cursor::over(Plain { words: [6].iter() });
     let mut walks = InTurn::of(first, second);
     assert_eq!((walks.take_first(), walks.take_last()), (Some(0), Some(2)));
 }
@@ -1514,7 +1514,7 @@ fn bitwalks_in_turn_81() {
     use crate::proved::bitlanes::{word, Block, IndexRange, Steps};
     use crate::proved::bitwalks::in_turn::*;
     use crate::proved::bitwords::cursors::*;
-    use crate::proved::bitranks;
+    use crate::proved::{bitranks, flow};
     use crate::proved::fixedbitset::{Bits, BitsMut, ExtendFault, FixedBitSet};
     use crate::proved::bitwalks::*;
     use crate::shim::alloc::Global;
@@ -1523,8 +1523,8 @@ fn bitwalks_in_turn_81() {
     use core::cmp::Ordering;
     use core::mem::{size_of, size_of_val};
 
-    let first = Cursor::over(Plain { words: &[9, 1] });
-    let second = Cursor::over(Plain { words: &[6] });
+    let first = Cursor::over(Plain { words: [9, 1].iter() });
+    let second = Cursor::over(Plain { words: [6].iter() });
     assert_eq!(InTurn::of(first, second).take_first(), Some(0));
 }
 
@@ -1534,7 +1534,7 @@ fn bitwalks_in_turn_98() {
     use crate::proved::bitlanes::{word, Block, IndexRange, Steps};
     use crate::proved::bitwalks::in_turn::*;
     use crate::proved::bitwords::cursors::*;
-    use crate::proved::bitranks;
+    use crate::proved::{bitranks, flow};
     use crate::proved::fixedbitset::{Bits, BitsMut, ExtendFault, FixedBitSet};
     use crate::proved::bitwalks::*;
     use crate::shim::alloc::Global;
@@ -1543,8 +1543,8 @@ fn bitwalks_in_turn_98() {
     use core::cmp::Ordering;
     use core::mem::{size_of, size_of_val};
 
-    let first = Cursor::over(Plain { words: &[8] });
-    let second = Cursor::over(Plain { words: &[6] });
+    let first = Cursor::over(Plain { words: [8].iter() });
+    let second = Cursor::over(Plain { words: [6].iter() });
     let mut walks = InTurn::of(first, second);
     assert_eq!((walks.take_first(), walks.take_first()), (Some(3), Some(1)));
 }
@@ -1555,7 +1555,7 @@ fn bitwalks_in_turn_119() {
     use crate::proved::bitlanes::{word, Block, IndexRange, Steps};
     use crate::proved::bitwalks::in_turn::*;
     use crate::proved::bitwords::cursors::*;
-    use crate::proved::bitranks;
+    use crate::proved::{bitranks, flow};
     use crate::proved::fixedbitset::{Bits, BitsMut, ExtendFault, FixedBitSet};
     use crate::proved::bitwalks::*;
     use crate::shim::alloc::Global;
@@ -1564,8 +1564,8 @@ fn bitwalks_in_turn_119() {
     use core::cmp::Ordering;
     use core::mem::{size_of, size_of_val};
 
-    let first = Cursor::over(Plain { words: &[8] });
-    let second = Cursor::over(Plain { words: &[2] });
+    let first = Cursor::over(Plain { words: [8].iter() });
+    let second = Cursor::over(Plain { words: [2].iter() });
     let mut walks = InTurn::of(first, second);
     assert_eq!((walks.take_last(), walks.take_last()), (Some(1), Some(3)));
 }
@@ -1576,7 +1576,7 @@ fn bitwalks_in_turn_140() {
     use crate::proved::bitlanes::{word, Block, IndexRange, Steps};
     use crate::proved::bitwalks::in_turn::*;
     use crate::proved::bitwords::cursors::*;
-    use crate::proved::bitranks;
+    use crate::proved::{bitranks, flow};
     use crate::proved::fixedbitset::{Bits, BitsMut, ExtendFault, FixedBitSet};
     use crate::proved::bitwalks::*;
     use crate::shim::alloc::Global;
@@ -1585,8 +1585,8 @@ fn bitwalks_in_turn_140() {
     use core::cmp::Ordering;
     use core::mem::{size_of, size_of_val};
 
-    let first = Cursor::over(Plain { words: &[9, 1] });
-    let second = Cursor::over(Plain { words: &[6] });
+    let first = Cursor::over(Plain { words: [9, 1].iter() });
+    let second = Cursor::over(Plain { words: [6].iter() });
     assert_eq!(InTurn::of(first, second).most(), Some(256));
 }
 
@@ -1596,7 +1596,7 @@ fn bitwalks_in_turn_152() {
     use crate::proved::bitlanes::{word, Block, IndexRange, Steps};
     use crate::proved::bitwalks::in_turn::*;
     use crate::proved::bitwords::cursors::*;
-    use crate::proved::bitranks;
+    use crate::proved::{bitranks, flow};
     use crate::proved::fixedbitset::{Bits, BitsMut, ExtendFault, FixedBitSet};
     use crate::proved::bitwalks::*;
     use crate::shim::alloc::Global;
@@ -1605,8 +1605,8 @@ fn bitwalks_in_turn_152() {
     use core::cmp::Ordering;
     use core::mem::{size_of, size_of_val};
 
-    let first = Cursor::over(Plain { words: &[9, 1] });
-    let second = Cursor::over(Plain { words: &[6] });
+    let first = Cursor::over(Plain { words: [9, 1].iter() });
+    let second = Cursor::over(Plain { words: [6].iter() });
     let (first, _) = InTurn::of(first, second).into_walks();
     assert!(first.eq([0, 3, 64]));
 }
@@ -1617,7 +1617,7 @@ fn bitwalks_in_turn_173() {
     use crate::proved::bitlanes::{word, Block, IndexRange, Steps};
     use crate::proved::bitwalks::in_turn::*;
     use crate::proved::bitwords::cursors::*;
-    use crate::proved::bitranks;
+    use crate::proved::{bitranks, flow};
     use crate::proved::fixedbitset::{Bits, BitsMut, ExtendFault, FixedBitSet};
     use crate::proved::bitwalks::*;
     use crate::shim::alloc::Global;
@@ -1626,8 +1626,8 @@ fn bitwalks_in_turn_173() {
     use core::cmp::Ordering;
     use core::mem::{size_of, size_of_val};
 
-    let first = Cursor::over(Plain { words: &[9, 1] });
-    let second = Cursor::over(Plain { words: &[7] });
+    let first = Cursor::over(Plain { words: [9, 1].iter() });
+    let second = Cursor::over(Plain { words: [7].iter() });
     let mut walks = InTurn::of(first, second);
     assert_eq!(walks.take_first(), Some(0));
     assert_eq!(walks.count_left(&mut Steps::new()), 5);
@@ -1639,7 +1639,7 @@ fn bitwalks_runs_20() {
     use crate::proved::bitlanes::{word, Block, IndexRange, Steps};
     use crate::proved::bitwalks::in_turn::*;
     use crate::proved::bitwords::cursors::*;
-    use crate::proved::bitranks;
+    use crate::proved::{bitranks, flow};
     use crate::proved::fixedbitset::{Bits, BitsMut, ExtendFault, FixedBitSet};
     use crate::proved::bitwalks::*;
     use crate::shim::alloc::Global;
@@ -1662,7 +1662,7 @@ fn bitwalks_runs_54() {
     use crate::proved::bitlanes::{word, Block, IndexRange, Steps};
     use crate::proved::bitwalks::in_turn::*;
     use crate::proved::bitwords::cursors::*;
-    use crate::proved::bitranks;
+    use crate::proved::{bitranks, flow};
     use crate::proved::fixedbitset::{Bits, BitsMut, ExtendFault, FixedBitSet};
     use crate::proved::bitwalks::*;
     use crate::shim::alloc::Global;
@@ -1682,7 +1682,7 @@ fn bitwalks_runs_76() {
     use crate::proved::bitlanes::{word, Block, IndexRange, Steps};
     use crate::proved::bitwalks::in_turn::*;
     use crate::proved::bitwords::cursors::*;
-    use crate::proved::bitranks;
+    use crate::proved::{bitranks, flow};
     use crate::proved::fixedbitset::{Bits, BitsMut, ExtendFault, FixedBitSet};
     use crate::proved::bitwalks::*;
     use crate::shim::alloc::Global;
@@ -1703,7 +1703,7 @@ fn bitwalks_runs_95() {
     use crate::proved::bitlanes::{word, Block, IndexRange, Steps};
     use crate::proved::bitwalks::in_turn::*;
     use crate::proved::bitwords::cursors::*;
-    use crate::proved::bitranks;
+    use crate::proved::{bitranks, flow};
     use crate::proved::fixedbitset::{Bits, BitsMut, ExtendFault, FixedBitSet};
     use crate::proved::bitwalks::*;
     use crate::shim::alloc::Global;
@@ -1722,7 +1722,7 @@ fn bitwalks_walks_25() {
     use crate::proved::bitlanes::{word, Block, IndexRange, Steps};
     use crate::proved::bitwalks::in_turn::*;
     use crate::proved::bitwords::cursors::*;
-    use crate::proved::bitranks;
+    use crate::proved::{bitranks, flow};
     use crate::proved::fixedbitset::{Bits, BitsMut, ExtendFault, FixedBitSet};
     use crate::proved::bitwalks::*;
     use crate::shim::alloc::Global;
@@ -1745,7 +1745,7 @@ fn bitwalks_walks_41() {
     use crate::proved::bitlanes::{word, Block, IndexRange, Steps};
     use crate::proved::bitwalks::in_turn::*;
     use crate::proved::bitwords::cursors::*;
-    use crate::proved::bitranks;
+    use crate::proved::{bitranks, flow};
     use crate::proved::fixedbitset::{Bits, BitsMut, ExtendFault, FixedBitSet};
     use crate::proved::bitwalks::*;
     use crate::shim::alloc::Global;
@@ -1768,7 +1768,7 @@ fn bitwalks_walks_58() {
     use crate::proved::bitlanes::{word, Block, IndexRange, Steps};
     use crate::proved::bitwalks::in_turn::*;
     use crate::proved::bitwords::cursors::*;
-    use crate::proved::bitranks;
+    use crate::proved::{bitranks, flow};
     use crate::proved::fixedbitset::{Bits, BitsMut, ExtendFault, FixedBitSet};
     use crate::proved::bitwalks::*;
     use crate::shim::alloc::Global;
@@ -1791,7 +1791,7 @@ fn bitwalks_walks_74() {
     use crate::proved::bitlanes::{word, Block, IndexRange, Steps};
     use crate::proved::bitwalks::in_turn::*;
     use crate::proved::bitwords::cursors::*;
-    use crate::proved::bitranks;
+    use crate::proved::{bitranks, flow};
     use crate::proved::fixedbitset::{Bits, BitsMut, ExtendFault, FixedBitSet};
     use crate::proved::bitwalks::*;
     use crate::shim::alloc::Global;
@@ -1806,12 +1806,12 @@ fn bitwalks_walks_74() {
 }
 
 #[test]
-fn bitwalks_walks_89() {
+fn bitwalks_walks_90() {
     use crate::proved::bitlanes::ops::*;
     use crate::proved::bitlanes::{word, Block, IndexRange, Steps};
     use crate::proved::bitwalks::in_turn::*;
     use crate::proved::bitwords::cursors::*;
-    use crate::proved::bitranks;
+    use crate::proved::{bitranks, flow};
     use crate::proved::fixedbitset::{Bits, BitsMut, ExtendFault, FixedBitSet};
     use crate::proved::bitwalks::*;
     use crate::shim::alloc::Global;
@@ -1826,12 +1826,12 @@ fn bitwalks_walks_89() {
 }
 
 #[test]
-fn bitwalks_walks_104() {
+fn bitwalks_walks_105() {
     use crate::proved::bitlanes::ops::*;
     use crate::proved::bitlanes::{word, Block, IndexRange, Steps};
     use crate::proved::bitwalks::in_turn::*;
     use crate::proved::bitwords::cursors::*;
-    use crate::proved::bitranks;
+    use crate::proved::{bitranks, flow};
     use crate::proved::fixedbitset::{Bits, BitsMut, ExtendFault, FixedBitSet};
     use crate::proved::bitwalks::*;
     use crate::shim::alloc::Global;
@@ -1846,12 +1846,12 @@ fn bitwalks_walks_104() {
 }
 
 #[test]
-fn bitwalks_walks_149() {
+fn bitwalks_walks_150() {
     use crate::proved::bitlanes::ops::*;
     use crate::proved::bitlanes::{word, Block, IndexRange, Steps};
     use crate::proved::bitwalks::in_turn::*;
     use crate::proved::bitwords::cursors::*;
-    use crate::proved::bitranks;
+    use crate::proved::{bitranks, flow};
     use crate::proved::fixedbitset::{Bits, BitsMut, ExtendFault, FixedBitSet};
     use crate::proved::bitwalks::*;
     use crate::shim::alloc::Global;
@@ -1866,12 +1866,12 @@ fn bitwalks_walks_149() {
 }
 
 #[test]
-fn bitwalks_walks_220() {
+fn bitwalks_walks_221() {
     use crate::proved::bitlanes::ops::*;
     use crate::proved::bitlanes::{word, Block, IndexRange, Steps};
     use crate::proved::bitwalks::in_turn::*;
     use crate::proved::bitwords::cursors::*;
-    use crate::proved::bitranks;
+    use crate::proved::{bitranks, flow};
     use crate::proved::fixedbitset::{Bits, BitsMut, ExtendFault, FixedBitSet};
     use crate::proved::bitwalks::*;
     use crate::shim::alloc::Global;
@@ -1886,12 +1886,12 @@ fn bitwalks_walks_220() {
 }
 
 #[test]
-fn bitwords_cursors_19() {
+fn bitwords_cursors_20() {
     use crate::proved::bitlanes::ops::*;
     use crate::proved::bitlanes::{word, Block, IndexRange, Steps};
     use crate::proved::bitwalks::in_turn::*;
     use crate::proved::bitwords::cursors::*;
-    use crate::proved::bitranks;
+    use crate::proved::{bitranks, flow};
     use crate::proved::fixedbitset::{Bits, BitsMut, ExtendFault, FixedBitSet};
     use crate::proved::bitwords::*;
     use crate::shim::alloc::Global;
@@ -1900,7 +1900,7 @@ fn bitwords_cursors_19() {
     use core::cmp::Ordering;
     use core::mem::{size_of, size_of_val};
 
-    let mut middle = Plain { words: &[3, 5, 7] };
+    let mut middle = Plain { words: [3, 5, 7].iter() };
     assert_eq!(Middle::take_first(&mut middle), Some(3));
     assert_eq!(Middle::take_last(&mut middle), Some(7));
     assert_eq!(Middle::left(&middle), 1);
@@ -1908,12 +1908,12 @@ fn bitwords_cursors_19() {
 }
 
 #[test]
-fn bitwords_cursors_45() {
+fn bitwords_cursors_46() {
     use crate::proved::bitlanes::ops::*;
     use crate::proved::bitlanes::{word, Block, IndexRange, Steps};
     use crate::proved::bitwalks::in_turn::*;
     use crate::proved::bitwords::cursors::*;
-    use crate::proved::bitranks;
+    use crate::proved::{bitranks, flow};
     use crate::proved::fixedbitset::{Bits, BitsMut, ExtendFault, FixedBitSet};
     use crate::proved::bitwords::*;
     use crate::shim::alloc::Global;
@@ -1922,18 +1922,18 @@ fn bitwords_cursors_45() {
     use core::cmp::Ordering;
     use core::mem::{size_of, size_of_val};
 
-    let middle = Plain { words: &[3, 5, 7] };
+    let middle = Plain { words: [3, 5, 7].iter() };
     assert_eq!(Seen::peek(&middle, 1), Some(5));
     assert_eq!(Seen::peek(&middle, 3), None);
 }
 
 #[test]
-fn bitwords_cursors_57() {
+fn bitwords_cursors_58() {
     use crate::proved::bitlanes::ops::*;
     use crate::proved::bitlanes::{word, Block, IndexRange, Steps};
     use crate::proved::bitwalks::in_turn::*;
     use crate::proved::bitwords::cursors::*;
-    use crate::proved::bitranks;
+    use crate::proved::{bitranks, flow};
     use crate::proved::fixedbitset::{Bits, BitsMut, ExtendFault, FixedBitSet};
     use crate::proved::bitwords::*;
     use crate::shim::alloc::Global;
@@ -1942,18 +1942,18 @@ fn bitwords_cursors_57() {
     use core::cmp::Ordering;
     use core::mem::{size_of, size_of_val};
 
-    let mut cursor = Cursor::over(Plain { words: &[8, 0, 1] });
+    let mut cursor = Cursor::over(Plain { words: [8, 0, 1].iter() });
     assert_eq!(cursor.next_back(), Some(128));
     assert!(cursor.eq([3]));
 }
 
 #[test]
-fn bitwords_cursors_102() {
+fn bitwords_cursors_101() {
     use crate::proved::bitlanes::ops::*;
     use crate::proved::bitlanes::{word, Block, IndexRange, Steps};
     use crate::proved::bitwalks::in_turn::*;
     use crate::proved::bitwords::cursors::*;
-    use crate::proved::bitranks;
+    use crate::proved::{bitranks, flow};
     use crate::proved::fixedbitset::{Bits, BitsMut, ExtendFault, FixedBitSet};
     use crate::proved::bitwords::*;
     use crate::shim::alloc::Global;
@@ -1963,18 +1963,18 @@ fn bitwords_cursors_102() {
     use core::mem::{size_of, size_of_val};
 
     let words = [Block::MAX - 8];
-    let plain = Plain { words: &words };
+    let plain = Plain { words: words.iter() };
     let cursor = Cursor::over(Inverted { plain });
     assert!(cursor.eq([3]));
 }
 
 #[test]
-fn bitwords_cursors_147() {
+fn bitwords_cursors_146() {
     use crate::proved::bitlanes::ops::*;
     use crate::proved::bitlanes::{word, Block, IndexRange, Steps};
     use crate::proved::bitwalks::in_turn::*;
     use crate::proved::bitwords::cursors::*;
-    use crate::proved::bitranks;
+    use crate::proved::{bitranks, flow};
     use crate::proved::fixedbitset::{Bits, BitsMut, ExtendFault, FixedBitSet};
     use crate::proved::bitwords::*;
     use crate::shim::alloc::Global;
@@ -1988,12 +1988,12 @@ fn bitwords_cursors_147() {
 }
 
 #[test]
-fn bitwords_cursors_161() {
+fn bitwords_cursors_160() {
     use crate::proved::bitlanes::ops::*;
     use crate::proved::bitlanes::{word, Block, IndexRange, Steps};
     use crate::proved::bitwalks::in_turn::*;
     use crate::proved::bitwords::cursors::*;
-    use crate::proved::bitranks;
+    use crate::proved::{bitranks, flow};
     use crate::proved::fixedbitset::{Bits, BitsMut, ExtendFault, FixedBitSet};
     use crate::proved::bitwords::*;
     use crate::shim::alloc::Global;
@@ -2012,7 +2012,7 @@ fn bitwords_cursors_312() {
     use crate::proved::bitlanes::{word, Block, IndexRange, Steps};
     use crate::proved::bitwalks::in_turn::*;
     use crate::proved::bitwords::cursors::*;
-    use crate::proved::bitranks;
+    use crate::proved::{bitranks, flow};
     use crate::proved::fixedbitset::{Bits, BitsMut, ExtendFault, FixedBitSet};
     use crate::proved::bitwords::*;
     use crate::shim::alloc::Global;
@@ -2021,7 +2021,7 @@ fn bitwords_cursors_312() {
     use core::cmp::Ordering;
     use core::mem::{size_of, size_of_val};
 
-    let cursor = Cursor::over(Plain { words: &[9, 0, 1] });
+    let cursor = Cursor::over(Plain { words: [9, 0, 1].iter() });
     assert!(cursor.eq([0, 3, 128]));
 }
 
@@ -2031,7 +2031,7 @@ fn bitwords_cursors_326() {
     use crate::proved::bitlanes::{word, Block, IndexRange, Steps};
     use crate::proved::bitwalks::in_turn::*;
     use crate::proved::bitwords::cursors::*;
-    use crate::proved::bitranks;
+    use crate::proved::{bitranks, flow};
     use crate::proved::fixedbitset::{Bits, BitsMut, ExtendFault, FixedBitSet};
     use crate::proved::bitwords::*;
     use crate::shim::alloc::Global;
@@ -2040,7 +2040,7 @@ fn bitwords_cursors_326() {
     use core::cmp::Ordering;
     use core::mem::{size_of, size_of_val};
 
-    let cursor = Cursor::within(Plain { words: &[9, 255] }, 640, 1, 66);
+    let cursor = Cursor::within(Plain { words: [9, 255].iter() }, 640, 1, 66);
     assert!(cursor.eq([643, 704, 705]));
 }
 
@@ -2050,7 +2050,7 @@ fn bitwords_cursors_342() {
     use crate::proved::bitlanes::{word, Block, IndexRange, Steps};
     use crate::proved::bitwalks::in_turn::*;
     use crate::proved::bitwords::cursors::*;
-    use crate::proved::bitranks;
+    use crate::proved::{bitranks, flow};
     use crate::proved::fixedbitset::{Bits, BitsMut, ExtendFault, FixedBitSet};
     use crate::proved::bitwords::*;
     use crate::shim::alloc::Global;
@@ -2059,7 +2059,7 @@ fn bitwords_cursors_342() {
     use core::cmp::Ordering;
     use core::mem::{size_of, size_of_val};
 
-    let mut cursor = Cursor::over(Plain { words: &[9, 0, 1] });
+    let mut cursor = Cursor::over(Plain { words: [9, 0, 1].iter() });
     assert_eq!(cursor.next(), Some(0));
     assert_eq!(cursor.into_held().front, 8);
 }
@@ -2070,7 +2070,7 @@ fn bitwords_cursors_369() {
     use crate::proved::bitlanes::{word, Block, IndexRange, Steps};
     use crate::proved::bitwalks::in_turn::*;
     use crate::proved::bitwords::cursors::*;
-    use crate::proved::bitranks;
+    use crate::proved::{bitranks, flow};
     use crate::proved::fixedbitset::{Bits, BitsMut, ExtendFault, FixedBitSet};
     use crate::proved::bitwords::*;
     use crate::shim::alloc::Global;
@@ -2079,7 +2079,7 @@ fn bitwords_cursors_369() {
     use core::cmp::Ordering;
     use core::mem::{size_of, size_of_val};
 
-    let cursor = Cursor::over(Plain { words: &[9, 0, 1] });
+    let cursor = Cursor::over(Plain { words: [9, 0, 1].iter() });
     let held = cursor.into_held();
     assert!(Cursor::of_held(held).eq([0, 3, 128]));
 }
@@ -2090,7 +2090,7 @@ fn bitwords_cursors_399() {
     use crate::proved::bitlanes::{word, Block, IndexRange, Steps};
     use crate::proved::bitwalks::in_turn::*;
     use crate::proved::bitwords::cursors::*;
-    use crate::proved::bitranks;
+    use crate::proved::{bitranks, flow};
     use crate::proved::fixedbitset::{Bits, BitsMut, ExtendFault, FixedBitSet};
     use crate::proved::bitwords::*;
     use crate::shim::alloc::Global;
@@ -2099,7 +2099,7 @@ fn bitwords_cursors_399() {
     use core::cmp::Ordering;
     use core::mem::{size_of, size_of_val};
 
-    let mut cursor = Cursor::over(Plain { words: &[9, 7, 1] });
+    let mut cursor = Cursor::over(Plain { words: [9, 7, 1].iter() });
     assert_eq!(cursor.next(), Some(0));
     assert_eq!(cursor.count_left(&mut Steps::new()), 5);
 }
@@ -2110,7 +2110,7 @@ fn bitwords_cursors_497() {
     use crate::proved::bitlanes::{word, Block, IndexRange, Steps};
     use crate::proved::bitwalks::in_turn::*;
     use crate::proved::bitwords::cursors::*;
-    use crate::proved::bitranks;
+    use crate::proved::{bitranks, flow};
     use crate::proved::fixedbitset::{Bits, BitsMut, ExtendFault, FixedBitSet};
     use crate::proved::bitwords::*;
     use crate::shim::alloc::Global;
@@ -2129,7 +2129,7 @@ fn bitwords_cursors_512() {
     use crate::proved::bitlanes::{word, Block, IndexRange, Steps};
     use crate::proved::bitwalks::in_turn::*;
     use crate::proved::bitwords::cursors::*;
-    use crate::proved::bitranks;
+    use crate::proved::{bitranks, flow};
     use crate::proved::fixedbitset::{Bits, BitsMut, ExtendFault, FixedBitSet};
     use crate::proved::bitwords::*;
     use crate::shim::alloc::Global;
@@ -2148,7 +2148,7 @@ fn bitwords_gaps_22() {
     use crate::proved::bitlanes::{word, Block, IndexRange, Steps};
     use crate::proved::bitwalks::in_turn::*;
     use crate::proved::bitwords::cursors::*;
-    use crate::proved::bitranks;
+    use crate::proved::{bitranks, flow};
     use crate::proved::fixedbitset::{Bits, BitsMut, ExtendFault, FixedBitSet};
     use crate::proved::bitwords::*;
     use crate::shim::alloc::Global;
@@ -2169,7 +2169,7 @@ fn bitwords_gaps_53() {
     use crate::proved::bitlanes::{word, Block, IndexRange, Steps};
     use crate::proved::bitwalks::in_turn::*;
     use crate::proved::bitwords::cursors::*;
-    use crate::proved::bitranks;
+    use crate::proved::{bitranks, flow};
     use crate::proved::fixedbitset::{Bits, BitsMut, ExtendFault, FixedBitSet};
     use crate::proved::bitwords::*;
     use crate::shim::alloc::Global;
@@ -2190,7 +2190,7 @@ fn bitwords_handfuls_57() {
     use crate::proved::bitlanes::{word, Block, IndexRange, Steps};
     use crate::proved::bitwalks::in_turn::*;
     use crate::proved::bitwords::cursors::*;
-    use crate::proved::bitranks;
+    use crate::proved::{bitranks, flow};
     use crate::proved::fixedbitset::{Bits, BitsMut, ExtendFault, FixedBitSet};
     use crate::proved::bitwords::*;
     use crate::shim::alloc::Global;
@@ -2210,7 +2210,7 @@ fn bitwords_handfuls_74() {
     use crate::proved::bitlanes::{word, Block, IndexRange, Steps};
     use crate::proved::bitwalks::in_turn::*;
     use crate::proved::bitwords::cursors::*;
-    use crate::proved::bitranks;
+    use crate::proved::{bitranks, flow};
     use crate::proved::fixedbitset::{Bits, BitsMut, ExtendFault, FixedBitSet};
     use crate::proved::bitwords::*;
     use crate::shim::alloc::Global;
@@ -2231,7 +2231,7 @@ fn bitwords_handfuls_107() {
     use crate::proved::bitlanes::{word, Block, IndexRange, Steps};
     use crate::proved::bitwalks::in_turn::*;
     use crate::proved::bitwords::cursors::*;
-    use crate::proved::bitranks;
+    use crate::proved::{bitranks, flow};
     use crate::proved::fixedbitset::{Bits, BitsMut, ExtendFault, FixedBitSet};
     use crate::proved::bitwords::*;
     use crate::shim::alloc::Global;
@@ -2240,7 +2240,7 @@ fn bitwords_handfuls_107() {
     use core::cmp::Ordering;
     use core::mem::{size_of, size_of_val};
 
-    let cursor = Cursor::over(Plain { words: &[9, 255, 0, 0, 0, 1] });
+    let cursor = Cursor::over(Plain { words: [9, 255, 0, 0, 0, 1].iter() });
     let mut held = cursor.into_held();
     let mut places = [7; 10];
     assert_eq!(handfuls::give_words(&mut held, &mut places), 2);
@@ -2254,7 +2254,7 @@ fn bitwords_handfuls_141() {
     use crate::proved::bitlanes::{word, Block, IndexRange, Steps};
     use crate::proved::bitwalks::in_turn::*;
     use crate::proved::bitwords::cursors::*;
-    use crate::proved::bitranks;
+    use crate::proved::{bitranks, flow};
     use crate::proved::fixedbitset::{Bits, BitsMut, ExtendFault, FixedBitSet};
     use crate::proved::bitwords::*;
     use crate::shim::alloc::Global;
@@ -2263,7 +2263,7 @@ fn bitwords_handfuls_141() {
     use core::cmp::Ordering;
     use core::mem::{size_of, size_of_val};
 
-    let cursor = Cursor::over(Plain { words: &[1, 0, 0, 0, 255, 9] });
+    let cursor = Cursor::over(Plain { words: [1, 0, 0, 0, 255, 9].iter() });
     let mut held = cursor.into_held();
     let mut places = [7; 10];
     assert_eq!(handfuls::give_words_back(&mut held, &mut places), 2);
@@ -2277,7 +2277,7 @@ fn bitwords_joins_18() {
     use crate::proved::bitlanes::{word, Block, IndexRange, Steps};
     use crate::proved::bitwalks::in_turn::*;
     use crate::proved::bitwords::cursors::*;
-    use crate::proved::bitranks;
+    use crate::proved::{bitranks, flow};
     use crate::proved::fixedbitset::{Bits, BitsMut, ExtendFault, FixedBitSet};
     use crate::proved::bitwords::*;
     use crate::shim::alloc::Global;
@@ -2297,7 +2297,7 @@ fn bitwords_joins_37() {
     use crate::proved::bitlanes::{word, Block, IndexRange, Steps};
     use crate::proved::bitwalks::in_turn::*;
     use crate::proved::bitwords::cursors::*;
-    use crate::proved::bitranks;
+    use crate::proved::{bitranks, flow};
     use crate::proved::fixedbitset::{Bits, BitsMut, ExtendFault, FixedBitSet};
     use crate::proved::bitwords::*;
     use crate::shim::alloc::Global;
@@ -2317,7 +2317,7 @@ fn bitwords_joins_59() {
     use crate::proved::bitlanes::{word, Block, IndexRange, Steps};
     use crate::proved::bitwalks::in_turn::*;
     use crate::proved::bitwords::cursors::*;
-    use crate::proved::bitranks;
+    use crate::proved::{bitranks, flow};
     use crate::proved::fixedbitset::{Bits, BitsMut, ExtendFault, FixedBitSet};
     use crate::proved::bitwords::*;
     use crate::shim::alloc::Global;
@@ -2337,7 +2337,7 @@ fn bitwords_joins_83() {
     use crate::proved::bitlanes::{word, Block, IndexRange, Steps};
     use crate::proved::bitwalks::in_turn::*;
     use crate::proved::bitwords::cursors::*;
-    use crate::proved::bitranks;
+    use crate::proved::{bitranks, flow};
     use crate::proved::fixedbitset::{Bits, BitsMut, ExtendFault, FixedBitSet};
     use crate::proved::bitwords::*;
     use crate::shim::alloc::Global;
@@ -2359,7 +2359,7 @@ fn bitwords_joins_109() {
     use crate::proved::bitlanes::{word, Block, IndexRange, Steps};
     use crate::proved::bitwalks::in_turn::*;
     use crate::proved::bitwords::cursors::*;
-    use crate::proved::bitranks;
+    use crate::proved::{bitranks, flow};
     use crate::proved::fixedbitset::{Bits, BitsMut, ExtendFault, FixedBitSet};
     use crate::proved::bitwords::*;
     use crate::shim::alloc::Global;
@@ -2378,7 +2378,7 @@ fn bitwords_joins_124() {
     use crate::proved::bitlanes::{word, Block, IndexRange, Steps};
     use crate::proved::bitwalks::in_turn::*;
     use crate::proved::bitwords::cursors::*;
-    use crate::proved::bitranks;
+    use crate::proved::{bitranks, flow};
     use crate::proved::fixedbitset::{Bits, BitsMut, ExtendFault, FixedBitSet};
     use crate::proved::bitwords::*;
     use crate::shim::alloc::Global;
@@ -2397,7 +2397,7 @@ fn bitwords_joins_140() {
     use crate::proved::bitlanes::{word, Block, IndexRange, Steps};
     use crate::proved::bitwalks::in_turn::*;
     use crate::proved::bitwords::cursors::*;
-    use crate::proved::bitranks;
+    use crate::proved::{bitranks, flow};
     use crate::proved::fixedbitset::{Bits, BitsMut, ExtendFault, FixedBitSet};
     use crate::proved::bitwords::*;
     use crate::shim::alloc::Global;
@@ -2417,7 +2417,7 @@ fn bitwords_joins_158() {
     use crate::proved::bitlanes::{word, Block, IndexRange, Steps};
     use crate::proved::bitwalks::in_turn::*;
     use crate::proved::bitwords::cursors::*;
-    use crate::proved::bitranks;
+    use crate::proved::{bitranks, flow};
     use crate::proved::fixedbitset::{Bits, BitsMut, ExtendFault, FixedBitSet};
     use crate::proved::bitwords::*;
     use crate::shim::alloc::Global;
@@ -2438,7 +2438,7 @@ fn bitwords_new_rows_20() {
     use crate::proved::bitlanes::{word, Block, IndexRange, Steps};
     use crate::proved::bitwalks::in_turn::*;
     use crate::proved::bitwords::cursors::*;
-    use crate::proved::bitranks;
+    use crate::proved::{bitranks, flow};
     use crate::proved::fixedbitset::{Bits, BitsMut, ExtendFault, FixedBitSet};
     use crate::proved::bitwords::*;
     use crate::shim::alloc::Global;
@@ -2458,7 +2458,7 @@ fn bitwords_positions_12() {
     use crate::proved::bitlanes::{word, Block, IndexRange, Steps};
     use crate::proved::bitwalks::in_turn::*;
     use crate::proved::bitwords::cursors::*;
-    use crate::proved::bitranks;
+    use crate::proved::{bitranks, flow};
     use crate::proved::fixedbitset::{Bits, BitsMut, ExtendFault, FixedBitSet};
     use crate::proved::bitwords::*;
     use crate::shim::alloc::Global;
@@ -2478,7 +2478,7 @@ fn bitwords_positions_30() {
     use crate::proved::bitlanes::{word, Block, IndexRange, Steps};
     use crate::proved::bitwalks::in_turn::*;
     use crate::proved::bitwords::cursors::*;
-    use crate::proved::bitranks;
+    use crate::proved::{bitranks, flow};
     use crate::proved::fixedbitset::{Bits, BitsMut, ExtendFault, FixedBitSet};
     use crate::proved::bitwords::*;
     use crate::shim::alloc::Global;
@@ -2498,7 +2498,7 @@ fn bitwords_positions_46() {
     use crate::proved::bitlanes::{word, Block, IndexRange, Steps};
     use crate::proved::bitwalks::in_turn::*;
     use crate::proved::bitwords::cursors::*;
-    use crate::proved::bitranks;
+    use crate::proved::{bitranks, flow};
     use crate::proved::fixedbitset::{Bits, BitsMut, ExtendFault, FixedBitSet};
     use crate::proved::bitwords::*;
     use crate::shim::alloc::Global;
@@ -2518,7 +2518,7 @@ fn bitwords_positions_66() {
     use crate::proved::bitlanes::{word, Block, IndexRange, Steps};
     use crate::proved::bitwalks::in_turn::*;
     use crate::proved::bitwords::cursors::*;
-    use crate::proved::bitranks;
+    use crate::proved::{bitranks, flow};
     use crate::proved::fixedbitset::{Bits, BitsMut, ExtendFault, FixedBitSet};
     use crate::proved::bitwords::*;
     use crate::shim::alloc::Global;
@@ -2540,7 +2540,7 @@ fn bitwords_positions_90() {
     use crate::proved::bitlanes::{word, Block, IndexRange, Steps};
     use crate::proved::bitwalks::in_turn::*;
     use crate::proved::bitwords::cursors::*;
-    use crate::proved::bitranks;
+    use crate::proved::{bitranks, flow};
     use crate::proved::fixedbitset::{Bits, BitsMut, ExtendFault, FixedBitSet};
     use crate::proved::bitwords::*;
     use crate::shim::alloc::Global;
@@ -2562,7 +2562,7 @@ fn bitwords_positions_118() {
     use crate::proved::bitlanes::{word, Block, IndexRange, Steps};
     use crate::proved::bitwalks::in_turn::*;
     use crate::proved::bitwords::cursors::*;
-    use crate::proved::bitranks;
+    use crate::proved::{bitranks, flow};
     use crate::proved::fixedbitset::{Bits, BitsMut, ExtendFault, FixedBitSet};
     use crate::proved::bitwords::*;
     use crate::shim::alloc::Global;
@@ -2582,7 +2582,7 @@ fn bitwords_positions_148() {
     use crate::proved::bitlanes::{word, Block, IndexRange, Steps};
     use crate::proved::bitwalks::in_turn::*;
     use crate::proved::bitwords::cursors::*;
-    use crate::proved::bitranks;
+    use crate::proved::{bitranks, flow};
     use crate::proved::fixedbitset::{Bits, BitsMut, ExtendFault, FixedBitSet};
     use crate::proved::bitwords::*;
     use crate::shim::alloc::Global;
@@ -2602,7 +2602,7 @@ fn bitwords_positions_161() {
     use crate::proved::bitlanes::{word, Block, IndexRange, Steps};
     use crate::proved::bitwalks::in_turn::*;
     use crate::proved::bitwords::cursors::*;
-    use crate::proved::bitranks;
+    use crate::proved::{bitranks, flow};
     use crate::proved::fixedbitset::{Bits, BitsMut, ExtendFault, FixedBitSet};
     use crate::proved::bitwords::*;
     use crate::shim::alloc::Global;
@@ -2622,7 +2622,7 @@ fn bitwords_ranges_19() {
     use crate::proved::bitlanes::{word, Block, IndexRange, Steps};
     use crate::proved::bitwalks::in_turn::*;
     use crate::proved::bitwords::cursors::*;
-    use crate::proved::bitranks;
+    use crate::proved::{bitranks, flow};
     use crate::proved::fixedbitset::{Bits, BitsMut, ExtendFault, FixedBitSet};
     use crate::proved::bitwords::*;
     use crate::shim::alloc::Global;
@@ -2637,12 +2637,12 @@ fn bitwords_ranges_19() {
 }
 
 #[test]
-fn bitwords_ranges_38() {
+fn bitwords_ranges_40() {
     use crate::proved::bitlanes::ops::*;
     use crate::proved::bitlanes::{word, Block, IndexRange, Steps};
     use crate::proved::bitwalks::in_turn::*;
     use crate::proved::bitwords::cursors::*;
-    use crate::proved::bitranks;
+    use crate::proved::{bitranks, flow};
     use crate::proved::fixedbitset::{Bits, BitsMut, ExtendFault, FixedBitSet};
     use crate::proved::bitwords::*;
     use crate::shim::alloc::Global;
@@ -2656,12 +2656,12 @@ fn bitwords_ranges_38() {
 }
 
 #[test]
-fn bitwords_ranges_58() {
+fn bitwords_ranges_63() {
     use crate::proved::bitlanes::ops::*;
     use crate::proved::bitlanes::{word, Block, IndexRange, Steps};
     use crate::proved::bitwalks::in_turn::*;
     use crate::proved::bitwords::cursors::*;
-    use crate::proved::bitranks;
+    use crate::proved::{bitranks, flow};
     use crate::proved::fixedbitset::{Bits, BitsMut, ExtendFault, FixedBitSet};
     use crate::proved::bitwords::*;
     use crate::shim::alloc::Global;
@@ -2675,12 +2675,12 @@ fn bitwords_ranges_58() {
 }
 
 #[test]
-fn bitwords_ranges_76() {
+fn bitwords_ranges_81() {
     use crate::proved::bitlanes::ops::*;
     use crate::proved::bitlanes::{word, Block, IndexRange, Steps};
     use crate::proved::bitwalks::in_turn::*;
     use crate::proved::bitwords::cursors::*;
-    use crate::proved::bitranks;
+    use crate::proved::{bitranks, flow};
     use crate::proved::fixedbitset::{Bits, BitsMut, ExtendFault, FixedBitSet};
     use crate::proved::bitwords::*;
     use crate::shim::alloc::Global;
@@ -2695,12 +2695,12 @@ fn bitwords_ranges_76() {
 }
 
 #[test]
-fn bitwords_ranges_108() {
+fn bitwords_ranges_113() {
     use crate::proved::bitlanes::ops::*;
     use crate::proved::bitlanes::{word, Block, IndexRange, Steps};
     use crate::proved::bitwalks::in_turn::*;
     use crate::proved::bitwords::cursors::*;
-    use crate::proved::bitranks;
+    use crate::proved::{bitranks, flow};
     use crate::proved::fixedbitset::{Bits, BitsMut, ExtendFault, FixedBitSet};
     use crate::proved::bitwords::*;
     use crate::shim::alloc::Global;
@@ -2715,12 +2715,12 @@ fn bitwords_ranges_108() {
 }
 
 #[test]
-fn bitwords_ranges_123() {
+fn bitwords_ranges_128() {
     use crate::proved::bitlanes::ops::*;
     use crate::proved::bitlanes::{word, Block, IndexRange, Steps};
     use crate::proved::bitwalks::in_turn::*;
     use crate::proved::bitwords::cursors::*;
-    use crate::proved::bitranks;
+    use crate::proved::{bitranks, flow};
     use crate::proved::fixedbitset::{Bits, BitsMut, ExtendFault, FixedBitSet};
     use crate::proved::bitwords::*;
     use crate::shim::alloc::Global;
@@ -2740,7 +2740,7 @@ fn bitwords_shifts_16() {
     use crate::proved::bitlanes::{word, Block, IndexRange, Steps};
     use crate::proved::bitwalks::in_turn::*;
     use crate::proved::bitwords::cursors::*;
-    use crate::proved::bitranks;
+    use crate::proved::{bitranks, flow};
     use crate::proved::fixedbitset::{Bits, BitsMut, ExtendFault, FixedBitSet};
     use crate::proved::bitwords::*;
     use crate::shim::alloc::Global;
@@ -2760,7 +2760,7 @@ fn bitwords_shifts_36() {
     use crate::proved::bitlanes::{word, Block, IndexRange, Steps};
     use crate::proved::bitwalks::in_turn::*;
     use crate::proved::bitwords::cursors::*;
-    use crate::proved::bitranks;
+    use crate::proved::{bitranks, flow};
     use crate::proved::fixedbitset::{Bits, BitsMut, ExtendFault, FixedBitSet};
     use crate::proved::bitwords::*;
     use crate::shim::alloc::Global;
@@ -2780,7 +2780,7 @@ fn bitwords_shifts_62() {
     use crate::proved::bitlanes::{word, Block, IndexRange, Steps};
     use crate::proved::bitwalks::in_turn::*;
     use crate::proved::bitwords::cursors::*;
-    use crate::proved::bitranks;
+    use crate::proved::{bitranks, flow};
     use crate::proved::fixedbitset::{Bits, BitsMut, ExtendFault, FixedBitSet};
     use crate::proved::bitwords::*;
     use crate::shim::alloc::Global;
@@ -2800,7 +2800,7 @@ fn bitwords_shifts_81() {
     use crate::proved::bitlanes::{word, Block, IndexRange, Steps};
     use crate::proved::bitwalks::in_turn::*;
     use crate::proved::bitwords::cursors::*;
-    use crate::proved::bitranks;
+    use crate::proved::{bitranks, flow};
     use crate::proved::fixedbitset::{Bits, BitsMut, ExtendFault, FixedBitSet};
     use crate::proved::bitwords::*;
     use crate::shim::alloc::Global;
@@ -2820,7 +2820,7 @@ fn fixedbitset_bits_15() {
     use crate::proved::bitlanes::{word, Block, IndexRange, Steps};
     use crate::proved::bitwalks::in_turn::*;
     use crate::proved::bitwords::cursors::*;
-    use crate::proved::bitranks;
+    use crate::proved::{bitranks, flow};
     use crate::proved::fixedbitset::{Bits, BitsMut, ExtendFault, FixedBitSet};
     use crate::proved::fixedbitset::*;
     use crate::shim::alloc::Global;
@@ -2842,7 +2842,7 @@ fn fixedbitset_bits_32() {
     use crate::proved::bitlanes::{word, Block, IndexRange, Steps};
     use crate::proved::bitwalks::in_turn::*;
     use crate::proved::bitwords::cursors::*;
-    use crate::proved::bitranks;
+    use crate::proved::{bitranks, flow};
     use crate::proved::fixedbitset::{Bits, BitsMut, ExtendFault, FixedBitSet};
     use crate::proved::fixedbitset::*;
     use crate::shim::alloc::Global;
@@ -2864,7 +2864,7 @@ fn fixedbitset_bits_48() {
     use crate::proved::bitlanes::{word, Block, IndexRange, Steps};
     use crate::proved::bitwalks::in_turn::*;
     use crate::proved::bitwords::cursors::*;
-    use crate::proved::bitranks;
+    use crate::proved::{bitranks, flow};
     use crate::proved::fixedbitset::{Bits, BitsMut, ExtendFault, FixedBitSet};
     use crate::proved::fixedbitset::*;
     use crate::shim::alloc::Global;
@@ -2886,7 +2886,7 @@ fn fixedbitset_bits_61() {
     use crate::proved::bitlanes::{word, Block, IndexRange, Steps};
     use crate::proved::bitwalks::in_turn::*;
     use crate::proved::bitwords::cursors::*;
-    use crate::proved::bitranks;
+    use crate::proved::{bitranks, flow};
     use crate::proved::fixedbitset::{Bits, BitsMut, ExtendFault, FixedBitSet};
     use crate::proved::fixedbitset::*;
     use crate::shim::alloc::Global;
@@ -2908,7 +2908,7 @@ fn fixedbitset_bits_74() {
     use crate::proved::bitlanes::{word, Block, IndexRange, Steps};
     use crate::proved::bitwalks::in_turn::*;
     use crate::proved::bitwords::cursors::*;
-    use crate::proved::bitranks;
+    use crate::proved::{bitranks, flow};
     use crate::proved::fixedbitset::{Bits, BitsMut, ExtendFault, FixedBitSet};
     use crate::proved::fixedbitset::*;
     use crate::shim::alloc::Global;
@@ -2929,7 +2929,7 @@ fn fixedbitset_bits_87() {
     use crate::proved::bitlanes::{word, Block, IndexRange, Steps};
     use crate::proved::bitwalks::in_turn::*;
     use crate::proved::bitwords::cursors::*;
-    use crate::proved::bitranks;
+    use crate::proved::{bitranks, flow};
     use crate::proved::fixedbitset::{Bits, BitsMut, ExtendFault, FixedBitSet};
     use crate::proved::fixedbitset::*;
     use crate::shim::alloc::Global;
@@ -2952,7 +2952,7 @@ fn fixedbitset_bits_101() {
     use crate::proved::bitlanes::{word, Block, IndexRange, Steps};
     use crate::proved::bitwalks::in_turn::*;
     use crate::proved::bitwords::cursors::*;
-    use crate::proved::bitranks;
+    use crate::proved::{bitranks, flow};
     use crate::proved::fixedbitset::{Bits, BitsMut, ExtendFault, FixedBitSet};
     use crate::proved::fixedbitset::*;
     use crate::shim::alloc::Global;
@@ -2974,7 +2974,7 @@ fn fixedbitset_bits_115() {
     use crate::proved::bitlanes::{word, Block, IndexRange, Steps};
     use crate::proved::bitwalks::in_turn::*;
     use crate::proved::bitwords::cursors::*;
-    use crate::proved::bitranks;
+    use crate::proved::{bitranks, flow};
     use crate::proved::fixedbitset::{Bits, BitsMut, ExtendFault, FixedBitSet};
     use crate::proved::fixedbitset::*;
     use crate::shim::alloc::Global;
@@ -2996,7 +2996,7 @@ fn fixedbitset_bits_128() {
     use crate::proved::bitlanes::{word, Block, IndexRange, Steps};
     use crate::proved::bitwalks::in_turn::*;
     use crate::proved::bitwords::cursors::*;
-    use crate::proved::bitranks;
+    use crate::proved::{bitranks, flow};
     use crate::proved::fixedbitset::{Bits, BitsMut, ExtendFault, FixedBitSet};
     use crate::proved::fixedbitset::*;
     use crate::shim::alloc::Global;
@@ -3019,7 +3019,7 @@ fn fixedbitset_bits_146() {
     use crate::proved::bitlanes::{word, Block, IndexRange, Steps};
     use crate::proved::bitwalks::in_turn::*;
     use crate::proved::bitwords::cursors::*;
-    use crate::proved::bitranks;
+    use crate::proved::{bitranks, flow};
     use crate::proved::fixedbitset::{Bits, BitsMut, ExtendFault, FixedBitSet};
     use crate::proved::fixedbitset::*;
     use crate::shim::alloc::Global;
@@ -3041,7 +3041,7 @@ fn fixedbitset_bits_163() {
     use crate::proved::bitlanes::{word, Block, IndexRange, Steps};
     use crate::proved::bitwalks::in_turn::*;
     use crate::proved::bitwords::cursors::*;
-    use crate::proved::bitranks;
+    use crate::proved::{bitranks, flow};
     use crate::proved::fixedbitset::{Bits, BitsMut, ExtendFault, FixedBitSet};
     use crate::proved::fixedbitset::*;
     use crate::shim::alloc::Global;
@@ -3062,7 +3062,7 @@ fn fixedbitset_bits_178() {
     use crate::proved::bitlanes::{word, Block, IndexRange, Steps};
     use crate::proved::bitwalks::in_turn::*;
     use crate::proved::bitwords::cursors::*;
-    use crate::proved::bitranks;
+    use crate::proved::{bitranks, flow};
     use crate::proved::fixedbitset::{Bits, BitsMut, ExtendFault, FixedBitSet};
     use crate::proved::fixedbitset::*;
     use crate::shim::alloc::Global;
@@ -3084,7 +3084,7 @@ fn fixedbitset_bits_191() {
     use crate::proved::bitlanes::{word, Block, IndexRange, Steps};
     use crate::proved::bitwalks::in_turn::*;
     use crate::proved::bitwords::cursors::*;
-    use crate::proved::bitranks;
+    use crate::proved::{bitranks, flow};
     use crate::proved::fixedbitset::{Bits, BitsMut, ExtendFault, FixedBitSet};
     use crate::proved::fixedbitset::*;
     use crate::shim::alloc::Global;
@@ -3107,7 +3107,7 @@ fn fixedbitset_bits_205() {
     use crate::proved::bitlanes::{word, Block, IndexRange, Steps};
     use crate::proved::bitwalks::in_turn::*;
     use crate::proved::bitwords::cursors::*;
-    use crate::proved::bitranks;
+    use crate::proved::{bitranks, flow};
     use crate::proved::fixedbitset::{Bits, BitsMut, ExtendFault, FixedBitSet};
     use crate::proved::fixedbitset::*;
     use crate::shim::alloc::Global;
@@ -3130,7 +3130,7 @@ fn fixedbitset_bits_220() {
     use crate::proved::bitlanes::{word, Block, IndexRange, Steps};
     use crate::proved::bitwalks::in_turn::*;
     use crate::proved::bitwords::cursors::*;
-    use crate::proved::bitranks;
+    use crate::proved::{bitranks, flow};
     use crate::proved::fixedbitset::{Bits, BitsMut, ExtendFault, FixedBitSet};
     use crate::proved::fixedbitset::*;
     use crate::shim::alloc::Global;
@@ -3153,7 +3153,7 @@ fn fixedbitset_bits_234() {
     use crate::proved::bitlanes::{word, Block, IndexRange, Steps};
     use crate::proved::bitwalks::in_turn::*;
     use crate::proved::bitwords::cursors::*;
-    use crate::proved::bitranks;
+    use crate::proved::{bitranks, flow};
     use crate::proved::fixedbitset::{Bits, BitsMut, ExtendFault, FixedBitSet};
     use crate::proved::fixedbitset::*;
     use crate::shim::alloc::Global;
@@ -3175,7 +3175,7 @@ fn fixedbitset_bits_252() {
     use crate::proved::bitlanes::{word, Block, IndexRange, Steps};
     use crate::proved::bitwalks::in_turn::*;
     use crate::proved::bitwords::cursors::*;
-    use crate::proved::bitranks;
+    use crate::proved::{bitranks, flow};
     use crate::proved::fixedbitset::{Bits, BitsMut, ExtendFault, FixedBitSet};
     use crate::proved::fixedbitset::*;
     use crate::shim::alloc::Global;
@@ -3198,7 +3198,7 @@ fn fixedbitset_bits_266() {
     use crate::proved::bitlanes::{word, Block, IndexRange, Steps};
     use crate::proved::bitwalks::in_turn::*;
     use crate::proved::bitwords::cursors::*;
-    use crate::proved::bitranks;
+    use crate::proved::{bitranks, flow};
     use crate::proved::fixedbitset::{Bits, BitsMut, ExtendFault, FixedBitSet};
     use crate::proved::fixedbitset::*;
     use crate::shim::alloc::Global;
@@ -3220,7 +3220,7 @@ fn fixedbitset_counted_changes_15() {
     use crate::proved::bitlanes::{word, Block, IndexRange, Steps};
     use crate::proved::bitwalks::in_turn::*;
     use crate::proved::bitwords::cursors::*;
-    use crate::proved::bitranks;
+    use crate::proved::{bitranks, flow};
     use crate::proved::fixedbitset::{Bits, BitsMut, ExtendFault, FixedBitSet};
     use crate::proved::fixedbitset::*;
     use crate::shim::alloc::Global;
@@ -3242,7 +3242,7 @@ fn fixedbitset_counted_changes_36() {
     use crate::proved::bitlanes::{word, Block, IndexRange, Steps};
     use crate::proved::bitwalks::in_turn::*;
     use crate::proved::bitwords::cursors::*;
-    use crate::proved::bitranks;
+    use crate::proved::{bitranks, flow};
     use crate::proved::fixedbitset::{Bits, BitsMut, ExtendFault, FixedBitSet};
     use crate::proved::fixedbitset::*;
     use crate::shim::alloc::Global;
@@ -3264,7 +3264,7 @@ fn fixedbitset_counted_changes_50() {
     use crate::proved::bitlanes::{word, Block, IndexRange, Steps};
     use crate::proved::bitwalks::in_turn::*;
     use crate::proved::bitwords::cursors::*;
-    use crate::proved::bitranks;
+    use crate::proved::{bitranks, flow};
     use crate::proved::fixedbitset::{Bits, BitsMut, ExtendFault, FixedBitSet};
     use crate::proved::fixedbitset::*;
     use crate::shim::alloc::Global;
@@ -3286,7 +3286,7 @@ fn fixedbitset_counted_changes_66() {
     use crate::proved::bitlanes::{word, Block, IndexRange, Steps};
     use crate::proved::bitwalks::in_turn::*;
     use crate::proved::bitwords::cursors::*;
-    use crate::proved::bitranks;
+    use crate::proved::{bitranks, flow};
     use crate::proved::fixedbitset::{Bits, BitsMut, ExtendFault, FixedBitSet};
     use crate::proved::fixedbitset::*;
     use crate::shim::alloc::Global;
@@ -3309,7 +3309,7 @@ fn fixedbitset_counted_copies_18() {
     use crate::proved::bitlanes::{word, Block, IndexRange, Steps};
     use crate::proved::bitwalks::in_turn::*;
     use crate::proved::bitwords::cursors::*;
-    use crate::proved::bitranks;
+    use crate::proved::{bitranks, flow};
     use crate::proved::fixedbitset::{Bits, BitsMut, ExtendFault, FixedBitSet};
     use crate::proved::fixedbitset::*;
     use crate::shim::alloc::Global;
@@ -3331,7 +3331,7 @@ fn fixedbitset_counted_copies_35() {
     use crate::proved::bitlanes::{word, Block, IndexRange, Steps};
     use crate::proved::bitwalks::in_turn::*;
     use crate::proved::bitwords::cursors::*;
-    use crate::proved::bitranks;
+    use crate::proved::{bitranks, flow};
     use crate::proved::fixedbitset::{Bits, BitsMut, ExtendFault, FixedBitSet};
     use crate::proved::fixedbitset::*;
     use crate::shim::alloc::Global;
@@ -3353,7 +3353,7 @@ fn fixedbitset_counted_copies_56() {
     use crate::proved::bitlanes::{word, Block, IndexRange, Steps};
     use crate::proved::bitwalks::in_turn::*;
     use crate::proved::bitwords::cursors::*;
-    use crate::proved::bitranks;
+    use crate::proved::{bitranks, flow};
     use crate::proved::fixedbitset::{Bits, BitsMut, ExtendFault, FixedBitSet};
     use crate::proved::fixedbitset::*;
     use crate::shim::alloc::Global;
@@ -3375,7 +3375,7 @@ fn fixedbitset_counted_copies_77() {
     use crate::proved::bitlanes::{word, Block, IndexRange, Steps};
     use crate::proved::bitwalks::in_turn::*;
     use crate::proved::bitwords::cursors::*;
-    use crate::proved::bitranks;
+    use crate::proved::{bitranks, flow};
     use crate::proved::fixedbitset::{Bits, BitsMut, ExtendFault, FixedBitSet};
     use crate::proved::fixedbitset::*;
     use crate::shim::alloc::Global;
@@ -3397,7 +3397,7 @@ fn fixedbitset_counted_ranges_16() {
     use crate::proved::bitlanes::{word, Block, IndexRange, Steps};
     use crate::proved::bitwalks::in_turn::*;
     use crate::proved::bitwords::cursors::*;
-    use crate::proved::bitranks;
+    use crate::proved::{bitranks, flow};
     use crate::proved::fixedbitset::{Bits, BitsMut, ExtendFault, FixedBitSet};
     use crate::proved::fixedbitset::*;
     use crate::shim::alloc::Global;
@@ -3419,7 +3419,7 @@ fn fixedbitset_counted_ranges_32() {
     use crate::proved::bitlanes::{word, Block, IndexRange, Steps};
     use crate::proved::bitwalks::in_turn::*;
     use crate::proved::bitwords::cursors::*;
-    use crate::proved::bitranks;
+    use crate::proved::{bitranks, flow};
     use crate::proved::fixedbitset::{Bits, BitsMut, ExtendFault, FixedBitSet};
     use crate::proved::fixedbitset::*;
     use crate::shim::alloc::Global;
@@ -3442,7 +3442,7 @@ fn fixedbitset_counted_ranges_49() {
     use crate::proved::bitlanes::{word, Block, IndexRange, Steps};
     use crate::proved::bitwalks::in_turn::*;
     use crate::proved::bitwords::cursors::*;
-    use crate::proved::bitranks;
+    use crate::proved::{bitranks, flow};
     use crate::proved::fixedbitset::{Bits, BitsMut, ExtendFault, FixedBitSet};
     use crate::proved::fixedbitset::*;
     use crate::shim::alloc::Global;
@@ -3465,7 +3465,7 @@ fn fixedbitset_counted_ranges_66() {
     use crate::proved::bitlanes::{word, Block, IndexRange, Steps};
     use crate::proved::bitwalks::in_turn::*;
     use crate::proved::bitwords::cursors::*;
-    use crate::proved::bitranks;
+    use crate::proved::{bitranks, flow};
     use crate::proved::fixedbitset::{Bits, BitsMut, ExtendFault, FixedBitSet};
     use crate::proved::fixedbitset::*;
     use crate::shim::alloc::Global;
@@ -3486,7 +3486,7 @@ fn fixedbitset_counted_ranges_84() {
     use crate::proved::bitlanes::{word, Block, IndexRange, Steps};
     use crate::proved::bitwalks::in_turn::*;
     use crate::proved::bitwords::cursors::*;
-    use crate::proved::bitranks;
+    use crate::proved::{bitranks, flow};
     use crate::proved::fixedbitset::{Bits, BitsMut, ExtendFault, FixedBitSet};
     use crate::proved::fixedbitset::*;
     use crate::shim::alloc::Global;
@@ -3507,7 +3507,7 @@ fn fixedbitset_counted_ranges_102() {
     use crate::proved::bitlanes::{word, Block, IndexRange, Steps};
     use crate::proved::bitwalks::in_turn::*;
     use crate::proved::bitwords::cursors::*;
-    use crate::proved::bitranks;
+    use crate::proved::{bitranks, flow};
     use crate::proved::fixedbitset::{Bits, BitsMut, ExtendFault, FixedBitSet};
     use crate::proved::fixedbitset::*;
     use crate::shim::alloc::Global;
@@ -3529,7 +3529,7 @@ fn fixedbitset_counted_ranges_121() {
     use crate::proved::bitlanes::{word, Block, IndexRange, Steps};
     use crate::proved::bitwalks::in_turn::*;
     use crate::proved::bitwords::cursors::*;
-    use crate::proved::bitranks;
+    use crate::proved::{bitranks, flow};
     use crate::proved::fixedbitset::{Bits, BitsMut, ExtendFault, FixedBitSet};
     use crate::proved::fixedbitset::*;
     use crate::shim::alloc::Global;
@@ -3551,7 +3551,7 @@ fn fixedbitset_counted_shifts_16() {
     use crate::proved::bitlanes::{word, Block, IndexRange, Steps};
     use crate::proved::bitwalks::in_turn::*;
     use crate::proved::bitwords::cursors::*;
-    use crate::proved::bitranks;
+    use crate::proved::{bitranks, flow};
     use crate::proved::fixedbitset::{Bits, BitsMut, ExtendFault, FixedBitSet};
     use crate::proved::fixedbitset::*;
     use crate::shim::alloc::Global;
@@ -3572,7 +3572,7 @@ fn fixedbitset_counted_shifts_29() {
     use crate::proved::bitlanes::{word, Block, IndexRange, Steps};
     use crate::proved::bitwalks::in_turn::*;
     use crate::proved::bitwords::cursors::*;
-    use crate::proved::bitranks;
+    use crate::proved::{bitranks, flow};
     use crate::proved::fixedbitset::{Bits, BitsMut, ExtendFault, FixedBitSet};
     use crate::proved::fixedbitset::*;
     use crate::shim::alloc::Global;
@@ -3593,7 +3593,7 @@ fn fixedbitset_counted_shifts_42() {
     use crate::proved::bitlanes::{word, Block, IndexRange, Steps};
     use crate::proved::bitwalks::in_turn::*;
     use crate::proved::bitwords::cursors::*;
-    use crate::proved::bitranks;
+    use crate::proved::{bitranks, flow};
     use crate::proved::fixedbitset::{Bits, BitsMut, ExtendFault, FixedBitSet};
     use crate::proved::fixedbitset::*;
     use crate::shim::alloc::Global;
@@ -3615,7 +3615,7 @@ fn fixedbitset_counted_shifts_56() {
     use crate::proved::bitlanes::{word, Block, IndexRange, Steps};
     use crate::proved::bitwalks::in_turn::*;
     use crate::proved::bitwords::cursors::*;
-    use crate::proved::bitranks;
+    use crate::proved::{bitranks, flow};
     use crate::proved::fixedbitset::{Bits, BitsMut, ExtendFault, FixedBitSet};
     use crate::proved::fixedbitset::*;
     use crate::shim::alloc::Global;
@@ -3636,7 +3636,7 @@ fn fixedbitset_counted_shifts_70() {
     use crate::proved::bitlanes::{word, Block, IndexRange, Steps};
     use crate::proved::bitwalks::in_turn::*;
     use crate::proved::bitwords::cursors::*;
-    use crate::proved::bitranks;
+    use crate::proved::{bitranks, flow};
     use crate::proved::fixedbitset::{Bits, BitsMut, ExtendFault, FixedBitSet};
     use crate::proved::fixedbitset::*;
     use crate::shim::alloc::Global;
@@ -3658,7 +3658,7 @@ fn fixedbitset_counted_shifts_98() {
     use crate::proved::bitlanes::{word, Block, IndexRange, Steps};
     use crate::proved::bitwalks::in_turn::*;
     use crate::proved::bitwords::cursors::*;
-    use crate::proved::bitranks;
+    use crate::proved::{bitranks, flow};
     use crate::proved::fixedbitset::{Bits, BitsMut, ExtendFault, FixedBitSet};
     use crate::proved::fixedbitset::*;
     use crate::shim::alloc::Global;
@@ -3681,7 +3681,7 @@ fn fixedbitset_counted_shifts_121() {
     use crate::proved::bitlanes::{word, Block, IndexRange, Steps};
     use crate::proved::bitwalks::in_turn::*;
     use crate::proved::bitwords::cursors::*;
-    use crate::proved::bitranks;
+    use crate::proved::{bitranks, flow};
     use crate::proved::fixedbitset::{Bits, BitsMut, ExtendFault, FixedBitSet};
     use crate::proved::fixedbitset::*;
     use crate::shim::alloc::Global;
@@ -3704,7 +3704,7 @@ fn fixedbitset_counted_shifts_142() {
     use crate::proved::bitlanes::{word, Block, IndexRange, Steps};
     use crate::proved::bitwalks::in_turn::*;
     use crate::proved::bitwords::cursors::*;
-    use crate::proved::bitranks;
+    use crate::proved::{bitranks, flow};
     use crate::proved::fixedbitset::{Bits, BitsMut, ExtendFault, FixedBitSet};
     use crate::proved::fixedbitset::*;
     use crate::shim::alloc::Global;
@@ -3720,12 +3720,12 @@ fn fixedbitset_counted_shifts_142() {
 }
 
 #[test]
-fn fixedbitset_counted_whole_20() {
+fn fixedbitset_counted_whole_21() {
     use crate::proved::bitlanes::ops::*;
     use crate::proved::bitlanes::{word, Block, IndexRange, Steps};
     use crate::proved::bitwalks::in_turn::*;
     use crate::proved::bitwords::cursors::*;
-    use crate::proved::bitranks;
+    use crate::proved::{bitranks, flow};
     use crate::proved::fixedbitset::{Bits, BitsMut, ExtendFault, FixedBitSet};
     use crate::proved::fixedbitset::*;
     use crate::shim::alloc::Global;
@@ -3741,12 +3741,54 @@ fn fixedbitset_counted_whole_20() {
 }
 
 #[test]
-fn fixedbitset_counted_whole_35() {
+fn fixedbitset_counted_whole_34() {
     use crate::proved::bitlanes::ops::*;
     use crate::proved::bitlanes::{word, Block, IndexRange, Steps};
     use crate::proved::bitwalks::in_turn::*;
     use crate::proved::bitwords::cursors::*;
-    use crate::proved::bitranks;
+    use crate::proved::{bitranks, flow};
+    use crate::proved::fixedbitset::{Bits, BitsMut, ExtendFault, FixedBitSet};
+    use crate::proved::fixedbitset::*;
+    use crate::shim::alloc::Global;
+    use crate::shim::prelude::*;
+    use crate::shim::u64x4;
+    use core::cmp::Ordering;
+    use core::mem::{size_of, size_of_val};
+
+    let alloc = Global::Try;
+    let mut set = FixedBitSet::from_iter(alloc, [3, 64]).unwrap();
+    assert_eq!(counted::pop_first(&mut set, &mut Steps::new()), Some(3));
+    assert_eq!(set.as_slice(), [0, 1].as_slice());
+}
+
+#[test]
+fn fixedbitset_counted_whole_47() {
+    use crate::proved::bitlanes::ops::*;
+    use crate::proved::bitlanes::{word, Block, IndexRange, Steps};
+    use crate::proved::bitwalks::in_turn::*;
+    use crate::proved::bitwords::cursors::*;
+    use crate::proved::{bitranks, flow};
+    use crate::proved::fixedbitset::{Bits, BitsMut, ExtendFault, FixedBitSet};
+    use crate::proved::fixedbitset::*;
+    use crate::shim::alloc::Global;
+    use crate::shim::prelude::*;
+    use crate::shim::u64x4;
+    use core::cmp::Ordering;
+    use core::mem::{size_of, size_of_val};
+
+    let alloc = Global::Try;
+    let mut set = FixedBitSet::from_iter(alloc, [3, 64]).unwrap();
+    assert_eq!(counted::pop_last(&mut set, &mut Steps::new()), Some(64));
+    assert_eq!(set.as_slice(), [8, 0].as_slice());
+}
+
+#[test]
+fn fixedbitset_counted_whole_62() {
+    use crate::proved::bitlanes::ops::*;
+    use crate::proved::bitlanes::{word, Block, IndexRange, Steps};
+    use crate::proved::bitwalks::in_turn::*;
+    use crate::proved::bitwords::cursors::*;
+    use crate::proved::{bitranks, flow};
     use crate::proved::fixedbitset::{Bits, BitsMut, ExtendFault, FixedBitSet};
     use crate::proved::fixedbitset::*;
     use crate::shim::alloc::Global;
@@ -3763,12 +3805,12 @@ fn fixedbitset_counted_whole_35() {
 }
 
 #[test]
-fn fixedbitset_counted_whole_59() {
+fn fixedbitset_counted_whole_86() {
     use crate::proved::bitlanes::ops::*;
     use crate::proved::bitlanes::{word, Block, IndexRange, Steps};
     use crate::proved::bitwalks::in_turn::*;
     use crate::proved::bitwords::cursors::*;
-    use crate::proved::bitranks;
+    use crate::proved::{bitranks, flow};
     use crate::proved::fixedbitset::{Bits, BitsMut, ExtendFault, FixedBitSet};
     use crate::proved::fixedbitset::*;
     use crate::shim::alloc::Global;
@@ -3785,12 +3827,12 @@ fn fixedbitset_counted_whole_59() {
 }
 
 #[test]
-fn fixedbitset_counted_whole_81() {
+fn fixedbitset_counted_whole_108() {
     use crate::proved::bitlanes::ops::*;
     use crate::proved::bitlanes::{word, Block, IndexRange, Steps};
     use crate::proved::bitwalks::in_turn::*;
     use crate::proved::bitwords::cursors::*;
-    use crate::proved::bitranks;
+    use crate::proved::{bitranks, flow};
     use crate::proved::fixedbitset::{Bits, BitsMut, ExtendFault, FixedBitSet};
     use crate::proved::fixedbitset::*;
     use crate::shim::alloc::Global;
@@ -3807,12 +3849,12 @@ fn fixedbitset_counted_whole_81() {
 }
 
 #[test]
-fn fixedbitset_counted_whole_95() {
+fn fixedbitset_counted_whole_122() {
     use crate::proved::bitlanes::ops::*;
     use crate::proved::bitlanes::{word, Block, IndexRange, Steps};
     use crate::proved::bitwalks::in_turn::*;
     use crate::proved::bitwords::cursors::*;
-    use crate::proved::bitranks;
+    use crate::proved::{bitranks, flow};
     use crate::proved::fixedbitset::{Bits, BitsMut, ExtendFault, FixedBitSet};
     use crate::proved::fixedbitset::*;
     use crate::shim::alloc::Global;
@@ -3829,12 +3871,12 @@ fn fixedbitset_counted_whole_95() {
 }
 
 #[test]
-fn fixedbitset_counted_whole_109() {
+fn fixedbitset_counted_whole_136() {
     use crate::proved::bitlanes::ops::*;
     use crate::proved::bitlanes::{word, Block, IndexRange, Steps};
     use crate::proved::bitwalks::in_turn::*;
     use crate::proved::bitwords::cursors::*;
-    use crate::proved::bitranks;
+    use crate::proved::{bitranks, flow};
     use crate::proved::fixedbitset::{Bits, BitsMut, ExtendFault, FixedBitSet};
     use crate::proved::fixedbitset::*;
     use crate::shim::alloc::Global;
@@ -3851,12 +3893,12 @@ fn fixedbitset_counted_whole_109() {
 }
 
 #[test]
-fn fixedbitset_counted_whole_122() {
+fn fixedbitset_counted_whole_149() {
     use crate::proved::bitlanes::ops::*;
     use crate::proved::bitlanes::{word, Block, IndexRange, Steps};
     use crate::proved::bitwalks::in_turn::*;
     use crate::proved::bitwords::cursors::*;
-    use crate::proved::bitranks;
+    use crate::proved::{bitranks, flow};
     use crate::proved::fixedbitset::{Bits, BitsMut, ExtendFault, FixedBitSet};
     use crate::proved::fixedbitset::*;
     use crate::shim::alloc::Global;
@@ -3873,12 +3915,12 @@ fn fixedbitset_counted_whole_122() {
 }
 
 #[test]
-fn fixedbitset_counted_whole_135() {
+fn fixedbitset_counted_whole_162() {
     use crate::proved::bitlanes::ops::*;
     use crate::proved::bitlanes::{word, Block, IndexRange, Steps};
     use crate::proved::bitwalks::in_turn::*;
     use crate::proved::bitwords::cursors::*;
-    use crate::proved::bitranks;
+    use crate::proved::{bitranks, flow};
     use crate::proved::fixedbitset::{Bits, BitsMut, ExtendFault, FixedBitSet};
     use crate::proved::fixedbitset::*;
     use crate::shim::alloc::Global;
@@ -3895,12 +3937,12 @@ fn fixedbitset_counted_whole_135() {
 }
 
 #[test]
-fn fixedbitset_counted_whole_148() {
+fn fixedbitset_counted_whole_175() {
     use crate::proved::bitlanes::ops::*;
     use crate::proved::bitlanes::{word, Block, IndexRange, Steps};
     use crate::proved::bitwalks::in_turn::*;
     use crate::proved::bitwords::cursors::*;
-    use crate::proved::bitranks;
+    use crate::proved::{bitranks, flow};
     use crate::proved::fixedbitset::{Bits, BitsMut, ExtendFault, FixedBitSet};
     use crate::proved::fixedbitset::*;
     use crate::shim::alloc::Global;
@@ -3917,12 +3959,12 @@ fn fixedbitset_counted_whole_148() {
 }
 
 #[test]
-fn fixedbitset_counted_whole_165() {
+fn fixedbitset_counted_whole_192() {
     use crate::proved::bitlanes::ops::*;
     use crate::proved::bitlanes::{word, Block, IndexRange, Steps};
     use crate::proved::bitwalks::in_turn::*;
     use crate::proved::bitwords::cursors::*;
-    use crate::proved::bitranks;
+    use crate::proved::{bitranks, flow};
     use crate::proved::fixedbitset::{Bits, BitsMut, ExtendFault, FixedBitSet};
     use crate::proved::fixedbitset::*;
     use crate::shim::alloc::Global;
@@ -3938,12 +3980,12 @@ fn fixedbitset_counted_whole_165() {
 }
 
 #[test]
-fn fixedbitset_counted_whole_177() {
+fn fixedbitset_counted_whole_204() {
     use crate::proved::bitlanes::ops::*;
     use crate::proved::bitlanes::{word, Block, IndexRange, Steps};
     use crate::proved::bitwalks::in_turn::*;
     use crate::proved::bitwords::cursors::*;
-    use crate::proved::bitranks;
+    use crate::proved::{bitranks, flow};
     use crate::proved::fixedbitset::{Bits, BitsMut, ExtendFault, FixedBitSet};
     use crate::proved::fixedbitset::*;
     use crate::shim::alloc::Global;
@@ -3965,7 +4007,7 @@ fn fixedbitset_extend_27() {
     use crate::proved::bitlanes::{word, Block, IndexRange, Steps};
     use crate::proved::bitwalks::in_turn::*;
     use crate::proved::bitwords::cursors::*;
-    use crate::proved::bitranks;
+    use crate::proved::{bitranks, flow};
     use crate::proved::fixedbitset::{Bits, BitsMut, ExtendFault, FixedBitSet};
     use crate::proved::fixedbitset::*;
     use crate::shim::alloc::Global;
@@ -3983,12 +4025,35 @@ fn fixedbitset_extend_27() {
 }
 
 #[test]
-fn fixedbitset_extend_67() {
+fn fixedbitset_extend_55() {
     use crate::proved::bitlanes::ops::*;
     use crate::proved::bitlanes::{word, Block, IndexRange, Steps};
     use crate::proved::bitwalks::in_turn::*;
     use crate::proved::bitwords::cursors::*;
-    use crate::proved::bitranks;
+    use crate::proved::{bitranks, flow};
+    use crate::proved::fixedbitset::{Bits, BitsMut, ExtendFault, FixedBitSet};
+    use crate::proved::fixedbitset::*;
+    use crate::shim::alloc::Global;
+    use crate::shim::prelude::*;
+    use crate::shim::u64x4;
+    use core::cmp::Ordering;
+    use core::mem::{size_of, size_of_val};
+
+    let alloc = Global::Try;
+    let mut set = FixedBitSet::with_capacity(alloc, 2).unwrap();
+    assert!(!set.grow_and_put(64).unwrap());
+    assert!(set.grow_and_put(64).unwrap());
+    assert_eq!(set.len(), 65);
+    assert_eq!(set.as_slice(), [0, 1].as_slice());
+}
+
+#[test]
+fn fixedbitset_extend_95() {
+    use crate::proved::bitlanes::ops::*;
+    use crate::proved::bitlanes::{word, Block, IndexRange, Steps};
+    use crate::proved::bitwalks::in_turn::*;
+    use crate::proved::bitwords::cursors::*;
+    use crate::proved::{bitranks, flow};
     use crate::proved::fixedbitset::{Bits, BitsMut, ExtendFault, FixedBitSet};
     use crate::proved::fixedbitset::*;
     use crate::shim::alloc::Global;
@@ -4005,12 +4070,12 @@ fn fixedbitset_extend_67() {
 }
 
 #[test]
-fn fixedbitset_extend_89() {
+fn fixedbitset_extend_117() {
     use crate::proved::bitlanes::ops::*;
     use crate::proved::bitlanes::{word, Block, IndexRange, Steps};
     use crate::proved::bitwalks::in_turn::*;
     use crate::proved::bitwords::cursors::*;
-    use crate::proved::bitranks;
+    use crate::proved::{bitranks, flow};
     use crate::proved::fixedbitset::{Bits, BitsMut, ExtendFault, FixedBitSet};
     use crate::proved::fixedbitset::*;
     use crate::shim::alloc::Global;
@@ -4031,7 +4096,7 @@ fn fixedbitset_neighbours_14() {
     use crate::proved::bitlanes::{word, Block, IndexRange, Steps};
     use crate::proved::bitwalks::in_turn::*;
     use crate::proved::bitwords::cursors::*;
-    use crate::proved::bitranks;
+    use crate::proved::{bitranks, flow};
     use crate::proved::fixedbitset::{Bits, BitsMut, ExtendFault, FixedBitSet};
     use crate::proved::fixedbitset::*;
     use crate::shim::alloc::Global;
@@ -4053,7 +4118,7 @@ fn fixedbitset_neighbours_28() {
     use crate::proved::bitlanes::{word, Block, IndexRange, Steps};
     use crate::proved::bitwalks::in_turn::*;
     use crate::proved::bitwords::cursors::*;
-    use crate::proved::bitranks;
+    use crate::proved::{bitranks, flow};
     use crate::proved::fixedbitset::{Bits, BitsMut, ExtendFault, FixedBitSet};
     use crate::proved::fixedbitset::*;
     use crate::shim::alloc::Global;
@@ -4075,7 +4140,7 @@ fn fixedbitset_neighbours_45() {
     use crate::proved::bitlanes::{word, Block, IndexRange, Steps};
     use crate::proved::bitwalks::in_turn::*;
     use crate::proved::bitwords::cursors::*;
-    use crate::proved::bitranks;
+    use crate::proved::{bitranks, flow};
     use crate::proved::fixedbitset::{Bits, BitsMut, ExtendFault, FixedBitSet};
     use crate::proved::fixedbitset::*;
     use crate::shim::alloc::Global;
@@ -4098,7 +4163,7 @@ fn fixedbitset_neighbours_65() {
     use crate::proved::bitlanes::{word, Block, IndexRange, Steps};
     use crate::proved::bitwalks::in_turn::*;
     use crate::proved::bitwords::cursors::*;
-    use crate::proved::bitranks;
+    use crate::proved::{bitranks, flow};
     use crate::proved::fixedbitset::{Bits, BitsMut, ExtendFault, FixedBitSet};
     use crate::proved::fixedbitset::*;
     use crate::shim::alloc::Global;
@@ -4120,7 +4185,7 @@ fn fixedbitset_neighbours_81() {
     use crate::proved::bitlanes::{word, Block, IndexRange, Steps};
     use crate::proved::bitwalks::in_turn::*;
     use crate::proved::bitwords::cursors::*;
-    use crate::proved::bitranks;
+    use crate::proved::{bitranks, flow};
     use crate::proved::fixedbitset::{Bits, BitsMut, ExtendFault, FixedBitSet};
     use crate::proved::fixedbitset::*;
     use crate::shim::alloc::Global;
@@ -4142,7 +4207,7 @@ fn fixedbitset_neighbours_101() {
     use crate::proved::bitlanes::{word, Block, IndexRange, Steps};
     use crate::proved::bitwalks::in_turn::*;
     use crate::proved::bitwords::cursors::*;
-    use crate::proved::bitranks;
+    use crate::proved::{bitranks, flow};
     use crate::proved::fixedbitset::{Bits, BitsMut, ExtendFault, FixedBitSet};
     use crate::proved::fixedbitset::*;
     use crate::shim::alloc::Global;
@@ -4164,7 +4229,7 @@ fn fixedbitset_neighbours_122() {
     use crate::proved::bitlanes::{word, Block, IndexRange, Steps};
     use crate::proved::bitwalks::in_turn::*;
     use crate::proved::bitwords::cursors::*;
-    use crate::proved::bitranks;
+    use crate::proved::{bitranks, flow};
     use crate::proved::fixedbitset::{Bits, BitsMut, ExtendFault, FixedBitSet};
     use crate::proved::fixedbitset::*;
     use crate::shim::alloc::Global;
@@ -4186,7 +4251,7 @@ fn fixedbitset_neighbours_136() {
     use crate::proved::bitlanes::{word, Block, IndexRange, Steps};
     use crate::proved::bitwalks::in_turn::*;
     use crate::proved::bitwords::cursors::*;
-    use crate::proved::bitranks;
+    use crate::proved::{bitranks, flow};
     use crate::proved::fixedbitset::{Bits, BitsMut, ExtendFault, FixedBitSet};
     use crate::proved::fixedbitset::*;
     use crate::shim::alloc::Global;
@@ -4208,7 +4273,7 @@ fn fixedbitset_of_two_18() {
     use crate::proved::bitlanes::{word, Block, IndexRange, Steps};
     use crate::proved::bitwalks::in_turn::*;
     use crate::proved::bitwords::cursors::*;
-    use crate::proved::bitranks;
+    use crate::proved::{bitranks, flow};
     use crate::proved::fixedbitset::{Bits, BitsMut, ExtendFault, FixedBitSet};
     use crate::proved::fixedbitset::*;
     use crate::shim::alloc::Global;
@@ -4231,7 +4296,7 @@ fn fixedbitset_of_two_38() {
     use crate::proved::bitlanes::{word, Block, IndexRange, Steps};
     use crate::proved::bitwalks::in_turn::*;
     use crate::proved::bitwords::cursors::*;
-    use crate::proved::bitranks;
+    use crate::proved::{bitranks, flow};
     use crate::proved::fixedbitset::{Bits, BitsMut, ExtendFault, FixedBitSet};
     use crate::proved::fixedbitset::*;
     use crate::shim::alloc::Global;
@@ -4254,7 +4319,7 @@ fn fixedbitset_of_two_57() {
     use crate::proved::bitlanes::{word, Block, IndexRange, Steps};
     use crate::proved::bitwalks::in_turn::*;
     use crate::proved::bitwords::cursors::*;
-    use crate::proved::bitranks;
+    use crate::proved::{bitranks, flow};
     use crate::proved::fixedbitset::{Bits, BitsMut, ExtendFault, FixedBitSet};
     use crate::proved::fixedbitset::*;
     use crate::shim::alloc::Global;
@@ -4277,7 +4342,7 @@ fn fixedbitset_of_two_77() {
     use crate::proved::bitlanes::{word, Block, IndexRange, Steps};
     use crate::proved::bitwalks::in_turn::*;
     use crate::proved::bitwords::cursors::*;
-    use crate::proved::bitranks;
+    use crate::proved::{bitranks, flow};
     use crate::proved::fixedbitset::{Bits, BitsMut, ExtendFault, FixedBitSet};
     use crate::proved::fixedbitset::*;
     use crate::shim::alloc::Global;
@@ -4300,7 +4365,7 @@ fn fixedbitset_order_18() {
     use crate::proved::bitlanes::{word, Block, IndexRange, Steps};
     use crate::proved::bitwalks::in_turn::*;
     use crate::proved::bitwords::cursors::*;
-    use crate::proved::bitranks;
+    use crate::proved::{bitranks, flow};
     use crate::proved::fixedbitset::{Bits, BitsMut, ExtendFault, FixedBitSet};
     use crate::proved::fixedbitset::*;
     use crate::shim::alloc::Global;
@@ -4323,7 +4388,7 @@ fn fixedbitset_order_37() {
     use crate::proved::bitlanes::{word, Block, IndexRange, Steps};
     use crate::proved::bitwalks::in_turn::*;
     use crate::proved::bitwords::cursors::*;
-    use crate::proved::bitranks;
+    use crate::proved::{bitranks, flow};
     use crate::proved::fixedbitset::{Bits, BitsMut, ExtendFault, FixedBitSet};
     use crate::proved::fixedbitset::*;
     use crate::shim::alloc::Global;
@@ -4345,7 +4410,7 @@ fn fixedbitset_order_58() {
     use crate::proved::bitlanes::{word, Block, IndexRange, Steps};
     use crate::proved::bitwalks::in_turn::*;
     use crate::proved::bitwords::cursors::*;
-    use crate::proved::bitranks;
+    use crate::proved::{bitranks, flow};
     use crate::proved::fixedbitset::{Bits, BitsMut, ExtendFault, FixedBitSet};
     use crate::proved::fixedbitset::*;
     use crate::shim::alloc::Global;
@@ -4368,7 +4433,7 @@ fn fixedbitset_parts_24() {
     use crate::proved::bitlanes::{word, Block, IndexRange, Steps};
     use crate::proved::bitwalks::in_turn::*;
     use crate::proved::bitwords::cursors::*;
-    use crate::proved::bitranks;
+    use crate::proved::{bitranks, flow};
     use crate::proved::fixedbitset::{Bits, BitsMut, ExtendFault, FixedBitSet};
     use crate::proved::fixedbitset::*;
     use crate::shim::alloc::Global;
@@ -4390,7 +4455,7 @@ fn fixedbitset_parts_46() {
     use crate::proved::bitlanes::{word, Block, IndexRange, Steps};
     use crate::proved::bitwalks::in_turn::*;
     use crate::proved::bitwords::cursors::*;
-    use crate::proved::bitranks;
+    use crate::proved::{bitranks, flow};
     use crate::proved::fixedbitset::{Bits, BitsMut, ExtendFault, FixedBitSet};
     use crate::proved::fixedbitset::*;
     use crate::shim::alloc::Global;
@@ -4413,7 +4478,7 @@ fn fixedbitset_parts_62() {
     use crate::proved::bitlanes::{word, Block, IndexRange, Steps};
     use crate::proved::bitwalks::in_turn::*;
     use crate::proved::bitwords::cursors::*;
-    use crate::proved::bitranks;
+    use crate::proved::{bitranks, flow};
     use crate::proved::fixedbitset::{Bits, BitsMut, ExtendFault, FixedBitSet};
     use crate::proved::fixedbitset::*;
     use crate::shim::alloc::Global;
@@ -4435,7 +4500,7 @@ fn fixedbitset_parts_78() {
     use crate::proved::bitlanes::{word, Block, IndexRange, Steps};
     use crate::proved::bitwalks::in_turn::*;
     use crate::proved::bitwords::cursors::*;
-    use crate::proved::bitranks;
+    use crate::proved::{bitranks, flow};
     use crate::proved::fixedbitset::{Bits, BitsMut, ExtendFault, FixedBitSet};
     use crate::proved::fixedbitset::*;
     use crate::shim::alloc::Global;
@@ -4457,7 +4522,7 @@ fn fixedbitset_parts_95() {
     use crate::proved::bitlanes::{word, Block, IndexRange, Steps};
     use crate::proved::bitwalks::in_turn::*;
     use crate::proved::bitwords::cursors::*;
-    use crate::proved::bitranks;
+    use crate::proved::{bitranks, flow};
     use crate::proved::fixedbitset::{Bits, BitsMut, ExtendFault, FixedBitSet};
     use crate::proved::fixedbitset::*;
     use crate::shim::alloc::Global;
@@ -4480,7 +4545,7 @@ fn fixedbitset_parts_112() {
     use crate::proved::bitlanes::{word, Block, IndexRange, Steps};
     use crate::proved::bitwalks::in_turn::*;
     use crate::proved::bitwords::cursors::*;
-    use crate::proved::bitranks;
+    use crate::proved::{bitranks, flow};
     use crate::proved::fixedbitset::{Bits, BitsMut, ExtendFault, FixedBitSet};
     use crate::proved::fixedbitset::*;
     use crate::shim::alloc::Global;
@@ -4503,7 +4568,7 @@ fn fixedbitset_parts_132() {
     use crate::proved::bitlanes::{word, Block, IndexRange, Steps};
     use crate::proved::bitwalks::in_turn::*;
     use crate::proved::bitwords::cursors::*;
-    use crate::proved::bitranks;
+    use crate::proved::{bitranks, flow};
     use crate::proved::fixedbitset::{Bits, BitsMut, ExtendFault, FixedBitSet};
     use crate::proved::fixedbitset::*;
     use crate::shim::alloc::Global;
@@ -4526,7 +4591,7 @@ fn fixedbitset_parts_149() {
     use crate::proved::bitlanes::{word, Block, IndexRange, Steps};
     use crate::proved::bitwalks::in_turn::*;
     use crate::proved::bitwords::cursors::*;
-    use crate::proved::bitranks;
+    use crate::proved::{bitranks, flow};
     use crate::proved::fixedbitset::{Bits, BitsMut, ExtendFault, FixedBitSet};
     use crate::proved::fixedbitset::*;
     use crate::shim::alloc::Global;
@@ -4547,7 +4612,7 @@ fn fixedbitset_parts_169() {
     use crate::proved::bitlanes::{word, Block, IndexRange, Steps};
     use crate::proved::bitwalks::in_turn::*;
     use crate::proved::bitwords::cursors::*;
-    use crate::proved::bitranks;
+    use crate::proved::{bitranks, flow};
     use crate::proved::fixedbitset::{Bits, BitsMut, ExtendFault, FixedBitSet};
     use crate::proved::fixedbitset::*;
     use crate::shim::alloc::Global;
@@ -4563,12 +4628,12 @@ fn fixedbitset_parts_169() {
 }
 
 #[test]
-fn fixedbitset_questions_15() {
+fn fixedbitset_questions_16() {
     use crate::proved::bitlanes::ops::*;
     use crate::proved::bitlanes::{word, Block, IndexRange, Steps};
     use crate::proved::bitwalks::in_turn::*;
     use crate::proved::bitwords::cursors::*;
-    use crate::proved::bitranks;
+    use crate::proved::{bitranks, flow};
     use crate::proved::fixedbitset::{Bits, BitsMut, ExtendFault, FixedBitSet};
     use crate::proved::fixedbitset::*;
     use crate::shim::alloc::Global;
@@ -4584,12 +4649,12 @@ fn fixedbitset_questions_15() {
 }
 
 #[test]
-fn fixedbitset_questions_28() {
+fn fixedbitset_questions_29() {
     use crate::proved::bitlanes::ops::*;
     use crate::proved::bitlanes::{word, Block, IndexRange, Steps};
     use crate::proved::bitwalks::in_turn::*;
     use crate::proved::bitwords::cursors::*;
-    use crate::proved::bitranks;
+    use crate::proved::{bitranks, flow};
     use crate::proved::fixedbitset::{Bits, BitsMut, ExtendFault, FixedBitSet};
     use crate::proved::fixedbitset::*;
     use crate::shim::alloc::Global;
@@ -4606,12 +4671,12 @@ fn fixedbitset_questions_28() {
 }
 
 #[test]
-fn fixedbitset_questions_42() {
+fn fixedbitset_questions_43() {
     use crate::proved::bitlanes::ops::*;
     use crate::proved::bitlanes::{word, Block, IndexRange, Steps};
     use crate::proved::bitwalks::in_turn::*;
     use crate::proved::bitwords::cursors::*;
-    use crate::proved::bitranks;
+    use crate::proved::{bitranks, flow};
     use crate::proved::fixedbitset::{Bits, BitsMut, ExtendFault, FixedBitSet};
     use crate::proved::fixedbitset::*;
     use crate::shim::alloc::Global;
@@ -4628,12 +4693,12 @@ fn fixedbitset_questions_42() {
 }
 
 #[test]
-fn fixedbitset_questions_56() {
+fn fixedbitset_questions_57() {
     use crate::proved::bitlanes::ops::*;
     use crate::proved::bitlanes::{word, Block, IndexRange, Steps};
     use crate::proved::bitwalks::in_turn::*;
     use crate::proved::bitwords::cursors::*;
-    use crate::proved::bitranks;
+    use crate::proved::{bitranks, flow};
     use crate::proved::fixedbitset::{Bits, BitsMut, ExtendFault, FixedBitSet};
     use crate::proved::fixedbitset::*;
     use crate::shim::alloc::Global;
@@ -4650,12 +4715,56 @@ fn fixedbitset_questions_56() {
 }
 
 #[test]
-fn fixedbitset_questions_69() {
+fn fixedbitset_questions_74() {
     use crate::proved::bitlanes::ops::*;
     use crate::proved::bitlanes::{word, Block, IndexRange, Steps};
     use crate::proved::bitwalks::in_turn::*;
     use crate::proved::bitwords::cursors::*;
-    use crate::proved::bitranks;
+    use crate::proved::{bitranks, flow};
+    use crate::proved::fixedbitset::{Bits, BitsMut, ExtendFault, FixedBitSet};
+    use crate::proved::fixedbitset::*;
+    use crate::shim::alloc::Global;
+    use crate::shim::prelude::*;
+    use crate::shim::u64x4;
+    use core::cmp::Ordering;
+    use core::mem::{size_of, size_of_val};
+
+    let alloc = Global::Try;
+    let mut set = FixedBitSet::from_iter(alloc, [3, 64]).unwrap();
+    assert_eq!(set.pop_first(), Some(3));
+    assert_eq!(set.pop_first(), Some(64));
+    assert!(set.pop_first().is_none() && set.len() == 65);
+}
+
+#[test]
+fn fixedbitset_questions_91() {
+    use crate::proved::bitlanes::ops::*;
+    use crate::proved::bitlanes::{word, Block, IndexRange, Steps};
+    use crate::proved::bitwalks::in_turn::*;
+    use crate::proved::bitwords::cursors::*;
+    use crate::proved::{bitranks, flow};
+    use crate::proved::fixedbitset::{Bits, BitsMut, ExtendFault, FixedBitSet};
+    use crate::proved::fixedbitset::*;
+    use crate::shim::alloc::Global;
+    use crate::shim::prelude::*;
+    use crate::shim::u64x4;
+    use core::cmp::Ordering;
+    use core::mem::{size_of, size_of_val};
+
+    let alloc = Global::Try;
+    let mut set = FixedBitSet::from_iter(alloc, [3, 64]).unwrap();
+    assert_eq!(set.pop_last(), Some(64));
+    assert_eq!(set.pop_last(), Some(3));
+    assert!(set.pop_last().is_none() && set.len() == 65);
+}
+
+#[test]
+fn fixedbitset_questions_104() {
+    use crate::proved::bitlanes::ops::*;
+    use crate::proved::bitlanes::{word, Block, IndexRange, Steps};
+    use crate::proved::bitwalks::in_turn::*;
+    use crate::proved::bitwords::cursors::*;
+    use crate::proved::{bitranks, flow};
     use crate::proved::fixedbitset::{Bits, BitsMut, ExtendFault, FixedBitSet};
     use crate::proved::fixedbitset::*;
     use crate::shim::alloc::Global;
@@ -4678,7 +4787,7 @@ fn fixedbitset_ranges_25() {
     use crate::proved::bitlanes::{word, Block, IndexRange, Steps};
     use crate::proved::bitwalks::in_turn::*;
     use crate::proved::bitwords::cursors::*;
-    use crate::proved::bitranks;
+    use crate::proved::{bitranks, flow};
     use crate::proved::fixedbitset::{Bits, BitsMut, ExtendFault, FixedBitSet};
     use crate::proved::fixedbitset::*;
     use crate::shim::alloc::Global;
@@ -4701,7 +4810,7 @@ fn fixedbitset_ranges_42() {
     use crate::proved::bitlanes::{word, Block, IndexRange, Steps};
     use crate::proved::bitwalks::in_turn::*;
     use crate::proved::bitwords::cursors::*;
-    use crate::proved::bitranks;
+    use crate::proved::{bitranks, flow};
     use crate::proved::fixedbitset::{Bits, BitsMut, ExtendFault, FixedBitSet};
     use crate::proved::fixedbitset::*;
     use crate::shim::alloc::Global;
@@ -4724,7 +4833,7 @@ fn fixedbitset_ranges_56() {
     use crate::proved::bitlanes::{word, Block, IndexRange, Steps};
     use crate::proved::bitwalks::in_turn::*;
     use crate::proved::bitwords::cursors::*;
-    use crate::proved::bitranks;
+    use crate::proved::{bitranks, flow};
     use crate::proved::fixedbitset::{Bits, BitsMut, ExtendFault, FixedBitSet};
     use crate::proved::fixedbitset::*;
     use crate::shim::alloc::Global;
@@ -4746,7 +4855,7 @@ fn fixedbitset_ranges_70() {
     use crate::proved::bitlanes::{word, Block, IndexRange, Steps};
     use crate::proved::bitwalks::in_turn::*;
     use crate::proved::bitwords::cursors::*;
-    use crate::proved::bitranks;
+    use crate::proved::{bitranks, flow};
     use crate::proved::fixedbitset::{Bits, BitsMut, ExtendFault, FixedBitSet};
     use crate::proved::fixedbitset::*;
     use crate::shim::alloc::Global;
@@ -4768,7 +4877,7 @@ fn fixedbitset_ranges_87() {
     use crate::proved::bitlanes::{word, Block, IndexRange, Steps};
     use crate::proved::bitwalks::in_turn::*;
     use crate::proved::bitwords::cursors::*;
-    use crate::proved::bitranks;
+    use crate::proved::{bitranks, flow};
     use crate::proved::fixedbitset::{Bits, BitsMut, ExtendFault, FixedBitSet};
     use crate::proved::fixedbitset::*;
     use crate::shim::alloc::Global;
@@ -4789,7 +4898,7 @@ fn fixedbitset_ranges_102() {
     use crate::proved::bitlanes::{word, Block, IndexRange, Steps};
     use crate::proved::bitwalks::in_turn::*;
     use crate::proved::bitwords::cursors::*;
-    use crate::proved::bitranks;
+    use crate::proved::{bitranks, flow};
     use crate::proved::fixedbitset::{Bits, BitsMut, ExtendFault, FixedBitSet};
     use crate::proved::fixedbitset::*;
     use crate::shim::alloc::Global;
@@ -4811,7 +4920,7 @@ fn fixedbitset_ranges_116() {
     use crate::proved::bitlanes::{word, Block, IndexRange, Steps};
     use crate::proved::bitwalks::in_turn::*;
     use crate::proved::bitwords::cursors::*;
-    use crate::proved::bitranks;
+    use crate::proved::{bitranks, flow};
     use crate::proved::fixedbitset::{Bits, BitsMut, ExtendFault, FixedBitSet};
     use crate::proved::fixedbitset::*;
     use crate::shim::alloc::Global;
@@ -4833,7 +4942,7 @@ fn fixedbitset_ranges_130() {
     use crate::proved::bitlanes::{word, Block, IndexRange, Steps};
     use crate::proved::bitwalks::in_turn::*;
     use crate::proved::bitwords::cursors::*;
-    use crate::proved::bitranks;
+    use crate::proved::{bitranks, flow};
     use crate::proved::fixedbitset::{Bits, BitsMut, ExtendFault, FixedBitSet};
     use crate::proved::fixedbitset::*;
     use crate::shim::alloc::Global;
@@ -4856,7 +4965,7 @@ fn fixedbitset_ranges_145() {
     use crate::proved::bitlanes::{word, Block, IndexRange, Steps};
     use crate::proved::bitwalks::in_turn::*;
     use crate::proved::bitwords::cursors::*;
-    use crate::proved::bitranks;
+    use crate::proved::{bitranks, flow};
     use crate::proved::fixedbitset::{Bits, BitsMut, ExtendFault, FixedBitSet};
     use crate::proved::fixedbitset::*;
     use crate::shim::alloc::Global;
@@ -4879,7 +4988,7 @@ fn fixedbitset_set_30() {
     use crate::proved::bitlanes::{word, Block, IndexRange, Steps};
     use crate::proved::bitwalks::in_turn::*;
     use crate::proved::bitwords::cursors::*;
-    use crate::proved::bitranks;
+    use crate::proved::{bitranks, flow};
     use crate::proved::fixedbitset::{Bits, BitsMut, ExtendFault, FixedBitSet};
     use crate::proved::fixedbitset::*;
     use crate::shim::alloc::Global;
@@ -4901,7 +5010,7 @@ fn fixedbitset_set_48() {
     use crate::proved::bitlanes::{word, Block, IndexRange, Steps};
     use crate::proved::bitwalks::in_turn::*;
     use crate::proved::bitwords::cursors::*;
-    use crate::proved::bitranks;
+    use crate::proved::{bitranks, flow};
     use crate::proved::fixedbitset::{Bits, BitsMut, ExtendFault, FixedBitSet};
     use crate::proved::fixedbitset::*;
     use crate::shim::alloc::Global;
@@ -4922,7 +5031,7 @@ fn fixedbitset_set_65() {
     use crate::proved::bitlanes::{word, Block, IndexRange, Steps};
     use crate::proved::bitwalks::in_turn::*;
     use crate::proved::bitwords::cursors::*;
-    use crate::proved::bitranks;
+    use crate::proved::{bitranks, flow};
     use crate::proved::fixedbitset::{Bits, BitsMut, ExtendFault, FixedBitSet};
     use crate::proved::fixedbitset::*;
     use crate::shim::alloc::Global;
@@ -4942,7 +5051,7 @@ fn fixedbitset_set_82() {
     use crate::proved::bitlanes::{word, Block, IndexRange, Steps};
     use crate::proved::bitwalks::in_turn::*;
     use crate::proved::bitwords::cursors::*;
-    use crate::proved::bitranks;
+    use crate::proved::{bitranks, flow};
     use crate::proved::fixedbitset::{Bits, BitsMut, ExtendFault, FixedBitSet};
     use crate::proved::fixedbitset::*;
     use crate::shim::alloc::Global;
@@ -4963,7 +5072,7 @@ fn fixedbitset_set_110() {
     use crate::proved::bitlanes::{word, Block, IndexRange, Steps};
     use crate::proved::bitwalks::in_turn::*;
     use crate::proved::bitwords::cursors::*;
-    use crate::proved::bitranks;
+    use crate::proved::{bitranks, flow};
     use crate::proved::fixedbitset::{Bits, BitsMut, ExtendFault, FixedBitSet};
     use crate::proved::fixedbitset::*;
     use crate::shim::alloc::Global;
@@ -4986,7 +5095,7 @@ fn fixedbitset_set_135() {
     use crate::proved::bitlanes::{word, Block, IndexRange, Steps};
     use crate::proved::bitwalks::in_turn::*;
     use crate::proved::bitwords::cursors::*;
-    use crate::proved::bitranks;
+    use crate::proved::{bitranks, flow};
     use crate::proved::fixedbitset::{Bits, BitsMut, ExtendFault, FixedBitSet};
     use crate::proved::fixedbitset::*;
     use crate::shim::alloc::Global;
@@ -5009,7 +5118,7 @@ fn fixedbitset_set_162() {
     use crate::proved::bitlanes::{word, Block, IndexRange, Steps};
     use crate::proved::bitwalks::in_turn::*;
     use crate::proved::bitwords::cursors::*;
-    use crate::proved::bitranks;
+    use crate::proved::{bitranks, flow};
     use crate::proved::fixedbitset::{Bits, BitsMut, ExtendFault, FixedBitSet};
     use crate::proved::fixedbitset::*;
     use crate::shim::alloc::Global;
@@ -5031,7 +5140,7 @@ fn fixedbitset_set_180() {
     use crate::proved::bitlanes::{word, Block, IndexRange, Steps};
     use crate::proved::bitwalks::in_turn::*;
     use crate::proved::bitwords::cursors::*;
-    use crate::proved::bitranks;
+    use crate::proved::{bitranks, flow};
     use crate::proved::fixedbitset::{Bits, BitsMut, ExtendFault, FixedBitSet};
     use crate::proved::fixedbitset::*;
     use crate::shim::alloc::Global;
@@ -5051,7 +5160,7 @@ fn fixedbitset_set_197() {
     use crate::proved::bitlanes::{word, Block, IndexRange, Steps};
     use crate::proved::bitwalks::in_turn::*;
     use crate::proved::bitwords::cursors::*;
-    use crate::proved::bitranks;
+    use crate::proved::{bitranks, flow};
     use crate::proved::fixedbitset::{Bits, BitsMut, ExtendFault, FixedBitSet};
     use crate::proved::fixedbitset::*;
     use crate::shim::alloc::Global;
@@ -5073,7 +5182,7 @@ fn fixedbitset_set_211() {
     use crate::proved::bitlanes::{word, Block, IndexRange, Steps};
     use crate::proved::bitwalks::in_turn::*;
     use crate::proved::bitwords::cursors::*;
-    use crate::proved::bitranks;
+    use crate::proved::{bitranks, flow};
     use crate::proved::fixedbitset::{Bits, BitsMut, ExtendFault, FixedBitSet};
     use crate::proved::fixedbitset::*;
     use crate::shim::alloc::Global;
@@ -5095,7 +5204,7 @@ fn fixedbitset_set_225() {
     use crate::proved::bitlanes::{word, Block, IndexRange, Steps};
     use crate::proved::bitwalks::in_turn::*;
     use crate::proved::bitwords::cursors::*;
-    use crate::proved::bitranks;
+    use crate::proved::{bitranks, flow};
     use crate::proved::fixedbitset::{Bits, BitsMut, ExtendFault, FixedBitSet};
     use crate::proved::fixedbitset::*;
     use crate::shim::alloc::Global;
@@ -5116,7 +5225,7 @@ fn fixedbitset_set_240() {
     use crate::proved::bitlanes::{word, Block, IndexRange, Steps};
     use crate::proved::bitwalks::in_turn::*;
     use crate::proved::bitwords::cursors::*;
-    use crate::proved::bitranks;
+    use crate::proved::{bitranks, flow};
     use crate::proved::fixedbitset::{Bits, BitsMut, ExtendFault, FixedBitSet};
     use crate::proved::fixedbitset::*;
     use crate::shim::alloc::Global;
@@ -5136,7 +5245,7 @@ fn fixedbitset_set_262() {
     use crate::proved::bitlanes::{word, Block, IndexRange, Steps};
     use crate::proved::bitwalks::in_turn::*;
     use crate::proved::bitwords::cursors::*;
-    use crate::proved::bitranks;
+    use crate::proved::{bitranks, flow};
     use crate::proved::fixedbitset::{Bits, BitsMut, ExtendFault, FixedBitSet};
     use crate::proved::fixedbitset::*;
     use crate::shim::alloc::Global;
@@ -5159,7 +5268,7 @@ fn fixedbitset_shifts_16() {
     use crate::proved::bitlanes::{word, Block, IndexRange, Steps};
     use crate::proved::bitwalks::in_turn::*;
     use crate::proved::bitwords::cursors::*;
-    use crate::proved::bitranks;
+    use crate::proved::{bitranks, flow};
     use crate::proved::fixedbitset::{Bits, BitsMut, ExtendFault, FixedBitSet};
     use crate::proved::fixedbitset::*;
     use crate::shim::alloc::Global;
@@ -5182,7 +5291,7 @@ fn fixedbitset_shifts_32() {
     use crate::proved::bitlanes::{word, Block, IndexRange, Steps};
     use crate::proved::bitwalks::in_turn::*;
     use crate::proved::bitwords::cursors::*;
-    use crate::proved::bitranks;
+    use crate::proved::{bitranks, flow};
     use crate::proved::fixedbitset::{Bits, BitsMut, ExtendFault, FixedBitSet};
     use crate::proved::fixedbitset::*;
     use crate::shim::alloc::Global;
@@ -5204,7 +5313,7 @@ fn fixedbitset_shifts_48() {
     use crate::proved::bitlanes::{word, Block, IndexRange, Steps};
     use crate::proved::bitwalks::in_turn::*;
     use crate::proved::bitwords::cursors::*;
-    use crate::proved::bitranks;
+    use crate::proved::{bitranks, flow};
     use crate::proved::fixedbitset::{Bits, BitsMut, ExtendFault, FixedBitSet};
     use crate::proved::fixedbitset::*;
     use crate::shim::alloc::Global;
@@ -5226,7 +5335,7 @@ fn fixedbitset_shifts_65() {
     use crate::proved::bitlanes::{word, Block, IndexRange, Steps};
     use crate::proved::bitwalks::in_turn::*;
     use crate::proved::bitwords::cursors::*;
-    use crate::proved::bitranks;
+    use crate::proved::{bitranks, flow};
     use crate::proved::fixedbitset::{Bits, BitsMut, ExtendFault, FixedBitSet};
     use crate::proved::fixedbitset::*;
     use crate::shim::alloc::Global;
@@ -5249,7 +5358,7 @@ fn fixedbitset_views_bytes_14() {
     use crate::proved::bitlanes::{word, Block, IndexRange, Steps};
     use crate::proved::bitwalks::in_turn::*;
     use crate::proved::bitwords::cursors::*;
-    use crate::proved::bitranks;
+    use crate::proved::{bitranks, flow};
     use crate::proved::fixedbitset::{Bits, BitsMut, ExtendFault, FixedBitSet};
     use crate::proved::fixedbitset::*;
     use crate::shim::alloc::Global;
@@ -5270,7 +5379,7 @@ fn fixedbitset_views_bytes_31() {
     use crate::proved::bitlanes::{word, Block, IndexRange, Steps};
     use crate::proved::bitwalks::in_turn::*;
     use crate::proved::bitwords::cursors::*;
-    use crate::proved::bitranks;
+    use crate::proved::{bitranks, flow};
     use crate::proved::fixedbitset::{Bits, BitsMut, ExtendFault, FixedBitSet};
     use crate::proved::fixedbitset::*;
     use crate::shim::alloc::Global;
@@ -5291,7 +5400,7 @@ fn fixedbitset_views_changes_13() {
     use crate::proved::bitlanes::{word, Block, IndexRange, Steps};
     use crate::proved::bitwalks::in_turn::*;
     use crate::proved::bitwords::cursors::*;
-    use crate::proved::bitranks;
+    use crate::proved::{bitranks, flow};
     use crate::proved::fixedbitset::{Bits, BitsMut, ExtendFault, FixedBitSet};
     use crate::proved::fixedbitset::*;
     use crate::shim::alloc::Global;
@@ -5313,7 +5422,7 @@ fn fixedbitset_views_changes_27() {
     use crate::proved::bitlanes::{word, Block, IndexRange, Steps};
     use crate::proved::bitwalks::in_turn::*;
     use crate::proved::bitwords::cursors::*;
-    use crate::proved::bitranks;
+    use crate::proved::{bitranks, flow};
     use crate::proved::fixedbitset::{Bits, BitsMut, ExtendFault, FixedBitSet};
     use crate::proved::fixedbitset::*;
     use crate::shim::alloc::Global;
@@ -5335,7 +5444,7 @@ fn fixedbitset_views_changes_41() {
     use crate::proved::bitlanes::{word, Block, IndexRange, Steps};
     use crate::proved::bitwalks::in_turn::*;
     use crate::proved::bitwords::cursors::*;
-    use crate::proved::bitranks;
+    use crate::proved::{bitranks, flow};
     use crate::proved::fixedbitset::{Bits, BitsMut, ExtendFault, FixedBitSet};
     use crate::proved::fixedbitset::*;
     use crate::shim::alloc::Global;
@@ -5357,7 +5466,7 @@ fn fixedbitset_views_changes_56() {
     use crate::proved::bitlanes::{word, Block, IndexRange, Steps};
     use crate::proved::bitwalks::in_turn::*;
     use crate::proved::bitwords::cursors::*;
-    use crate::proved::bitranks;
+    use crate::proved::{bitranks, flow};
     use crate::proved::fixedbitset::{Bits, BitsMut, ExtendFault, FixedBitSet};
     use crate::proved::fixedbitset::*;
     use crate::shim::alloc::Global;
@@ -5380,7 +5489,7 @@ fn fixedbitset_views_copies_14() {
     use crate::proved::bitlanes::{word, Block, IndexRange, Steps};
     use crate::proved::bitwalks::in_turn::*;
     use crate::proved::bitwords::cursors::*;
-    use crate::proved::bitranks;
+    use crate::proved::{bitranks, flow};
     use crate::proved::fixedbitset::{Bits, BitsMut, ExtendFault, FixedBitSet};
     use crate::proved::fixedbitset::*;
     use crate::shim::alloc::Global;
@@ -5401,7 +5510,7 @@ fn fixedbitset_views_copies_28() {
     use crate::proved::bitlanes::{word, Block, IndexRange, Steps};
     use crate::proved::bitwalks::in_turn::*;
     use crate::proved::bitwords::cursors::*;
-    use crate::proved::bitranks;
+    use crate::proved::{bitranks, flow};
     use crate::proved::fixedbitset::{Bits, BitsMut, ExtendFault, FixedBitSet};
     use crate::proved::fixedbitset::*;
     use crate::shim::alloc::Global;
@@ -5423,7 +5532,7 @@ fn fixedbitset_views_copies_47() {
     use crate::proved::bitlanes::{word, Block, IndexRange, Steps};
     use crate::proved::bitwalks::in_turn::*;
     use crate::proved::bitwords::cursors::*;
-    use crate::proved::bitranks;
+    use crate::proved::{bitranks, flow};
     use crate::proved::fixedbitset::{Bits, BitsMut, ExtendFault, FixedBitSet};
     use crate::proved::fixedbitset::*;
     use crate::shim::alloc::Global;
@@ -5445,7 +5554,7 @@ fn fixedbitset_views_copies_65() {
     use crate::proved::bitlanes::{word, Block, IndexRange, Steps};
     use crate::proved::bitwalks::in_turn::*;
     use crate::proved::bitwords::cursors::*;
-    use crate::proved::bitranks;
+    use crate::proved::{bitranks, flow};
     use crate::proved::fixedbitset::{Bits, BitsMut, ExtendFault, FixedBitSet};
     use crate::proved::fixedbitset::*;
     use crate::shim::alloc::Global;
@@ -5467,7 +5576,7 @@ fn fixedbitset_views_copies_84() {
     use crate::proved::bitlanes::{word, Block, IndexRange, Steps};
     use crate::proved::bitwalks::in_turn::*;
     use crate::proved::bitwords::cursors::*;
-    use crate::proved::bitranks;
+    use crate::proved::{bitranks, flow};
     use crate::proved::fixedbitset::{Bits, BitsMut, ExtendFault, FixedBitSet};
     use crate::proved::fixedbitset::*;
     use crate::shim::alloc::Global;
@@ -5489,7 +5598,7 @@ fn fixedbitset_views_copies_107() {
     use crate::proved::bitlanes::{word, Block, IndexRange, Steps};
     use crate::proved::bitwalks::in_turn::*;
     use crate::proved::bitwords::cursors::*;
-    use crate::proved::bitranks;
+    use crate::proved::{bitranks, flow};
     use crate::proved::fixedbitset::{Bits, BitsMut, ExtendFault, FixedBitSet};
     use crate::proved::fixedbitset::*;
     use crate::shim::alloc::Global;
@@ -5511,7 +5620,7 @@ fn fixedbitset_views_copies_122() {
     use crate::proved::bitlanes::{word, Block, IndexRange, Steps};
     use crate::proved::bitwalks::in_turn::*;
     use crate::proved::bitwords::cursors::*;
-    use crate::proved::bitranks;
+    use crate::proved::{bitranks, flow};
     use crate::proved::fixedbitset::{Bits, BitsMut, ExtendFault, FixedBitSet};
     use crate::proved::fixedbitset::*;
     use crate::shim::alloc::Global;
@@ -5533,7 +5642,7 @@ fn fixedbitset_views_copies_137() {
     use crate::proved::bitlanes::{word, Block, IndexRange, Steps};
     use crate::proved::bitwalks::in_turn::*;
     use crate::proved::bitwords::cursors::*;
-    use crate::proved::bitranks;
+    use crate::proved::{bitranks, flow};
     use crate::proved::fixedbitset::{Bits, BitsMut, ExtendFault, FixedBitSet};
     use crate::proved::fixedbitset::*;
     use crate::shim::alloc::Global;
@@ -5555,7 +5664,7 @@ fn fixedbitset_views_copies_152() {
     use crate::proved::bitlanes::{word, Block, IndexRange, Steps};
     use crate::proved::bitwalks::in_turn::*;
     use crate::proved::bitwords::cursors::*;
-    use crate::proved::bitranks;
+    use crate::proved::{bitranks, flow};
     use crate::proved::fixedbitset::{Bits, BitsMut, ExtendFault, FixedBitSet};
     use crate::proved::fixedbitset::*;
     use crate::shim::alloc::Global;
@@ -5577,7 +5686,7 @@ fn fixedbitset_views_gaps_16() {
     use crate::proved::bitlanes::{word, Block, IndexRange, Steps};
     use crate::proved::bitwalks::in_turn::*;
     use crate::proved::bitwords::cursors::*;
-    use crate::proved::bitranks;
+    use crate::proved::{bitranks, flow};
     use crate::proved::fixedbitset::{Bits, BitsMut, ExtendFault, FixedBitSet};
     use crate::proved::fixedbitset::*;
     use crate::shim::alloc::Global;
@@ -5598,7 +5707,7 @@ fn fixedbitset_views_gaps_35() {
     use crate::proved::bitlanes::{word, Block, IndexRange, Steps};
     use crate::proved::bitwalks::in_turn::*;
     use crate::proved::bitwords::cursors::*;
-    use crate::proved::bitranks;
+    use crate::proved::{bitranks, flow};
     use crate::proved::fixedbitset::{Bits, BitsMut, ExtendFault, FixedBitSet};
     use crate::proved::fixedbitset::*;
     use crate::shim::alloc::Global;
@@ -5620,7 +5729,7 @@ fn fixedbitset_views_neighbours_15() {
     use crate::proved::bitlanes::{word, Block, IndexRange, Steps};
     use crate::proved::bitwalks::in_turn::*;
     use crate::proved::bitwords::cursors::*;
-    use crate::proved::bitranks;
+    use crate::proved::{bitranks, flow};
     use crate::proved::fixedbitset::{Bits, BitsMut, ExtendFault, FixedBitSet};
     use crate::proved::fixedbitset::*;
     use crate::shim::alloc::Global;
@@ -5642,7 +5751,7 @@ fn fixedbitset_views_neighbours_30() {
     use crate::proved::bitlanes::{word, Block, IndexRange, Steps};
     use crate::proved::bitwalks::in_turn::*;
     use crate::proved::bitwords::cursors::*;
-    use crate::proved::bitranks;
+    use crate::proved::{bitranks, flow};
     use crate::proved::fixedbitset::{Bits, BitsMut, ExtendFault, FixedBitSet};
     use crate::proved::fixedbitset::*;
     use crate::shim::alloc::Global;
@@ -5663,7 +5772,7 @@ fn fixedbitset_views_neighbours_47() {
     use crate::proved::bitlanes::{word, Block, IndexRange, Steps};
     use crate::proved::bitwalks::in_turn::*;
     use crate::proved::bitwords::cursors::*;
-    use crate::proved::bitranks;
+    use crate::proved::{bitranks, flow};
     use crate::proved::fixedbitset::{Bits, BitsMut, ExtendFault, FixedBitSet};
     use crate::proved::fixedbitset::*;
     use crate::shim::alloc::Global;
@@ -5685,7 +5794,7 @@ fn fixedbitset_views_neighbours_68() {
     use crate::proved::bitlanes::{word, Block, IndexRange, Steps};
     use crate::proved::bitwalks::in_turn::*;
     use crate::proved::bitwords::cursors::*;
-    use crate::proved::bitranks;
+    use crate::proved::{bitranks, flow};
     use crate::proved::fixedbitset::{Bits, BitsMut, ExtendFault, FixedBitSet};
     use crate::proved::fixedbitset::*;
     use crate::shim::alloc::Global;
@@ -5706,7 +5815,7 @@ fn fixedbitset_views_neighbours_82() {
     use crate::proved::bitlanes::{word, Block, IndexRange, Steps};
     use crate::proved::bitwalks::in_turn::*;
     use crate::proved::bitwords::cursors::*;
-    use crate::proved::bitranks;
+    use crate::proved::{bitranks, flow};
     use crate::proved::fixedbitset::{Bits, BitsMut, ExtendFault, FixedBitSet};
     use crate::proved::fixedbitset::*;
     use crate::shim::alloc::Global;
@@ -5728,7 +5837,7 @@ fn fixedbitset_views_neighbours_97() {
     use crate::proved::bitlanes::{word, Block, IndexRange, Steps};
     use crate::proved::bitwalks::in_turn::*;
     use crate::proved::bitwords::cursors::*;
-    use crate::proved::bitranks;
+    use crate::proved::{bitranks, flow};
     use crate::proved::fixedbitset::{Bits, BitsMut, ExtendFault, FixedBitSet};
     use crate::proved::fixedbitset::*;
     use crate::shim::alloc::Global;
@@ -5744,12 +5853,12 @@ fn fixedbitset_views_neighbours_97() {
 }
 
 #[test]
-fn fixedbitset_views_positions_16() {
+fn fixedbitset_views_positions_20() {
     use crate::proved::bitlanes::ops::*;
     use crate::proved::bitlanes::{word, Block, IndexRange, Steps};
     use crate::proved::bitwalks::in_turn::*;
     use crate::proved::bitwords::cursors::*;
-    use crate::proved::bitranks;
+    use crate::proved::{bitranks, flow};
     use crate::proved::fixedbitset::{Bits, BitsMut, ExtendFault, FixedBitSet};
     use crate::proved::fixedbitset::*;
     use crate::shim::alloc::Global;
@@ -5764,12 +5873,12 @@ fn fixedbitset_views_positions_16() {
 }
 
 #[test]
-fn fixedbitset_views_positions_33() {
+fn fixedbitset_views_positions_37() {
     use crate::proved::bitlanes::ops::*;
     use crate::proved::bitlanes::{word, Block, IndexRange, Steps};
     use crate::proved::bitwalks::in_turn::*;
     use crate::proved::bitwords::cursors::*;
-    use crate::proved::bitranks;
+    use crate::proved::{bitranks, flow};
     use crate::proved::fixedbitset::{Bits, BitsMut, ExtendFault, FixedBitSet};
     use crate::proved::fixedbitset::*;
     use crate::shim::alloc::Global;
@@ -5784,12 +5893,12 @@ fn fixedbitset_views_positions_33() {
 }
 
 #[test]
-fn fixedbitset_views_positions_45() {
+fn fixedbitset_views_positions_49() {
     use crate::proved::bitlanes::ops::*;
     use crate::proved::bitlanes::{word, Block, IndexRange, Steps};
     use crate::proved::bitwalks::in_turn::*;
     use crate::proved::bitwords::cursors::*;
-    use crate::proved::bitranks;
+    use crate::proved::{bitranks, flow};
     use crate::proved::fixedbitset::{Bits, BitsMut, ExtendFault, FixedBitSet};
     use crate::proved::fixedbitset::*;
     use crate::shim::alloc::Global;
@@ -5805,12 +5914,12 @@ fn fixedbitset_views_positions_45() {
 }
 
 #[test]
-fn fixedbitset_views_positions_58() {
+fn fixedbitset_views_positions_62() {
     use crate::proved::bitlanes::ops::*;
     use crate::proved::bitlanes::{word, Block, IndexRange, Steps};
     use crate::proved::bitwalks::in_turn::*;
     use crate::proved::bitwords::cursors::*;
-    use crate::proved::bitranks;
+    use crate::proved::{bitranks, flow};
     use crate::proved::fixedbitset::{Bits, BitsMut, ExtendFault, FixedBitSet};
     use crate::proved::fixedbitset::*;
     use crate::shim::alloc::Global;
@@ -5825,12 +5934,12 @@ fn fixedbitset_views_positions_58() {
 }
 
 #[test]
-fn fixedbitset_views_positions_71() {
+fn fixedbitset_views_positions_75() {
     use crate::proved::bitlanes::ops::*;
     use crate::proved::bitlanes::{word, Block, IndexRange, Steps};
     use crate::proved::bitwalks::in_turn::*;
     use crate::proved::bitwords::cursors::*;
-    use crate::proved::bitranks;
+    use crate::proved::{bitranks, flow};
     use crate::proved::fixedbitset::{Bits, BitsMut, ExtendFault, FixedBitSet};
     use crate::proved::fixedbitset::*;
     use crate::shim::alloc::Global;
@@ -5847,12 +5956,12 @@ fn fixedbitset_views_positions_71() {
 }
 
 #[test]
-fn fixedbitset_views_positions_89() {
+fn fixedbitset_views_positions_93() {
     use crate::proved::bitlanes::ops::*;
     use crate::proved::bitlanes::{word, Block, IndexRange, Steps};
     use crate::proved::bitwalks::in_turn::*;
     use crate::proved::bitwords::cursors::*;
-    use crate::proved::bitranks;
+    use crate::proved::{bitranks, flow};
     use crate::proved::fixedbitset::{Bits, BitsMut, ExtendFault, FixedBitSet};
     use crate::proved::fixedbitset::*;
     use crate::shim::alloc::Global;
@@ -5867,12 +5976,12 @@ fn fixedbitset_views_positions_89() {
 }
 
 #[test]
-fn fixedbitset_views_positions_104() {
+fn fixedbitset_views_positions_113() {
     use crate::proved::bitlanes::ops::*;
     use crate::proved::bitlanes::{word, Block, IndexRange, Steps};
     use crate::proved::bitwalks::in_turn::*;
     use crate::proved::bitwords::cursors::*;
-    use crate::proved::bitranks;
+    use crate::proved::{bitranks, flow};
     use crate::proved::fixedbitset::{Bits, BitsMut, ExtendFault, FixedBitSet};
     use crate::proved::fixedbitset::*;
     use crate::shim::alloc::Global;
@@ -5887,12 +5996,12 @@ fn fixedbitset_views_positions_104() {
 }
 
 #[test]
-fn fixedbitset_views_positions_119() {
+fn fixedbitset_views_positions_128() {
     use crate::proved::bitlanes::ops::*;
     use crate::proved::bitlanes::{word, Block, IndexRange, Steps};
     use crate::proved::bitwalks::in_turn::*;
     use crate::proved::bitwords::cursors::*;
-    use crate::proved::bitranks;
+    use crate::proved::{bitranks, flow};
     use crate::proved::fixedbitset::{Bits, BitsMut, ExtendFault, FixedBitSet};
     use crate::proved::fixedbitset::*;
     use crate::shim::alloc::Global;
@@ -5907,12 +6016,12 @@ fn fixedbitset_views_positions_119() {
 }
 
 #[test]
-fn fixedbitset_views_positions_138() {
+fn fixedbitset_views_positions_147() {
     use crate::proved::bitlanes::ops::*;
     use crate::proved::bitlanes::{word, Block, IndexRange, Steps};
     use crate::proved::bitwalks::in_turn::*;
     use crate::proved::bitwords::cursors::*;
-    use crate::proved::bitranks;
+    use crate::proved::{bitranks, flow};
     use crate::proved::fixedbitset::{Bits, BitsMut, ExtendFault, FixedBitSet};
     use crate::proved::fixedbitset::*;
     use crate::shim::alloc::Global;
@@ -5927,12 +6036,12 @@ fn fixedbitset_views_positions_138() {
 }
 
 #[test]
-fn fixedbitset_views_positions_152() {
+fn fixedbitset_views_positions_161() {
     use crate::proved::bitlanes::ops::*;
     use crate::proved::bitlanes::{word, Block, IndexRange, Steps};
     use crate::proved::bitwalks::in_turn::*;
     use crate::proved::bitwords::cursors::*;
-    use crate::proved::bitranks;
+    use crate::proved::{bitranks, flow};
     use crate::proved::fixedbitset::{Bits, BitsMut, ExtendFault, FixedBitSet};
     use crate::proved::fixedbitset::*;
     use crate::shim::alloc::Global;
@@ -5947,12 +6056,12 @@ fn fixedbitset_views_positions_152() {
 }
 
 #[test]
-fn fixedbitset_views_positions_165() {
+fn fixedbitset_views_positions_174() {
     use crate::proved::bitlanes::ops::*;
     use crate::proved::bitlanes::{word, Block, IndexRange, Steps};
     use crate::proved::bitwalks::in_turn::*;
     use crate::proved::bitwords::cursors::*;
-    use crate::proved::bitranks;
+    use crate::proved::{bitranks, flow};
     use crate::proved::fixedbitset::{Bits, BitsMut, ExtendFault, FixedBitSet};
     use crate::proved::fixedbitset::*;
     use crate::shim::alloc::Global;
@@ -5967,12 +6076,12 @@ fn fixedbitset_views_positions_165() {
 }
 
 #[test]
-fn fixedbitset_views_positions_180() {
+fn fixedbitset_views_positions_189() {
     use crate::proved::bitlanes::ops::*;
     use crate::proved::bitlanes::{word, Block, IndexRange, Steps};
     use crate::proved::bitwalks::in_turn::*;
     use crate::proved::bitwords::cursors::*;
-    use crate::proved::bitranks;
+    use crate::proved::{bitranks, flow};
     use crate::proved::fixedbitset::{Bits, BitsMut, ExtendFault, FixedBitSet};
     use crate::proved::fixedbitset::*;
     use crate::shim::alloc::Global;
@@ -5988,12 +6097,12 @@ fn fixedbitset_views_positions_180() {
 }
 
 #[test]
-fn fixedbitset_views_positions_193() {
+fn fixedbitset_views_positions_202() {
     use crate::proved::bitlanes::ops::*;
     use crate::proved::bitlanes::{word, Block, IndexRange, Steps};
     use crate::proved::bitwalks::in_turn::*;
     use crate::proved::bitwords::cursors::*;
-    use crate::proved::bitranks;
+    use crate::proved::{bitranks, flow};
     use crate::proved::fixedbitset::{Bits, BitsMut, ExtendFault, FixedBitSet};
     use crate::proved::fixedbitset::*;
     use crate::shim::alloc::Global;
@@ -6009,12 +6118,12 @@ fn fixedbitset_views_positions_193() {
 }
 
 #[test]
-fn fixedbitset_views_positions_206() {
+fn fixedbitset_views_positions_215() {
     use crate::proved::bitlanes::ops::*;
     use crate::proved::bitlanes::{word, Block, IndexRange, Steps};
     use crate::proved::bitwalks::in_turn::*;
     use crate::proved::bitwords::cursors::*;
-    use crate::proved::bitranks;
+    use crate::proved::{bitranks, flow};
     use crate::proved::fixedbitset::{Bits, BitsMut, ExtendFault, FixedBitSet};
     use crate::proved::fixedbitset::*;
     use crate::shim::alloc::Global;
@@ -6030,12 +6139,12 @@ fn fixedbitset_views_positions_206() {
 }
 
 #[test]
-fn fixedbitset_views_positions_219() {
+fn fixedbitset_views_positions_228() {
     use crate::proved::bitlanes::ops::*;
     use crate::proved::bitlanes::{word, Block, IndexRange, Steps};
     use crate::proved::bitwalks::in_turn::*;
     use crate::proved::bitwords::cursors::*;
-    use crate::proved::bitranks;
+    use crate::proved::{bitranks, flow};
     use crate::proved::fixedbitset::{Bits, BitsMut, ExtendFault, FixedBitSet};
     use crate::proved::fixedbitset::*;
     use crate::shim::alloc::Global;
@@ -6051,12 +6160,12 @@ fn fixedbitset_views_positions_219() {
 }
 
 #[test]
-fn fixedbitset_views_positions_235() {
+fn fixedbitset_views_positions_244() {
     use crate::proved::bitlanes::ops::*;
     use crate::proved::bitlanes::{word, Block, IndexRange, Steps};
     use crate::proved::bitwalks::in_turn::*;
     use crate::proved::bitwords::cursors::*;
-    use crate::proved::bitranks;
+    use crate::proved::{bitranks, flow};
     use crate::proved::fixedbitset::{Bits, BitsMut, ExtendFault, FixedBitSet};
     use crate::proved::fixedbitset::*;
     use crate::shim::alloc::Global;
@@ -6073,12 +6182,54 @@ fn fixedbitset_views_positions_235() {
 }
 
 #[test]
-fn fixedbitset_views_positions_251() {
+fn fixedbitset_views_positions_264() {
     use crate::proved::bitlanes::ops::*;
     use crate::proved::bitlanes::{word, Block, IndexRange, Steps};
     use crate::proved::bitwalks::in_turn::*;
     use crate::proved::bitwords::cursors::*;
-    use crate::proved::bitranks;
+    use crate::proved::{bitranks, flow};
+    use crate::proved::fixedbitset::{Bits, BitsMut, ExtendFault, FixedBitSet};
+    use crate::proved::fixedbitset::*;
+    use crate::shim::alloc::Global;
+    use crate::shim::prelude::*;
+    use crate::shim::u64x4;
+    use core::cmp::Ordering;
+    use core::mem::{size_of, size_of_val};
+
+    let mut words = [9, 1, 0, 0];
+    let mut set = BitsMut::settle(&mut words, 70, 70);
+    assert_eq!(set.pop_first(&mut Steps::new()), Some(0));
+    assert_eq!(words, [8, 1, 0, 0]);
+}
+
+#[test]
+fn fixedbitset_views_positions_283() {
+    use crate::proved::bitlanes::ops::*;
+    use crate::proved::bitlanes::{word, Block, IndexRange, Steps};
+    use crate::proved::bitwalks::in_turn::*;
+    use crate::proved::bitwords::cursors::*;
+    use crate::proved::{bitranks, flow};
+    use crate::proved::fixedbitset::{Bits, BitsMut, ExtendFault, FixedBitSet};
+    use crate::proved::fixedbitset::*;
+    use crate::shim::alloc::Global;
+    use crate::shim::prelude::*;
+    use crate::shim::u64x4;
+    use core::cmp::Ordering;
+    use core::mem::{size_of, size_of_val};
+
+    let mut words = [9, 1, 0, 0];
+    let mut set = BitsMut::settle(&mut words, 70, 70);
+    assert_eq!(set.pop_last(&mut Steps::new()), Some(64));
+    assert_eq!(words, [9, 0, 0, 0]);
+}
+
+#[test]
+fn fixedbitset_views_positions_298() {
+    use crate::proved::bitlanes::ops::*;
+    use crate::proved::bitlanes::{word, Block, IndexRange, Steps};
+    use crate::proved::bitwalks::in_turn::*;
+    use crate::proved::bitwords::cursors::*;
+    use crate::proved::{bitranks, flow};
     use crate::proved::fixedbitset::{Bits, BitsMut, ExtendFault, FixedBitSet};
     use crate::proved::fixedbitset::*;
     use crate::shim::alloc::Global;
@@ -6094,12 +6245,12 @@ fn fixedbitset_views_positions_251() {
 }
 
 #[test]
-fn fixedbitset_views_positions_269() {
+fn fixedbitset_views_positions_316() {
     use crate::proved::bitlanes::ops::*;
     use crate::proved::bitlanes::{word, Block, IndexRange, Steps};
     use crate::proved::bitwalks::in_turn::*;
     use crate::proved::bitwords::cursors::*;
-    use crate::proved::bitranks;
+    use crate::proved::{bitranks, flow};
     use crate::proved::fixedbitset::{Bits, BitsMut, ExtendFault, FixedBitSet};
     use crate::proved::fixedbitset::*;
     use crate::shim::alloc::Global;
@@ -6116,12 +6267,12 @@ fn fixedbitset_views_positions_269() {
 }
 
 #[test]
-fn fixedbitset_views_positions_285() {
+fn fixedbitset_views_positions_332() {
     use crate::proved::bitlanes::ops::*;
     use crate::proved::bitlanes::{word, Block, IndexRange, Steps};
     use crate::proved::bitwalks::in_turn::*;
     use crate::proved::bitwords::cursors::*;
-    use crate::proved::bitranks;
+    use crate::proved::{bitranks, flow};
     use crate::proved::fixedbitset::{Bits, BitsMut, ExtendFault, FixedBitSet};
     use crate::proved::fixedbitset::*;
     use crate::shim::alloc::Global;
@@ -6137,12 +6288,12 @@ fn fixedbitset_views_positions_285() {
 }
 
 #[test]
-fn fixedbitset_views_positions_304() {
+fn fixedbitset_views_positions_351() {
     use crate::proved::bitlanes::ops::*;
     use crate::proved::bitlanes::{word, Block, IndexRange, Steps};
     use crate::proved::bitwalks::in_turn::*;
     use crate::proved::bitwords::cursors::*;
-    use crate::proved::bitranks;
+    use crate::proved::{bitranks, flow};
     use crate::proved::fixedbitset::{Bits, BitsMut, ExtendFault, FixedBitSet};
     use crate::proved::fixedbitset::*;
     use crate::shim::alloc::Global;
@@ -6158,12 +6309,12 @@ fn fixedbitset_views_positions_304() {
 }
 
 #[test]
-fn fixedbitset_views_positions_322() {
+fn fixedbitset_views_positions_369() {
     use crate::proved::bitlanes::ops::*;
     use crate::proved::bitlanes::{word, Block, IndexRange, Steps};
     use crate::proved::bitwalks::in_turn::*;
     use crate::proved::bitwords::cursors::*;
-    use crate::proved::bitranks;
+    use crate::proved::{bitranks, flow};
     use crate::proved::fixedbitset::{Bits, BitsMut, ExtendFault, FixedBitSet};
     use crate::proved::fixedbitset::*;
     use crate::shim::alloc::Global;
@@ -6179,12 +6330,12 @@ fn fixedbitset_views_positions_322() {
 }
 
 #[test]
-fn fixedbitset_views_positions_336() {
+fn fixedbitset_views_positions_383() {
     use crate::proved::bitlanes::ops::*;
     use crate::proved::bitlanes::{word, Block, IndexRange, Steps};
     use crate::proved::bitwalks::in_turn::*;
     use crate::proved::bitwords::cursors::*;
-    use crate::proved::bitranks;
+    use crate::proved::{bitranks, flow};
     use crate::proved::fixedbitset::{Bits, BitsMut, ExtendFault, FixedBitSet};
     use crate::proved::fixedbitset::*;
     use crate::shim::alloc::Global;
@@ -6200,12 +6351,12 @@ fn fixedbitset_views_positions_336() {
 }
 
 #[test]
-fn fixedbitset_views_positions_351() {
+fn fixedbitset_views_positions_398() {
     use crate::proved::bitlanes::ops::*;
     use crate::proved::bitlanes::{word, Block, IndexRange, Steps};
     use crate::proved::bitwalks::in_turn::*;
     use crate::proved::bitwords::cursors::*;
-    use crate::proved::bitranks;
+    use crate::proved::{bitranks, flow};
     use crate::proved::fixedbitset::{Bits, BitsMut, ExtendFault, FixedBitSet};
     use crate::proved::fixedbitset::*;
     use crate::shim::alloc::Global;
@@ -6224,7 +6375,7 @@ fn fixedbitset_views_ranges_18() {
     use crate::proved::bitlanes::{word, Block, IndexRange, Steps};
     use crate::proved::bitwalks::in_turn::*;
     use crate::proved::bitwords::cursors::*;
-    use crate::proved::bitranks;
+    use crate::proved::{bitranks, flow};
     use crate::proved::fixedbitset::{Bits, BitsMut, ExtendFault, FixedBitSet};
     use crate::proved::fixedbitset::*;
     use crate::shim::alloc::Global;
@@ -6245,7 +6396,7 @@ fn fixedbitset_views_ranges_31() {
     use crate::proved::bitlanes::{word, Block, IndexRange, Steps};
     use crate::proved::bitwalks::in_turn::*;
     use crate::proved::bitwords::cursors::*;
-    use crate::proved::bitranks;
+    use crate::proved::{bitranks, flow};
     use crate::proved::fixedbitset::{Bits, BitsMut, ExtendFault, FixedBitSet};
     use crate::proved::fixedbitset::*;
     use crate::shim::alloc::Global;
@@ -6266,7 +6417,7 @@ fn fixedbitset_views_ranges_44() {
     use crate::proved::bitlanes::{word, Block, IndexRange, Steps};
     use crate::proved::bitwalks::in_turn::*;
     use crate::proved::bitwords::cursors::*;
-    use crate::proved::bitranks;
+    use crate::proved::{bitranks, flow};
     use crate::proved::fixedbitset::{Bits, BitsMut, ExtendFault, FixedBitSet};
     use crate::proved::fixedbitset::*;
     use crate::shim::alloc::Global;
@@ -6287,7 +6438,7 @@ fn fixedbitset_views_ranges_57() {
     use crate::proved::bitlanes::{word, Block, IndexRange, Steps};
     use crate::proved::bitwalks::in_turn::*;
     use crate::proved::bitwords::cursors::*;
-    use crate::proved::bitranks;
+    use crate::proved::{bitranks, flow};
     use crate::proved::fixedbitset::{Bits, BitsMut, ExtendFault, FixedBitSet};
     use crate::proved::fixedbitset::*;
     use crate::shim::alloc::Global;
@@ -6308,7 +6459,7 @@ fn fixedbitset_views_ranges_83() {
     use crate::proved::bitlanes::{word, Block, IndexRange, Steps};
     use crate::proved::bitwalks::in_turn::*;
     use crate::proved::bitwords::cursors::*;
-    use crate::proved::bitranks;
+    use crate::proved::{bitranks, flow};
     use crate::proved::fixedbitset::{Bits, BitsMut, ExtendFault, FixedBitSet};
     use crate::proved::fixedbitset::*;
     use crate::shim::alloc::Global;
@@ -6329,7 +6480,7 @@ fn fixedbitset_views_ranges_96() {
     use crate::proved::bitlanes::{word, Block, IndexRange, Steps};
     use crate::proved::bitwalks::in_turn::*;
     use crate::proved::bitwords::cursors::*;
-    use crate::proved::bitranks;
+    use crate::proved::{bitranks, flow};
     use crate::proved::fixedbitset::{Bits, BitsMut, ExtendFault, FixedBitSet};
     use crate::proved::fixedbitset::*;
     use crate::shim::alloc::Global;
@@ -6349,7 +6500,7 @@ fn fixedbitset_views_ranges_108() {
     use crate::proved::bitlanes::{word, Block, IndexRange, Steps};
     use crate::proved::bitwalks::in_turn::*;
     use crate::proved::bitwords::cursors::*;
-    use crate::proved::bitranks;
+    use crate::proved::{bitranks, flow};
     use crate::proved::fixedbitset::{Bits, BitsMut, ExtendFault, FixedBitSet};
     use crate::proved::fixedbitset::*;
     use crate::shim::alloc::Global;
@@ -6369,7 +6520,7 @@ fn fixedbitset_views_ranges_120() {
     use crate::proved::bitlanes::{word, Block, IndexRange, Steps};
     use crate::proved::bitwalks::in_turn::*;
     use crate::proved::bitwords::cursors::*;
-    use crate::proved::bitranks;
+    use crate::proved::{bitranks, flow};
     use crate::proved::fixedbitset::{Bits, BitsMut, ExtendFault, FixedBitSet};
     use crate::proved::fixedbitset::*;
     use crate::shim::alloc::Global;
@@ -6389,7 +6540,7 @@ fn fixedbitset_views_ranges_132() {
     use crate::proved::bitlanes::{word, Block, IndexRange, Steps};
     use crate::proved::bitwalks::in_turn::*;
     use crate::proved::bitwords::cursors::*;
-    use crate::proved::bitranks;
+    use crate::proved::{bitranks, flow};
     use crate::proved::fixedbitset::{Bits, BitsMut, ExtendFault, FixedBitSet};
     use crate::proved::fixedbitset::*;
     use crate::shim::alloc::Global;
@@ -6409,7 +6560,7 @@ fn fixedbitset_views_ranges_144() {
     use crate::proved::bitlanes::{word, Block, IndexRange, Steps};
     use crate::proved::bitwalks::in_turn::*;
     use crate::proved::bitwords::cursors::*;
-    use crate::proved::bitranks;
+    use crate::proved::{bitranks, flow};
     use crate::proved::fixedbitset::{Bits, BitsMut, ExtendFault, FixedBitSet};
     use crate::proved::fixedbitset::*;
     use crate::shim::alloc::Global;
@@ -6429,7 +6580,7 @@ fn fixedbitset_views_shifts_18() {
     use crate::proved::bitlanes::{word, Block, IndexRange, Steps};
     use crate::proved::bitwalks::in_turn::*;
     use crate::proved::bitwords::cursors::*;
-    use crate::proved::bitranks;
+    use crate::proved::{bitranks, flow};
     use crate::proved::fixedbitset::{Bits, BitsMut, ExtendFault, FixedBitSet};
     use crate::proved::fixedbitset::*;
     use crate::shim::alloc::Global;
@@ -6451,7 +6602,7 @@ fn fixedbitset_views_shifts_34() {
     use crate::proved::bitlanes::{word, Block, IndexRange, Steps};
     use crate::proved::bitwalks::in_turn::*;
     use crate::proved::bitwords::cursors::*;
-    use crate::proved::bitranks;
+    use crate::proved::{bitranks, flow};
     use crate::proved::fixedbitset::{Bits, BitsMut, ExtendFault, FixedBitSet};
     use crate::proved::fixedbitset::*;
     use crate::shim::alloc::Global;
@@ -6472,7 +6623,7 @@ fn fixedbitset_views_shifts_50() {
     use crate::proved::bitlanes::{word, Block, IndexRange, Steps};
     use crate::proved::bitwalks::in_turn::*;
     use crate::proved::bitwords::cursors::*;
-    use crate::proved::bitranks;
+    use crate::proved::{bitranks, flow};
     use crate::proved::fixedbitset::{Bits, BitsMut, ExtendFault, FixedBitSet};
     use crate::proved::fixedbitset::*;
     use crate::shim::alloc::Global;
@@ -6489,12 +6640,12 @@ fn fixedbitset_views_shifts_50() {
 }
 
 #[test]
-fn fixedbitset_views_shifts_69() {
+fn fixedbitset_views_shifts_72() {
     use crate::proved::bitlanes::ops::*;
     use crate::proved::bitlanes::{word, Block, IndexRange, Steps};
     use crate::proved::bitwalks::in_turn::*;
     use crate::proved::bitwords::cursors::*;
-    use crate::proved::bitranks;
+    use crate::proved::{bitranks, flow};
     use crate::proved::fixedbitset::{Bits, BitsMut, ExtendFault, FixedBitSet};
     use crate::proved::fixedbitset::*;
     use crate::shim::alloc::Global;
@@ -6511,12 +6662,12 @@ fn fixedbitset_views_shifts_69() {
 }
 
 #[test]
-fn fixedbitset_views_shifts_90() {
+fn fixedbitset_views_shifts_93() {
     use crate::proved::bitlanes::ops::*;
     use crate::proved::bitlanes::{word, Block, IndexRange, Steps};
     use crate::proved::bitwalks::in_turn::*;
     use crate::proved::bitwords::cursors::*;
-    use crate::proved::bitranks;
+    use crate::proved::{bitranks, flow};
     use crate::proved::fixedbitset::{Bits, BitsMut, ExtendFault, FixedBitSet};
     use crate::proved::fixedbitset::*;
     use crate::shim::alloc::Global;
@@ -6533,12 +6684,12 @@ fn fixedbitset_views_shifts_90() {
 }
 
 #[test]
-fn fixedbitset_views_shifts_116() {
+fn fixedbitset_views_shifts_119() {
     use crate::proved::bitlanes::ops::*;
     use crate::proved::bitlanes::{word, Block, IndexRange, Steps};
     use crate::proved::bitwalks::in_turn::*;
     use crate::proved::bitwords::cursors::*;
-    use crate::proved::bitranks;
+    use crate::proved::{bitranks, flow};
     use crate::proved::fixedbitset::{Bits, BitsMut, ExtendFault, FixedBitSet};
     use crate::proved::fixedbitset::*;
     use crate::shim::alloc::Global;
@@ -6554,12 +6705,12 @@ fn fixedbitset_views_shifts_116() {
 }
 
 #[test]
-fn fixedbitset_views_shifts_147() {
+fn fixedbitset_views_shifts_150() {
     use crate::proved::bitlanes::ops::*;
     use crate::proved::bitlanes::{word, Block, IndexRange, Steps};
     use crate::proved::bitwalks::in_turn::*;
     use crate::proved::bitwords::cursors::*;
-    use crate::proved::bitranks;
+    use crate::proved::{bitranks, flow};
     use crate::proved::fixedbitset::{Bits, BitsMut, ExtendFault, FixedBitSet};
     use crate::proved::fixedbitset::*;
     use crate::shim::alloc::Global;
@@ -6575,12 +6726,12 @@ fn fixedbitset_views_shifts_147() {
 }
 
 #[test]
-fn fixedbitset_views_shifts_164() {
+fn fixedbitset_views_shifts_167() {
     use crate::proved::bitlanes::ops::*;
     use crate::proved::bitlanes::{word, Block, IndexRange, Steps};
     use crate::proved::bitwalks::in_turn::*;
     use crate::proved::bitwords::cursors::*;
-    use crate::proved::bitranks;
+    use crate::proved::{bitranks, flow};
     use crate::proved::fixedbitset::{Bits, BitsMut, ExtendFault, FixedBitSet};
     use crate::proved::fixedbitset::*;
     use crate::shim::alloc::Global;
@@ -6601,7 +6752,7 @@ fn fixedbitset_views_walks_18() {
     use crate::proved::bitlanes::{word, Block, IndexRange, Steps};
     use crate::proved::bitwalks::in_turn::*;
     use crate::proved::bitwords::cursors::*;
-    use crate::proved::bitranks;
+    use crate::proved::{bitranks, flow};
     use crate::proved::fixedbitset::{Bits, BitsMut, ExtendFault, FixedBitSet};
     use crate::proved::fixedbitset::*;
     use crate::shim::alloc::Global;
@@ -6621,7 +6772,7 @@ fn fixedbitset_views_walks_32() {
     use crate::proved::bitlanes::{word, Block, IndexRange, Steps};
     use crate::proved::bitwalks::in_turn::*;
     use crate::proved::bitwords::cursors::*;
-    use crate::proved::bitranks;
+    use crate::proved::{bitranks, flow};
     use crate::proved::fixedbitset::{Bits, BitsMut, ExtendFault, FixedBitSet};
     use crate::proved::fixedbitset::*;
     use crate::shim::alloc::Global;
@@ -6642,7 +6793,7 @@ fn fixedbitset_views_walks_48() {
     use crate::proved::bitlanes::{word, Block, IndexRange, Steps};
     use crate::proved::bitwalks::in_turn::*;
     use crate::proved::bitwords::cursors::*;
-    use crate::proved::bitranks;
+    use crate::proved::{bitranks, flow};
     use crate::proved::fixedbitset::{Bits, BitsMut, ExtendFault, FixedBitSet};
     use crate::proved::fixedbitset::*;
     use crate::shim::alloc::Global;
@@ -6663,7 +6814,7 @@ fn fixedbitset_views_walks_64() {
     use crate::proved::bitlanes::{word, Block, IndexRange, Steps};
     use crate::proved::bitwalks::in_turn::*;
     use crate::proved::bitwords::cursors::*;
-    use crate::proved::bitranks;
+    use crate::proved::{bitranks, flow};
     use crate::proved::fixedbitset::{Bits, BitsMut, ExtendFault, FixedBitSet};
     use crate::proved::fixedbitset::*;
     use crate::shim::alloc::Global;
@@ -6685,7 +6836,7 @@ fn fixedbitset_views_walks_79() {
     use crate::proved::bitlanes::{word, Block, IndexRange, Steps};
     use crate::proved::bitwalks::in_turn::*;
     use crate::proved::bitwords::cursors::*;
-    use crate::proved::bitranks;
+    use crate::proved::{bitranks, flow};
     use crate::proved::fixedbitset::{Bits, BitsMut, ExtendFault, FixedBitSet};
     use crate::proved::fixedbitset::*;
     use crate::shim::alloc::Global;
@@ -6707,7 +6858,7 @@ fn fixedbitset_views_walks_96() {
     use crate::proved::bitlanes::{word, Block, IndexRange, Steps};
     use crate::proved::bitwalks::in_turn::*;
     use crate::proved::bitwords::cursors::*;
-    use crate::proved::bitranks;
+    use crate::proved::{bitranks, flow};
     use crate::proved::fixedbitset::{Bits, BitsMut, ExtendFault, FixedBitSet};
     use crate::proved::fixedbitset::*;
     use crate::shim::alloc::Global;
@@ -6727,7 +6878,7 @@ fn fixedbitset_views_walks_108() {
     use crate::proved::bitlanes::{word, Block, IndexRange, Steps};
     use crate::proved::bitwalks::in_turn::*;
     use crate::proved::bitwords::cursors::*;
-    use crate::proved::bitranks;
+    use crate::proved::{bitranks, flow};
     use crate::proved::fixedbitset::{Bits, BitsMut, ExtendFault, FixedBitSet};
     use crate::proved::fixedbitset::*;
     use crate::shim::alloc::Global;
@@ -6747,7 +6898,7 @@ fn fixedbitset_views_walks_121() {
     use crate::proved::bitlanes::{word, Block, IndexRange, Steps};
     use crate::proved::bitwalks::in_turn::*;
     use crate::proved::bitwords::cursors::*;
-    use crate::proved::bitranks;
+    use crate::proved::{bitranks, flow};
     use crate::proved::fixedbitset::{Bits, BitsMut, ExtendFault, FixedBitSet};
     use crate::proved::fixedbitset::*;
     use crate::shim::alloc::Global;
@@ -6767,7 +6918,7 @@ fn fixedbitset_views_walks_134() {
     use crate::proved::bitlanes::{word, Block, IndexRange, Steps};
     use crate::proved::bitwalks::in_turn::*;
     use crate::proved::bitwords::cursors::*;
-    use crate::proved::bitranks;
+    use crate::proved::{bitranks, flow};
     use crate::proved::fixedbitset::{Bits, BitsMut, ExtendFault, FixedBitSet};
     use crate::proved::fixedbitset::*;
     use crate::shim::alloc::Global;
@@ -6787,7 +6938,7 @@ fn fixedbitset_views_walks_147() {
     use crate::proved::bitlanes::{word, Block, IndexRange, Steps};
     use crate::proved::bitwalks::in_turn::*;
     use crate::proved::bitwords::cursors::*;
-    use crate::proved::bitranks;
+    use crate::proved::{bitranks, flow};
     use crate::proved::fixedbitset::{Bits, BitsMut, ExtendFault, FixedBitSet};
     use crate::proved::fixedbitset::*;
     use crate::shim::alloc::Global;
@@ -6807,7 +6958,7 @@ fn fixedbitset_views_whole_19() {
     use crate::proved::bitlanes::{word, Block, IndexRange, Steps};
     use crate::proved::bitwalks::in_turn::*;
     use crate::proved::bitwords::cursors::*;
-    use crate::proved::bitranks;
+    use crate::proved::{bitranks, flow};
     use crate::proved::fixedbitset::{Bits, BitsMut, ExtendFault, FixedBitSet};
     use crate::proved::fixedbitset::*;
     use crate::shim::alloc::Global;
@@ -6829,7 +6980,7 @@ fn fixedbitset_views_whole_33() {
     use crate::proved::bitlanes::{word, Block, IndexRange, Steps};
     use crate::proved::bitwalks::in_turn::*;
     use crate::proved::bitwords::cursors::*;
-    use crate::proved::bitranks;
+    use crate::proved::{bitranks, flow};
     use crate::proved::fixedbitset::{Bits, BitsMut, ExtendFault, FixedBitSet};
     use crate::proved::fixedbitset::*;
     use crate::shim::alloc::Global;
@@ -6851,7 +7002,7 @@ fn fixedbitset_views_whole_47() {
     use crate::proved::bitlanes::{word, Block, IndexRange, Steps};
     use crate::proved::bitwalks::in_turn::*;
     use crate::proved::bitwords::cursors::*;
-    use crate::proved::bitranks;
+    use crate::proved::{bitranks, flow};
     use crate::proved::fixedbitset::{Bits, BitsMut, ExtendFault, FixedBitSet};
     use crate::proved::fixedbitset::*;
     use crate::shim::alloc::Global;
@@ -6873,7 +7024,7 @@ fn fixedbitset_views_whole_61() {
     use crate::proved::bitlanes::{word, Block, IndexRange, Steps};
     use crate::proved::bitwalks::in_turn::*;
     use crate::proved::bitwords::cursors::*;
-    use crate::proved::bitranks;
+    use crate::proved::{bitranks, flow};
     use crate::proved::fixedbitset::{Bits, BitsMut, ExtendFault, FixedBitSet};
     use crate::proved::fixedbitset::*;
     use crate::shim::alloc::Global;
@@ -6895,7 +7046,7 @@ fn fixedbitset_views_whole_83() {
     use crate::proved::bitlanes::{word, Block, IndexRange, Steps};
     use crate::proved::bitwalks::in_turn::*;
     use crate::proved::bitwords::cursors::*;
-    use crate::proved::bitranks;
+    use crate::proved::{bitranks, flow};
     use crate::proved::fixedbitset::{Bits, BitsMut, ExtendFault, FixedBitSet};
     use crate::proved::fixedbitset::*;
     use crate::shim::alloc::Global;
@@ -6916,7 +7067,7 @@ fn fixedbitset_views_whole_96() {
     use crate::proved::bitlanes::{word, Block, IndexRange, Steps};
     use crate::proved::bitwalks::in_turn::*;
     use crate::proved::bitwords::cursors::*;
-    use crate::proved::bitranks;
+    use crate::proved::{bitranks, flow};
     use crate::proved::fixedbitset::{Bits, BitsMut, ExtendFault, FixedBitSet};
     use crate::proved::fixedbitset::*;
     use crate::shim::alloc::Global;
@@ -6937,7 +7088,7 @@ fn fixedbitset_views_whole_109() {
     use crate::proved::bitlanes::{word, Block, IndexRange, Steps};
     use crate::proved::bitwalks::in_turn::*;
     use crate::proved::bitwords::cursors::*;
-    use crate::proved::bitranks;
+    use crate::proved::{bitranks, flow};
     use crate::proved::fixedbitset::{Bits, BitsMut, ExtendFault, FixedBitSet};
     use crate::proved::fixedbitset::*;
     use crate::shim::alloc::Global;
@@ -6958,7 +7109,7 @@ fn fixedbitset_views_whole_122() {
     use crate::proved::bitlanes::{word, Block, IndexRange, Steps};
     use crate::proved::bitwalks::in_turn::*;
     use crate::proved::bitwords::cursors::*;
-    use crate::proved::bitranks;
+    use crate::proved::{bitranks, flow};
     use crate::proved::fixedbitset::{Bits, BitsMut, ExtendFault, FixedBitSet};
     use crate::proved::fixedbitset::*;
     use crate::shim::alloc::Global;
@@ -6980,7 +7131,7 @@ fn fixedbitset_views_whole_136() {
     use crate::proved::bitlanes::{word, Block, IndexRange, Steps};
     use crate::proved::bitwalks::in_turn::*;
     use crate::proved::bitwords::cursors::*;
-    use crate::proved::bitranks;
+    use crate::proved::{bitranks, flow};
     use crate::proved::fixedbitset::{Bits, BitsMut, ExtendFault, FixedBitSet};
     use crate::proved::fixedbitset::*;
     use crate::shim::alloc::Global;
@@ -7001,7 +7152,7 @@ fn fixedbitset_views_whole_149() {
     use crate::proved::bitlanes::{word, Block, IndexRange, Steps};
     use crate::proved::bitwalks::in_turn::*;
     use crate::proved::bitwords::cursors::*;
-    use crate::proved::bitranks;
+    use crate::proved::{bitranks, flow};
     use crate::proved::fixedbitset::{Bits, BitsMut, ExtendFault, FixedBitSet};
     use crate::proved::fixedbitset::*;
     use crate::shim::alloc::Global;
@@ -7022,7 +7173,7 @@ fn fixedbitset_views_whole_162() {
     use crate::proved::bitlanes::{word, Block, IndexRange, Steps};
     use crate::proved::bitwalks::in_turn::*;
     use crate::proved::bitwords::cursors::*;
-    use crate::proved::bitranks;
+    use crate::proved::{bitranks, flow};
     use crate::proved::fixedbitset::{Bits, BitsMut, ExtendFault, FixedBitSet};
     use crate::proved::fixedbitset::*;
     use crate::shim::alloc::Global;
@@ -7043,7 +7194,7 @@ fn fixedbitset_views_whole_177() {
     use crate::proved::bitlanes::{word, Block, IndexRange, Steps};
     use crate::proved::bitwalks::in_turn::*;
     use crate::proved::bitwords::cursors::*;
-    use crate::proved::bitranks;
+    use crate::proved::{bitranks, flow};
     use crate::proved::fixedbitset::{Bits, BitsMut, ExtendFault, FixedBitSet};
     use crate::proved::fixedbitset::*;
     use crate::shim::alloc::Global;
@@ -7065,7 +7216,7 @@ fn fixedbitset_views_whole_191() {
     use crate::proved::bitlanes::{word, Block, IndexRange, Steps};
     use crate::proved::bitwalks::in_turn::*;
     use crate::proved::bitwords::cursors::*;
-    use crate::proved::bitranks;
+    use crate::proved::{bitranks, flow};
     use crate::proved::fixedbitset::{Bits, BitsMut, ExtendFault, FixedBitSet};
     use crate::proved::fixedbitset::*;
     use crate::shim::alloc::Global;
@@ -7086,7 +7237,7 @@ fn fixedbitset_views_whole_207() {
     use crate::proved::bitlanes::{word, Block, IndexRange, Steps};
     use crate::proved::bitwalks::in_turn::*;
     use crate::proved::bitwords::cursors::*;
-    use crate::proved::bitranks;
+    use crate::proved::{bitranks, flow};
     use crate::proved::fixedbitset::{Bits, BitsMut, ExtendFault, FixedBitSet};
     use crate::proved::fixedbitset::*;
     use crate::shim::alloc::Global;
@@ -7108,7 +7259,7 @@ fn fixedbitset_walks_19() {
     use crate::proved::bitlanes::{word, Block, IndexRange, Steps};
     use crate::proved::bitwalks::in_turn::*;
     use crate::proved::bitwords::cursors::*;
-    use crate::proved::bitranks;
+    use crate::proved::{bitranks, flow};
     use crate::proved::fixedbitset::{Bits, BitsMut, ExtendFault, FixedBitSet};
     use crate::proved::fixedbitset::*;
     use crate::shim::alloc::Global;
@@ -7129,7 +7280,7 @@ fn fixedbitset_walks_32() {
     use crate::proved::bitlanes::{word, Block, IndexRange, Steps};
     use crate::proved::bitwalks::in_turn::*;
     use crate::proved::bitwords::cursors::*;
-    use crate::proved::bitranks;
+    use crate::proved::{bitranks, flow};
     use crate::proved::fixedbitset::{Bits, BitsMut, ExtendFault, FixedBitSet};
     use crate::proved::fixedbitset::*;
     use crate::shim::alloc::Global;
@@ -7150,7 +7301,7 @@ fn fixedbitset_walks_47() {
     use crate::proved::bitlanes::{word, Block, IndexRange, Steps};
     use crate::proved::bitwalks::in_turn::*;
     use crate::proved::bitwords::cursors::*;
-    use crate::proved::bitranks;
+    use crate::proved::{bitranks, flow};
     use crate::proved::fixedbitset::{Bits, BitsMut, ExtendFault, FixedBitSet};
     use crate::proved::fixedbitset::*;
     use crate::shim::alloc::Global;
@@ -7172,7 +7323,7 @@ fn fixedbitset_walks_64() {
     use crate::proved::bitlanes::{word, Block, IndexRange, Steps};
     use crate::proved::bitwalks::in_turn::*;
     use crate::proved::bitwords::cursors::*;
-    use crate::proved::bitranks;
+    use crate::proved::{bitranks, flow};
     use crate::proved::fixedbitset::{Bits, BitsMut, ExtendFault, FixedBitSet};
     use crate::proved::fixedbitset::*;
     use crate::shim::alloc::Global;
@@ -7194,7 +7345,7 @@ fn fixedbitset_walks_82() {
     use crate::proved::bitlanes::{word, Block, IndexRange, Steps};
     use crate::proved::bitwalks::in_turn::*;
     use crate::proved::bitwords::cursors::*;
-    use crate::proved::bitranks;
+    use crate::proved::{bitranks, flow};
     use crate::proved::fixedbitset::{Bits, BitsMut, ExtendFault, FixedBitSet};
     use crate::proved::fixedbitset::*;
     use crate::shim::alloc::Global;
@@ -7215,7 +7366,7 @@ fn fixedbitset_walks_101() {
     use crate::proved::bitlanes::{word, Block, IndexRange, Steps};
     use crate::proved::bitwalks::in_turn::*;
     use crate::proved::bitwords::cursors::*;
-    use crate::proved::bitranks;
+    use crate::proved::{bitranks, flow};
     use crate::proved::fixedbitset::{Bits, BitsMut, ExtendFault, FixedBitSet};
     use crate::proved::fixedbitset::*;
     use crate::shim::alloc::Global;
@@ -7237,7 +7388,7 @@ fn fixedbitset_walks_118() {
     use crate::proved::bitlanes::{word, Block, IndexRange, Steps};
     use crate::proved::bitwalks::in_turn::*;
     use crate::proved::bitwords::cursors::*;
-    use crate::proved::bitranks;
+    use crate::proved::{bitranks, flow};
     use crate::proved::fixedbitset::{Bits, BitsMut, ExtendFault, FixedBitSet};
     use crate::proved::fixedbitset::*;
     use crate::shim::alloc::Global;
@@ -7258,7 +7409,7 @@ fn fixedbitset_whole_21() {
     use crate::proved::bitlanes::{word, Block, IndexRange, Steps};
     use crate::proved::bitwalks::in_turn::*;
     use crate::proved::bitwords::cursors::*;
-    use crate::proved::bitranks;
+    use crate::proved::{bitranks, flow};
     use crate::proved::fixedbitset::{Bits, BitsMut, ExtendFault, FixedBitSet};
     use crate::proved::fixedbitset::*;
     use crate::shim::alloc::Global;
@@ -7281,7 +7432,7 @@ fn fixedbitset_whole_37() {
     use crate::proved::bitlanes::{word, Block, IndexRange, Steps};
     use crate::proved::bitwalks::in_turn::*;
     use crate::proved::bitwords::cursors::*;
-    use crate::proved::bitranks;
+    use crate::proved::{bitranks, flow};
     use crate::proved::fixedbitset::{Bits, BitsMut, ExtendFault, FixedBitSet};
     use crate::proved::fixedbitset::*;
     use crate::shim::alloc::Global;
@@ -7304,7 +7455,7 @@ fn fixedbitset_whole_54() {
     use crate::proved::bitlanes::{word, Block, IndexRange, Steps};
     use crate::proved::bitwalks::in_turn::*;
     use crate::proved::bitwords::cursors::*;
-    use crate::proved::bitranks;
+    use crate::proved::{bitranks, flow};
     use crate::proved::fixedbitset::{Bits, BitsMut, ExtendFault, FixedBitSet};
     use crate::proved::fixedbitset::*;
     use crate::shim::alloc::Global;
@@ -7327,7 +7478,7 @@ fn fixedbitset_whole_69() {
     use crate::proved::bitlanes::{word, Block, IndexRange, Steps};
     use crate::proved::bitwalks::in_turn::*;
     use crate::proved::bitwords::cursors::*;
-    use crate::proved::bitranks;
+    use crate::proved::{bitranks, flow};
     use crate::proved::fixedbitset::{Bits, BitsMut, ExtendFault, FixedBitSet};
     use crate::proved::fixedbitset::*;
     use crate::shim::alloc::Global;
@@ -7349,7 +7500,7 @@ fn fixedbitset_whole_83() {
     use crate::proved::bitlanes::{word, Block, IndexRange, Steps};
     use crate::proved::bitwalks::in_turn::*;
     use crate::proved::bitwords::cursors::*;
-    use crate::proved::bitranks;
+    use crate::proved::{bitranks, flow};
     use crate::proved::fixedbitset::{Bits, BitsMut, ExtendFault, FixedBitSet};
     use crate::proved::fixedbitset::*;
     use crate::shim::alloc::Global;
@@ -7371,7 +7522,7 @@ fn fixedbitset_whole_97() {
     use crate::proved::bitlanes::{word, Block, IndexRange, Steps};
     use crate::proved::bitwalks::in_turn::*;
     use crate::proved::bitwords::cursors::*;
-    use crate::proved::bitranks;
+    use crate::proved::{bitranks, flow};
     use crate::proved::fixedbitset::{Bits, BitsMut, ExtendFault, FixedBitSet};
     use crate::proved::fixedbitset::*;
     use crate::shim::alloc::Global;
@@ -7393,7 +7544,7 @@ fn fixedbitset_whole_110() {
     use crate::proved::bitlanes::{word, Block, IndexRange, Steps};
     use crate::proved::bitwalks::in_turn::*;
     use crate::proved::bitwords::cursors::*;
-    use crate::proved::bitranks;
+    use crate::proved::{bitranks, flow};
     use crate::proved::fixedbitset::{Bits, BitsMut, ExtendFault, FixedBitSet};
     use crate::proved::fixedbitset::*;
     use crate::shim::alloc::Global;
@@ -7415,7 +7566,7 @@ fn fixedbitset_whole_128() {
     use crate::proved::bitlanes::{word, Block, IndexRange, Steps};
     use crate::proved::bitwalks::in_turn::*;
     use crate::proved::bitwords::cursors::*;
-    use crate::proved::bitranks;
+    use crate::proved::{bitranks, flow};
     use crate::proved::fixedbitset::{Bits, BitsMut, ExtendFault, FixedBitSet};
     use crate::proved::fixedbitset::*;
     use crate::shim::alloc::Global;
@@ -7438,7 +7589,7 @@ fn fixedbitset_whole_143() {
     use crate::proved::bitlanes::{word, Block, IndexRange, Steps};
     use crate::proved::bitwalks::in_turn::*;
     use crate::proved::bitwords::cursors::*;
-    use crate::proved::bitranks;
+    use crate::proved::{bitranks, flow};
     use crate::proved::fixedbitset::{Bits, BitsMut, ExtendFault, FixedBitSet};
     use crate::proved::fixedbitset::*;
     use crate::shim::alloc::Global;
@@ -7459,7 +7610,7 @@ fn fixedbitset_whole_155() {
     use crate::proved::bitlanes::{word, Block, IndexRange, Steps};
     use crate::proved::bitwalks::in_turn::*;
     use crate::proved::bitwords::cursors::*;
-    use crate::proved::bitranks;
+    use crate::proved::{bitranks, flow};
     use crate::proved::fixedbitset::{Bits, BitsMut, ExtendFault, FixedBitSet};
     use crate::proved::fixedbitset::*;
     use crate::shim::alloc::Global;
@@ -7480,7 +7631,7 @@ fn fixedbitset_whole_170() {
     use crate::proved::bitlanes::{word, Block, IndexRange, Steps};
     use crate::proved::bitwalks::in_turn::*;
     use crate::proved::bitwords::cursors::*;
-    use crate::proved::bitranks;
+    use crate::proved::{bitranks, flow};
     use crate::proved::fixedbitset::{Bits, BitsMut, ExtendFault, FixedBitSet};
     use crate::proved::fixedbitset::*;
     use crate::shim::alloc::Global;
@@ -7503,7 +7654,7 @@ fn fixedbitset_whole_188() {
     use crate::proved::bitlanes::{word, Block, IndexRange, Steps};
     use crate::proved::bitwalks::in_turn::*;
     use crate::proved::bitwords::cursors::*;
-    use crate::proved::bitranks;
+    use crate::proved::{bitranks, flow};
     use crate::proved::fixedbitset::{Bits, BitsMut, ExtendFault, FixedBitSet};
     use crate::proved::fixedbitset::*;
     use crate::shim::alloc::Global;
@@ -7526,7 +7677,7 @@ fn fixedbitset_whole_206() {
     use crate::proved::bitlanes::{word, Block, IndexRange, Steps};
     use crate::proved::bitwalks::in_turn::*;
     use crate::proved::bitwords::cursors::*;
-    use crate::proved::bitranks;
+    use crate::proved::{bitranks, flow};
     use crate::proved::fixedbitset::{Bits, BitsMut, ExtendFault, FixedBitSet};
     use crate::proved::fixedbitset::*;
     use crate::shim::alloc::Global;
@@ -7549,7 +7700,7 @@ fn fixedbitset_whole_222() {
     use crate::proved::bitlanes::{word, Block, IndexRange, Steps};
     use crate::proved::bitwalks::in_turn::*;
     use crate::proved::bitwords::cursors::*;
-    use crate::proved::bitranks;
+    use crate::proved::{bitranks, flow};
     use crate::proved::fixedbitset::{Bits, BitsMut, ExtendFault, FixedBitSet};
     use crate::proved::fixedbitset::*;
     use crate::shim::alloc::Global;
@@ -7570,7 +7721,7 @@ fn fixedbitset_whole_236() {
     use crate::proved::bitlanes::{word, Block, IndexRange, Steps};
     use crate::proved::bitwalks::in_turn::*;
     use crate::proved::bitwords::cursors::*;
-    use crate::proved::bitranks;
+    use crate::proved::{bitranks, flow};
     use crate::proved::fixedbitset::{Bits, BitsMut, ExtendFault, FixedBitSet};
     use crate::proved::fixedbitset::*;
     use crate::shim::alloc::Global;
@@ -7591,7 +7742,7 @@ fn fixedbitset_whole_251() {
     use crate::proved::bitlanes::{word, Block, IndexRange, Steps};
     use crate::proved::bitwalks::in_turn::*;
     use crate::proved::bitwords::cursors::*;
-    use crate::proved::bitranks;
+    use crate::proved::{bitranks, flow};
     use crate::proved::fixedbitset::{Bits, BitsMut, ExtendFault, FixedBitSet};
     use crate::proved::fixedbitset::*;
     use crate::shim::alloc::Global;
@@ -7613,7 +7764,7 @@ fn fixedbitset_whole_266() {
     use crate::proved::bitlanes::{word, Block, IndexRange, Steps};
     use crate::proved::bitwalks::in_turn::*;
     use crate::proved::bitwords::cursors::*;
-    use crate::proved::bitranks;
+    use crate::proved::{bitranks, flow};
     use crate::proved::fixedbitset::{Bits, BitsMut, ExtendFault, FixedBitSet};
     use crate::proved::fixedbitset::*;
     use crate::shim::alloc::Global;
@@ -7634,7 +7785,7 @@ fn fixedbitset_whole_281() {
     use crate::proved::bitlanes::{word, Block, IndexRange, Steps};
     use crate::proved::bitwalks::in_turn::*;
     use crate::proved::bitwords::cursors::*;
-    use crate::proved::bitranks;
+    use crate::proved::{bitranks, flow};
     use crate::proved::fixedbitset::{Bits, BitsMut, ExtendFault, FixedBitSet};
     use crate::proved::fixedbitset::*;
     use crate::shim::alloc::Global;
@@ -7656,7 +7807,7 @@ fn fixedbitset_whole_296() {
     use crate::proved::bitlanes::{word, Block, IndexRange, Steps};
     use crate::proved::bitwalks::in_turn::*;
     use crate::proved::bitwords::cursors::*;
-    use crate::proved::bitranks;
+    use crate::proved::{bitranks, flow};
     use crate::proved::fixedbitset::{Bits, BitsMut, ExtendFault, FixedBitSet};
     use crate::proved::fixedbitset::*;
     use crate::shim::alloc::Global;
@@ -7679,7 +7830,7 @@ fn fixedbitset_whole_309() {
     use crate::proved::bitlanes::{word, Block, IndexRange, Steps};
     use crate::proved::bitwalks::in_turn::*;
     use crate::proved::bitwords::cursors::*;
-    use crate::proved::bitranks;
+    use crate::proved::{bitranks, flow};
     use crate::proved::fixedbitset::{Bits, BitsMut, ExtendFault, FixedBitSet};
     use crate::proved::fixedbitset::*;
     use crate::shim::alloc::Global;
@@ -7701,7 +7852,7 @@ fn fixedbitset_whole_326() {
     use crate::proved::bitlanes::{word, Block, IndexRange, Steps};
     use crate::proved::bitwalks::in_turn::*;
     use crate::proved::bitwords::cursors::*;
-    use crate::proved::bitranks;
+    use crate::proved::{bitranks, flow};
     use crate::proved::fixedbitset::{Bits, BitsMut, ExtendFault, FixedBitSet};
     use crate::proved::fixedbitset::*;
     use crate::shim::alloc::Global;
@@ -7715,4 +7866,52 @@ fn fixedbitset_whole_326() {
     let other = FixedBitSet::from_iter(alloc, [3, 64, 70]).unwrap();
     assert_eq!(set.first_lacking(&other), Some(64));
     assert_eq!(other.first_lacking(&set), Some(1));
+}
+
+#[test]
+fn flow_problem_12() {
+    use crate::proved::bitlanes::ops::*;
+    use crate::proved::bitlanes::{word, Block, IndexRange, Steps};
+    use crate::proved::bitwalks::in_turn::*;
+    use crate::proved::bitwords::cursors::*;
+    use crate::proved::{bitranks, flow};
+    use crate::proved::fixedbitset::{Bits, BitsMut, ExtendFault, FixedBitSet};
+    use crate::proved::flow::*;
+    use crate::shim::alloc::Global;
+    use crate::shim::prelude::*;
+    use crate::shim::u64x4;
+    use core::cmp::Ordering;
+    use core::mem::{size_of, size_of_val};
+
+    let alloc = Global::Try;
+    let gens = [FixedBitSet::from_iter(alloc, [0, 69]).unwrap()];
+    let kills = [FixedBitSet::with_capacity(alloc, 70).unwrap()];
+    assert!(flow::is_problem(70, &[(0, 0)], &gens, &kills));
+    assert!(!flow::is_problem(70, &[(0, 1)], &gens, &kills));
+    assert!(!flow::is_problem(69, &[(0, 0)], &gens, &kills));
+}
+
+#[test]
+fn flow_solver_33() {
+    use crate::proved::bitlanes::ops::*;
+    use crate::proved::bitlanes::{word, Block, IndexRange, Steps};
+    use crate::proved::bitwalks::in_turn::*;
+    use crate::proved::bitwords::cursors::*;
+    use crate::proved::{bitranks, flow};
+    use crate::proved::fixedbitset::{Bits, BitsMut, ExtendFault, FixedBitSet};
+    use crate::proved::flow::*;
+    use crate::shim::alloc::Global;
+    use crate::shim::prelude::*;
+    use crate::shim::u64x4;
+    use core::cmp::Ordering;
+    use core::mem::{size_of, size_of_val};
+
+    let alloc = Global::Try;
+    let none = FixedBitSet::with_capacity(alloc, 2).unwrap();
+    let gens = [FixedBitSet::from_iter(alloc, [0, 1]).unwrap(), none.clone().unwrap()];
+    let kills = [none, FixedBitSet::from_iter(alloc, [1]).unwrap()];
+    assert!(flow::is_problem(2, &[(0, 1)], &gens, &kills));
+    let answer = flow::solve(alloc, 2, &[(0, 1)], &gens, &kills, &mut crate::shim::Steps::new()).unwrap();
+    let last = answer.outs.last().and_then(|facts| facts.maximum());
+    assert_eq!(last, Some(0));
 }

@@ -307,6 +307,48 @@ impl BitsMut<'_> {
         self.view.take(bit)
     }
 
+    /// Clears the first position that is set, and returns it. Where none is set, the set stays as
+    /// it was and the result is `None`.
+    ///
+    /// It takes one step for each lane from the first on up to the one that has the position, or
+    /// for all of them, and writes one word at most.
+    ///
+    /// Proved: the result and what it leaves, for all sets
+    /// ([contract](crate::contracts#fixedbitsetbitsmutpop_first)).
+    ///
+    /// ```
+    /// # use fixedbitset::BitsMut;
+    /// let mut words = [9, 1, 0, 0];
+    /// let mut set = BitsMut::settle(&mut words, 70, 70);
+    /// assert_eq!(set.pop_first(), Some(0));
+    /// assert_eq!(words, [8, 1, 0, 0]);
+    /// ```
+    #[inline]
+    pub fn pop_first(&mut self) -> Option<usize> {
+        self.view.pop_first(&mut Steps::new())
+    }
+
+    /// Clears the last position that is set, and returns it. Where none is set, the set stays as
+    /// it was and the result is `None`.
+    ///
+    /// It takes one step for each lane from the last on down to the one that has the position, or
+    /// for all of them, and writes one word at most.
+    ///
+    /// Proved: the result and what it leaves, for all sets
+    /// ([contract](crate::contracts#fixedbitsetbitsmutpop_last)).
+    ///
+    /// ```
+    /// # use fixedbitset::BitsMut;
+    /// let mut words = [9, 1, 0, 0];
+    /// let mut set = BitsMut::settle(&mut words, 70, 70);
+    /// assert_eq!(set.pop_last(), Some(64));
+    /// assert_eq!(words, [9, 0, 0, 0]);
+    /// ```
+    #[inline]
+    pub fn pop_last(&mut self) -> Option<usize> {
+        self.view.pop_last(&mut Steps::new())
+    }
+
     /// Sets the position, or clears it where `enabled` is false. It has to be below the length.
     ///
     /// **Panics** where it is at or past the length.

@@ -744,6 +744,48 @@ impl FixedBitSet {
         self.as_bits().maximum()
     }
 
+    /// Clears the first position that is set, and returns it. Where none is set, the set stays as
+    /// it was and the result is `None`.
+    ///
+    /// It takes one step for each lane from the first on up to the one that has the position, or
+    /// for all of them, and writes one word at most.
+    ///
+    /// Proved: the result and what it leaves, for all sets
+    /// ([contract](crate::contracts#fixedbitsetbitsmutpop_first)).
+    ///
+    /// ```
+    /// # use fixedbitset::FixedBitSet;
+    /// let mut set = FixedBitSet::from_iter([3, 64]);
+    /// assert_eq!(set.pop_first(), Some(3));
+    /// assert_eq!(set.pop_first(), Some(64));
+    /// assert!(set.pop_first().is_none() && set.len() == 65);
+    /// ```
+    #[inline]
+    pub fn pop_first(&mut self) -> Option<usize> {
+        self.as_bits_mut().pop_first()
+    }
+
+    /// Clears the last position that is set, and returns it. Where none is set, the set stays as
+    /// it was and the result is `None`.
+    ///
+    /// It takes one step for each lane from the last on down to the one that has the position, or
+    /// for all of them, and writes one word at most.
+    ///
+    /// Proved: the result and what it leaves, for all sets
+    /// ([contract](crate::contracts#fixedbitsetbitsmutpop_last)).
+    ///
+    /// ```
+    /// # use fixedbitset::FixedBitSet;
+    /// let mut set = FixedBitSet::from_iter([3, 64]);
+    /// assert_eq!(set.pop_last(), Some(64));
+    /// assert_eq!(set.pop_last(), Some(3));
+    /// assert!(set.pop_last().is_none() && set.len() == 65);
+    /// ```
+    #[inline]
+    pub fn pop_last(&mut self) -> Option<usize> {
+        self.as_bits_mut().pop_last()
+    }
+
     /// Whether each position below the length is set.
     ///
     /// Proved: the result, for all sets ([contract](crate::contracts#fixedbitsetbitsis_full)).
@@ -2126,6 +2168,63 @@ impl FixedBitSet {
     pub fn try_grow_and_insert(&mut self, bits: usize) -> Result<(), AllocError> {
         self.assert_position(bits);
         self.set.grow_and_insert(bits)
+    }
+
+    /// [`grow_and_insert`](Self::grow_and_insert), which also returns whether the position was set before:
+    /// `false` at or past the old length.
+    ///
+    /// The position has to be below `usize::MAX`: no length is greater than that.
+    ///
+    /// A call that needs no more words cannot fail. It writes the word of the position and the new words,
+    /// and where the allocation has to move also the old ones.
+    ///
+    /// Upstream has no such call.
+    ///
+    /// If an allocation fails, the program ends; [`try_grow_and_put`](Self::try_grow_and_put) returns an
+    /// error instead.
+    ///
+    /// **Panics** where `bits` is `usize::MAX`.
+    ///
+    /// Proved: the result and what it leaves, for all sets, wherever it does not panic
+    /// ([contract](crate::contracts#fixedbitsetfixedbitsetgrow_and_put)).
+    ///
+    /// ```
+    /// # use fixedbitset::FixedBitSet;
+    /// let mut set = FixedBitSet::with_capacity(2);
+    /// assert!(!set.grow_and_put(64));
+    /// assert!(set.grow_and_put(64));
+    /// assert_eq!(set.len(), 65);
+    /// assert_eq!(set.as_slice(), [0, 1].as_slice());
+    /// ```
+    #[inline]
+    #[track_caller]
+    pub fn grow_and_put(&mut self, bits: usize) -> bool {
+        self.assert_position(bits);
+        self.set.grow_and_put(bits).or_abort()
+    }
+
+    /// [`grow_and_put`](Self::grow_and_put), which returns an error if an allocation fails. The set is then
+    /// as it was.
+    ///
+    /// **Panics** where `bits` is `usize::MAX`.
+    ///
+    /// Proved: the result and what it leaves, also where an allocation fails, for all sets, wherever it
+    /// does not panic ([contract](crate::contracts#fixedbitsetfixedbitsetgrow_and_put)).
+    ///
+    /// ```
+    /// # use fixedbitset::FixedBitSet;
+    /// let mut set = FixedBitSet::with_capacity(2);
+    /// assert!(!set.try_grow_and_put(64)?);
+    /// assert!(set.try_grow_and_put(64)?);
+    /// assert_eq!(set.len(), 65);
+    /// assert_eq!(set.as_slice(), [0, 1].as_slice());
+    /// # Ok::<(), fixedbitset::AllocError>(())
+    /// ```
+    #[inline]
+    #[track_caller]
+    pub fn try_grow_and_put(&mut self, bits: usize) -> Result<bool, AllocError> {
+        self.assert_position(bits);
+        self.set.grow_and_put(bits)
     }
 
     /// [`extend`](Self::extend), which returns what stops it: the position `usize::MAX`, or an allocation

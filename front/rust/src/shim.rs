@@ -127,6 +127,21 @@ pub mod snapshot {
     }
 }
 
+/// A number of rounds. (Of the proved `Steps` a program reads nothing: it takes no bytes.)
+pub struct Steps(pub usize);
+
+impl Steps {
+    #[inline]
+    pub fn new() -> Self {
+        Steps(0)
+    }
+
+    #[inline]
+    pub fn tick(&mut self) {
+        self.0 += 1;
+    }
+}
+
 /// The text of bytes that are ASCII.
 #[inline]
 pub fn text_of(digits: &[u8]) -> &str {
@@ -211,6 +226,15 @@ pub mod row {
             row.try_reserve_exact(count)
                 .map_err(refused::<T, _>(count))?;
             Ok(Vec(row))
+        }
+
+        #[inline]
+        pub fn push(&mut self, item: T) -> Result<(), AllocError> {
+            if self.0.len() == self.0.capacity() {
+                self.reserve(1)?;
+            }
+            self.0.push(item);
+            Ok(())
         }
 
         #[inline]

@@ -1,6 +1,6 @@
 //! Sets over words that someone else owns. Upstream has none.
 use crate::proved::bitlanes::Steps;
-use crate::proved::fixedbitset::views;
+use crate::proved::fixedbitset::{set, views};
 use crate::{panics, ArrayBitSet, Block, FixedBitSet};
 use core::cmp::Ordering;
 use core::hash::{Hash, Hasher};
@@ -174,8 +174,7 @@ impl FixedBitSet {
     #[inline]
     #[must_use]
     pub fn as_bits(&self) -> Bits<'_> {
-        let view = self.set.as_bits();
-        Bits { view }
+        lent(&self.set)
     }
 
     /// The set as one over borrowed words, to be changed. Its length stays.
@@ -190,10 +189,23 @@ impl FixedBitSet {
     /// ```
     #[inline]
     pub fn as_bits_mut(&mut self) -> BitsMut<'_> {
-        let (words, length) = (&mut *self.set.words, self.set.length);
-        let view = views::BitsMut { words, length };
-        BitsMut { view }
+        lent_mut(&mut self.set)
     }
+}
+
+/// A proved set as one over borrowed words, to be read.
+#[inline]
+pub(crate) fn lent(set: &set::FixedBitSet) -> Bits<'_> {
+    let view = set.as_bits();
+    Bits { view }
+}
+
+/// The same, to be changed.
+#[inline]
+pub(crate) fn lent_mut(set: &mut set::FixedBitSet) -> BitsMut<'_> {
+    let (words, length) = (&mut *set.words, set.length);
+    let view = views::BitsMut { words, length };
+    BitsMut { view }
 }
 
 /// Proved: the set, for all sets ([contract](crate::contracts#fixedbitsetfixedbitsetfrom_bits)).

@@ -6,6 +6,7 @@ extern crate alloc;
 #[path = "../src/shim.rs"]
 mod shim;
 
+use fixedbitset::dataflow::{Direction, Meet, Problem};
 use fixedbitset::{
     storage_words, AllocError, BitRows, Bits, Block, ExtendFault, FixedBitSet, Ranks,
 };
@@ -165,6 +166,7 @@ fn calls() -> impl Iterator<Item = Call> {
     let changes = calls! {
         |s, t| s.try_grow(t.len()), s.grow(t.len()), bytes_of(t.len());
         |s, t| s.try_grow_and_insert(t.len()), s.grow_and_insert(t.len()), bytes_of(t.len() + 1);
+        |s, t| s.try_grow_and_put(t.len()), s.grow_and_put(t.len()), bytes_of(t.len() + 1);
         |s, t| s.try_union_with(t), s.union_with(t), bytes_of(t.len());
         |s, t| s.try_symmetric_difference_with(t), s.symmetric_difference_with(t), bytes_of(t.len());
         |s, t| s.try_union_with_change(t), s.union_with_change(t), bytes_of(t.len());
@@ -242,6 +244,7 @@ fn a_call_with_room_is_never_refused() {
         |s, t| s.try_grow(t.len()), s.grow(t.len()), 0;
         |s, _| s.try_grow(1_024), s.grow(1_024), 0;
         |s, _| s.try_grow_and_insert(1_023), s.grow_and_insert(1_023), 0;
+        |s, _| s.try_grow_and_put(1_023), s.grow_and_put(1_023), 0;
         |s, t| s.try_union_with(t), s.union_with(t), 0;
         |s, t| s.try_symmetric_difference_with(t), s.symmetric_difference_with(t), 0;
         |s, t| s.try_union_with_change(t), s.union_with_change(t), 0;
@@ -642,6 +645,26 @@ fn a_row_that_is_not_to_say_so_ends_the_program() {
         } else if asked_for().is_none() {
             let said = end_of("a_row_that_is_not_to_say_so_ends_the_program", index);
             assert!(said.contains(&ended_by(72_000)), "{index}: {said}");
+        }
+    }
+}
+
+#[test]
+fn a_solver_tells_of_each_request_that_is_refused() {
+    let mut problem = Problem::new(4, 70);
+    problem.extend([(0, 1), (1, 2), (2, 1), (2, 3)]);
+    problem.gen_mut(1).insert(69);
+    problem.boundary(1).insert(3);
+    for direction in [Direction::Forward, Direction::Backward] {
+        for meet in [Meet::Union, Meet::Intersection] {
+            let (solution, requests) = granting(|| problem.try_solve(direction, meet));
+            let text = format!("{:?}", solution.unwrap());
+            assert_eq!(text, format!("{:?}", problem.solve(direction, meet)));
+            assert!(requests > 10);
+            for index in 0..requests {
+                let (solution, asked) = refusing(index, || problem.try_solve(direction, meet));
+                assert_eq!(solution.unwrap_err().bytes(), asked.bytes);
+            }
         }
     }
 }

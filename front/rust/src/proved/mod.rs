@@ -7,3 +7,4 @@ pub(crate) mod bitjson;
 pub(crate) mod fixedbitset;
 pub(crate) mod bitranks;
 pub(crate) mod bitrows;
+pub(crate) mod flow;

@@ -30,12 +30,14 @@ pub fn apply<O: WordOp>(dst: &mut [Block], src: &[Block], steps: &mut Steps) -> 
         changed = gathered(changed, change_lane::<O>(dst, src, at));
         at += LANE;
     }
+    let whole = !is_zero(changed);
     let rest = words - at;
     if rest > 0 {
         steps.tick();
-        changed = gathered(changed, change_part::<O>(dst, src, at, rest));
+        let part = change_part::<O>(dst, src, at, rest);
+        return whole | !is_zero(part);
     }
-    !is_zero(changed)
+    whole
 }
 
 /// Joins each word of `dst` by `O` with the words of `a` and `b` at its place, which are joined by
@@ -68,13 +70,15 @@ pub fn apply_joined<O: WordOp, T: WordOp>(
         changed = gathered(changed, change_by_lane::<O>(dst, at, joined));
         at += LANE;
     }
+    let whole = !is_zero(changed);
     let rest = words - at;
     if rest > 0 {
         steps.tick();
         let joined = joined_part_at::<T>(a, b, at, rest);
-        changed = gathered(changed, change_by_part::<O>(dst, at, rest, joined));
+        let part = change_by_part::<O>(dst, at, rest, joined);
+        return whole | !is_zero(part);
     }
-    !is_zero(changed)
+    whole
 }
 
 /// Makes each word 0, and returns whether one was not.

@@ -4,7 +4,8 @@
 //! A step is one lane in one turn of a kernel, and is counted by one tick. Where the number of
 //! words is no multiple of four, the one to three words that are left are a lane of their own,
 //! filled with zeros, of which only these words are written back. So `m` words take `m / 4` steps,
-//! rounded up. A count of a short row goes word by word, and ticks at the first word of each lane.
+//! rounded up. A join in place and a count of a short row go word by word, and tick at the first
+//! word of each lane.
 //! The kernels and the searches of module `search` are the only loops of calls on whole sets.
 //!
 //! Of two slices a kernel reads as many words as the shorter one has.
@@ -35,16 +36,17 @@ const LONG: usize = 512;
 pub fn apply<O: WordOp>(dst: &mut [Block], src: &[Block], steps: &mut Steps) {
     let words = dst.len().min(src.len());
     let (dst, src) = (&mut dst[..words], &src[..words]);
-    let mut at = 0;
-    while words - at >= LANE {
+    // A single lane is joined by itself, which is faster where a loop over words is no vector code.
+    if words == LANE {
         steps.tick();
-        join_lane::<O>(dst, src, at);
-        at += LANE;
+        join_lane::<O>(dst, src, 0);
+        return;
     }
-    let rest = words - at;
-    if rest > 0 {
-        steps.tick();
-        join_part::<O>(dst, src, at, rest);
+    for k in 0..words {
+        if k % LANE == 0 {
+            steps.tick();
+        }
+        dst[k] = O::word(dst[k], src[k]);
     }
 }
 
@@ -280,13 +282,6 @@ pub(crate) fn put_part(words: &mut [Block], at: usize, rest: usize, lane: u64x4)
             words[at + 2] = third;
         }
     }
-}
-
-// Joins the last one to three words of `dst`, from `at` on, with those of `src`.
-#[inline(always)]
-fn join_part<O: WordOp>(dst: &mut [Block], src: &[Block], at: usize, rest: usize) {
-    let lane = joined_part_at::<O>(dst, src, at, rest);
-    put_part(dst, at, rest, lane);
 }
 
 // The last one to three joined words, from `at` on, and zeros.

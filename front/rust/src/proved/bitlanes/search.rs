@@ -63,7 +63,12 @@ pub fn next_one<O: WordOp>(
     from: usize,
     steps: &mut Steps,
 ) -> Option<usize> {
-    let start = skip_zeros::<O>(mask, words, from, steps);
+    // Four words or fewer are looked at one by one at once.
+    let start = if words.len() - from > LANE {
+        skip_zeros::<O>(mask, words, from, steps)
+    } else {
+        from
+    };
     for at in start..words.len() {
         if (at - start) % LANE == 0 {
             steps.tick();
@@ -119,24 +124,43 @@ pub fn previous_one<O: WordOp>(
     below: usize,
     steps: &mut Steps,
 ) -> Option<usize> {
+    // Four words or fewer are looked at one by one at once.
+    let end = if below > LANE {
+        skip_zeros_back::<O>(mask, words, below, steps)
+    } else {
+        below
+    };
+    let row = &words[..end];
+    for at in (0..end).rev() {
+        if (end - 1 - at) % LANE == 0 {
+            steps.tick();
+        }
+        if O::word(mask, row[at]) != 0 {
+            return Some(at);
+        }
+    }
+    None
+}
+
+// The place, a multiple of four words before `below`, from which on each word below that is 0 when
+// `mask` is joined with it by `O`. It stops where four words or fewer are left.
+#[inline(always)]
+fn skip_zeros_back<O: WordOp>(
+    mask: Block,
+    words: &[Block],
+    below: usize,
+    steps: &mut Steps,
+) -> usize {
     let mut end = below;
     while end >= 2 * FOUR && are_zero_at::<O>(mask, words, end - FOUR) {
         tick_four(steps);
         end -= FOUR;
     }
-    while end >= LANE && is_zero(masked_lane_at::<O>(mask, words, end - LANE)) {
+    while end > LANE && is_zero(masked_lane_at::<O>(mask, words, end - LANE)) {
         steps.tick();
         end -= LANE;
     }
-    for at in (0..end).rev() {
-        if (end - 1 - at) % LANE == 0 {
-            steps.tick();
-        }
-        if O::word(mask, words[at]) != 0 {
-            return Some(at);
-        }
-    }
-    None
+    end
 }
 
 /// The place of the first word of `a` that is not 0 when the word of `b` at its place is joined

@@ -66,6 +66,32 @@ pub fn fill(words: &[Block], directory: &mut [usize], steps: &mut Steps) {
 /// ```
 #[inline]
 pub fn rank(words: &[Block], directory: &[usize], position: usize, steps: &mut Steps) -> usize {
+    if position / BITS < words.len() {
+        return rank_within(words, directory, position, steps);
+    }
+    rank_past(words, directory, position, steps)
+}
+
+// `rank` of a position that stands in the words.
+#[inline(always)]
+fn rank_within(words: &[Block], directory: &[usize], position: usize, steps: &mut Steps) -> usize {
+    let at = position / BITS;
+    let below = position % BITS;
+    let entry = at / WORDS;
+    let first = WORDS * entry;
+    let mut total = directory[entry];
+    for k in first..at {
+        steps.tick();
+        total += words[k].count_ones() as usize;
+    }
+    steps.tick();
+    total + (words[at] & ones_below(below)).count_ones() as usize
+}
+
+// `rank` of any position. It is a call of its own, so that one in the words has none of its tests.
+#[cold]
+#[inline(never)]
+fn rank_past(words: &[Block], directory: &[usize], position: usize, steps: &mut Steps) -> usize {
     if words.is_empty() {
         return 0;
     }
@@ -87,9 +113,9 @@ pub fn rank(words: &[Block], directory: &[usize], position: usize, steps: &mut S
 ///
 /// It halves the directory until one entry is left, and looks then at the words of that entry up to
 /// the one that has the position, or where there is none at all words of the last entry. With a
-/// directory of at most `2 ^ n` entries these are `n + 8` steps at most. The last word is searched
-/// by halves, six times, which is not counted. The number of positions of the row, 64 for each
-/// word, may be at most 2 ^ 64.
+/// directory of at most `2 ^ n` entries these are `n + 8` steps at most. In a copy of the last word
+/// it clears the positions before, 63 at most, which is not counted. The number of positions of the
+/// row, 64 for each word, may be at most 2 ^ 64.
 ///
 /// ```text
 /// let (words, mut counts) = ([9, 2], [0]);

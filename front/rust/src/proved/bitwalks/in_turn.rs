@@ -8,7 +8,7 @@ use crate::proved::bitwords::cursors::{Cursor, Middle};
 /// An iterator that may be one of two in turn.
 ///
 /// ```text
-/// let mut walk = Cursor::over(Plain { words: &[9, 1] });
+/// let mut walk = Cursor::over(Plain { words: [9, 1].iter() });
 /// assert_eq!(Part::take_first(&mut walk), Some(0));
 /// assert_eq!(Part::take_last(&mut walk), Some(64));
 /// ```
@@ -43,7 +43,7 @@ impl<M: Middle> Part for Cursor<M> {
 /// An iterator whose items left can be counted at once.
 ///
 /// ```text
-/// let walk = Cursor::over(Plain { words: &[9, 1] });
+/// let walk = Cursor::over(Plain { words: [9, 1].iter() });
 /// assert_eq!(Counted::count_items(walk, &mut Steps::new()), 3);
 /// ```
 pub trait Counted: Part {
@@ -61,8 +61,8 @@ impl<M: Middle> Counted for Cursor<M> {
 /// The items of the first iterator, and then those of the second.
 ///
 /// ```text
-/// let first = Cursor::over(Plain { words: &[9, 1] });
-/// let second = Cursor::over(Plain { words: &[6] });
+/// let first = Cursor::over(Plain { words: [9, 1].iter() });
+/// let second = Cursor::over(Plain { words: [6].iter() });
 /// let mut walks = InTurn::of(first, second);
 /// assert_eq!((walks.take_first(), walks.take_last()), (Some(0), Some(2)));
 /// ```
@@ -79,8 +79,8 @@ impl<A: Part, B: Part> InTurn<A, B> {
     /// These two iterators, the first before the second.
     ///
     /// ```text
-    /// let first = Cursor::over(Plain { words: &[9, 1] });
-    /// let second = Cursor::over(Plain { words: &[6] });
+    /// let first = Cursor::over(Plain { words: [9, 1].iter() });
+    /// let second = Cursor::over(Plain { words: [6].iter() });
     /// assert_eq!(InTurn::of(first, second).take_first(), Some(0));
     /// ```
     #[inline]
@@ -96,8 +96,8 @@ impl<A: Part, B: Part> InTurn<A, B> {
     /// second. A first iterator that gave none is not asked again.
     ///
     /// ```text
-    /// let first = Cursor::over(Plain { words: &[8] });
-    /// let second = Cursor::over(Plain { words: &[6] });
+    /// let first = Cursor::over(Plain { words: [8].iter() });
+    /// let second = Cursor::over(Plain { words: [6].iter() });
     /// let mut walks = InTurn::of(first, second);
     /// assert_eq!((walks.take_first(), walks.take_first()), (Some(3), Some(1)));
     /// ```
@@ -117,8 +117,8 @@ impl<A: Part, B: Part> InTurn<A, B> {
     /// first. A first iterator that gave none from the front is not asked again.
     ///
     /// ```text
-    /// let first = Cursor::over(Plain { words: &[8] });
-    /// let second = Cursor::over(Plain { words: &[2] });
+    /// let first = Cursor::over(Plain { words: [8].iter() });
+    /// let second = Cursor::over(Plain { words: [2].iter() });
     /// let mut walks = InTurn::of(first, second);
     /// assert_eq!((walks.take_last(), walks.take_last()), (Some(1), Some(3)));
     /// ```
@@ -138,8 +138,8 @@ impl<A: Part, B: Part> InTurn<A, B> {
     /// where it is a `usize`.
     ///
     /// ```text
-    /// let first = Cursor::over(Plain { words: &[9, 1] });
-    /// let second = Cursor::over(Plain { words: &[6] });
+    /// let first = Cursor::over(Plain { words: [9, 1].iter() });
+    /// let second = Cursor::over(Plain { words: [6].iter() });
     /// assert_eq!(InTurn::of(first, second).most(), Some(256));
     /// ```
     #[inline]
@@ -150,8 +150,8 @@ impl<A: Part, B: Part> InTurn<A, B> {
     /// The two iterators, each with the items that it has left.
     ///
     /// ```text
-    /// let first = Cursor::over(Plain { words: &[9, 1] });
-    /// let second = Cursor::over(Plain { words: &[6] });
+    /// let first = Cursor::over(Plain { words: [9, 1].iter() });
+    /// let second = Cursor::over(Plain { words: [6].iter() });
     /// let (first, _) = InTurn::of(first, second).into_walks();
     /// assert!(first.eq([0, 3, 64]));
     /// ```
@@ -171,8 +171,8 @@ impl<A: Counted, B: Counted> InTurn<A, B> {
     /// most as many steps as a count of the one and of the other.
     ///
     /// ```text
-    /// let first = Cursor::over(Plain { words: &[9, 1] });
-    /// let second = Cursor::over(Plain { words: &[7] });
+    /// let first = Cursor::over(Plain { words: [9, 1].iter() });
+    /// let second = Cursor::over(Plain { words: [7].iter() });
     /// let mut walks = InTurn::of(first, second);
     /// assert_eq!(walks.take_first(), Some(0));
     /// assert_eq!(walks.count_left(&mut Steps::new()), 5);

@@ -78,6 +78,7 @@ impl<'a> Ones<'a> {
     /// ```
     #[inline]
     pub fn over(words: &'a [Block]) -> Ones<'a> {
+        let words = words.iter();
         Ones {
             ones: Cursor::over(Plain { words }),
         }

@@ -12,12 +12,13 @@ use crate::proved::bitlanes::ops::WordOp;
 use crate::proved::bitlanes::word::{BITS, Block, ones_below, stretch, take_highest_bit, take_lowest_bit};
 use crate::shim::alloc::Global;
 use core::marker::PhantomData;
+use core::slice::Iter;
 use alloc::vec;
 
 /// Words that a cursor has still to take, from either end.
 ///
 /// ```text
-/// let mut middle = Plain { words: &[3, 5, 7] };
+/// let mut middle = Plain { words: [3, 5, 7].iter() };
 /// assert_eq!(Middle::take_first(&mut middle), Some(3));
 /// assert_eq!(Middle::take_last(&mut middle), Some(7));
 /// assert_eq!(Middle::left(&middle), 1);
@@ -43,7 +44,7 @@ pub trait Middle {
 /// Words that can be looked at before they are taken.
 ///
 /// ```text
-/// let middle = Plain { words: &[3, 5, 7] };
+/// let middle = Plain { words: [3, 5, 7].iter() };
 /// assert_eq!(Seen::peek(&middle, 1), Some(5));
 /// assert_eq!(Seen::peek(&middle, 3), None);
 /// ```
@@ -55,27 +56,25 @@ pub trait Seen: Middle {
 /// Words of a slice.
 ///
 /// ```text
-/// let mut cursor = Cursor::over(Plain { words: &[8, 0, 1] });
+/// let mut cursor = Cursor::over(Plain { words: [8, 0, 1].iter() });
 /// assert_eq!(cursor.next_back(), Some(128));
 /// assert!(cursor.eq([3]));
 /// ```
 #[derive(Clone)]
 pub struct Plain<'a> {
-    pub words: &'a [Block],
+    pub words: Iter<'a, Block>,
 }
 
 impl<'a> Middle for Plain<'a> {
     #[inline]
     fn take_first(&mut self) -> Option<Block> {
-        let (word, rest) = self.words.split_first()?;
-        self.words = rest;
+        let word = self.words.next()?;
         Some(*word)
     }
 
     #[inline]
     fn take_last(&mut self) -> Option<Block> {
-        let (word, rest) = self.words.split_last()?;
-        self.words = rest;
+        let word = self.words.next_back()?;
         Some(*word)
     }
 
@@ -86,14 +85,14 @@ impl<'a> Middle for Plain<'a> {
 
     #[inline]
     fn count_positions(self, steps: &mut Steps) -> usize {
-        count_of(self.words, steps)
+        count_of(self.words.as_slice(), steps)
     }
 }
 
 impl<'a> Seen for Plain<'a> {
     #[inline]
     fn peek(&self, index: usize) -> Option<Block> {
-        self.words.get(index).copied()
+        self.words.as_slice().get(index).copied()
     }
 }
 
@@ -101,7 +100,7 @@ impl<'a> Seen for Plain<'a> {
 ///
 /// ```text
 /// let words = [Block::MAX - 8];
-/// let plain = Plain { words: &words };
+/// let plain = Plain { words: words.iter() };
 /// let cursor = Cursor::over(Inverted { plain });
 /// assert!(cursor.eq([3]));
 /// ```
@@ -128,7 +127,7 @@ impl<'a> Middle for Inverted<'a> {
 
     #[inline]
     fn count_positions(self, steps: &mut Steps) -> usize {
-        count_lacking(self.plain.words, steps)
+        count_lacking(self.plain.words.as_slice(), steps)
     }
 }
 
@@ -164,6 +163,7 @@ impl<'a, O: WordOp> Beside<'a, O> {
     /// ```
     #[inline(always)]
     pub fn of(words: &'a [Block], other: &'a [Block]) -> Beside<'a, O> {
+        let words = words.iter();
         Beside {
             plain: Plain { words },
             other,
@@ -197,7 +197,7 @@ impl<'a, O: WordOp> Middle for Beside<'a, O> {
 
     #[inline]
     fn count_positions(self, steps: &mut Steps) -> usize {
-        count_beside::<O>(self.plain.words, self.other, steps)
+        count_beside::<O>(self.plain.words.as_slice(), self.other, steps)
     }
 }
 
@@ -310,7 +310,7 @@ impl<M: Middle> Cursor<M> {
     /// between are not yet taken.
     ///
     /// ```text
-    /// let cursor = Cursor::over(Plain { words: &[9, 0, 1] });
+    /// let cursor = Cursor::over(Plain { words: [9, 0, 1].iter() });
     /// assert!(cursor.eq([0, 3, 128]));
     /// ```
     #[inline(always)]
@@ -324,7 +324,7 @@ impl<M: Middle> Cursor<M> {
     /// in the first word, and `end` in the last one or at its end.
     ///
     /// ```text
-    /// let cursor = Cursor::within(Plain { words: &[9, 255] }, 640, 1, 66);
+    /// let cursor = Cursor::within(Plain { words: [9, 255].iter() }, 640, 1, 66);
     /// assert!(cursor.eq([643, 704, 705]));
     /// ```
     #[inline(always)]
@@ -340,7 +340,7 @@ impl<M: Middle> Cursor<M> {
     /// What the cursor holds. `of_held` makes a cursor of it again, which has the same items left.
     ///
     /// ```text
-    /// let mut cursor = Cursor::over(Plain { words: &[9, 0, 1] });
+    /// let mut cursor = Cursor::over(Plain { words: [9, 0, 1].iter() });
     /// assert_eq!(cursor.next(), Some(0));
     /// assert_eq!(cursor.into_held().front, 8);
     /// ```
@@ -367,7 +367,7 @@ impl<M: Middle> Cursor<M> {
     /// The cursor that holds this. Its counts begin at 0.
     ///
     /// ```text
-    /// let cursor = Cursor::over(Plain { words: &[9, 0, 1] });
+    /// let cursor = Cursor::over(Plain { words: [9, 0, 1].iter() });
     /// let held = cursor.into_held();
     /// assert!(Cursor::of_held(held).eq([0, 3, 128]));
     /// ```
@@ -397,7 +397,7 @@ impl<M: Middle> Cursor<M> {
     /// holds it takes at most `m / 4` steps, rounded up, and two more.
     ///
     /// ```text
-    /// let mut cursor = Cursor::over(Plain { words: &[9, 7, 1] });
+    /// let mut cursor = Cursor::over(Plain { words: [9, 7, 1].iter() });
     /// assert_eq!(cursor.next(), Some(0));
     /// assert_eq!(cursor.count_left(&mut Steps::new()), 5);
     /// ```
@@ -501,7 +501,7 @@ impl<M: Middle> DoubleEndedIterator for Cursor<M> {
 #[inline(always)]
 pub fn ones_within<'a>(words: &'a [Block], start: usize, end: usize) -> Cursor<Plain<'a>> {
     let first = start / BITS;
-    let words = &words[first..end.div_ceil(BITS)];
+    let words = words[first..end.div_ceil(BITS)].iter();
     let at = BITS * first;
     Cursor::within(Plain { words }, at, start - at, end - at)
 }
@@ -517,7 +517,7 @@ pub fn ones_within<'a>(words: &'a [Block], start: usize, end: usize) -> Cursor<P
 pub fn zeroes_within<'a>(words: &'a [Block], start: usize, end: usize) -> Cursor<Inverted<'a>> {
     let first = start / BITS;
     let plain = Plain {
-        words: &words[first..end.div_ceil(BITS)],
+        words: words[first..end.div_ceil(BITS)].iter(),
     };
     let at = BITS * first;
     Cursor::within(Inverted { plain }, at, start - at, end - at)

@@ -105,7 +105,7 @@ fn give_in_order<O: Order>(word: Block, base: usize, places: &mut [usize]) -> us
 /// that were written may hold anything.
 ///
 /// ```text
-/// let cursor = Cursor::over(Plain { words: &[9, 255, 0, 0, 0, 1] });
+/// let cursor = Cursor::over(Plain { words: [9, 255, 0, 0, 0, 1].iter() });
 /// let mut held = cursor.into_held();
 /// let mut places = [7; 10];
 /// assert_eq!(handfuls::give_words(&mut held, &mut places), 2);
@@ -139,7 +139,7 @@ pub fn give_words<M: Seen>(held: &mut Held<M>, places: &mut [usize]) -> usize {
 /// given takes the time of `give_word_back`.
 ///
 /// ```text
-/// let cursor = Cursor::over(Plain { words: &[1, 0, 0, 0, 255, 9] });
+/// let cursor = Cursor::over(Plain { words: [1, 0, 0, 0, 255, 9].iter() });
 /// let mut held = cursor.into_held();
 /// let mut places = [7; 10];
 /// assert_eq!(handfuls::give_words_back(&mut held, &mut places), 2);

@@ -4,7 +4,7 @@
 
 use crate::proved::bitlanes::ops::{And, WordOp};
 use crate::proved::bitlanes::search::{first_one, last_one, next_one, previous_one};
-use crate::proved::bitlanes::word::{BITS, Block, highest_bit, lowest_bit, ones_below, stretch};
+use crate::proved::bitlanes::word::{BITS, Block, highest_bit, lowest_bit, ones_below, stretch, take_lowest_bit};
 use crate::proved::bitlanes::{Steps, lanes};
 
 /// Whether the position is set in the words: `false` past their end. It looks at one word.
@@ -111,9 +111,9 @@ pub fn previous<O: WordOp>(words: &[Block], below: usize, steps: &mut Steps) -> 
 /// of their positions before it: the first has index 0. `None` where these words have no more
 /// positions than `index`.
 ///
-/// It takes one step for each of these words up to the one that has the position. That word is
-/// searched by halves, six times, which is not counted. The number of positions of the row, 64 for
-/// each word, may be at most 2 ^ 64.
+/// It takes one step for each of these words up to the one that has the position. It clears those
+/// before it in a copy of that word, 63 at most, which is not counted. The number of positions of
+/// the row, 64 for each word, may be at most 2 ^ 64.
 ///
 /// ```text
 /// assert_eq!(positions::nth(&[9, 0, 2], 0, 3, 2, &mut Steps::new()), Some(129));
@@ -188,14 +188,9 @@ fn next_in_row<O: WordOp>(words: &[Block], from: usize, steps: &mut Steps) -> Op
 // The bit of a word with `index` bits set below it. The word has to have more bits set than that.
 #[inline(always)]
 fn nth_bit(word: Block, index: usize) -> usize {
-    let mut at = 0;
-    let mut span = BITS;
-    while span > 1 {
-        let half = span / 2;
-        if (word & ones_below(at + half)).count_ones() as usize <= index {
-            at += half;
-        }
-        span -= half;
+    let mut rest = word;
+    for _ in 0..index {
+        take_lowest_bit(&mut rest);
     }
-    at
+    lowest_bit(rest)
 }

@@ -23,11 +23,13 @@ use crate::proved::bitlanes::{Steps, lanes};
 /// ```
 #[inline(always)]
 pub fn change<O: WordOp>(words: &mut [Block], start: usize, end: usize, steps: &mut Steps) {
-    let (low, high) = cut(start, end);
-    change_part::<O>(words, start, low, steps);
-    change_part::<O>(words, high, end, steps);
+    if end - BITS * (start / BITS) <= BITS {
+        return change_part::<O>(words, start, end, steps);
+    }
+    change_head::<O>(words, start, steps);
+    change_tail::<O>(words, end, steps);
     // Last, so that nothing has to be kept while the whole words are set or cleared in one call.
-    change_whole::<O>(words, low / BITS, high / BITS, steps);
+    change_whole::<O>(words, start / BITS + 1, (end - 1) / BITS, steps);
 }
 
 /// How many positions of the range, each as one that is set joined by `O` with its bit in
@@ -41,7 +43,10 @@ pub fn change<O: WordOp>(words: &mut [Block], start: usize, end: usize, steps: &
 /// ```
 #[inline(always)]
 pub fn count<O: WordOp>(words: &[Block], start: usize, end: usize, steps: &mut Steps) -> usize {
-    let (low, high) = cut(start, end);
+    if end - BITS * (start / BITS) <= BITS {
+        return count_part::<O>(words, start, end, steps);
+    }
+    let (low, high) = cut_long(start, end);
     let first = count_part::<O>(words, start, low, steps);
     let middle = count_whole::<O>(words, low / BITS, high / BITS, steps);
     let last = count_part::<O>(words, high, end, steps);
@@ -141,11 +146,45 @@ fn cut(start: usize, end: usize) -> (usize, usize) {
     (low, high)
 }
 
+// The same for a range that ends behind the word of its start.
+#[inline(always)]
+fn cut_long(start: usize, end: usize) -> (usize, usize) {
+    (BITS * start.div_ceil(BITS), end - end % BITS)
+}
+
 // The bits of a word that stand for the positions of a range within it.
 #[inline(always)]
 fn mask(start: usize, end: usize) -> Block {
     let low = start % BITS;
     stretch(low, low + (end - start))
+}
+
+// The bits of the word of `start` from its place on.
+#[inline(always)]
+fn head_mask(start: usize) -> Block {
+    stretch(start % BITS, BITS)
+}
+
+// The bits of the word of the last position below `end`, up to and with that.
+#[inline(always)]
+fn tail_mask(end: usize) -> Block {
+    stretch(0, (end - 1) % BITS + 1)
+}
+
+// `change`, for the positions from `start` up to the end of its word.
+#[inline(always)]
+fn change_head<O: WordOp>(words: &mut [Block], start: usize, steps: &mut Steps) {
+    steps.tick();
+    let at = start / BITS;
+    words[at] = O::word(words[at], head_mask(start));
+}
+
+// `change`, for the positions below `end` in the word of the last of them.
+#[inline(always)]
+fn change_tail<O: WordOp>(words: &mut [Block], end: usize, steps: &mut Steps) {
+    steps.tick();
+    let at = (end - 1) / BITS;
+    words[at] = O::word(words[at], tail_mask(end));
 }
 
 // `change`, for a range within one word.

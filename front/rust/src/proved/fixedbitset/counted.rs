@@ -23,5 +23,6 @@ pub use shifts::{
 };
 pub use whole::{
     clear, difference_count, difference_with, intersect_with, intersection_count, is_disjoint,
-    is_subset, symmetric_difference_count, symmetric_difference_with, union_count, union_with,
+    is_subset, pop_first, pop_last, symmetric_difference_count, symmetric_difference_with,
+    union_count, union_with,
 };

@@ -1,10 +1,11 @@
 // Made by front/erase from crates/fixedbitset/src/questions.rt: change that, and not this.
 //! Questions about one whole set: whether it has no position or all, and the first
-//! and the last that it has.
+//! and the last that it has; and both of these taken out of the set.
 //!
 //! No call allocates. Each stops at the first lane that decides, from the end at which it begins; a
 //! search looks at up to sixteen words with that lane at once.
 
+use crate::proved::fixedbitset::counted;
 use crate::proved::fixedbitset::set::FixedBitSet;
 use crate::proved::bitlanes::Steps;
 
@@ -62,6 +63,40 @@ impl FixedBitSet {
     #[inline]
     pub fn maximum(&self) -> Option<usize> {
         self.as_bits().maximum(&mut Steps::new())
+    }
+
+    /// Clears the first position that is set, and returns it. Where none is set, the set stays as
+    /// it was and the result is `None`. It looks at four words at a time from the first on, up to
+    /// the one that has this position, so a loop over it goes over the cleared words again.
+    ///
+    /// Upstream has no such call.
+    ///
+    /// ```text
+    /// let mut set = FixedBitSet::from_iter(alloc, [3, 64])?;
+    /// assert_eq!(set.pop_first(), Some(3));
+    /// assert_eq!(set.pop_first(), Some(64));
+    /// assert!(set.pop_first().is_none() && set.len() == 65);
+    /// ```
+    #[inline]
+    pub fn pop_first(&mut self) -> Option<usize> {
+        counted::pop_first(self, &mut Steps::new())
+    }
+
+    /// Clears the last position that is set, and returns it. Where none is set, the set stays as
+    /// it was and the result is `None`. It looks at four words at a time from the last on, down to
+    /// the one that has this position, so a loop over it goes over the cleared words again.
+    ///
+    /// Upstream has no such call.
+    ///
+    /// ```text
+    /// let mut set = FixedBitSet::from_iter(alloc, [3, 64])?;
+    /// assert_eq!(set.pop_last(), Some(64));
+    /// assert_eq!(set.pop_last(), Some(3));
+    /// assert!(set.pop_last().is_none() && set.len() == 65);
+    /// ```
+    #[inline]
+    pub fn pop_last(&mut self) -> Option<usize> {
+        counted::pop_last(self, &mut Steps::new())
     }
 
     /// Whether each position below the length is set; so `true` at length 0.

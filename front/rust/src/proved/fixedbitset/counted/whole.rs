@@ -5,8 +5,9 @@
 //! lanes, rounded up. A change or a count takes exactly one step for each lane that both sets have,
 //! and one for each that only one of them has, where these are cleared or counted. A comparison
 //! that returns `true` takes exactly as many, and one that returns `false` exactly those up to the
-//! lane that decides. `first_lacking` takes exactly those up to the lane of the position, or all
-//! where there is none. What `grow` writes is not counted.
+//! lane that decides. `first_lacking` and `pop_first` take exactly those up to the lane of the
+//! position, and `pop_last` those from the last lane down to it, or all where there is none. What
+//! `grow` writes is not counted.
 
 use crate::proved::fixedbitset::set::FixedBitSet;
 use crate::proved::fixedbitset::views::BitsMut;
@@ -26,6 +27,32 @@ use core::cmp::Ordering;
 pub fn clear(set: &mut FixedBitSet, steps: &mut Steps) {
     let (words, length) = (&mut *set.words.as_mut_slice(), set.length);
     BitsMut { words, length }.clear(steps);
+}
+
+/// [`FixedBitSet::pop_first`], with the steps that it takes.
+///
+/// ```text
+/// let mut set = FixedBitSet::from_iter(alloc, [3, 64])?;
+/// assert_eq!(counted::pop_first(&mut set, &mut Steps::new()), Some(3));
+/// assert_eq!(set.as_slice(), [0, 1].as_slice());
+/// ```
+#[inline]
+pub fn pop_first(set: &mut FixedBitSet, steps: &mut Steps) -> Option<usize> {
+    let (words, length) = (&mut *set.words.as_mut_slice(), set.length);
+    BitsMut { words, length }.pop_first(steps)
+}
+
+/// [`FixedBitSet::pop_last`], with the steps that it takes.
+///
+/// ```text
+/// let mut set = FixedBitSet::from_iter(alloc, [3, 64])?;
+/// assert_eq!(counted::pop_last(&mut set, &mut Steps::new()), Some(64));
+/// assert_eq!(set.as_slice(), [8, 0].as_slice());
+/// ```
+#[inline]
+pub fn pop_last(set: &mut FixedBitSet, steps: &mut Steps) -> Option<usize> {
+    let (words, length) = (&mut *set.words.as_mut_slice(), set.length);
+    BitsMut { words, length }.pop_last(steps)
 }
 
 /// [`FixedBitSet::union_with`], with the steps that it takes.

@@ -6,6 +6,10 @@ use crate::proved::bitlanes::word::{BITS, Block, ones_below};
 use crate::proved::bitlanes::{Steps, lanes};
 use crate::proved::bitwords::positions;
 
+// Up to how many words a set is asked lane by lane whether it is clear. In a longer one a search is
+// faster, since it looks at sixteen words at a time.
+const SHORT: usize = 4 * lanes::LANE;
+
 impl<'a> Bits<'a> {
     /// The words as a set of `length` positions, or `None` where they are not those of one as they
     /// stand: as many whole lanes as the length needs, and no bit past it. So words from elsewhere
@@ -93,7 +97,12 @@ impl<'a> Bits<'a> {
     /// ```
     #[inline(always)]
     pub fn is_clear(self, steps: &mut Steps) -> bool {
-        self.minimum(steps).is_none()
+        let words = self.words.len();
+        if words > SHORT {
+            self.minimum(steps).is_none()
+        } else {
+            self.is_disjoint(self, steps)
+        }
     }
 
     /// The first position that is set, or `None` where none is.
@@ -246,6 +255,44 @@ impl<'a> BitsMut<'a> {
         is_taken
     }
 
+    /// Clears the first position that is set, and returns it. Where none is set, the set stays as
+    /// it was and the result is `None`.
+    ///
+    /// It takes one step for each lane from the first on up to the one that has the position, or
+    /// for all of them, and writes one word at most.
+    ///
+    /// ```text
+    /// let mut words = [9, 1, 0, 0];
+    /// let mut set = BitsMut::settle(&mut words, 70, 70);
+    /// assert_eq!(set.pop_first(&mut Steps::new()), Some(0));
+    /// assert_eq!(words, [8, 1, 0, 0]);
+    /// ```
+    #[inline(always)]
+    pub fn pop_first(&mut self, steps: &mut Steps) -> Option<usize> {
+        let first = self.as_bits().minimum(steps)?;
+        self.remove(first);
+        Some(first)
+    }
+
+    /// Clears the last position that is set, and returns it. Where none is set, the set stays as
+    /// it was and the result is `None`.
+    ///
+    /// It takes one step for each lane from the last on down to the one that has the position, or
+    /// for all of them, and writes one word at most.
+    ///
+    /// ```text
+    /// let mut words = [9, 1, 0, 0];
+    /// let mut set = BitsMut::settle(&mut words, 70, 70);
+    /// assert_eq!(set.pop_last(&mut Steps::new()), Some(64));
+    /// assert_eq!(words, [9, 0, 0, 0]);
+    /// ```
+    #[inline(always)]
+    pub fn pop_last(&mut self, steps: &mut Steps) -> Option<usize> {
+        let last = self.as_bits().maximum(steps)?;
+        self.remove(last);
+        Some(last)
+    }
+
     /// Sets the position, or clears it where `enabled` is false. It has to be below the length.
     ///
     /// ```text
@@ -341,7 +388,7 @@ impl<'a> BitsMut<'a> {
     /// ```
     #[inline(always)]
     pub fn clear(&mut self, steps: &mut Steps) {
-        lanes::zero(self.words, steps);
+        zero_row(self.words, steps);
     }
 }
 
@@ -355,6 +402,27 @@ impl<'a> BitsMut<'a> {
 #[inline]
 pub const fn storage_words(bits: usize) -> usize {
     lanes::LANE * bits.div_ceil(BITS).div_ceil(lanes::LANE)
+}
+
+// Makes each word 0. A single lane is written by itself: `memset` would write it by one store of 64
+// bytes of which half is masked, and a load within these waits for it.
+#[inline(always)]
+fn zero_row(words: &mut [Block], steps: &mut Steps) {
+    if words.len() == lanes::LANE {
+        steps.tick();
+        words[0] = 0;
+        words[1] = 0;
+        words[2] = 0;
+        words[3] = 0;
+    } else {
+        zero_long(words, steps);
+    }
+}
+
+// It is a call of its own, so that it is not joined with the stores of a lane.
+#[inline(never)]
+fn zero_long(words: &mut [Block], steps: &mut Steps) {
+    lanes::zero(words, steps);
 }
 
 // The first of the words, as many as the length needs.

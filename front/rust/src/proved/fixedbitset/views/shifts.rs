@@ -56,9 +56,12 @@ impl BitsMut<'_> {
     /// ```
     #[inline]
     pub fn union_with_shifted(&mut self, other: Bits<'_>, by: usize, steps: &mut Steps) {
-        let (words, length) = (&mut *self.words, self.length);
-        shifts::join_up::<Or>(words, other.words, by, steps);
-        positions::clear_from(words, length);
+        let length = self.length;
+        let used = length.div_ceil(BITS);
+        tick_unjoined(self.words.len(), used, other.words.len(), by, steps);
+        let row = &mut self.words[..used];
+        shifts::join_up::<Or>(row, other.words, by, steps);
+        positions::clear_from(row, length);
     }
 
     /// Takes in each position of the set itself moved up by `by`, as far as it is
@@ -192,4 +195,21 @@ fn tick_unmoved_up(words: usize, used: usize, by: usize, steps: &mut Steps) {
     if used < first && first <= words && by % BITS > 0 {
         steps.tick();
     }
+}
+
+// The same where they are joined with words of another row that are moved up.
+#[inline(always)]
+fn tick_unjoined(words: usize, used: usize, other: usize, by: usize, steps: &mut Steps) {
+    let joined = joined_lanes(used, other, by);
+    for _ in 0..joined_lanes(words, other, by).saturating_sub(joined) {
+        steps.tick();
+    }
+}
+
+// How many steps it takes to join so many words with others that are moved up.
+#[inline(always)]
+fn joined_lanes(words: usize, other: usize, by: usize) -> usize {
+    let room = words.saturating_sub(by / BITS);
+    let split = (by % BITS).min(1);
+    split.min(room.min(other)) + room.saturating_sub(split).min(other).div_ceil(LANE)
 }

@@ -22,7 +22,7 @@ impl<'a> Bits<'a> {
     /// ```
     #[inline(always)]
     pub fn ones(self) -> Cursor<Plain<'a>> {
-        let words = self.as_slice();
+        let words = self.as_slice().iter();
         Cursor::over(Plain { words })
     }
 
