@@ -52,8 +52,8 @@
 //! is a node too, and so is each boundary), and one more, which is proved.
 //!
 //! Proved is the solver, for edges in any order and any sets: it returns the least solution of its equations
-//! ([contract](crate::contracts#flowsolve)). Glue, which is tested, are the order of the edges, the direction, the complements
-//! by which the least solution becomes the greatest one, and the boundaries.
+//! ([contract](crate::contracts#flowsolve)). Glue, which is tested, are the copies of its first sets, the order of the edges, the
+//! direction, the complements by which the least solution becomes the greatest one, and the boundaries.
 use crate::memory::OrAbort;
 use crate::proved::fixedbitset::FixedBitSet;
 use crate::proved::flow;
