@@ -255,6 +255,33 @@ def meaning(d):
     return fault(d) or of_octets(d["length"], d["data"])
 
 
+# ---- data-flow problems
+
+def solves(edges, gens, kills, ins, outs, over=all):
+    """Whether these sets solve the equations over all paths, or over `any`."""
+    return all(contains(ins[v], p) == over(contains(outs[u], p) for u, w in edges if w == v)
+               and contains(outs[v], p) == (contains(gens[v], p) or contains(ins[v], p) and not contains(kills[v], p))
+               for v in range(len(gens)) for p in range(gens[v].length))
+
+
+def least(edges, gens, kills):
+    """The least solution over any path."""
+    ins, outs = [empty(gen.length) for gen in gens], gens
+    while not solves(edges, gens, kills, ins, outs, any):
+        ins = [having(gen.length, lambda p: any(contains(outs[u], p) for u, w in edges if w == v)) for v, gen in enumerate(gens)]
+        outs = [union(gen, difference(came, kill)) for gen, came, kill in zip(gens, ins, kills)]
+    return ins, outs
+
+
+def lost(gens, kills):
+    return [difference(kill, gen) for gen, kill in zip(gens, kills)]
+
+
+def complements(two):
+    """Of the sets before the nodes and of those behind them."""
+    return [[complement(v) for v in sets] for sets in two]
+
+
 # ---- calls of an iterator
 
 def called(items, ends):

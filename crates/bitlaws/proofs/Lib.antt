@@ -1,10 +1,11 @@
 mod OneList
 mod OfNumbers
 mod OfRanges
-mod OfRuns
+pub mod OfRuns
 mod OfTwoSets
 mod OfJoins
 mod OfOrder
 mod OfPieces
 mod OfPlaced
+mod OfFlow
 pub mod OfWalks

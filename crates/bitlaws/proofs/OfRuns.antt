@@ -1,19 +1,21 @@
 -- The stretches of the numbers that pass, one after the other.
 use Rattle.std.proofs.Common.{inl, inr, ◌⊎◌, ◌≡◌, ℕ, zero, suc, ◌+◌, ◌-◌, ◌<◌, ◌≤◌, Bool, true}
-use Rattle.std.proofs.Common.{false, not, ◌∷◌, map, refl, sym, ap, ◌∙◌, subst, arith, ⊎_elim}
+use Rattle.std.proofs.Common.{false, not, ◌&&◌, nat_le, ◌∷◌, map, refl, sym, ap, ◌∙◌, subst, arith, ⊎_elim}
 use Rattle.std.proofs.lemmas.Bool.{not-true, not-false, cases_eq, true≢false}
 use Rattle.std.proofs.lemmas.Bool.Decides.{nat_tests}
 use Rattle.bitwords.specs.AscendingFacts.{ascending-none, first-from}
+use Rattle.bitwords.specs.Gaps.{is_multiple}
 use Rattle.bitwords.specs.Neighbours.{IsNext, NonePasses}
 use Rattle.bitwords.specs.NextFacts.{least}
 use Rattle.bitwords.specs.Runs.{begins, end_from, stretches}
 use Rattle.bitwords.specs.RunsFacts.{around, none_begin, ends_at, ends_last}
 use Rattle.bitlaws.specs.RunLaws.{AreStretches, RunsAreTheSet, ZeroRunsAreTheOthers, RoomTells, GapIsLeast}
+use Rattle.bitlaws.specs.RunLaws.{AlignedGapIsLeast}
 use Rattle.fixedbitset.specs.Bits.{contains, complement}
 use Rattle.fixedbitset.specs.BitsFacts.{length-complement}
 use Rattle.fixedbitset.specs.RangesFacts.{contains_any-tells}
 use Rattle.fixedbitset.specs.Ranges.{contains_any}
-use Rattle.fixedbitset.specs.Runs.{runs, zero_runs, has_room, first_gap}
+use Rattle.fixedbitset.specs.Runs.{runs, zero_runs, has_room, first_gap, first_aligned_gap}
 
 module _ (test : ℕ → Bool) (n : ℕ) where
   -- what begins at `low` is not cut by it
@@ -132,3 +134,25 @@ gap_is_least v count from =
   where
     past : (q : ℕ) → has_room v count q ≡ true → q < v.length + 1
     past q holds = omega (arith, ((room_tells v count q).0 holds).0)
+
+pub aligned_gap_is_least : AlignedGapIsLeast
+unfolding first_aligned_gap
+aligned_gap_is_least v count align start end =
+    let room : ℕ → Bool = λ p. is_multiple align p && (nat_le (p + count) end && has_room v count p) in
+    let steps : ℕ = end + 1 - start in
+    ⊎_elim
+    (λ (none : NonePasses room start (start + steps)).
+    rw (ascending-none room start steps none) (λ p above multiple within holds.
+    grind (arith, nat_tests, none p)))
+    (λ (found : (p : ℕ) × IsNext room start (start + steps) p).
+    let next = found.1 in
+    let passes : room found.0 ≡ true = next.passes in
+    rw (first-from room start steps found.0 next.after next.below next.passes next.none) (
+      next.after,
+      grind (arith, nat_tests, passes),
+      grind (arith, nat_tests, passes),
+      grind (arith, nat_tests, passes),
+      λ q above multiple within holds.
+          grind (arith, nat_tests, next.none q),
+    ))
+    (least room steps start (start + steps) refl)

@@ -10,3 +10,4 @@ pub mod InForm
 pub mod JsonLaws
 pub mod Pieces
 pub mod PieceLaws
+pub mod FlowLaws

@@ -1,8 +1,9 @@
 -- What the runs of a set are.
 use Rattle.std.specs.Prelude.{◌≡◌, ◌↔◌, ℕ, ◌+◌, ◌<◌, ◌≤◌, Bool, true, false, IsTrue, MatchOption, List, [], ◌∷◌}
+use Rattle.bitwords.specs.Gaps.{is_multiple}
 use Rattle.bitwords.specs.Neighbours.{NonePasses}
 use Rattle.fixedbitset.specs.Bits.{Bits, contains, complement}
-use Rattle.fixedbitset.specs.Runs.{runs, zero_runs, has_room, first_gap}
+use Rattle.fixedbitset.specs.Runs.{runs, zero_runs, has_room, first_gap, first_aligned_gap}
 
 -- from `low` up to n these are the numbers that pass, as start and end: none before a stretch passes, each number of it
 -- does, and the one behind it does not
@@ -32,3 +33,10 @@ abbrev pub GapIsLeast : Type 0
 GapIsLeast = (v : Bits) (count from : ℕ) → MatchOption (first_gap v count from)
     ((p : ℕ) → from ≤ p → ¬ (IsTrue (has_room v count p)))
     (λ p. (from ≤ p) × IsTrue (has_room v count p) × ((q : ℕ) → from ≤ q → IsTrue (has_room v count q) → p ≤ q))
+
+-- the first gap at a multiple is the least one of these numbers with room before the end
+abbrev pub AlignedGapIsLeast : Type 0
+AlignedGapIsLeast = (v : Bits) (count align start end : ℕ) → MatchOption (first_aligned_gap count align v start end)
+    ((p : ℕ) → start ≤ p → IsTrue (is_multiple align p) → p + count ≤ end → ¬ (IsTrue (has_room v count p)))
+    (λ p. (start ≤ p) × IsTrue (is_multiple align p) × (p + count ≤ end) × IsTrue (has_room v count p)
+    × ((q : ℕ) → start ≤ q → IsTrue (is_multiple align q) → q + count ≤ end → IsTrue (has_room v count q) → p ≤ q))

@@ -1,6 +1,7 @@
 //! Each function here does nothing: its contract is a law, which holds for all values.
 
 ghost use Rattle.bitlaws.specs.AscendingLaws.{OneAscendingList};
+ghost use Rattle.bitlaws.specs.FlowLaws.{SolvesByComplement, GreatestByComplement};
 ghost use Rattle.bitlaws.specs.JoinLaws.{Commutes, Associates, IsIdempotent};
 ghost use Rattle.bitlaws.specs.JoinLaws.{Absorbs, Distributes, IntersectionIsBitand};
 ghost use Rattle.bitlaws.specs.JoinLaws.{SubsetOfItself, SubsetThrough, SameSubsets};
@@ -15,6 +16,7 @@ ghost use Rattle.bitlaws.specs.RangeLaws.{WordsOfRange, NumberOfRangeWords, Rang
 ghost use Rattle.bitlaws.specs.RangeLaws.{SearchBound, TogglingTwice, RangeCountsAddUp};
 ghost use Rattle.bitlaws.specs.RangeLaws.{IsValidTells, ContainsAllTells, ContainsAnyTells};
 ghost use Rattle.bitlaws.specs.RunLaws.{RunsAreTheSet, ZeroRunsAreTheOthers, RoomTells, GapIsLeast};
+ghost use Rattle.bitlaws.specs.RunLaws.{AlignedGapIsLeast};
 ghost use Rattle.bitlaws.specs.SetLaws.{ClearHasNone, FullHasAll, InsertAddsOne, InsertKeeps};
 ghost use Rattle.bitlaws.specs.SetLaws.{RemoveTakesOne, RemoveKeeps, WordsReadBack};
 ghost use Rattle.bitlaws.specs.SetLaws.{StoredReadsBack, LoadedStays};
@@ -83,7 +85,8 @@ pub fn runs_are_the_set()
 {}
 
 /// `first_gap` returns the least number with room, and `None` exactly where no number has room.
-/// There is room where the positions are below the length and none of them is set.
+/// There is room where the positions are below the length and none of them is set. So does
+/// `first_aligned_gap` among the multiples.
 ///
 /// ```
 /// let set = FixedBitSet::from_iter(alloc, [3, 4, 9])?;
@@ -93,6 +96,7 @@ pub fn runs_are_the_set()
 pub fn first_gap_is_least()
     ensures room { RoomTells }
     ensures least { GapIsLeast }
+    ensures aligned { AlignedGapIsLeast }
 {}
 
 /// Which JSON values are in the form, and which error the others have. It is the first of these
@@ -459,4 +463,23 @@ pub fn order_tells()
 pub fn ends_of_a_set()
     ensures minimum { MinimumIsLeast }
     ensures maximum { MaximumIsGreatest }
+{}
+
+/// A data-flow problem over all paths, as available expressions are: ask the solver for the facts
+/// that are lost on some path, where a node generates what it kills and does not generate, and
+/// kills what it generates. The complements of the solution are the greatest solution over all
+/// paths.
+///
+/// ```
+/// let none = FixedBitSet::with_capacity(alloc, 1)?;
+/// let one = FixedBitSet::from_iter(alloc, [0])?;
+/// let gens = [one.clone()?, none.clone()?];
+/// let lost = [none, one];
+/// laws::greatest_by_complement();
+/// let found = flow::solve(alloc, 1, &[(0, 1)], &lost, &gens, &mut Steps::new())?;
+/// assert!(rt; found.outs.iter().map(|set| !set.contains(0)).eq([true, false]));
+/// ```
+pub fn greatest_by_complement()
+    ensures solves { SolvesByComplement }
+    ensures greatest { GreatestByComplement }
 {}

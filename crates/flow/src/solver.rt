@@ -81,7 +81,11 @@ fn start(alloc: Global, facts: usize, gens: &[FixedBitSet]) -> Result<Solution, 
         ≡ replicate (length gens.now) (model.empty facts)) }
     ensures outs { IfOk result (λ start. start.outs.items ≡ gens.now) }
 {
-    let ins = vec![in alloc; FixedBitSet::with_capacity(alloc, facts)?; gens.len()]?;
-    let outs = gens.to_vec(alloc)?;
+    let mut ins = Vec::with_capacity(alloc, gens.len())?;
+    let mut outs = Vec::with_capacity(alloc, gens.len())?;
+    for out in gens {
+        ins.push(FixedBitSet::with_capacity(alloc, facts)?)?;
+        outs.push(FixedBitSet::from_bits(alloc, out.as_bits())?)?;
+    }
     Ok(Solution { ins, outs })
 }

@@ -193,3 +193,23 @@ fn ends_of_a_set(rt: HostRuntime) {
     laws::ends_of_a_set();
     holds(&rt, set.minimum() == Some(3) && set.maximum() == Some(64));
 }
+
+#[test]
+#[tactic(auto, using(fixedbitset::specs::BitsFacts::facts))]
+fn greatest_by_complement(rt: HostRuntime) {
+    let alloc = rt.alloc();
+    let none = cleared(&rt, alloc, 1);
+    let one = set_of(&rt, alloc, &[0]);
+    let gens = [ok(&rt, one.clone()), ok(&rt, none.clone())];
+    let lost = [none, one];
+    laws::greatest_by_complement();
+    let found = ok(
+        &rt,
+        flow::solve(alloc, 1, &[(0, 1)], &lost, &gens, &mut Steps::new()),
+    );
+    gives(
+        &rt,
+        found.outs.iter().map(|set| !set.contains(0)),
+        &[true, false],
+    );
+}

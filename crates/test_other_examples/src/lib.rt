@@ -80,6 +80,8 @@ mod shifts;
 #[cfg(test)]
 mod sieve;
 #[cfg(test)]
+mod slots;
+#[cfg(test)]
 mod table;
 #[cfg(test)]
 mod values;

@@ -34,7 +34,7 @@ pub const REFUSABLE: &[&[(&str, Call)]; 4] = &[
 ];
 
 /// The groups of calls that take none.
-pub const PLAIN: &[&[(&str, Call)]; 3] = &[plain::GROUPS, walking::WALKS, OTHERS];
+pub const PLAIN: &[&[(&str, Call)]; 4] = &[plain::GROUPS, walking::WALKS, solving::PLAIN, OTHERS];
 
 const OTHERS: &[(&str, Call); 2] = &[("words", Call::Words), ("lines", Call::Lines)];
 

@@ -4,7 +4,7 @@ use crate::calls::Call;
 use crate::outcome::Fault;
 use crate::starts::{Nodes, Starts, is_value};
 use fixedbitset::{FixedBitSet, Steps};
-use flow::{is_problem, solve};
+use flow::{Solution, is_problem, solve, solve_in_order};
 use std::alloc::Global;
 
 /// A problem and its least solution: the facts of each node, one list after the other.
@@ -66,16 +66,19 @@ pub const PROBLEMS: &[Problem; 5] = &[
     },
 ];
 
-/// Each problem by its place in that list.
-pub const CALLS: &[(&str, Call); 5] = &[
+/// The problems that have nodes, each by its place in that list.
+pub const CALLS: &[(&str, Call); 4] = &[
     ("solve of four nodes", Call::Problem(0)),
     ("solve of a loop", Call::Problem(1)),
     ("solve of one node", Call::Problem(2)),
     ("solve of no facts", Call::Problem(3)),
-    ("solve of no nodes", Call::Problem(4)),
 ];
 
-/// Solves the problem at this place, looks at the result, and that the sets of the problem stay.
+/// The problem that has none, whose solution has no set.
+pub const PLAIN: &[(&str, Call); 1] = &[("solve of no nodes", Call::Problem(4))];
+
+/// Solves the problem at this place, with the edges as they stand and by the order of the flow,
+/// looks at the results, and that the sets of the problem stay.
 pub fn solved(alloc: Global, starts: &Starts, place: usize) -> Result<bool, Fault> {
     match (PROBLEMS.get(place), starts.nodes.get(place)) {
         (Some(problem), Some(nodes)) => solved_of(alloc, nodes, problem),
@@ -104,7 +107,13 @@ fn answered(
         return Ok(false);
     }
     let answer = solve(alloc, facts, edges, gens, kills, &mut Steps::new())?;
-    Ok(are(&answer.ins, facts, problem.ins) && are(&answer.outs, facts, problem.outs))
+    let ordered = solve_in_order(alloc, facts, edges, gens, kills, &mut Steps::new())?;
+    Ok(is_solution(&answer, problem) && is_solution(&ordered, problem))
+}
+
+// Whether these are the sets of the problem's solution.
+fn is_solution(answer: &Solution, problem: &Problem) -> bool {
+    are(&answer.ins, problem.facts, problem.ins) && are(&answer.outs, problem.facts, problem.outs)
 }
 
 // Whether the sets have this length and these positions, one after the other.

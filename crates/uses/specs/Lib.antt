@@ -11,8 +11,6 @@ pub mod Primes
 -- reach
 pub mod Reach
 -- slots
-pub mod Pool
-pub mod Calls
 pub mod Commands
 -- subsets
 pub mod Automata

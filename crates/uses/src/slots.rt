@@ -16,18 +16,18 @@
 //! Where some line is not as said here, nothing is printed but one sentence on standard error with
 //! the number of that line, and the status is 1.
 
-ghost use Rattle.std.specs.Prelude.{◌+◌, ◌≤◌, OnOk, IfErr, IfSome, MatchOption};
+ghost use Rattle.std.specs.Prelude.{◌≡◌, ◌≢◌, ◌+◌, ◌<◌, ◌≤◌};
+ghost use Rattle.std.specs.Prelude.{OnOk, IfErr, IfNone, IfSome, MatchOption};
+ghost use Rattle.bitslots.specs.Slots.{IsFree, IsLeastFree, IsTaken, IsTakenStretch, free_count};
+ghost use Rattle.fixedbitset.specs.Bits as model;
 ghost use Rattle.uses.specs.Faults.{AreAll, IsFaultOfRow};
 ghost use Rattle.uses.specs.Commands.{IsCommand};
-ghost use Rattle.uses.specs.Pool.{IsTakenStretch};
 
 use crate::text::first::{Said, first_number};
 use crate::text::{Fault, Row, Wrong};
-use pool::{Slots, never_twice, take_two};
+use bitslots::{Slots, never_twice};
 use std::alloc::{AllocError, Global};
 use std::fmt::Write;
-
-mod pool;
 
 // How many slots there may be.
 const LIMIT: usize = 1_000_000;
@@ -142,4 +142,25 @@ fn write_free(slots: &mut Slots, answers: &mut String) -> Result<(), AllocError>
         write!(answers, ": {first} {second}")?;
     }
     answers.push_str("\n")
+}
+
+// Takes the least free slot and then the least one that is left, or none where fewer than two are
+// free.
+#[tactic(auto, using(crate::proofs::Pools::two_taken))]
+fn take_two(slots: &mut Slots) -> Option<(usize, usize)>
+    ensures few { IfNone result ((free_count slots.old < 2) × (slots.new ≡ slots.old)) }
+    ensures first { IfSome result (λ two. IsLeastFree slots.old two.0) }
+    ensures second { IfSome result (λ two. IsLeastFree (model.insert slots.old two.0) two.1) }
+    ensures after { IfSome result (λ two.
+        slots.new ≡ model.insert (model.insert slots.old two.0) two.1) }
+    ensures apart { IfSome result (λ two. two.0 ≢ two.1) }
+    ensures were_free { IfSome result (λ two. IsFree slots.old two.0 × IsFree slots.old two.1) }
+    ensures are_taken { IfSome result (λ two. IsTaken slots.new two.0 × IsTaken slots.new two.1) }
+{
+    if slots.free() < 2 {
+        return None;
+    }
+    let first = slots.take()?;
+    let second = slots.take()?;
+    Some((first, second))
 }

@@ -10,7 +10,7 @@ ghost use Rattle.flow.specs.Flow.{Has, IsFor, IsProblem};
 ghost use Rattle.uses.specs.Live.{IsLive};
 
 use fixedbitset::{FixedBitSet, Steps};
-use flow::{Solution, solve};
+use flow::{Solution, solve_in_order};
 use std::alloc::{AllocError, Global};
 
 /// For each statement the variables that are live before it: those for which a path from it reaches
@@ -35,7 +35,7 @@ pub fn live_before(
         → Has live.items s x ↔ IsLive next.now uses.now defines.now x s) }
 {
     let back = turned(alloc, next)?;
-    let Solution { ins: _, outs } = solve(
+    let Solution { ins: _, outs } = solve_in_order(
         alloc,
         variables,
         &back,

@@ -3,8 +3,8 @@ use Rattle.flow.specs.Flow.{IsProblem, ArePaths}
 use Rattle.uses.proofs.Backwards.{turned, turned_problem, live_exactly}
 use Rattle.uses.proofs.live.variables.live_before.Goals as goal
 
-pub solve-requires : goal.solve-requires
-solve-requires c =
+pub solve_in_order-requires : goal.solve_in_order-requires
+solve_in_order-requires c =
     subst (λ edges. IsProblem c.args.variables edges c.args.uses.now c.args.defines.now)
     (sym (c.deref.ensures.value ∙ c.in_ok-back.ensures))
     (turned_problem c.args.variables c.args.next.now c.args.uses.now c.args.defines.now c.requires)

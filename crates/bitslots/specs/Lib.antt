@@ -1,0 +1,5 @@
+-- to believe
+pub mod Slots
+pub mod Calls
+-- private
+pub mod Low
