@@ -17,17 +17,20 @@ TEXT = re.compile(r'(?<![A-Za-z0-9_])"[A-Za-z0-9 ]*"|b\'[A-Za-z0-9]\'')
 # Texts, bytes and characters with all that Rust has in them on one line.
 ALL_TEXTS = re.compile(r'(?<![A-Za-z0-9_])b?"(?:[^"\\\n]|\\[nrt0"\'\\])*"'
                        r"|(?<![A-Za-z0-9_])b?'(?:[^'\\\n]|\\(?:[nrt0\"'\\]|u\{[0-9a-f]{1,6}\}))'")
+CODE = {"name", "lifetime", "number", "text", "mark"}
 CLOSING = {"(": ")", "[": "]", "{": "}"}
 
 
 class Token:
     """A piece of a source: `kind` is space, doc, note, name, lifetime, number, text, mark, clause, member or lost; `at` its place."""
 
+    __slots__ = ("kind", "text", "at")
+
     def __init__(self, kind, text, at):
         self.kind, self.text, self.at = kind, text, at
 
     def is_code(self):
-        return self.kind in ("name", "lifetime", "number", "text", "mark")
+        return self.kind in CODE
 
     def is_mark(self, text):
         return self.kind == "mark" and self.text == text
@@ -125,7 +128,7 @@ class Source:
             self.refuse("a term in braces has to stand here")
         depth = 1
         while depth:
-            self.take(r'"[:]"')
+            self.take(r"""[^{}"'/-]*(?:"[:]")?""")
             char = self.text[self.at : self.at + 1]
             if char in ("", '"', "'") or self.text.startswith(("--", "//", "/*", "{-"), self.at):
                 self.refuse(f"{char!r} in a term")
@@ -149,7 +152,7 @@ def end_of(tokens, at):
 
 
 def words_of(tokens):
-    return [token.text for token in tokens if token.is_code()]
+    return [token.text for token in tokens if token.kind in CODE]
 
 
 def code(tokens):

@@ -19,30 +19,18 @@ CRATES = {
         "walks", "whole"],
     "bitranks": ["counted", "directory", "ranks"],
     "bitrows": ["counted", "table", "views", "views/changes", "views/reads"],
-    "flow": ["problem", "rounds", "solver"],
+    "flow": ["postorder", "problem", "rounds", "solver"],
+    "bitslots": ["slots"],
 }
 # The items that are written otherwise, by their source. `Block` is `usize` where that has 64 bits, as upstream's is, else `u64`.
 # A text of ASCII digits is made with no test in Rattle, which in Rust is `unsafe`. The solver counts its rounds by a number that
-# Rust reads too, and its first sets take their memory as the caller says, where a copy of a set would end the program.
+# Rust reads too.
 WRITTEN = {
     ("crates/bitlanes/src/word.rt", "pub type Block = u64 ;"): "pub use shim::Block;",
     ("crates/fixedbitset/src/text.rt",
      "fn text_of ( digits : & [ u8 ] ) -> & str { unsafe { str :: from_utf8_unchecked ( digits ) } }"): "use shim::text_of;",
     **{(f"crates/flow/src/{it}.rt", "use fixedbitset :: { FixedBitSet , Steps } ;"): "use fixedbitset::FixedBitSet;\nuse shim::Steps;"
-       for it in ("rounds", "solver")},
-    ("crates/flow/src/solver.rt",
-     "fn start ( alloc : Global , facts : usize , gens : & [ FixedBitSet ] ) -> Result < Solution , AllocError > { let ins = vec ! [ in "
-     "alloc ; FixedBitSet :: with_capacity ( alloc , facts ) ? ; gens . len ( ) ] ? ; let outs = gens . to_vec ( alloc ) ? ; Ok ( "
-     "Solution { ins , outs } ) }"):
-    """fn start(alloc: Global, facts: usize, gens: &[FixedBitSet]) -> Result<Solution, AllocError> {
-    let mut ins = Vec::with_capacity(alloc, gens.len())?;
-    let mut outs = Vec::with_capacity(alloc, gens.len())?;
-    for out in gens {
-        ins.push(FixedBitSet::with_capacity(alloc, facts)?)?;
-        outs.push(FixedBitSet::from_bits(alloc, out.as_bits())?)?;
-    }
-    Ok(Solution { ins, outs })
-}""",
+       for it in ("postorder", "rounds", "solver")},
 }
 # The functions that Rust calls in constants too, by their source: the length of an array is the number of words of a set.
 CONSTANT = {("crates/fixedbitset/src/views/positions.rt", "fn storage_words")}
@@ -99,7 +87,7 @@ MEMBERS = {"cmp": {"Ordering"}, "iter": {"FusedIterator"}, "marker": {"PhantomDa
 METHODS = set("checked_add checked_mul checked_next_multiple_of checked_sub div_ceil leading_zeros max min saturating_add "
               "saturating_sub trailing_zeros copied is_none split_at_mut split_first unwrap_or rev copy_to_slice "
               "reduce_or to_array wrapping_add wrapping_sub iter enumerate zip map map_err into_iter allocator as_mut_slice "
-              "copy_from_slice extend_from_slice alternate write_str all push".split())
+              "copy_from_slice extend_from_slice alternate write_str all pop push".split())
 # The closures that may stand.
 CLOSURES = {". map ( | ( word , other ) | O :: word ( * word , * other ) )", ". map_err ( | _ | ExtendFault :: Memory )",
             ". all ( | set | set . len ( ) == facts )", ". all ( | ( from , to ) | * from < nodes && * to < nodes )"}
@@ -145,6 +133,10 @@ class Target:
 
     def members_of(self, name):
         return MEMBERS.get(name, set()) | self.members.get(name, set())
+
+    def marks(self):
+        """Those of its words by which a source is parted: all that are no names."""
+        return frozenset(it for it in self.words if not it.isidentifier())
 
     def modules(self):
         """The modules of each crate that is named: those that are made, and those below."""

@@ -75,7 +75,7 @@ impl<const WORDS: usize> ArrayBitSet<WORDS> {
 
     /// A copy of a set, or `None` where its length needs another number of words.
     ///
-    /// Not proved: it copies the words.
+    /// Proved: that the words are those of a set ([contract](crate::contracts#fixedbitsetbitsover)). That they are copied is not.
     ///
     /// ```
     /// # use fixedbitset::{ArrayBitSet, FixedBitSet};
@@ -86,8 +86,7 @@ impl<const WORDS: usize> ArrayBitSet<WORDS> {
     #[inline]
     #[must_use]
     pub fn from_bits(set: Bits<'_>) -> Option<Self> {
-        let (words, length) = (set.view.words.try_into().ok()?, set.len());
-        Some(ArrayBitSet { words, length })
+        Self::over(set.view.words.try_into().ok()?, set.len())
     }
 
     /// [`FixedBitSet::len`](crate::FixedBitSet::len).

@@ -46,14 +46,16 @@
 //!
 //! # What it costs
 //!
-//! The solver goes in rounds over all edges until no set changes. [`solve`](Problem::solve) sorts the edges by a reverse postorder
-//! first. Then it takes two rounds more, at most, than there are edges against that order on a path that comes to no node twice:
-//! about as many as loops stand within each other. In any order it takes at most one round for each fact of each node (the outside
-//! is a node too, and so is each boundary), and one more, which is proved.
+//! The solver goes in rounds over all edges until no set changes. A round takes them by a reverse postorder of the nodes that
+//! they leave. So there are two rounds more, at most, than there are edges against that order on a path that comes to no node
+//! twice: about as many as loops stand within each other. In any order it takes at most one round for each fact of each node (the
+//! outside is a node too, and so is each boundary), and one more, which is proved.
 //!
-//! Proved is the solver, for edges in any order and any sets: it returns the least solution of its equations
-//! ([contract](crate::contracts#flowsolve)). Glue, which is tested, are the copies of its first sets, the order of the edges, the
-//! direction, the complements by which the least solution becomes the greatest one, and the boundaries.
+//! Proved is the solver, for all edges and sets: it returns the least solution of its equations
+//! ([contract](crate::contracts#flowsolve_in_order)), and goes over each edge that it is given; only tests show in which order.
+//! So is a law: that the complement of the least solution for the facts that are lost is the greatest one by intersection
+//! (`bitlaws::laws::greatest_by_complement`). Glue, which is tested, are the direction, the edges from outside, the boundaries,
+//! and that the sets of lost facts and the complements are made so.
 use crate::memory::OrAbort;
 use crate::proved::fixedbitset::FixedBitSet;
 use crate::proved::flow;
@@ -104,8 +106,8 @@ pub enum Meet {
 
 /// Nodes with what each of them generates and kills, and edges.
 ///
-/// Proved: that the solver returns the least solution of its equations ([contract](crate::contracts#flowsolve)). The module's
-/// page says what is glue.
+/// Proved: that the solver returns the least solution of its equations
+/// ([contract](crate::contracts#flowsolve_in_order)). The module's page says what is glue.
 ///
 /// ```
 /// # use fixedbitset::dataflow::{Direction, Meet, Problem};
@@ -132,8 +134,8 @@ pub struct Problem {
 
 /// The facts that hold before and after each node.
 ///
-/// Proved: that the solver's solution is the least one ([contract](crate::contracts#flowsolve)). The module's page says what is
-/// glue.
+/// Proved: that the solver's solution is the least one ([contract](crate::contracts#flowsolve_in_order)). The module's page
+/// says what is glue.
 ///
 /// ```
 /// # use fixedbitset::dataflow::{Direction, Meet, Problem};
@@ -154,7 +156,7 @@ pub struct Solution {
 /// Sets, by the numbers of their nodes.
 struct Sets(row::Vec<FixedBitSet>);
 
-/// Edges, in the order in which the solver goes over them.
+/// Edges, as the solver is given them.
 type Edges = row::Vec<(usize, usize)>;
 
 impl Problem {
@@ -163,7 +165,8 @@ impl Problem {
     ///
     /// Where an allocation fails the program ends; of this module [`try_solve`](Self::try_solve) alone returns an error instead.
     ///
-    /// Not proved: it makes empty sets.
+    /// Proved: that a set is empty ([contract](crate::contracts#fixedbitsetfixedbitsetwith_capacity)). That each node has two is
+    /// not.
     ///
     /// ```
     /// # use fixedbitset::dataflow::{Direction, Meet, Problem};
@@ -313,7 +316,7 @@ impl Problem {
     /// Where an allocation fails the program ends; [`try_solve`](Self::try_solve) returns an error instead.
     ///
     /// Proved: that the solver returns the least solution of its equations, for all sets and edges
-    /// ([contract](crate::contracts#flowsolve)). The module's page says what is glue.
+    /// ([contract](crate::contracts#flowsolve_in_order)). The module's page says what is glue.
     ///
     /// ```
     /// # use fixedbitset::dataflow::{Direction, Meet, Problem};
@@ -332,7 +335,7 @@ impl Problem {
     /// [`solve`](Self::solve), which returns an error if an allocation fails.
     ///
     /// Proved: that the solver returns the least solution of its equations, for all sets and edges
-    /// ([contract](crate::contracts#flowsolve)).
+    /// ([contract](crate::contracts#flowsolve_in_order)).
     ///
     /// ```
     /// # use fixedbitset::dataflow::{Direction, Meet, Problem};
@@ -363,7 +366,7 @@ impl Problem {
             Meet::Union => (&self.gens.0, &self.kills.0),
             Meet::Intersection => (&lost, &self.gens.0),
         };
-        let found = flow::solve(alloc, self.facts, &edges, gens, kills, &mut rounds)?;
+        let found = flow::solve_in_order(alloc, self.facts, &edges, gens, kills, &mut rounds)?;
         let mut sets = [found.ins, found.outs];
         for set in &mut sets {
             set.truncate(self.nodes());
@@ -377,35 +380,15 @@ impl Problem {
         Ok(Solution { sets, rounds })
     }
 
-    /// The edges in the direction, and one from outside to each node that has a boundary or that no other edge leads to. They
-    /// are sorted by a reverse postorder of their nodes.
+    /// The edges in the direction, and one from outside to each node that has a boundary or that no other edge leads to.
     fn edges_along(&self, alloc: Global, way: Direction) -> Result<Edges, AllocError> {
-        let (nodes, count) = (self.nodes(), self.gens.0.len());
+        let nodes = self.nodes();
         let mut edges = Edges::with_capacity(alloc, self.edges.len().saturating_add(nodes))?;
         edges.extend((self.edges.iter()).map(|&(a, b)| [(a, b), (b, a)][way as usize]))?;
         let mut inner = FixedBitSet::with_capacity(alloc, nodes)?;
         edges.iter().for_each(|&(_, to)| inner.insert(to));
         let entries = (0..nodes).filter(|&it| self.outsides[it] != nodes || !inner.contains(it));
         edges.extend(entries.map(|node| (self.outsides[node], node)))?;
-        edges.sort_unstable();
-        // A node is unseen, then open, with what it leads to above it, and then it has its place.
-        let (unseen, open, mut left) = (count, count + 1, count);
-        let mut places = row::Vec::filled(alloc, unseen, count)?;
-        let mut path = row::Vec::with_capacity(alloc, 2 * (edges.len() + count))?;
-        path.extend((0..nodes).rev().chain(nodes..count))?;
-        while let Some(node) = path.pop() {
-            if places[node] == unseen {
-                places[node] = open;
-                path.push(node)?;
-                let next = &edges[edges.partition_point(|edge| edge.0 < node)..];
-                let next = next.iter().take_while(|edge| edge.0 == node);
-                path.extend(next.map(|edge| edge.1).filter(|&to| places[to] == unseen))?;
-            } else if places[node] == open {
-                left -= 1;
-                places[node] = left;
-            }
-        }
-        edges.sort_unstable_by_key(|&(from, to)| (places[from], places[to]));
         Ok(edges)
     }
 }
@@ -427,7 +410,7 @@ impl Solution {
     ///
     /// **Panics** where there is no such node.
     ///
-    /// Proved: that the solver's sets are the least solution ([contract](crate::contracts#flowsolve)).
+    /// Proved: that the solver's sets are the least solution ([contract](crate::contracts#flowsolve_in_order)).
     ///
     /// ```
     /// # use fixedbitset::dataflow::{Direction, Meet, Problem};
@@ -447,7 +430,7 @@ impl Solution {
     ///
     /// **Panics** where there is no such node.
     ///
-    /// Proved: that the solver's sets are the least solution ([contract](crate::contracts#flowsolve)).
+    /// Proved: that the solver's sets are the least solution ([contract](crate::contracts#flowsolve_in_order)).
     ///
     /// ```
     /// # use fixedbitset::dataflow::{Direction, Meet, Problem};
@@ -466,7 +449,7 @@ impl Solution {
     /// How many rounds over all edges the solver went, with the last one, in which no set changed.
     ///
     /// Proved: that it is at least one, and at most one more than all facts of all nodes, the outside and the boundaries among
-    /// them ([contract](crate::contracts#flowsolve)).
+    /// them ([contract](crate::contracts#flowsolve_in_order)).
     ///
     /// ```
     /// # use fixedbitset::dataflow::{Direction, Meet, Problem};

@@ -16,7 +16,7 @@ fn bitjson_bytes_16() {
     use crate::proved::bitlanes::{word, Block, IndexRange, Steps};
     use crate::proved::bitwalks::in_turn::*;
     use crate::proved::bitwords::cursors::*;
-    use crate::proved::{bitranks, flow};
+    use crate::proved::{bitranks, bitslots, flow};
     use crate::proved::fixedbitset::{Bits, BitsMut, ExtendFault, FixedBitSet};
     use crate::proved::bitjson::*;
     use crate::shim::alloc::Global;
@@ -36,7 +36,7 @@ fn bitjson_bytes_30() {
     use crate::proved::bitlanes::{word, Block, IndexRange, Steps};
     use crate::proved::bitwalks::in_turn::*;
     use crate::proved::bitwords::cursors::*;
-    use crate::proved::{bitranks, flow};
+    use crate::proved::{bitranks, bitslots, flow};
     use crate::proved::fixedbitset::{Bits, BitsMut, ExtendFault, FixedBitSet};
     use crate::proved::bitjson::*;
     use crate::shim::alloc::Global;
@@ -56,7 +56,7 @@ fn bitjson_fills_11() {
     use crate::proved::bitlanes::{word, Block, IndexRange, Steps};
     use crate::proved::bitwalks::in_turn::*;
     use crate::proved::bitwords::cursors::*;
-    use crate::proved::{bitranks, flow};
+    use crate::proved::{bitranks, bitslots, flow};
     use crate::proved::fixedbitset::{Bits, BitsMut, ExtendFault, FixedBitSet};
     use crate::proved::bitjson::*;
     use crate::shim::alloc::Global;
@@ -76,7 +76,7 @@ fn bitjson_fills_28() {
     use crate::proved::bitlanes::{word, Block, IndexRange, Steps};
     use crate::proved::bitwalks::in_turn::*;
     use crate::proved::bitwords::cursors::*;
-    use crate::proved::{bitranks, flow};
+    use crate::proved::{bitranks, bitslots, flow};
     use crate::proved::fixedbitset::{Bits, BitsMut, ExtendFault, FixedBitSet};
     use crate::proved::bitjson::*;
     use crate::shim::alloc::Global;
@@ -96,7 +96,7 @@ fn bitlanes_changes_16() {
     use crate::proved::bitlanes::{word, Block, IndexRange, Steps};
     use crate::proved::bitwalks::in_turn::*;
     use crate::proved::bitwords::cursors::*;
-    use crate::proved::{bitranks, flow};
+    use crate::proved::{bitranks, bitslots, flow};
     use crate::proved::fixedbitset::{Bits, BitsMut, ExtendFault, FixedBitSet};
     use crate::proved::bitlanes::*;
     use crate::shim::alloc::Global;
@@ -117,7 +117,7 @@ fn bitlanes_changes_49() {
     use crate::proved::bitlanes::{word, Block, IndexRange, Steps};
     use crate::proved::bitwalks::in_turn::*;
     use crate::proved::bitwords::cursors::*;
-    use crate::proved::{bitranks, flow};
+    use crate::proved::{bitranks, bitslots, flow};
     use crate::proved::fixedbitset::{Bits, BitsMut, ExtendFault, FixedBitSet};
     use crate::proved::bitlanes::*;
     use crate::shim::alloc::Global;
@@ -139,7 +139,7 @@ fn bitlanes_changes_88() {
     use crate::proved::bitlanes::{word, Block, IndexRange, Steps};
     use crate::proved::bitwalks::in_turn::*;
     use crate::proved::bitwords::cursors::*;
-    use crate::proved::{bitranks, flow};
+    use crate::proved::{bitranks, bitslots, flow};
     use crate::proved::fixedbitset::{Bits, BitsMut, ExtendFault, FixedBitSet};
     use crate::proved::bitlanes::*;
     use crate::shim::alloc::Global;
@@ -160,7 +160,7 @@ fn bitlanes_counter_26() {
     use crate::proved::bitlanes::{word, Block, IndexRange, Steps};
     use crate::proved::bitwalks::in_turn::*;
     use crate::proved::bitwords::cursors::*;
-    use crate::proved::{bitranks, flow};
+    use crate::proved::{bitranks, bitslots, flow};
     use crate::proved::fixedbitset::{Bits, BitsMut, ExtendFault, FixedBitSet};
     use crate::proved::bitlanes::*;
     use crate::shim::alloc::Global;
@@ -180,7 +180,7 @@ fn bitlanes_counter_40() {
     use crate::proved::bitlanes::{word, Block, IndexRange, Steps};
     use crate::proved::bitwalks::in_turn::*;
     use crate::proved::bitwords::cursors::*;
-    use crate::proved::{bitranks, flow};
+    use crate::proved::{bitranks, bitslots, flow};
     use crate::proved::fixedbitset::{Bits, BitsMut, ExtendFault, FixedBitSet};
     use crate::proved::bitlanes::*;
     use crate::shim::alloc::Global;
@@ -201,7 +201,7 @@ fn bitlanes_counter_55() {
     use crate::proved::bitlanes::{word, Block, IndexRange, Steps};
     use crate::proved::bitwalks::in_turn::*;
     use crate::proved::bitwords::cursors::*;
-    use crate::proved::{bitranks, flow};
+    use crate::proved::{bitranks, bitslots, flow};
     use crate::proved::fixedbitset::{Bits, BitsMut, ExtendFault, FixedBitSet};
     use crate::proved::bitlanes::*;
     use crate::shim::alloc::Global;
@@ -221,7 +221,7 @@ fn bitlanes_lanes_30() {
     use crate::proved::bitlanes::{word, Block, IndexRange, Steps};
     use crate::proved::bitwalks::in_turn::*;
     use crate::proved::bitwords::cursors::*;
-    use crate::proved::{bitranks, flow};
+    use crate::proved::{bitranks, bitslots, flow};
     use crate::proved::fixedbitset::{Bits, BitsMut, ExtendFault, FixedBitSet};
     use crate::proved::bitlanes::*;
     use crate::shim::alloc::Global;
@@ -241,7 +241,7 @@ fn bitlanes_lanes_58() {
     use crate::proved::bitlanes::{word, Block, IndexRange, Steps};
     use crate::proved::bitwalks::in_turn::*;
     use crate::proved::bitwords::cursors::*;
-    use crate::proved::{bitranks, flow};
+    use crate::proved::{bitranks, bitslots, flow};
     use crate::proved::fixedbitset::{Bits, BitsMut, ExtendFault, FixedBitSet};
     use crate::proved::bitlanes::*;
     use crate::shim::alloc::Global;
@@ -260,7 +260,7 @@ fn bitlanes_lanes_78() {
     use crate::proved::bitlanes::{word, Block, IndexRange, Steps};
     use crate::proved::bitwalks::in_turn::*;
     use crate::proved::bitwords::cursors::*;
-    use crate::proved::{bitranks, flow};
+    use crate::proved::{bitranks, bitslots, flow};
     use crate::proved::fixedbitset::{Bits, BitsMut, ExtendFault, FixedBitSet};
     use crate::proved::bitlanes::*;
     use crate::shim::alloc::Global;
@@ -279,7 +279,7 @@ fn bitlanes_lanes_106() {
     use crate::proved::bitlanes::{word, Block, IndexRange, Steps};
     use crate::proved::bitwalks::in_turn::*;
     use crate::proved::bitwords::cursors::*;
-    use crate::proved::{bitranks, flow};
+    use crate::proved::{bitranks, bitslots, flow};
     use crate::proved::fixedbitset::{Bits, BitsMut, ExtendFault, FixedBitSet};
     use crate::proved::bitlanes::*;
     use crate::shim::alloc::Global;
@@ -299,7 +299,7 @@ fn bitlanes_lanes_127() {
     use crate::proved::bitlanes::{word, Block, IndexRange, Steps};
     use crate::proved::bitwalks::in_turn::*;
     use crate::proved::bitwords::cursors::*;
-    use crate::proved::{bitranks, flow};
+    use crate::proved::{bitranks, bitslots, flow};
     use crate::proved::fixedbitset::{Bits, BitsMut, ExtendFault, FixedBitSet};
     use crate::proved::bitlanes::*;
     use crate::shim::alloc::Global;
@@ -318,7 +318,7 @@ fn bitlanes_lanes_142() {
     use crate::proved::bitlanes::{word, Block, IndexRange, Steps};
     use crate::proved::bitwalks::in_turn::*;
     use crate::proved::bitwords::cursors::*;
-    use crate::proved::{bitranks, flow};
+    use crate::proved::{bitranks, bitslots, flow};
     use crate::proved::fixedbitset::{Bits, BitsMut, ExtendFault, FixedBitSet};
     use crate::proved::bitlanes::*;
     use crate::shim::alloc::Global;
@@ -337,7 +337,7 @@ fn bitlanes_lanes_171() {
     use crate::proved::bitlanes::{word, Block, IndexRange, Steps};
     use crate::proved::bitwalks::in_turn::*;
     use crate::proved::bitwords::cursors::*;
-    use crate::proved::{bitranks, flow};
+    use crate::proved::{bitranks, bitslots, flow};
     use crate::proved::fixedbitset::{Bits, BitsMut, ExtendFault, FixedBitSet};
     use crate::proved::bitlanes::*;
     use crate::shim::alloc::Global;
@@ -356,7 +356,7 @@ fn bitlanes_ops_11() {
     use crate::proved::bitlanes::{word, Block, IndexRange, Steps};
     use crate::proved::bitwalks::in_turn::*;
     use crate::proved::bitwords::cursors::*;
-    use crate::proved::{bitranks, flow};
+    use crate::proved::{bitranks, bitslots, flow};
     use crate::proved::fixedbitset::{Bits, BitsMut, ExtendFault, FixedBitSet};
     use crate::proved::bitlanes::*;
     use crate::shim::alloc::Global;
@@ -376,7 +376,7 @@ fn bitlanes_ops_33() {
     use crate::proved::bitlanes::{word, Block, IndexRange, Steps};
     use crate::proved::bitwalks::in_turn::*;
     use crate::proved::bitwords::cursors::*;
-    use crate::proved::{bitranks, flow};
+    use crate::proved::{bitranks, bitslots, flow};
     use crate::proved::fixedbitset::{Bits, BitsMut, ExtendFault, FixedBitSet};
     use crate::proved::bitlanes::*;
     use crate::shim::alloc::Global;
@@ -395,7 +395,7 @@ fn bitlanes_ops_58() {
     use crate::proved::bitlanes::{word, Block, IndexRange, Steps};
     use crate::proved::bitwalks::in_turn::*;
     use crate::proved::bitwords::cursors::*;
-    use crate::proved::{bitranks, flow};
+    use crate::proved::{bitranks, bitslots, flow};
     use crate::proved::fixedbitset::{Bits, BitsMut, ExtendFault, FixedBitSet};
     use crate::proved::bitlanes::*;
     use crate::shim::alloc::Global;
@@ -414,7 +414,7 @@ fn bitlanes_ops_83() {
     use crate::proved::bitlanes::{word, Block, IndexRange, Steps};
     use crate::proved::bitwalks::in_turn::*;
     use crate::proved::bitwords::cursors::*;
-    use crate::proved::{bitranks, flow};
+    use crate::proved::{bitranks, bitslots, flow};
     use crate::proved::fixedbitset::{Bits, BitsMut, ExtendFault, FixedBitSet};
     use crate::proved::bitlanes::*;
     use crate::shim::alloc::Global;
@@ -433,7 +433,7 @@ fn bitlanes_ops_108() {
     use crate::proved::bitlanes::{word, Block, IndexRange, Steps};
     use crate::proved::bitwalks::in_turn::*;
     use crate::proved::bitwords::cursors::*;
-    use crate::proved::{bitranks, flow};
+    use crate::proved::{bitranks, bitslots, flow};
     use crate::proved::fixedbitset::{Bits, BitsMut, ExtendFault, FixedBitSet};
     use crate::proved::bitlanes::*;
     use crate::shim::alloc::Global;
@@ -452,7 +452,7 @@ fn bitlanes_ops_133() {
     use crate::proved::bitlanes::{word, Block, IndexRange, Steps};
     use crate::proved::bitwalks::in_turn::*;
     use crate::proved::bitwords::cursors::*;
-    use crate::proved::{bitranks, flow};
+    use crate::proved::{bitranks, bitslots, flow};
     use crate::proved::fixedbitset::{Bits, BitsMut, ExtendFault, FixedBitSet};
     use crate::proved::bitlanes::*;
     use crate::shim::alloc::Global;
@@ -471,7 +471,7 @@ fn bitlanes_range_12() {
     use crate::proved::bitlanes::{word, Block, IndexRange, Steps};
     use crate::proved::bitwalks::in_turn::*;
     use crate::proved::bitwords::cursors::*;
-    use crate::proved::{bitranks, flow};
+    use crate::proved::{bitranks, bitslots, flow};
     use crate::proved::fixedbitset::{Bits, BitsMut, ExtendFault, FixedBitSet};
     use crate::proved::bitlanes::*;
     use crate::shim::alloc::Global;
@@ -493,7 +493,7 @@ fn bitlanes_search_23() {
     use crate::proved::bitlanes::{word, Block, IndexRange, Steps};
     use crate::proved::bitwalks::in_turn::*;
     use crate::proved::bitwords::cursors::*;
-    use crate::proved::{bitranks, flow};
+    use crate::proved::{bitranks, bitslots, flow};
     use crate::proved::fixedbitset::{Bits, BitsMut, ExtendFault, FixedBitSet};
     use crate::proved::bitlanes::*;
     use crate::shim::alloc::Global;
@@ -513,7 +513,7 @@ fn bitlanes_search_39() {
     use crate::proved::bitlanes::{word, Block, IndexRange, Steps};
     use crate::proved::bitwalks::in_turn::*;
     use crate::proved::bitwords::cursors::*;
-    use crate::proved::{bitranks, flow};
+    use crate::proved::{bitranks, bitslots, flow};
     use crate::proved::fixedbitset::{Bits, BitsMut, ExtendFault, FixedBitSet};
     use crate::proved::bitlanes::*;
     use crate::shim::alloc::Global;
@@ -533,7 +533,7 @@ fn bitlanes_search_52() {
     use crate::proved::bitlanes::{word, Block, IndexRange, Steps};
     use crate::proved::bitwalks::in_turn::*;
     use crate::proved::bitwords::cursors::*;
-    use crate::proved::{bitranks, flow};
+    use crate::proved::{bitranks, bitslots, flow};
     use crate::proved::fixedbitset::{Bits, BitsMut, ExtendFault, FixedBitSet};
     use crate::proved::bitlanes::*;
     use crate::shim::alloc::Global;
@@ -555,7 +555,7 @@ fn bitlanes_search_90() {
     use crate::proved::bitlanes::{word, Block, IndexRange, Steps};
     use crate::proved::bitwalks::in_turn::*;
     use crate::proved::bitwords::cursors::*;
-    use crate::proved::{bitranks, flow};
+    use crate::proved::{bitranks, bitslots, flow};
     use crate::proved::fixedbitset::{Bits, BitsMut, ExtendFault, FixedBitSet};
     use crate::proved::bitlanes::*;
     use crate::shim::alloc::Global;
@@ -576,7 +576,7 @@ fn bitlanes_search_113() {
     use crate::proved::bitlanes::{word, Block, IndexRange, Steps};
     use crate::proved::bitwalks::in_turn::*;
     use crate::proved::bitwords::cursors::*;
-    use crate::proved::{bitranks, flow};
+    use crate::proved::{bitranks, bitslots, flow};
     use crate::proved::fixedbitset::{Bits, BitsMut, ExtendFault, FixedBitSet};
     use crate::proved::bitlanes::*;
     use crate::shim::alloc::Global;
@@ -598,7 +598,7 @@ fn bitlanes_search_169() {
     use crate::proved::bitlanes::{word, Block, IndexRange, Steps};
     use crate::proved::bitwalks::in_turn::*;
     use crate::proved::bitwords::cursors::*;
-    use crate::proved::{bitranks, flow};
+    use crate::proved::{bitranks, bitslots, flow};
     use crate::proved::fixedbitset::{Bits, BitsMut, ExtendFault, FixedBitSet};
     use crate::proved::bitlanes::*;
     use crate::shim::alloc::Global;
@@ -618,7 +618,7 @@ fn bitlanes_shifts_19() {
     use crate::proved::bitlanes::{word, Block, IndexRange, Steps};
     use crate::proved::bitwalks::in_turn::*;
     use crate::proved::bitwords::cursors::*;
-    use crate::proved::{bitranks, flow};
+    use crate::proved::{bitranks, bitslots, flow};
     use crate::proved::fixedbitset::{Bits, BitsMut, ExtendFault, FixedBitSet};
     use crate::proved::bitlanes::*;
     use crate::shim::alloc::Global;
@@ -638,7 +638,7 @@ fn bitlanes_shifts_52() {
     use crate::proved::bitlanes::{word, Block, IndexRange, Steps};
     use crate::proved::bitwalks::in_turn::*;
     use crate::proved::bitwords::cursors::*;
-    use crate::proved::{bitranks, flow};
+    use crate::proved::{bitranks, bitslots, flow};
     use crate::proved::fixedbitset::{Bits, BitsMut, ExtendFault, FixedBitSet};
     use crate::proved::bitlanes::*;
     use crate::shim::alloc::Global;
@@ -658,7 +658,7 @@ fn bitlanes_shifts_83() {
     use crate::proved::bitlanes::{word, Block, IndexRange, Steps};
     use crate::proved::bitwalks::in_turn::*;
     use crate::proved::bitwords::cursors::*;
-    use crate::proved::{bitranks, flow};
+    use crate::proved::{bitranks, bitslots, flow};
     use crate::proved::fixedbitset::{Bits, BitsMut, ExtendFault, FixedBitSet};
     use crate::proved::bitlanes::*;
     use crate::shim::alloc::Global;
@@ -678,7 +678,7 @@ fn bitlanes_shifts_117() {
     use crate::proved::bitlanes::{word, Block, IndexRange, Steps};
     use crate::proved::bitwalks::in_turn::*;
     use crate::proved::bitwords::cursors::*;
-    use crate::proved::{bitranks, flow};
+    use crate::proved::{bitranks, bitslots, flow};
     use crate::proved::fixedbitset::{Bits, BitsMut, ExtendFault, FixedBitSet};
     use crate::proved::bitlanes::*;
     use crate::shim::alloc::Global;
@@ -697,7 +697,7 @@ fn bitlanes_word_12() {
     use crate::proved::bitlanes::{word, Block, IndexRange, Steps};
     use crate::proved::bitwalks::in_turn::*;
     use crate::proved::bitwords::cursors::*;
-    use crate::proved::{bitranks, flow};
+    use crate::proved::{bitranks, bitslots, flow};
     use crate::proved::fixedbitset::{Bits, BitsMut, ExtendFault, FixedBitSet};
     use crate::proved::bitlanes::*;
     use crate::shim::alloc::Global;
@@ -716,7 +716,7 @@ fn bitlanes_word_23() {
     use crate::proved::bitlanes::{word, Block, IndexRange, Steps};
     use crate::proved::bitwalks::in_turn::*;
     use crate::proved::bitwords::cursors::*;
-    use crate::proved::{bitranks, flow};
+    use crate::proved::{bitranks, bitslots, flow};
     use crate::proved::fixedbitset::{Bits, BitsMut, ExtendFault, FixedBitSet};
     use crate::proved::bitlanes::*;
     use crate::shim::alloc::Global;
@@ -735,7 +735,7 @@ fn bitlanes_word_34() {
     use crate::proved::bitlanes::{word, Block, IndexRange, Steps};
     use crate::proved::bitwalks::in_turn::*;
     use crate::proved::bitwords::cursors::*;
-    use crate::proved::{bitranks, flow};
+    use crate::proved::{bitranks, bitslots, flow};
     use crate::proved::fixedbitset::{Bits, BitsMut, ExtendFault, FixedBitSet};
     use crate::proved::bitlanes::*;
     use crate::shim::alloc::Global;
@@ -754,7 +754,7 @@ fn bitlanes_word_46() {
     use crate::proved::bitlanes::{word, Block, IndexRange, Steps};
     use crate::proved::bitwalks::in_turn::*;
     use crate::proved::bitwords::cursors::*;
-    use crate::proved::{bitranks, flow};
+    use crate::proved::{bitranks, bitslots, flow};
     use crate::proved::fixedbitset::{Bits, BitsMut, ExtendFault, FixedBitSet};
     use crate::proved::bitlanes::*;
     use crate::shim::alloc::Global;
@@ -773,7 +773,7 @@ fn bitlanes_word_57() {
     use crate::proved::bitlanes::{word, Block, IndexRange, Steps};
     use crate::proved::bitwalks::in_turn::*;
     use crate::proved::bitwords::cursors::*;
-    use crate::proved::{bitranks, flow};
+    use crate::proved::{bitranks, bitslots, flow};
     use crate::proved::fixedbitset::{Bits, BitsMut, ExtendFault, FixedBitSet};
     use crate::proved::bitlanes::*;
     use crate::shim::alloc::Global;
@@ -793,7 +793,7 @@ fn bitlanes_word_71() {
     use crate::proved::bitlanes::{word, Block, IndexRange, Steps};
     use crate::proved::bitwalks::in_turn::*;
     use crate::proved::bitwords::cursors::*;
-    use crate::proved::{bitranks, flow};
+    use crate::proved::{bitranks, bitslots, flow};
     use crate::proved::fixedbitset::{Bits, BitsMut, ExtendFault, FixedBitSet};
     use crate::proved::bitlanes::*;
     use crate::shim::alloc::Global;
@@ -813,7 +813,7 @@ fn bitlanes_word_85() {
     use crate::proved::bitlanes::{word, Block, IndexRange, Steps};
     use crate::proved::bitwalks::in_turn::*;
     use crate::proved::bitwords::cursors::*;
-    use crate::proved::{bitranks, flow};
+    use crate::proved::{bitranks, bitslots, flow};
     use crate::proved::fixedbitset::{Bits, BitsMut, ExtendFault, FixedBitSet};
     use crate::proved::bitlanes::*;
     use crate::shim::alloc::Global;
@@ -832,7 +832,7 @@ fn bitlanes_word_103() {
     use crate::proved::bitlanes::{word, Block, IndexRange, Steps};
     use crate::proved::bitwalks::in_turn::*;
     use crate::proved::bitwords::cursors::*;
-    use crate::proved::{bitranks, flow};
+    use crate::proved::{bitranks, bitslots, flow};
     use crate::proved::fixedbitset::{Bits, BitsMut, ExtendFault, FixedBitSet};
     use crate::proved::bitlanes::*;
     use crate::shim::alloc::Global;
@@ -852,7 +852,7 @@ fn bitranks_counted_16() {
     use crate::proved::bitlanes::{word, Block, IndexRange, Steps};
     use crate::proved::bitwalks::in_turn::*;
     use crate::proved::bitwords::cursors::*;
-    use crate::proved::{bitranks, flow};
+    use crate::proved::{bitranks, bitslots, flow};
     use crate::proved::fixedbitset::{Bits, BitsMut, ExtendFault, FixedBitSet};
     use crate::proved::bitranks::*;
     use crate::shim::alloc::Global;
@@ -874,7 +874,7 @@ fn bitranks_counted_40() {
     use crate::proved::bitlanes::{word, Block, IndexRange, Steps};
     use crate::proved::bitwalks::in_turn::*;
     use crate::proved::bitwords::cursors::*;
-    use crate::proved::{bitranks, flow};
+    use crate::proved::{bitranks, bitslots, flow};
     use crate::proved::fixedbitset::{Bits, BitsMut, ExtendFault, FixedBitSet};
     use crate::proved::bitranks::*;
     use crate::shim::alloc::Global;
@@ -895,7 +895,7 @@ fn bitranks_counted_54() {
     use crate::proved::bitlanes::{word, Block, IndexRange, Steps};
     use crate::proved::bitwalks::in_turn::*;
     use crate::proved::bitwords::cursors::*;
-    use crate::proved::{bitranks, flow};
+    use crate::proved::{bitranks, bitslots, flow};
     use crate::proved::fixedbitset::{Bits, BitsMut, ExtendFault, FixedBitSet};
     use crate::proved::bitranks::*;
     use crate::shim::alloc::Global;
@@ -916,7 +916,7 @@ fn bitranks_directory_22() {
     use crate::proved::bitlanes::{word, Block, IndexRange, Steps};
     use crate::proved::bitwalks::in_turn::*;
     use crate::proved::bitwords::cursors::*;
-    use crate::proved::{bitranks, flow};
+    use crate::proved::{bitranks, bitslots, flow};
     use crate::proved::fixedbitset::{Bits, BitsMut, ExtendFault, FixedBitSet};
     use crate::proved::bitranks::*;
     use crate::shim::alloc::Global;
@@ -936,7 +936,7 @@ fn bitranks_directory_38() {
     use crate::proved::bitlanes::{word, Block, IndexRange, Steps};
     use crate::proved::bitwalks::in_turn::*;
     use crate::proved::bitwords::cursors::*;
-    use crate::proved::{bitranks, flow};
+    use crate::proved::{bitranks, bitslots, flow};
     use crate::proved::fixedbitset::{Bits, BitsMut, ExtendFault, FixedBitSet};
     use crate::proved::bitranks::*;
     use crate::shim::alloc::Global;
@@ -956,7 +956,7 @@ fn bitranks_directory_61() {
     use crate::proved::bitlanes::{word, Block, IndexRange, Steps};
     use crate::proved::bitwalks::in_turn::*;
     use crate::proved::bitwords::cursors::*;
-    use crate::proved::{bitranks, flow};
+    use crate::proved::{bitranks, bitslots, flow};
     use crate::proved::fixedbitset::{Bits, BitsMut, ExtendFault, FixedBitSet};
     use crate::proved::bitranks::*;
     use crate::shim::alloc::Global;
@@ -977,7 +977,7 @@ fn bitranks_directory_120() {
     use crate::proved::bitlanes::{word, Block, IndexRange, Steps};
     use crate::proved::bitwalks::in_turn::*;
     use crate::proved::bitwords::cursors::*;
-    use crate::proved::{bitranks, flow};
+    use crate::proved::{bitranks, bitslots, flow};
     use crate::proved::fixedbitset::{Bits, BitsMut, ExtendFault, FixedBitSet};
     use crate::proved::bitranks::*;
     use crate::shim::alloc::Global;
@@ -998,7 +998,7 @@ fn bitranks_ranks_26() {
     use crate::proved::bitlanes::{word, Block, IndexRange, Steps};
     use crate::proved::bitwalks::in_turn::*;
     use crate::proved::bitwords::cursors::*;
-    use crate::proved::{bitranks, flow};
+    use crate::proved::{bitranks, bitslots, flow};
     use crate::proved::fixedbitset::{Bits, BitsMut, ExtendFault, FixedBitSet};
     use crate::proved::bitranks::*;
     use crate::shim::alloc::Global;
@@ -1020,7 +1020,7 @@ fn bitranks_ranks_38() {
     use crate::proved::bitlanes::{word, Block, IndexRange, Steps};
     use crate::proved::bitwalks::in_turn::*;
     use crate::proved::bitwords::cursors::*;
-    use crate::proved::{bitranks, flow};
+    use crate::proved::{bitranks, bitslots, flow};
     use crate::proved::fixedbitset::{Bits, BitsMut, ExtendFault, FixedBitSet};
     use crate::proved::bitranks::*;
     use crate::shim::alloc::Global;
@@ -1041,7 +1041,7 @@ fn bitranks_ranks_53() {
     use crate::proved::bitlanes::{word, Block, IndexRange, Steps};
     use crate::proved::bitwalks::in_turn::*;
     use crate::proved::bitwords::cursors::*;
-    use crate::proved::{bitranks, flow};
+    use crate::proved::{bitranks, bitslots, flow};
     use crate::proved::fixedbitset::{Bits, BitsMut, ExtendFault, FixedBitSet};
     use crate::proved::bitranks::*;
     use crate::shim::alloc::Global;
@@ -1064,7 +1064,7 @@ fn bitranks_ranks_71() {
     use crate::proved::bitlanes::{word, Block, IndexRange, Steps};
     use crate::proved::bitwalks::in_turn::*;
     use crate::proved::bitwords::cursors::*;
-    use crate::proved::{bitranks, flow};
+    use crate::proved::{bitranks, bitslots, flow};
     use crate::proved::fixedbitset::{Bits, BitsMut, ExtendFault, FixedBitSet};
     use crate::proved::bitranks::*;
     use crate::shim::alloc::Global;
@@ -1087,7 +1087,7 @@ fn bitrows_counted_11() {
     use crate::proved::bitlanes::{word, Block, IndexRange, Steps};
     use crate::proved::bitwalks::in_turn::*;
     use crate::proved::bitwords::cursors::*;
-    use crate::proved::{bitranks, flow};
+    use crate::proved::{bitranks, bitslots, flow};
     use crate::proved::fixedbitset::{Bits, BitsMut, ExtendFault, FixedBitSet};
     use crate::proved::bitrows::*;
     use crate::shim::alloc::Global;
@@ -1109,7 +1109,7 @@ fn bitrows_table_32() {
     use crate::proved::bitlanes::{word, Block, IndexRange, Steps};
     use crate::proved::bitwalks::in_turn::*;
     use crate::proved::bitwords::cursors::*;
-    use crate::proved::{bitranks, flow};
+    use crate::proved::{bitranks, bitslots, flow};
     use crate::proved::fixedbitset::{Bits, BitsMut, ExtendFault, FixedBitSet};
     use crate::proved::bitrows::*;
     use crate::shim::alloc::Global;
@@ -1131,7 +1131,7 @@ fn bitrows_table_51() {
     use crate::proved::bitlanes::{word, Block, IndexRange, Steps};
     use crate::proved::bitwalks::in_turn::*;
     use crate::proved::bitwords::cursors::*;
-    use crate::proved::{bitranks, flow};
+    use crate::proved::{bitranks, bitslots, flow};
     use crate::proved::fixedbitset::{Bits, BitsMut, ExtendFault, FixedBitSet};
     use crate::proved::bitrows::*;
     use crate::shim::alloc::Global;
@@ -1151,7 +1151,7 @@ fn bitrows_table_62() {
     use crate::proved::bitlanes::{word, Block, IndexRange, Steps};
     use crate::proved::bitwalks::in_turn::*;
     use crate::proved::bitwords::cursors::*;
-    use crate::proved::{bitranks, flow};
+    use crate::proved::{bitranks, bitslots, flow};
     use crate::proved::fixedbitset::{Bits, BitsMut, ExtendFault, FixedBitSet};
     use crate::proved::bitrows::*;
     use crate::shim::alloc::Global;
@@ -1171,7 +1171,7 @@ fn bitrows_table_73() {
     use crate::proved::bitlanes::{word, Block, IndexRange, Steps};
     use crate::proved::bitwalks::in_turn::*;
     use crate::proved::bitwords::cursors::*;
-    use crate::proved::{bitranks, flow};
+    use crate::proved::{bitranks, bitslots, flow};
     use crate::proved::fixedbitset::{Bits, BitsMut, ExtendFault, FixedBitSet};
     use crate::proved::bitrows::*;
     use crate::shim::alloc::Global;
@@ -1191,7 +1191,7 @@ fn bitrows_table_89() {
     use crate::proved::bitlanes::{word, Block, IndexRange, Steps};
     use crate::proved::bitwalks::in_turn::*;
     use crate::proved::bitwords::cursors::*;
-    use crate::proved::{bitranks, flow};
+    use crate::proved::{bitranks, bitslots, flow};
     use crate::proved::fixedbitset::{Bits, BitsMut, ExtendFault, FixedBitSet};
     use crate::proved::bitrows::*;
     use crate::shim::alloc::Global;
@@ -1213,7 +1213,7 @@ fn bitrows_table_103() {
     use crate::proved::bitlanes::{word, Block, IndexRange, Steps};
     use crate::proved::bitwalks::in_turn::*;
     use crate::proved::bitwords::cursors::*;
-    use crate::proved::{bitranks, flow};
+    use crate::proved::{bitranks, bitslots, flow};
     use crate::proved::fixedbitset::{Bits, BitsMut, ExtendFault, FixedBitSet};
     use crate::proved::bitrows::*;
     use crate::shim::alloc::Global;
@@ -1236,7 +1236,7 @@ fn bitrows_table_125() {
     use crate::proved::bitlanes::{word, Block, IndexRange, Steps};
     use crate::proved::bitwalks::in_turn::*;
     use crate::proved::bitwords::cursors::*;
-    use crate::proved::{bitranks, flow};
+    use crate::proved::{bitranks, bitslots, flow};
     use crate::proved::fixedbitset::{Bits, BitsMut, ExtendFault, FixedBitSet};
     use crate::proved::bitrows::*;
     use crate::shim::alloc::Global;
@@ -1259,7 +1259,7 @@ fn bitrows_table_147() {
     use crate::proved::bitlanes::{word, Block, IndexRange, Steps};
     use crate::proved::bitwalks::in_turn::*;
     use crate::proved::bitwords::cursors::*;
-    use crate::proved::{bitranks, flow};
+    use crate::proved::{bitranks, bitslots, flow};
     use crate::proved::fixedbitset::{Bits, BitsMut, ExtendFault, FixedBitSet};
     use crate::proved::bitrows::*;
     use crate::shim::alloc::Global;
@@ -1281,7 +1281,7 @@ fn bitrows_table_166() {
     use crate::proved::bitlanes::{word, Block, IndexRange, Steps};
     use crate::proved::bitwalks::in_turn::*;
     use crate::proved::bitwords::cursors::*;
-    use crate::proved::{bitranks, flow};
+    use crate::proved::{bitranks, bitslots, flow};
     use crate::proved::fixedbitset::{Bits, BitsMut, ExtendFault, FixedBitSet};
     use crate::proved::bitrows::*;
     use crate::shim::alloc::Global;
@@ -1305,7 +1305,7 @@ fn bitrows_views_changes_16() {
     use crate::proved::bitlanes::{word, Block, IndexRange, Steps};
     use crate::proved::bitwalks::in_turn::*;
     use crate::proved::bitwords::cursors::*;
-    use crate::proved::{bitranks, flow};
+    use crate::proved::{bitranks, bitslots, flow};
     use crate::proved::fixedbitset::{Bits, BitsMut, ExtendFault, FixedBitSet};
     use crate::proved::bitrows::*;
     use crate::shim::alloc::Global;
@@ -1325,7 +1325,7 @@ fn bitrows_views_changes_33() {
     use crate::proved::bitlanes::{word, Block, IndexRange, Steps};
     use crate::proved::bitwalks::in_turn::*;
     use crate::proved::bitwords::cursors::*;
-    use crate::proved::{bitranks, flow};
+    use crate::proved::{bitranks, bitslots, flow};
     use crate::proved::fixedbitset::{Bits, BitsMut, ExtendFault, FixedBitSet};
     use crate::proved::bitrows::*;
     use crate::shim::alloc::Global;
@@ -1345,7 +1345,7 @@ fn bitrows_views_changes_50() {
     use crate::proved::bitlanes::{word, Block, IndexRange, Steps};
     use crate::proved::bitwalks::in_turn::*;
     use crate::proved::bitwords::cursors::*;
-    use crate::proved::{bitranks, flow};
+    use crate::proved::{bitranks, bitslots, flow};
     use crate::proved::fixedbitset::{Bits, BitsMut, ExtendFault, FixedBitSet};
     use crate::proved::bitrows::*;
     use crate::shim::alloc::Global;
@@ -1366,7 +1366,7 @@ fn bitrows_views_changes_68() {
     use crate::proved::bitlanes::{word, Block, IndexRange, Steps};
     use crate::proved::bitwalks::in_turn::*;
     use crate::proved::bitwords::cursors::*;
-    use crate::proved::{bitranks, flow};
+    use crate::proved::{bitranks, bitslots, flow};
     use crate::proved::fixedbitset::{Bits, BitsMut, ExtendFault, FixedBitSet};
     use crate::proved::bitrows::*;
     use crate::shim::alloc::Global;
@@ -1388,7 +1388,7 @@ fn bitrows_views_changes_89() {
     use crate::proved::bitlanes::{word, Block, IndexRange, Steps};
     use crate::proved::bitwalks::in_turn::*;
     use crate::proved::bitwords::cursors::*;
-    use crate::proved::{bitranks, flow};
+    use crate::proved::{bitranks, bitslots, flow};
     use crate::proved::fixedbitset::{Bits, BitsMut, ExtendFault, FixedBitSet};
     use crate::proved::bitrows::*;
     use crate::shim::alloc::Global;
@@ -1411,7 +1411,7 @@ fn bitrows_views_reads_11() {
     use crate::proved::bitlanes::{word, Block, IndexRange, Steps};
     use crate::proved::bitwalks::in_turn::*;
     use crate::proved::bitwords::cursors::*;
-    use crate::proved::{bitranks, flow};
+    use crate::proved::{bitranks, bitslots, flow};
     use crate::proved::fixedbitset::{Bits, BitsMut, ExtendFault, FixedBitSet};
     use crate::proved::bitrows::*;
     use crate::shim::alloc::Global;
@@ -1432,7 +1432,7 @@ fn bitrows_views_reads_30() {
     use crate::proved::bitlanes::{word, Block, IndexRange, Steps};
     use crate::proved::bitwalks::in_turn::*;
     use crate::proved::bitwords::cursors::*;
-    use crate::proved::{bitranks, flow};
+    use crate::proved::{bitranks, bitslots, flow};
     use crate::proved::fixedbitset::{Bits, BitsMut, ExtendFault, FixedBitSet};
     use crate::proved::bitrows::*;
     use crate::shim::alloc::Global;
@@ -1449,12 +1449,307 @@ fn bitrows_views_reads_30() {
 }
 
 #[test]
+fn bitslots_slots_13() {
+    use crate::proved::bitlanes::ops::*;
+    use crate::proved::bitlanes::{word, Block, IndexRange, Steps};
+    use crate::proved::bitwalks::in_turn::*;
+    use crate::proved::bitwords::cursors::*;
+    use crate::proved::{bitranks, bitslots, flow};
+    use crate::proved::fixedbitset::{Bits, BitsMut, ExtendFault, FixedBitSet};
+    use crate::proved::bitslots::*;
+    use crate::shim::alloc::Global;
+    use crate::shim::prelude::*;
+    use crate::shim::u64x4;
+    use core::cmp::Ordering;
+    use core::mem::{size_of, size_of_val};
+
+    let alloc = Global::Try;
+    let mut slots = Slots::new(alloc, 3).unwrap();
+    assert_eq!((slots.take(), slots.take(), slots.take()), (Some(0), Some(1), Some(2)));
+    slots.give_back(1);
+    assert_eq!((slots.take(), slots.take()), (Some(1), None));
+}
+
+#[test]
+fn bitslots_slots_30() {
+    use crate::proved::bitlanes::ops::*;
+    use crate::proved::bitlanes::{word, Block, IndexRange, Steps};
+    use crate::proved::bitwalks::in_turn::*;
+    use crate::proved::bitwords::cursors::*;
+    use crate::proved::{bitranks, bitslots, flow};
+    use crate::proved::fixedbitset::{Bits, BitsMut, ExtendFault, FixedBitSet};
+    use crate::proved::bitslots::*;
+    use crate::shim::alloc::Global;
+    use crate::shim::prelude::*;
+    use crate::shim::u64x4;
+    use core::cmp::Ordering;
+    use core::mem::{size_of, size_of_val};
+
+    let alloc = Global::Try;
+    assert_eq!(Slots::new(alloc, 100).unwrap().free(), 100);
+}
+
+#[test]
+fn bitslots_slots_43() {
+    use crate::proved::bitlanes::ops::*;
+    use crate::proved::bitlanes::{word, Block, IndexRange, Steps};
+    use crate::proved::bitwalks::in_turn::*;
+    use crate::proved::bitwords::cursors::*;
+    use crate::proved::{bitranks, bitslots, flow};
+    use crate::proved::fixedbitset::{Bits, BitsMut, ExtendFault, FixedBitSet};
+    use crate::proved::bitslots::*;
+    use crate::shim::alloc::Global;
+    use crate::shim::prelude::*;
+    use crate::shim::u64x4;
+    use core::cmp::Ordering;
+    use core::mem::{size_of, size_of_val};
+
+    let alloc = Global::Try;
+    let mut slots = Slots::new(alloc, 1).unwrap();
+    assert_eq!((slots.take(), slots.take()), (Some(0), None));
+}
+
+#[test]
+fn bitslots_slots_58() {
+    use crate::proved::bitlanes::ops::*;
+    use crate::proved::bitlanes::{word, Block, IndexRange, Steps};
+    use crate::proved::bitwalks::in_turn::*;
+    use crate::proved::bitwords::cursors::*;
+    use crate::proved::{bitranks, bitslots, flow};
+    use crate::proved::fixedbitset::{Bits, BitsMut, ExtendFault, FixedBitSet};
+    use crate::proved::bitslots::*;
+    use crate::shim::alloc::Global;
+    use crate::shim::prelude::*;
+    use crate::shim::u64x4;
+    use core::cmp::Ordering;
+    use core::mem::{size_of, size_of_val};
+
+    let alloc = Global::Try;
+    let mut slots = Slots::new(alloc, 2).unwrap();
+    if let Some(slot) = slots.take() {
+        slots.give_back(slot);
+    }
+    assert_eq!(slots.free(), 2);
+}
+
+#[test]
+fn bitslots_slots_75() {
+    use crate::proved::bitlanes::ops::*;
+    use crate::proved::bitlanes::{word, Block, IndexRange, Steps};
+    use crate::proved::bitwalks::in_turn::*;
+    use crate::proved::bitwords::cursors::*;
+    use crate::proved::{bitranks, bitslots, flow};
+    use crate::proved::fixedbitset::{Bits, BitsMut, ExtendFault, FixedBitSet};
+    use crate::proved::bitslots::*;
+    use crate::shim::alloc::Global;
+    use crate::shim::prelude::*;
+    use crate::shim::u64x4;
+    use core::cmp::Ordering;
+    use core::mem::{size_of, size_of_val};
+
+    let alloc = Global::Try;
+    let mut slots = Slots::new(alloc, 8).unwrap();
+    assert_eq!(slots.take_stretch(3, 2), Some(2));
+    assert_eq!((slots.take_stretch(3, 0), slots.take_stretch(4, 0)), (Some(5), None));
+}
+
+#[test]
+fn bitslots_slots_91() {
+    use crate::proved::bitlanes::ops::*;
+    use crate::proved::bitlanes::{word, Block, IndexRange, Steps};
+    use crate::proved::bitwalks::in_turn::*;
+    use crate::proved::bitwords::cursors::*;
+    use crate::proved::{bitranks, bitslots, flow};
+    use crate::proved::fixedbitset::{Bits, BitsMut, ExtendFault, FixedBitSet};
+    use crate::proved::bitslots::*;
+    use crate::shim::alloc::Global;
+    use crate::shim::prelude::*;
+    use crate::shim::u64x4;
+    use core::cmp::Ordering;
+    use core::mem::{size_of, size_of_val};
+
+    let alloc = Global::Try;
+    let mut slots = Slots::new(alloc, 16).unwrap();
+    assert_eq!(slots.take(), Some(0));
+    assert_eq!(slots.take_aligned_stretch(4, 4), Some(4));
+}
+
+#[test]
+fn bitslots_slots_105() {
+    use crate::proved::bitlanes::ops::*;
+    use crate::proved::bitlanes::{word, Block, IndexRange, Steps};
+    use crate::proved::bitwalks::in_turn::*;
+    use crate::proved::bitwords::cursors::*;
+    use crate::proved::{bitranks, bitslots, flow};
+    use crate::proved::fixedbitset::{Bits, BitsMut, ExtendFault, FixedBitSet};
+    use crate::proved::bitslots::*;
+    use crate::shim::alloc::Global;
+    use crate::shim::prelude::*;
+    use crate::shim::u64x4;
+    use core::cmp::Ordering;
+    use core::mem::{size_of, size_of_val};
+
+    let alloc = Global::Try;
+    let mut slots = Slots::new(alloc, 8).unwrap();
+    if let Some(start) = slots.take_stretch(8, 0) {
+        slots.give_back_stretch(start, 8);
+    }
+    assert_eq!(slots.free(), 8);
+}
+
+#[test]
+fn bitslots_slots_120() {
+    use crate::proved::bitlanes::ops::*;
+    use crate::proved::bitlanes::{word, Block, IndexRange, Steps};
+    use crate::proved::bitwalks::in_turn::*;
+    use crate::proved::bitwords::cursors::*;
+    use crate::proved::{bitranks, bitslots, flow};
+    use crate::proved::fixedbitset::{Bits, BitsMut, ExtendFault, FixedBitSet};
+    use crate::proved::bitslots::*;
+    use crate::shim::alloc::Global;
+    use crate::shim::prelude::*;
+    use crate::shim::u64x4;
+    use core::cmp::Ordering;
+    use core::mem::{size_of, size_of_val};
+
+    let alloc = Global::Try;
+    let mut slots = Slots::new(alloc, 2).unwrap();
+    assert_eq!(slots.take_stretch(1, 1), Some(1));
+    assert!(slots.is_taken(1) && !slots.is_taken(0));
+}
+
+#[test]
+fn bitslots_slots_132() {
+    use crate::proved::bitlanes::ops::*;
+    use crate::proved::bitlanes::{word, Block, IndexRange, Steps};
+    use crate::proved::bitwalks::in_turn::*;
+    use crate::proved::bitwords::cursors::*;
+    use crate::proved::{bitranks, bitslots, flow};
+    use crate::proved::fixedbitset::{Bits, BitsMut, ExtendFault, FixedBitSet};
+    use crate::proved::bitslots::*;
+    use crate::shim::alloc::Global;
+    use crate::shim::prelude::*;
+    use crate::shim::u64x4;
+    use core::cmp::Ordering;
+    use core::mem::{size_of, size_of_val};
+
+    let alloc = Global::Try;
+    let mut slots = Slots::new(alloc, 4).unwrap();
+    assert_eq!(slots.take_stretch(2, 1), Some(1));
+    assert!(slots.is_taken_stretch(1, 2) && !slots.is_taken_stretch(0, 2));
+}
+
+#[test]
+fn bitslots_slots_146() {
+    use crate::proved::bitlanes::ops::*;
+    use crate::proved::bitlanes::{word, Block, IndexRange, Steps};
+    use crate::proved::bitwalks::in_turn::*;
+    use crate::proved::bitwords::cursors::*;
+    use crate::proved::{bitranks, bitslots, flow};
+    use crate::proved::fixedbitset::{Bits, BitsMut, ExtendFault, FixedBitSet};
+    use crate::proved::bitslots::*;
+    use crate::shim::alloc::Global;
+    use crate::shim::prelude::*;
+    use crate::shim::u64x4;
+    use core::cmp::Ordering;
+    use core::mem::{size_of, size_of_val};
+
+    let alloc = Global::Try;
+    assert_eq!(Slots::new(alloc, 100).unwrap().len(), 100);
+}
+
+#[test]
+fn bitslots_slots_156() {
+    use crate::proved::bitlanes::ops::*;
+    use crate::proved::bitlanes::{word, Block, IndexRange, Steps};
+    use crate::proved::bitwalks::in_turn::*;
+    use crate::proved::bitwords::cursors::*;
+    use crate::proved::{bitranks, bitslots, flow};
+    use crate::proved::fixedbitset::{Bits, BitsMut, ExtendFault, FixedBitSet};
+    use crate::proved::bitslots::*;
+    use crate::shim::alloc::Global;
+    use crate::shim::prelude::*;
+    use crate::shim::u64x4;
+    use core::cmp::Ordering;
+    use core::mem::{size_of, size_of_val};
+
+    let alloc = Global::Try;
+    let mut slots = Slots::new(alloc, 100).unwrap();
+    assert_eq!(slots.take_stretch(2, 60), Some(60));
+    assert!(slots.taken().ones().eq([60, 61]));
+}
+
+#[test]
+fn bitslots_slots_168() {
+    use crate::proved::bitlanes::ops::*;
+    use crate::proved::bitlanes::{word, Block, IndexRange, Steps};
+    use crate::proved::bitwalks::in_turn::*;
+    use crate::proved::bitwords::cursors::*;
+    use crate::proved::{bitranks, bitslots, flow};
+    use crate::proved::fixedbitset::{Bits, BitsMut, ExtendFault, FixedBitSet};
+    use crate::proved::bitslots::*;
+    use crate::shim::alloc::Global;
+    use crate::shim::prelude::*;
+    use crate::shim::u64x4;
+    use core::cmp::Ordering;
+    use core::mem::{size_of, size_of_val};
+
+    let alloc = Global::Try;
+    let mut slots = Slots::new(alloc, 5).unwrap();
+    let _first = slots.take();
+    assert_eq!(slots.free(), 4);
+}
+
+#[test]
+fn bitslots_slots_180() {
+    use crate::proved::bitlanes::ops::*;
+    use crate::proved::bitlanes::{word, Block, IndexRange, Steps};
+    use crate::proved::bitwalks::in_turn::*;
+    use crate::proved::bitwords::cursors::*;
+    use crate::proved::{bitranks, bitslots, flow};
+    use crate::proved::fixedbitset::{Bits, BitsMut, ExtendFault, FixedBitSet};
+    use crate::proved::bitslots::*;
+    use crate::shim::alloc::Global;
+    use crate::shim::prelude::*;
+    use crate::shim::u64x4;
+    use core::cmp::Ordering;
+    use core::mem::{size_of, size_of_val};
+
+    let alloc = Global::Try;
+    let mut slots = Slots::new(alloc, 9).unwrap();
+    assert_eq!(slots.take_stretch(1, 7), Some(7));
+    assert_eq!(slots.lower(7), 0);
+}
+
+#[test]
+fn bitslots_slots_195() {
+    use crate::proved::bitlanes::ops::*;
+    use crate::proved::bitlanes::{word, Block, IndexRange, Steps};
+    use crate::proved::bitwalks::in_turn::*;
+    use crate::proved::bitwords::cursors::*;
+    use crate::proved::{bitranks, bitslots, flow};
+    use crate::proved::fixedbitset::{Bits, BitsMut, ExtendFault, FixedBitSet};
+    use crate::proved::bitslots::*;
+    use crate::shim::alloc::Global;
+    use crate::shim::prelude::*;
+    use crate::shim::u64x4;
+    use core::cmp::Ordering;
+    use core::mem::{size_of, size_of_val};
+
+    let alloc = Global::Try;
+    let mut slots = Slots::new(alloc, 1).unwrap();
+    let first = slots.take();
+    bitslots::never_twice();
+    assert!(first == Some(0) && slots.take().is_none());
+}
+
+#[test]
 fn bitwalks_in_turn_10() {
     use crate::proved::bitlanes::ops::*;
     use crate::proved::bitlanes::{word, Block, IndexRange, Steps};
     use crate::proved::bitwalks::in_turn::*;
     use crate::proved::bitwords::cursors::*;
-    use crate::proved::{bitranks, flow};
+    use crate::proved::{bitranks, bitslots, flow};
     use crate::proved::fixedbitset::{Bits, BitsMut, ExtendFault, FixedBitSet};
     use crate::proved::bitwalks::*;
     use crate::shim::alloc::Global;
@@ -1474,7 +1769,7 @@ fn bitwalks_in_turn_45() {
     use crate::proved::bitlanes::{word, Block, IndexRange, Steps};
     use crate::proved::bitwalks::in_turn::*;
     use crate::proved::bitwords::cursors::*;
-    use crate::proved::{bitranks, flow};
+    use crate::proved::{bitranks, bitslots, flow};
     use crate::proved::fixedbitset::{Bits, BitsMut, ExtendFault, FixedBitSet};
     use crate::proved::bitwalks::*;
     use crate::shim::alloc::Global;
@@ -1493,7 +1788,7 @@ fn bitwalks_in_turn_63() {
     use crate::proved::bitlanes::{word, Block, IndexRange, Steps};
     use crate::proved::bitwalks::in_turn::*;
     use crate::proved::bitwords::cursors::*;
-    use crate::proved::{bitranks, flow};
+    use crate::proved::{bitranks, bitslots, flow};
     use crate::proved::fixedbitset::{Bits, BitsMut, ExtendFault, FixedBitSet};
     use crate::proved::bitwalks::*;
     use crate::shim::alloc::Global;
@@ -1514,7 +1809,7 @@ fn bitwalks_in_turn_81() {
     use crate::proved::bitlanes::{word, Block, IndexRange, Steps};
     use crate::proved::bitwalks::in_turn::*;
     use crate::proved::bitwords::cursors::*;
-    use crate::proved::{bitranks, flow};
+    use crate::proved::{bitranks, bitslots, flow};
     use crate::proved::fixedbitset::{Bits, BitsMut, ExtendFault, FixedBitSet};
     use crate::proved::bitwalks::*;
     use crate::shim::alloc::Global;
@@ -1534,7 +1829,7 @@ fn bitwalks_in_turn_98() {
     use crate::proved::bitlanes::{word, Block, IndexRange, Steps};
     use crate::proved::bitwalks::in_turn::*;
     use crate::proved::bitwords::cursors::*;
-    use crate::proved::{bitranks, flow};
+    use crate::proved::{bitranks, bitslots, flow};
     use crate::proved::fixedbitset::{Bits, BitsMut, ExtendFault, FixedBitSet};
     use crate::proved::bitwalks::*;
     use crate::shim::alloc::Global;
@@ -1555,7 +1850,7 @@ fn bitwalks_in_turn_119() {
     use crate::proved::bitlanes::{word, Block, IndexRange, Steps};
     use crate::proved::bitwalks::in_turn::*;
     use crate::proved::bitwords::cursors::*;
-    use crate::proved::{bitranks, flow};
+    use crate::proved::{bitranks, bitslots, flow};
     use crate::proved::fixedbitset::{Bits, BitsMut, ExtendFault, FixedBitSet};
     use crate::proved::bitwalks::*;
     use crate::shim::alloc::Global;
@@ -1576,7 +1871,7 @@ fn bitwalks_in_turn_140() {
     use crate::proved::bitlanes::{word, Block, IndexRange, Steps};
     use crate::proved::bitwalks::in_turn::*;
     use crate::proved::bitwords::cursors::*;
-    use crate::proved::{bitranks, flow};
+    use crate::proved::{bitranks, bitslots, flow};
     use crate::proved::fixedbitset::{Bits, BitsMut, ExtendFault, FixedBitSet};
     use crate::proved::bitwalks::*;
     use crate::shim::alloc::Global;
@@ -1596,7 +1891,7 @@ fn bitwalks_in_turn_152() {
     use crate::proved::bitlanes::{word, Block, IndexRange, Steps};
     use crate::proved::bitwalks::in_turn::*;
     use crate::proved::bitwords::cursors::*;
-    use crate::proved::{bitranks, flow};
+    use crate::proved::{bitranks, bitslots, flow};
     use crate::proved::fixedbitset::{Bits, BitsMut, ExtendFault, FixedBitSet};
     use crate::proved::bitwalks::*;
     use crate::shim::alloc::Global;
@@ -1617,7 +1912,7 @@ fn bitwalks_in_turn_173() {
     use crate::proved::bitlanes::{word, Block, IndexRange, Steps};
     use crate::proved::bitwalks::in_turn::*;
     use crate::proved::bitwords::cursors::*;
-    use crate::proved::{bitranks, flow};
+    use crate::proved::{bitranks, bitslots, flow};
     use crate::proved::fixedbitset::{Bits, BitsMut, ExtendFault, FixedBitSet};
     use crate::proved::bitwalks::*;
     use crate::shim::alloc::Global;
@@ -1639,7 +1934,7 @@ fn bitwalks_runs_20() {
     use crate::proved::bitlanes::{word, Block, IndexRange, Steps};
     use crate::proved::bitwalks::in_turn::*;
     use crate::proved::bitwords::cursors::*;
-    use crate::proved::{bitranks, flow};
+    use crate::proved::{bitranks, bitslots, flow};
     use crate::proved::fixedbitset::{Bits, BitsMut, ExtendFault, FixedBitSet};
     use crate::proved::bitwalks::*;
     use crate::shim::alloc::Global;
@@ -1662,7 +1957,7 @@ fn bitwalks_runs_54() {
     use crate::proved::bitlanes::{word, Block, IndexRange, Steps};
     use crate::proved::bitwalks::in_turn::*;
     use crate::proved::bitwords::cursors::*;
-    use crate::proved::{bitranks, flow};
+    use crate::proved::{bitranks, bitslots, flow};
     use crate::proved::fixedbitset::{Bits, BitsMut, ExtendFault, FixedBitSet};
     use crate::proved::bitwalks::*;
     use crate::shim::alloc::Global;
@@ -1682,7 +1977,7 @@ fn bitwalks_runs_76() {
     use crate::proved::bitlanes::{word, Block, IndexRange, Steps};
     use crate::proved::bitwalks::in_turn::*;
     use crate::proved::bitwords::cursors::*;
-    use crate::proved::{bitranks, flow};
+    use crate::proved::{bitranks, bitslots, flow};
     use crate::proved::fixedbitset::{Bits, BitsMut, ExtendFault, FixedBitSet};
     use crate::proved::bitwalks::*;
     use crate::shim::alloc::Global;
@@ -1703,7 +1998,7 @@ fn bitwalks_runs_95() {
     use crate::proved::bitlanes::{word, Block, IndexRange, Steps};
     use crate::proved::bitwalks::in_turn::*;
     use crate::proved::bitwords::cursors::*;
-    use crate::proved::{bitranks, flow};
+    use crate::proved::{bitranks, bitslots, flow};
     use crate::proved::fixedbitset::{Bits, BitsMut, ExtendFault, FixedBitSet};
     use crate::proved::bitwalks::*;
     use crate::shim::alloc::Global;
@@ -1722,7 +2017,7 @@ fn bitwalks_walks_25() {
     use crate::proved::bitlanes::{word, Block, IndexRange, Steps};
     use crate::proved::bitwalks::in_turn::*;
     use crate::proved::bitwords::cursors::*;
-    use crate::proved::{bitranks, flow};
+    use crate::proved::{bitranks, bitslots, flow};
     use crate::proved::fixedbitset::{Bits, BitsMut, ExtendFault, FixedBitSet};
     use crate::proved::bitwalks::*;
     use crate::shim::alloc::Global;
@@ -1745,7 +2040,7 @@ fn bitwalks_walks_41() {
     use crate::proved::bitlanes::{word, Block, IndexRange, Steps};
     use crate::proved::bitwalks::in_turn::*;
     use crate::proved::bitwords::cursors::*;
-    use crate::proved::{bitranks, flow};
+    use crate::proved::{bitranks, bitslots, flow};
     use crate::proved::fixedbitset::{Bits, BitsMut, ExtendFault, FixedBitSet};
     use crate::proved::bitwalks::*;
     use crate::shim::alloc::Global;
@@ -1768,7 +2063,7 @@ fn bitwalks_walks_58() {
     use crate::proved::bitlanes::{word, Block, IndexRange, Steps};
     use crate::proved::bitwalks::in_turn::*;
     use crate::proved::bitwords::cursors::*;
-    use crate::proved::{bitranks, flow};
+    use crate::proved::{bitranks, bitslots, flow};
     use crate::proved::fixedbitset::{Bits, BitsMut, ExtendFault, FixedBitSet};
     use crate::proved::bitwalks::*;
     use crate::shim::alloc::Global;
@@ -1791,7 +2086,7 @@ fn bitwalks_walks_74() {
     use crate::proved::bitlanes::{word, Block, IndexRange, Steps};
     use crate::proved::bitwalks::in_turn::*;
     use crate::proved::bitwords::cursors::*;
-    use crate::proved::{bitranks, flow};
+    use crate::proved::{bitranks, bitslots, flow};
     use crate::proved::fixedbitset::{Bits, BitsMut, ExtendFault, FixedBitSet};
     use crate::proved::bitwalks::*;
     use crate::shim::alloc::Global;
@@ -1811,7 +2106,7 @@ fn bitwalks_walks_90() {
     use crate::proved::bitlanes::{word, Block, IndexRange, Steps};
     use crate::proved::bitwalks::in_turn::*;
     use crate::proved::bitwords::cursors::*;
-    use crate::proved::{bitranks, flow};
+    use crate::proved::{bitranks, bitslots, flow};
     use crate::proved::fixedbitset::{Bits, BitsMut, ExtendFault, FixedBitSet};
     use crate::proved::bitwalks::*;
     use crate::shim::alloc::Global;
@@ -1831,7 +2126,7 @@ fn bitwalks_walks_105() {
     use crate::proved::bitlanes::{word, Block, IndexRange, Steps};
     use crate::proved::bitwalks::in_turn::*;
     use crate::proved::bitwords::cursors::*;
-    use crate::proved::{bitranks, flow};
+    use crate::proved::{bitranks, bitslots, flow};
     use crate::proved::fixedbitset::{Bits, BitsMut, ExtendFault, FixedBitSet};
     use crate::proved::bitwalks::*;
     use crate::shim::alloc::Global;
@@ -1851,7 +2146,7 @@ fn bitwalks_walks_150() {
     use crate::proved::bitlanes::{word, Block, IndexRange, Steps};
     use crate::proved::bitwalks::in_turn::*;
     use crate::proved::bitwords::cursors::*;
-    use crate::proved::{bitranks, flow};
+    use crate::proved::{bitranks, bitslots, flow};
     use crate::proved::fixedbitset::{Bits, BitsMut, ExtendFault, FixedBitSet};
     use crate::proved::bitwalks::*;
     use crate::shim::alloc::Global;
@@ -1871,7 +2166,7 @@ fn bitwalks_walks_221() {
     use crate::proved::bitlanes::{word, Block, IndexRange, Steps};
     use crate::proved::bitwalks::in_turn::*;
     use crate::proved::bitwords::cursors::*;
-    use crate::proved::{bitranks, flow};
+    use crate::proved::{bitranks, bitslots, flow};
     use crate::proved::fixedbitset::{Bits, BitsMut, ExtendFault, FixedBitSet};
     use crate::proved::bitwalks::*;
     use crate::shim::alloc::Global;
@@ -1891,7 +2186,7 @@ fn bitwords_cursors_20() {
     use crate::proved::bitlanes::{word, Block, IndexRange, Steps};
     use crate::proved::bitwalks::in_turn::*;
     use crate::proved::bitwords::cursors::*;
-    use crate::proved::{bitranks, flow};
+    use crate::proved::{bitranks, bitslots, flow};
     use crate::proved::fixedbitset::{Bits, BitsMut, ExtendFault, FixedBitSet};
     use crate::proved::bitwords::*;
     use crate::shim::alloc::Global;
@@ -1913,7 +2208,7 @@ fn bitwords_cursors_46() {
     use crate::proved::bitlanes::{word, Block, IndexRange, Steps};
     use crate::proved::bitwalks::in_turn::*;
     use crate::proved::bitwords::cursors::*;
-    use crate::proved::{bitranks, flow};
+    use crate::proved::{bitranks, bitslots, flow};
     use crate::proved::fixedbitset::{Bits, BitsMut, ExtendFault, FixedBitSet};
     use crate::proved::bitwords::*;
     use crate::shim::alloc::Global;
@@ -1933,7 +2228,7 @@ fn bitwords_cursors_58() {
     use crate::proved::bitlanes::{word, Block, IndexRange, Steps};
     use crate::proved::bitwalks::in_turn::*;
     use crate::proved::bitwords::cursors::*;
-    use crate::proved::{bitranks, flow};
+    use crate::proved::{bitranks, bitslots, flow};
     use crate::proved::fixedbitset::{Bits, BitsMut, ExtendFault, FixedBitSet};
     use crate::proved::bitwords::*;
     use crate::shim::alloc::Global;
@@ -1953,7 +2248,7 @@ fn bitwords_cursors_101() {
     use crate::proved::bitlanes::{word, Block, IndexRange, Steps};
     use crate::proved::bitwalks::in_turn::*;
     use crate::proved::bitwords::cursors::*;
-    use crate::proved::{bitranks, flow};
+    use crate::proved::{bitranks, bitslots, flow};
     use crate::proved::fixedbitset::{Bits, BitsMut, ExtendFault, FixedBitSet};
     use crate::proved::bitwords::*;
     use crate::shim::alloc::Global;
@@ -1974,7 +2269,7 @@ fn bitwords_cursors_146() {
     use crate::proved::bitlanes::{word, Block, IndexRange, Steps};
     use crate::proved::bitwalks::in_turn::*;
     use crate::proved::bitwords::cursors::*;
-    use crate::proved::{bitranks, flow};
+    use crate::proved::{bitranks, bitslots, flow};
     use crate::proved::fixedbitset::{Bits, BitsMut, ExtendFault, FixedBitSet};
     use crate::proved::bitwords::*;
     use crate::shim::alloc::Global;
@@ -1993,7 +2288,7 @@ fn bitwords_cursors_160() {
     use crate::proved::bitlanes::{word, Block, IndexRange, Steps};
     use crate::proved::bitwalks::in_turn::*;
     use crate::proved::bitwords::cursors::*;
-    use crate::proved::{bitranks, flow};
+    use crate::proved::{bitranks, bitslots, flow};
     use crate::proved::fixedbitset::{Bits, BitsMut, ExtendFault, FixedBitSet};
     use crate::proved::bitwords::*;
     use crate::shim::alloc::Global;
@@ -2012,7 +2307,7 @@ fn bitwords_cursors_312() {
     use crate::proved::bitlanes::{word, Block, IndexRange, Steps};
     use crate::proved::bitwalks::in_turn::*;
     use crate::proved::bitwords::cursors::*;
-    use crate::proved::{bitranks, flow};
+    use crate::proved::{bitranks, bitslots, flow};
     use crate::proved::fixedbitset::{Bits, BitsMut, ExtendFault, FixedBitSet};
     use crate::proved::bitwords::*;
     use crate::shim::alloc::Global;
@@ -2031,7 +2326,7 @@ fn bitwords_cursors_326() {
     use crate::proved::bitlanes::{word, Block, IndexRange, Steps};
     use crate::proved::bitwalks::in_turn::*;
     use crate::proved::bitwords::cursors::*;
-    use crate::proved::{bitranks, flow};
+    use crate::proved::{bitranks, bitslots, flow};
     use crate::proved::fixedbitset::{Bits, BitsMut, ExtendFault, FixedBitSet};
     use crate::proved::bitwords::*;
     use crate::shim::alloc::Global;
@@ -2050,7 +2345,7 @@ fn bitwords_cursors_342() {
     use crate::proved::bitlanes::{word, Block, IndexRange, Steps};
     use crate::proved::bitwalks::in_turn::*;
     use crate::proved::bitwords::cursors::*;
-    use crate::proved::{bitranks, flow};
+    use crate::proved::{bitranks, bitslots, flow};
     use crate::proved::fixedbitset::{Bits, BitsMut, ExtendFault, FixedBitSet};
     use crate::proved::bitwords::*;
     use crate::shim::alloc::Global;
@@ -2070,7 +2365,7 @@ fn bitwords_cursors_369() {
     use crate::proved::bitlanes::{word, Block, IndexRange, Steps};
     use crate::proved::bitwalks::in_turn::*;
     use crate::proved::bitwords::cursors::*;
-    use crate::proved::{bitranks, flow};
+    use crate::proved::{bitranks, bitslots, flow};
     use crate::proved::fixedbitset::{Bits, BitsMut, ExtendFault, FixedBitSet};
     use crate::proved::bitwords::*;
     use crate::shim::alloc::Global;
@@ -2090,7 +2385,7 @@ fn bitwords_cursors_399() {
     use crate::proved::bitlanes::{word, Block, IndexRange, Steps};
     use crate::proved::bitwalks::in_turn::*;
     use crate::proved::bitwords::cursors::*;
-    use crate::proved::{bitranks, flow};
+    use crate::proved::{bitranks, bitslots, flow};
     use crate::proved::fixedbitset::{Bits, BitsMut, ExtendFault, FixedBitSet};
     use crate::proved::bitwords::*;
     use crate::shim::alloc::Global;
@@ -2110,7 +2405,7 @@ fn bitwords_cursors_497() {
     use crate::proved::bitlanes::{word, Block, IndexRange, Steps};
     use crate::proved::bitwalks::in_turn::*;
     use crate::proved::bitwords::cursors::*;
-    use crate::proved::{bitranks, flow};
+    use crate::proved::{bitranks, bitslots, flow};
     use crate::proved::fixedbitset::{Bits, BitsMut, ExtendFault, FixedBitSet};
     use crate::proved::bitwords::*;
     use crate::shim::alloc::Global;
@@ -2129,7 +2424,7 @@ fn bitwords_cursors_512() {
     use crate::proved::bitlanes::{word, Block, IndexRange, Steps};
     use crate::proved::bitwalks::in_turn::*;
     use crate::proved::bitwords::cursors::*;
-    use crate::proved::{bitranks, flow};
+    use crate::proved::{bitranks, bitslots, flow};
     use crate::proved::fixedbitset::{Bits, BitsMut, ExtendFault, FixedBitSet};
     use crate::proved::bitwords::*;
     use crate::shim::alloc::Global;
@@ -2148,7 +2443,7 @@ fn bitwords_gaps_22() {
     use crate::proved::bitlanes::{word, Block, IndexRange, Steps};
     use crate::proved::bitwalks::in_turn::*;
     use crate::proved::bitwords::cursors::*;
-    use crate::proved::{bitranks, flow};
+    use crate::proved::{bitranks, bitslots, flow};
     use crate::proved::fixedbitset::{Bits, BitsMut, ExtendFault, FixedBitSet};
     use crate::proved::bitwords::*;
     use crate::shim::alloc::Global;
@@ -2169,7 +2464,7 @@ fn bitwords_gaps_53() {
     use crate::proved::bitlanes::{word, Block, IndexRange, Steps};
     use crate::proved::bitwalks::in_turn::*;
     use crate::proved::bitwords::cursors::*;
-    use crate::proved::{bitranks, flow};
+    use crate::proved::{bitranks, bitslots, flow};
     use crate::proved::fixedbitset::{Bits, BitsMut, ExtendFault, FixedBitSet};
     use crate::proved::bitwords::*;
     use crate::shim::alloc::Global;
@@ -2190,7 +2485,7 @@ fn bitwords_handfuls_57() {
     use crate::proved::bitlanes::{word, Block, IndexRange, Steps};
     use crate::proved::bitwalks::in_turn::*;
     use crate::proved::bitwords::cursors::*;
-    use crate::proved::{bitranks, flow};
+    use crate::proved::{bitranks, bitslots, flow};
     use crate::proved::fixedbitset::{Bits, BitsMut, ExtendFault, FixedBitSet};
     use crate::proved::bitwords::*;
     use crate::shim::alloc::Global;
@@ -2210,7 +2505,7 @@ fn bitwords_handfuls_74() {
     use crate::proved::bitlanes::{word, Block, IndexRange, Steps};
     use crate::proved::bitwalks::in_turn::*;
     use crate::proved::bitwords::cursors::*;
-    use crate::proved::{bitranks, flow};
+    use crate::proved::{bitranks, bitslots, flow};
     use crate::proved::fixedbitset::{Bits, BitsMut, ExtendFault, FixedBitSet};
     use crate::proved::bitwords::*;
     use crate::shim::alloc::Global;
@@ -2231,7 +2526,7 @@ fn bitwords_handfuls_107() {
     use crate::proved::bitlanes::{word, Block, IndexRange, Steps};
     use crate::proved::bitwalks::in_turn::*;
     use crate::proved::bitwords::cursors::*;
-    use crate::proved::{bitranks, flow};
+    use crate::proved::{bitranks, bitslots, flow};
     use crate::proved::fixedbitset::{Bits, BitsMut, ExtendFault, FixedBitSet};
     use crate::proved::bitwords::*;
     use crate::shim::alloc::Global;
@@ -2254,7 +2549,7 @@ fn bitwords_handfuls_141() {
     use crate::proved::bitlanes::{word, Block, IndexRange, Steps};
     use crate::proved::bitwalks::in_turn::*;
     use crate::proved::bitwords::cursors::*;
-    use crate::proved::{bitranks, flow};
+    use crate::proved::{bitranks, bitslots, flow};
     use crate::proved::fixedbitset::{Bits, BitsMut, ExtendFault, FixedBitSet};
     use crate::proved::bitwords::*;
     use crate::shim::alloc::Global;
@@ -2277,7 +2572,7 @@ fn bitwords_joins_18() {
     use crate::proved::bitlanes::{word, Block, IndexRange, Steps};
     use crate::proved::bitwalks::in_turn::*;
     use crate::proved::bitwords::cursors::*;
-    use crate::proved::{bitranks, flow};
+    use crate::proved::{bitranks, bitslots, flow};
     use crate::proved::fixedbitset::{Bits, BitsMut, ExtendFault, FixedBitSet};
     use crate::proved::bitwords::*;
     use crate::shim::alloc::Global;
@@ -2297,7 +2592,7 @@ fn bitwords_joins_37() {
     use crate::proved::bitlanes::{word, Block, IndexRange, Steps};
     use crate::proved::bitwalks::in_turn::*;
     use crate::proved::bitwords::cursors::*;
-    use crate::proved::{bitranks, flow};
+    use crate::proved::{bitranks, bitslots, flow};
     use crate::proved::fixedbitset::{Bits, BitsMut, ExtendFault, FixedBitSet};
     use crate::proved::bitwords::*;
     use crate::shim::alloc::Global;
@@ -2317,7 +2612,7 @@ fn bitwords_joins_59() {
     use crate::proved::bitlanes::{word, Block, IndexRange, Steps};
     use crate::proved::bitwalks::in_turn::*;
     use crate::proved::bitwords::cursors::*;
-    use crate::proved::{bitranks, flow};
+    use crate::proved::{bitranks, bitslots, flow};
     use crate::proved::fixedbitset::{Bits, BitsMut, ExtendFault, FixedBitSet};
     use crate::proved::bitwords::*;
     use crate::shim::alloc::Global;
@@ -2337,7 +2632,7 @@ fn bitwords_joins_83() {
     use crate::proved::bitlanes::{word, Block, IndexRange, Steps};
     use crate::proved::bitwalks::in_turn::*;
     use crate::proved::bitwords::cursors::*;
-    use crate::proved::{bitranks, flow};
+    use crate::proved::{bitranks, bitslots, flow};
     use crate::proved::fixedbitset::{Bits, BitsMut, ExtendFault, FixedBitSet};
     use crate::proved::bitwords::*;
     use crate::shim::alloc::Global;
@@ -2359,7 +2654,7 @@ fn bitwords_joins_109() {
     use crate::proved::bitlanes::{word, Block, IndexRange, Steps};
     use crate::proved::bitwalks::in_turn::*;
     use crate::proved::bitwords::cursors::*;
-    use crate::proved::{bitranks, flow};
+    use crate::proved::{bitranks, bitslots, flow};
     use crate::proved::fixedbitset::{Bits, BitsMut, ExtendFault, FixedBitSet};
     use crate::proved::bitwords::*;
     use crate::shim::alloc::Global;
@@ -2378,7 +2673,7 @@ fn bitwords_joins_124() {
     use crate::proved::bitlanes::{word, Block, IndexRange, Steps};
     use crate::proved::bitwalks::in_turn::*;
     use crate::proved::bitwords::cursors::*;
-    use crate::proved::{bitranks, flow};
+    use crate::proved::{bitranks, bitslots, flow};
     use crate::proved::fixedbitset::{Bits, BitsMut, ExtendFault, FixedBitSet};
     use crate::proved::bitwords::*;
     use crate::shim::alloc::Global;
@@ -2397,7 +2692,7 @@ fn bitwords_joins_140() {
     use crate::proved::bitlanes::{word, Block, IndexRange, Steps};
     use crate::proved::bitwalks::in_turn::*;
     use crate::proved::bitwords::cursors::*;
-    use crate::proved::{bitranks, flow};
+    use crate::proved::{bitranks, bitslots, flow};
     use crate::proved::fixedbitset::{Bits, BitsMut, ExtendFault, FixedBitSet};
     use crate::proved::bitwords::*;
     use crate::shim::alloc::Global;
@@ -2417,7 +2712,7 @@ fn bitwords_joins_158() {
     use crate::proved::bitlanes::{word, Block, IndexRange, Steps};
     use crate::proved::bitwalks::in_turn::*;
     use crate::proved::bitwords::cursors::*;
-    use crate::proved::{bitranks, flow};
+    use crate::proved::{bitranks, bitslots, flow};
     use crate::proved::fixedbitset::{Bits, BitsMut, ExtendFault, FixedBitSet};
     use crate::proved::bitwords::*;
     use crate::shim::alloc::Global;
@@ -2438,7 +2733,7 @@ fn bitwords_new_rows_20() {
     use crate::proved::bitlanes::{word, Block, IndexRange, Steps};
     use crate::proved::bitwalks::in_turn::*;
     use crate::proved::bitwords::cursors::*;
-    use crate::proved::{bitranks, flow};
+    use crate::proved::{bitranks, bitslots, flow};
     use crate::proved::fixedbitset::{Bits, BitsMut, ExtendFault, FixedBitSet};
     use crate::proved::bitwords::*;
     use crate::shim::alloc::Global;
@@ -2458,7 +2753,7 @@ fn bitwords_positions_12() {
     use crate::proved::bitlanes::{word, Block, IndexRange, Steps};
     use crate::proved::bitwalks::in_turn::*;
     use crate::proved::bitwords::cursors::*;
-    use crate::proved::{bitranks, flow};
+    use crate::proved::{bitranks, bitslots, flow};
     use crate::proved::fixedbitset::{Bits, BitsMut, ExtendFault, FixedBitSet};
     use crate::proved::bitwords::*;
     use crate::shim::alloc::Global;
@@ -2478,7 +2773,7 @@ fn bitwords_positions_30() {
     use crate::proved::bitlanes::{word, Block, IndexRange, Steps};
     use crate::proved::bitwalks::in_turn::*;
     use crate::proved::bitwords::cursors::*;
-    use crate::proved::{bitranks, flow};
+    use crate::proved::{bitranks, bitslots, flow};
     use crate::proved::fixedbitset::{Bits, BitsMut, ExtendFault, FixedBitSet};
     use crate::proved::bitwords::*;
     use crate::shim::alloc::Global;
@@ -2498,7 +2793,7 @@ fn bitwords_positions_46() {
     use crate::proved::bitlanes::{word, Block, IndexRange, Steps};
     use crate::proved::bitwalks::in_turn::*;
     use crate::proved::bitwords::cursors::*;
-    use crate::proved::{bitranks, flow};
+    use crate::proved::{bitranks, bitslots, flow};
     use crate::proved::fixedbitset::{Bits, BitsMut, ExtendFault, FixedBitSet};
     use crate::proved::bitwords::*;
     use crate::shim::alloc::Global;
@@ -2518,7 +2813,7 @@ fn bitwords_positions_66() {
     use crate::proved::bitlanes::{word, Block, IndexRange, Steps};
     use crate::proved::bitwalks::in_turn::*;
     use crate::proved::bitwords::cursors::*;
-    use crate::proved::{bitranks, flow};
+    use crate::proved::{bitranks, bitslots, flow};
     use crate::proved::fixedbitset::{Bits, BitsMut, ExtendFault, FixedBitSet};
     use crate::proved::bitwords::*;
     use crate::shim::alloc::Global;
@@ -2540,7 +2835,7 @@ fn bitwords_positions_90() {
     use crate::proved::bitlanes::{word, Block, IndexRange, Steps};
     use crate::proved::bitwalks::in_turn::*;
     use crate::proved::bitwords::cursors::*;
-    use crate::proved::{bitranks, flow};
+    use crate::proved::{bitranks, bitslots, flow};
     use crate::proved::fixedbitset::{Bits, BitsMut, ExtendFault, FixedBitSet};
     use crate::proved::bitwords::*;
     use crate::shim::alloc::Global;
@@ -2562,7 +2857,7 @@ fn bitwords_positions_118() {
     use crate::proved::bitlanes::{word, Block, IndexRange, Steps};
     use crate::proved::bitwalks::in_turn::*;
     use crate::proved::bitwords::cursors::*;
-    use crate::proved::{bitranks, flow};
+    use crate::proved::{bitranks, bitslots, flow};
     use crate::proved::fixedbitset::{Bits, BitsMut, ExtendFault, FixedBitSet};
     use crate::proved::bitwords::*;
     use crate::shim::alloc::Global;
@@ -2582,7 +2877,7 @@ fn bitwords_positions_148() {
     use crate::proved::bitlanes::{word, Block, IndexRange, Steps};
     use crate::proved::bitwalks::in_turn::*;
     use crate::proved::bitwords::cursors::*;
-    use crate::proved::{bitranks, flow};
+    use crate::proved::{bitranks, bitslots, flow};
     use crate::proved::fixedbitset::{Bits, BitsMut, ExtendFault, FixedBitSet};
     use crate::proved::bitwords::*;
     use crate::shim::alloc::Global;
@@ -2602,7 +2897,7 @@ fn bitwords_positions_161() {
     use crate::proved::bitlanes::{word, Block, IndexRange, Steps};
     use crate::proved::bitwalks::in_turn::*;
     use crate::proved::bitwords::cursors::*;
-    use crate::proved::{bitranks, flow};
+    use crate::proved::{bitranks, bitslots, flow};
     use crate::proved::fixedbitset::{Bits, BitsMut, ExtendFault, FixedBitSet};
     use crate::proved::bitwords::*;
     use crate::shim::alloc::Global;
@@ -2622,7 +2917,7 @@ fn bitwords_ranges_19() {
     use crate::proved::bitlanes::{word, Block, IndexRange, Steps};
     use crate::proved::bitwalks::in_turn::*;
     use crate::proved::bitwords::cursors::*;
-    use crate::proved::{bitranks, flow};
+    use crate::proved::{bitranks, bitslots, flow};
     use crate::proved::fixedbitset::{Bits, BitsMut, ExtendFault, FixedBitSet};
     use crate::proved::bitwords::*;
     use crate::shim::alloc::Global;
@@ -2642,7 +2937,7 @@ fn bitwords_ranges_40() {
     use crate::proved::bitlanes::{word, Block, IndexRange, Steps};
     use crate::proved::bitwalks::in_turn::*;
     use crate::proved::bitwords::cursors::*;
-    use crate::proved::{bitranks, flow};
+    use crate::proved::{bitranks, bitslots, flow};
     use crate::proved::fixedbitset::{Bits, BitsMut, ExtendFault, FixedBitSet};
     use crate::proved::bitwords::*;
     use crate::shim::alloc::Global;
@@ -2661,7 +2956,7 @@ fn bitwords_ranges_63() {
     use crate::proved::bitlanes::{word, Block, IndexRange, Steps};
     use crate::proved::bitwalks::in_turn::*;
     use crate::proved::bitwords::cursors::*;
-    use crate::proved::{bitranks, flow};
+    use crate::proved::{bitranks, bitslots, flow};
     use crate::proved::fixedbitset::{Bits, BitsMut, ExtendFault, FixedBitSet};
     use crate::proved::bitwords::*;
     use crate::shim::alloc::Global;
@@ -2680,7 +2975,7 @@ fn bitwords_ranges_81() {
     use crate::proved::bitlanes::{word, Block, IndexRange, Steps};
     use crate::proved::bitwalks::in_turn::*;
     use crate::proved::bitwords::cursors::*;
-    use crate::proved::{bitranks, flow};
+    use crate::proved::{bitranks, bitslots, flow};
     use crate::proved::fixedbitset::{Bits, BitsMut, ExtendFault, FixedBitSet};
     use crate::proved::bitwords::*;
     use crate::shim::alloc::Global;
@@ -2700,7 +2995,7 @@ fn bitwords_ranges_113() {
     use crate::proved::bitlanes::{word, Block, IndexRange, Steps};
     use crate::proved::bitwalks::in_turn::*;
     use crate::proved::bitwords::cursors::*;
-    use crate::proved::{bitranks, flow};
+    use crate::proved::{bitranks, bitslots, flow};
     use crate::proved::fixedbitset::{Bits, BitsMut, ExtendFault, FixedBitSet};
     use crate::proved::bitwords::*;
     use crate::shim::alloc::Global;
@@ -2720,7 +3015,7 @@ fn bitwords_ranges_128() {
     use crate::proved::bitlanes::{word, Block, IndexRange, Steps};
     use crate::proved::bitwalks::in_turn::*;
     use crate::proved::bitwords::cursors::*;
-    use crate::proved::{bitranks, flow};
+    use crate::proved::{bitranks, bitslots, flow};
     use crate::proved::fixedbitset::{Bits, BitsMut, ExtendFault, FixedBitSet};
     use crate::proved::bitwords::*;
     use crate::shim::alloc::Global;
@@ -2740,7 +3035,7 @@ fn bitwords_shifts_16() {
     use crate::proved::bitlanes::{word, Block, IndexRange, Steps};
     use crate::proved::bitwalks::in_turn::*;
     use crate::proved::bitwords::cursors::*;
-    use crate::proved::{bitranks, flow};
+    use crate::proved::{bitranks, bitslots, flow};
     use crate::proved::fixedbitset::{Bits, BitsMut, ExtendFault, FixedBitSet};
     use crate::proved::bitwords::*;
     use crate::shim::alloc::Global;
@@ -2760,7 +3055,7 @@ fn bitwords_shifts_36() {
     use crate::proved::bitlanes::{word, Block, IndexRange, Steps};
     use crate::proved::bitwalks::in_turn::*;
     use crate::proved::bitwords::cursors::*;
-    use crate::proved::{bitranks, flow};
+    use crate::proved::{bitranks, bitslots, flow};
     use crate::proved::fixedbitset::{Bits, BitsMut, ExtendFault, FixedBitSet};
     use crate::proved::bitwords::*;
     use crate::shim::alloc::Global;
@@ -2780,7 +3075,7 @@ fn bitwords_shifts_62() {
     use crate::proved::bitlanes::{word, Block, IndexRange, Steps};
     use crate::proved::bitwalks::in_turn::*;
     use crate::proved::bitwords::cursors::*;
-    use crate::proved::{bitranks, flow};
+    use crate::proved::{bitranks, bitslots, flow};
     use crate::proved::fixedbitset::{Bits, BitsMut, ExtendFault, FixedBitSet};
     use crate::proved::bitwords::*;
     use crate::shim::alloc::Global;
@@ -2800,7 +3095,7 @@ fn bitwords_shifts_81() {
     use crate::proved::bitlanes::{word, Block, IndexRange, Steps};
     use crate::proved::bitwalks::in_turn::*;
     use crate::proved::bitwords::cursors::*;
-    use crate::proved::{bitranks, flow};
+    use crate::proved::{bitranks, bitslots, flow};
     use crate::proved::fixedbitset::{Bits, BitsMut, ExtendFault, FixedBitSet};
     use crate::proved::bitwords::*;
     use crate::shim::alloc::Global;
@@ -2820,7 +3115,7 @@ fn fixedbitset_bits_15() {
     use crate::proved::bitlanes::{word, Block, IndexRange, Steps};
     use crate::proved::bitwalks::in_turn::*;
     use crate::proved::bitwords::cursors::*;
-    use crate::proved::{bitranks, flow};
+    use crate::proved::{bitranks, bitslots, flow};
     use crate::proved::fixedbitset::{Bits, BitsMut, ExtendFault, FixedBitSet};
     use crate::proved::fixedbitset::*;
     use crate::shim::alloc::Global;
@@ -2842,7 +3137,7 @@ fn fixedbitset_bits_32() {
     use crate::proved::bitlanes::{word, Block, IndexRange, Steps};
     use crate::proved::bitwalks::in_turn::*;
     use crate::proved::bitwords::cursors::*;
-    use crate::proved::{bitranks, flow};
+    use crate::proved::{bitranks, bitslots, flow};
     use crate::proved::fixedbitset::{Bits, BitsMut, ExtendFault, FixedBitSet};
     use crate::proved::fixedbitset::*;
     use crate::shim::alloc::Global;
@@ -2864,7 +3159,7 @@ fn fixedbitset_bits_48() {
     use crate::proved::bitlanes::{word, Block, IndexRange, Steps};
     use crate::proved::bitwalks::in_turn::*;
     use crate::proved::bitwords::cursors::*;
-    use crate::proved::{bitranks, flow};
+    use crate::proved::{bitranks, bitslots, flow};
     use crate::proved::fixedbitset::{Bits, BitsMut, ExtendFault, FixedBitSet};
     use crate::proved::fixedbitset::*;
     use crate::shim::alloc::Global;
@@ -2886,7 +3181,7 @@ fn fixedbitset_bits_61() {
     use crate::proved::bitlanes::{word, Block, IndexRange, Steps};
     use crate::proved::bitwalks::in_turn::*;
     use crate::proved::bitwords::cursors::*;
-    use crate::proved::{bitranks, flow};
+    use crate::proved::{bitranks, bitslots, flow};
     use crate::proved::fixedbitset::{Bits, BitsMut, ExtendFault, FixedBitSet};
     use crate::proved::fixedbitset::*;
     use crate::shim::alloc::Global;
@@ -2908,7 +3203,7 @@ fn fixedbitset_bits_74() {
     use crate::proved::bitlanes::{word, Block, IndexRange, Steps};
     use crate::proved::bitwalks::in_turn::*;
     use crate::proved::bitwords::cursors::*;
-    use crate::proved::{bitranks, flow};
+    use crate::proved::{bitranks, bitslots, flow};
     use crate::proved::fixedbitset::{Bits, BitsMut, ExtendFault, FixedBitSet};
     use crate::proved::fixedbitset::*;
     use crate::shim::alloc::Global;
@@ -2929,7 +3224,7 @@ fn fixedbitset_bits_87() {
     use crate::proved::bitlanes::{word, Block, IndexRange, Steps};
     use crate::proved::bitwalks::in_turn::*;
     use crate::proved::bitwords::cursors::*;
-    use crate::proved::{bitranks, flow};
+    use crate::proved::{bitranks, bitslots, flow};
     use crate::proved::fixedbitset::{Bits, BitsMut, ExtendFault, FixedBitSet};
     use crate::proved::fixedbitset::*;
     use crate::shim::alloc::Global;
@@ -2952,7 +3247,7 @@ fn fixedbitset_bits_101() {
     use crate::proved::bitlanes::{word, Block, IndexRange, Steps};
     use crate::proved::bitwalks::in_turn::*;
     use crate::proved::bitwords::cursors::*;
-    use crate::proved::{bitranks, flow};
+    use crate::proved::{bitranks, bitslots, flow};
     use crate::proved::fixedbitset::{Bits, BitsMut, ExtendFault, FixedBitSet};
     use crate::proved::fixedbitset::*;
     use crate::shim::alloc::Global;
@@ -2974,7 +3269,7 @@ fn fixedbitset_bits_115() {
     use crate::proved::bitlanes::{word, Block, IndexRange, Steps};
     use crate::proved::bitwalks::in_turn::*;
     use crate::proved::bitwords::cursors::*;
-    use crate::proved::{bitranks, flow};
+    use crate::proved::{bitranks, bitslots, flow};
     use crate::proved::fixedbitset::{Bits, BitsMut, ExtendFault, FixedBitSet};
     use crate::proved::fixedbitset::*;
     use crate::shim::alloc::Global;
@@ -2996,7 +3291,7 @@ fn fixedbitset_bits_128() {
     use crate::proved::bitlanes::{word, Block, IndexRange, Steps};
     use crate::proved::bitwalks::in_turn::*;
     use crate::proved::bitwords::cursors::*;
-    use crate::proved::{bitranks, flow};
+    use crate::proved::{bitranks, bitslots, flow};
     use crate::proved::fixedbitset::{Bits, BitsMut, ExtendFault, FixedBitSet};
     use crate::proved::fixedbitset::*;
     use crate::shim::alloc::Global;
@@ -3019,7 +3314,7 @@ fn fixedbitset_bits_146() {
     use crate::proved::bitlanes::{word, Block, IndexRange, Steps};
     use crate::proved::bitwalks::in_turn::*;
     use crate::proved::bitwords::cursors::*;
-    use crate::proved::{bitranks, flow};
+    use crate::proved::{bitranks, bitslots, flow};
     use crate::proved::fixedbitset::{Bits, BitsMut, ExtendFault, FixedBitSet};
     use crate::proved::fixedbitset::*;
     use crate::shim::alloc::Global;
@@ -3041,7 +3336,7 @@ fn fixedbitset_bits_163() {
     use crate::proved::bitlanes::{word, Block, IndexRange, Steps};
     use crate::proved::bitwalks::in_turn::*;
     use crate::proved::bitwords::cursors::*;
-    use crate::proved::{bitranks, flow};
+    use crate::proved::{bitranks, bitslots, flow};
     use crate::proved::fixedbitset::{Bits, BitsMut, ExtendFault, FixedBitSet};
     use crate::proved::fixedbitset::*;
     use crate::shim::alloc::Global;
@@ -3062,7 +3357,7 @@ fn fixedbitset_bits_178() {
     use crate::proved::bitlanes::{word, Block, IndexRange, Steps};
     use crate::proved::bitwalks::in_turn::*;
     use crate::proved::bitwords::cursors::*;
-    use crate::proved::{bitranks, flow};
+    use crate::proved::{bitranks, bitslots, flow};
     use crate::proved::fixedbitset::{Bits, BitsMut, ExtendFault, FixedBitSet};
     use crate::proved::fixedbitset::*;
     use crate::shim::alloc::Global;
@@ -3084,7 +3379,7 @@ fn fixedbitset_bits_191() {
     use crate::proved::bitlanes::{word, Block, IndexRange, Steps};
     use crate::proved::bitwalks::in_turn::*;
     use crate::proved::bitwords::cursors::*;
-    use crate::proved::{bitranks, flow};
+    use crate::proved::{bitranks, bitslots, flow};
     use crate::proved::fixedbitset::{Bits, BitsMut, ExtendFault, FixedBitSet};
     use crate::proved::fixedbitset::*;
     use crate::shim::alloc::Global;
@@ -3107,7 +3402,7 @@ fn fixedbitset_bits_205() {
     use crate::proved::bitlanes::{word, Block, IndexRange, Steps};
     use crate::proved::bitwalks::in_turn::*;
     use crate::proved::bitwords::cursors::*;
-    use crate::proved::{bitranks, flow};
+    use crate::proved::{bitranks, bitslots, flow};
     use crate::proved::fixedbitset::{Bits, BitsMut, ExtendFault, FixedBitSet};
     use crate::proved::fixedbitset::*;
     use crate::shim::alloc::Global;
@@ -3130,7 +3425,7 @@ fn fixedbitset_bits_220() {
     use crate::proved::bitlanes::{word, Block, IndexRange, Steps};
     use crate::proved::bitwalks::in_turn::*;
     use crate::proved::bitwords::cursors::*;
-    use crate::proved::{bitranks, flow};
+    use crate::proved::{bitranks, bitslots, flow};
     use crate::proved::fixedbitset::{Bits, BitsMut, ExtendFault, FixedBitSet};
     use crate::proved::fixedbitset::*;
     use crate::shim::alloc::Global;
@@ -3153,7 +3448,7 @@ fn fixedbitset_bits_234() {
     use crate::proved::bitlanes::{word, Block, IndexRange, Steps};
     use crate::proved::bitwalks::in_turn::*;
     use crate::proved::bitwords::cursors::*;
-    use crate::proved::{bitranks, flow};
+    use crate::proved::{bitranks, bitslots, flow};
     use crate::proved::fixedbitset::{Bits, BitsMut, ExtendFault, FixedBitSet};
     use crate::proved::fixedbitset::*;
     use crate::shim::alloc::Global;
@@ -3175,7 +3470,7 @@ fn fixedbitset_bits_252() {
     use crate::proved::bitlanes::{word, Block, IndexRange, Steps};
     use crate::proved::bitwalks::in_turn::*;
     use crate::proved::bitwords::cursors::*;
-    use crate::proved::{bitranks, flow};
+    use crate::proved::{bitranks, bitslots, flow};
     use crate::proved::fixedbitset::{Bits, BitsMut, ExtendFault, FixedBitSet};
     use crate::proved::fixedbitset::*;
     use crate::shim::alloc::Global;
@@ -3198,7 +3493,7 @@ fn fixedbitset_bits_266() {
     use crate::proved::bitlanes::{word, Block, IndexRange, Steps};
     use crate::proved::bitwalks::in_turn::*;
     use crate::proved::bitwords::cursors::*;
-    use crate::proved::{bitranks, flow};
+    use crate::proved::{bitranks, bitslots, flow};
     use crate::proved::fixedbitset::{Bits, BitsMut, ExtendFault, FixedBitSet};
     use crate::proved::fixedbitset::*;
     use crate::shim::alloc::Global;
@@ -3220,7 +3515,7 @@ fn fixedbitset_counted_changes_15() {
     use crate::proved::bitlanes::{word, Block, IndexRange, Steps};
     use crate::proved::bitwalks::in_turn::*;
     use crate::proved::bitwords::cursors::*;
-    use crate::proved::{bitranks, flow};
+    use crate::proved::{bitranks, bitslots, flow};
     use crate::proved::fixedbitset::{Bits, BitsMut, ExtendFault, FixedBitSet};
     use crate::proved::fixedbitset::*;
     use crate::shim::alloc::Global;
@@ -3242,7 +3537,7 @@ fn fixedbitset_counted_changes_36() {
     use crate::proved::bitlanes::{word, Block, IndexRange, Steps};
     use crate::proved::bitwalks::in_turn::*;
     use crate::proved::bitwords::cursors::*;
-    use crate::proved::{bitranks, flow};
+    use crate::proved::{bitranks, bitslots, flow};
     use crate::proved::fixedbitset::{Bits, BitsMut, ExtendFault, FixedBitSet};
     use crate::proved::fixedbitset::*;
     use crate::shim::alloc::Global;
@@ -3264,7 +3559,7 @@ fn fixedbitset_counted_changes_50() {
     use crate::proved::bitlanes::{word, Block, IndexRange, Steps};
     use crate::proved::bitwalks::in_turn::*;
     use crate::proved::bitwords::cursors::*;
-    use crate::proved::{bitranks, flow};
+    use crate::proved::{bitranks, bitslots, flow};
     use crate::proved::fixedbitset::{Bits, BitsMut, ExtendFault, FixedBitSet};
     use crate::proved::fixedbitset::*;
     use crate::shim::alloc::Global;
@@ -3286,7 +3581,7 @@ fn fixedbitset_counted_changes_66() {
     use crate::proved::bitlanes::{word, Block, IndexRange, Steps};
     use crate::proved::bitwalks::in_turn::*;
     use crate::proved::bitwords::cursors::*;
-    use crate::proved::{bitranks, flow};
+    use crate::proved::{bitranks, bitslots, flow};
     use crate::proved::fixedbitset::{Bits, BitsMut, ExtendFault, FixedBitSet};
     use crate::proved::fixedbitset::*;
     use crate::shim::alloc::Global;
@@ -3309,7 +3604,7 @@ fn fixedbitset_counted_copies_18() {
     use crate::proved::bitlanes::{word, Block, IndexRange, Steps};
     use crate::proved::bitwalks::in_turn::*;
     use crate::proved::bitwords::cursors::*;
-    use crate::proved::{bitranks, flow};
+    use crate::proved::{bitranks, bitslots, flow};
     use crate::proved::fixedbitset::{Bits, BitsMut, ExtendFault, FixedBitSet};
     use crate::proved::fixedbitset::*;
     use crate::shim::alloc::Global;
@@ -3331,7 +3626,7 @@ fn fixedbitset_counted_copies_35() {
     use crate::proved::bitlanes::{word, Block, IndexRange, Steps};
     use crate::proved::bitwalks::in_turn::*;
     use crate::proved::bitwords::cursors::*;
-    use crate::proved::{bitranks, flow};
+    use crate::proved::{bitranks, bitslots, flow};
     use crate::proved::fixedbitset::{Bits, BitsMut, ExtendFault, FixedBitSet};
     use crate::proved::fixedbitset::*;
     use crate::shim::alloc::Global;
@@ -3353,7 +3648,7 @@ fn fixedbitset_counted_copies_56() {
     use crate::proved::bitlanes::{word, Block, IndexRange, Steps};
     use crate::proved::bitwalks::in_turn::*;
     use crate::proved::bitwords::cursors::*;
-    use crate::proved::{bitranks, flow};
+    use crate::proved::{bitranks, bitslots, flow};
     use crate::proved::fixedbitset::{Bits, BitsMut, ExtendFault, FixedBitSet};
     use crate::proved::fixedbitset::*;
     use crate::shim::alloc::Global;
@@ -3375,7 +3670,7 @@ fn fixedbitset_counted_copies_77() {
     use crate::proved::bitlanes::{word, Block, IndexRange, Steps};
     use crate::proved::bitwalks::in_turn::*;
     use crate::proved::bitwords::cursors::*;
-    use crate::proved::{bitranks, flow};
+    use crate::proved::{bitranks, bitslots, flow};
     use crate::proved::fixedbitset::{Bits, BitsMut, ExtendFault, FixedBitSet};
     use crate::proved::fixedbitset::*;
     use crate::shim::alloc::Global;
@@ -3397,7 +3692,7 @@ fn fixedbitset_counted_ranges_16() {
     use crate::proved::bitlanes::{word, Block, IndexRange, Steps};
     use crate::proved::bitwalks::in_turn::*;
     use crate::proved::bitwords::cursors::*;
-    use crate::proved::{bitranks, flow};
+    use crate::proved::{bitranks, bitslots, flow};
     use crate::proved::fixedbitset::{Bits, BitsMut, ExtendFault, FixedBitSet};
     use crate::proved::fixedbitset::*;
     use crate::shim::alloc::Global;
@@ -3419,7 +3714,7 @@ fn fixedbitset_counted_ranges_32() {
     use crate::proved::bitlanes::{word, Block, IndexRange, Steps};
     use crate::proved::bitwalks::in_turn::*;
     use crate::proved::bitwords::cursors::*;
-    use crate::proved::{bitranks, flow};
+    use crate::proved::{bitranks, bitslots, flow};
     use crate::proved::fixedbitset::{Bits, BitsMut, ExtendFault, FixedBitSet};
     use crate::proved::fixedbitset::*;
     use crate::shim::alloc::Global;
@@ -3442,7 +3737,7 @@ fn fixedbitset_counted_ranges_49() {
     use crate::proved::bitlanes::{word, Block, IndexRange, Steps};
     use crate::proved::bitwalks::in_turn::*;
     use crate::proved::bitwords::cursors::*;
-    use crate::proved::{bitranks, flow};
+    use crate::proved::{bitranks, bitslots, flow};
     use crate::proved::fixedbitset::{Bits, BitsMut, ExtendFault, FixedBitSet};
     use crate::proved::fixedbitset::*;
     use crate::shim::alloc::Global;
@@ -3465,7 +3760,7 @@ fn fixedbitset_counted_ranges_66() {
     use crate::proved::bitlanes::{word, Block, IndexRange, Steps};
     use crate::proved::bitwalks::in_turn::*;
     use crate::proved::bitwords::cursors::*;
-    use crate::proved::{bitranks, flow};
+    use crate::proved::{bitranks, bitslots, flow};
     use crate::proved::fixedbitset::{Bits, BitsMut, ExtendFault, FixedBitSet};
     use crate::proved::fixedbitset::*;
     use crate::shim::alloc::Global;
@@ -3486,7 +3781,7 @@ fn fixedbitset_counted_ranges_84() {
     use crate::proved::bitlanes::{word, Block, IndexRange, Steps};
     use crate::proved::bitwalks::in_turn::*;
     use crate::proved::bitwords::cursors::*;
-    use crate::proved::{bitranks, flow};
+    use crate::proved::{bitranks, bitslots, flow};
     use crate::proved::fixedbitset::{Bits, BitsMut, ExtendFault, FixedBitSet};
     use crate::proved::fixedbitset::*;
     use crate::shim::alloc::Global;
@@ -3507,7 +3802,7 @@ fn fixedbitset_counted_ranges_102() {
     use crate::proved::bitlanes::{word, Block, IndexRange, Steps};
     use crate::proved::bitwalks::in_turn::*;
     use crate::proved::bitwords::cursors::*;
-    use crate::proved::{bitranks, flow};
+    use crate::proved::{bitranks, bitslots, flow};
     use crate::proved::fixedbitset::{Bits, BitsMut, ExtendFault, FixedBitSet};
     use crate::proved::fixedbitset::*;
     use crate::shim::alloc::Global;
@@ -3529,7 +3824,7 @@ fn fixedbitset_counted_ranges_121() {
     use crate::proved::bitlanes::{word, Block, IndexRange, Steps};
     use crate::proved::bitwalks::in_turn::*;
     use crate::proved::bitwords::cursors::*;
-    use crate::proved::{bitranks, flow};
+    use crate::proved::{bitranks, bitslots, flow};
     use crate::proved::fixedbitset::{Bits, BitsMut, ExtendFault, FixedBitSet};
     use crate::proved::fixedbitset::*;
     use crate::shim::alloc::Global;
@@ -3551,7 +3846,7 @@ fn fixedbitset_counted_shifts_16() {
     use crate::proved::bitlanes::{word, Block, IndexRange, Steps};
     use crate::proved::bitwalks::in_turn::*;
     use crate::proved::bitwords::cursors::*;
-    use crate::proved::{bitranks, flow};
+    use crate::proved::{bitranks, bitslots, flow};
     use crate::proved::fixedbitset::{Bits, BitsMut, ExtendFault, FixedBitSet};
     use crate::proved::fixedbitset::*;
     use crate::shim::alloc::Global;
@@ -3572,7 +3867,7 @@ fn fixedbitset_counted_shifts_29() {
     use crate::proved::bitlanes::{word, Block, IndexRange, Steps};
     use crate::proved::bitwalks::in_turn::*;
     use crate::proved::bitwords::cursors::*;
-    use crate::proved::{bitranks, flow};
+    use crate::proved::{bitranks, bitslots, flow};
     use crate::proved::fixedbitset::{Bits, BitsMut, ExtendFault, FixedBitSet};
     use crate::proved::fixedbitset::*;
     use crate::shim::alloc::Global;
@@ -3593,7 +3888,7 @@ fn fixedbitset_counted_shifts_42() {
     use crate::proved::bitlanes::{word, Block, IndexRange, Steps};
     use crate::proved::bitwalks::in_turn::*;
     use crate::proved::bitwords::cursors::*;
-    use crate::proved::{bitranks, flow};
+    use crate::proved::{bitranks, bitslots, flow};
     use crate::proved::fixedbitset::{Bits, BitsMut, ExtendFault, FixedBitSet};
     use crate::proved::fixedbitset::*;
     use crate::shim::alloc::Global;
@@ -3615,7 +3910,7 @@ fn fixedbitset_counted_shifts_56() {
     use crate::proved::bitlanes::{word, Block, IndexRange, Steps};
     use crate::proved::bitwalks::in_turn::*;
     use crate::proved::bitwords::cursors::*;
-    use crate::proved::{bitranks, flow};
+    use crate::proved::{bitranks, bitslots, flow};
     use crate::proved::fixedbitset::{Bits, BitsMut, ExtendFault, FixedBitSet};
     use crate::proved::fixedbitset::*;
     use crate::shim::alloc::Global;
@@ -3636,7 +3931,7 @@ fn fixedbitset_counted_shifts_70() {
     use crate::proved::bitlanes::{word, Block, IndexRange, Steps};
     use crate::proved::bitwalks::in_turn::*;
     use crate::proved::bitwords::cursors::*;
-    use crate::proved::{bitranks, flow};
+    use crate::proved::{bitranks, bitslots, flow};
     use crate::proved::fixedbitset::{Bits, BitsMut, ExtendFault, FixedBitSet};
     use crate::proved::fixedbitset::*;
     use crate::shim::alloc::Global;
@@ -3658,7 +3953,7 @@ fn fixedbitset_counted_shifts_98() {
     use crate::proved::bitlanes::{word, Block, IndexRange, Steps};
     use crate::proved::bitwalks::in_turn::*;
     use crate::proved::bitwords::cursors::*;
-    use crate::proved::{bitranks, flow};
+    use crate::proved::{bitranks, bitslots, flow};
     use crate::proved::fixedbitset::{Bits, BitsMut, ExtendFault, FixedBitSet};
     use crate::proved::fixedbitset::*;
     use crate::shim::alloc::Global;
@@ -3681,7 +3976,7 @@ fn fixedbitset_counted_shifts_121() {
     use crate::proved::bitlanes::{word, Block, IndexRange, Steps};
     use crate::proved::bitwalks::in_turn::*;
     use crate::proved::bitwords::cursors::*;
-    use crate::proved::{bitranks, flow};
+    use crate::proved::{bitranks, bitslots, flow};
     use crate::proved::fixedbitset::{Bits, BitsMut, ExtendFault, FixedBitSet};
     use crate::proved::fixedbitset::*;
     use crate::shim::alloc::Global;
@@ -3704,7 +3999,7 @@ fn fixedbitset_counted_shifts_142() {
     use crate::proved::bitlanes::{word, Block, IndexRange, Steps};
     use crate::proved::bitwalks::in_turn::*;
     use crate::proved::bitwords::cursors::*;
-    use crate::proved::{bitranks, flow};
+    use crate::proved::{bitranks, bitslots, flow};
     use crate::proved::fixedbitset::{Bits, BitsMut, ExtendFault, FixedBitSet};
     use crate::proved::fixedbitset::*;
     use crate::shim::alloc::Global;
@@ -3725,7 +4020,7 @@ fn fixedbitset_counted_whole_21() {
     use crate::proved::bitlanes::{word, Block, IndexRange, Steps};
     use crate::proved::bitwalks::in_turn::*;
     use crate::proved::bitwords::cursors::*;
-    use crate::proved::{bitranks, flow};
+    use crate::proved::{bitranks, bitslots, flow};
     use crate::proved::fixedbitset::{Bits, BitsMut, ExtendFault, FixedBitSet};
     use crate::proved::fixedbitset::*;
     use crate::shim::alloc::Global;
@@ -3746,7 +4041,7 @@ fn fixedbitset_counted_whole_34() {
     use crate::proved::bitlanes::{word, Block, IndexRange, Steps};
     use crate::proved::bitwalks::in_turn::*;
     use crate::proved::bitwords::cursors::*;
-    use crate::proved::{bitranks, flow};
+    use crate::proved::{bitranks, bitslots, flow};
     use crate::proved::fixedbitset::{Bits, BitsMut, ExtendFault, FixedBitSet};
     use crate::proved::fixedbitset::*;
     use crate::shim::alloc::Global;
@@ -3767,7 +4062,7 @@ fn fixedbitset_counted_whole_47() {
     use crate::proved::bitlanes::{word, Block, IndexRange, Steps};
     use crate::proved::bitwalks::in_turn::*;
     use crate::proved::bitwords::cursors::*;
-    use crate::proved::{bitranks, flow};
+    use crate::proved::{bitranks, bitslots, flow};
     use crate::proved::fixedbitset::{Bits, BitsMut, ExtendFault, FixedBitSet};
     use crate::proved::fixedbitset::*;
     use crate::shim::alloc::Global;
@@ -3788,7 +4083,7 @@ fn fixedbitset_counted_whole_62() {
     use crate::proved::bitlanes::{word, Block, IndexRange, Steps};
     use crate::proved::bitwalks::in_turn::*;
     use crate::proved::bitwords::cursors::*;
-    use crate::proved::{bitranks, flow};
+    use crate::proved::{bitranks, bitslots, flow};
     use crate::proved::fixedbitset::{Bits, BitsMut, ExtendFault, FixedBitSet};
     use crate::proved::fixedbitset::*;
     use crate::shim::alloc::Global;
@@ -3810,7 +4105,7 @@ fn fixedbitset_counted_whole_86() {
     use crate::proved::bitlanes::{word, Block, IndexRange, Steps};
     use crate::proved::bitwalks::in_turn::*;
     use crate::proved::bitwords::cursors::*;
-    use crate::proved::{bitranks, flow};
+    use crate::proved::{bitranks, bitslots, flow};
     use crate::proved::fixedbitset::{Bits, BitsMut, ExtendFault, FixedBitSet};
     use crate::proved::fixedbitset::*;
     use crate::shim::alloc::Global;
@@ -3832,7 +4127,7 @@ fn fixedbitset_counted_whole_108() {
     use crate::proved::bitlanes::{word, Block, IndexRange, Steps};
     use crate::proved::bitwalks::in_turn::*;
     use crate::proved::bitwords::cursors::*;
-    use crate::proved::{bitranks, flow};
+    use crate::proved::{bitranks, bitslots, flow};
     use crate::proved::fixedbitset::{Bits, BitsMut, ExtendFault, FixedBitSet};
     use crate::proved::fixedbitset::*;
     use crate::shim::alloc::Global;
@@ -3854,7 +4149,7 @@ fn fixedbitset_counted_whole_122() {
     use crate::proved::bitlanes::{word, Block, IndexRange, Steps};
     use crate::proved::bitwalks::in_turn::*;
     use crate::proved::bitwords::cursors::*;
-    use crate::proved::{bitranks, flow};
+    use crate::proved::{bitranks, bitslots, flow};
     use crate::proved::fixedbitset::{Bits, BitsMut, ExtendFault, FixedBitSet};
     use crate::proved::fixedbitset::*;
     use crate::shim::alloc::Global;
@@ -3876,7 +4171,7 @@ fn fixedbitset_counted_whole_136() {
     use crate::proved::bitlanes::{word, Block, IndexRange, Steps};
     use crate::proved::bitwalks::in_turn::*;
     use crate::proved::bitwords::cursors::*;
-    use crate::proved::{bitranks, flow};
+    use crate::proved::{bitranks, bitslots, flow};
     use crate::proved::fixedbitset::{Bits, BitsMut, ExtendFault, FixedBitSet};
     use crate::proved::fixedbitset::*;
     use crate::shim::alloc::Global;
@@ -3898,7 +4193,7 @@ fn fixedbitset_counted_whole_149() {
     use crate::proved::bitlanes::{word, Block, IndexRange, Steps};
     use crate::proved::bitwalks::in_turn::*;
     use crate::proved::bitwords::cursors::*;
-    use crate::proved::{bitranks, flow};
+    use crate::proved::{bitranks, bitslots, flow};
     use crate::proved::fixedbitset::{Bits, BitsMut, ExtendFault, FixedBitSet};
     use crate::proved::fixedbitset::*;
     use crate::shim::alloc::Global;
@@ -3920,7 +4215,7 @@ fn fixedbitset_counted_whole_162() {
     use crate::proved::bitlanes::{word, Block, IndexRange, Steps};
     use crate::proved::bitwalks::in_turn::*;
     use crate::proved::bitwords::cursors::*;
-    use crate::proved::{bitranks, flow};
+    use crate::proved::{bitranks, bitslots, flow};
     use crate::proved::fixedbitset::{Bits, BitsMut, ExtendFault, FixedBitSet};
     use crate::proved::fixedbitset::*;
     use crate::shim::alloc::Global;
@@ -3942,7 +4237,7 @@ fn fixedbitset_counted_whole_175() {
     use crate::proved::bitlanes::{word, Block, IndexRange, Steps};
     use crate::proved::bitwalks::in_turn::*;
     use crate::proved::bitwords::cursors::*;
-    use crate::proved::{bitranks, flow};
+    use crate::proved::{bitranks, bitslots, flow};
     use crate::proved::fixedbitset::{Bits, BitsMut, ExtendFault, FixedBitSet};
     use crate::proved::fixedbitset::*;
     use crate::shim::alloc::Global;
@@ -3964,7 +4259,7 @@ fn fixedbitset_counted_whole_192() {
     use crate::proved::bitlanes::{word, Block, IndexRange, Steps};
     use crate::proved::bitwalks::in_turn::*;
     use crate::proved::bitwords::cursors::*;
-    use crate::proved::{bitranks, flow};
+    use crate::proved::{bitranks, bitslots, flow};
     use crate::proved::fixedbitset::{Bits, BitsMut, ExtendFault, FixedBitSet};
     use crate::proved::fixedbitset::*;
     use crate::shim::alloc::Global;
@@ -3985,7 +4280,7 @@ fn fixedbitset_counted_whole_204() {
     use crate::proved::bitlanes::{word, Block, IndexRange, Steps};
     use crate::proved::bitwalks::in_turn::*;
     use crate::proved::bitwords::cursors::*;
-    use crate::proved::{bitranks, flow};
+    use crate::proved::{bitranks, bitslots, flow};
     use crate::proved::fixedbitset::{Bits, BitsMut, ExtendFault, FixedBitSet};
     use crate::proved::fixedbitset::*;
     use crate::shim::alloc::Global;
@@ -4007,7 +4302,7 @@ fn fixedbitset_extend_27() {
     use crate::proved::bitlanes::{word, Block, IndexRange, Steps};
     use crate::proved::bitwalks::in_turn::*;
     use crate::proved::bitwords::cursors::*;
-    use crate::proved::{bitranks, flow};
+    use crate::proved::{bitranks, bitslots, flow};
     use crate::proved::fixedbitset::{Bits, BitsMut, ExtendFault, FixedBitSet};
     use crate::proved::fixedbitset::*;
     use crate::shim::alloc::Global;
@@ -4030,7 +4325,7 @@ fn fixedbitset_extend_55() {
     use crate::proved::bitlanes::{word, Block, IndexRange, Steps};
     use crate::proved::bitwalks::in_turn::*;
     use crate::proved::bitwords::cursors::*;
-    use crate::proved::{bitranks, flow};
+    use crate::proved::{bitranks, bitslots, flow};
     use crate::proved::fixedbitset::{Bits, BitsMut, ExtendFault, FixedBitSet};
     use crate::proved::fixedbitset::*;
     use crate::shim::alloc::Global;
@@ -4053,7 +4348,7 @@ fn fixedbitset_extend_95() {
     use crate::proved::bitlanes::{word, Block, IndexRange, Steps};
     use crate::proved::bitwalks::in_turn::*;
     use crate::proved::bitwords::cursors::*;
-    use crate::proved::{bitranks, flow};
+    use crate::proved::{bitranks, bitslots, flow};
     use crate::proved::fixedbitset::{Bits, BitsMut, ExtendFault, FixedBitSet};
     use crate::proved::fixedbitset::*;
     use crate::shim::alloc::Global;
@@ -4075,7 +4370,7 @@ fn fixedbitset_extend_117() {
     use crate::proved::bitlanes::{word, Block, IndexRange, Steps};
     use crate::proved::bitwalks::in_turn::*;
     use crate::proved::bitwords::cursors::*;
-    use crate::proved::{bitranks, flow};
+    use crate::proved::{bitranks, bitslots, flow};
     use crate::proved::fixedbitset::{Bits, BitsMut, ExtendFault, FixedBitSet};
     use crate::proved::fixedbitset::*;
     use crate::shim::alloc::Global;
@@ -4096,7 +4391,7 @@ fn fixedbitset_neighbours_14() {
     use crate::proved::bitlanes::{word, Block, IndexRange, Steps};
     use crate::proved::bitwalks::in_turn::*;
     use crate::proved::bitwords::cursors::*;
-    use crate::proved::{bitranks, flow};
+    use crate::proved::{bitranks, bitslots, flow};
     use crate::proved::fixedbitset::{Bits, BitsMut, ExtendFault, FixedBitSet};
     use crate::proved::fixedbitset::*;
     use crate::shim::alloc::Global;
@@ -4118,7 +4413,7 @@ fn fixedbitset_neighbours_28() {
     use crate::proved::bitlanes::{word, Block, IndexRange, Steps};
     use crate::proved::bitwalks::in_turn::*;
     use crate::proved::bitwords::cursors::*;
-    use crate::proved::{bitranks, flow};
+    use crate::proved::{bitranks, bitslots, flow};
     use crate::proved::fixedbitset::{Bits, BitsMut, ExtendFault, FixedBitSet};
     use crate::proved::fixedbitset::*;
     use crate::shim::alloc::Global;
@@ -4140,7 +4435,7 @@ fn fixedbitset_neighbours_45() {
     use crate::proved::bitlanes::{word, Block, IndexRange, Steps};
     use crate::proved::bitwalks::in_turn::*;
     use crate::proved::bitwords::cursors::*;
-    use crate::proved::{bitranks, flow};
+    use crate::proved::{bitranks, bitslots, flow};
     use crate::proved::fixedbitset::{Bits, BitsMut, ExtendFault, FixedBitSet};
     use crate::proved::fixedbitset::*;
     use crate::shim::alloc::Global;
@@ -4163,7 +4458,7 @@ fn fixedbitset_neighbours_65() {
     use crate::proved::bitlanes::{word, Block, IndexRange, Steps};
     use crate::proved::bitwalks::in_turn::*;
     use crate::proved::bitwords::cursors::*;
-    use crate::proved::{bitranks, flow};
+    use crate::proved::{bitranks, bitslots, flow};
     use crate::proved::fixedbitset::{Bits, BitsMut, ExtendFault, FixedBitSet};
     use crate::proved::fixedbitset::*;
     use crate::shim::alloc::Global;
@@ -4185,7 +4480,7 @@ fn fixedbitset_neighbours_81() {
     use crate::proved::bitlanes::{word, Block, IndexRange, Steps};
     use crate::proved::bitwalks::in_turn::*;
     use crate::proved::bitwords::cursors::*;
-    use crate::proved::{bitranks, flow};
+    use crate::proved::{bitranks, bitslots, flow};
     use crate::proved::fixedbitset::{Bits, BitsMut, ExtendFault, FixedBitSet};
     use crate::proved::fixedbitset::*;
     use crate::shim::alloc::Global;
@@ -4207,7 +4502,7 @@ fn fixedbitset_neighbours_101() {
     use crate::proved::bitlanes::{word, Block, IndexRange, Steps};
     use crate::proved::bitwalks::in_turn::*;
     use crate::proved::bitwords::cursors::*;
-    use crate::proved::{bitranks, flow};
+    use crate::proved::{bitranks, bitslots, flow};
     use crate::proved::fixedbitset::{Bits, BitsMut, ExtendFault, FixedBitSet};
     use crate::proved::fixedbitset::*;
     use crate::shim::alloc::Global;
@@ -4229,7 +4524,7 @@ fn fixedbitset_neighbours_122() {
     use crate::proved::bitlanes::{word, Block, IndexRange, Steps};
     use crate::proved::bitwalks::in_turn::*;
     use crate::proved::bitwords::cursors::*;
-    use crate::proved::{bitranks, flow};
+    use crate::proved::{bitranks, bitslots, flow};
     use crate::proved::fixedbitset::{Bits, BitsMut, ExtendFault, FixedBitSet};
     use crate::proved::fixedbitset::*;
     use crate::shim::alloc::Global;
@@ -4251,7 +4546,7 @@ fn fixedbitset_neighbours_136() {
     use crate::proved::bitlanes::{word, Block, IndexRange, Steps};
     use crate::proved::bitwalks::in_turn::*;
     use crate::proved::bitwords::cursors::*;
-    use crate::proved::{bitranks, flow};
+    use crate::proved::{bitranks, bitslots, flow};
     use crate::proved::fixedbitset::{Bits, BitsMut, ExtendFault, FixedBitSet};
     use crate::proved::fixedbitset::*;
     use crate::shim::alloc::Global;
@@ -4273,7 +4568,7 @@ fn fixedbitset_of_two_18() {
     use crate::proved::bitlanes::{word, Block, IndexRange, Steps};
     use crate::proved::bitwalks::in_turn::*;
     use crate::proved::bitwords::cursors::*;
-    use crate::proved::{bitranks, flow};
+    use crate::proved::{bitranks, bitslots, flow};
     use crate::proved::fixedbitset::{Bits, BitsMut, ExtendFault, FixedBitSet};
     use crate::proved::fixedbitset::*;
     use crate::shim::alloc::Global;
@@ -4296,7 +4591,7 @@ fn fixedbitset_of_two_38() {
     use crate::proved::bitlanes::{word, Block, IndexRange, Steps};
     use crate::proved::bitwalks::in_turn::*;
     use crate::proved::bitwords::cursors::*;
-    use crate::proved::{bitranks, flow};
+    use crate::proved::{bitranks, bitslots, flow};
     use crate::proved::fixedbitset::{Bits, BitsMut, ExtendFault, FixedBitSet};
     use crate::proved::fixedbitset::*;
     use crate::shim::alloc::Global;
@@ -4319,7 +4614,7 @@ fn fixedbitset_of_two_57() {
     use crate::proved::bitlanes::{word, Block, IndexRange, Steps};
     use crate::proved::bitwalks::in_turn::*;
     use crate::proved::bitwords::cursors::*;
-    use crate::proved::{bitranks, flow};
+    use crate::proved::{bitranks, bitslots, flow};
     use crate::proved::fixedbitset::{Bits, BitsMut, ExtendFault, FixedBitSet};
     use crate::proved::fixedbitset::*;
     use crate::shim::alloc::Global;
@@ -4342,7 +4637,7 @@ fn fixedbitset_of_two_77() {
     use crate::proved::bitlanes::{word, Block, IndexRange, Steps};
     use crate::proved::bitwalks::in_turn::*;
     use crate::proved::bitwords::cursors::*;
-    use crate::proved::{bitranks, flow};
+    use crate::proved::{bitranks, bitslots, flow};
     use crate::proved::fixedbitset::{Bits, BitsMut, ExtendFault, FixedBitSet};
     use crate::proved::fixedbitset::*;
     use crate::shim::alloc::Global;
@@ -4365,7 +4660,7 @@ fn fixedbitset_order_18() {
     use crate::proved::bitlanes::{word, Block, IndexRange, Steps};
     use crate::proved::bitwalks::in_turn::*;
     use crate::proved::bitwords::cursors::*;
-    use crate::proved::{bitranks, flow};
+    use crate::proved::{bitranks, bitslots, flow};
     use crate::proved::fixedbitset::{Bits, BitsMut, ExtendFault, FixedBitSet};
     use crate::proved::fixedbitset::*;
     use crate::shim::alloc::Global;
@@ -4388,7 +4683,7 @@ fn fixedbitset_order_37() {
     use crate::proved::bitlanes::{word, Block, IndexRange, Steps};
     use crate::proved::bitwalks::in_turn::*;
     use crate::proved::bitwords::cursors::*;
-    use crate::proved::{bitranks, flow};
+    use crate::proved::{bitranks, bitslots, flow};
     use crate::proved::fixedbitset::{Bits, BitsMut, ExtendFault, FixedBitSet};
     use crate::proved::fixedbitset::*;
     use crate::shim::alloc::Global;
@@ -4410,7 +4705,7 @@ fn fixedbitset_order_58() {
     use crate::proved::bitlanes::{word, Block, IndexRange, Steps};
     use crate::proved::bitwalks::in_turn::*;
     use crate::proved::bitwords::cursors::*;
-    use crate::proved::{bitranks, flow};
+    use crate::proved::{bitranks, bitslots, flow};
     use crate::proved::fixedbitset::{Bits, BitsMut, ExtendFault, FixedBitSet};
     use crate::proved::fixedbitset::*;
     use crate::shim::alloc::Global;
@@ -4433,7 +4728,7 @@ fn fixedbitset_parts_24() {
     use crate::proved::bitlanes::{word, Block, IndexRange, Steps};
     use crate::proved::bitwalks::in_turn::*;
     use crate::proved::bitwords::cursors::*;
-    use crate::proved::{bitranks, flow};
+    use crate::proved::{bitranks, bitslots, flow};
     use crate::proved::fixedbitset::{Bits, BitsMut, ExtendFault, FixedBitSet};
     use crate::proved::fixedbitset::*;
     use crate::shim::alloc::Global;
@@ -4455,7 +4750,7 @@ fn fixedbitset_parts_46() {
     use crate::proved::bitlanes::{word, Block, IndexRange, Steps};
     use crate::proved::bitwalks::in_turn::*;
     use crate::proved::bitwords::cursors::*;
-    use crate::proved::{bitranks, flow};
+    use crate::proved::{bitranks, bitslots, flow};
     use crate::proved::fixedbitset::{Bits, BitsMut, ExtendFault, FixedBitSet};
     use crate::proved::fixedbitset::*;
     use crate::shim::alloc::Global;
@@ -4478,7 +4773,7 @@ fn fixedbitset_parts_62() {
     use crate::proved::bitlanes::{word, Block, IndexRange, Steps};
     use crate::proved::bitwalks::in_turn::*;
     use crate::proved::bitwords::cursors::*;
-    use crate::proved::{bitranks, flow};
+    use crate::proved::{bitranks, bitslots, flow};
     use crate::proved::fixedbitset::{Bits, BitsMut, ExtendFault, FixedBitSet};
     use crate::proved::fixedbitset::*;
     use crate::shim::alloc::Global;
@@ -4500,7 +4795,7 @@ fn fixedbitset_parts_78() {
     use crate::proved::bitlanes::{word, Block, IndexRange, Steps};
     use crate::proved::bitwalks::in_turn::*;
     use crate::proved::bitwords::cursors::*;
-    use crate::proved::{bitranks, flow};
+    use crate::proved::{bitranks, bitslots, flow};
     use crate::proved::fixedbitset::{Bits, BitsMut, ExtendFault, FixedBitSet};
     use crate::proved::fixedbitset::*;
     use crate::shim::alloc::Global;
@@ -4522,7 +4817,7 @@ fn fixedbitset_parts_95() {
     use crate::proved::bitlanes::{word, Block, IndexRange, Steps};
     use crate::proved::bitwalks::in_turn::*;
     use crate::proved::bitwords::cursors::*;
-    use crate::proved::{bitranks, flow};
+    use crate::proved::{bitranks, bitslots, flow};
     use crate::proved::fixedbitset::{Bits, BitsMut, ExtendFault, FixedBitSet};
     use crate::proved::fixedbitset::*;
     use crate::shim::alloc::Global;
@@ -4545,7 +4840,7 @@ fn fixedbitset_parts_112() {
     use crate::proved::bitlanes::{word, Block, IndexRange, Steps};
     use crate::proved::bitwalks::in_turn::*;
     use crate::proved::bitwords::cursors::*;
-    use crate::proved::{bitranks, flow};
+    use crate::proved::{bitranks, bitslots, flow};
     use crate::proved::fixedbitset::{Bits, BitsMut, ExtendFault, FixedBitSet};
     use crate::proved::fixedbitset::*;
     use crate::shim::alloc::Global;
@@ -4568,7 +4863,7 @@ fn fixedbitset_parts_132() {
     use crate::proved::bitlanes::{word, Block, IndexRange, Steps};
     use crate::proved::bitwalks::in_turn::*;
     use crate::proved::bitwords::cursors::*;
-    use crate::proved::{bitranks, flow};
+    use crate::proved::{bitranks, bitslots, flow};
     use crate::proved::fixedbitset::{Bits, BitsMut, ExtendFault, FixedBitSet};
     use crate::proved::fixedbitset::*;
     use crate::shim::alloc::Global;
@@ -4591,7 +4886,7 @@ fn fixedbitset_parts_149() {
     use crate::proved::bitlanes::{word, Block, IndexRange, Steps};
     use crate::proved::bitwalks::in_turn::*;
     use crate::proved::bitwords::cursors::*;
-    use crate::proved::{bitranks, flow};
+    use crate::proved::{bitranks, bitslots, flow};
     use crate::proved::fixedbitset::{Bits, BitsMut, ExtendFault, FixedBitSet};
     use crate::proved::fixedbitset::*;
     use crate::shim::alloc::Global;
@@ -4612,7 +4907,7 @@ fn fixedbitset_parts_169() {
     use crate::proved::bitlanes::{word, Block, IndexRange, Steps};
     use crate::proved::bitwalks::in_turn::*;
     use crate::proved::bitwords::cursors::*;
-    use crate::proved::{bitranks, flow};
+    use crate::proved::{bitranks, bitslots, flow};
     use crate::proved::fixedbitset::{Bits, BitsMut, ExtendFault, FixedBitSet};
     use crate::proved::fixedbitset::*;
     use crate::shim::alloc::Global;
@@ -4633,7 +4928,7 @@ fn fixedbitset_questions_16() {
     use crate::proved::bitlanes::{word, Block, IndexRange, Steps};
     use crate::proved::bitwalks::in_turn::*;
     use crate::proved::bitwords::cursors::*;
-    use crate::proved::{bitranks, flow};
+    use crate::proved::{bitranks, bitslots, flow};
     use crate::proved::fixedbitset::{Bits, BitsMut, ExtendFault, FixedBitSet};
     use crate::proved::fixedbitset::*;
     use crate::shim::alloc::Global;
@@ -4654,7 +4949,7 @@ fn fixedbitset_questions_29() {
     use crate::proved::bitlanes::{word, Block, IndexRange, Steps};
     use crate::proved::bitwalks::in_turn::*;
     use crate::proved::bitwords::cursors::*;
-    use crate::proved::{bitranks, flow};
+    use crate::proved::{bitranks, bitslots, flow};
     use crate::proved::fixedbitset::{Bits, BitsMut, ExtendFault, FixedBitSet};
     use crate::proved::fixedbitset::*;
     use crate::shim::alloc::Global;
@@ -4676,7 +4971,7 @@ fn fixedbitset_questions_43() {
     use crate::proved::bitlanes::{word, Block, IndexRange, Steps};
     use crate::proved::bitwalks::in_turn::*;
     use crate::proved::bitwords::cursors::*;
-    use crate::proved::{bitranks, flow};
+    use crate::proved::{bitranks, bitslots, flow};
     use crate::proved::fixedbitset::{Bits, BitsMut, ExtendFault, FixedBitSet};
     use crate::proved::fixedbitset::*;
     use crate::shim::alloc::Global;
@@ -4698,7 +4993,7 @@ fn fixedbitset_questions_57() {
     use crate::proved::bitlanes::{word, Block, IndexRange, Steps};
     use crate::proved::bitwalks::in_turn::*;
     use crate::proved::bitwords::cursors::*;
-    use crate::proved::{bitranks, flow};
+    use crate::proved::{bitranks, bitslots, flow};
     use crate::proved::fixedbitset::{Bits, BitsMut, ExtendFault, FixedBitSet};
     use crate::proved::fixedbitset::*;
     use crate::shim::alloc::Global;
@@ -4720,7 +5015,7 @@ fn fixedbitset_questions_74() {
     use crate::proved::bitlanes::{word, Block, IndexRange, Steps};
     use crate::proved::bitwalks::in_turn::*;
     use crate::proved::bitwords::cursors::*;
-    use crate::proved::{bitranks, flow};
+    use crate::proved::{bitranks, bitslots, flow};
     use crate::proved::fixedbitset::{Bits, BitsMut, ExtendFault, FixedBitSet};
     use crate::proved::fixedbitset::*;
     use crate::shim::alloc::Global;
@@ -4742,7 +5037,7 @@ fn fixedbitset_questions_91() {
     use crate::proved::bitlanes::{word, Block, IndexRange, Steps};
     use crate::proved::bitwalks::in_turn::*;
     use crate::proved::bitwords::cursors::*;
-    use crate::proved::{bitranks, flow};
+    use crate::proved::{bitranks, bitslots, flow};
     use crate::proved::fixedbitset::{Bits, BitsMut, ExtendFault, FixedBitSet};
     use crate::proved::fixedbitset::*;
     use crate::shim::alloc::Global;
@@ -4764,7 +5059,7 @@ fn fixedbitset_questions_104() {
     use crate::proved::bitlanes::{word, Block, IndexRange, Steps};
     use crate::proved::bitwalks::in_turn::*;
     use crate::proved::bitwords::cursors::*;
-    use crate::proved::{bitranks, flow};
+    use crate::proved::{bitranks, bitslots, flow};
     use crate::proved::fixedbitset::{Bits, BitsMut, ExtendFault, FixedBitSet};
     use crate::proved::fixedbitset::*;
     use crate::shim::alloc::Global;
@@ -4787,7 +5082,7 @@ fn fixedbitset_ranges_25() {
     use crate::proved::bitlanes::{word, Block, IndexRange, Steps};
     use crate::proved::bitwalks::in_turn::*;
     use crate::proved::bitwords::cursors::*;
-    use crate::proved::{bitranks, flow};
+    use crate::proved::{bitranks, bitslots, flow};
     use crate::proved::fixedbitset::{Bits, BitsMut, ExtendFault, FixedBitSet};
     use crate::proved::fixedbitset::*;
     use crate::shim::alloc::Global;
@@ -4810,7 +5105,7 @@ fn fixedbitset_ranges_42() {
     use crate::proved::bitlanes::{word, Block, IndexRange, Steps};
     use crate::proved::bitwalks::in_turn::*;
     use crate::proved::bitwords::cursors::*;
-    use crate::proved::{bitranks, flow};
+    use crate::proved::{bitranks, bitslots, flow};
     use crate::proved::fixedbitset::{Bits, BitsMut, ExtendFault, FixedBitSet};
     use crate::proved::fixedbitset::*;
     use crate::shim::alloc::Global;
@@ -4833,7 +5128,7 @@ fn fixedbitset_ranges_56() {
     use crate::proved::bitlanes::{word, Block, IndexRange, Steps};
     use crate::proved::bitwalks::in_turn::*;
     use crate::proved::bitwords::cursors::*;
-    use crate::proved::{bitranks, flow};
+    use crate::proved::{bitranks, bitslots, flow};
     use crate::proved::fixedbitset::{Bits, BitsMut, ExtendFault, FixedBitSet};
     use crate::proved::fixedbitset::*;
     use crate::shim::alloc::Global;
@@ -4855,7 +5150,7 @@ fn fixedbitset_ranges_70() {
     use crate::proved::bitlanes::{word, Block, IndexRange, Steps};
     use crate::proved::bitwalks::in_turn::*;
     use crate::proved::bitwords::cursors::*;
-    use crate::proved::{bitranks, flow};
+    use crate::proved::{bitranks, bitslots, flow};
     use crate::proved::fixedbitset::{Bits, BitsMut, ExtendFault, FixedBitSet};
     use crate::proved::fixedbitset::*;
     use crate::shim::alloc::Global;
@@ -4877,7 +5172,7 @@ fn fixedbitset_ranges_87() {
     use crate::proved::bitlanes::{word, Block, IndexRange, Steps};
     use crate::proved::bitwalks::in_turn::*;
     use crate::proved::bitwords::cursors::*;
-    use crate::proved::{bitranks, flow};
+    use crate::proved::{bitranks, bitslots, flow};
     use crate::proved::fixedbitset::{Bits, BitsMut, ExtendFault, FixedBitSet};
     use crate::proved::fixedbitset::*;
     use crate::shim::alloc::Global;
@@ -4898,7 +5193,7 @@ fn fixedbitset_ranges_102() {
     use crate::proved::bitlanes::{word, Block, IndexRange, Steps};
     use crate::proved::bitwalks::in_turn::*;
     use crate::proved::bitwords::cursors::*;
-    use crate::proved::{bitranks, flow};
+    use crate::proved::{bitranks, bitslots, flow};
     use crate::proved::fixedbitset::{Bits, BitsMut, ExtendFault, FixedBitSet};
     use crate::proved::fixedbitset::*;
     use crate::shim::alloc::Global;
@@ -4920,7 +5215,7 @@ fn fixedbitset_ranges_116() {
     use crate::proved::bitlanes::{word, Block, IndexRange, Steps};
     use crate::proved::bitwalks::in_turn::*;
     use crate::proved::bitwords::cursors::*;
-    use crate::proved::{bitranks, flow};
+    use crate::proved::{bitranks, bitslots, flow};
     use crate::proved::fixedbitset::{Bits, BitsMut, ExtendFault, FixedBitSet};
     use crate::proved::fixedbitset::*;
     use crate::shim::alloc::Global;
@@ -4942,7 +5237,7 @@ fn fixedbitset_ranges_130() {
     use crate::proved::bitlanes::{word, Block, IndexRange, Steps};
     use crate::proved::bitwalks::in_turn::*;
     use crate::proved::bitwords::cursors::*;
-    use crate::proved::{bitranks, flow};
+    use crate::proved::{bitranks, bitslots, flow};
     use crate::proved::fixedbitset::{Bits, BitsMut, ExtendFault, FixedBitSet};
     use crate::proved::fixedbitset::*;
     use crate::shim::alloc::Global;
@@ -4965,7 +5260,7 @@ fn fixedbitset_ranges_145() {
     use crate::proved::bitlanes::{word, Block, IndexRange, Steps};
     use crate::proved::bitwalks::in_turn::*;
     use crate::proved::bitwords::cursors::*;
-    use crate::proved::{bitranks, flow};
+    use crate::proved::{bitranks, bitslots, flow};
     use crate::proved::fixedbitset::{Bits, BitsMut, ExtendFault, FixedBitSet};
     use crate::proved::fixedbitset::*;
     use crate::shim::alloc::Global;
@@ -4988,7 +5283,7 @@ fn fixedbitset_set_30() {
     use crate::proved::bitlanes::{word, Block, IndexRange, Steps};
     use crate::proved::bitwalks::in_turn::*;
     use crate::proved::bitwords::cursors::*;
-    use crate::proved::{bitranks, flow};
+    use crate::proved::{bitranks, bitslots, flow};
     use crate::proved::fixedbitset::{Bits, BitsMut, ExtendFault, FixedBitSet};
     use crate::proved::fixedbitset::*;
     use crate::shim::alloc::Global;
@@ -5010,7 +5305,7 @@ fn fixedbitset_set_48() {
     use crate::proved::bitlanes::{word, Block, IndexRange, Steps};
     use crate::proved::bitwalks::in_turn::*;
     use crate::proved::bitwords::cursors::*;
-    use crate::proved::{bitranks, flow};
+    use crate::proved::{bitranks, bitslots, flow};
     use crate::proved::fixedbitset::{Bits, BitsMut, ExtendFault, FixedBitSet};
     use crate::proved::fixedbitset::*;
     use crate::shim::alloc::Global;
@@ -5031,7 +5326,7 @@ fn fixedbitset_set_65() {
     use crate::proved::bitlanes::{word, Block, IndexRange, Steps};
     use crate::proved::bitwalks::in_turn::*;
     use crate::proved::bitwords::cursors::*;
-    use crate::proved::{bitranks, flow};
+    use crate::proved::{bitranks, bitslots, flow};
     use crate::proved::fixedbitset::{Bits, BitsMut, ExtendFault, FixedBitSet};
     use crate::proved::fixedbitset::*;
     use crate::shim::alloc::Global;
@@ -5051,7 +5346,7 @@ fn fixedbitset_set_82() {
     use crate::proved::bitlanes::{word, Block, IndexRange, Steps};
     use crate::proved::bitwalks::in_turn::*;
     use crate::proved::bitwords::cursors::*;
-    use crate::proved::{bitranks, flow};
+    use crate::proved::{bitranks, bitslots, flow};
     use crate::proved::fixedbitset::{Bits, BitsMut, ExtendFault, FixedBitSet};
     use crate::proved::fixedbitset::*;
     use crate::shim::alloc::Global;
@@ -5072,7 +5367,7 @@ fn fixedbitset_set_110() {
     use crate::proved::bitlanes::{word, Block, IndexRange, Steps};
     use crate::proved::bitwalks::in_turn::*;
     use crate::proved::bitwords::cursors::*;
-    use crate::proved::{bitranks, flow};
+    use crate::proved::{bitranks, bitslots, flow};
     use crate::proved::fixedbitset::{Bits, BitsMut, ExtendFault, FixedBitSet};
     use crate::proved::fixedbitset::*;
     use crate::shim::alloc::Global;
@@ -5095,7 +5390,7 @@ fn fixedbitset_set_135() {
     use crate::proved::bitlanes::{word, Block, IndexRange, Steps};
     use crate::proved::bitwalks::in_turn::*;
     use crate::proved::bitwords::cursors::*;
-    use crate::proved::{bitranks, flow};
+    use crate::proved::{bitranks, bitslots, flow};
     use crate::proved::fixedbitset::{Bits, BitsMut, ExtendFault, FixedBitSet};
     use crate::proved::fixedbitset::*;
     use crate::shim::alloc::Global;
@@ -5118,7 +5413,7 @@ fn fixedbitset_set_162() {
     use crate::proved::bitlanes::{word, Block, IndexRange, Steps};
     use crate::proved::bitwalks::in_turn::*;
     use crate::proved::bitwords::cursors::*;
-    use crate::proved::{bitranks, flow};
+    use crate::proved::{bitranks, bitslots, flow};
     use crate::proved::fixedbitset::{Bits, BitsMut, ExtendFault, FixedBitSet};
     use crate::proved::fixedbitset::*;
     use crate::shim::alloc::Global;
@@ -5140,7 +5435,7 @@ fn fixedbitset_set_180() {
     use crate::proved::bitlanes::{word, Block, IndexRange, Steps};
     use crate::proved::bitwalks::in_turn::*;
     use crate::proved::bitwords::cursors::*;
-    use crate::proved::{bitranks, flow};
+    use crate::proved::{bitranks, bitslots, flow};
     use crate::proved::fixedbitset::{Bits, BitsMut, ExtendFault, FixedBitSet};
     use crate::proved::fixedbitset::*;
     use crate::shim::alloc::Global;
@@ -5160,7 +5455,7 @@ fn fixedbitset_set_197() {
     use crate::proved::bitlanes::{word, Block, IndexRange, Steps};
     use crate::proved::bitwalks::in_turn::*;
     use crate::proved::bitwords::cursors::*;
-    use crate::proved::{bitranks, flow};
+    use crate::proved::{bitranks, bitslots, flow};
     use crate::proved::fixedbitset::{Bits, BitsMut, ExtendFault, FixedBitSet};
     use crate::proved::fixedbitset::*;
     use crate::shim::alloc::Global;
@@ -5182,7 +5477,7 @@ fn fixedbitset_set_211() {
     use crate::proved::bitlanes::{word, Block, IndexRange, Steps};
     use crate::proved::bitwalks::in_turn::*;
     use crate::proved::bitwords::cursors::*;
-    use crate::proved::{bitranks, flow};
+    use crate::proved::{bitranks, bitslots, flow};
     use crate::proved::fixedbitset::{Bits, BitsMut, ExtendFault, FixedBitSet};
     use crate::proved::fixedbitset::*;
     use crate::shim::alloc::Global;
@@ -5204,7 +5499,7 @@ fn fixedbitset_set_225() {
     use crate::proved::bitlanes::{word, Block, IndexRange, Steps};
     use crate::proved::bitwalks::in_turn::*;
     use crate::proved::bitwords::cursors::*;
-    use crate::proved::{bitranks, flow};
+    use crate::proved::{bitranks, bitslots, flow};
     use crate::proved::fixedbitset::{Bits, BitsMut, ExtendFault, FixedBitSet};
     use crate::proved::fixedbitset::*;
     use crate::shim::alloc::Global;
@@ -5225,7 +5520,7 @@ fn fixedbitset_set_240() {
     use crate::proved::bitlanes::{word, Block, IndexRange, Steps};
     use crate::proved::bitwalks::in_turn::*;
     use crate::proved::bitwords::cursors::*;
-    use crate::proved::{bitranks, flow};
+    use crate::proved::{bitranks, bitslots, flow};
     use crate::proved::fixedbitset::{Bits, BitsMut, ExtendFault, FixedBitSet};
     use crate::proved::fixedbitset::*;
     use crate::shim::alloc::Global;
@@ -5245,7 +5540,7 @@ fn fixedbitset_set_262() {
     use crate::proved::bitlanes::{word, Block, IndexRange, Steps};
     use crate::proved::bitwalks::in_turn::*;
     use crate::proved::bitwords::cursors::*;
-    use crate::proved::{bitranks, flow};
+    use crate::proved::{bitranks, bitslots, flow};
     use crate::proved::fixedbitset::{Bits, BitsMut, ExtendFault, FixedBitSet};
     use crate::proved::fixedbitset::*;
     use crate::shim::alloc::Global;
@@ -5268,7 +5563,7 @@ fn fixedbitset_shifts_16() {
     use crate::proved::bitlanes::{word, Block, IndexRange, Steps};
     use crate::proved::bitwalks::in_turn::*;
     use crate::proved::bitwords::cursors::*;
-    use crate::proved::{bitranks, flow};
+    use crate::proved::{bitranks, bitslots, flow};
     use crate::proved::fixedbitset::{Bits, BitsMut, ExtendFault, FixedBitSet};
     use crate::proved::fixedbitset::*;
     use crate::shim::alloc::Global;
@@ -5291,7 +5586,7 @@ fn fixedbitset_shifts_32() {
     use crate::proved::bitlanes::{word, Block, IndexRange, Steps};
     use crate::proved::bitwalks::in_turn::*;
     use crate::proved::bitwords::cursors::*;
-    use crate::proved::{bitranks, flow};
+    use crate::proved::{bitranks, bitslots, flow};
     use crate::proved::fixedbitset::{Bits, BitsMut, ExtendFault, FixedBitSet};
     use crate::proved::fixedbitset::*;
     use crate::shim::alloc::Global;
@@ -5313,7 +5608,7 @@ fn fixedbitset_shifts_48() {
     use crate::proved::bitlanes::{word, Block, IndexRange, Steps};
     use crate::proved::bitwalks::in_turn::*;
     use crate::proved::bitwords::cursors::*;
-    use crate::proved::{bitranks, flow};
+    use crate::proved::{bitranks, bitslots, flow};
     use crate::proved::fixedbitset::{Bits, BitsMut, ExtendFault, FixedBitSet};
     use crate::proved::fixedbitset::*;
     use crate::shim::alloc::Global;
@@ -5335,7 +5630,7 @@ fn fixedbitset_shifts_65() {
     use crate::proved::bitlanes::{word, Block, IndexRange, Steps};
     use crate::proved::bitwalks::in_turn::*;
     use crate::proved::bitwords::cursors::*;
-    use crate::proved::{bitranks, flow};
+    use crate::proved::{bitranks, bitslots, flow};
     use crate::proved::fixedbitset::{Bits, BitsMut, ExtendFault, FixedBitSet};
     use crate::proved::fixedbitset::*;
     use crate::shim::alloc::Global;
@@ -5358,7 +5653,7 @@ fn fixedbitset_views_bytes_14() {
     use crate::proved::bitlanes::{word, Block, IndexRange, Steps};
     use crate::proved::bitwalks::in_turn::*;
     use crate::proved::bitwords::cursors::*;
-    use crate::proved::{bitranks, flow};
+    use crate::proved::{bitranks, bitslots, flow};
     use crate::proved::fixedbitset::{Bits, BitsMut, ExtendFault, FixedBitSet};
     use crate::proved::fixedbitset::*;
     use crate::shim::alloc::Global;
@@ -5379,7 +5674,7 @@ fn fixedbitset_views_bytes_31() {
     use crate::proved::bitlanes::{word, Block, IndexRange, Steps};
     use crate::proved::bitwalks::in_turn::*;
     use crate::proved::bitwords::cursors::*;
-    use crate::proved::{bitranks, flow};
+    use crate::proved::{bitranks, bitslots, flow};
     use crate::proved::fixedbitset::{Bits, BitsMut, ExtendFault, FixedBitSet};
     use crate::proved::fixedbitset::*;
     use crate::shim::alloc::Global;
@@ -5400,7 +5695,7 @@ fn fixedbitset_views_changes_13() {
     use crate::proved::bitlanes::{word, Block, IndexRange, Steps};
     use crate::proved::bitwalks::in_turn::*;
     use crate::proved::bitwords::cursors::*;
-    use crate::proved::{bitranks, flow};
+    use crate::proved::{bitranks, bitslots, flow};
     use crate::proved::fixedbitset::{Bits, BitsMut, ExtendFault, FixedBitSet};
     use crate::proved::fixedbitset::*;
     use crate::shim::alloc::Global;
@@ -5422,7 +5717,7 @@ fn fixedbitset_views_changes_27() {
     use crate::proved::bitlanes::{word, Block, IndexRange, Steps};
     use crate::proved::bitwalks::in_turn::*;
     use crate::proved::bitwords::cursors::*;
-    use crate::proved::{bitranks, flow};
+    use crate::proved::{bitranks, bitslots, flow};
     use crate::proved::fixedbitset::{Bits, BitsMut, ExtendFault, FixedBitSet};
     use crate::proved::fixedbitset::*;
     use crate::shim::alloc::Global;
@@ -5444,7 +5739,7 @@ fn fixedbitset_views_changes_41() {
     use crate::proved::bitlanes::{word, Block, IndexRange, Steps};
     use crate::proved::bitwalks::in_turn::*;
     use crate::proved::bitwords::cursors::*;
-    use crate::proved::{bitranks, flow};
+    use crate::proved::{bitranks, bitslots, flow};
     use crate::proved::fixedbitset::{Bits, BitsMut, ExtendFault, FixedBitSet};
     use crate::proved::fixedbitset::*;
     use crate::shim::alloc::Global;
@@ -5466,7 +5761,7 @@ fn fixedbitset_views_changes_56() {
     use crate::proved::bitlanes::{word, Block, IndexRange, Steps};
     use crate::proved::bitwalks::in_turn::*;
     use crate::proved::bitwords::cursors::*;
-    use crate::proved::{bitranks, flow};
+    use crate::proved::{bitranks, bitslots, flow};
     use crate::proved::fixedbitset::{Bits, BitsMut, ExtendFault, FixedBitSet};
     use crate::proved::fixedbitset::*;
     use crate::shim::alloc::Global;
@@ -5489,7 +5784,7 @@ fn fixedbitset_views_copies_14() {
     use crate::proved::bitlanes::{word, Block, IndexRange, Steps};
     use crate::proved::bitwalks::in_turn::*;
     use crate::proved::bitwords::cursors::*;
-    use crate::proved::{bitranks, flow};
+    use crate::proved::{bitranks, bitslots, flow};
     use crate::proved::fixedbitset::{Bits, BitsMut, ExtendFault, FixedBitSet};
     use crate::proved::fixedbitset::*;
     use crate::shim::alloc::Global;
@@ -5510,7 +5805,7 @@ fn fixedbitset_views_copies_28() {
     use crate::proved::bitlanes::{word, Block, IndexRange, Steps};
     use crate::proved::bitwalks::in_turn::*;
     use crate::proved::bitwords::cursors::*;
-    use crate::proved::{bitranks, flow};
+    use crate::proved::{bitranks, bitslots, flow};
     use crate::proved::fixedbitset::{Bits, BitsMut, ExtendFault, FixedBitSet};
     use crate::proved::fixedbitset::*;
     use crate::shim::alloc::Global;
@@ -5532,7 +5827,7 @@ fn fixedbitset_views_copies_47() {
     use crate::proved::bitlanes::{word, Block, IndexRange, Steps};
     use crate::proved::bitwalks::in_turn::*;
     use crate::proved::bitwords::cursors::*;
-    use crate::proved::{bitranks, flow};
+    use crate::proved::{bitranks, bitslots, flow};
     use crate::proved::fixedbitset::{Bits, BitsMut, ExtendFault, FixedBitSet};
     use crate::proved::fixedbitset::*;
     use crate::shim::alloc::Global;
@@ -5554,7 +5849,7 @@ fn fixedbitset_views_copies_65() {
     use crate::proved::bitlanes::{word, Block, IndexRange, Steps};
     use crate::proved::bitwalks::in_turn::*;
     use crate::proved::bitwords::cursors::*;
-    use crate::proved::{bitranks, flow};
+    use crate::proved::{bitranks, bitslots, flow};
     use crate::proved::fixedbitset::{Bits, BitsMut, ExtendFault, FixedBitSet};
     use crate::proved::fixedbitset::*;
     use crate::shim::alloc::Global;
@@ -5576,7 +5871,7 @@ fn fixedbitset_views_copies_84() {
     use crate::proved::bitlanes::{word, Block, IndexRange, Steps};
     use crate::proved::bitwalks::in_turn::*;
     use crate::proved::bitwords::cursors::*;
-    use crate::proved::{bitranks, flow};
+    use crate::proved::{bitranks, bitslots, flow};
     use crate::proved::fixedbitset::{Bits, BitsMut, ExtendFault, FixedBitSet};
     use crate::proved::fixedbitset::*;
     use crate::shim::alloc::Global;
@@ -5598,7 +5893,7 @@ fn fixedbitset_views_copies_107() {
     use crate::proved::bitlanes::{word, Block, IndexRange, Steps};
     use crate::proved::bitwalks::in_turn::*;
     use crate::proved::bitwords::cursors::*;
-    use crate::proved::{bitranks, flow};
+    use crate::proved::{bitranks, bitslots, flow};
     use crate::proved::fixedbitset::{Bits, BitsMut, ExtendFault, FixedBitSet};
     use crate::proved::fixedbitset::*;
     use crate::shim::alloc::Global;
@@ -5620,7 +5915,7 @@ fn fixedbitset_views_copies_122() {
     use crate::proved::bitlanes::{word, Block, IndexRange, Steps};
     use crate::proved::bitwalks::in_turn::*;
     use crate::proved::bitwords::cursors::*;
-    use crate::proved::{bitranks, flow};
+    use crate::proved::{bitranks, bitslots, flow};
     use crate::proved::fixedbitset::{Bits, BitsMut, ExtendFault, FixedBitSet};
     use crate::proved::fixedbitset::*;
     use crate::shim::alloc::Global;
@@ -5642,7 +5937,7 @@ fn fixedbitset_views_copies_137() {
     use crate::proved::bitlanes::{word, Block, IndexRange, Steps};
     use crate::proved::bitwalks::in_turn::*;
     use crate::proved::bitwords::cursors::*;
-    use crate::proved::{bitranks, flow};
+    use crate::proved::{bitranks, bitslots, flow};
     use crate::proved::fixedbitset::{Bits, BitsMut, ExtendFault, FixedBitSet};
     use crate::proved::fixedbitset::*;
     use crate::shim::alloc::Global;
@@ -5664,7 +5959,7 @@ fn fixedbitset_views_copies_152() {
     use crate::proved::bitlanes::{word, Block, IndexRange, Steps};
     use crate::proved::bitwalks::in_turn::*;
     use crate::proved::bitwords::cursors::*;
-    use crate::proved::{bitranks, flow};
+    use crate::proved::{bitranks, bitslots, flow};
     use crate::proved::fixedbitset::{Bits, BitsMut, ExtendFault, FixedBitSet};
     use crate::proved::fixedbitset::*;
     use crate::shim::alloc::Global;
@@ -5686,7 +5981,7 @@ fn fixedbitset_views_gaps_16() {
     use crate::proved::bitlanes::{word, Block, IndexRange, Steps};
     use crate::proved::bitwalks::in_turn::*;
     use crate::proved::bitwords::cursors::*;
-    use crate::proved::{bitranks, flow};
+    use crate::proved::{bitranks, bitslots, flow};
     use crate::proved::fixedbitset::{Bits, BitsMut, ExtendFault, FixedBitSet};
     use crate::proved::fixedbitset::*;
     use crate::shim::alloc::Global;
@@ -5707,7 +6002,7 @@ fn fixedbitset_views_gaps_35() {
     use crate::proved::bitlanes::{word, Block, IndexRange, Steps};
     use crate::proved::bitwalks::in_turn::*;
     use crate::proved::bitwords::cursors::*;
-    use crate::proved::{bitranks, flow};
+    use crate::proved::{bitranks, bitslots, flow};
     use crate::proved::fixedbitset::{Bits, BitsMut, ExtendFault, FixedBitSet};
     use crate::proved::fixedbitset::*;
     use crate::shim::alloc::Global;
@@ -5729,7 +6024,7 @@ fn fixedbitset_views_neighbours_15() {
     use crate::proved::bitlanes::{word, Block, IndexRange, Steps};
     use crate::proved::bitwalks::in_turn::*;
     use crate::proved::bitwords::cursors::*;
-    use crate::proved::{bitranks, flow};
+    use crate::proved::{bitranks, bitslots, flow};
     use crate::proved::fixedbitset::{Bits, BitsMut, ExtendFault, FixedBitSet};
     use crate::proved::fixedbitset::*;
     use crate::shim::alloc::Global;
@@ -5751,7 +6046,7 @@ fn fixedbitset_views_neighbours_30() {
     use crate::proved::bitlanes::{word, Block, IndexRange, Steps};
     use crate::proved::bitwalks::in_turn::*;
     use crate::proved::bitwords::cursors::*;
-    use crate::proved::{bitranks, flow};
+    use crate::proved::{bitranks, bitslots, flow};
     use crate::proved::fixedbitset::{Bits, BitsMut, ExtendFault, FixedBitSet};
     use crate::proved::fixedbitset::*;
     use crate::shim::alloc::Global;
@@ -5772,7 +6067,7 @@ fn fixedbitset_views_neighbours_47() {
     use crate::proved::bitlanes::{word, Block, IndexRange, Steps};
     use crate::proved::bitwalks::in_turn::*;
     use crate::proved::bitwords::cursors::*;
-    use crate::proved::{bitranks, flow};
+    use crate::proved::{bitranks, bitslots, flow};
     use crate::proved::fixedbitset::{Bits, BitsMut, ExtendFault, FixedBitSet};
     use crate::proved::fixedbitset::*;
     use crate::shim::alloc::Global;
@@ -5794,7 +6089,7 @@ fn fixedbitset_views_neighbours_68() {
     use crate::proved::bitlanes::{word, Block, IndexRange, Steps};
     use crate::proved::bitwalks::in_turn::*;
     use crate::proved::bitwords::cursors::*;
-    use crate::proved::{bitranks, flow};
+    use crate::proved::{bitranks, bitslots, flow};
     use crate::proved::fixedbitset::{Bits, BitsMut, ExtendFault, FixedBitSet};
     use crate::proved::fixedbitset::*;
     use crate::shim::alloc::Global;
@@ -5815,7 +6110,7 @@ fn fixedbitset_views_neighbours_82() {
     use crate::proved::bitlanes::{word, Block, IndexRange, Steps};
     use crate::proved::bitwalks::in_turn::*;
     use crate::proved::bitwords::cursors::*;
-    use crate::proved::{bitranks, flow};
+    use crate::proved::{bitranks, bitslots, flow};
     use crate::proved::fixedbitset::{Bits, BitsMut, ExtendFault, FixedBitSet};
     use crate::proved::fixedbitset::*;
     use crate::shim::alloc::Global;
@@ -5837,7 +6132,7 @@ fn fixedbitset_views_neighbours_97() {
     use crate::proved::bitlanes::{word, Block, IndexRange, Steps};
     use crate::proved::bitwalks::in_turn::*;
     use crate::proved::bitwords::cursors::*;
-    use crate::proved::{bitranks, flow};
+    use crate::proved::{bitranks, bitslots, flow};
     use crate::proved::fixedbitset::{Bits, BitsMut, ExtendFault, FixedBitSet};
     use crate::proved::fixedbitset::*;
     use crate::shim::alloc::Global;
@@ -5858,7 +6153,7 @@ fn fixedbitset_views_positions_20() {
     use crate::proved::bitlanes::{word, Block, IndexRange, Steps};
     use crate::proved::bitwalks::in_turn::*;
     use crate::proved::bitwords::cursors::*;
-    use crate::proved::{bitranks, flow};
+    use crate::proved::{bitranks, bitslots, flow};
     use crate::proved::fixedbitset::{Bits, BitsMut, ExtendFault, FixedBitSet};
     use crate::proved::fixedbitset::*;
     use crate::shim::alloc::Global;
@@ -5878,7 +6173,7 @@ fn fixedbitset_views_positions_37() {
     use crate::proved::bitlanes::{word, Block, IndexRange, Steps};
     use crate::proved::bitwalks::in_turn::*;
     use crate::proved::bitwords::cursors::*;
-    use crate::proved::{bitranks, flow};
+    use crate::proved::{bitranks, bitslots, flow};
     use crate::proved::fixedbitset::{Bits, BitsMut, ExtendFault, FixedBitSet};
     use crate::proved::fixedbitset::*;
     use crate::shim::alloc::Global;
@@ -5898,7 +6193,7 @@ fn fixedbitset_views_positions_49() {
     use crate::proved::bitlanes::{word, Block, IndexRange, Steps};
     use crate::proved::bitwalks::in_turn::*;
     use crate::proved::bitwords::cursors::*;
-    use crate::proved::{bitranks, flow};
+    use crate::proved::{bitranks, bitslots, flow};
     use crate::proved::fixedbitset::{Bits, BitsMut, ExtendFault, FixedBitSet};
     use crate::proved::fixedbitset::*;
     use crate::shim::alloc::Global;
@@ -5919,7 +6214,7 @@ fn fixedbitset_views_positions_62() {
     use crate::proved::bitlanes::{word, Block, IndexRange, Steps};
     use crate::proved::bitwalks::in_turn::*;
     use crate::proved::bitwords::cursors::*;
-    use crate::proved::{bitranks, flow};
+    use crate::proved::{bitranks, bitslots, flow};
     use crate::proved::fixedbitset::{Bits, BitsMut, ExtendFault, FixedBitSet};
     use crate::proved::fixedbitset::*;
     use crate::shim::alloc::Global;
@@ -5939,7 +6234,7 @@ fn fixedbitset_views_positions_75() {
     use crate::proved::bitlanes::{word, Block, IndexRange, Steps};
     use crate::proved::bitwalks::in_turn::*;
     use crate::proved::bitwords::cursors::*;
-    use crate::proved::{bitranks, flow};
+    use crate::proved::{bitranks, bitslots, flow};
     use crate::proved::fixedbitset::{Bits, BitsMut, ExtendFault, FixedBitSet};
     use crate::proved::fixedbitset::*;
     use crate::shim::alloc::Global;
@@ -5961,7 +6256,7 @@ fn fixedbitset_views_positions_93() {
     use crate::proved::bitlanes::{word, Block, IndexRange, Steps};
     use crate::proved::bitwalks::in_turn::*;
     use crate::proved::bitwords::cursors::*;
-    use crate::proved::{bitranks, flow};
+    use crate::proved::{bitranks, bitslots, flow};
     use crate::proved::fixedbitset::{Bits, BitsMut, ExtendFault, FixedBitSet};
     use crate::proved::fixedbitset::*;
     use crate::shim::alloc::Global;
@@ -5981,7 +6276,7 @@ fn fixedbitset_views_positions_113() {
     use crate::proved::bitlanes::{word, Block, IndexRange, Steps};
     use crate::proved::bitwalks::in_turn::*;
     use crate::proved::bitwords::cursors::*;
-    use crate::proved::{bitranks, flow};
+    use crate::proved::{bitranks, bitslots, flow};
     use crate::proved::fixedbitset::{Bits, BitsMut, ExtendFault, FixedBitSet};
     use crate::proved::fixedbitset::*;
     use crate::shim::alloc::Global;
@@ -6001,7 +6296,7 @@ fn fixedbitset_views_positions_128() {
     use crate::proved::bitlanes::{word, Block, IndexRange, Steps};
     use crate::proved::bitwalks::in_turn::*;
     use crate::proved::bitwords::cursors::*;
-    use crate::proved::{bitranks, flow};
+    use crate::proved::{bitranks, bitslots, flow};
     use crate::proved::fixedbitset::{Bits, BitsMut, ExtendFault, FixedBitSet};
     use crate::proved::fixedbitset::*;
     use crate::shim::alloc::Global;
@@ -6021,7 +6316,7 @@ fn fixedbitset_views_positions_147() {
     use crate::proved::bitlanes::{word, Block, IndexRange, Steps};
     use crate::proved::bitwalks::in_turn::*;
     use crate::proved::bitwords::cursors::*;
-    use crate::proved::{bitranks, flow};
+    use crate::proved::{bitranks, bitslots, flow};
     use crate::proved::fixedbitset::{Bits, BitsMut, ExtendFault, FixedBitSet};
     use crate::proved::fixedbitset::*;
     use crate::shim::alloc::Global;
@@ -6041,7 +6336,7 @@ fn fixedbitset_views_positions_161() {
     use crate::proved::bitlanes::{word, Block, IndexRange, Steps};
     use crate::proved::bitwalks::in_turn::*;
     use crate::proved::bitwords::cursors::*;
-    use crate::proved::{bitranks, flow};
+    use crate::proved::{bitranks, bitslots, flow};
     use crate::proved::fixedbitset::{Bits, BitsMut, ExtendFault, FixedBitSet};
     use crate::proved::fixedbitset::*;
     use crate::shim::alloc::Global;
@@ -6061,7 +6356,7 @@ fn fixedbitset_views_positions_174() {
     use crate::proved::bitlanes::{word, Block, IndexRange, Steps};
     use crate::proved::bitwalks::in_turn::*;
     use crate::proved::bitwords::cursors::*;
-    use crate::proved::{bitranks, flow};
+    use crate::proved::{bitranks, bitslots, flow};
     use crate::proved::fixedbitset::{Bits, BitsMut, ExtendFault, FixedBitSet};
     use crate::proved::fixedbitset::*;
     use crate::shim::alloc::Global;
@@ -6081,7 +6376,7 @@ fn fixedbitset_views_positions_189() {
     use crate::proved::bitlanes::{word, Block, IndexRange, Steps};
     use crate::proved::bitwalks::in_turn::*;
     use crate::proved::bitwords::cursors::*;
-    use crate::proved::{bitranks, flow};
+    use crate::proved::{bitranks, bitslots, flow};
     use crate::proved::fixedbitset::{Bits, BitsMut, ExtendFault, FixedBitSet};
     use crate::proved::fixedbitset::*;
     use crate::shim::alloc::Global;
@@ -6102,7 +6397,7 @@ fn fixedbitset_views_positions_202() {
     use crate::proved::bitlanes::{word, Block, IndexRange, Steps};
     use crate::proved::bitwalks::in_turn::*;
     use crate::proved::bitwords::cursors::*;
-    use crate::proved::{bitranks, flow};
+    use crate::proved::{bitranks, bitslots, flow};
     use crate::proved::fixedbitset::{Bits, BitsMut, ExtendFault, FixedBitSet};
     use crate::proved::fixedbitset::*;
     use crate::shim::alloc::Global;
@@ -6123,7 +6418,7 @@ fn fixedbitset_views_positions_215() {
     use crate::proved::bitlanes::{word, Block, IndexRange, Steps};
     use crate::proved::bitwalks::in_turn::*;
     use crate::proved::bitwords::cursors::*;
-    use crate::proved::{bitranks, flow};
+    use crate::proved::{bitranks, bitslots, flow};
     use crate::proved::fixedbitset::{Bits, BitsMut, ExtendFault, FixedBitSet};
     use crate::proved::fixedbitset::*;
     use crate::shim::alloc::Global;
@@ -6144,7 +6439,7 @@ fn fixedbitset_views_positions_228() {
     use crate::proved::bitlanes::{word, Block, IndexRange, Steps};
     use crate::proved::bitwalks::in_turn::*;
     use crate::proved::bitwords::cursors::*;
-    use crate::proved::{bitranks, flow};
+    use crate::proved::{bitranks, bitslots, flow};
     use crate::proved::fixedbitset::{Bits, BitsMut, ExtendFault, FixedBitSet};
     use crate::proved::fixedbitset::*;
     use crate::shim::alloc::Global;
@@ -6165,7 +6460,7 @@ fn fixedbitset_views_positions_244() {
     use crate::proved::bitlanes::{word, Block, IndexRange, Steps};
     use crate::proved::bitwalks::in_turn::*;
     use crate::proved::bitwords::cursors::*;
-    use crate::proved::{bitranks, flow};
+    use crate::proved::{bitranks, bitslots, flow};
     use crate::proved::fixedbitset::{Bits, BitsMut, ExtendFault, FixedBitSet};
     use crate::proved::fixedbitset::*;
     use crate::shim::alloc::Global;
@@ -6187,7 +6482,7 @@ fn fixedbitset_views_positions_264() {
     use crate::proved::bitlanes::{word, Block, IndexRange, Steps};
     use crate::proved::bitwalks::in_turn::*;
     use crate::proved::bitwords::cursors::*;
-    use crate::proved::{bitranks, flow};
+    use crate::proved::{bitranks, bitslots, flow};
     use crate::proved::fixedbitset::{Bits, BitsMut, ExtendFault, FixedBitSet};
     use crate::proved::fixedbitset::*;
     use crate::shim::alloc::Global;
@@ -6208,7 +6503,7 @@ fn fixedbitset_views_positions_283() {
     use crate::proved::bitlanes::{word, Block, IndexRange, Steps};
     use crate::proved::bitwalks::in_turn::*;
     use crate::proved::bitwords::cursors::*;
-    use crate::proved::{bitranks, flow};
+    use crate::proved::{bitranks, bitslots, flow};
     use crate::proved::fixedbitset::{Bits, BitsMut, ExtendFault, FixedBitSet};
     use crate::proved::fixedbitset::*;
     use crate::shim::alloc::Global;
@@ -6229,7 +6524,7 @@ fn fixedbitset_views_positions_298() {
     use crate::proved::bitlanes::{word, Block, IndexRange, Steps};
     use crate::proved::bitwalks::in_turn::*;
     use crate::proved::bitwords::cursors::*;
-    use crate::proved::{bitranks, flow};
+    use crate::proved::{bitranks, bitslots, flow};
     use crate::proved::fixedbitset::{Bits, BitsMut, ExtendFault, FixedBitSet};
     use crate::proved::fixedbitset::*;
     use crate::shim::alloc::Global;
@@ -6250,7 +6545,7 @@ fn fixedbitset_views_positions_316() {
     use crate::proved::bitlanes::{word, Block, IndexRange, Steps};
     use crate::proved::bitwalks::in_turn::*;
     use crate::proved::bitwords::cursors::*;
-    use crate::proved::{bitranks, flow};
+    use crate::proved::{bitranks, bitslots, flow};
     use crate::proved::fixedbitset::{Bits, BitsMut, ExtendFault, FixedBitSet};
     use crate::proved::fixedbitset::*;
     use crate::shim::alloc::Global;
@@ -6272,7 +6567,7 @@ fn fixedbitset_views_positions_332() {
     use crate::proved::bitlanes::{word, Block, IndexRange, Steps};
     use crate::proved::bitwalks::in_turn::*;
     use crate::proved::bitwords::cursors::*;
-    use crate::proved::{bitranks, flow};
+    use crate::proved::{bitranks, bitslots, flow};
     use crate::proved::fixedbitset::{Bits, BitsMut, ExtendFault, FixedBitSet};
     use crate::proved::fixedbitset::*;
     use crate::shim::alloc::Global;
@@ -6293,7 +6588,7 @@ fn fixedbitset_views_positions_351() {
     use crate::proved::bitlanes::{word, Block, IndexRange, Steps};
     use crate::proved::bitwalks::in_turn::*;
     use crate::proved::bitwords::cursors::*;
-    use crate::proved::{bitranks, flow};
+    use crate::proved::{bitranks, bitslots, flow};
     use crate::proved::fixedbitset::{Bits, BitsMut, ExtendFault, FixedBitSet};
     use crate::proved::fixedbitset::*;
     use crate::shim::alloc::Global;
@@ -6314,7 +6609,7 @@ fn fixedbitset_views_positions_369() {
     use crate::proved::bitlanes::{word, Block, IndexRange, Steps};
     use crate::proved::bitwalks::in_turn::*;
     use crate::proved::bitwords::cursors::*;
-    use crate::proved::{bitranks, flow};
+    use crate::proved::{bitranks, bitslots, flow};
     use crate::proved::fixedbitset::{Bits, BitsMut, ExtendFault, FixedBitSet};
     use crate::proved::fixedbitset::*;
     use crate::shim::alloc::Global;
@@ -6335,7 +6630,7 @@ fn fixedbitset_views_positions_383() {
     use crate::proved::bitlanes::{word, Block, IndexRange, Steps};
     use crate::proved::bitwalks::in_turn::*;
     use crate::proved::bitwords::cursors::*;
-    use crate::proved::{bitranks, flow};
+    use crate::proved::{bitranks, bitslots, flow};
     use crate::proved::fixedbitset::{Bits, BitsMut, ExtendFault, FixedBitSet};
     use crate::proved::fixedbitset::*;
     use crate::shim::alloc::Global;
@@ -6356,7 +6651,7 @@ fn fixedbitset_views_positions_398() {
     use crate::proved::bitlanes::{word, Block, IndexRange, Steps};
     use crate::proved::bitwalks::in_turn::*;
     use crate::proved::bitwords::cursors::*;
-    use crate::proved::{bitranks, flow};
+    use crate::proved::{bitranks, bitslots, flow};
     use crate::proved::fixedbitset::{Bits, BitsMut, ExtendFault, FixedBitSet};
     use crate::proved::fixedbitset::*;
     use crate::shim::alloc::Global;
@@ -6375,7 +6670,7 @@ fn fixedbitset_views_ranges_18() {
     use crate::proved::bitlanes::{word, Block, IndexRange, Steps};
     use crate::proved::bitwalks::in_turn::*;
     use crate::proved::bitwords::cursors::*;
-    use crate::proved::{bitranks, flow};
+    use crate::proved::{bitranks, bitslots, flow};
     use crate::proved::fixedbitset::{Bits, BitsMut, ExtendFault, FixedBitSet};
     use crate::proved::fixedbitset::*;
     use crate::shim::alloc::Global;
@@ -6396,7 +6691,7 @@ fn fixedbitset_views_ranges_31() {
     use crate::proved::bitlanes::{word, Block, IndexRange, Steps};
     use crate::proved::bitwalks::in_turn::*;
     use crate::proved::bitwords::cursors::*;
-    use crate::proved::{bitranks, flow};
+    use crate::proved::{bitranks, bitslots, flow};
     use crate::proved::fixedbitset::{Bits, BitsMut, ExtendFault, FixedBitSet};
     use crate::proved::fixedbitset::*;
     use crate::shim::alloc::Global;
@@ -6417,7 +6712,7 @@ fn fixedbitset_views_ranges_44() {
     use crate::proved::bitlanes::{word, Block, IndexRange, Steps};
     use crate::proved::bitwalks::in_turn::*;
     use crate::proved::bitwords::cursors::*;
-    use crate::proved::{bitranks, flow};
+    use crate::proved::{bitranks, bitslots, flow};
     use crate::proved::fixedbitset::{Bits, BitsMut, ExtendFault, FixedBitSet};
     use crate::proved::fixedbitset::*;
     use crate::shim::alloc::Global;
@@ -6438,7 +6733,7 @@ fn fixedbitset_views_ranges_57() {
     use crate::proved::bitlanes::{word, Block, IndexRange, Steps};
     use crate::proved::bitwalks::in_turn::*;
     use crate::proved::bitwords::cursors::*;
-    use crate::proved::{bitranks, flow};
+    use crate::proved::{bitranks, bitslots, flow};
     use crate::proved::fixedbitset::{Bits, BitsMut, ExtendFault, FixedBitSet};
     use crate::proved::fixedbitset::*;
     use crate::shim::alloc::Global;
@@ -6459,7 +6754,7 @@ fn fixedbitset_views_ranges_83() {
     use crate::proved::bitlanes::{word, Block, IndexRange, Steps};
     use crate::proved::bitwalks::in_turn::*;
     use crate::proved::bitwords::cursors::*;
-    use crate::proved::{bitranks, flow};
+    use crate::proved::{bitranks, bitslots, flow};
     use crate::proved::fixedbitset::{Bits, BitsMut, ExtendFault, FixedBitSet};
     use crate::proved::fixedbitset::*;
     use crate::shim::alloc::Global;
@@ -6480,7 +6775,7 @@ fn fixedbitset_views_ranges_96() {
     use crate::proved::bitlanes::{word, Block, IndexRange, Steps};
     use crate::proved::bitwalks::in_turn::*;
     use crate::proved::bitwords::cursors::*;
-    use crate::proved::{bitranks, flow};
+    use crate::proved::{bitranks, bitslots, flow};
     use crate::proved::fixedbitset::{Bits, BitsMut, ExtendFault, FixedBitSet};
     use crate::proved::fixedbitset::*;
     use crate::shim::alloc::Global;
@@ -6500,7 +6795,7 @@ fn fixedbitset_views_ranges_108() {
     use crate::proved::bitlanes::{word, Block, IndexRange, Steps};
     use crate::proved::bitwalks::in_turn::*;
     use crate::proved::bitwords::cursors::*;
-    use crate::proved::{bitranks, flow};
+    use crate::proved::{bitranks, bitslots, flow};
     use crate::proved::fixedbitset::{Bits, BitsMut, ExtendFault, FixedBitSet};
     use crate::proved::fixedbitset::*;
     use crate::shim::alloc::Global;
@@ -6520,7 +6815,7 @@ fn fixedbitset_views_ranges_120() {
     use crate::proved::bitlanes::{word, Block, IndexRange, Steps};
     use crate::proved::bitwalks::in_turn::*;
     use crate::proved::bitwords::cursors::*;
-    use crate::proved::{bitranks, flow};
+    use crate::proved::{bitranks, bitslots, flow};
     use crate::proved::fixedbitset::{Bits, BitsMut, ExtendFault, FixedBitSet};
     use crate::proved::fixedbitset::*;
     use crate::shim::alloc::Global;
@@ -6540,7 +6835,7 @@ fn fixedbitset_views_ranges_132() {
     use crate::proved::bitlanes::{word, Block, IndexRange, Steps};
     use crate::proved::bitwalks::in_turn::*;
     use crate::proved::bitwords::cursors::*;
-    use crate::proved::{bitranks, flow};
+    use crate::proved::{bitranks, bitslots, flow};
     use crate::proved::fixedbitset::{Bits, BitsMut, ExtendFault, FixedBitSet};
     use crate::proved::fixedbitset::*;
     use crate::shim::alloc::Global;
@@ -6560,7 +6855,7 @@ fn fixedbitset_views_ranges_144() {
     use crate::proved::bitlanes::{word, Block, IndexRange, Steps};
     use crate::proved::bitwalks::in_turn::*;
     use crate::proved::bitwords::cursors::*;
-    use crate::proved::{bitranks, flow};
+    use crate::proved::{bitranks, bitslots, flow};
     use crate::proved::fixedbitset::{Bits, BitsMut, ExtendFault, FixedBitSet};
     use crate::proved::fixedbitset::*;
     use crate::shim::alloc::Global;
@@ -6580,7 +6875,7 @@ fn fixedbitset_views_shifts_18() {
     use crate::proved::bitlanes::{word, Block, IndexRange, Steps};
     use crate::proved::bitwalks::in_turn::*;
     use crate::proved::bitwords::cursors::*;
-    use crate::proved::{bitranks, flow};
+    use crate::proved::{bitranks, bitslots, flow};
     use crate::proved::fixedbitset::{Bits, BitsMut, ExtendFault, FixedBitSet};
     use crate::proved::fixedbitset::*;
     use crate::shim::alloc::Global;
@@ -6602,7 +6897,7 @@ fn fixedbitset_views_shifts_34() {
     use crate::proved::bitlanes::{word, Block, IndexRange, Steps};
     use crate::proved::bitwalks::in_turn::*;
     use crate::proved::bitwords::cursors::*;
-    use crate::proved::{bitranks, flow};
+    use crate::proved::{bitranks, bitslots, flow};
     use crate::proved::fixedbitset::{Bits, BitsMut, ExtendFault, FixedBitSet};
     use crate::proved::fixedbitset::*;
     use crate::shim::alloc::Global;
@@ -6623,7 +6918,7 @@ fn fixedbitset_views_shifts_50() {
     use crate::proved::bitlanes::{word, Block, IndexRange, Steps};
     use crate::proved::bitwalks::in_turn::*;
     use crate::proved::bitwords::cursors::*;
-    use crate::proved::{bitranks, flow};
+    use crate::proved::{bitranks, bitslots, flow};
     use crate::proved::fixedbitset::{Bits, BitsMut, ExtendFault, FixedBitSet};
     use crate::proved::fixedbitset::*;
     use crate::shim::alloc::Global;
@@ -6645,7 +6940,7 @@ fn fixedbitset_views_shifts_72() {
     use crate::proved::bitlanes::{word, Block, IndexRange, Steps};
     use crate::proved::bitwalks::in_turn::*;
     use crate::proved::bitwords::cursors::*;
-    use crate::proved::{bitranks, flow};
+    use crate::proved::{bitranks, bitslots, flow};
     use crate::proved::fixedbitset::{Bits, BitsMut, ExtendFault, FixedBitSet};
     use crate::proved::fixedbitset::*;
     use crate::shim::alloc::Global;
@@ -6667,7 +6962,7 @@ fn fixedbitset_views_shifts_93() {
     use crate::proved::bitlanes::{word, Block, IndexRange, Steps};
     use crate::proved::bitwalks::in_turn::*;
     use crate::proved::bitwords::cursors::*;
-    use crate::proved::{bitranks, flow};
+    use crate::proved::{bitranks, bitslots, flow};
     use crate::proved::fixedbitset::{Bits, BitsMut, ExtendFault, FixedBitSet};
     use crate::proved::fixedbitset::*;
     use crate::shim::alloc::Global;
@@ -6689,7 +6984,7 @@ fn fixedbitset_views_shifts_119() {
     use crate::proved::bitlanes::{word, Block, IndexRange, Steps};
     use crate::proved::bitwalks::in_turn::*;
     use crate::proved::bitwords::cursors::*;
-    use crate::proved::{bitranks, flow};
+    use crate::proved::{bitranks, bitslots, flow};
     use crate::proved::fixedbitset::{Bits, BitsMut, ExtendFault, FixedBitSet};
     use crate::proved::fixedbitset::*;
     use crate::shim::alloc::Global;
@@ -6710,7 +7005,7 @@ fn fixedbitset_views_shifts_150() {
     use crate::proved::bitlanes::{word, Block, IndexRange, Steps};
     use crate::proved::bitwalks::in_turn::*;
     use crate::proved::bitwords::cursors::*;
-    use crate::proved::{bitranks, flow};
+    use crate::proved::{bitranks, bitslots, flow};
     use crate::proved::fixedbitset::{Bits, BitsMut, ExtendFault, FixedBitSet};
     use crate::proved::fixedbitset::*;
     use crate::shim::alloc::Global;
@@ -6731,7 +7026,7 @@ fn fixedbitset_views_shifts_167() {
     use crate::proved::bitlanes::{word, Block, IndexRange, Steps};
     use crate::proved::bitwalks::in_turn::*;
     use crate::proved::bitwords::cursors::*;
-    use crate::proved::{bitranks, flow};
+    use crate::proved::{bitranks, bitslots, flow};
     use crate::proved::fixedbitset::{Bits, BitsMut, ExtendFault, FixedBitSet};
     use crate::proved::fixedbitset::*;
     use crate::shim::alloc::Global;
@@ -6752,7 +7047,7 @@ fn fixedbitset_views_walks_18() {
     use crate::proved::bitlanes::{word, Block, IndexRange, Steps};
     use crate::proved::bitwalks::in_turn::*;
     use crate::proved::bitwords::cursors::*;
-    use crate::proved::{bitranks, flow};
+    use crate::proved::{bitranks, bitslots, flow};
     use crate::proved::fixedbitset::{Bits, BitsMut, ExtendFault, FixedBitSet};
     use crate::proved::fixedbitset::*;
     use crate::shim::alloc::Global;
@@ -6772,7 +7067,7 @@ fn fixedbitset_views_walks_32() {
     use crate::proved::bitlanes::{word, Block, IndexRange, Steps};
     use crate::proved::bitwalks::in_turn::*;
     use crate::proved::bitwords::cursors::*;
-    use crate::proved::{bitranks, flow};
+    use crate::proved::{bitranks, bitslots, flow};
     use crate::proved::fixedbitset::{Bits, BitsMut, ExtendFault, FixedBitSet};
     use crate::proved::fixedbitset::*;
     use crate::shim::alloc::Global;
@@ -6793,7 +7088,7 @@ fn fixedbitset_views_walks_48() {
     use crate::proved::bitlanes::{word, Block, IndexRange, Steps};
     use crate::proved::bitwalks::in_turn::*;
     use crate::proved::bitwords::cursors::*;
-    use crate::proved::{bitranks, flow};
+    use crate::proved::{bitranks, bitslots, flow};
     use crate::proved::fixedbitset::{Bits, BitsMut, ExtendFault, FixedBitSet};
     use crate::proved::fixedbitset::*;
     use crate::shim::alloc::Global;
@@ -6814,7 +7109,7 @@ fn fixedbitset_views_walks_64() {
     use crate::proved::bitlanes::{word, Block, IndexRange, Steps};
     use crate::proved::bitwalks::in_turn::*;
     use crate::proved::bitwords::cursors::*;
-    use crate::proved::{bitranks, flow};
+    use crate::proved::{bitranks, bitslots, flow};
     use crate::proved::fixedbitset::{Bits, BitsMut, ExtendFault, FixedBitSet};
     use crate::proved::fixedbitset::*;
     use crate::shim::alloc::Global;
@@ -6836,7 +7131,7 @@ fn fixedbitset_views_walks_79() {
     use crate::proved::bitlanes::{word, Block, IndexRange, Steps};
     use crate::proved::bitwalks::in_turn::*;
     use crate::proved::bitwords::cursors::*;
-    use crate::proved::{bitranks, flow};
+    use crate::proved::{bitranks, bitslots, flow};
     use crate::proved::fixedbitset::{Bits, BitsMut, ExtendFault, FixedBitSet};
     use crate::proved::fixedbitset::*;
     use crate::shim::alloc::Global;
@@ -6858,7 +7153,7 @@ fn fixedbitset_views_walks_96() {
     use crate::proved::bitlanes::{word, Block, IndexRange, Steps};
     use crate::proved::bitwalks::in_turn::*;
     use crate::proved::bitwords::cursors::*;
-    use crate::proved::{bitranks, flow};
+    use crate::proved::{bitranks, bitslots, flow};
     use crate::proved::fixedbitset::{Bits, BitsMut, ExtendFault, FixedBitSet};
     use crate::proved::fixedbitset::*;
     use crate::shim::alloc::Global;
@@ -6878,7 +7173,7 @@ fn fixedbitset_views_walks_108() {
     use crate::proved::bitlanes::{word, Block, IndexRange, Steps};
     use crate::proved::bitwalks::in_turn::*;
     use crate::proved::bitwords::cursors::*;
-    use crate::proved::{bitranks, flow};
+    use crate::proved::{bitranks, bitslots, flow};
     use crate::proved::fixedbitset::{Bits, BitsMut, ExtendFault, FixedBitSet};
     use crate::proved::fixedbitset::*;
     use crate::shim::alloc::Global;
@@ -6898,7 +7193,7 @@ fn fixedbitset_views_walks_121() {
     use crate::proved::bitlanes::{word, Block, IndexRange, Steps};
     use crate::proved::bitwalks::in_turn::*;
     use crate::proved::bitwords::cursors::*;
-    use crate::proved::{bitranks, flow};
+    use crate::proved::{bitranks, bitslots, flow};
     use crate::proved::fixedbitset::{Bits, BitsMut, ExtendFault, FixedBitSet};
     use crate::proved::fixedbitset::*;
     use crate::shim::alloc::Global;
@@ -6918,7 +7213,7 @@ fn fixedbitset_views_walks_134() {
     use crate::proved::bitlanes::{word, Block, IndexRange, Steps};
     use crate::proved::bitwalks::in_turn::*;
     use crate::proved::bitwords::cursors::*;
-    use crate::proved::{bitranks, flow};
+    use crate::proved::{bitranks, bitslots, flow};
     use crate::proved::fixedbitset::{Bits, BitsMut, ExtendFault, FixedBitSet};
     use crate::proved::fixedbitset::*;
     use crate::shim::alloc::Global;
@@ -6938,7 +7233,7 @@ fn fixedbitset_views_walks_147() {
     use crate::proved::bitlanes::{word, Block, IndexRange, Steps};
     use crate::proved::bitwalks::in_turn::*;
     use crate::proved::bitwords::cursors::*;
-    use crate::proved::{bitranks, flow};
+    use crate::proved::{bitranks, bitslots, flow};
     use crate::proved::fixedbitset::{Bits, BitsMut, ExtendFault, FixedBitSet};
     use crate::proved::fixedbitset::*;
     use crate::shim::alloc::Global;
@@ -6958,7 +7253,7 @@ fn fixedbitset_views_whole_19() {
     use crate::proved::bitlanes::{word, Block, IndexRange, Steps};
     use crate::proved::bitwalks::in_turn::*;
     use crate::proved::bitwords::cursors::*;
-    use crate::proved::{bitranks, flow};
+    use crate::proved::{bitranks, bitslots, flow};
     use crate::proved::fixedbitset::{Bits, BitsMut, ExtendFault, FixedBitSet};
     use crate::proved::fixedbitset::*;
     use crate::shim::alloc::Global;
@@ -6980,7 +7275,7 @@ fn fixedbitset_views_whole_33() {
     use crate::proved::bitlanes::{word, Block, IndexRange, Steps};
     use crate::proved::bitwalks::in_turn::*;
     use crate::proved::bitwords::cursors::*;
-    use crate::proved::{bitranks, flow};
+    use crate::proved::{bitranks, bitslots, flow};
     use crate::proved::fixedbitset::{Bits, BitsMut, ExtendFault, FixedBitSet};
     use crate::proved::fixedbitset::*;
     use crate::shim::alloc::Global;
@@ -7002,7 +7297,7 @@ fn fixedbitset_views_whole_47() {
     use crate::proved::bitlanes::{word, Block, IndexRange, Steps};
     use crate::proved::bitwalks::in_turn::*;
     use crate::proved::bitwords::cursors::*;
-    use crate::proved::{bitranks, flow};
+    use crate::proved::{bitranks, bitslots, flow};
     use crate::proved::fixedbitset::{Bits, BitsMut, ExtendFault, FixedBitSet};
     use crate::proved::fixedbitset::*;
     use crate::shim::alloc::Global;
@@ -7024,7 +7319,7 @@ fn fixedbitset_views_whole_61() {
     use crate::proved::bitlanes::{word, Block, IndexRange, Steps};
     use crate::proved::bitwalks::in_turn::*;
     use crate::proved::bitwords::cursors::*;
-    use crate::proved::{bitranks, flow};
+    use crate::proved::{bitranks, bitslots, flow};
     use crate::proved::fixedbitset::{Bits, BitsMut, ExtendFault, FixedBitSet};
     use crate::proved::fixedbitset::*;
     use crate::shim::alloc::Global;
@@ -7046,7 +7341,7 @@ fn fixedbitset_views_whole_83() {
     use crate::proved::bitlanes::{word, Block, IndexRange, Steps};
     use crate::proved::bitwalks::in_turn::*;
     use crate::proved::bitwords::cursors::*;
-    use crate::proved::{bitranks, flow};
+    use crate::proved::{bitranks, bitslots, flow};
     use crate::proved::fixedbitset::{Bits, BitsMut, ExtendFault, FixedBitSet};
     use crate::proved::fixedbitset::*;
     use crate::shim::alloc::Global;
@@ -7067,7 +7362,7 @@ fn fixedbitset_views_whole_96() {
     use crate::proved::bitlanes::{word, Block, IndexRange, Steps};
     use crate::proved::bitwalks::in_turn::*;
     use crate::proved::bitwords::cursors::*;
-    use crate::proved::{bitranks, flow};
+    use crate::proved::{bitranks, bitslots, flow};
     use crate::proved::fixedbitset::{Bits, BitsMut, ExtendFault, FixedBitSet};
     use crate::proved::fixedbitset::*;
     use crate::shim::alloc::Global;
@@ -7088,7 +7383,7 @@ fn fixedbitset_views_whole_109() {
     use crate::proved::bitlanes::{word, Block, IndexRange, Steps};
     use crate::proved::bitwalks::in_turn::*;
     use crate::proved::bitwords::cursors::*;
-    use crate::proved::{bitranks, flow};
+    use crate::proved::{bitranks, bitslots, flow};
     use crate::proved::fixedbitset::{Bits, BitsMut, ExtendFault, FixedBitSet};
     use crate::proved::fixedbitset::*;
     use crate::shim::alloc::Global;
@@ -7109,7 +7404,7 @@ fn fixedbitset_views_whole_122() {
     use crate::proved::bitlanes::{word, Block, IndexRange, Steps};
     use crate::proved::bitwalks::in_turn::*;
     use crate::proved::bitwords::cursors::*;
-    use crate::proved::{bitranks, flow};
+    use crate::proved::{bitranks, bitslots, flow};
     use crate::proved::fixedbitset::{Bits, BitsMut, ExtendFault, FixedBitSet};
     use crate::proved::fixedbitset::*;
     use crate::shim::alloc::Global;
@@ -7131,7 +7426,7 @@ fn fixedbitset_views_whole_136() {
     use crate::proved::bitlanes::{word, Block, IndexRange, Steps};
     use crate::proved::bitwalks::in_turn::*;
     use crate::proved::bitwords::cursors::*;
-    use crate::proved::{bitranks, flow};
+    use crate::proved::{bitranks, bitslots, flow};
     use crate::proved::fixedbitset::{Bits, BitsMut, ExtendFault, FixedBitSet};
     use crate::proved::fixedbitset::*;
     use crate::shim::alloc::Global;
@@ -7152,7 +7447,7 @@ fn fixedbitset_views_whole_149() {
     use crate::proved::bitlanes::{word, Block, IndexRange, Steps};
     use crate::proved::bitwalks::in_turn::*;
     use crate::proved::bitwords::cursors::*;
-    use crate::proved::{bitranks, flow};
+    use crate::proved::{bitranks, bitslots, flow};
     use crate::proved::fixedbitset::{Bits, BitsMut, ExtendFault, FixedBitSet};
     use crate::proved::fixedbitset::*;
     use crate::shim::alloc::Global;
@@ -7173,7 +7468,7 @@ fn fixedbitset_views_whole_162() {
     use crate::proved::bitlanes::{word, Block, IndexRange, Steps};
     use crate::proved::bitwalks::in_turn::*;
     use crate::proved::bitwords::cursors::*;
-    use crate::proved::{bitranks, flow};
+    use crate::proved::{bitranks, bitslots, flow};
     use crate::proved::fixedbitset::{Bits, BitsMut, ExtendFault, FixedBitSet};
     use crate::proved::fixedbitset::*;
     use crate::shim::alloc::Global;
@@ -7194,7 +7489,7 @@ fn fixedbitset_views_whole_177() {
     use crate::proved::bitlanes::{word, Block, IndexRange, Steps};
     use crate::proved::bitwalks::in_turn::*;
     use crate::proved::bitwords::cursors::*;
-    use crate::proved::{bitranks, flow};
+    use crate::proved::{bitranks, bitslots, flow};
     use crate::proved::fixedbitset::{Bits, BitsMut, ExtendFault, FixedBitSet};
     use crate::proved::fixedbitset::*;
     use crate::shim::alloc::Global;
@@ -7216,7 +7511,7 @@ fn fixedbitset_views_whole_191() {
     use crate::proved::bitlanes::{word, Block, IndexRange, Steps};
     use crate::proved::bitwalks::in_turn::*;
     use crate::proved::bitwords::cursors::*;
-    use crate::proved::{bitranks, flow};
+    use crate::proved::{bitranks, bitslots, flow};
     use crate::proved::fixedbitset::{Bits, BitsMut, ExtendFault, FixedBitSet};
     use crate::proved::fixedbitset::*;
     use crate::shim::alloc::Global;
@@ -7237,7 +7532,7 @@ fn fixedbitset_views_whole_207() {
     use crate::proved::bitlanes::{word, Block, IndexRange, Steps};
     use crate::proved::bitwalks::in_turn::*;
     use crate::proved::bitwords::cursors::*;
-    use crate::proved::{bitranks, flow};
+    use crate::proved::{bitranks, bitslots, flow};
     use crate::proved::fixedbitset::{Bits, BitsMut, ExtendFault, FixedBitSet};
     use crate::proved::fixedbitset::*;
     use crate::shim::alloc::Global;
@@ -7259,7 +7554,7 @@ fn fixedbitset_walks_19() {
     use crate::proved::bitlanes::{word, Block, IndexRange, Steps};
     use crate::proved::bitwalks::in_turn::*;
     use crate::proved::bitwords::cursors::*;
-    use crate::proved::{bitranks, flow};
+    use crate::proved::{bitranks, bitslots, flow};
     use crate::proved::fixedbitset::{Bits, BitsMut, ExtendFault, FixedBitSet};
     use crate::proved::fixedbitset::*;
     use crate::shim::alloc::Global;
@@ -7280,7 +7575,7 @@ fn fixedbitset_walks_32() {
     use crate::proved::bitlanes::{word, Block, IndexRange, Steps};
     use crate::proved::bitwalks::in_turn::*;
     use crate::proved::bitwords::cursors::*;
-    use crate::proved::{bitranks, flow};
+    use crate::proved::{bitranks, bitslots, flow};
     use crate::proved::fixedbitset::{Bits, BitsMut, ExtendFault, FixedBitSet};
     use crate::proved::fixedbitset::*;
     use crate::shim::alloc::Global;
@@ -7301,7 +7596,7 @@ fn fixedbitset_walks_47() {
     use crate::proved::bitlanes::{word, Block, IndexRange, Steps};
     use crate::proved::bitwalks::in_turn::*;
     use crate::proved::bitwords::cursors::*;
-    use crate::proved::{bitranks, flow};
+    use crate::proved::{bitranks, bitslots, flow};
     use crate::proved::fixedbitset::{Bits, BitsMut, ExtendFault, FixedBitSet};
     use crate::proved::fixedbitset::*;
     use crate::shim::alloc::Global;
@@ -7323,7 +7618,7 @@ fn fixedbitset_walks_64() {
     use crate::proved::bitlanes::{word, Block, IndexRange, Steps};
     use crate::proved::bitwalks::in_turn::*;
     use crate::proved::bitwords::cursors::*;
-    use crate::proved::{bitranks, flow};
+    use crate::proved::{bitranks, bitslots, flow};
     use crate::proved::fixedbitset::{Bits, BitsMut, ExtendFault, FixedBitSet};
     use crate::proved::fixedbitset::*;
     use crate::shim::alloc::Global;
@@ -7345,7 +7640,7 @@ fn fixedbitset_walks_82() {
     use crate::proved::bitlanes::{word, Block, IndexRange, Steps};
     use crate::proved::bitwalks::in_turn::*;
     use crate::proved::bitwords::cursors::*;
-    use crate::proved::{bitranks, flow};
+    use crate::proved::{bitranks, bitslots, flow};
     use crate::proved::fixedbitset::{Bits, BitsMut, ExtendFault, FixedBitSet};
     use crate::proved::fixedbitset::*;
     use crate::shim::alloc::Global;
@@ -7366,7 +7661,7 @@ fn fixedbitset_walks_101() {
     use crate::proved::bitlanes::{word, Block, IndexRange, Steps};
     use crate::proved::bitwalks::in_turn::*;
     use crate::proved::bitwords::cursors::*;
-    use crate::proved::{bitranks, flow};
+    use crate::proved::{bitranks, bitslots, flow};
     use crate::proved::fixedbitset::{Bits, BitsMut, ExtendFault, FixedBitSet};
     use crate::proved::fixedbitset::*;
     use crate::shim::alloc::Global;
@@ -7388,7 +7683,7 @@ fn fixedbitset_walks_118() {
     use crate::proved::bitlanes::{word, Block, IndexRange, Steps};
     use crate::proved::bitwalks::in_turn::*;
     use crate::proved::bitwords::cursors::*;
-    use crate::proved::{bitranks, flow};
+    use crate::proved::{bitranks, bitslots, flow};
     use crate::proved::fixedbitset::{Bits, BitsMut, ExtendFault, FixedBitSet};
     use crate::proved::fixedbitset::*;
     use crate::shim::alloc::Global;
@@ -7409,7 +7704,7 @@ fn fixedbitset_whole_21() {
     use crate::proved::bitlanes::{word, Block, IndexRange, Steps};
     use crate::proved::bitwalks::in_turn::*;
     use crate::proved::bitwords::cursors::*;
-    use crate::proved::{bitranks, flow};
+    use crate::proved::{bitranks, bitslots, flow};
     use crate::proved::fixedbitset::{Bits, BitsMut, ExtendFault, FixedBitSet};
     use crate::proved::fixedbitset::*;
     use crate::shim::alloc::Global;
@@ -7432,7 +7727,7 @@ fn fixedbitset_whole_37() {
     use crate::proved::bitlanes::{word, Block, IndexRange, Steps};
     use crate::proved::bitwalks::in_turn::*;
     use crate::proved::bitwords::cursors::*;
-    use crate::proved::{bitranks, flow};
+    use crate::proved::{bitranks, bitslots, flow};
     use crate::proved::fixedbitset::{Bits, BitsMut, ExtendFault, FixedBitSet};
     use crate::proved::fixedbitset::*;
     use crate::shim::alloc::Global;
@@ -7455,7 +7750,7 @@ fn fixedbitset_whole_54() {
     use crate::proved::bitlanes::{word, Block, IndexRange, Steps};
     use crate::proved::bitwalks::in_turn::*;
     use crate::proved::bitwords::cursors::*;
-    use crate::proved::{bitranks, flow};
+    use crate::proved::{bitranks, bitslots, flow};
     use crate::proved::fixedbitset::{Bits, BitsMut, ExtendFault, FixedBitSet};
     use crate::proved::fixedbitset::*;
     use crate::shim::alloc::Global;
@@ -7478,7 +7773,7 @@ fn fixedbitset_whole_69() {
     use crate::proved::bitlanes::{word, Block, IndexRange, Steps};
     use crate::proved::bitwalks::in_turn::*;
     use crate::proved::bitwords::cursors::*;
-    use crate::proved::{bitranks, flow};
+    use crate::proved::{bitranks, bitslots, flow};
     use crate::proved::fixedbitset::{Bits, BitsMut, ExtendFault, FixedBitSet};
     use crate::proved::fixedbitset::*;
     use crate::shim::alloc::Global;
@@ -7500,7 +7795,7 @@ fn fixedbitset_whole_83() {
     use crate::proved::bitlanes::{word, Block, IndexRange, Steps};
     use crate::proved::bitwalks::in_turn::*;
     use crate::proved::bitwords::cursors::*;
-    use crate::proved::{bitranks, flow};
+    use crate::proved::{bitranks, bitslots, flow};
     use crate::proved::fixedbitset::{Bits, BitsMut, ExtendFault, FixedBitSet};
     use crate::proved::fixedbitset::*;
     use crate::shim::alloc::Global;
@@ -7522,7 +7817,7 @@ fn fixedbitset_whole_97() {
     use crate::proved::bitlanes::{word, Block, IndexRange, Steps};
     use crate::proved::bitwalks::in_turn::*;
     use crate::proved::bitwords::cursors::*;
-    use crate::proved::{bitranks, flow};
+    use crate::proved::{bitranks, bitslots, flow};
     use crate::proved::fixedbitset::{Bits, BitsMut, ExtendFault, FixedBitSet};
     use crate::proved::fixedbitset::*;
     use crate::shim::alloc::Global;
@@ -7544,7 +7839,7 @@ fn fixedbitset_whole_110() {
     use crate::proved::bitlanes::{word, Block, IndexRange, Steps};
     use crate::proved::bitwalks::in_turn::*;
     use crate::proved::bitwords::cursors::*;
-    use crate::proved::{bitranks, flow};
+    use crate::proved::{bitranks, bitslots, flow};
     use crate::proved::fixedbitset::{Bits, BitsMut, ExtendFault, FixedBitSet};
     use crate::proved::fixedbitset::*;
     use crate::shim::alloc::Global;
@@ -7566,7 +7861,7 @@ fn fixedbitset_whole_128() {
     use crate::proved::bitlanes::{word, Block, IndexRange, Steps};
     use crate::proved::bitwalks::in_turn::*;
     use crate::proved::bitwords::cursors::*;
-    use crate::proved::{bitranks, flow};
+    use crate::proved::{bitranks, bitslots, flow};
     use crate::proved::fixedbitset::{Bits, BitsMut, ExtendFault, FixedBitSet};
     use crate::proved::fixedbitset::*;
     use crate::shim::alloc::Global;
@@ -7589,7 +7884,7 @@ fn fixedbitset_whole_143() {
     use crate::proved::bitlanes::{word, Block, IndexRange, Steps};
     use crate::proved::bitwalks::in_turn::*;
     use crate::proved::bitwords::cursors::*;
-    use crate::proved::{bitranks, flow};
+    use crate::proved::{bitranks, bitslots, flow};
     use crate::proved::fixedbitset::{Bits, BitsMut, ExtendFault, FixedBitSet};
     use crate::proved::fixedbitset::*;
     use crate::shim::alloc::Global;
@@ -7610,7 +7905,7 @@ fn fixedbitset_whole_155() {
     use crate::proved::bitlanes::{word, Block, IndexRange, Steps};
     use crate::proved::bitwalks::in_turn::*;
     use crate::proved::bitwords::cursors::*;
-    use crate::proved::{bitranks, flow};
+    use crate::proved::{bitranks, bitslots, flow};
     use crate::proved::fixedbitset::{Bits, BitsMut, ExtendFault, FixedBitSet};
     use crate::proved::fixedbitset::*;
     use crate::shim::alloc::Global;
@@ -7631,7 +7926,7 @@ fn fixedbitset_whole_170() {
     use crate::proved::bitlanes::{word, Block, IndexRange, Steps};
     use crate::proved::bitwalks::in_turn::*;
     use crate::proved::bitwords::cursors::*;
-    use crate::proved::{bitranks, flow};
+    use crate::proved::{bitranks, bitslots, flow};
     use crate::proved::fixedbitset::{Bits, BitsMut, ExtendFault, FixedBitSet};
     use crate::proved::fixedbitset::*;
     use crate::shim::alloc::Global;
@@ -7654,7 +7949,7 @@ fn fixedbitset_whole_188() {
     use crate::proved::bitlanes::{word, Block, IndexRange, Steps};
     use crate::proved::bitwalks::in_turn::*;
     use crate::proved::bitwords::cursors::*;
-    use crate::proved::{bitranks, flow};
+    use crate::proved::{bitranks, bitslots, flow};
     use crate::proved::fixedbitset::{Bits, BitsMut, ExtendFault, FixedBitSet};
     use crate::proved::fixedbitset::*;
     use crate::shim::alloc::Global;
@@ -7677,7 +7972,7 @@ fn fixedbitset_whole_206() {
     use crate::proved::bitlanes::{word, Block, IndexRange, Steps};
     use crate::proved::bitwalks::in_turn::*;
     use crate::proved::bitwords::cursors::*;
-    use crate::proved::{bitranks, flow};
+    use crate::proved::{bitranks, bitslots, flow};
     use crate::proved::fixedbitset::{Bits, BitsMut, ExtendFault, FixedBitSet};
     use crate::proved::fixedbitset::*;
     use crate::shim::alloc::Global;
@@ -7700,7 +7995,7 @@ fn fixedbitset_whole_222() {
     use crate::proved::bitlanes::{word, Block, IndexRange, Steps};
     use crate::proved::bitwalks::in_turn::*;
     use crate::proved::bitwords::cursors::*;
-    use crate::proved::{bitranks, flow};
+    use crate::proved::{bitranks, bitslots, flow};
     use crate::proved::fixedbitset::{Bits, BitsMut, ExtendFault, FixedBitSet};
     use crate::proved::fixedbitset::*;
     use crate::shim::alloc::Global;
@@ -7721,7 +8016,7 @@ fn fixedbitset_whole_236() {
     use crate::proved::bitlanes::{word, Block, IndexRange, Steps};
     use crate::proved::bitwalks::in_turn::*;
     use crate::proved::bitwords::cursors::*;
-    use crate::proved::{bitranks, flow};
+    use crate::proved::{bitranks, bitslots, flow};
     use crate::proved::fixedbitset::{Bits, BitsMut, ExtendFault, FixedBitSet};
     use crate::proved::fixedbitset::*;
     use crate::shim::alloc::Global;
@@ -7742,7 +8037,7 @@ fn fixedbitset_whole_251() {
     use crate::proved::bitlanes::{word, Block, IndexRange, Steps};
     use crate::proved::bitwalks::in_turn::*;
     use crate::proved::bitwords::cursors::*;
-    use crate::proved::{bitranks, flow};
+    use crate::proved::{bitranks, bitslots, flow};
     use crate::proved::fixedbitset::{Bits, BitsMut, ExtendFault, FixedBitSet};
     use crate::proved::fixedbitset::*;
     use crate::shim::alloc::Global;
@@ -7764,7 +8059,7 @@ fn fixedbitset_whole_266() {
     use crate::proved::bitlanes::{word, Block, IndexRange, Steps};
     use crate::proved::bitwalks::in_turn::*;
     use crate::proved::bitwords::cursors::*;
-    use crate::proved::{bitranks, flow};
+    use crate::proved::{bitranks, bitslots, flow};
     use crate::proved::fixedbitset::{Bits, BitsMut, ExtendFault, FixedBitSet};
     use crate::proved::fixedbitset::*;
     use crate::shim::alloc::Global;
@@ -7785,7 +8080,7 @@ fn fixedbitset_whole_281() {
     use crate::proved::bitlanes::{word, Block, IndexRange, Steps};
     use crate::proved::bitwalks::in_turn::*;
     use crate::proved::bitwords::cursors::*;
-    use crate::proved::{bitranks, flow};
+    use crate::proved::{bitranks, bitslots, flow};
     use crate::proved::fixedbitset::{Bits, BitsMut, ExtendFault, FixedBitSet};
     use crate::proved::fixedbitset::*;
     use crate::shim::alloc::Global;
@@ -7807,7 +8102,7 @@ fn fixedbitset_whole_296() {
     use crate::proved::bitlanes::{word, Block, IndexRange, Steps};
     use crate::proved::bitwalks::in_turn::*;
     use crate::proved::bitwords::cursors::*;
-    use crate::proved::{bitranks, flow};
+    use crate::proved::{bitranks, bitslots, flow};
     use crate::proved::fixedbitset::{Bits, BitsMut, ExtendFault, FixedBitSet};
     use crate::proved::fixedbitset::*;
     use crate::shim::alloc::Global;
@@ -7830,7 +8125,7 @@ fn fixedbitset_whole_309() {
     use crate::proved::bitlanes::{word, Block, IndexRange, Steps};
     use crate::proved::bitwalks::in_turn::*;
     use crate::proved::bitwords::cursors::*;
-    use crate::proved::{bitranks, flow};
+    use crate::proved::{bitranks, bitslots, flow};
     use crate::proved::fixedbitset::{Bits, BitsMut, ExtendFault, FixedBitSet};
     use crate::proved::fixedbitset::*;
     use crate::shim::alloc::Global;
@@ -7852,7 +8147,7 @@ fn fixedbitset_whole_326() {
     use crate::proved::bitlanes::{word, Block, IndexRange, Steps};
     use crate::proved::bitwalks::in_turn::*;
     use crate::proved::bitwords::cursors::*;
-    use crate::proved::{bitranks, flow};
+    use crate::proved::{bitranks, bitslots, flow};
     use crate::proved::fixedbitset::{Bits, BitsMut, ExtendFault, FixedBitSet};
     use crate::proved::fixedbitset::*;
     use crate::shim::alloc::Global;
@@ -7869,12 +8164,56 @@ fn fixedbitset_whole_326() {
 }
 
 #[test]
+fn flow_postorder_17() {
+    use crate::proved::bitlanes::ops::*;
+    use crate::proved::bitlanes::{word, Block, IndexRange, Steps};
+    use crate::proved::bitwalks::in_turn::*;
+    use crate::proved::bitwords::cursors::*;
+    use crate::proved::{bitranks, bitslots, flow};
+    use crate::proved::fixedbitset::{Bits, BitsMut, ExtendFault, FixedBitSet};
+    use crate::proved::flow::*;
+    use crate::shim::alloc::Global;
+    use crate::shim::prelude::*;
+    use crate::shim::u64x4;
+    use core::cmp::Ordering;
+    use core::mem::{size_of, size_of_val};
+
+    let alloc = Global::Try;
+    let none = FixedBitSet::with_capacity(alloc, 1).unwrap();
+    let gens = [none.clone().unwrap(), FixedBitSet::from_iter(alloc, [0]).unwrap()];
+    let kills = [none.clone().unwrap(), none];
+    let mut rounds = crate::shim::Steps::new();
+    let answer = flow::solve_in_order(alloc, 1, &[(1, 0)], &gens, &kills, &mut rounds).unwrap();
+    assert!(answer.outs.iter().all(|facts| facts.contains(0)));
+}
+
+#[test]
+fn flow_postorder_45() {
+    use crate::proved::bitlanes::ops::*;
+    use crate::proved::bitlanes::{word, Block, IndexRange, Steps};
+    use crate::proved::bitwalks::in_turn::*;
+    use crate::proved::bitwords::cursors::*;
+    use crate::proved::{bitranks, bitslots, flow};
+    use crate::proved::fixedbitset::{Bits, BitsMut, ExtendFault, FixedBitSet};
+    use crate::proved::flow::*;
+    use crate::shim::alloc::Global;
+    use crate::shim::prelude::*;
+    use crate::shim::u64x4;
+    use core::cmp::Ordering;
+    use core::mem::{size_of, size_of_val};
+
+    let alloc = Global::Try;
+    let ordered = flow::in_order(alloc, &[(1, 2), (0, 1), (3, 0)], 4).unwrap();
+    assert_eq!(ordered.as_slice(), [(3, 0), (0, 1), (1, 2)].as_slice());
+}
+
+#[test]
 fn flow_problem_12() {
     use crate::proved::bitlanes::ops::*;
     use crate::proved::bitlanes::{word, Block, IndexRange, Steps};
     use crate::proved::bitwalks::in_turn::*;
     use crate::proved::bitwords::cursors::*;
-    use crate::proved::{bitranks, flow};
+    use crate::proved::{bitranks, bitslots, flow};
     use crate::proved::fixedbitset::{Bits, BitsMut, ExtendFault, FixedBitSet};
     use crate::proved::flow::*;
     use crate::shim::alloc::Global;
@@ -7897,7 +8236,7 @@ fn flow_solver_33() {
     use crate::proved::bitlanes::{word, Block, IndexRange, Steps};
     use crate::proved::bitwalks::in_turn::*;
     use crate::proved::bitwords::cursors::*;
-    use crate::proved::{bitranks, flow};
+    use crate::proved::{bitranks, bitslots, flow};
     use crate::proved::fixedbitset::{Bits, BitsMut, ExtendFault, FixedBitSet};
     use crate::proved::flow::*;
     use crate::shim::alloc::Global;

@@ -105,7 +105,7 @@ impl<'a> Ranks<'a> {
     }
 }
 
-/// Not proved: it prints the set.
+/// Proved: the positions ([contract](crate::contracts#fixedbitsetbitsones)). The text around them is not.
 impl Debug for Ranks<'_> {
     /// The set.
     fn fmt(&self, f: &mut Formatter<'_>) -> Written {

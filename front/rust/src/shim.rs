@@ -231,7 +231,8 @@ pub mod row {
         #[inline]
         pub fn push(&mut self, item: T) -> Result<(), AllocError> {
             if self.0.len() == self.0.capacity() {
-                self.reserve(1)?;
+                // (Rust's own vector would double too, but an error would not know that.)
+                self.reserve(self.0.len().max(4))?;
             }
             self.0.push(item);
             Ok(())

@@ -200,9 +200,15 @@ macro_rules! in_turn {
     };
 }
 
-/// The calls of an iterator that are Rust's own.
-macro_rules! as_rust_has_them {
-    () => {};
+/// The calls of an iterator over runs, between any two of which there is a position.
+macro_rules! apart {
+    () => {
+        #[inline]
+        fn size_hint(&self) -> (usize, Option<usize>) {
+            let left = self.walk.clone().into_held();
+            (0, Some((left.high - left.low).div_ceil(2)))
+        }
+    };
 }
 
 /// The traits of iterators: of each its item, the calls from its ends, how its text lists the items, and its other calls.
@@ -211,7 +217,7 @@ macro_rules! walks {
         /// Proved: each item, the hint of size and the count, for any mix of calls from both ends: of
         /// [one iterator](crate::contracts#bitwordscursorscursor-as-iterator), of
         /// [two in turn](crate::contracts#bitwalksin_turninturntake_first), of [runs](crate::contracts#bitwalksruns-as-iterator).
-        /// Other calls are put together from these.
+        /// Other calls are put together from these. The hint of runs is not proved: half of the positions that are left.
         impl Iterator for $name {
             type Item = $item;
 
@@ -255,7 +261,7 @@ walks! {
     IntoOnes: usize, next, next_back, debug_set, ascending;
     Union<'_>: usize, take_first, take_last, debug_set, in_turn;
     SymmetricDifference<'_>: usize, take_first, take_last, debug_set, in_turn;
-    Runs<'_>: (usize, usize), next, next_back, debug_list, as_rust_has_them;
+    Runs<'_>: (usize, usize), next, next_back, debug_list, apart;
 }
 
 /// Declares that `for position in set` goes over the positions of the set.

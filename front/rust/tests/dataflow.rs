@@ -223,6 +223,28 @@ fn the_order_of_the_edges_costs_no_round() {
 }
 
 #[test]
+fn loops_within_loops_cost_one_round() {
+    const NODES: usize = 1000;
+    let mut edges: Vec<_> = (0..=NODES).map(|node| (node, node + 1)).collect();
+    for long in [10, 100] {
+        let ends = (long..=NODES).step_by(long);
+        edges.extend(ends.map(|end| (end, end + 1 - long)));
+    }
+    let mut random = Random(0x9e37_79b9_7f4a_7c15);
+    for _ in 0..10 {
+        for last in (1..edges.len()).rev() {
+            edges.swap(last, random.below(last + 1));
+        }
+        let mut problem = Problem::new(NODES + 2, 1);
+        problem.extend(edges.iter().copied());
+        problem.gen_mut(NODES / 2 + 5).insert(0);
+        for direction in [Forward, Backward] {
+            assert_eq!(problem.solve(direction, Union).rounds(), 3);
+        }
+    }
+}
+
+#[test]
 fn texts() {
     let mut problem = problem_of(2, &[(&[0], &[1]), (&[], &[0])], [(0, 1)]);
     problem.boundary(0).insert(0);

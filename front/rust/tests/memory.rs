@@ -121,6 +121,8 @@ fn what_is_made_asks_once_for_its_words() {
         |set, _| FixedBitSet::new().resize(set.len(), true);
         |set, _| FixedBitSet::new().append(set);
         |set, _| FixedBitSet::new().clone_from(set);
+        |set, _| FixedBitSet::new().reserve(set.len());
+        |set, _| FixedBitSet::from_words(Vec::new(), set.len());
         |set, _| BitRows::new(1, set.len());
     };
     let of_second = calls! {
@@ -193,6 +195,9 @@ fn what_has_room_asks_for_nothing() {
         |set, _| std::mem::take(set).into_ones().next_back();
         |set, _| set.hash(&mut DefaultHasher::new());
         |set, other| set.as_bits_mut().union_with(other.as_bits());
+        |set, _| (set.reserve(24), set.grow(1_024), set.reserve(0));
+        |set, _| (set.shrink_to_fit(), set.try_shrink_to_fit().is_ok());
+        |set, _| FixedBitSet::from_words(std::mem::take(set).into_words(), 1_024);
     };
     for (name, call) in calls {
         let mut set = FixedBitSet::with_capacity(1_000);
@@ -228,9 +233,47 @@ fn grows(name: &str, call: impl Fn(&mut FixedBitSet, &FixedBitSet)) {
 }
 
 #[test]
+fn there_is_memory_for_the_capacity_and_no_more() {
+    for (first, second) in LENGTHS {
+        let mut set = FixedBitSet::with_capacity(first);
+        assert_eq!(set.capacity(), 8 * bytes_of(first));
+        let asked = asked_by(|| set.reserve(second));
+        let moves = bytes_of(first + second) > bytes_of(first);
+        assert_eq!((asked.requests, set.len()), (usize::from(moves), first));
+        let capacity = set.capacity();
+        assert!(capacity >= first + second && capacity % 256 == 0);
+        assert_eq!(asked_by(|| set.grow(capacity)), NOTHING);
+        assert_eq!(asked_by(|| set.grow(capacity + 1)).requests, 1);
+        set.truncate(first);
+        let asked = asked_by(|| set.shrink_to_fit());
+        assert!(asked.held < 0 && asked.bytes == bytes_of(first));
+        assert_eq!(set.capacity(), 8 * bytes_of(first));
+    }
+}
+
+#[test]
+fn words_cross_without_a_copy() {
+    for (count, capacity) in [(0, 4), (1, 6), (2, 7), (5, 8), (11, 40)] {
+        let mut words: Vec<Block> = Vec::with_capacity(capacity);
+        words.extend([Block::MAX].repeat(count));
+        let at = words.as_ptr();
+        for bits in [0, 64, 100, 256] {
+            let mut set = FixedBitSet::new();
+            let asked = asked_by(|| set = FixedBitSet::from_words(words, bits));
+            assert_eq!((asked, set.as_slice().as_ptr()), (NOTHING, at));
+            assert_eq!(set.capacity(), capacity / 4 * 256);
+            words = set.into_words();
+            assert_eq!((words.as_ptr(), words.len()), (at, bits.div_ceil(64)));
+            assert_eq!(words.capacity(), capacity);
+        }
+    }
+}
+
+#[test]
 fn what_grows_doubles_its_memory() {
     let calls = calls! {
         |set, longer| set.grow(longer.len());
+        |set, longer| (set.reserve(longer.len() - set.len()), set.grow(longer.len()));
         |set, longer| set.grow_and_insert(longer.len() - 1);
         |set, longer| set.grow_and_put(longer.len() - 1);
         |set, longer| set.extend([longer.len() - 1]);

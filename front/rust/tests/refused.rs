@@ -16,7 +16,7 @@ use std::alloc::{GlobalAlloc, Layout, System};
 use std::cell::Cell;
 use std::fmt::Debug;
 use std::hint::black_box;
-use std::mem::size_of;
+use std::mem::{size_of, take};
 use std::process::Command;
 
 const ALLOCATOR_OF_ROWS: Global = Global::Abort;
@@ -180,6 +180,7 @@ fn calls() -> impl Iterator<Item = Call> {
         |s, t| s.try_difference_of(t, &Set::new()), s.difference_of(t, &Set::new()), bytes_of(t.len());
         |s, t| s.try_clone_from(t), s.clone_from(t), bytes_of(t.len());
         |s, t| s.try_extend([0, t.len()]), s.extend([0, t.len()]), bytes_of(t.len() + 1);
+        |s, t| s.try_reserve(t.len()), s.reserve(t.len()), bytes_of(s.len() + t.len());
     };
     let makes = calls! {
         |_, t| Set::try_with_capacity(t.len()), Set::with_capacity(t.len()), bytes_of(t.len());
@@ -188,6 +189,7 @@ fn calls() -> impl Iterator<Item = Call> {
         |_, t| Set::try_from_bits(t.as_bits()), Set::from(t.as_bits()), bytes_of(t.len());
         |_, t| Set::try_from_iter([t.len()]), Set::from_iter([t.len()]), bytes_of(t.len() + 1);
         |_, t| t.try_clone(), t.clone(), bytes_of(t.len());
+        |_, t| Set::try_from_words(Vec::new(), t.len()), Set::from_words(Vec::new(), t.len()), bytes_of(t.len());
         |_, t| t.try_slice(1..), t.slice(1..), bytes_of(t.len() - 1);
         |_, t| t.try_slice(..), t.slice(..), bytes_of(t.len());
         |_, t| t.try_to_bytes(), t.to_bytes(), 8 * t.as_slice().len();
@@ -258,6 +260,9 @@ fn a_call_with_room_is_never_refused() {
         |s, t| s.try_intersection_of(t, t), s.intersection_of(t, t), 0;
         |s, t| s.try_difference_of(t, t), s.difference_of(t, t), 0;
         |s, t| s.try_clone_from(t), s.clone_from(t), 0;
+        |s, _| s.try_reserve(24), s.reserve(24), 0;
+        |s, _| s.try_shrink_to_fit(), s.shrink_to_fit(), 0;
+        |s, _| Set::try_from_words(take(s).into_words(), 1_024), Set::from_words(take(s).into_words(), 1_024), 0;
         |s, _| s.try_extend([3, 1_023, 5]), s.extend([3, 1_023, 5]), 0;
         |s, _| s.try_slice(7..7), s.slice(7..7), 0;
         |_, _| Set::try_with_capacity(0), Set::new(), 0;
@@ -324,11 +329,37 @@ fn what_an_extension_took_before_it_was_refused_stays() {
 }
 
 #[test]
+fn memory_is_given_back_or_stays() {
+    for (first, second) in LENGTHS {
+        let mut set = set_of(second);
+        set.truncate(first);
+        let (wanted, capacity) = (set.clone(), set.capacity());
+        if first > 0 {
+            let (answer, _) = refusing(0, || set.try_shrink_to_fit());
+            assert_eq!(answer.unwrap_err().bytes(), bytes_of(first));
+            assert_eq!((&set, set.capacity()), (&wanted, capacity));
+        }
+        for requests in [usize::from(first > 0), 0] {
+            let (answer, asked) = granting(|| set.try_shrink_to_fit());
+            assert!(answer.is_ok());
+            assert_eq!(asked, requests);
+            assert_eq!((&set, set.capacity()), (&wanted, 8 * bytes_of(first)));
+        }
+    }
+}
+
+#[test]
 fn more_than_any_memory_has_is_refused() {
     let greatest = bytes_of(usize::MAX);
     let mut set = set_of(70);
     let bytes = |answer: Result<(), AllocError>| answer.unwrap_err().bytes();
     assert_eq!(bytes(set.try_grow(usize::MAX)), greatest);
+    assert_eq!(bytes(set.try_reserve(usize::MAX)), greatest);
+    assert_eq!(bytes(set.try_reserve(usize::MAX - 70)), greatest);
+    assert_eq!(
+        bytes(Set::try_from_words(vec![5], usize::MAX).map(drop)),
+        greatest
+    );
     assert_eq!(bytes(set.try_resize(usize::MAX, true)), greatest);
     assert_eq!(bytes(set.try_grow_and_insert(usize::MAX - 1)), greatest);
     assert_eq!(

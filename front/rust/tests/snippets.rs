@@ -177,10 +177,42 @@ fn tables() {
     assert_eq!(table.row(1).count(), 1);
     let mut other = table.clone();
     assert!(table == other && hash_of(&table) == hash_of(&other));
-    other.set(2, 0, true);
+    other.row_bits_mut(2).insert(0);
     assert!(table != other && hash_of(&table) != hash_of(&other));
     assert!(BitRows::new(0, 3) != BitRows::new(0, 4) && BitRows::new(1, 3) != BitRows::new(2, 3));
     assert_eq!(HashSet::from([table.clone(), other, table]).len(), 2);
+}
+
+#[test]
+fn rows_are_sets() {
+    let (mut table, set) = (BitRows::new(4, 70), FixedBitSet::from([3, 69]));
+    table.row_bits_mut(1).union_with(set.as_bits());
+    assert_eq!(table.row_bits(1), set);
+    table.row_bits_mut(2).insert_range(60..);
+    let (one, other) = (table.row_bits(1), table.row_bits(2));
+    assert_eq!((one.intersection_count(other), other.len()), (1, 70));
+    let mut union = set & &FixedBitSet::from(other);
+    union |= FixedBitSet::from(one);
+    assert!(union.ones().eq([3, 69]));
+    let (mut low, mut high) = table.split_rows_mut(2);
+    std::thread::scope(|scope| {
+        scope.spawn(|| low.row_bits_mut(0).toggle_range(..));
+        scope.spawn(|| high.union_rows(0, 1));
+    });
+    assert!(table.row_bits(0).is_full() && table.row_bits(3) == table.row_bits(2));
+}
+
+#[test]
+fn memory() {
+    let mut set = ten([3, 7]);
+    set.reserve(1_000);
+    assert!(set.len() == 10 && set.capacity() >= 1_010);
+    set.shrink_to_fit();
+    assert_eq!(set.capacity(), 64 * storage_words(10));
+    let words: Vec<Block> = set.into_words();
+    assert_eq!(words, [1 << 3 | 1 << 7]);
+    assert_eq!(FixedBitSet::from_words(words, 10), ten([3, 7]));
+    assert_eq!(FixedBitSet::from_words(vec![!0, !0], 3).to_string(), "111");
 }
 
 /// What is refused, as it is written instead.

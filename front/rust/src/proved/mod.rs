@@ -8,3 +8,4 @@ pub(crate) mod fixedbitset;
 pub(crate) mod bitranks;
 pub(crate) mod bitrows;
 pub(crate) mod flow;
+pub(crate) mod bitslots;

@@ -6,8 +6,10 @@
 //! `(u, v)` goes from node u to node v. For each node v the equations have a set In(v), the union
 //! of Out(u) over the edges `(u, v)`, and a set Out(v), the union of Gen(v) and those members of
 //! In(v) that are not in Kill(v) (`specs/Flow.antt`).
+pub mod postorder;
 pub mod problem;
 pub mod rounds;
 pub mod solver;
+pub use self::postorder::{in_order, solve_in_order};
 pub use self::problem::is_problem;
 pub use self::solver::{Solution, solve};
