@@ -10,12 +10,14 @@ TIMES = "front/bench/results/times.csv"
 LINES = "bench/results/lines.csv"
 LIMITS = "bench/results/limits.csv"
 PETGRAPH = "front/bench/results/petgraph.csv"
+FLOWS = "front/bench/results/dataflow.csv"
 OTHERS = "bench/results/others.csv"
 QUESTIONS = "front/postgres/times/questions.csv"
 PIECES = "front/postgres/times/pieces.csv"
 # From so many bits on a set is long.
 LONG = 10_000
 KINDS = [
+    ("programs", r"program"),
     ("runs, gaps, `ones_in`", r"ones_in|runs|first_gap|first_lacking"),
     ("shifts, slices, `append`", r"shift_|union_with_(shifted|own_shift)|slice|append"),
     ("rank and select", r"rank|select"),
@@ -36,6 +38,7 @@ KINDS = [
 ]
 # The calls that upstream does not have: there its side is a loop of front/bench/theirs.rs. Below, what that is for each kind.
 BESIDE = {
+    "programs": "the same over upstream's sets",
     "runs, gaps, `ones_in`": "`ones`, item by item; `difference(..).next()` for `first_lacking`",
     "shifts, slices, `append`": "a loop over the words",
     "rank and select": "a count for each eighth word; `count_ones(..p)`",
@@ -46,7 +49,7 @@ BESIDE = {
     "single positions, `clear`": "a loop of `remove`; words by masks",
 }
 BEYOND = re.compile(
-    r"append|close|first_gap|first_lacking|load|next_one|ones_in|rank|remove_all|runs|select|shift_|slice|store"
+    r"program|append|close|first_gap|first_lacking|load|next_one|ones_in|rank|remove_all|runs|select|shift_|slice|store"
     r"|\w+_of\b(?! )|union_rows|\w+_with_(?:change|difference|shifted|own_shift)")
 # The kinds of upstream's own calls, in the order of use.
 KINDS_IN_USE = [

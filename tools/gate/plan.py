@@ -182,6 +182,6 @@ class Plan:
             (["bits"], Stage("examples of docs/COMMANDS.md", ("tools/docs/check_commands",), (*bits, *commands), CARGO)),
             (["bits"], Stage("lines with one byte changed", ("tools/fuzz/lines",), (*bits, *commands, *shared), CARGO)),
             (["uses"], Stage("input of the uses", ("tools/fuzz/uses",), (*self.sources("uses"), *uses, *shared))),
-            (["test_refusals"], Stage("memory refused", ("tools/memory/sweep",), (*refusals, "examples", "docs/COMMANDS.md", *shared))),
+            (["bits", "test_refusals"], Stage("memory refused", ("tools/memory/sweep",), (*refusals, "examples", "docs/COMMANDS.md", *shared))),
         ]
-        return [stage for names, stage in stages if self.has(*names)]
+        return [stage for names, stage in stages if all(map(self.has, names))]
