@@ -1,7 +1,7 @@
 //! The same solution in fewer rounds: a round takes the edges in the order of the flow.
 
 ghost use Rattle.std.specs.Prelude.{◌≡◌, ◌+◌, ◌*◌, ◌<◌, ◌≤◌, ◌⊎◌, ℕ, IsTrue};
-ghost use Rattle.std.specs.Prelude.{IfOk, OnOk, OnErr, length};
+ghost use Rattle.std.specs.Prelude.{IfOk, IsPermutation, OnOk, OnErr, length};
 ghost use Rattle.fixedbitset.specs.Bits as model;
 ghost use Rattle.flow.specs.Flow.{IsProblem, IsFor, IsSolution, IsLeast, ArePaths};
 ghost use Rattle.flow.specs.Order.{HaveSame};
@@ -51,9 +51,10 @@ pub fn solve_in_order(
     solve(alloc, facts, &ordered, gens, kills, rounds)
 }
 
-/// The edges in the order of the flow: by the reverse postorder of their first nodes, in a
-/// depth-first search from the nodes to which no edge leads. Edges from nodes that this search does
-/// not come to are last, in the reverse postorder of a search from the least of these nodes on.
+/// The edges in the order of the flow, each as often as it is given: by the reverse postorder of
+/// their first nodes, in a depth-first search from the nodes to which no edge leads. Edges from
+/// nodes that this search does not come to are last, in the reverse postorder of a search from the
+/// least of these nodes on.
 ///
 /// An edge with an end that is no node, at or past `nodes`, stays in the list, and is not gone
 /// along. `Err` is returned only on allocation failure. The order takes a number of steps in
@@ -68,7 +69,8 @@ pub fn in_order(
     edges: &[(usize, usize)],
     nodes: usize,
 ) -> Result<Vec<(usize, usize)>, AllocError>
-    ensures { IfOk result (λ ordered. HaveSame ordered.items edges.now) }
+    ensures permutation { IfOk result (λ ordered. IsPermutation edges.now ordered.items) }
+    ensures same { IfOk result (λ ordered. HaveSame ordered.items edges.now) }
 {
     let lists = Lists::of(alloc, edges, nodes)?;
     let (entered, others) = postorders(alloc, edges, nodes)?;

@@ -52,7 +52,7 @@
 //! outside is a node too, and so is each boundary), and one more, which is proved.
 //!
 //! Proved is the solver, for all edges and sets: it returns the least solution of its equations
-//! ([contract](crate::contracts#flowsolve_in_order)), and goes over each edge that it is given; only tests show in which order.
+//! ([contract](crate::contracts#flowsolve_in_order)), and a round takes each edge once; only tests show in which order.
 //! So is a law: that the complement of the least solution for the facts that are lost is the greatest one by intersection
 //! (`bitlaws::laws::greatest_by_complement`). Glue, which is tested, are the direction, the edges from outside, the boundaries,
 //! and that the sets of lost facts and the complements are made so.

@@ -1,6 +1,6 @@
 use Rattle.std.proofs.Common.{inl, inr, arith, ⊎_elim}
 use Rattle.std.proofs.lemmas.Bool.{cases_lt}
-use Rattle.flow.proofs.Ordering.{part_none, part_all}
+use Rattle.flow.proofs.Ordering.{part_none, part_all, same_edges}
 use Rattle.flow.proofs.postorder.in_order.Goals as goal
 
 pub take_all-requires : goal.take_all-requires
@@ -21,5 +21,10 @@ loop-index-preserved c = record {
       (⊎_elim (λ lt. inl (c.loop-index.invariant.all k lt)) (λ le. inr (omega arith)) (cases_lt k c.loop-index.index));
 }
 
-pub returns : goal.returns
-returns c = part_all _ _ _ c.loop-index.invariant.part (λ k below. c.loop-index.invariant.all k (omega arith))
+pub returns-clause-permutation : goal.returns-clause-permutation
+returns-clause-permutation c =
+    part_all _ _ _ c.loop-index.invariant.part (λ k below. c.loop-index.invariant.all k (omega arith))
+
+pub returns-clause-same : goal.returns-clause-same
+returns-clause-same c =
+    same_edges _ _ (part_all _ _ _ c.loop-index.invariant.part (λ k below. c.loop-index.invariant.all k (omega arith)))

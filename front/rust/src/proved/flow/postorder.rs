@@ -34,9 +34,10 @@ pub fn solve_in_order(
     solve(alloc, facts, &ordered, gens, kills, rounds)
 }
 
-/// The edges in the order of the flow: by the reverse postorder of their first nodes, in a
-/// depth-first search from the nodes to which no edge leads. Edges from nodes that this search does
-/// not come to are last, in the reverse postorder of a search from the least of these nodes on.
+/// The edges in the order of the flow, each as often as it is given: by the reverse postorder of
+/// their first nodes, in a depth-first search from the nodes to which no edge leads. Edges from
+/// nodes that this search does not come to are last, in the reverse postorder of a search from the
+/// least of these nodes on.
 ///
 /// An edge with an end that is no node, at or past `nodes`, stays in the list, and is not gone
 /// along. `Err` is returned only on allocation failure. The order takes a number of steps in

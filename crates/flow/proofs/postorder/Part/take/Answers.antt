@@ -24,7 +24,9 @@ returns-then-index-edges-clause-taken c =
 
 pub returns-clause-part : goal.returns-clause-part
 returns-clause-part c =
-    rw (c.put.ensures.after, c.in_ok-push.ensures.items) (part_more _ _ _ c.requires _ (omega arith))
+    rw (c.put.ensures.after, c.in_ok-push.ensures.items)
+    (part_more _ _ _ c.requires _ (omega arith)
+    (λ has. absurd (grind (arith, c.put.ensures.before, c.if-put.false, has))))
 
 pub returns-clause-taken : goal.returns-clause-taken
 returns-clause-taken c =
