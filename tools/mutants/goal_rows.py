@@ -1,10 +1,11 @@
 """Rows of tools/mutants/check_edits on edits that name a goal: how their files and copies are read, and with a stand-in for the checks,
 what is told of them."""
 import contextlib
+import dataclasses
 import io
 
 from kept_rows import StandIn
-from wrong_bodies import crates, goals, naming
+from wrong_bodies import bounded, crates, goals, naming, verdicts
 from wrong_bodies.copies import Judge
 
 ANSWERS = """use Rattle.numbers.proofs.next.Goals as goal
@@ -61,6 +62,20 @@ FALSE = "proofs/next/Answers.antt:{}:5: error: `{}`: the goal fails\nfn numbers:
 BROKE_OFF = FALSE.format(10, "returns").replace("\n", "\n  `search` broke off: more than 300000 steps\n", 1)
 GONE = FALSE.format(10, "returns").replace("the goal fails", "`call` is not a field of record `C`")
 NOTHING = "fn numbers::next: perhaps\nonly=1"
+USING = "#[tactic(auto, using(crate::proofs::Lemmas::more))]\n"
+OWN_ANSWER = """use Rattle.std.proofs.Common.{rules}
+use Rattle.numbers.proofs.Lemmas as used0
+use Rattle.numbers.proofs.next.Goals as goal
+
+pub returns : goal.returns
+returns c = search (rules, used0.more) steps 9
+"""
+# What a check says of a right body, in the fourth line of its answer's file or of it, and what that comes to.
+SAID_OF_RIGHT = [
+    ("no error in its answer", NEXT, "the right body is proved within half the bound"),
+    ("an error in its answer", FALSE.format(4, "returns"), "THE RIGHT BODY IS NOT PROVED: proofs/next/Answers.antt:4: "),
+    ("nothing of the function", "only=1", "THE RIGHT BODY IS NOT PROVED: the check does not tell of it"),
+]
 # A goal and the answers that are stored, what the checks of an edit say in turn, and what has to be told.
 SAID = [
     ("the goal that it names is open", "returns", "", [NEXT], "refused: src/lib.rt:9: "),
@@ -80,8 +95,9 @@ def check_goals(counts, project, runner_of):
     counts.compare("answers in a proof file", answers, {"returns": range(6, 10), "overflow": range(12, 14)})
     counts.compare("one answer is left", goals.with_answer(ANSWERS, answers, "overflow"), ONE_ANSWER)
     counts.compare("holes in place of answers", goals.with_holes(ANSWERS, answers, ["other", "returns"]), HOLES)
-    counts.compare("an edit names a goal", goals.named_in("file: a\n# goal: b-c\n# open: d e\n"), ("b-c", ["d", "e"]))
-    counts.compare("an edit names none", goals.named_in("file: a\nold: # goal: b\n"), (None, []))
+    counts.compare("an edit names a goal", goals.named_in("file: a\n# goal: b-c\n# open: d e\n"), ("b-c", ["d", "e"], None))
+    counts.compare("an edit names none", goals.named_in("file: a\nold: # goal: b\n"), (None, [], None))
+    counts.compare("an edit has a search", goals.named_in("# goal: b\n# answer: c = d\n"), ("b", [], "c = d"))
     crate = project.crates["numbers"]
     function = next(it for it in crate.functions if it.name == "next")
     text = goals.without_tactic(crate.sources[function.path], function)
@@ -92,6 +108,29 @@ def check_goals(counts, project, runner_of):
     for row in SAID:
         check_said(counts, crate, runner_of, *row)
     check_names(counts, crate)
+    check_searches(counts, crate, runner_of)
+
+
+def check_searches(counts, crate, runner_of):
+    """The search that the file of an edit has: the text that is made of it, what it comes to, and the right body by half of it."""
+    edit = edit_of_next(crate)
+    edit.goal, edit.answer = "returns", "c = search (rules, using) steps 9"
+    plain = edit.functions
+    edit.functions = [dataclasses.replace(plain[0], text=USING + plain[0].text)]
+    counts.compare("the search of an edit", goals.with_own_answer(edit, plain[0]), OWN_ANSWER)
+    counts.compare("its lines", goals.lines_of_own_answer(edit), range(5, 7))
+    edit.functions = plain
+    counts.compare("half of the bound", bounded.Right(edit, edit.answer).answer, "c = search (rules, using) steps 4")
+    counts.compare("one right body for two edits", len(bounded.rights_of([edit, edit])), 1)
+    for name, said, wanted in SAID_OF_RIGHT:
+        with contextlib.redirect_stdout(io.StringIO()) as told:
+            runner = runner_of(StandIn(["logic=proved", FALSE.format(4, "returns"), said]))
+            runner.rights, _ = bounded.drawn([edit], 1)
+            runner.try_group([edit], 100)
+        both = f"next-stands: {wanted}" in told.getvalue() and "next-stands: refused: proofs/next/Answers.antt:4: " in told.getvalue()
+        counts.report(f"a right body: {name}", "" if both else told.getvalue())
+    found = verdicts.judged_by_goal(edit, Judge(plain[0], 0), BROKE_OFF.replace(":10:", ":4:"))
+    counts.compare("the search breaks off", found[1][:18], "refused at a bound")
 
 
 def edit_of_next(crate):

@@ -1,6 +1,7 @@
 -- No public clause cites this module.
 -- Part of the edges, in another order.
-use Rattle.std.specs.Prelude.{◌≡◌, ℕ, ◌<◌, ◌++◌, ◌↔◌, IsTrue, List, length, map, slice_index_or, Contains, IsPermutation}
+use Rattle.std.specs.Prelude.{◌≡◌, ℕ, ◌<◌, ◌++◌, ◌↔◌, IsTrue, List, length, map, slice_index_or}
+use Rattle.std.specs.Prelude.{Contains, IsPermutation}
 use Rattle.std.specs.List.{range_with_len}
 use Rattle.fixedbitset.specs.Bits.{Bits, contains}
 use Rattle.flow.specs.Flow.{Edges}

@@ -8188,7 +8188,7 @@ fn flow_postorder_17() {
 }
 
 #[test]
-fn flow_postorder_45() {
+fn flow_postorder_46() {
     use crate::proved::bitlanes::ops::*;
     use crate::proved::bitlanes::{word, Block, IndexRange, Steps};
     use crate::proved::bitwalks::in_turn::*;

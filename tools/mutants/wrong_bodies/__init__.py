@@ -18,6 +18,10 @@ below (together.py).
 By a goal (goals.py). The file of an edit names a goal that refuses it, and its first round asks it for this goal alone. Where
 that does not refuse it, another round tries it by all goals, so a name that fits no longer costs time and changes no verdict.
 
+By a search with a bound (bounded.py). The tactics look for seconds before they leave a false goal open. So the file may also say
+by which search this round tries the goal. Each run tries 20 of the right bodies, drawn by chance, by the same searches within
+half their bounds, and each of these has to be proved. `--whole` leaves the goals to the tactics, as the kit does.
+
 What an edit changes (reach.py). In src/ it is the function that has its text. A definition of specs/ on which one function
 alone rests counts as that function. An edit that changes more than that is lone: it is judged by the one function that its
 name names and that rests on it, or by each that does, and by the lemmas that do; the bodies of all these stay. Nothing in

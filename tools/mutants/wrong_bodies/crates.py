@@ -121,6 +121,7 @@ class Edit:
     """An edit of a crate: its pairs of texts and what they change.
 
     goal, others  the goal that its file names, and others that it says are open
+    answer      by which search its goal is tried, if its file says so
     functions   those that its texts stand in
     is_lone     whether it changes more than one function: then it is judged by the function that its name names, if that
                 rests on what it changes, and else by each that does
@@ -130,7 +131,8 @@ class Edit:
     def __init__(self, crate, file, name=None, text=None):
         self.crate, self.file, self.name = crate, file, name or file.name.removesuffix(".edit")
         text = file.read_text() if text is None else text
-        self.pairs, (self.goal, self.others) = pairs_of(text), goals.named_in(text)
+        self.pairs, (self.goal, self.others, self.own_answer) = pairs_of(text), goals.named_in(text)
+        self.answer = self.own_answer if crate.project.has_bounds else None
         changes = []
         self.is_bad = self.applied({}, changes) is None
         self.functions = [function for change in changes for function in change.functions]
@@ -168,19 +170,26 @@ class Edit:
         return text
 
     @functools.cached_property
-    def lines_of_answer(self):
+    def lines_of_stored(self):
         """The lines, from 1, of the answer that its crate stores for the goal that its file names; none where it has none."""
         function = self.functions[0]
         text = self.crate.sources.get(goals.path_of_answers(self.crate, function), "")
         own = goals.answers_in(text, goals.DECLARATION).get(self.goal, range(0))
         return range(own.start + 1, own.stop + 1) if own else own
 
+    @functools.cached_property
+    def lines_of_answer(self):
+        """The lines of the answer of that goal in a copy that asks for it alone: of the stored one, or of the file's own."""
+        own = goals.lines_of_own_answer(self) if self.answer else range(0)
+        return self.lines_of_stored or own
+
     @property
     def is_at_a_bound(self):
-        """Whether the goal that its file names has a stored answer by a search with a bound."""
-        lines = self.lines_of_answer if self.names_a_goal else range(0)
+        """Whether the goal that its file names has an answer by a search with a bound."""
+        lines = self.lines_of_stored if self.names_a_goal else range(0)
         text = (self.crate.folder / goals.path_of_answers(self.crate, self.functions[0])).read_text() if lines else ""
-        return bool(BOUND.search("\n".join(text.split("\n")[lines.start - 1 : lines.stop - 1])))
+        stored = "\n".join(text.split("\n")[lines.start - 1 : lines.stop - 1])
+        return bool(BOUND.search(stored or self.own_answer or "")) and self.names_a_goal
 
     def applied(self, texts, changes=None):
         """The texts by their paths with this edit in them, or None where it cannot be applied. `changes` gets what it

@@ -10,8 +10,11 @@ the others that they leave open, or that have a stored answer, have a hole. A go
 rests on the answer of another. So what refuses an edit in such a copy refuses it in one with all goals. Where the named goal
 does not, the edit is tried with all of them, so a line that fits no longer costs time, and changes no verdict.
 
-The tactics look for seconds, some for half a minute, before they leave a false goal open; a stored answer with a bound of
-300,000 steps fails in less than one. So name a goal that has a stored answer where one refuses the edit.
+The tactics look for seconds, some for half a minute, before they leave a false goal open; a search with a bound of 300,000
+steps fails in less than one. So a file may say by which search its goal is tried, `# answer: c = search (rules, using) steps
+300000`, where `using` stands for the lemmas that the function names for its tactics. Then the copy has this answer, and no other
+and no tactic. Such a search says something only where it proves the goal of the right body: within half the bound, as
+bounded.py tries. Where the crate stores an answer for the goal, that one is taken.
 """
 import re
 
@@ -19,16 +22,20 @@ from . import rattle
 
 GOAL = re.compile(r"(?m)^# goal: (\S+)$")
 OPEN = re.compile(r"(?m)^# open: (.+)$")
-LINES = re.compile(r"(?m)^# (?:goal|open): .*\n?")
+OWN_ANSWER = re.compile(r"(?m)^# answer: (.+)$")
+LINES = re.compile(r"(?m)^# (?:goal|open|answer): .*\n?")
+# The modules of the sets of lemmas that such an answer may name, and the word that stands for those of the function.
+SETS = {"rules": "Rattle.std.proofs.Common", "arith": "Rattle.std.proofs.Common", "common_steps": "Rattle.std.proofs.lemmas.Grind"}
+USING = re.compile(r", using\b")
 # The line of Answers.antt that begins the answer of a goal, and that of any declaration.
 ANSWER = re.compile(r"pub (\S+) : goal\.\S+$")
 DECLARATION = re.compile(r"(?:pub )?(\S+) : ")
 
 
 def named_in(text):
-    """The goal that the text of an edit names, or None, and the others that it says are open."""
-    goal, others = GOAL.search(text), OPEN.search(text)
-    return goal and goal[1], others[1].split() if others else []
+    """The goal that the text of an edit names, or None, the others that it says are open, and the answer that it has, or None."""
+    goal, others, answer = (it.search(text) for it in (GOAL, OPEN, OWN_ANSWER))
+    return goal and goal[1], others[1].split() if others else [], answer and answer[1]
 
 
 def answers_in(text, begins_one=ANSWER):
@@ -57,14 +64,34 @@ def ask_alone(edit, function, texts):
     answers = answers_in(text)
     if edit.goal in answers_in(text, DECLARATION):
         texts[path] = with_answer(text, answers, edit.goal)
-        texts[function.path] = without_tactic(texts.get(function.path) or edit.crate.sources[function.path], function)
+    elif edit.answer:
+        texts[path] = with_own_answer(edit, function)
     else:
         texts[path] = with_holes(text, answers, edit.others)
+        return
+    texts[function.path] = without_tactic(texts.get(function.path) or edit.crate.sources[function.path], function)
 
 
 def header(crate, function):
     """The head of an Answers.antt."""
     return f"use Rattle.{crate.name}.proofs.{crate.place_of(function).replace('::', '.')}.Goals as goal\n"
+
+
+def with_own_answer(edit, function):
+    """An Answers.antt of the function that has nothing but the answer in the file of the edit."""
+    lemmas = rattle.lemmas_of(edit.functions[0].text)
+    modules = [it.rpartition("::")[0].replace("crate::", f"{edit.crate.name}::").replace("::", ".") for it in lemmas]
+    names = "".join(f", used{at}.{it.rpartition('::')[2]}" for at, it in enumerate(lemmas))
+    sets = [f"use {module}.{{{name}}}\n" for name, module in SETS.items() if re.search(rf"\b{name}\b", edit.answer)]
+    used = [f"use Rattle.{module} as used{at}\n" for at, module in enumerate(modules)]
+    answer = re.sub(r"\((\w+)\)", r"\1", USING.sub(names, edit.answer))
+    return "".join([*sets, *used, header(edit.crate, function), f"\npub {edit.goal} : goal.{edit.goal}\n{edit.goal} {answer}\n"])
+
+
+def lines_of_own_answer(edit):
+    """The lines, from 1, of that answer."""
+    end = with_own_answer(edit, edit.functions[0]).count("\n")
+    return range(end - 1, end + 1)
 
 
 def with_answer(text, answers, goal):

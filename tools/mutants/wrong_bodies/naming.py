@@ -13,7 +13,9 @@ def write_goal(edit, judges, said):
     found = goal_found(edit, judges[0], said) if len(judges) == 1 and not edit.is_lone else None
     if found:
         goal, others = found
-        text = text.rstrip("\n") + f"\n# goal: {goal}\n" + (f"# open: {' '.join(others)}\n" if others else "")
+        lines = [f"# goal: {goal}", *([f"# open: {' '.join(others)}"] if others else [])]
+        lines += [f"# answer: {edit.own_answer}"] if edit.own_answer and goal == edit.goal else []
+        text = "\n".join([text.rstrip("\n"), *lines, ""])
     edit.file.write_text(text)
 
 

@@ -11,6 +11,8 @@ OPENS = re.compile(r"(?:;|\{|\{\})(?: //.*)?$")
 DEFINITION = re.compile(
     r"(?P<indent> *)(?P<words>(?:pub |abbrev |unfoldable |opaque )*)(?P<kind>(?:record |data )?)(?P<name>\S*)(?P<rest>.*)"
 )
+# The lemmas that a function names for its tactics.
+USING = re.compile(r"#\[tactic\(.*?\busing\((.*?)\)\)\]", re.S)
 # A line of specs/ that defines nothing of its own.
 OTHER_ITEMS = ("use", "mod", "module", "open", "syntax")
 COMMENT = {".rt": re.compile(r" *//"), ".antt": re.compile(r" *--(?: |$)")}
@@ -151,6 +153,12 @@ def function_with(path, text, number):
     heads = [head for head in range(number + 1) if HEAD.match(lines[head])]
     found = function_at(path, lines, heads[-1]) if heads else None
     return found if found and number + 1 in found.lines else None
+
+
+def lemmas_of(text):
+    """The paths of the lemmas that the text of a function names for its tactics."""
+    found = USING.search(text)
+    return [it.strip() for it in found[1].split(",") if it.strip()] if found else []
 
 
 def definition_with(lines, number):

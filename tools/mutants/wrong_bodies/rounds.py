@@ -4,7 +4,7 @@ import threading
 import time
 from concurrent.futures import FIRST_COMPLETED, ThreadPoolExecutor, wait
 
-from . import copies, naming, together, verdicts
+from . import bounded, copies, naming, together, verdicts
 
 BAD = "BAD EDIT: a text behind 'old:' is not in its file exactly once"
 # The most edits of a round.
@@ -16,7 +16,7 @@ ROUNDS_THAT_GAIN = 2
 class Told:
     """What was told of the edits."""
     def __init__(self):
-        self.refused, self.others, self.kept, self.tried, self.at_bounds = 0, 0, 0, 0, 0
+        self.refused, self.others, self.kept, self.tried, self.at_bounds, self.rights = 0, 0, 0, 0, 0, 0
         self.lock = threading.Lock()
 
     def tell(self, edit, is_refused, why, is_kept=False, is_tried=False):
@@ -28,13 +28,21 @@ class Told:
             self.at_bounds += why.startswith("refused at a bound")
             print(f"{edit.crate.name}/{edit.name}: {why}", flush=True)
 
+    def tell_right(self, right, is_proved, why):
+        """Tells of a right body, which the search in the file of an edit has to prove within half its bound."""
+        with self.lock:
+            self.rights += is_proved
+            self.others += not is_proved
+            said = "the right body is proved within half the bound" if is_proved else f"THE RIGHT BODY IS NOT PROVED: {why}"
+            print(f"{right.crate.name}/{right.name}: {said}", flush=True)
+
     def finish(self):
         """Prints the counts, and answers the exit status."""
         count = self.refused + self.others
         if self.at_bounds:
             print(f"refused at a bound: {self.at_bounds}")
         print(f"kept: {self.kept} of {count} verdicts, tried in this run: {self.tried}")
-        print(f"{self.refused} passed, {self.others} failed")
+        print(f"{self.refused + self.rights} passed, {self.others} failed")
         return 1 if self.others else 0
 
 
@@ -98,7 +106,9 @@ class Rounds:
         those that their goals did not refuse, and those that wait for another round."""
         over, waiting = [], []
         for edit, verdict, why in found:
-            if verdict == verdicts.REFUSED:
+            if isinstance(edit, bounded.Right):
+                self.runner.told.tell_right(edit, verdict == verdicts.PROVED, why)
+            elif verdict == verdicts.REFUSED:
                 self.runner.told.tell(edit, True, why, is_tried=True)
                 self.runner.kept.keep(edit, why)
             elif verdict == verdicts.PROVED:
@@ -125,6 +135,8 @@ class Rounds:
 
     def judged(self, edit, judges, said, is_by_itself):
         own = verdicts.said_of(edit.crate, said)
+        if isinstance(edit, bounded.Right):
+            return bounded.judged(edit, judges[0], own)
         if edit in self.by_goal:
             return verdicts.judged_by_goal(edit, judges[0], own)
         return self.runner.judged(edit, judges, own, is_by_itself)
@@ -135,10 +147,11 @@ class Runner:
 
     by_goal  whether an edit is first tried by the goal alone that its file names
     names    whether each file gets the name of the goal that refuses its edit
+    rights   the right bodies to try beside the edits that they are for
     """
     def __init__(self, checks, kept, lanes, are_proved=False, beside=None, by_goal=True, names=False):
         self.checks, self.kept, self.are_proved, self.beside = checks, kept, are_proved, beside
-        self.by_goal, self.names = by_goal, names
+        self.by_goal, self.names, self.rights = by_goal, names, []
         self.pool, self.told = ThreadPoolExecutor(lanes), Told()
 
     def try_all(self, groups, most=MOST):
@@ -159,7 +172,8 @@ class Runner:
                 if not verdicts.is_proved(said):
                     return self.tell_unproved(edits, said.strip()[-200:])
             self.tell_known(known)
-            return self.try_in_rounds(left, work, most, keeps)
+            rights = [right for right in self.rights if right.edit in left]
+            return self.try_in_rounds([*left, *rights], work, most, keeps)
 
     def those_to_judge(self, edits):
         """Those that can be applied and whose crate `rt ci` has proved. It tells of the others."""

@@ -1,5 +1,0 @@
-use Rattle.std.proofs.Common.{rules}
-use Rattle.bitrows.proofs.views.RowsMut.as_rows.Goals as goal
-
-pub returns-clause-table : goal.returns-clause-table
-returns-clause-table c = search rules steps 100000

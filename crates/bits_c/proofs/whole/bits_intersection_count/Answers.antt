@@ -1,5 +1,0 @@
-use Rattle.std.proofs.Common.{rules}
-use Rattle.bits_c.proofs.whole.bits_intersection_count.Goals as goal
-
-pub returns : goal.returns
-returns c = search rules steps 300000

@@ -1,5 +1,0 @@
-use Rattle.std.proofs.Common.{rules}
-use Rattle.fixedbitset.proofs.set.FixedBitSet.count_zeroes.Goals as goal
-
-pub returns : goal.returns
-returns g c = search rules steps 300000
