@@ -131,6 +131,25 @@ def check_searches(counts, crate, runner_of):
         counts.report(f"a right body: {name}", "" if both else told.getvalue())
     found = verdicts.judged_by_goal(edit, Judge(plain[0], 0), BROKE_OFF.replace(":10:", ":4:"))
     counts.compare("the search breaks off", found[1][:18], "refused at a bound")
+    check_finding(counts, crate)
+
+
+def check_finding(counts, crate):
+    """What is written into the file of an edit: the first search that proves the right body, and not the wrong one."""
+    no, yes, second = FALSE.format(4, "returns"), NEXT, bounded.CANDIDATES[1]
+    for name, said, wanted in [
+        ("the first search does not prove the right body", [no, yes, no], f"# answer: {second}"),
+        ("the first search proves both", [yes, yes, yes, no], f"# answer: {second}"),
+        ("no search proves the right body", [no] * 4, "# goal: returns"),
+    ]:
+        edit = edit_of_next(crate)
+        edit.answer, own = None, edit.file.read_text()
+        with contextlib.redirect_stdout(io.StringIO()):
+            finder = bounded.Finder(StandIn(said), 1)
+            finder.find_all([edit])
+        counts.compare(f"a search is found: {name}", edit.file.read_text().split("\n")[-2], wanted)
+        counts.compare(f"so many are found: {name}", finder.found, int(wanted.startswith("# answer")))
+        edit.file.write_text(own)
 
 
 def edit_of_next(crate):
