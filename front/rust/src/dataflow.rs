@@ -202,6 +202,7 @@ impl Problem {
     ///
     /// ```
     /// # use fixedbitset::dataflow::Problem;
+    /// // Which of four variables are live in ten statements?
     /// assert_eq!(Problem::new(10, 4).nodes(), 10);
     /// ```
     pub fn nodes(&self) -> usize {
@@ -214,6 +215,7 @@ impl Problem {
     ///
     /// ```
     /// # use fixedbitset::dataflow::Problem;
+    /// // Which of four variables are live in ten statements?
     /// assert_eq!(Problem::new(10, 4).facts(), 4);
     /// ```
     pub fn facts(&self) -> usize {
