@@ -6,7 +6,7 @@ import tomllib
 EXPORT = re.compile(
     r'((?:^///.*\n)+)(?:^#\[.*\]\n)*^pub extern "C" fn bits_(\w+)(<\'a>)?\(([^)]*)\)(?: -> (\w+))?\n((?: .*\n)+)\{\n', re.M)
 # A row may have these.
-KEYS = {"c", "beyond", "slow", "given"}
+KEYS = {"c", "beyond", "slow", "given", "docs", "view", "names"}
 # What the number next to a slice is called in C, by the slice and whether it is written.
 NUMBERS = {
     ("words", True): "count", ("words", False): "count", ("bytes", True): "count", ("bytes", False): "count",
@@ -86,11 +86,17 @@ def closed(stored):
     return set(named) - stored["sets"].keys()
 
 
+def stored_rows(folder):
+    """What calls.toml has, and the names of the exports that have a row there."""
+    stored = tomllib.loads((folder / "front/calls.toml").read_text(encoding="utf-8"))
+    return stored, closed(stored)
+
+
 def rows(folder):
     """What calls.toml has, and its parts: each heading, and its calls with what their rows say."""
-    stored = tomllib.loads((folder / "front/calls.toml").read_text(encoding="utf-8"))
+    stored, named = stored_rows(folder)
     found, parts = exports(folder), []
-    if other := closed(stored) ^ found.keys():
+    if other := named ^ found.keys():
         refuse(f"calls.toml and crates/bits_c differ in {min(other)}")
     for part in stored["part"]:
         unused = set(part.get("told", ()))

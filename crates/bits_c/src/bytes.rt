@@ -17,6 +17,7 @@ pub extern "C" fn bits_bytes(length: usize) -> usize
     8 * bits_blocks(length)
 }
 
+// made by front/calls
 /// Replaces the positions of the set by the positions in the bytes. Any number of bytes may be
 /// passed: missing bytes count as 0, and bits past the length are dropped.
 #[unsafe(no_mangle)]
@@ -41,6 +42,7 @@ pub extern "C" fn bits_to_bytes(set: &Bits<'_>, bytes: &mut [u8]) -> bool
         false
     }
 }
+// end of what front/calls makes
 
 /// Reverses the bits of each byte. `bits_from_bytes` and `bits_to_bytes` have the first of eight
 /// positions in the lowest bit of a byte; this call turns bytes with that position in the highest

@@ -34,6 +34,7 @@ pub extern "C" fn bits_copy(to: &mut Room<'_>, set: &Bits<'_>) -> bool
     }
 }
 
+// made by front/calls
 /// Writes the positions in either set (union) to `to`, and returns `true`. Returns `false` and
 /// changes nothing if the length of `to` is not the greater of the two lengths, or its words are
 /// not `bits_words` of that length.
@@ -125,3 +126,4 @@ pub extern "C" fn bits_difference_of(to: &mut Room<'_>, set: &Bits<'_>, other: &
         false
     }
 }
+// end of what front/calls makes

@@ -94,6 +94,7 @@ pub extern "C" fn bits_is_clean(words: &[Block], length: usize) -> bool
     Bits::over(words, length).is_some()
 }
 
+// made by front/calls
 /// Returns whether the position is set; `false` if the position is out of range.
 #[unsafe(no_mangle)]
 pub extern "C" fn bits_contains(set: &Bits<'_>, bit: usize) -> bool
@@ -261,6 +262,7 @@ pub extern "C" fn bits_maximum(set: &Bits<'_>) -> usize
 {
     set.maximum(&mut Steps::new()).unwrap_or(NONE)
 }
+// end of what front/calls makes
 
 /// Clears the lowest bit of the word that is set, and returns the index of that bit; returns `NONE`
 /// if the word is 0.

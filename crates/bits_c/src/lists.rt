@@ -8,6 +8,7 @@ ghost use Rattle.fixedbitset.specs.Views.{value, held};
 
 use fixedbitset::views::{Bits, BitsMut};
 
+// made by front/calls
 /// Sets each of `count` positions and returns `true`; returns `false` and changes nothing if a
 /// position is out of range.
 #[unsafe(no_mangle)]
@@ -61,6 +62,7 @@ pub extern "C" fn bits_contains_each(
     set.contains_each(positions, answers);
     true
 }
+// end of what front/calls makes
 
 // Whether each position of the list is below the length.
 #[inline(always)]

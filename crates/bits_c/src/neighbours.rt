@@ -13,6 +13,7 @@ use crate::ranges::bits_range_is_valid;
 use bitlanes::Steps;
 use fixedbitset::views::Bits;
 
+// made by front/calls
 /// Returns the least position at or past `from` that is set, or `NONE`. Any number may be passed.
 #[unsafe(no_mangle)]
 pub extern "C" fn bits_next_one(set: &Bits<'_>, from: usize) -> usize
@@ -98,3 +99,4 @@ pub extern "C" fn bits_previous_zero(set: &Bits<'_>, below: usize) -> usize
 {
     set.previous_zero(below, &mut Steps::new()).unwrap_or(NONE)
 }
+// end of what front/calls makes

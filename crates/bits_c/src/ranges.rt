@@ -9,6 +9,7 @@ ghost use Rattle.fixedbitset.specs.Views.{value, held};
 use bitlanes::Steps;
 use fixedbitset::views::{Bits, BitsMut};
 
+// made by front/calls
 /// Returns whether the range is valid: `start <= end`, and `end <= length`.
 #[unsafe(no_mangle)]
 pub extern "C" fn bits_range_is_valid(set: &Bits<'_>, start: usize, end: usize) -> bool
@@ -112,3 +113,4 @@ pub extern "C" fn bits_contains_any_in_range(set: &Bits<'_>, start: usize, end: 
 {
     bits_range_is_valid(set, start, end) && set.contains_any_in_range(start, end, &mut Steps::new())
 }
+// end of what front/calls makes

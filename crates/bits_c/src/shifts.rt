@@ -10,6 +10,7 @@ use bitlanes::word::BITS;
 use bitlanes::{Block, Steps};
 use fixedbitset::views::{Bits, BitsMut};
 
+// made by front/calls
 /// Shifts each position up by `by`; positions that come to or past the length are dropped.
 #[unsafe(no_mangle)]
 pub extern "C" fn bits_shift_up(set: &mut BitsMut<'_>, by: usize)
@@ -47,6 +48,7 @@ pub extern "C" fn bits_union_with_own_shift(set: &mut BitsMut<'_>, by: usize)
 {
     set.union_with_own_shift(by, &mut Steps::new());
 }
+// end of what front/calls makes
 
 /// Copies a slice: `part` gets the positions of the second set from `start` up to but not including
 /// `end`, each less `start`. Returns `true` if the range is valid and the length of `part` is `end
@@ -72,6 +74,7 @@ pub extern "C" fn bits_slice(
     }
 }
 
+// made by front/calls
 /// Copies the range from `start` up to but not including `end` of the second set over the positions
 /// of the first set from `at` on; all other positions stay. Returns `true` if the range is valid in
 /// the second set, and its copy, from `at` on, ends within the first; else returns `false` and
@@ -140,6 +143,7 @@ pub extern "C" fn bits_store(
         false
     }
 }
+// end of what front/calls makes
 
 // Whether so many positions from `start` on are below the length, and fit a word.
 #[inline(always)]

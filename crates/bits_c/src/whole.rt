@@ -13,6 +13,7 @@ use bitlanes::Steps;
 use fixedbitset::views::{Bits, BitsMut};
 use std::cmp::Ordering;
 
+// made by front/calls
 /// Adds the positions of the second set (union) and returns `true`; returns `false` and changes
 /// nothing if the second set is longer than the first.
 #[unsafe(no_mangle)]
@@ -201,6 +202,7 @@ pub extern "C" fn bits_equal(set: &Bits<'_>, other: &Bits<'_>) -> bool
 {
     set.is_equal(*other, &mut Steps::new())
 }
+// end of what front/calls makes
 
 /// Returns -1 if the first set comes before the second, 0 if they are equal, and 1 if the first
 /// comes after the second. The order is by length, and then by the words from the first word on.
