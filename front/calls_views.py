@@ -97,13 +97,13 @@ def of_views(views, name):
 
 
 def broken(text, indent):
-    """A clause on lines of at most WIDTH columns: broken once, before what follows or what is equal, or before more of the marks."""
+    """A clause on lines of at most WIDTH columns: broken once, before what follows or what is equal, or else where a line is full."""
     for mark in (" → ", " ≡ "):
         one, _, two = text.partition(mark)
         lines = [f"{indent}    {one}", f"{indent}       {mark}{two}"]
         if two and max(map(len, lines)) <= WIDTH < len(indent) + 4 + len(text):
             return lines
-    first, *parts = re.split(r" (?=(?:≡|→|then|else|&&) )", text)
+    first, *parts = re.split(r" (?=(?:≡|→|then|else|&&|\+) |\()", text)
     lines = [f"{indent}    {first}"]
     for part in parts:
         if len(lines[-1]) + len(part) < WIDTH:

@@ -50,6 +50,7 @@ impl FixedBitSet {
         self.as_bits().contains_unchecked(bit)
     }
 
+    // made by front/calls, but for docs and #[inline]
     /// Writes for each position of the list whether it is set: `false` at or past the length. There
     /// have to be as many results as positions. It looks at one word at most for each item.
     ///
@@ -173,6 +174,7 @@ impl FixedBitSet {
         let (words, length) = (&mut *self.words.as_mut_slice(), self.length);
         BitsMut { words, length }.put(bit)
     }
+    // end of what front/calls makes
 
     /// Clears the position, which has to be below the length, and returns whether it was set
     /// before.
@@ -216,6 +218,7 @@ impl FixedBitSet {
         BitsMut { words, length }.insert_all(positions);
     }
 
+    // made by front/calls, but for docs and #[inline]
     /// Clears each position of the list. All of them have to be below the length. It writes one
     /// word for each item.
     ///
@@ -271,6 +274,7 @@ impl FixedBitSet {
         let (words, length) = (&mut *self.words.as_mut_slice(), self.length);
         BitsMut { words, length }.toggle(bit);
     }
+    // end of what front/calls makes
 
     /// Sets the position, or clears it where `enabled` is false. It has to be below the length.
     ///

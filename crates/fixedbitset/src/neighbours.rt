@@ -16,6 +16,7 @@ use crate::set::FixedBitSet;
 use bitlanes::{IndexRange, Steps};
 
 impl FixedBitSet {
+    // made by front/calls, but for docs and #[inline]
     /// The least position at or past `from` that is set, or `None` where none is.
     ///
     /// ```
@@ -168,4 +169,5 @@ impl FixedBitSet {
     {
         self.as_bits().previous_zero(below, &mut Steps::new())
     }
+    // end of what front/calls makes
 }

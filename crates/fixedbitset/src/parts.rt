@@ -23,6 +23,7 @@ use bitwords::positions;
 use std::alloc::{AllocError, Global};
 
 impl FixedBitSet {
+    // made by front/calls, but for docs and #[inline]
     /// A set of the length of the range: its positions that this set has, less its start.
     ///
     /// The range has to be valid (`range_is_valid`). It writes each word of the new set twice.
@@ -137,6 +138,7 @@ impl FixedBitSet {
     {
         counted::append(self, other, &mut Steps::new())
     }
+    // end of what front/calls makes
 
     /// Makes the length the lesser of itself and `bits`. The positions that are
     /// not below it fall away.

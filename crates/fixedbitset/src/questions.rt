@@ -43,6 +43,7 @@ impl FixedBitSet {
         self.as_bits().is_clear(&mut Steps::new())
     }
 
+    // made by front/calls, but for docs and #[inline]
     /// The first position that is set, or `None` where none is. It looks at four words at a time
     /// from the first on, up to the one that has this position.
     ///
@@ -132,4 +133,5 @@ impl FixedBitSet {
     {
         self.as_bits().is_full(&mut Steps::new())
     }
+    // end of what front/calls makes
 }

@@ -42,6 +42,7 @@ impl FixedBitSet {
         start <= end && end <= self.len()
     }
 
+    // made by front/calls, but for docs and #[inline]
     /// How many positions of the range are set (the population count); of an empty range 0. The
     /// range must be valid.
     ///
@@ -75,6 +76,7 @@ impl FixedBitSet {
     {
         counted::count_zeroes(self, range, &mut Steps::new())
     }
+    // end of what front/calls makes
 
     /// Sets the positions of the range, or clears them where `enabled` is false; the others stay.
     /// The range must be valid.
@@ -99,6 +101,7 @@ impl FixedBitSet {
         }
     }
 
+    // made by front/calls, but for docs and #[inline]
     /// Sets the positions of the range; the others stay. The range must be valid.
     ///
     /// ```
@@ -185,4 +188,5 @@ impl FixedBitSet {
     {
         counted::contains_any_in_range(self, range, &mut Steps::new())
     }
+    // end of what front/calls makes
 }

@@ -9,6 +9,7 @@ use crate::set::FixedBitSet;
 use bitlanes::Steps;
 
 impl FixedBitSet {
+    // made by front/calls, but for docs and #[inline]
     /// Moves each position up by `by`, any number. Those that are not below the
     /// length then fall away.
     ///
@@ -82,4 +83,5 @@ impl FixedBitSet {
     {
         counted::union_with_own_shift(self, by, &mut Steps::new());
     }
+    // end of what front/calls makes
 }

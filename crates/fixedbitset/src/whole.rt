@@ -14,6 +14,7 @@ use bitlanes::Steps;
 use std::alloc::AllocError;
 
 impl FixedBitSet {
+    // made by front/calls, but for docs and #[inline]
     /// Leaves the greater of the two lengths, and the positions of either set.
     ///
     /// `Err` is returned only where `other` has more words than this set and their allocation
@@ -174,6 +175,7 @@ impl FixedBitSet {
     {
         counted::union_with_difference(self, gens, kills, &mut Steps::new())
     }
+    // end of what front/calls makes
 
     /// The same as [`union_with`](Self::union_with). Upstream's operator `|=` is this call, as it
     /// may fail to allocate.
@@ -209,6 +211,7 @@ impl FixedBitSet {
         self.symmetric_difference_with(other)
     }
 
+    // made by front/calls, but for docs and #[inline]
     /// A new set of the smaller of the two lengths, with the positions of both sets.
     ///
     /// `Err` is returned only where the allocation of its words failed. It writes the shorter set's
@@ -369,6 +372,7 @@ impl FixedBitSet {
     {
         counted::is_subset(self, other, &mut Steps::new())
     }
+    // end of what front/calls makes
 
     /// Whether this set has each position of `other`: `other.is_subset(self)`.
     ///

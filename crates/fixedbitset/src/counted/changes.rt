@@ -46,6 +46,7 @@ pub fn union_with_change(
     Ok(BitsMut { words, length }.union_with_change(other.as_bits(), steps))
 }
 
+// made by front/calls, but for docs and #[inline]
 /// [`FixedBitSet::intersect_with_change`], with the steps that it takes.
 ///
 /// ```
@@ -87,6 +88,7 @@ pub fn difference_with_change(set: &mut FixedBitSet, other: &FixedBitSet, steps:
     let (words, length) = (&mut *set.words.as_mut_slice(), set.length);
     BitsMut { words, length }.difference_with_change(other.as_bits(), steps)
 }
+// end of what front/calls makes
 
 /// [`FixedBitSet::union_with_difference`], with the steps that it takes.
 ///

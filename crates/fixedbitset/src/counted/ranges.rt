@@ -38,6 +38,7 @@ pub fn insert_range<R: IndexRange<usize> + Drop>(set: &mut FixedBitSet, range: R
     BitsMut { words, length }.insert_range(start, end, steps);
 }
 
+// made by front/calls, but for docs and #[inline]
 /// [`FixedBitSet::remove_range`], with the steps that it takes.
 ///
 /// ```
@@ -129,6 +130,7 @@ pub fn count_zeroes<R: IndexRange<usize> + Drop>(
     let end = range.end().unwrap_or(set.len());
     set.as_bits().count_zeroes(start, end, steps)
 }
+// end of what front/calls makes
 
 /// [`FixedBitSet::contains_all_in_range`], with the steps that it takes.
 ///

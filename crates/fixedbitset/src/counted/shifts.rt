@@ -39,6 +39,7 @@ pub fn shift_up(set: &mut FixedBitSet, by: usize, steps: &mut Steps)
     BitsMut { words, length }.shift_up(by, steps);
 }
 
+// made by front/calls, but for docs and #[inline]
 /// [`FixedBitSet::shift_down`], with the steps that it takes.
 ///
 /// ```
@@ -97,6 +98,7 @@ pub fn union_with_own_shift(set: &mut FixedBitSet, by: usize, steps: &mut Steps)
     let (words, length) = (&mut *set.words.as_mut_slice(), set.length);
     BitsMut { words, length }.union_with_own_shift(by, steps);
 }
+// end of what front/calls makes
 
 /// [`FixedBitSet::slice`], with the steps that it takes. That the new words are written as
 /// zeros first is not counted.

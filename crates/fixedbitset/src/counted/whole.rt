@@ -25,6 +25,7 @@ use bitlanes::ops::{And, AndNot, Or, WordOp, Xor};
 use std::alloc::AllocError;
 use std::cmp::Ordering;
 
+// made by front/calls, but for docs and #[inline]
 /// [`FixedBitSet::clear`], with the steps that it takes.
 ///
 /// ```
@@ -84,6 +85,7 @@ pub fn pop_last(set: &mut FixedBitSet, steps: &mut Steps) -> Option<usize>
     let (words, length) = (&mut *set.words.as_mut_slice(), set.length);
     BitsMut { words, length }.pop_last(steps)
 }
+// end of what front/calls makes
 
 /// [`FixedBitSet::union_with`], with the steps that it takes.
 ///
@@ -151,6 +153,7 @@ pub fn symmetric_difference_with(
     Ok(())
 }
 
+// made by front/calls, but for docs and #[inline]
 /// [`FixedBitSet::intersect_with`], with the steps that it takes.
 ///
 /// ```
@@ -190,6 +193,7 @@ pub fn difference_with(set: &mut FixedBitSet, other: &FixedBitSet, steps: &mut S
     let (words, length) = (&mut *set.words.as_mut_slice(), set.length);
     BitsMut { words, length }.difference_with(other.as_bits(), steps);
 }
+// end of what front/calls makes
 
 /// [`FixedBitSet::union_count`], with the steps that it takes.
 ///
@@ -271,6 +275,7 @@ pub fn symmetric_difference_count(
     set.as_bits().count_used::<Xor>(other.as_bits(), steps)
 }
 
+// made by front/calls, but for docs and #[inline]
 /// [`FixedBitSet::is_disjoint`], with the steps that it takes.
 ///
 /// ```
@@ -318,6 +323,7 @@ pub fn is_subset(set: &FixedBitSet, other: &FixedBitSet, steps: &mut Steps) -> b
 {
     set.as_bits().is_subset(other.as_bits(), steps)
 }
+// end of what front/calls makes
 
 // Joins the longer set `other` to `set`, which grows before. It is a call of its own, so that a set
 // which is as long saves nothing for it.
