@@ -133,10 +133,10 @@ class Plan:
         front = Stage("the crate for Rust and the header for C", ("front/test",), inputs, (*MAKERS, "cmake", "dpkg-deb", *gcc, *qemu), ("README.md",))
         crate = ("front/rust", "front/differ", "front/registry", "front/compilers")
         emulators = (*qemu, "wasm-ld", "node", "cargo", "rustc", "cc", *gcc)
-        others = ("front/targets", "front/wrong", "front/wrong_lines", "tools/kept.py")
+        others = ("front/targets", "front/erase_examples", "front/wrong", "front/wrong_lines", "tools/kept.py")
         targets = Stage("the crate on other targets", ("front/targets",), (*crate, *others), emulators)
         texts = ("docs/COMMANDS.md", "examples", "crates/bits/stdin", "crates/bits/stdout", "tools/memory/memory.txt")
-        shared = ("front/checks.sh", "front/registry", "front/compilers", "front/tools", "tools/kept.py")
+        shared = ("front/checks.sh", "front/erase_examples", "front/registry", "front/compilers", "front/tools", "tools/kept.py")
         inputs = ("front/program", "front/rust/src", *shared, *texts)
         program = Stage("the program by cargo", ("front/program/test",), inputs, ("cargo", "rustc", "cc", *gcc, *qemu))
         client = Stage("petgraph over the crate", ("front/client",), (*crate, "front/client", "front/rustdoc"), ("cargo", "rustc", "cc"))
@@ -147,7 +147,7 @@ class Plan:
         uses and of what only tests use: those that have no verdict in front/wrong, and some by chance. (They are read where they
         stand, and what is written goes into other folders.)"""
         edits = self.sources(*self.crates, parts=("src", "must-fail"))
-        makers = ("erase", "erase_source.py", "erase_tables.py", "wrong", "wrong_translations", "compilers", "registry")
+        makers = ("erase", "erase_source.py", "erase_tables.py", "wrong", "wrong_translations", "erase_examples", "compilers", "registry")
         made = [f"front/{it}" for it in (*makers, "c", "differ", "lib", "program", "rust")]
         texts = ("docs/COMMANDS.md", "examples", "crates/bits/stdin", "crates/bits/stdout", "tools/memory/memory.txt")
         inputs = (*edits, *made, *texts, "tools/kept.py", "tools/mutants")

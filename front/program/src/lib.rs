@@ -17,9 +17,6 @@ extern crate std;
 #[rustfmt::skip]
 #[allow(clippy::all, dead_code, unused_imports, unused_variables)]
 mod program;
-#[cfg(test)]
-#[rustfmt::skip]
-mod program_examples;
 #[path = "../../rust/src/proved/mod.rs"]
 #[rustfmt::skip]
 #[allow(clippy::all, dead_code, unused_imports, unused_labels, unused_variables)]
