@@ -133,7 +133,7 @@ class Plan:
         front = Stage("the crate for Rust and the header for C", ("front/test",), inputs, (*MAKERS, "cmake", "dpkg-deb", *gcc, *qemu), ("README.md",))
         crate = ("front/rust", "front/differ", "front/registry", "front/compilers")
         emulators = (*qemu, "wasm-ld", "node", "cargo", "rustc", "cc", *gcc)
-        others = ("front/targets", "front/erase_examples", "front/wrong", "front/wrong_lines", "tools/kept.py")
+        others = ("front/targets", "front/checks.sh", "front/erase_examples", "front/wrong", "front/wrong_lines", "tools/kept.py")
         targets = Stage("the crate on other targets", ("front/targets",), (*crate, *others), emulators)
         texts = ("docs/COMMANDS.md", "examples", "crates/bits/stdin", "crates/bits/stdout", "tools/memory/memory.txt")
         shared = ("front/checks.sh", "front/erase_examples", "front/registry", "front/compilers", "front/tools", "tools/kept.py")
