@@ -8,8 +8,6 @@ from stages import Stage
 SCRIPTS = "tools/gate"
 # What scripts of several folders of tools/ share.
 SHARED = ("tools/calls.py", "tools/kept.py", "tools/running.py")
-# Crates of examples, which are run and not proved: the proof of each costs as much as that of a library.
-EXAMPLES = ("test_examples", "test_other_examples")
 # The program that ./bits builds by cargo, and what builds it.
 PROGRAM, CARGO = "front/program", ("cargo", "rustc", "cc")
 MAKERS = ("cc", "gcc", "g++", "clang", "make", "cargo", "rustc", "pkg-config", "valgrind", "python3")
@@ -99,7 +97,7 @@ class Plan:
 
     def tests(self):
         """The folders of tests of values that use one of the crates, each with the crates that it uses."""
-        libraries = (self.top / "tests/libraries.txt").read_text() + self.lines_of(EXAMPLES)
+        libraries = (self.top / "tests/libraries.txt").read_text()
         uses = {name: names.split() for name, names in re.findall(r"(?m)^(\w+): (.*)$", libraries)}
         return {it: [name for name in uses[it] if name in self.crates] for it in uses if self.has(it, *uses[it])}
 
@@ -111,17 +109,16 @@ class Plan:
     def tests_of_values(self):
         tests = self.tests()
         used = sorted({it for names in tests.values() for it in names})
-        return Stage("tests of values", ("tools/run_tests", *tests), ("tests", "tools/run_tests", *self.sources(*used))) if tests else None
-
-    def lines_of(self, names):
-        return "".join(f"{it}: {' '.join(self.crates[it])}\n" for it in names if it in self.crates)
+        makers = ("tools/docs/make_examples", "tools/docs/make_api", "tools/new_crate", "tools/calls.py")
+        inputs = ("tests", "tools/run_tests", *makers, *self.sources(*used))
+        return Stage("tests of values", ("tools/run_tests", *tests), inputs) if tests else None
 
     def proofs(self):
         return Stage("proofs and programs", (f"{SCRIPTS}/proofs",), keeps=True)
 
     def edits(self, log, folder, lanes):
         words = ("--proved", "--lanes", str(lanes), "--beside", log, "--from", folder)
-        names = () if self.is_whole else tuple(it for it in self.names if it not in EXAMPLES)
+        names = () if self.is_whole else self.names
         return Stage("wrong bodies", ("tools/mutants/edits", *words, *names), keeps=True)
 
     def fronts(self):

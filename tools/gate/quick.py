@@ -8,7 +8,7 @@ import tempfile
 import time
 
 from groups import Groups
-from plan import EXAMPLES, Plan
+from plan import Plan
 from wrong_bodies import crates as crates_of
 
 SECONDS = 300
@@ -102,12 +102,11 @@ def run(top):
     quick = Quick(top)
     quick.step("texts", ["tools/gate/texts"])
     for name in crates:
-        if name not in EXAMPLES:
-            quick.step(f"check of {name}", ["rt", "check"], f"crates/{name}")
+        quick.step(f"check of {name}", ["rt", "check"], f"crates/{name}")
     edits = edits_to_try(top, base, files)
     if edits:
         quick.step(f"{len(edits)} wrong bodies", ["tools/mutants/edits", "--those", *edits])
     tests = tests_to_run(top, files, crates)
     if tests:
-        quick.step("tests of values", ["tools/run_tests", *(it for it in tests if it not in EXAMPLES)])
+        quick.step("tests of values", ["tools/run_tests", *tests])
     return quick.finish()

@@ -1,6 +1,5 @@
-//! The examples in the docs of laws that have something proved, as tests, and the blocks of the
-//! documents.
-//! tools/docs/make_examples writes each file of this crate.
+//! Examples in the docs of public calls, and blocks of the documents, as tests.
+//! tools/docs/make_examples writes each file of this crate, but for proofs by hand.
 #![tactic(auto)]
 
 #[cfg(test)]
@@ -10,5 +9,7 @@ pub mod calling_1;
 mod calling_3;
 #[cfg(test)]
 mod calls;
+#[cfg(test)]
+mod joins;
 #[cfg(test)]
 mod laws;

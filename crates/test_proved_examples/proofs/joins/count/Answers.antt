@@ -2,7 +2,7 @@ use Rattle.std.proofs.Common.{arith, [], ◌∷◌}
 use Rattle.bitlanes.specs.Bits.{either}
 use Rattle.bitwords.specs.Rows.{bits_test}
 use Rattle.bitwords.specs.CountFacts.{count-le}
-use Rattle.test_other_examples.proofs.joins.count.Goals as goal
+use Rattle.test_proved_examples.proofs.joins.count.Goals as goal
 
 -- two words have no more than 128 positions
 pub count-count-requires : goal.count-count-requires
