@@ -1,5 +1,5 @@
-"""Reads the methods of the views, and the functions of the module `counted` of crates/fixedbitset, for what front/calls makes of them in
-other sources: their clauses in the names that the other source imports, and on lines."""
+"""What front/calls makes functions in sources of crates with: it reads the methods of the views, says a clause in the names that another
+source imports, breaks a function into lines, and puts functions between marks."""
 import functools
 import re
 
@@ -45,7 +45,7 @@ class Method(PUBLISH.Signature):
 
     def __init__(self, owner, item, names):
         super().__init__(owner, item)
-        self.source = names
+        self.imported = names
         found = [CLAUSE.fullmatch(token.text).groups() for token in item.tokens if token.kind == "clause"]
         self.clauses = [(kind, name or "", " ".join(term.split())) for kind, name, term in found]
         self.pairs = [it.split(": ", 1) for it in self.parameters]
@@ -66,7 +66,7 @@ class Method(PUBLISH.Signature):
             first, dot, rest = word[0].partition(".")
             if first in locals_:
                 return locals_[first] + dot + rest
-            meant = self.source.meant(word[0])
+            meant = self.imported.meant(word[0])
             return target.said(meant) if meant else word[0]
 
         return re.sub(r"(?<![\w.])[^\W\d]\w*(?:\.\w+)*", in_target, term)
