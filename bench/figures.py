@@ -68,14 +68,9 @@ KINDS_OF_LINES = [
     ("`text`, `as_slice`", r"text|as_slice"),
     ("`to_value`", r"to_value"),
     ("`from_value`", r"from_value"),
-    ("iterators", r"(clone and )?\w+, 8 from"),
-    (
-        "a single position, `extend`, `from_iter`",
-        r"(insert|contains|index|put|remove|toggle|set|copy_bit|set_block|grow_and_insert|extend|from_iter)\b",
-    ),
-    ("ranges", r"count_|contains_a|\w+_range\b|range_"),
-    ("two sets", r"\w+_(with|count|assign)|is_(disjoint|subset|superset)|eq|cmp|clone|bit"),
-    ("`new`, `len`, `minimum` and the like", r""),
+    ("`ones`, 8 positions", r"ones, 8"),
+    ("`insert`, `contains`", r"insert|contains"),
+    ("`count_ones`, `union_with`, `with_capacity`", r""),
 ]
 KINDS_OF_QUESTIONS = [
     ("union of all rows", r"union"),

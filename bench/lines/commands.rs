@@ -52,120 +52,24 @@ impl Machine {
     }
 
     fn carry_out(&mut self, name: &[u8], args: Words<'_>) -> Outcome {
-        match name.len() {
-            ..=5 => self.short(name, args),
-            6..=8 => self.middle(name, args),
-            9..=12 => self.long(name, args),
-            _ => self.longest(name, args),
-        }
-    }
-
-    fn short(&mut self, name: &[u8], args: Words<'_>) -> Outcome {
         match name {
-            b"eq" => self.ask_two(args, |a, b| a == b),
-            b"cmp" => self.ask_two(args, |a, b| a.cmp(b)),
-            b"len" => self.on_set(args, |set| set.len()),
-            b"new" => self.on_set(args, |set| *set = FixedBitSet::new()),
-            b"put" => self.on_position(args, FixedBitSet::put),
-            b"set" => self.set_to(args),
-            b"grow" => self.sized(args, |set, bits| set.grow(bits)),
-            b"ones" => self.walk_both_ways(args, |set| set.ones()),
+            b"ones" => self.ones(args),
             b"text" => self.on_set(args, |set| set.to_string()),
-            b"bitor" => self.make_of_two(args, |a, b| a | b),
-            b"clear" => self.on_set(args, |set| set.clear()),
-            b"clone" => self.clone(args),
-            b"index" => self.contains(args),
-            b"union" => self.walk_two(args, |a, b| a.union(b)),
-            _ => Err(Fault::NotACommand),
-        }
-    }
-
-    fn middle(&mut self, name: &[u8], args: Words<'_>) -> Outcome {
-        match name {
-            b"bitand" => self.make_of_two(args, |a, b| a & b),
-            b"bitxor" => self.make_of_two(args, |a, b| a ^ b),
-            b"default" => self.on_set(args, |set| *set = FixedBitSet::default()),
             b"extend" => self.extend(args),
-            b"insert" => self.on_position(args, FixedBitSet::insert),
-            b"remove" => self.on_position(args, FixedBitSet::remove),
-            b"toggle" => self.on_position(args, FixedBitSet::toggle),
-            b"zeroes" => self.walk_forward(args, |set| set.zeroes()),
-            b"is_full" => self.on_set(args, |set| set.is_full()),
-            b"is_empty" => self.on_set(args, |set| set.is_empty()),
-            b"maximum" => self.on_set(args, |set| set.maximum()),
-            b"minimum" => self.on_set(args, |set| set.minimum()),
+            b"insert" => self.insert(args),
             b"as_slice" => self.as_slice(args),
             b"contains" => self.contains(args),
-            b"copy_bit" => self.copy_bit(args),
-            b"is_clear" => self.on_set(args, |set| set.is_clear()),
             b"to_value" => self.to_value(args),
-            _ => Err(Fault::NotACommand),
-        }
-    }
-
-    fn long(&mut self, name: &[u8], args: Words<'_>) -> Outcome {
-        match name {
-            b"from_iter" => self.from_iter(args),
-            b"into_ones" => self.into_ones(args),
-            b"set_block" => self.set_block(args),
-            b"set_range" => self.set_range(args),
+            b"count_ones" => self.count_ones(args),
             b"from_value" => self.from_value(args),
-            b"is_subset" => self.ask_two(args, |a, b| a.is_subset(b)),
-            b"clone_from" => self.join(args, |a, b| a.clone_from(b)),
-            b"count_ones" => self.on_range(args, |set, range| set.count_ones(range)),
-            b"difference" => self.walk_two(args, |a, b| a.difference(b)),
-            b"union_with" => self.join(args, |a, b| a.union_with(b)),
-            b"is_disjoint" => self.ask_two(args, |a, b| a.is_disjoint(b)),
-            b"is_superset" => self.ask_two(args, |a, b| a.is_superset(b)),
-            b"bitor_assign" => self.join(args, |a, b| *a |= b),
-            b"union_count" => self.ask_two(args, |a, b| a.union_count(b)),
-            b"count_zeroes" => self.on_range(args, |set, range| set.count_zeroes(range)),
-            b"insert_range" => self.on_range(args, |set, range| set.insert_range(range)),
-            b"intersection" => self.walk_two(args, |a, b| a.intersection(b)),
-            b"remove_range" => self.on_range(args, |set, range| set.remove_range(range)),
-            b"toggle_range" => self.on_range(args, |set, range| set.toggle_range(range)),
-            _ => Err(Fault::NotACommand),
-        }
-    }
-
-    fn longest(&mut self, name: &[u8], args: Words<'_>) -> Outcome {
-        match name {
-            b"with_capacity" => {
-                self.sized(args, |set, bits| *set = FixedBitSet::with_capacity(bits))
-            }
-            b"range_is_valid" => self.range_is_valid(args),
-            b"bitand_assign" => self.join(args, |a, b| *a &= b),
-            b"bitxor_assign" => self.join(args, |a, b| *a ^= b),
-            b"intersect_with" => self.join(args, |a, b| a.intersect_with(b)),
-            b"difference_with" => self.join(args, |a, b| a.difference_with(b)),
-            b"grow_and_insert" => self.grow_and_insert(args),
-            b"difference_count" => self.ask_two(args, |a, b| a.difference_count(b)),
-            b"intersection_count" => self.ask_two(args, |a, b| a.intersection_count(b)),
-            b"symmetric_difference" => self.walk_two(args, |a, b| a.symmetric_difference(b)),
-            b"contains_all_in_range" => {
-                self.on_range(args, |set, range| set.contains_all_in_range(range))
-            }
-            b"contains_any_in_range" => {
-                self.on_range(args, |set, range| set.contains_any_in_range(range))
-            }
-            b"with_capacity_and_blocks" => self.with_capacity_and_blocks(args),
-            b"symmetric_difference_with" => self.join(args, |a, b| a.symmetric_difference_with(b)),
-            b"symmetric_difference_count" => {
-                self.ask_two(args, |a, b| a.symmetric_difference_count(b))
-            }
+            b"union_with" => self.union_with(args),
+            b"with_capacity" => self.with_capacity(args),
             _ => Err(Fault::NotACommand),
         }
     }
 
     fn set(&mut self, index: usize) -> Result<&mut FixedBitSet, Fault> {
         self.sets.get_mut(index).ok_or(Fault::NoSet)
-    }
-
-    /// Two sets, of which one may stand twice.
-    fn two(&self, a: usize, b: usize) -> Result<(&FixedBitSet, &FixedBitSet), Fault> {
-        let a = self.sets.get(a).ok_or(Fault::NoSet)?;
-        let b = self.sets.get(b).ok_or(Fault::NoSet)?;
-        Ok((a, b))
     }
 
     fn reply(&mut self, reply: impl Reply) -> Outcome {
@@ -184,66 +88,29 @@ impl Machine {
         self.reply(reply)
     }
 
-    fn on_position<R: Reply>(
-        &mut self,
-        mut args: Words<'_>,
-        call: impl FnOnce(&mut FixedBitSet, usize) -> R,
-    ) -> Outcome {
-        let (set, bit) = (args.number()?, args.number()?);
-        args.end()?;
-        let set = self.set(set)?;
-        check_position(set, bit)?;
-        let reply = call(set, bit);
-        self.reply(reply)
-    }
-
-    /// A call that asks for a length.
-    fn sized(
-        &mut self,
-        mut args: Words<'_>,
-        call: impl FnOnce(&mut FixedBitSet, usize),
-    ) -> Outcome {
+    fn with_capacity(&mut self, mut args: Words<'_>) -> Outcome {
         let (set, bits) = (args.number()?, args.number()?);
         args.end()?;
         let set = self.set(set)?;
         check_limit(bits)?;
-        call(set, bits);
+        *set = FixedBitSet::with_capacity(bits);
         self.reply(())
     }
 
-    fn on_range<R: Reply>(
-        &mut self,
-        mut args: Words<'_>,
-        call: impl FnOnce(&mut FixedBitSet, Range<usize>) -> R,
-    ) -> Outcome {
+    fn count_ones(&mut self, mut args: Words<'_>) -> Outcome {
         let (set, span) = (args.number()?, args.range()?);
         args.end()?;
         let set = self.set(set)?;
-        let range = range_in(set, span)?;
-        let reply = call(set, range);
-        self.reply(reply)
+        let count = set.count_ones(range_in(set, span)?);
+        self.reply(count)
     }
 
-    fn set_range(&mut self, mut args: Words<'_>) -> Outcome {
-        let (set, span, value) = (args.number()?, args.range()?, args.flag()?);
+    fn insert(&mut self, mut args: Words<'_>) -> Outcome {
+        let (set, bit) = (args.number()?, args.number()?);
         args.end()?;
         let set = self.set(set)?;
-        set.set_range(range_in(set, span)?, value);
-        self.reply(())
-    }
-
-    fn range_is_valid(&mut self, mut args: Words<'_>) -> Outcome {
-        let (set, span) = (args.number()?, args.range()?);
-        args.end()?;
-        let reply = range_in(self.set(set)?, span).is_ok();
-        self.reply(reply)
-    }
-
-    fn with_capacity_and_blocks(&mut self, mut args: Words<'_>) -> Outcome {
-        let (set, bits, words) = (args.number()?, args.number()?, args.numbers()?);
-        let set = self.set(set)?;
-        check_limit(bits)?;
-        *set = FixedBitSet::with_capacity_and_blocks(bits, words);
+        check_position(set, bit)?;
+        set.insert(bit);
         self.reply(())
     }
 
@@ -254,59 +121,11 @@ impl Machine {
         self.reply(reply)
     }
 
-    fn set_to(&mut self, mut args: Words<'_>) -> Outcome {
-        let (set, bit, value) = (args.number()?, args.number()?, args.flag()?);
-        args.end()?;
-        let set = self.set(set)?;
-        check_position(set, bit)?;
-        set.set(bit, value);
-        self.reply(())
-    }
-
-    fn copy_bit(&mut self, mut args: Words<'_>) -> Outcome {
-        let (set, from, to) = (args.number()?, args.number()?, args.number()?);
-        args.end()?;
-        let set = self.set(set)?;
-        check_position(set, to)?;
-        set.copy_bit(from, to);
-        self.reply(())
-    }
-
-    fn set_block(&mut self, mut args: Words<'_>) -> Outcome {
-        let (set, index, value) = (args.number()?, args.number()?, args.number()?);
-        args.end()?;
-        let set = self.set(set)?;
-        let rest = set.len().saturating_sub(index.saturating_mul(64));
-        if rest == 0 {
-            return Err(Fault::Position);
-        }
-        let kept = if rest < 64 { (1 << rest) - 1 } else { !0 };
-        set.as_mut_slice()[index] = value & kept;
-        self.reply(())
-    }
-
-    fn grow_and_insert(&mut self, mut args: Words<'_>) -> Outcome {
-        let (set, bit) = (args.number()?, args.number()?);
-        args.end()?;
-        let set = self.set(set)?;
-        check_item(bit)?;
-        set.grow_and_insert(bit);
-        self.reply(())
-    }
-
     fn extend(&mut self, mut args: Words<'_>) -> Outcome {
         let (set, items) = (args.number()?, args.numbers()?);
         let set = self.set(set)?;
         items.iter().try_for_each(|item| check_item(*item))?;
         set.extend(items);
-        self.reply(())
-    }
-
-    fn from_iter(&mut self, mut args: Words<'_>) -> Outcome {
-        let (set, items) = (args.number()?, args.numbers()?);
-        let set = self.set(set)?;
-        items.iter().try_for_each(|item| check_item(*item))?;
-        *set = FixedBitSet::from_iter(items);
         self.reply(())
     }
 
@@ -321,100 +140,27 @@ impl Machine {
         self.reply(())
     }
 
-    fn ask_two<R: Reply>(
-        &mut self,
-        mut args: Words<'_>,
-        ask: impl FnOnce(&FixedBitSet, &FixedBitSet) -> R,
-    ) -> Outcome {
+    fn union_with(&mut self, mut args: Words<'_>) -> Outcome {
         let (a, b) = (args.number()?, args.number()?);
         args.end()?;
-        let (a, b) = self.two(a, b)?;
-        let reply = ask(a, b);
-        self.reply(reply)
-    }
-
-    /// A set changed by another one, which it is taken out of its place for.
-    fn join(
-        &mut self,
-        mut args: Words<'_>,
-        join: impl FnOnce(&mut FixedBitSet, &FixedBitSet),
-    ) -> Outcome {
-        let (a, b) = (args.number()?, args.number()?);
-        args.end()?;
-        self.two(a, b)?;
+        if a.max(b) >= self.sets.len() {
+            return Err(Fault::NoSet);
+        }
         match self.sets.get_disjoint_mut([a, b]) {
-            Ok([a, b]) => join(a, b),
+            Ok([a, b]) => a.union_with(b),
             Err(_) => {
                 let copy = self.sets[b].clone();
-                join(&mut self.sets[a], &copy);
+                self.sets[a].union_with(&copy);
             }
         }
         self.reply(())
     }
 
-    fn clone(&mut self, mut args: Words<'_>) -> Outcome {
-        let (target, source) = (args.number()?, args.number()?);
-        args.end()?;
-        self.sets[target] = self.two(target, source)?.1.clone();
-        self.reply(())
-    }
-
-    fn make_of_two(
-        &mut self,
-        mut args: Words<'_>,
-        make: impl FnOnce(&FixedBitSet, &FixedBitSet) -> FixedBitSet,
-    ) -> Outcome {
-        let (target, a, b) = (args.number()?, args.number()?, args.number()?);
-        args.end()?;
-        self.set(target)?;
-        let (a, b) = self.two(a, b)?;
-        self.sets[target] = make(a, b);
-        self.reply(())
-    }
-
-    fn walk_forward<'a, I: Iterator<Item = usize>>(
-        &'a mut self,
-        mut args: Words<'_>,
-        walk: impl FnOnce(&'a FixedBitSet) -> I,
-    ) -> Outcome {
+    fn ones(&mut self, mut args: Words<'_>) -> Outcome {
         let (set, ends) = (args.number()?, args.ends()?);
         args.end()?;
-        let mut walk = walk(self.sets.get(set).ok_or(Fault::NoSet)?);
-        let items = ends.iter().map(|_| walk.next());
-        push_each(items, b' ', &mut self.output);
-        Ok(())
-    }
-
-    fn walk_both_ways<'a, I: DoubleEndedIterator<Item = usize>>(
-        &'a mut self,
-        mut args: Words<'_>,
-        walk: impl FnOnce(&'a FixedBitSet) -> I,
-    ) -> Outcome {
-        let (set, ends) = (args.number()?, args.ends()?);
-        args.end()?;
-        let mut walk = walk(self.sets.get(set).ok_or(Fault::NoSet)?);
+        let mut walk = self.sets.get(set).ok_or(Fault::NoSet)?.ones();
         push_each(items_of(&mut walk, ends), b' ', &mut self.output);
-        Ok(())
-    }
-
-    fn into_ones(&mut self, mut args: Words<'_>) -> Outcome {
-        let (set, ends) = (args.number()?, args.ends()?);
-        args.end()?;
-        let mut walk = std::mem::take(self.set(set)?).into_ones();
-        push_each(items_of(&mut walk, ends), b' ', &mut self.output);
-        Ok(())
-    }
-
-    fn walk_two<'a, I: DoubleEndedIterator<Item = usize>>(
-        &'a mut self,
-        mut args: Words<'_>,
-        walk: impl FnOnce(&'a FixedBitSet, &'a FixedBitSet) -> I,
-    ) -> Outcome {
-        let (a, b, ends) = (args.number()?, args.number()?, args.ends()?);
-        args.end()?;
-        let a = self.sets.get(a).ok_or(Fault::NoSet)?;
-        let b = self.sets.get(b).ok_or(Fault::NoSet)?;
-        push_each(items_of(&mut walk(a, b), ends), b' ', &mut self.output);
         Ok(())
     }
 

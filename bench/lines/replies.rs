@@ -1,7 +1,5 @@
 //! What a command answers, as text behind the output.
 
-use std::cmp::Ordering;
-
 pub trait Reply {
     fn push_to(self, output: &mut Vec<u8>);
 }
@@ -40,16 +38,6 @@ impl Reply for Option<usize> {
             Some(position) => position.push_to(output),
             None => output.extend_from_slice(b"none"),
         }
-    }
-}
-
-impl Reply for Ordering {
-    fn push_to(self, output: &mut Vec<u8>) {
-        output.extend_from_slice(match self {
-            Ordering::Less => b"less",
-            Ordering::Equal => b"equal",
-            Ordering::Greater => b"greater",
-        });
     }
 }
 

@@ -86,14 +86,6 @@ impl<'a> Words<'a> {
         Ok(list)
     }
 
-    pub fn flag(&mut self) -> Result<bool, Fault> {
-        match self.next()? {
-            b"true" => Ok(true),
-            b"false" => Ok(false),
-            _ => Err(Fault::NotACommand),
-        }
-    }
-
     pub fn range(&mut self) -> Result<Span, Fault> {
         let word = self.next()?;
         let dot = word.iter().position(|byte| *byte == b'.');
