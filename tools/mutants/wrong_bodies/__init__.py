@@ -23,8 +23,8 @@ by which search this round tries the goal. Each run tries 20 of the right bodies
 half their bounds, and each of these has to be proved. `--whole` leaves the goals to the tactics, as the kit does.
 
 What an edit changes (reach.py). In src/ it is the function that has its text. A definition of specs/ on which one function
-alone rests counts as that function. An edit that changes more than that is lone: it is judged by the one function that its
-name names and that rests on it, or by each that does, and by the lemmas that do; the bodies of all these stay. Nothing in
+alone rests counts as that function. An edit that changes more than that is judged by the one function that its name names
+and that rests on it, or by each that does, and by the lemmas that do; the bodies of all these stay. Nothing in
 its round rests on what another edit there changes. Where it is not known what rests on a change, as of a constant or a
 type, the edit has a round of its own, with all bodies.
 
@@ -51,9 +51,9 @@ the copy in which a round would try this edit by itself, of what a check reads b
 nothing has to be argued beyond what a round is: the key has all that such a check reads. Of the edit's crate that is the
 function with the edit and its proof; of each other function what stands there in a round, which is no body, no tactic and
 no proof; and all types, constants, definitions, lemmas and other attributes. A body that a round leaves is in the key: of a
-function that calls itself, of a default method of a trait, and of all that rests on a lone edit. An edit that has a round
-of its own with all bodies has them all in its key. Comments and empty lines are not: no check reads them, and the place of
-a goal is told where it stands now.
+function that calls itself, of a default method of a trait, and of all that rests on an edit of several functions. An edit
+that has a round of its own with all bodies has them all in its key. Comments and empty lines are not: no check reads them,
+and the place of a goal is told where it stands now.
 
 Of a library below, the key has what a check above reads: the signatures and clauses that the kit wrote into it without
 bodies, its types and constants, its specs, and what its `format` says of each function. Another body in `bitlanes` changed

@@ -28,7 +28,7 @@ TOGETHER = 40
 
 class Right:
     """The function of an edit as it stands, asked for the same goal by the same search within half its bound."""
-    is_bad = is_lone = False
+    is_bad = changes_several = False
     names_a_goal, pairs = True, ()
 
     def __init__(self, edit, answer):

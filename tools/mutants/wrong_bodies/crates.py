@@ -123,7 +123,8 @@ class Edit:
     goal, others  the goal that its file names, and others that it says are open
     answer      by which search its goal is tried, if its file says so
     functions   those that its texts stand in
-    is_lone     whether it changes more than one function: then it is judged by the function that its name names, if that
+    changes_several
+                whether it changes more than one function: then it is judged by the function that its name names, if that
                 rests on what it changes, and else by each that does
     symbols     the functions that judge it
     reach       the functions and the files of lemmas that rest on what it changes, or None where that is not known
@@ -136,10 +137,10 @@ class Edit:
         changes = []
         self.is_bad = self.applied({}, changes) is None
         self.functions = [function for change in changes for function in change.functions]
-        self.is_lone = not all(change.is_of_one_function for change in changes)
+        self.changes_several = not all(change.is_of_one_function for change in changes)
         symbols = {function.symbol for function in self.functions}
         named = self.name.rpartition("-")[0].replace("-", "::")
-        self.symbols = {named} if self.is_lone and named in symbols else symbols
+        self.symbols = {named} if self.changes_several and named in symbols else symbols
         self.reach = None
         if all(change.reach is not None for change in changes):
             self.reach = symbols.union(*(change.reach for change in changes))
@@ -151,12 +152,12 @@ class Edit:
     @property
     def names_a_goal(self):
         """Whether its file names a goal of the one function that judges it."""
-        return bool(self.goal) and not self.is_bad and not self.is_lone and len(self.functions) == len(self.symbols) == 1
+        return bool(self.goal) and not self.is_bad and not self.changes_several and len(self.functions) == len(self.symbols) == 1
 
     @functools.cached_property
     def wrong_body(self):
         """The function's text with this edit in it, where it can stand beside the function under another name, or None."""
-        if self.is_lone or not self.functions or len(self.symbols) > 1:
+        if self.changes_several or not self.functions or len(self.symbols) > 1:
             return None
         function = self.functions[0]
         folders = {os.path.dirname(path) for path in self.crate.proof_of(function)}

@@ -61,7 +61,7 @@ class Verdicts:
         if None in libraries:
             return None
         lines = [crate.line for crate in (edit.crate, *below)]
-        judging = [edit.name, str(edit.is_lone), *sorted(edit.symbols), *sorted(edit.reach or ())]
+        judging = [edit.name, str(edit.changes_several), *sorted(edit.symbols), *sorted(edit.reach or ())]
         return kept.sum_of([kind, kept.kit_sum(), sum_of_script(), *lines, *judging, *texts, *libraries])
 
     def libraries_are_as_read(self, crate):

@@ -10,7 +10,7 @@ NAME = re.compile(r"\(`(\S+)`\)")
 def write_goal(edit, judges, said):
     """Names the goal in the file, by what a check of all goals says of the function; without one the file names none."""
     text = goals.LINES.sub("", edit.file.read_text())
-    found = goal_found(edit, judges[0], said) if len(judges) == 1 and not edit.is_lone else None
+    found = goal_found(edit, judges[0], said) if len(judges) == 1 and not edit.changes_several else None
     if found:
         goal, others = found
         lines = [f"# goal: {goal}", *([f"# open: {' '.join(others)}"] if others else [])]

@@ -52,7 +52,7 @@ def crates_to_share(by_crate, project, few):
     for own in by_crate:
         crate = own[0].crate
         under = project.below(crate)
-        is_plain = len(own) <= few and not any(edit.is_lone or edit.is_bad for edit in own)
+        is_plain = len(own) <= few and not any(edit.changes_several or edit.is_bad for edit in own)
         stands_apart = crate not in below and not any(other[0].crate in under for other in chosen)
         if is_plain and stands_apart:
             chosen.append(own)

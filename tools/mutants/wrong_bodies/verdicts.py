@@ -99,11 +99,11 @@ def judged(edit, judges, said, is_by_itself):
     """What a round says of an edit, by what it says of its judges and their closures: refused, waits or unclear, and why.
     Where an edit that changes more than a function is by itself, any open goal refuses it."""
     said = in_whole_lines(said)
-    if edit.is_lone and is_by_itself:
+    if edit.changes_several and is_by_itself:
         goal = open_goal(said)
         return (REFUSED, f"refused: {goal}") if goal else (UNCLEAR, "")
     errors = errors_in_proofs(said)
-    if edit.is_lone:
+    if edit.changes_several:
         for error in errors:
             if error.path in edit.reach:
                 return REFUSED, f"refused: {error}"
