@@ -28,6 +28,7 @@ SAID = [
     ("the check was ended", "", bare.TOO_LONG),
     ("nothing is open", "fn numbers::next: no holes\nonly=1", bare.PROVED),
     ("another goal is open", NEXT.replace("`returns`", "`overflow`"), bare.OTHER),
+    ("a goal of an invariant is open", "fn numbers::next: no proof: `search` did not prove `returns`\nonly=1", bare.OPEN),
     ("something else is said", NOTHING, bare.UNKNOWN),
     ("it does not compile", "error: a name", bare.UNKNOWN),
 ]

@@ -78,6 +78,9 @@ def judged(edit, judge, said):
         return next((kind for kind, text in SAID_OF_A_GOAL.items() if text in of_goal[0]), OPEN), of_goal[0]
     if notes:
         return OTHER, notes[0]
+    # (Of a goal of an invariant it tells so.)
+    if left := [it.why for it in own if f"did not prove `{edit.goal}`" in it.why]:
+        return OPEN, left[0]
     is_proved = any(found.rpartition("::")[2] == judge.function.symbol.rpartition("::")[2] for found in IN_ORDER.findall(said))
     return (PROVED, "") if is_proved else (UNKNOWN, "; ".join(it.why for it in own)[:200])
 
