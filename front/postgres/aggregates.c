@@ -128,11 +128,9 @@ static Datum finished(FunctionCallInfo fcinfo, const bits *state, size_t length)
 }
 
 /* The state stays as it is, for a window may go on with it. Between processes it travels as a stored set too, under the name
- * of bytea. (This is strict. In a catalogue of version 0.5.7 it may not be, so that there may be no state.) */
+ * of bytea. */
 FUNCTION(bitset_final) {
     const bits *state = get_state(fcinfo, 0);
-    if (state == NULL)
-        PG_RETURN_NULL();
     return finished(fcinfo, state, state->length);
 }
 

@@ -31,7 +31,7 @@ typedef struct Stored {
 } Stored;
 
 /* The greatest length of a set that is made. A row that is its text in digits is the longest that COPY writes and reads, and so
- * the longest that pg_dump does. (Before version 1.0 a length could be up to 63 greater. Such a set is read as before.) */
+ * the longest that pg_dump does. */
 #define MAX_LENGTH 4294967232
 #define WORD_SIZE sizeof(uint64_t)
 
