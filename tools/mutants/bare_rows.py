@@ -27,6 +27,7 @@ SAID = [
     ("the search gave up", CUT, bare.AT_BOUND),
     ("the check was ended", "", bare.TOO_LONG),
     ("nothing is open", "fn numbers::next: no holes\nonly=1", bare.PROVED),
+    ("a clause of it is open", NEXT.replace("`returns`", "`returns-clause-value`"), bare.OPEN),
     ("another goal is open", NEXT.replace("`returns`", "`overflow`"), bare.OTHER),
     ("a goal of an invariant is open", "fn numbers::next: no proof: `search` did not prove `returns`\nonly=1", bare.OPEN),
     ("something else is said", NOTHING, bare.UNKNOWN),

@@ -73,7 +73,8 @@ def judged(edit, judge, said):
         return (UNKNOWN, said.strip()[-200:]) if "error" in said else (TOO_LONG, "")
     own = [it for it in verdicts.unproved_in(said) if it.is_of(judge.function)]
     notes = [goal.text for it in own for goal in it.goals]
-    of_goal = [it for it in notes if f"(`{edit.goal}`)" in it]
+    # (Where an answer was for all clauses, the tactics try each by itself, and it has a goal of its own.)
+    of_goal = [it for it in notes if f"(`{edit.goal}`)" in it or f"(`{edit.goal}-" in it]
     if of_goal:
         return next((kind for kind, text in SAID_OF_A_GOAL.items() if text in of_goal[0]), OPEN), of_goal[0]
     if notes:
