@@ -21,9 +21,9 @@ RANGE, INCLUSIVE = "a range with no end, or what a value is filled from", "a ran
 IN_BODIES = (
     ("unsafe { a.get_unchecked(0); }", "unsafe"), ("prove!(words > 0);", "the macro prove!"), ("let _ = 'a';", UNKNOWN),
     ("assert!(words > 0);", "the macro assert!"), ("a.chunks(2).len();", "the method chunks"), ("let _ = a.len() as i32;", "i32"),
-    ('let _ = "text\\n";', UNKNOWN), ("/* words */", UNKNOWN), ("let _ = 1.5;", UNKNOWN), ("let _ = 0xff;", UNKNOWN),
+    ('let _ = "text\\n";', UNKNOWN), ("/* words */", UNKNOWN), ("let _ = 1.5;", UNKNOWN), ("let _ = 0xff;", UNKNOWN), ("let _ = 1 as char;", "char"),
     ("let _ = 1usize;", UNKNOWN), ('let _ = b"a";', UNKNOWN), ("for _ in 0..=words {}", UNKNOWN),
-    ("let x @ 1 = words;", UNKNOWN),
+    ("let x @ 1 = words;", UNKNOWN), *((f"let mut x = words; x {mark} 2;", UNKNOWN) for mark in ("*=", "/=", "%=", "<<=", ">>=")),
     ("let r#x = 1;", "begins no attribute"), ("extern crate std;", "extern"), ("static WORDS: usize = 4;", "static"),
     ("ghost here = { words ≡ length a.now }", "a ghost member has no end"), ("let ref one = words;", "ref"),
     # Names, each where it stands: a path with each of its words, a function, a method.
@@ -67,10 +67,10 @@ IN_BODIES = (
     # What std answers otherwise.
     ("let _ = a.find_map(|word| word.clone());", "the method find_map"), ("let _ = words.clone();", "the method clone"),
     ("write!(a, words);", "the macro write!"), ("format!(words);", "the macro format!"),
-    ("words.try_send(1);", "the method try_send"),
+    ("words.try_send(1);", "the method try_send"), ("words.try_recv();", "the method try_recv"),
     ("let _ = anyhow::Error::from(words);", "the path anyhow::Error::from"), ("let _ = u16::try_from(1);", "u16"),
     ("std::thread::spawn(words);", "the path std::thread::spawn"),
-    ("let _ = std::iter::once(words);", "the path std::iter::once"),
+    ("let _ = std::iter::once(words);", "the path std::iter::once"), ("let _ = std::iter::empty();", "the path std::iter::empty"),
     ("let _ = Some(words).iter_mut();", "the method iter_mut"),
     ("if let (Some([one, two]), Some(word)) = words {}", "an array within a pattern"),
     # What edition 2024 reads otherwise, or takes alone. (It ends temporaries sooner too: here no type does a thing at its end.)
@@ -93,6 +93,8 @@ IN_BODIES = (
     ("let _ = Some(words).map_err(|_| words);", CLOSURE), ("let _ = a.iter().zip(|| words);", CLOSURE),
 )
 KEPT = "#[derive(Drop)]\npub struct Kept {\n    pub count: usize,\n}\n\n"
+KIND = "#[derive(Debug, Clone, Copy, PartialEq, Eq)]\npub enum Kind {\n    One,\n}\n\n"
+OWN = "impl {} {{\n    pub fn {}(&mut self) -> usize {{\n        1\n    }}\n}}"
 RULE = "pub trait Rule {\n    ghost mark: { Self → ℕ };\n\n    fn answer(&self) -> usize {\n        0\n    }\n}\n\npub struct Yes;\n\n"
 # What may not stand as an item, and why.
 AS_ITEMS = (
@@ -126,6 +128,7 @@ AS_ITEMS = (
     ("pub fn one<T: LANE>(t: T) {}", "the bound LANE"), ("pub fn one<T: ?Sized>(t: &T) {}", "the parameter T : ? Sized"),
     ("pub fn one<T: Into<&usize>>(t: T) {}", "the parameter T : Into < & usize"),
     ("pub fn one<T: Index<&usize>>(t: T) {}", "the parameter T"), ("pub fn one<T: Into<usize>>(t: T) {}", "the bound Into"),
+    ("pub fn one<T: Index<usize>>(t: T) {}", "the bound Index"),
     ("pub fn one<const N: usize>() {}", "const within an item"), ("pub fn one<T>(t: T) where T: WordOp {}", "where"),
     ("pub fn one(t: &dyn WordOp) {}", "dyn"), ("pub fn one(t: impl WordOp) {}", "impl within an item"),
     # An `impl` that Rust passes over, or whose method it finds otherwise.
@@ -133,13 +136,20 @@ AS_ITEMS = (
     ("impl Default for Steps {}", "an impl of Default"),
     ("pub struct W<T> { pub t: T }\nimpl<T> W<&T> {}", "an impl of W < & T >"),
     ("pub trait Mark {}\nimpl Mark for usize {}", "an impl of"),
+    # (No method depends on the type that `Option::into_iter` returns, for no trait may be implemented for that.)
+    ("use std::option::IntoIter;\npub trait Mark {}\nimpl Mark for IntoIter<usize> {}", "an impl of Mark for IntoIter"),
     ("pub trait Mark { fn is_sorted(&self) -> bool; }", "the method is_sorted"),
     ("pub trait Mark { fn into(self) -> usize; }", "the method into"),
     ("pub trait Mark { fn poll(&self) -> bool; }", "the method poll"),
+    ("pub trait Mark { fn clamp(&mut self) -> usize { 1 } }", "the method clamp"),
+    ("pub trait Mark { fn hash(&mut self) -> usize; }", "the method hash"),
     (KEPT + "impl Kept {\n    pub fn clone(&mut self) -> Kept {\n        self.count = 7;\n        Kept { count: 1 }\n    }\n}",
      "the method clone"),
     (KEPT + "pub trait Peeked {\n    fn look(&self) -> usize;\n}\n\nimpl Peeked for Kept {\n    fn look(&self) -> usize {\n        1\n    }\n}\n\n"
      "impl Kept {\n    pub fn look(&mut self) -> usize {\n        2\n    }\n}", "the method look with another receiver"),
+    (KIND + OWN.format("Kind", "eq"), "the method eq, which"), (KIND + "pub type X = Kind;\n\n" + OWN.format("X", "ne"), "the method ne"),
+    (KIND + OWN.format("Kind", "assert_receiver_is_total_eq"), "the method assert_receiver_is_total_eq, which"),
+    ("#[derive(Clone, Copy, Debug)]\npub struct X;\n\n" + OWN.format("X", "fmt"), "the method fmt, which"),
     ("impl Model for Steps { fn one() {} }", "impl Model for Steps does more"),
     # A comment that would take in what comes behind a ghost member or a clause.
     (RULE + "impl Rule for Yes {\n    // The mark.\n    ghost mark = { λ _. 1 }; fn answer(&self) -> usize { 1 }\n}",

@@ -104,7 +104,8 @@ OF_ITERATORS = set(
     "step_by sum take take_while try_collect try_find try_fold try_for_each try_reduce try_rfold unzip zip".split())
 # The methods of the other traits of Rust that types here have.
 OF_TRAITS = {"Ord": {"clamp", "cmp", "max", "min"}, "PartialOrd": {"ge", "gt", "le", "lt", "partial_cmp"}, "PartialEq": {"eq", "ne"},
-             "Hash": {"hash"}, "Display": {"fmt", "to_string"}, "Binary": {"fmt"}}
+             "Eq": {"assert_fields_are_eq", "assert_receiver_is_total_eq"}, "Hash": {"hash"}, "Binary": {"fmt"}, "Debug": {"fmt"},
+             "Display": {"fmt", "to_string"}}
 
 
 @dataclasses.dataclass
