@@ -1,4 +1,4 @@
-//! Operators, and sets from positions. The proved calls are made, and nothing is put together.
+//! Operators, and sets from positions. Each makes one proved call, but for `&a - &b` and `!&a`, which change a copy.
 use crate::memory::OrAbort;
 use crate::{ArrayBitSet, Bits, BitsMut, FixedBitSet};
 use alloc::vec::Vec;
@@ -171,7 +171,7 @@ macro_rules! lists {
             /// The set of these positions, with the least length that has them. **Panics** at the position `usize::MAX`.
             #[track_caller]
             fn from(positions: $name) -> Self {
-                positions.into_iter().collect()
+                Self::from_iter(positions)
             }
         }
     )* };

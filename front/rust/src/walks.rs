@@ -1,4 +1,4 @@
-//! The iterators over positions. Each call of one is a call of a proved iterator.
+//! The iterators over positions. A call is one of a proved iterator; `min`, `max` and `fold` of two in turn make calls of both.
 use crate::proved::bitlanes::ops::{And, AndNot};
 use crate::proved::bitlanes::word::take_lowest_bit;
 use crate::proved::bitlanes::Steps;
@@ -215,9 +215,13 @@ macro_rules! apart {
 macro_rules! walks {
     ($($name:ty: $item:ty, $first:ident, $last:ident, $listed:ident, $others:ident;)*) => { $(
         /// Proved: each item, the hint of size and the count, for any mix of calls from both ends: of
-        /// [one iterator](crate::contracts#bitwordscursorscursor-as-iterator), of
-        /// [two in turn](crate::contracts#bitwalksin_turninturntake_first), of [runs](crate::contracts#bitwalksruns-as-iterator).
-        /// Other calls are put together from these. The hint of runs is not proved: half of the positions that are left.
+        /// [one iterator](crate::contracts#bitwordscursorscursor-as-iterator), whose count is
+        /// [count_left](crate::contracts#bitwordscursorscursorcount_left), and of
+        /// [two in turn](crate::contracts#bitwalksin_turninturntake_first), whose hint is
+        /// [most](crate::contracts#bitwalksin_turninturnmost) and whose count is
+        /// [count_left](crate::contracts#bitwalksin_turninturncount_left); each item of
+        /// [runs](crate::contracts#bitwalksruns-as-iterator). Other calls are put together from these. The hint of runs is not
+        /// proved: half of the positions that are left.
         impl Iterator for $name {
             type Item = $item;
 
@@ -240,10 +244,13 @@ macro_rules! walks {
             }
         }
 
-        /// Proved: that no item follows the first `None` ([contract](crate::contracts#bitwordscursorscursor-as-iterator)).
+        /// Proved: that no item follows the first `None`: of [one iterator](crate::contracts#bitwordscursorscursor-as-iterator), of
+        /// [two in turn](crate::contracts#bitwalksin_turninturntake_first), of [runs](crate::contracts#bitwalksruns-as-iterator).
         impl FusedIterator for $name {}
 
-        /// Proved: the items ([contract](crate::contracts#bitwordscursorscursor-as-iterator)). The text around them is not.
+        /// Proved: the items: of [one iterator](crate::contracts#bitwordscursorscursor-as-iterator), of
+        /// [two in turn](crate::contracts#bitwalksin_turninturntake_first), of [runs](crate::contracts#bitwalksruns-as-iterator).
+        /// The text around them is not.
         impl Debug for $name {
             /// The items that are left.
             fn fmt(&self, f: &mut Formatter<'_>) -> Result {
