@@ -19,7 +19,11 @@ const NOTHING: Asked = Asked {
     held: 0,
 };
 
-thread_local!(static ASKED: Cell<Asked> = const { Cell::new(NOTHING) });
+thread_local! {
+    static ASKED: Cell<Asked> = const { Cell::new(NOTHING) };
+    /// How many of the requests are for zeros.
+    static ZEROED: Cell<usize> = const { Cell::new(0) };
+}
 
 /// Rust's own allocator, which counts.
 struct Counting;
@@ -42,6 +46,7 @@ unsafe impl GlobalAlloc for Counting {
     }
     unsafe fn alloc_zeroed(&self, layout: Layout) -> *mut u8 {
         Self::count(layout.size(), 0);
+        ZEROED.set(ZEROED.get() + 1);
         System.alloc_zeroed(layout)
     }
     unsafe fn realloc(&self, at: *mut u8, layout: Layout, size: usize) -> *mut u8 {
@@ -144,6 +149,16 @@ fn what_is_made_asks_once_for_its_words() {
                 assert_eq!(asked, once, "{name}, {first}, {second}");
             }
         }
+    }
+}
+
+#[test]
+fn the_allocator_zeroes_the_words_of_long_sets() {
+    for (words, zeroed) in [(4, 0), (8_188, 0), (8_192, 1), (8_196, 1)] {
+        let before = ZEROED.get();
+        let set = FixedBitSet::with_capacity(64 * words);
+        assert_eq!(ZEROED.get() - before, zeroed, "{words} words");
+        assert_eq!(storage_words(set.len()), words);
     }
 }
 

@@ -8,7 +8,7 @@ mod shim;
 
 use fixedbitset::dataflow::{Direction, Meet, Problem};
 use fixedbitset::{
-    storage_words, AllocError, BitRows, Bits, Block, ExtendFault, FixedBitSet, Ranks,
+    storage_words, AllocError, BitRows, Bits, Block, ExtendFault, FixedBitSet, Ranks, Slots,
 };
 use shim::alloc::{AllocError as RowError, Global};
 use shim::row::Vec as Row;
@@ -116,6 +116,7 @@ made! {
     Vec<u8>, bytes => Made::Bytes(bytes);
     Ranks<'_>, it => Made::Numbers([it.rank(3), it.rank(usize::MAX), it.select(1).unwrap_or(0)]);
     BitRows, it => Made::Numbers([it.rows(), it.columns(), it.row(1).count()]);
+    Slots, it => Made::Numbers([it.len(), it.free(), it.taken().len()]);
 }
 
 /// A call that says where memory is refused, the same that ends the program then, and how many bytes they need.
@@ -195,6 +196,7 @@ fn calls() -> impl Iterator<Item = Call> {
         |_, t| t.try_to_bytes(), t.to_bytes(), 8 * t.as_slice().len();
         |_, t| Ranks::try_of(t), Ranks::of(t), 8 * t.as_slice().len().div_ceil(8);
         |_, t| BitRows::try_new(3, t.len()), BitRows::new(3, t.len()), 3 * bytes_of(t.len());
+        |_, t| Slots::try_new(t.len()), Slots::new(t.len()), bytes_of(t.len());
     };
     changes.into_iter().chain(makes)
 }
@@ -272,6 +274,7 @@ fn a_call_with_room_is_never_refused() {
         |_, _| Set::try_from_bits(Bits::over(&[], 0).unwrap()), Set::new(), 0;
         |_, _| Set::new().try_clone(), Set::new(), 0;
         |_, _| Set::new().try_to_bytes(), Vec::new(), 0;
+        |_, _| Slots::try_new(0), Slots::new(0), 0;
     };
     let (set, other) = (set_of(1_000), set_of(900));
     for call in calls {
@@ -374,6 +377,7 @@ fn more_than_any_memory_has_is_refused() {
         bytes(Set::try_with_capacity_and_blocks(usize::MAX, []).map(drop)),
         greatest
     );
+    assert_eq!(bytes(Slots::try_new(usize::MAX).map(drop)), greatest);
     assert_eq!(bytes(BitRows::try_new(usize::MAX, 1).map(drop)), usize::MAX);
     assert_eq!(
         bytes(BitRows::try_new(usize::MAX / 8, 1).map(drop)),
@@ -547,12 +551,14 @@ fn a_row_is_made_or_refused() {
     assert_eq!(shim::alloc::AllocError.bytes, usize::MAX);
 }
 
-/// A call that changes a row, the same of Rust's own, and how many items there are at most while it runs.
+/// A call that changes a row, the same of Rust's own, how many items there are at most while it runs, and for how many it asks
+/// where it has no room for these.
 struct Change<'a> {
     name: &'static str,
     row: &'a dyn Fn(&mut Row<u64>) -> Result<(), RowError>,
     own: &'a dyn Fn(&mut Vec<u64>),
     most: usize,
+    asked: usize,
 }
 
 /// A row that is changed, where its request is granted, where it is refused and where it has room.
@@ -571,10 +577,10 @@ fn is_changed(items: &[u64], call: Change) {
     if has_to_grow {
         assert_eq!(
             answer.map_err(|error| error.bytes),
-            Err(8 * call.most),
+            Err(8 * call.asked),
             "{name}"
         );
-        assert!(asked.bytes >= 8 * call.most, "{name}");
+        assert!(asked.bytes >= 8 * call.asked, "{name}");
         has(row, items);
     } else {
         assert!(answer.is_ok(), "{name}");
@@ -589,6 +595,19 @@ fn is_changed(items: &[u64], call: Change) {
     has(row, &wanted);
 }
 
+/// These calls have the same words on a row and on Rust's own.
+macro_rules! changes {
+    ($items:expr; $(|$row:ident| $call:expr, $most:expr, $asked:expr;)*) => { $(
+        is_changed($items, Change {
+            name: stringify!($call),
+            row: &|$row| $call,
+            own: &|$row| _ = $call,
+            most: $most,
+            asked: $asked,
+        });
+    )* };
+}
+
 #[test]
 fn a_row_is_changed_or_refused() {
     for (count, other) in COUNTS
@@ -596,54 +615,15 @@ fn a_row_is_changed_or_refused() {
         .flat_map(|count| COUNTS.map(|other| (*count, other)))
     {
         let (items, more) = (numbers(count), numbers(other));
-        is_changed(
-            &items,
-            Change {
-                name: "resize",
-                row: &|row| row.resize(other, 5),
-                own: &|own| own.resize(other, 5),
-                most: count.max(other),
-            },
-        );
-        is_changed(
-            &items,
-            Change {
-                name: "extend_from_slice",
-                row: &|row| row.extend_from_slice(&more),
-                own: &|own| own.extend_from_slice(&more),
-                most: count + other,
-            },
-        );
-        is_changed(
-            &items,
-            Change {
-                name: "extend",
-                row: &|row| row.extend(more.iter().zip(&items).map(|(a, b)| a ^ b)),
-                own: &|own| own.extend(more.iter().zip(&items).map(|(a, b)| a ^ b)),
-                most: count + other.min(count),
-            },
-        );
-        is_changed(
-            &items,
-            Change {
-                name: "extend by some",
-                row: &|row| row.extend(more.iter().copied().filter(|item| item % 3 > 0)),
-                own: &|own| own.extend(more.iter().filter(|item| **item % 3 > 0)),
-                most: count + other,
-            },
-        );
-        is_changed(
-            &items,
-            Change {
-                name: "truncate",
-                row: &|row| {
-                    row.truncate(other);
-                    Ok(())
-                },
-                own: &|own| own.truncate(other),
-                most: count,
-            },
-        );
+        let (sum, pairs) = (count + other, count + other.min(count));
+        changes! { &items;
+            |row| row.push(5), count + 1, count + count.max(4);
+            |row| row.resize(other, 5), count.max(other), count.max(other);
+            |row| row.extend_from_slice(&more), sum, sum;
+            |row| row.extend(more.iter().zip(&items).map(|(a, b)| a ^ b)), pairs, pairs;
+            |row| row.extend(more.iter().copied().filter(|item| item % 3 > 0)), sum, sum;
+            |row| { row.truncate(other); Ok::<_, RowError>(()) }, count, count;
+        }
     }
     let mut row = Row::from_slice(Global::Try, &[4_u64])
         .map_err(|_| ())

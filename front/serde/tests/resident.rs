@@ -1,6 +1,7 @@
 //! What damaged input makes resident. This is the one test of its process, whose memory it reads.
 #[path = "../../rust/tests/resident/peak.rs"]
 mod peak;
+use bincode::{ErrorKind, Options};
 use fixedbitset::FixedBitSet;
 use peak::stays_below;
 
@@ -44,6 +45,15 @@ fn a_claimed_length_makes_no_memory_resident() {
                     let read = bincode::deserialize::<FixedBitSet>(&bytes);
                     assert_eq!(read.is_ok(), bit == 3, "bit {bit}");
                 }
+            }),
+            ("a reader with a limit, and a claim of 2^32 bytes", &|| {
+                let mut bytes = with_length(66);
+                bytes[8..16].copy_from_slice(&(1_u64 << 32).to_le_bytes());
+                let form = bincode::options()
+                    .with_limit(1 << 20)
+                    .with_fixint_encoding();
+                let read = form.deserialize_from::<_, FixedBitSet>(&bytes[..]);
+                assert!(read.is_err_and(|error| matches!(*error, ErrorKind::SizeLimit)));
             }),
             ("JSON that claims 2^32 positions", &|| {
                 let set: FixedBitSet =
