@@ -8,7 +8,6 @@ import contextlib
 import fcntl
 import filecmp
 import os
-import pathlib
 import re
 import shutil
 import subprocess
