@@ -33,12 +33,17 @@ def kit():
 
 
 @functools.cache
+def kit_texts_sum():
+    """A sum of the texts that name the kit and its libraries, which are the same on each machine that has it."""
+    texts = [kit() / name for name in KIT_TEXTS] + sorted((kit() / "rlibs").glob("*/format"))
+    return sum_of(part for it in texts for part in (str(it.relative_to(kit())), it.read_bytes()))
+
+
+@functools.cache
 def kit_sum():
     """A sum of the kit: the texts that name it, and the size and time of each file that a check reads. The other files of
     its libraries are held to the sum in their `format`."""
-    top, digest = kit(), hashlib.sha256()
-    for name in KIT_TEXTS:
-        digest.update((top / name).read_bytes())
+    top, digest = kit(), hashlib.sha256(kit_texts_sum().encode())
     paths = [path for folder in KIT_FOLDERS for path in files_below(top / folder)]
     for rlib in sorted((top / "rlibs").iterdir()):
         paths += [rlib / "format", *files_below(rlib / "toolchain")]

@@ -116,8 +116,8 @@ class Plan:
     def proofs(self):
         return Stage("proofs and programs", (f"{SCRIPTS}/proofs",), keeps=True)
 
-    def edits(self, log, folder, lanes):
-        words = ("--proved", "--lanes", str(lanes), "--beside", log, "--from", folder)
+    def edits(self, log, folder, lanes, sums):
+        words = ("--proved", "--lanes", str(lanes), "--beside", log, "--from", folder, "--sums", sums)
         names = () if self.is_whole else self.names
         return Stage("wrong bodies", ("tools/mutants/edits", *words, *names), keeps=True)
 

@@ -7,7 +7,7 @@ from unittest import mock
 
 from kept import Kept
 from small_project import SIZES, SOURCE, write, write_edit
-from wrong_bodies import crates, keys, rounds
+from wrong_bodies import crates, keys, rounds, tracked
 
 # (LINE is where the wrong body of `next` stands in the copy.)
 REFUSES = "note: src/lib.rt:LINE:1: it is not proved that what it ensures holds\nfn numbers::next_edit0: not proved\nonly=1\n"
@@ -90,17 +90,23 @@ class Tries:
         assert text.count(old) == 1, (path, old)
         (self.top / path).write_text(text.replace(old, new))
 
-    def run(self, *said, store=None, beside=None):
-        """How many checks a run made where they say these texts in turn, and what it told."""
+    def run(self, *said, store=None, beside=None, sums=None, drawn=()):
+        """How many checks a run made where they say these texts in turn, and what it told. It leaves the sums of what was refused."""
         for it in (keys.sum_of_text, keys.format_of, keys.library_read_above):
             it.cache_clear()
         project, checks = crates.Project(self.top, self.top / "edits"), StandIn(said)
-        verdicts = keys.Verdicts(project, store or self.store)
+        verdicts = keys.Verdicts(project, store or self.store, sums, notes=True)
         runner = rounds.Runner(checks, verdicts, 1, are_proved=True, beside=beside)
+        runner.drawn = drawn
         with contextlib.redirect_stdout(io.StringIO()) as told:
             runner.try_all([project.crates["numbers"].edits()])
             runner.told.finish()
+        self.sums = verdicts.refused
         return checks.made, told.getvalue()
+
+    def run_tracked(self, *said, **how):
+        """The same over the sums that the run before left, and over nothing that was kept."""
+        return self.run(*said, store=Kept(anew=True), sums=dict(self.sums), **how)
 
     def entries(self):
         return [it for it in (self.top / "store").iterdir() if it.is_file()]
@@ -119,6 +125,8 @@ def tries(kept=True):
 def check_kept(counts):
     check_changes(counts)
     check_stubs(counts)
+    check_tracked(counts)
+    check_file(counts)
     check_what_is_not_kept(counts)
     check_entries(counts)
     check_store(counts)
@@ -129,11 +137,11 @@ def check_changes(counts):
     for name, path, old, new in TRIED_AGAIN:
         with tries() as it:
             it.change(path, old, new)
-            counts.compare(f"tried again: {name}", it.run(REFUSES)[0], 1)
+            counts.compare(f"tried again: {name}", [it.run_tracked(REFUSES)[0], it.run(REFUSES)[0]], [1, 1])
     for name, path, old, new in NOT_TRIED_AGAIN:
         with tries() as it:
             it.change(path, old, new)
-            counts.compare(f"not tried again: {name}", it.run(REFUSES)[0], 0)
+            counts.compare(f"not tried again: {name}", [it.run_tracked(REFUSES)[0], it.run(REFUSES)[0]], [0, 0])
 
 
 def check_stubs(counts):
@@ -141,8 +149,53 @@ def check_stubs(counts):
     with tries() as it:
         with mock.patch("kept.kit_sum", lambda: "another kit"):
             counts.compare("tried again: the kit", it.run(REFUSES)[0], 1)
+            counts.compare("not tried again: the times of the kit's files, by the sums of the checkout", it.run_tracked()[0], 0)
+        with mock.patch("kept.kit_texts_sum", lambda: "another kit"):
+            counts.compare("tried again: the texts of the kit", it.run_tracked(REFUSES)[0], 1)
         with mock.patch.object(keys, "sum_of_script", lambda: "another script"):
-            counts.compare("tried again: the script", it.run(REFUSES)[0], 1)
+            counts.compare("tried again: the script", [it.run_tracked(REFUSES)[0], it.run(REFUSES)[0]], [1, 1])
+
+
+def check_tracked(counts):
+    """Runs over the sums that the checkout has."""
+    with tries() as it:
+        wanted = f"numbers/next-stands: {rounds.TRACKED}\nkept: 0 of 1 verdicts, tracked: 1, tried in this run: 0\n1 passed, 0 failed\n"
+        counts.compare("a tracked verdict", it.run_tracked(), (0, wanted))
+        counts.compare("it is tracked again", sorted(it.sums), ["numbers/next-stands"])
+        made, told = it.run_tracked(SAYS_NOTHING, IS_PROVED, drawn=["numbers/next-stands"])
+        counts.compare("a tracked edit that is drawn is tried", made, 2)
+        counts.report("and one that is proved is told", "" if "next-stands: NOT REFUSED" in told else told)
+        counts.compare("and no longer tracked", it.sums, {})
+    with tries(kept=False) as it:
+        it.run(SAYS_NOTHING, "note: src/lib.rt:9:1: it is not proved that it holds\nlogic=not-proved")
+        counts.compare("an edit that is refused alone is not tracked", it.sums, {})
+        it.run()
+        counts.compare("nor where that is kept", it.sums, {})
+    with tries(kept=False) as it:
+        (it.top / RLIB / "format").unlink()
+        it.run(REFUSES)
+        counts.compare("nothing is tracked where a library is not built", it.sums, {})
+
+
+def check_file(counts):
+    """The file of the sums, and what is drawn of it."""
+    sums = {"halves/a": "1", "numbers/b": "2", "numbers/c": "3"}
+    text = tracked.text_with(sums, {"numbers"}, {"numbers/c": "4"})
+    counts.compare("of other crates the sums stay", text, "halves/a: 1\nnumbers/c: 4\n")
+    with tempfile.TemporaryDirectory() as folder:
+        top = pathlib.Path(folder)
+        made, own = top / "made", top / tracked.FILE
+        counts.compare("no file has no sums", tracked.read(mock.Mock(top=top)), {})
+        write(made, text)
+        counts.report("new sums are told", "" if tracked.told_where_new(top, made) else "nothing is told")
+        counts.compare("and stand in out/", (top / tracked.NEW).read_text(), text)
+        write(own, text)
+        counts.compare("the file is read", tracked.read(mock.Mock(top=top)), {"halves/a": "1", "numbers/c": "4"})
+        counts.compare("the same sums are not told", tracked.told_where_new(top, made), "")
+        counts.compare("nothing is told where no run made any", tracked.told_where_new(top, top / "none"), "")
+    many = {str(it): "" for it in range(200)}
+    counts.compare("so many are drawn", len(tracked.drawn(many, 1)), tracked.DRAWN)
+    counts.compare("the same start draws the same", tracked.drawn(many, 7), tracked.drawn(many, 7))
 
 
 def check_what_is_not_kept(counts):
@@ -203,7 +256,7 @@ def check_runs_over_kept(counts):
         counts.compare("--anew takes nothing", it.run(REFUSES, store=Kept(anew=True))[0], 1)
     with tries() as it:
         wanted = "numbers/next-stands: refused: src/lib.rt:9: it is not proved that what it ensures holds\n"
-        counts.compare("a kept verdict", it.run(), (0, wanted + "kept: 1 of 1 verdicts, tried in this run: 0\n1 passed, 0 failed\n"))
+        counts.compare("a kept verdict", it.run(), (0, wanted + "kept: 1 of 1 verdicts, tracked: 0, tried in this run: 0\n1 passed, 0 failed\n"))
         it.change(SOURCE_PATH, "//! A few functions to edit.", "//! A few functions\n//! to edit.")
         told = it.run()[1]
         counts.report("its goal has the line where it stands now", "" if "src/lib.rt:10: " in told else told)

@@ -1,4 +1,4 @@
-"""The verdicts of earlier runs on this machine, and what a verdict rests on: its key is the sum of all that."""
+"""The verdicts of earlier runs, and what a verdict rests on: its key is the sum of all that."""
 import functools
 import pathlib
 import re
@@ -13,60 +13,95 @@ import kept  # noqa: E402
 # The lines of a library's `format` that change with each body, here or below, or with how it was built: sums of its files, and
 # what it has of the libraries below it.
 SUMS = re.compile(r"(?m)^(?:checked|sum|needs|over|carries|incremental)\b.*\n?")
+# How many digits of a sum the checkout has.
+SUM_DIGITS = 16
 
 
 class Verdicts:
-    """Keeps that an edit is refused, and nothing else: what is not refused, or not known, is tried again by each run."""
-    def __init__(self, project, store):
-        self.project, self.store = project, store
+    """Keeps that an edit is refused, and nothing else: what is not refused, or not known, is tried again by each run.
+
+    store     what earlier runs on this machine kept
+    tracked   of edits that a round refused, by their names, the sum of what each verdict rests on, as the checkout has it
+    refused   the same, of the edits that this run knows to be refused, if it `notes` them
+    """
+    def __init__(self, project, store, tracked=None, notes=False):
+        self.project, self.store, self.tracked, self.notes, self.refused = project, store, tracked or {}, notes, {}
 
     def kept(self, edit):
-        """What an earlier run said of the same edit, which was refused, or None."""
+        """What an earlier run on this machine said of the same edit, which was refused, or None."""
         if not self.store.is_usable:
             return None
         for key_of in (self.key_in_round, self.key_alone):
             key = key_of(edit)
             value = self.store.get(key) if key else None
-            if value and value.get("edit") == f"{edit.crate.name}/{edit.name}":
+            if value and value.get("edit") == name_of(edit):
+                if key_of == self.key_in_round:
+                    self.note(edit)
                 return moved(edit, value["why"], first_line(edit) - value["first_line"])
         return None
 
+    def is_tracked(self, edit):
+        """Whether the checkout has the sum of what the verdict of this edit rests on: then it is refused."""
+        own = self.tracked.get(name_of(edit))
+        return own is not None and own == self.tracked_sum(edit) and self.note(edit)
+
     def keep(self, edit, why, is_alone=False):
-        if not self.store.is_usable:
+        if not self.libraries_are_as_read(edit.crate):
             return
-        key = self.key_alone(edit) if is_alone else self.key_in_round(edit)
-        if key and self.libraries_are_as_read(edit.crate):
-            value = {"edit": f"{edit.crate.name}/{edit.name}", "why": why, "first_line": first_line(edit)}
-            self.store.put(key, value)
+        if not is_alone:
+            self.note(edit)
+        key_of = self.key_alone if is_alone else self.key_in_round
+        if self.store.is_usable and (key := key_of(edit)):
+            self.store.put(key, {"edit": name_of(edit), "why": why, "first_line": first_line(edit)})
+
+    def note(self, edit):
+        """Notes that this run knows the edit to be refused. (Where a library below is not built, its sum is not known.)"""
+        if self.notes and (sum := self.tracked_sum(edit)):
+            self.refused[name_of(edit)] = sum
+        return True
+
+    @functools.cache
+    def tracked_sum(self, edit):
+        """The sum of what the verdict of this edit in a round rests on, of which each machine with this kit has the same."""
+        key = self.key("tracked", edit, self.texts_in_round(edit), library_read_above, kept.kit_texts_sum())
+        return key and key[:SUM_DIGITS]
 
     @functools.cache
     def key_in_round(self, edit):
-        """The sum of the copy that a round of this edit by itself would check, of all that a check reads beside it, and of
-        this script."""
+        """The sum of what a round of this edit by itself rests on."""
+        return self.key("in a round", edit, self.texts_in_round(edit), library_read_above, kept.kit_sum())
+
+    @functools.cache
+    def texts_in_round(self, edit):
+        """The copy that a round of this edit by itself would check."""
         copy = copies.copy_of([edit])
-        texts = [sum_of_text(path, text) for path, text in sorted(copy.files().items())]
-        return self.key("in a round", edit, [*sorted(copy.only), *texts], library_read_above)
+        return [*sorted(copy.only), *(sum_of_text(path, text) for path, text in sorted(copy.files().items()))]
 
     @functools.cache
     def key_alone(self, edit):
         """The sum of the crate with this edit in it, and of all libraries below it as they are."""
         texts = {**edit.crate.sources, **edit.applied({})}
         parts = [part for path, text in sorted(texts.items()) for part in (path, text)]
-        return self.key("alone", edit, parts, library_as_it_is)
+        return self.key("alone", edit, parts, library_as_it_is, kept.kit_sum())
 
-    def key(self, kind, edit, texts, read):
-        """The key of an edit, or None where a library below its crate is not built."""
+    def key(self, kind, edit, texts, read, kit):
+        """The sum of these texts, of the kit, of all that a check reads beside them, and of this script. None where a library below
+        the edit's crate is not built."""
         below = sorted(self.project.below(edit.crate), key=lambda crate: crate.name)
         libraries = [read(crate) for crate in below]
         if None in libraries:
             return None
         lines = [crate.line for crate in (edit.crate, *below)]
         judging = [edit.name, str(edit.changes_several), *sorted(edit.symbols), *sorted(edit.reach or ())]
-        return kept.sum_of([kind, kept.kit_sum(), sum_of_script(), *lines, *judging, *texts, *libraries])
+        return kept.sum_of([kind, kit, sum_of_script(), *lines, *judging, *texts, *libraries])
 
     def libraries_are_as_read(self, crate):
         """Whether no library below was built anew since a key was made of it."""
         return all(format_of(library) == read_format(library) for library in self.project.below(crate))
+
+
+def name_of(edit):
+    return f"{edit.crate.name}/{edit.name}"
 
 
 def first_line(edit):

@@ -4,9 +4,10 @@ import threading
 import time
 from concurrent.futures import FIRST_COMPLETED, ThreadPoolExecutor, wait
 
-from . import bounded, copies, naming, together, verdicts
+from . import bounded, copies, keys, naming, together, verdicts
 
 BAD = "BAD EDIT: a text behind 'old:' is not in its file exactly once"
+TRACKED = "refused, as tools/mutants/refused has it"
 # The most edits of a round.
 MOST = 200
 # A crate that `rt ci` has proved is checked once more where it has more edits that each have a round of their own.
@@ -16,14 +17,15 @@ ROUNDS_THAT_GAIN = 2
 class Told:
     """What was told of the edits."""
     def __init__(self):
-        self.refused, self.others, self.kept, self.tried, self.at_bounds, self.rights = 0, 0, 0, 0, 0, 0
+        self.refused, self.others, self.kept, self.tracked, self.tried, self.at_bounds, self.rights = 0, 0, 0, 0, 0, 0, 0
         self.lock = threading.Lock()
 
     def tell(self, edit, is_refused, why, is_kept=False, is_tried=False):
         with self.lock:
             self.refused += is_refused
             self.others += not is_refused
-            self.kept += is_kept
+            self.kept += is_kept and why != TRACKED
+            self.tracked += why == TRACKED
             self.tried += is_tried
             self.at_bounds += why.startswith("refused at a bound")
             print(f"{edit.crate.name}/{edit.name}: {why}", flush=True)
@@ -41,7 +43,7 @@ class Told:
         count = self.refused + self.others
         if self.at_bounds:
             print(f"refused at a bound: {self.at_bounds}")
-        print(f"kept: {self.kept} of {count} verdicts, tried in this run: {self.tried}")
+        print(f"kept: {self.kept} of {count} verdicts, tracked: {self.tracked}, tried in this run: {self.tried}")
         print(f"{self.refused + self.rights} passed, {self.others} failed")
         return 1 if self.others else 0
 
@@ -148,10 +150,11 @@ class Runner:
     by_goal  whether an edit is first tried by the goal alone that its file names
     names    whether each file gets the name of the goal that refuses its edit
     rights   the right bodies to try beside the edits that they are for
+    drawn    the names of the edits to try though the checkout has their verdicts
     """
     def __init__(self, checks, kept, lanes, are_proved=False, beside=None, by_goal=True, names=False):
         self.checks, self.kept, self.are_proved, self.beside = checks, kept, are_proved, beside
-        self.by_goal, self.names, self.rights = by_goal, names, []
+        self.by_goal, self.names, self.rights, self.drawn = by_goal, names, [], ()
         self.pool, self.told = ThreadPoolExecutor(lanes), Told()
 
     def try_all(self, groups, most=MOST):
@@ -172,7 +175,7 @@ class Runner:
                 if not verdicts.is_proved(said):
                     return self.tell_unproved(edits, said.strip()[-200:])
             self.tell_known(known)
-            rights = [right for right in self.rights if right.edit in left]
+            rights = [right for right in self.rights if right.edit in edits and known.get(right.edit, TRACKED) == TRACKED]
             return self.try_in_rounds([*left, *rights], work, most, keeps)
 
     def those_to_judge(self, edits):
@@ -187,8 +190,12 @@ class Runner:
         return [edit for edit in edits if not edit.is_bad]
 
     def known(self, edits):
-        """What earlier runs said of those of these edits that they refused."""
-        return {edit: why for edit in edits if (why := self.kept.kept(edit)) is not None}
+        """What earlier runs said of those of these edits that they refused, here or as the checkout has it."""
+        return {edit: why for edit in edits if (why := self.kept.kept(edit) or self.tracked(edit))}
+
+    def tracked(self, edit):
+        """What is said of an edit whose verdict the checkout has, or None where that is tried anyway."""
+        return TRACKED if keys.name_of(edit) not in self.drawn and self.kept.is_tracked(edit) else None
 
     def tell_known(self, known):
         for edit, why in known.items():
