@@ -157,7 +157,7 @@ def change(it):
     if name == "changed":
         it.parameters.append("changed: &mut bool")
         changed = (name, f"changed.new ≡ (if result then {answer} else changed.old)")
-        tail = ", writes to `changed` whether a position was added, and returns `true`. Returns `false`, changes nothing, and writes " \
+        tail = ", writes to `changed` whether the first set changed, and returns `true`. Returns `false`, changes nothing, and writes " \
                f"nothing to `changed`, if {it.test.refused}."
         return it.text("bool", [*clauses, changed, same], it.tested(f"*changed = {it.call};"), tail)
     tail = f"{',' * (',' in it.docs)} and returns `true`; returns `false` and changes nothing if {it.test.refused}."

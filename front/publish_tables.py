@@ -193,7 +193,8 @@ SET_RESULTS = {
 # with room saves no registers.
 TRIED = {"clone_from", "extend", "from_iter", "grow_and_insert"}
 # Calls that go over words and are no part of the program of each that makes them.
-OUTLINED = {"union_with", "symmetric_difference_with", "union_with_change", "union_with_difference"}
+OUTLINED = {"union_with", "symmetric_difference_with", "union_with_change", "symmetric_difference_with_change",
+            "union_with_difference"}
 # The calls of views that a set in an array has by their names. The others it has by its views.
 ARRAYS = set("as_slice contains insert remove put take toggle set count_ones insert_range remove_range minimum maximum is_clear next_one "
              "next_zero ones zeroes first_gap union_with intersect_with difference_with symmetric_difference_with union_with_change "

@@ -323,6 +323,7 @@ CALL(toggled_range, bits set = good(70); bits_toggle_range(&set, 0, 71))
 CALL(longer, bits set = good(70), other = BITS_OF(words, 71); bits_union_with(&set, &other))
 CALL(longer_of_one, bits set = good(70), other = BITS_OF(words, 71); bits_symmetric_difference_with(&set, &other))
 CALL(longer_change, bits set = good(70), other = BITS_OF(words, 71); bits_union_with_change(&set, &other, &changed))
+CALL(longer_xor, bits set = good(70), other = BITS_OF(words, 71); bits_symmetric_difference_with_change(&set, &other, &changed))
 CALL(longer_gens, bits set = good(70), other = BITS_OF(words, 71); bits_union_with_difference(&set, &other, &other, &changed))
 CALL(copied_to_few, bits to = {words, 2, 70}, set = good(70); bits_copy(&to, &set))
 CALL(union_of_another, bits to = BITS_OF(words, 70), set = good(70), other = BITS_OF(words + 4, 71);
@@ -520,6 +521,7 @@ static const struct {
     {longer, "bits_union_with: `other->length` is 71, which is more than 70", 2},
     {longer_of_one, "bits_symmetric_difference_with: `other->length` is 71, which is more than 70", 2},
     {longer_change, "bits_union_with_change: `other->length` is 71, which is more than 70", 2},
+    {longer_xor, "bits_symmetric_difference_with_change: `other->length` is 71, which is more than 70", 2},
     {longer_gens, "bits_union_with_difference: `gens->length` is 71, which is more than 70", 2},
     {copied_to_few, "bits_copy: `to->count` is 2, and has to be 4", 2},
     {union_of_another, "bits_union_of: `to->length` is 70, and has to be 71", 2},

@@ -445,6 +445,9 @@ size_t bits_first_gap(const bits *set, size_t count, size_t from) BITS_SYMBOL(bi
  * or BITS_NONE; BITS_NONE too if the range is not valid. The only multiple of 0 is 0. */
 size_t bits_first_aligned_gap(const bits *set, size_t count, size_t align, size_t start, size_t end)
     BITS_SYMBOL(bits_first_aligned_gap);
+/* Returns the greatest number from which `count` consecutive positions are clear, all below `below` and below the length, or
+ * BITS_NONE. */
+size_t bits_last_gap(const bits *set, size_t count, size_t below) BITS_SYMBOL(bits_last_gap);
 /* Returns the greatest position below `below` that is set, or BITS_NONE. */
 size_t bits_previous_one(const bits *set, size_t below) BITS_SYMBOL(bits_previous_one);
 /* Returns the greatest position below `below` and below the length that is not set, or BITS_NONE. */
@@ -485,14 +488,19 @@ BITS_NODISCARD bool bits_symmetric_difference_with(bits *set, const bits *other)
 void bits_intersect_with(bits *set, const bits *other) BITS_SYMBOL(bits_intersect_with);
 /* Leaves the positions of the first set that the second lacks (difference). The length of the first set stays. */
 void bits_difference_with(bits *set, const bits *other) BITS_SYMBOL(bits_difference_with);
-/* Adds the positions of the second set (union), writes to `changed` whether a position was added, and returns true. Returns
+/* Adds the positions of the second set (union), writes to `changed` whether the first set changed, and returns true. Returns
  * false, changes nothing, and writes nothing to `changed`, if the second set is longer than the first. */
 BITS_NODISCARD bool bits_union_with_change(bits *set, const bits *other, bool *changed) BITS_SYMBOL(bits_union_with_change);
+/* Leaves the positions that are in exactly one of the sets (xor), writes to `changed` whether the first set changed, and
+ * returns true. Returns false, changes nothing, and writes nothing to `changed`, if the second set is longer than the
+ * first. */
+BITS_NODISCARD bool bits_symmetric_difference_with_change(bits *set, const bits *other, bool *changed)
+    BITS_SYMBOL(bits_symmetric_difference_with_change);
 /* Like bits_intersect_with, and returns whether a position was removed. */
 bool bits_intersect_with_change(bits *set, const bits *other) BITS_SYMBOL(bits_intersect_with_change);
 /* Like bits_difference_with, and returns whether a position was removed. */
 bool bits_difference_with_change(bits *set, const bits *other) BITS_SYMBOL(bits_difference_with_change);
-/* Adds the positions of `gens` that `kills` lacks, writes to `changed` whether a position was added, and returns true.
+/* Adds the positions of `gens` that `kills` lacks, writes to `changed` whether the first set changed, and returns true.
  * Returns false, changes nothing, and writes nothing to `changed`, if `gens` is longer than the first set. */
 BITS_NODISCARD bool bits_union_with_difference(bits *set, const bits *gens, const bits *kills, bool *changed)
     BITS_SYMBOL(bits_union_with_difference);

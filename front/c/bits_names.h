@@ -51,6 +51,7 @@
 #define bits_nth_one fixedbitset_bits_nth_one
 #define bits_first_gap fixedbitset_bits_first_gap
 #define bits_first_aligned_gap fixedbitset_bits_first_aligned_gap
+#define bits_last_gap fixedbitset_bits_last_gap
 #define bits_previous_one fixedbitset_bits_previous_one
 #define bits_previous_zero fixedbitset_bits_previous_zero
 #define bits_is_clear fixedbitset_bits_is_clear
@@ -68,6 +69,7 @@
 #define bits_intersect_with fixedbitset_bits_intersect_with
 #define bits_difference_with fixedbitset_bits_difference_with
 #define bits_union_with_change fixedbitset_bits_union_with_change
+#define bits_symmetric_difference_with_change fixedbitset_bits_symmetric_difference_with_change
 #define bits_intersect_with_change fixedbitset_bits_intersect_with_change
 #define bits_difference_with_change fixedbitset_bits_difference_with_change
 #define bits_union_with_difference fixedbitset_bits_union_with_difference
@@ -209,6 +211,7 @@
 #undef bits_nth_one
 #undef bits_first_gap
 #undef bits_first_aligned_gap
+#undef bits_last_gap
 #undef bits_previous_one
 #undef bits_previous_zero
 #undef bits_is_clear
@@ -226,6 +229,7 @@
 #undef bits_intersect_with
 #undef bits_difference_with
 #undef bits_union_with_change
+#undef bits_symmetric_difference_with_change
 #undef bits_intersect_with_change
 #undef bits_difference_with_change
 #undef bits_union_with_difference

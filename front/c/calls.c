@@ -95,6 +95,9 @@ static void pairs(void) {
     assert(!bits_union_with_change(&a, &b, &changed) && changed && bits_count_ones(&a, 0, 10) == 2);
     assert(bits_union_with_change(&c, &b, &changed) && changed && bits_count_ones(&c, 0, 70) == 3);
     assert(bits_union_with_change(&c, &b, &changed) && !changed && bits_count_ones(&c, 0, 70) == 3);
+    assert(!bits_symmetric_difference_with_change(&a, &b, &changed) && !changed && bits_count_ones(&a, 0, 10) == 2);
+    assert(bits_symmetric_difference_with_change(&c, &b, &changed) && changed && bits_count_ones(&c, 0, 70) == 2);
+    assert(bits_symmetric_difference_with_change(&c, &b, &changed) && changed && bits_count_ones(&c, 0, 70) == 3);
     assert(bits_intersect_with_change(&c, &b) && !bits_intersect_with_change(&c, &b) && bits_equal(&c, &b));
     assert(bits_difference_with_change(&c, &b) && !bits_difference_with_change(&c, &b) && bits_is_clear(&c));
     assert(bits_first_lacking(&a, &b) == BITS_NONE && bits_first_lacking(&b, &a) == 1 && bits_first_lacking(&c, &b) == 3);
@@ -299,6 +302,7 @@ static void walks(void) {
     assert(bits_first_gap(&b, 0, 71) == 71 && bits_first_gap(&b, 0, 72) == BITS_NONE && bits_first_gap(&b, 1, 71) == BITS_NONE);
     assert(bits_first_gap(&b, 0, SIZE_MAX) == BITS_NONE && bits_first_gap(&b, SIZE_MAX, 0) == BITS_NONE);
     assert(bits_first_gap(&b, 3, 0) == 4 && bits_first_gap(&b, 66, 0) == BITS_NONE);
+    assert(bits_last_gap(&b, 0, SIZE_MAX) == 71 && bits_last_gap(&b, 3, 69) == 66 && bits_last_gap(&b, 66, 71) == BITS_NONE);
     assert(bits_first_aligned_gap(&b, 3, 8, 0, 71) == 8 && bits_first_aligned_gap(&b, 5, 8, 9, 24) == 16);
     assert(bits_first_aligned_gap(&b, 3, 8, 9, 18) == BITS_NONE && bits_first_aligned_gap(&b, 1, 8, 9, 72) == BITS_NONE);
     assert(bits_ones_in(&walk, &b, 3, 70));

@@ -311,6 +311,10 @@ static void gap(one *it) {
     while (at <= it->set.length && clear[at] < count)
         at++;
     HOLDS(bits_first_gap(&it->set, count, from) == (at <= it->set.length ? at : BITS_NONE));
+    size_t last = (from < it->set.length ? from : it->set.length) + 1, stop = last - 1;
+    while (last > 0 && (clear[last - 1] < count || count > stop - (last - 1)))
+        last--;
+    HOLDS(bits_last_gap(&it->set, count, from) == (last > 0 ? last - 1 : BITS_NONE));
     while (aligned <= end && (clear[aligned] < count || count > end - aligned || (align ? aligned % align : aligned)))
         aligned++;
     HOLDS(bits_first_aligned_gap(&it->set, count, align, start, end) == (aligned <= end ? aligned : BITS_NONE));
@@ -373,8 +377,8 @@ static void ranks(one *it) {
 
 static void changes_by_other(one *it, const one *other) {
     const bool fits = other->set.length <= it->set.length;
-    const unsigned kind = byte() % 7;
-    bool changed = kind == 1, answer = true;
+    const unsigned kind = byte() % 8;
+    bool changed = kind == 1 || kind == 7, answer = true;
     const one old = *it;
     switch (kind) {
     case 0: answer = bits_union_with(&it->set, &other->set) == fits; break;
@@ -383,18 +387,19 @@ static void changes_by_other(one *it, const one *other) {
     case 3: bits_intersect_with(&it->set, &other->set); break;
     case 4: changed = bits_intersect_with_change(&it->set, &other->set); break;
     case 5: bits_difference_with(&it->set, &other->set); break;
-    default: changed = bits_difference_with_change(&it->set, &other->set);
+    case 6: changed = bits_difference_with_change(&it->set, &other->set); break;
+    default: answer = bits_symmetric_difference_with_change(&it->set, &other->set, &changed) == fits;
     }
     HOLDS(answer);
     bool differs = false;
     for (size_t p = 0; p < it->set.length; p++) {
         const bool a = old.has[p], b = has(other, p);
-        const bool joined[] = {a || b, a || b, a != b, a && b, a && b, a && !b, a && !b};
-        const bool now = kind < 3 && !fits ? a : joined[kind];
+        const bool joined[] = {a || b, a || b, a != b, a && b, a && b, a && !b, a && !b, a != b};
+        const bool now = (kind < 3 || kind == 7) && !fits ? a : joined[kind];
         differs |= now != a;
         it->has[p] = now;
     }
-    HOLDS(kind == 1 ? changed == (differs || !fits) : kind == 4 || kind == 6 ? changed == differs : !changed);
+    HOLDS(kind == 1 || kind == 7 ? changed == (differs || !fits) : kind == 4 || kind == 6 ? changed == differs : !changed);
 }
 
 static void shifted(one *it, const one *other) {

@@ -277,6 +277,10 @@ impl FixedBitSet {
         position(unsafe { bits_first_aligned_gap(&self.lent(), count, align, range.start, range.end) })
     }
 
+    pub fn last_gap(&self, count: usize, below: usize) -> Option<usize> {
+        position(unsafe { bits_last_gap(&self.lent(), count, below) })
+    }
+
     pub fn previous_one(&self, below: usize) -> Option<usize> {
         position(unsafe { bits_previous_one(&self.lent(), below) })
     }
@@ -343,6 +347,13 @@ impl FixedBitSet {
         self.grow(other.length);
         let mut changed = false;
         assert!(unsafe { bits_union_with_change(&mut self.lent_mut(), &other.lent(), &mut changed) });
+        changed
+    }
+
+    pub fn symmetric_difference_with_change(&mut self, other: &Self) -> bool {
+        self.grow(other.length);
+        let mut changed = false;
+        assert!(unsafe { bits_symmetric_difference_with_change(&mut self.lent_mut(), &other.lent(), &mut changed) });
         changed
     }
 

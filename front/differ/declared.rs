@@ -105,6 +105,7 @@ of_archive! {
     pub fn bits_nth_one(set: &Lent, index: usize) -> usize;
     pub fn bits_first_gap(set: &Lent, count: usize, from: usize) -> usize;
     pub fn bits_first_aligned_gap(set: &Lent, count: usize, align: usize, start: usize, end: usize) -> usize;
+    pub fn bits_last_gap(set: &Lent, count: usize, below: usize) -> usize;
     pub fn bits_previous_one(set: &Lent, below: usize) -> usize;
     pub fn bits_previous_zero(set: &Lent, below: usize) -> usize;
     pub fn bits_is_clear(set: &Lent) -> bool;
@@ -122,6 +123,7 @@ of_archive! {
     pub fn bits_intersect_with(set: &mut Lent, other: &Lent);
     pub fn bits_difference_with(set: &mut Lent, other: &Lent);
     pub fn bits_union_with_change(set: &mut Lent, other: &Lent, changed: &mut bool) -> bool;
+    pub fn bits_symmetric_difference_with_change(set: &mut Lent, other: &Lent, changed: &mut bool) -> bool;
     pub fn bits_intersect_with_change(set: &mut Lent, other: &Lent) -> bool;
     pub fn bits_difference_with_change(set: &mut Lent, other: &Lent) -> bool;
     pub fn bits_union_with_difference(set: &mut Lent, gens: &Lent, kills: &Lent, changed: &mut bool) -> bool;

@@ -38,6 +38,7 @@ const MADE: Calls = &[
     |_, s, t, _| { s.intersect_with(t); }, // intersect_with
     |_, s, t, _| { s.difference_with(t); }, // difference_with
     |w, s, t, _| { let told = s.union_with_change(t); w.say(told as u64); }, // union_with_change
+    |w, s, t, _| { let told = s.symmetric_difference_with_change(t); w.say(told as u64); }, // symmetric_difference_with_change
     |w, s, t, _| { let told = s.intersect_with_change(t); w.say(told as u64); }, // intersect_with_change
     |w, s, t, _| { let told = s.difference_with_change(t); w.say(told as u64); }, // difference_with_change
     |w, s, t, u| { let told = s.union_with_difference(t, u); w.say(told as u64); }, // union_with_difference
@@ -68,6 +69,7 @@ const MADE: Calls = &[
     |w, s, t, _| { let from = w.near(s.len()); let told = s.next_common(t, from); w.say_if(told); }, // next_common
     |w, s, _, _| { let index = w.near(s.len()); let told = s.nth_one(index); w.say_if(told); }, // nth_one
     |w, s, _, _| { let count = w.near(s.len() / 4); let from = w.near(s.len()); let told = s.first_gap(count, from); w.say_if(told); }, // first_gap
+    |w, s, _, _| { let count = w.near(s.len() / 4); let below = w.near(s.len()); let told = s.last_gap(count, below); w.say_if(told); }, // last_gap
     |w, s, _, _| { let count = w.near(s.len() / 4); let align = w.near(9); let (start, end) = w.range(s.len()); let told = s.first_aligned_gap(count, align, start..end); w.say_if(told); }, // first_aligned_gap
     |w, s, _, _| { let below = w.near(s.len()); let told = s.previous_one(below); w.say_if(told); }, // previous_one
     |w, s, _, _| { let below = w.near(s.len()); let told = s.previous_zero(below); w.say_if(told); }, // previous_zero

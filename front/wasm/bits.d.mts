@@ -76,7 +76,9 @@ export interface FixedBitSet extends Iterable<number>, Disposable {
   ranks(): Ranks;
   /** The start of the first `count` positions in a row that are not in the set, at or past `from`, which may be any number. */
   first_gap(count: number, from?: number): number | undefined;
-  /** The same where it is a multiple of `align`, and all of the gap is in the range. The only multiple of 0 is 0. */
+  /** The start of the last `count` positions in a row that are not in the set, all below `below`, which may be any number. */
+  last_gap(count: number, below?: number): number | undefined;
+  /** The first gap at a multiple of `align`, all of it in the range. The only multiple of 0 is 0. */
   first_aligned_gap(count: number, align: number, start?: number, end?: number): number | undefined;
 
   /** Moves each position up; what is not below the length then falls away, and the length stays, here and in the next three. */
@@ -99,6 +101,7 @@ export interface FixedBitSet extends Iterable<number>, Disposable {
   symmetric_difference_with(other: FixedBitSet): void;
   /** These do the same, and answer whether a position came in or went. */
   union_with_change(other: FixedBitSet): boolean;
+  symmetric_difference_with_change(other: FixedBitSet): boolean;
   intersect_with_change(other: FixedBitSet): boolean;
   difference_with_change(other: FixedBitSet): boolean;
   /** Adds the positions of `gens` that `kills` lacks, and answers whether one came in. The set grows to the length of `gens`. */

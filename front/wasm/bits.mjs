@@ -186,6 +186,7 @@ export async function load(source) {
       each(found, "next_one next_zero previous_one previous_zero", from);
       each(found, "nth_one", number);
       each(found, "first_gap", (set, count, from = 0) => [word(count), room.sought(from)]);
+      each(found, "last_gap", (set, count, below = set.length) => [word(count), room.sought(below)]);
       each(found, "first_aligned_gap", (set, count, align, ...ends) => [word(count), word(align), ...range(set, ...ends)]);
       each(Boolean, "is_disjoint is_subset", another);
       each(Number, "compare", another);
@@ -193,7 +194,7 @@ export async function load(source) {
       each(nothing, "intersect_with difference_with", beside);
       each(Boolean, "intersect_with_change difference_with_change", beside);
       each(nothing, "union_with symmetric_difference_with", grown);
-      each(changed, "union_with_change", (set, other) => [...grown(set, other), change]);
+      each(changed, "union_with_change symmetric_difference_with_change", (set, other) => [...grown(set, other), change]);
       each(changed, "union_with_difference", (set, gens, kills) => set.#ours(kills) &&
         [...grown(set, gens), ...beside(set, kills), change]);
     }

@@ -84,6 +84,16 @@ pub extern "C" fn bits_first_aligned_gap(
     }
 }
 
+/// Returns the greatest number from which `count` consecutive positions are clear, all below
+/// `below` and below the length, or `NONE`.
+#[unsafe(no_mangle)]
+pub extern "C" fn bits_last_gap(set: &Bits<'_>, count: usize, below: usize) -> usize
+    ensures { result ≡ unwrap_or (stretches.last_gap (value set.now) count below) NONE }
+{
+    set.last_gap(count, below, &mut Steps::new())
+        .unwrap_or(NONE)
+}
+
 /// Returns the greatest position below `below` that is set, or `NONE`.
 #[unsafe(no_mangle)]
 pub extern "C" fn bits_previous_one(set: &Bits<'_>, below: usize) -> usize

@@ -67,7 +67,7 @@ pub extern "C" fn bits_difference_with(set: &mut BitsMut<'_>, other: &Bits<'_>)
     set.difference_with(*other, &mut Steps::new());
 }
 
-/// Adds the positions of the second set (union), writes to `changed` whether a position was added,
+/// Adds the positions of the second set (union), writes to `changed` whether the first set changed,
 /// and returns `true`. Returns `false`, changes nothing, and writes nothing to `changed`, if the
 /// second set is longer than the first.
 #[unsafe(no_mangle)]
@@ -85,6 +85,30 @@ pub extern "C" fn bits_union_with_change(
 {
     if other.length <= set.length {
         *changed = set.union_with_change(*other, &mut Steps::new());
+        true
+    } else {
+        false
+    }
+}
+
+/// Leaves the positions that are in exactly one of the sets (xor), writes to `changed` whether the
+/// first set changed, and returns `true`. Returns `false`, changes nothing, and writes nothing to
+/// `changed`, if the second set is longer than the first.
+#[unsafe(no_mangle)]
+pub extern "C" fn bits_symmetric_difference_with_change(
+    set: &mut BitsMut<'_>,
+    other: &Bits<'_>,
+    changed: &mut bool,
+) -> bool
+    ensures answer { result ≡ nat_le other.now.length set.old.length }
+    ensures value { held set.new ≡ (if result
+        then sets.symmetric_difference (held set.old) (value other.now) else held set.old) }
+    ensures changed { changed.new ≡ (if result
+        then not (model.is_clear (value other.now)) else changed.old) }
+    ensures same { set.new.words.ghost_name ≡ set.old.words.ghost_name }
+{
+    if other.length <= set.length {
+        *changed = set.symmetric_difference_with_change(*other, &mut Steps::new());
         true
     } else {
         false
@@ -111,9 +135,9 @@ pub extern "C" fn bits_difference_with_change(set: &mut BitsMut<'_>, other: &Bit
     set.difference_with_change(*other, &mut Steps::new())
 }
 
-/// Adds the positions of `gens` that `kills` lacks, writes to `changed` whether a position was
-/// added, and returns `true`. Returns `false`, changes nothing, and writes nothing to `changed`, if
-/// `gens` is longer than the first set.
+/// Adds the positions of `gens` that `kills` lacks, writes to `changed` whether the first set
+/// changed, and returns `true`. Returns `false`, changes nothing, and writes nothing to `changed`,
+/// if `gens` is longer than the first set.
 #[unsafe(no_mangle)]
 pub extern "C" fn bits_union_with_difference(
     set: &mut BitsMut<'_>,

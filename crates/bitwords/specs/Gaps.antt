@@ -1,9 +1,14 @@
 -- Numbers that pass a test and follow each other, and the first place with room for so many.
 use Rattle.std.specs.Prelude.{ℕ, suc, zero, ◌+◌, ◌-◌, ◌*◌, ◌/◌, ◌%◌, ◌==◌}
 use Rattle.std.specs.Prelude.{Bool, true, not, ◌&&◌, nat_le, nat_lt, if◌then◌else◌, Option, slice_get}
+use Rattle.std.specs.Int.{div_ceil}
+use Rattle.std.specs.declared.option.Option.TheVariants.{None}
+use Rattle.std.specs.List.{last_or}
 use Rattle.bitlanes.specs.Bits.{bit}
 use Rattle.bitlanes.specs.Words.{lane_steps}
 use Rattle.bitwords.specs.Ascending.{ascending}
+use Rattle.bitwords.specs.Rows.{count_below}
+use Rattle.bitwords.specs.Runs.{begins}
 use Rattle.bitwords.specs.Steps.{range_words}
 
 -- whether the k numbers from i on pass
@@ -38,3 +43,11 @@ aligned_steps align start end =
     if nat_lt 1 align
     then 2 * lane_steps (range_words start end) + (end - start) / align
     else lane_steps (range_words start end)
+
+-- the greatest number with so much room below the end
+unfoldable pub last_room : (ℕ → Bool) → (end count : ℕ) → Option ℕ
+last_room taken end count = last_or None (ascending (has_room_in taken end count) 0 (end + 1))
+
+-- the steps of such a search at most: two for each run that begins below the end, two more, and one for each word
+abbrev pub last_steps : (ℕ → Bool) → (end : ℕ) → ℕ
+last_steps taken end = 2 * (count_below (begins taken) end + 1) + div_ceil end 64

@@ -10,11 +10,12 @@ ghost use Rattle.bitlanes.specs.Bits.{bit};
 ghost use Rattle.bitlanes.specs.Word.{IsLowestBit};
 ghost use Rattle.bitlanes.specs.Words.{lane_steps};
 ghost use Rattle.bitwords.specs.Gaps.{has_run, is_multiple, first_room};
-ghost use Rattle.bitwords.specs.Gaps.{first_aligned_room, aligned_steps};
+ghost use Rattle.bitwords.specs.Gaps.{first_aligned_room, aligned_steps, last_room, last_steps};
 ghost use Rattle.bitwords.specs.Neighbours.{NonePasses, IsNext};
 ghost use Rattle.bitwords.specs.Rows.{has_bit};
 ghost use Rattle.bitwords.specs.Steps.{range_words};
 
+use crate::positions::previous;
 use bitlanes::Steps;
 use bitlanes::lanes::LANE;
 use bitlanes::ops::{And, AndNot, WordOp};
@@ -99,6 +100,38 @@ pub fn first_aligned(
             return Some(found);
         }
         at = next;
+    }
+}
+
+/// The greatest position with `count` positions from there on that are clear and below `end`, or
+/// `None` where there is none. The end may not be past the words.
+///
+/// It goes over the runs of clear positions, from the last one below `end` down to the one that is
+/// long enough. So it takes at most two steps for each run of positions that are set and begins
+/// below `end`, two more, and one for each word that has a position below `end`.
+///
+/// ```
+/// let mut steps = Steps::new();
+/// assert_eq!(rt; gaps::last(&[0xf0f, 1], 128, 4, &mut steps), Some(124));
+/// assert_eq!(rt; gaps::last(&[0xf0f, 1], 12, 4, &mut steps), Some(4));
+/// assert_eq!(rt; gaps::last(&[0xf0f, 1], 64, 53, &mut steps), None);
+/// ```
+#[inline]
+pub fn last(words: &[Block], end: usize, count: usize, steps: &mut Steps) -> Option<usize>
+    requires fits { 64 * length words.now ≤ 2 ^ 64 }
+    requires within { end ≤ 64 * length words.now }
+    ensures gap { result ≡ last_room (has_bit words.now) end count }
+    ensures cost { steps.new ≤ steps.old + last_steps (has_bit words.now) end }
+{
+    let mut stop = end;
+    loop {
+        let Some(taken) = previous::<And>(words, stop, steps) else {
+            return stop.checked_sub(count);
+        };
+        if count < stop - taken {
+            return Some(stop - count);
+        }
+        stop = previous::<AndNot>(words, taken, steps)? + 1;
     }
 }
 

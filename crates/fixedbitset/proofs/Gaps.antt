@@ -1,19 +1,26 @@
 -- The first place with room among the bits of words, and among the positions of their value.
-use Rattle.std.proofs.Common.{◌≡◌, ℕ, suc, inl, inr, ◌⊎◌, ◌+◌, ◌-◌, ◌<◌, ◌≤◌, ◌&&◌, not, nat_le}
+use Rattle.std.proofs.Common.{◌≡◌, ℕ, suc, inl, inr, ◌⊎◌, ◌+◌, ◌-◌, ◌*◌, ◌<◌, ◌≤◌, min, ◌&&◌, not, nat_le, None}
+use Rattle.std.specs.Int.{div_ceil}
+use Rattle.std.specs.List.{last_or}
 use Rattle.std.proofs.Common.{nat_lt, Bool, true, false, List, slice_get, refl, sym, ap, ◌∙◌, arith}
 use Rattle.std.proofs.lemmas.Bool.{cases_Bool, true≢false, false_from_ne_true, le-leb}
-use Rattle.std.proofs.lemmas.Bool.Decides.{leb_tells}
+use Rattle.std.proofs.lemmas.Bool.Decides.{leb_tells, nat_tests}
 use lib.Dec.{leb}
 use Rattle.bitwords.specs.Ascending.{ascending}
-use Rattle.bitwords.specs.AscendingFacts.{ascending-same}
+use Rattle.bitwords.specs.AscendingFacts.{ascending-same, ascending-cut}
+use Rattle.bitwords.specs.CountFacts.{count-same}
 use Rattle.bitwords.specs.Gaps.{all_pass, is_multiple, has_room_in, first_room, first_aligned_room}
+use Rattle.bitwords.specs.Gaps.{last_room, last_steps}
 use Rattle.bitwords.specs.GapsFacts.{pass-fails, pass-finds}
 use Rattle.bitwords.specs.Rows.{has_bit}
+use Rattle.bitwords.specs.Runs.{begins}
 use Rattle.fixedbitset.specs.Bits.{contains, of_words}
 use Rattle.fixedbitset.specs.Ranges.{contains_any}
 use Rattle.fixedbitset.specs.RangesFacts.{contains_any-tells}
-use Rattle.fixedbitset.specs.Runs.{has_room, first_gap, first_aligned_gap}
+use Rattle.fixedbitset.specs.Runs.{has_room, first_gap, first_aligned_gap, last_gap}
+use Rattle.fixedbitset.specs.Stored.{IsClean}
 use Rattle.fixedbitset.specs.WordsFacts.{length-of_words, contains-of_words}
+use Rattle.fixedbitset.proofs.Words.{contains_word}
 
 module _ (n : ℕ) (ws : List ℕ) (count p : ℕ) where
   -- some position of the stretch is set exactly if not all are clear
@@ -96,6 +103,40 @@ same_aligned_gap n ws count align start end within =
     (end + 1 - start) (λ q _ _.
     ap (λ r. is_multiple align q && r)
     (room_below n ws count end q within ∙ ap (λ r. nat_le (q + count) end && r) (sym (same_room n ws count q)))))
+
+-- of the places that end before an end, those that end before the length are those before the smaller of both
+room_cut : (n : ℕ) (ws : List ℕ) (count end q : ℕ)
+    → (nat_le (q + count) end && has_room (of_words n ws) count q) ≡ has_room_in (has_bit ws) (min end n) count q
+unfolding has_room_in
+room_cut n ws count end q = ap (λ r. nat_le (q + count) end && r) (same_room n ws count q) ∙ grind (arith, nat_tests)
+
+no_room_past : (n : ℕ) (ws : List ℕ) (count end q : ℕ) → min end n + 1 ≤ q
+    → has_room_in (has_bit ws) (min end n) count q ≡ false
+unfolding has_room_in
+no_room_past n ws count end q past = grind (arith, nat_tests)
+
+-- so the last one is the same
+pub same_last_gap : (n : ℕ) (ws : List ℕ) (count end : ℕ)
+    → last_room (has_bit ws) (min end n) count ≡ last_gap (of_words n ws) count end
+unfolding last_room last_gap
+same_last_gap n ws count end = ap (last_or None) (sym (ap (ascending test 0) long
+    ∙ ascending-cut test (has_room_in (has_bit ws) (min end n) count) 0 (min end n + 1) (n - min end n)
+    (λ q _ _. room_cut n ws count end q)
+    (λ q past _. room_cut n ws count end q ∙ no_room_past n ws count end q (omega (arith, past)))))
+  where
+    test : ℕ → Bool
+    test q = nat_le (q + count) end && has_room (of_words n ws) count q
+
+    long : (of_words n ws).length + 1 ≡ min end n + 1 + (n - min end n)
+    long = omega (arith, length-of_words n ws)
+
+-- and so are the runs that begin on the way
+pub same_last_steps : (n : ℕ) (ws : List ℕ) (end : ℕ) → IsClean n ws
+    → last_steps (has_bit ws) end ≡ last_steps (contains (of_words n ws)) end
+same_last_steps n ws end clean =
+    ap (λ k. 2 * (k + 1) + div_ceil end 64)
+    (count-same (begins (has_bit ws)) (begins (contains (of_words n ws))) end (λ p _ j.
+    contains_word n ws p clean j && not (nat_lt 0 p && contains_word n ws (p - 1) clean j)))
 
 pub equal_le : {a b : ℕ} → a ≡ b → b ≤ a
 equal_le e = omega (arith, e)

@@ -1,9 +1,10 @@
 -- Whether a join changes a set: what a count of the changed positions says.
-use Rattle.std.proofs.Common.{◌≡◌, ℕ, not, ◌&&◌, ◌||◌, ◌==◌, refl, ap, ◌∙◌, arith}
+use Rattle.std.proofs.Common.{◌≡◌, ℕ, Bool, true, false, not, ◌&&◌, ◌||◌, ◌==◌, refl, sym, ap, ◌∙◌, arith}
 use Rattle.std.specs.Cmp.{nat_cmp_total}
 use Rattle.std.specs.FinSet as set
+use Rattle.bitlanes.specs.Bits.{either}
 use Rattle.bitlanes.specs.Changes.{changes}
-use Rattle.fixedbitset.specs.Bits.{Bits, contains, grow}
+use Rattle.fixedbitset.specs.Bits.{Bits, contains, grow, is_clear}
 use Rattle.fixedbitset.specs.BitsFacts.{contains-grow}
 use Rattle.fixedbitset.specs.Stored.{count_joined}
 use Rattle.fixedbitset.specs.TwoSets.{is_subset, is_disjoint, intersection_count}
@@ -41,3 +42,15 @@ difference_changes v w =
     ap (λ k. not (k == 0))
     (count_joined-size (changes (λ x y. x && not y)) refl v w (set.intersection v.positions w.positions)
     (λ p. grind (arith, set.contains-intersection nat_cmp_total v.positions w.positions p)))
+
+-- what exactly one has differs from a set exactly if the other has a position, whether or not the set has grown before
+pub symmetric_difference_changes : (v w : Bits) → not (count_joined (changes either) v w == 0) ≡ not (is_clear w)
+unfolding is_clear contains
+symmetric_difference_changes v w =
+    ap (λ k. not (k == 0))
+    (count_joined-size (changes either) refl v w w.positions (λ p. sym (twice (contains v p) (contains w p))))
+  where
+    twice : (x y : Bool) → either x (either x y) ≡ y
+    twice true true = refl
+    twice true false = refl
+    twice false y = refl

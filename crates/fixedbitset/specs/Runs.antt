@@ -1,6 +1,8 @@
 -- The runs of a value: positions that follow each other without a gap, as
 -- start and end. The end is the first behind.
 use Rattle.std.specs.Prelude.{ℕ, ◌+◌, ◌-◌, Bool, not, ◌&&◌, nat_le, Option, List, slice_get}
+use Rattle.std.specs.declared.option.Option.TheVariants.{None}
+use Rattle.std.specs.List.{last_or}
 use Rattle.bitwords.specs.Ascending.{ascending}
 use Rattle.bitwords.specs.Gaps.{is_multiple}
 use Rattle.bitwords.specs.Runs.{stretches}
@@ -20,6 +22,11 @@ unfoldable pub first_aligned_gap : (count align : ℕ) → Bits → (start end :
 first_aligned_gap count align v start end =
     slice_get (ascending (λ p. is_multiple align p && (nat_le (p + count) end && has_room v count p)) start
     (end + 1 - start)) 0
+
+-- the greatest number with `count` such positions below `below`
+unfoldable pub last_gap : Bits → (count below : ℕ) → Option ℕ
+last_gap v count below =
+    last_or None (ascending (λ p. nat_le (p + count) below && has_room v count p) 0 (v.length + 1))
 
 -- of positions that are set, in ascending order
 unfoldable pub runs : Bits → List (ℕ × ℕ)

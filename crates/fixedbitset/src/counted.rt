@@ -9,7 +9,8 @@ mod shifts;
 mod whole;
 
 pub use changes::{
-    difference_with_change, intersect_with_change, union_with_change, union_with_difference,
+    difference_with_change, intersect_with_change, symmetric_difference_with_change,
+    union_with_change, union_with_difference,
 };
 pub use copies::{bitand, bitor, bitxor, clone_from};
 pub use ranges::{

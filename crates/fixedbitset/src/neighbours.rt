@@ -107,6 +107,26 @@ impl FixedBitSet {
         self.as_bits().first_gap(count, from, &mut Steps::new())
     }
 
+    /// The greatest number with `count` clear positions from there on, all of them below `below`
+    /// and below the length, or `None` where there is none. With a `count` of 0 that is `below`, or
+    /// the length where that is less.
+    ///
+    /// It goes over the runs of clear positions, the last one first, so it takes at most two steps
+    /// for each run of set positions on the way, two more, and one for each word.
+    ///
+    /// ```
+    /// let mut set = FixedBitSet::from_iter(alloc, [3, 6, 90])?;
+    /// assert_eq!(rt; set.last_gap(2, 90), Some(88));
+    /// assert_eq!(rt; set.last_gap(3, 9), Some(0));
+    /// assert_eq!(rt; set.last_gap(100, 90), None);
+    /// ```
+    #[inline]
+    pub fn last_gap(&self, count: usize, below: usize) -> Option<usize>
+        ensures { result ≡ stretches.last_gap self.now count below }
+    {
+        self.as_bits().last_gap(count, below, &mut Steps::new())
+    }
+
     /// The least multiple of `align` in the range with `count` clear positions from there on, all
     /// in the range, or `None` where there is none. With a `count` of 0 that may be the end of the
     /// range. The only multiple of 0 is 0. The range must be valid, as that of

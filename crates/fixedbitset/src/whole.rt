@@ -116,6 +116,27 @@ impl FixedBitSet {
         counted::union_with_change(self, other, &mut Steps::new())
     }
 
+    /// [`symmetric_difference_with`](Self::symmetric_difference_with), which also returns whether a
+    /// position came in or went: whether `other` has one. The length may become greater even where
+    /// none did.
+    ///
+    /// ```
+    /// let mut set = FixedBitSet::from_iter(alloc, [1, 3])?;
+    /// let other = FixedBitSet::from_iter(alloc, [3, 64])?;
+    /// assert!(rt; set.symmetric_difference_with_change(&other)?);
+    /// assert!(rt; !set.symmetric_difference_with_change(&FixedBitSet::new(alloc))?);
+    /// ```
+    #[inline]
+    pub fn symmetric_difference_with_change(&mut self, other: &Self) -> Result<bool, AllocError>
+        ensures ok { OnOk result (self.new ≡ sets.symmetric_difference self.old other.now) }
+        ensures changed { IfOk result (λ changed. changed ≡ not (model.is_clear other.now)) }
+        ensures err { OnErr result (self.new ≡ self.old) }
+        ensures succeeds { model.words_needed other.now.length ≤ model.words_needed self.old.length
+            → IsOk result }
+    {
+        counted::symmetric_difference_with_change(self, other, &mut Steps::new())
+    }
+
     /// [`intersect_with`](Self::intersect_with), which also returns whether a position went:
     /// whether `other` lacked one of this set. It does not allocate.
     ///

@@ -23,6 +23,7 @@ pub enum Change {
     IntersectionOf,
     DifferenceOf,
     UnionWithChange,
+    SymmetricDifferenceWithChange,
     UnionWithDifference,
     DifferenceWithChange,
     IntersectChangeWithSecond,
@@ -40,6 +41,7 @@ pub enum Change {
     CountedSymmetricDifferenceWith,
     CountedCloneFrom,
     CountedUnionWithChange,
+    CountedSymmetricDifferenceWithChange,
     CountedUnionWithDifference,
     CountedDifferenceWithChange,
     CountedIntersectWithChange,
@@ -78,7 +80,7 @@ pub const JOINS: &[Row; 14] = &[
     (Change::BitorAssign, LONG, BOTH),
     (Change::BitxorAssign, LONG, LAST),
     (Change::UnionWithChange, LONG, BOTH),
-    (Change::DifferenceWithChange, LONG, LAST),
+    (Change::SymmetricDifferenceWithChange, LONG, LAST),
     (Change::UnionWithDifference, LONG, BOTH),
     (Change::DifferenceWithChange, LONG, LAST),
     (Change::IntersectChangeWithSecond, LONG, LAST),
@@ -94,7 +96,7 @@ pub const COUNTED_JOINS: &[Row; 7] = &[
     (Change::CountedUnionWith, LONG, BOTH),
     (Change::CountedSymmetricDifferenceWith, LONG, LAST),
     (Change::CountedUnionWithChange, LONG, BOTH),
-    (Change::CountedDifferenceWithChange, LONG, LAST),
+    (Change::CountedSymmetricDifferenceWithChange, LONG, LAST),
     (Change::CountedUnionWithDifference, LONG, BOTH),
     (Change::CountedDifferenceWithChange, LONG, LAST),
     (Change::CountedCloneFrom, 10, SHORT),
@@ -166,8 +168,12 @@ fn unite(
     let steps = &mut Steps::new();
     match change {
         Change::UnionWithChange => set.union_with_change(first),
+        Change::SymmetricDifferenceWithChange => set.symmetric_difference_with_change(first),
         Change::UnionWithDifference => set.union_with_difference(first, second),
         Change::CountedUnionWithChange => counted::union_with_change(set, first, steps),
+        Change::CountedSymmetricDifferenceWithChange => {
+            counted::symmetric_difference_with_change(set, first, steps)
+        }
         Change::CountedUnionWithDifference => {
             counted::union_with_difference(set, first, second, steps)
         }

@@ -22,7 +22,7 @@ pub enum Growing {
     By(Change),
 }
 
-pub const CALLS: &[(&str, Call); 21] = &[
+pub const CALLS: &[(&str, Call); 23] = &[
     ("grow", Call::Growing(Growing::Grow)),
     ("grow_and_insert", Call::Growing(Growing::GrowAndInsert)),
     ("grow_and_put", Call::Growing(Growing::GrowAndPut)),
@@ -44,6 +44,10 @@ pub const CALLS: &[(&str, Call); 21] = &[
     (
         "union_with_change",
         Call::Growing(Growing::By(Change::UnionWithChange)),
+    ),
+    (
+        "symmetric_difference_with_change",
+        Call::Growing(Growing::By(Change::SymmetricDifferenceWithChange)),
     ),
     (
         "union_with_difference",
@@ -75,6 +79,10 @@ pub const CALLS: &[(&str, Call); 21] = &[
     (
         "counted::union_with_change",
         Call::Growing(Growing::By(Change::CountedUnionWithChange)),
+    ),
+    (
+        "counted::symmetric_difference_with_change",
+        Call::Growing(Growing::By(Change::CountedSymmetricDifferenceWithChange)),
     ),
     (
         "counted::union_with_difference",

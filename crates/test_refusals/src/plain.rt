@@ -156,6 +156,7 @@ fn sees_gaps(set: &FixedBitSet) -> bool {
     set.len() == 10
         && set.first_gap(5, 0) == Some(4)
         && set.first_aligned_gap(5, 5, 1..) == Some(5)
+        && set.last_gap(3, 9) == Some(6)
         && set.as_slice() == [8].as_slice()
 }
 

@@ -21,9 +21,9 @@ pub const LAST: &[usize] = &[LONG - 1];
 /// The positions of both.
 pub const BOTH: &[usize] = &[3, LONG - 1];
 
-// As many sets as calls take for themselves. Each of the 21 calls of `growing`, the 15 groups and
+// As many sets as calls take for themselves. Each of the 23 calls of `growing`, the 15 groups and
 // the 8 iterators takes a short set. The groups `lesser` and `growth_in_place` take one more each.
-const SHORT_SETS: usize = 21 + 15 + 8 + 2;
+const SHORT_SETS: usize = 23 + 15 + 8 + 2;
 
 // The groups `counted` and `joins_in_place` take a long set each. No call takes the rest.
 const LONG_SETS: usize = 8;

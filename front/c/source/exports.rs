@@ -129,6 +129,11 @@ pub unsafe extern "C" fn fixedbitset_bits_first_aligned_gap(set: *const CSet, co
 }
 
 #[no_mangle]
+pub unsafe extern "C" fn fixedbitset_bits_last_gap(set: *const CSet, count: usize, below: usize) -> usize {
+    bits_c::neighbours::bits_last_gap(&Bits::read(set), count, below)
+}
+
+#[no_mangle]
 pub unsafe extern "C" fn fixedbitset_bits_previous_one(set: *const CSet, below: usize) -> usize {
     bits_c::neighbours::bits_previous_one(&Bits::read(set), below)
 }
@@ -211,6 +216,11 @@ pub unsafe extern "C" fn fixedbitset_bits_difference_with(set: *mut CSet, other:
 #[no_mangle]
 pub unsafe extern "C" fn fixedbitset_bits_union_with_change(set: *mut CSet, other: *const CSet, changed: *mut bool) -> bool {
     bits_c::whole::bits_union_with_change(&mut BitsMut::read(set), &Bits::read(other), &mut *changed)
+}
+
+#[no_mangle]
+pub unsafe extern "C" fn fixedbitset_bits_symmetric_difference_with_change(set: *mut CSet, other: *const CSet, changed: *mut bool) -> bool {
+    bits_c::whole::bits_symmetric_difference_with_change(&mut BitsMut::read(set), &Bits::read(other), &mut *changed)
 }
 
 #[no_mangle]

@@ -45,6 +45,31 @@ impl BitsMut<'_> {
         self.view.union_with_change(other.view, &mut Steps::new())
     }
 
+    /// [`symmetric_difference_with`](BitsMut::symmetric_difference_with), which also returns
+    /// whether a position came in or went: whether the second set has one.
+    ///
+    /// **Panics** where `other` is longer, as this set does not grow.
+    ///
+    /// Proved: the result and what it leaves, for any two sets, wherever it does not panic
+    /// ([contract](crate::contracts#fixedbitsetbitsmutsymmetric_difference_with_change)).
+    ///
+    /// ```
+    /// # use fixedbitset::BitsMut;
+    /// let (mut words, mut other) = ([9, 0, 0, 0], [3, 0, 0, 0]);
+    /// let mut set = BitsMut::settle(&mut words, 70, 70);
+    /// let mut other = BitsMut::settle(&mut other, 9, 9);
+    /// assert!(set.symmetric_difference_with_change(other.as_bits()));
+    /// other.clear();
+    /// assert!(!set.symmetric_difference_with_change(other.as_bits()));
+    /// ```
+    #[inline]
+    #[track_caller]
+    pub fn symmetric_difference_with_change(&mut self, other: Bits<'_>) -> bool {
+        self.assert_no_longer(other);
+        self.view
+            .symmetric_difference_with_change(other.view, &mut Steps::new())
+    }
+
     /// [`intersect_with`](BitsMut::intersect_with), which also returns whether a position went.
     ///
     /// Proved: the result and what it leaves, for any two sets

@@ -67,6 +67,30 @@ impl<'a> Bits<'a> {
             .first_aligned_gap(count, align, start, end, &mut Steps::new())
     }
 
+    /// The greatest number with `count` clear positions from there on, all of them below `below`,
+    /// or `None` where there is none.
+    ///
+    /// It goes over the runs of clear positions below `below`, the last one first. So it takes at
+    /// most two steps for each run of positions that are set and begins there, two more, and one
+    /// for each word that has such a position.
+    ///
+    /// Proved: the result, for all sets and all numbers
+    /// ([contract](crate::contracts#fixedbitsetbitslast_gap)).
+    ///
+    /// ```
+    /// # use fixedbitset::BitsMut;
+    /// let mut words = [9, 2, 0, 0];
+    /// let set = BitsMut::settle(&mut words, 70, 70);
+    /// assert_eq!(set.as_bits().last_gap(3, 70), Some(67));
+    /// assert_eq!(set.as_bits().last_gap(5, 70), Some(60));
+    /// assert_eq!(set.as_bits().last_gap(62, 70), None);
+    /// ```
+    #[inline]
+    #[must_use]
+    pub fn last_gap(self, count: usize, below: usize) -> Option<usize> {
+        self.view.last_gap(count, below, &mut Steps::new())
+    }
+
     /// The least position at or past `from` that is set, or `None` where none is.
     ///
     /// Proved: the result, for all sets and all numbers

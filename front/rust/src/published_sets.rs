@@ -961,6 +961,49 @@ impl FixedBitSet {
         self.set.union_with_change(&other.set)
     }
 
+    /// [`symmetric_difference_with`](Self::symmetric_difference_with), which also returns whether a
+    /// position came in or went: whether `other` has one. The length may become greater even where none
+    /// did.
+    ///
+    /// If an allocation fails, the program ends;
+    /// [`try_symmetric_difference_with_change`](Self::try_symmetric_difference_with_change) returns an
+    /// error instead.
+    ///
+    /// Proved: the result and what it leaves, for any two sets
+    /// ([contract](crate::contracts#fixedbitsetfixedbitsetsymmetric_difference_with_change)).
+    ///
+    /// ```
+    /// # use fixedbitset::FixedBitSet;
+    /// let mut set = FixedBitSet::from_iter([1, 3]);
+    /// let other = FixedBitSet::from_iter([3, 64]);
+    /// assert!(set.symmetric_difference_with_change(&other));
+    /// assert!(!set.symmetric_difference_with_change(&FixedBitSet::new()));
+    /// ```
+    pub fn symmetric_difference_with_change(&mut self, other: &FixedBitSet) -> bool {
+        self.set.symmetric_difference_with_change(&other.set).or_abort()
+    }
+
+    /// [`symmetric_difference_with_change`](Self::symmetric_difference_with_change), which returns an error
+    /// if an allocation fails. The set is then as it was.
+    ///
+    /// Proved: the result and what it leaves, also where an allocation fails, for any two sets
+    /// ([contract](crate::contracts#fixedbitsetfixedbitsetsymmetric_difference_with_change)).
+    ///
+    /// ```
+    /// # use fixedbitset::FixedBitSet;
+    /// let mut set = FixedBitSet::from_iter([1, 3]);
+    /// let other = FixedBitSet::from_iter([3, 64]);
+    /// assert!(set.try_symmetric_difference_with_change(&other)?);
+    /// assert!(!set.try_symmetric_difference_with_change(&FixedBitSet::new())?);
+    /// # Ok::<(), fixedbitset::AllocError>(())
+    /// ```
+    pub fn try_symmetric_difference_with_change(
+        &mut self,
+        other: &FixedBitSet,
+    ) -> Result<bool, AllocError> {
+        self.set.symmetric_difference_with_change(&other.set)
+    }
+
     /// [`intersect_with`](Self::intersect_with), which also returns whether a position went.
     ///
     /// Proved: the result and what it leaves, for any two sets
@@ -1862,6 +1905,29 @@ impl FixedBitSet {
     #[must_use]
     pub fn first_gap(&self, count: usize, from: usize) -> Option<usize> {
         self.as_bits().first_gap(count, from)
+    }
+
+    /// The greatest number with `count` clear positions from there on, all of them below `below`,
+    /// or `None` where there is none.
+    ///
+    /// It goes over the runs of clear positions below `below`, the last one first. So it takes at
+    /// most two steps for each run of positions that are set and begins there, two more, and one
+    /// for each word that has such a position.
+    ///
+    /// Proved: the result, for all sets and all numbers
+    /// ([contract](crate::contracts#fixedbitsetbitslast_gap)).
+    ///
+    /// ```
+    /// # use fixedbitset::FixedBitSet;
+    /// let mut set = FixedBitSet::from_iter([3, 6, 90]);
+    /// assert_eq!(set.last_gap(2, 90), Some(88));
+    /// assert_eq!(set.last_gap(3, 9), Some(0));
+    /// assert_eq!(set.last_gap(100, 90), None);
+    /// ```
+    #[inline]
+    #[must_use]
+    pub fn last_gap(&self, count: usize, below: usize) -> Option<usize> {
+        self.as_bits().last_gap(count, below)
     }
 
     /// The least multiple of `align` from `start` on with `count` clear positions from there

@@ -200,10 +200,11 @@ fn what_has_room_asks_for_nothing() {
         |set, other| (set.symmetric_difference_of(other, other), set.difference_of(other, other));
         |set, other| (set.union_with(other), set.intersect_with(other), set.difference_with(other));
         |set, other| (set.symmetric_difference_with(other), set.union_with_change(other));
+        |set, other| set.symmetric_difference_with_change(other);
         |set, other| (set.union_with_difference(other, other), set.intersect_with_change(other));
         |set, other| (*set |= other, *set ^= other, *set &= other);
         |set, other| (set.count_ones(..), set.union_count(other), set.is_subset(other), set.is_full());
-        |set, other| (set.next_one(3), set.nth_one(3), set.next_common(other, 4), set.first_gap(7, 9));
+        |set, other| (set.next_one(3), set.nth_one(3), set.next_common(other, 4), set.first_gap(7, 9), set.last_gap(7, 9));
         |set, _| (set.ones().count(), set.zeroes().next_back(), set.ones_in(3..).max());
         |set, other| (set.union(other).count(), set.symmetric_difference(other).min());
         |set, _| (set.runs().count(), set.zero_runs().next_back());
@@ -296,6 +297,7 @@ fn what_grows_doubles_its_memory() {
         |set, longer| set.union_with(longer);
         |set, longer| set.symmetric_difference_with(longer);
         |set, longer| set.union_with_change(longer);
+        |set, longer| set.symmetric_difference_with_change(longer);
         |set, longer| set.union_with_difference(longer, longer);
         |set, longer| set.union_of(longer, longer);
         |set, longer| set.symmetric_difference_of(longer, longer);

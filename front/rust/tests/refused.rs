@@ -171,6 +171,7 @@ fn calls() -> impl Iterator<Item = Call> {
         |s, t| s.try_union_with(t), s.union_with(t), bytes_of(t.len());
         |s, t| s.try_symmetric_difference_with(t), s.symmetric_difference_with(t), bytes_of(t.len());
         |s, t| s.try_union_with_change(t), s.union_with_change(t), bytes_of(t.len());
+        |s, t| s.try_symmetric_difference_with_change(t), s.symmetric_difference_with_change(t), bytes_of(t.len());
         |s, t| s.try_union_with_difference(t, &Set::new()), s.union_with_difference(t, &Set::new()), bytes_of(t.len());
         |s, t| s.try_append(t), s.append(t), bytes_of(s.len() + t.len());
         |s, t| s.try_resize(t.len(), true), s.resize(t.len(), true), bytes_of(t.len());
@@ -252,6 +253,7 @@ fn a_call_with_room_is_never_refused() {
         |s, t| s.try_union_with(t), s.union_with(t), 0;
         |s, t| s.try_symmetric_difference_with(t), s.symmetric_difference_with(t), 0;
         |s, t| s.try_union_with_change(t), s.union_with_change(t), 0;
+        |s, t| s.try_symmetric_difference_with_change(t), s.symmetric_difference_with_change(t), 0;
         |s, t| s.try_union_with_difference(t, t), s.union_with_difference(t, t), 0;
         |s, _| s.try_append(&Set::new()), s.append(&Set::new()), 0;
         |s, t| { s.truncate(100); s.try_append(t) }, { s.truncate(100); s.append(t) }, 0;

@@ -51,6 +51,15 @@ fn assert_gaps(rt: &impl Abort, set: &FixedBitSet, clear: &[usize]) {
                 "{count} from {from} of {}",
                 set.len()
             );
+            let end = from.min(set.len());
+            let greatest = (0..end + 1)
+                .rev()
+                .find(|start| is_place(clear, *start, 1, count, end));
+            assert!(rt;
+                set.last_gap(count, from) == greatest,
+                "{count} below {from} of {}",
+                set.len()
+            );
             from += 1 + set.len() / 13;
         }
     }
@@ -108,6 +117,7 @@ fn past_full_and_clear_words(rt: HostRuntime) -> Result<(), Fail> {
     let mut full = FixedBitSet::with_capacity(rt.alloc(), 5_000)?;
     full.insert_range(..);
     assert!(rt; full.first_gap(1, 0) == None && full.first_gap(0, 77) == Some(77));
+    assert!(rt; full.last_gap(1, 5_000) == None && full.last_gap(0, 77) == Some(77));
     for (start, end, count, answer) in [
         (4_999, 5_000, 1, Some(4_999)),
         (4_999, 5_000, 2, None),
@@ -127,6 +137,8 @@ fn past_full_and_clear_words(rt: HostRuntime) -> Result<(), Fail> {
             "{count} in {start}..{end}"
         );
         assert!(rt; set.first_gap(count, start + 1) == None);
+        assert!(rt; set.last_gap(count, usize::MAX) == answer.map(|_| end - count));
+        assert!(rt; set.last_gap(count, end - 1) == None);
         assert!(rt; set.first_aligned_gap(count, 1, ..) == answer);
         let multiple = start.next_multiple_of(64);
         let aligned = if multiple < end { Some(multiple) } else { None };

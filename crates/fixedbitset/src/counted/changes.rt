@@ -1,16 +1,19 @@
 //! The changes by other sets that return whether a position changed, with a counter of steps. Each
 //! change by one set takes the steps of the call without the result.
 
-ghost use Rattle.std.specs.Prelude.{◌≡◌, ◌<◌, ◌≤◌, ◌+◌, IsOk, IfOk, OnOk, OnErr, not, true, false};
+ghost use Rattle.std.specs.Prelude.{◌≡◌, ◌<◌, ◌≤◌, ◌+◌, ◌==◌, IsOk, IfOk, OnOk, OnErr};
+ghost use Rattle.std.specs.Prelude.{not, true, false};
+ghost use Rattle.bitlanes.specs.Changes.{changes};
 ghost use Rattle.bitlanes.specs.Words.{lane_steps};
 ghost use Rattle.bitwords.specs.Steps.{join_steps};
 ghost use Rattle.fixedbitset.specs.Bits as model;
+ghost use Rattle.fixedbitset.specs.Stored.{joined, count_joined};
 ghost use Rattle.fixedbitset.specs.TwoSets as sets;
 
 use crate::set::FixedBitSet;
 use crate::views::BitsMut;
 use bitlanes::Steps;
-use bitlanes::ops::Or;
+use bitlanes::ops::{Or, WordOp, Xor};
 use std::alloc::AllocError;
 
 /// [`FixedBitSet::union_with_change`], with the steps that it takes.
@@ -24,7 +27,7 @@ use std::alloc::AllocError;
 /// assert_eq!(rt; set.as_slice(), [10, 1].as_slice());
 /// ```
 #[inline(always)]
-#[tactic(auto, using(crate::proofs::JoinedValues::union_longer, crate::proofs::JoinedChanges::union_changes, crate::proofs::Words::given_back, crate::proofs::Words::viewed_length))]
+#[tactic(auto, using(crate::proofs::JoinedValues::union_longer, crate::proofs::JoinedChanges::union_changes, crate::proofs::JoinedValues::union_grown, crate::proofs::JoinedChanges::union_grown_changes, crate::proofs::Words::given_back, crate::proofs::Words::viewed_length))]
 pub fn union_with_change(
     set: &mut FixedBitSet,
     other: &FixedBitSet,
@@ -40,10 +43,44 @@ pub fn union_with_change(
     ensures refused { OnErr result (steps.new ≡ steps.old) }
 {
     if set.len() < other.len() {
-        return grow_and_unite(set, other, steps);
+        return grow_and_change::<Or>(set, other, steps);
     }
     let (words, length) = (&mut *set.words.as_mut_slice(), set.length);
     Ok(BitsMut { words, length }.union_with_change(other.as_bits(), steps))
+}
+
+/// [`FixedBitSet::symmetric_difference_with_change`], with the steps that it takes.
+///
+/// Where an allocation failed the set is as it was.
+///
+/// ```
+/// let mut set = FixedBitSet::from_iter(alloc, [1, 3])?;
+/// let other = FixedBitSet::from_iter(alloc, [3, 64])?;
+/// let mut steps = Steps::new();
+/// assert!(rt; counted::symmetric_difference_with_change(&mut set, &other, &mut steps)?);
+/// assert_eq!(rt; set.as_slice(), [2, 1].as_slice());
+/// ```
+#[inline(always)]
+#[tactic(auto, using(crate::proofs::JoinedValues::symmetric_difference_longer, crate::proofs::JoinedValues::symmetric_difference_grown, crate::proofs::JoinedChanges::symmetric_difference_changes, crate::proofs::Words::given_back, crate::proofs::Words::viewed_length))]
+pub fn symmetric_difference_with_change(
+    set: &mut FixedBitSet,
+    other: &FixedBitSet,
+    steps: &mut Steps,
+) -> Result<bool, AllocError>
+    ensures ok { OnOk result (set.new ≡ sets.symmetric_difference set.old other.now) }
+    ensures changed { IfOk result (λ changed. changed ≡ not (model.is_clear other.now)) }
+    ensures err { OnErr result (set.new ≡ set.old) }
+    ensures succeeds { model.words_needed other.now.length ≤ model.words_needed set.old.length
+        → IsOk result }
+    ensures cost { OnOk result
+        (steps.new ≡ steps.old + lane_steps (model.words_needed other.now.length)) }
+    ensures refused { OnErr result (steps.new ≡ steps.old) }
+{
+    if set.len() < other.len() {
+        return grow_and_change::<Xor>(set, other, steps);
+    }
+    let (words, length) = (&mut *set.words.as_mut_slice(), set.length);
+    Ok(BitsMut { words, length }.symmetric_difference_with_change(other.as_bits(), steps))
 }
 
 // made by front/calls, but for docs and #[inline]
@@ -126,18 +163,22 @@ pub fn union_with_difference(
     Ok(BitsMut { words, length }.union_with_difference(gens.as_bits(), kills.as_bits(), steps))
 }
 
-// Unites `set`, which grows before, with the longer set `other`.
+// Joins the longer set `other` to `set`, which grows before, and returns whether a position
+// changed.
 #[cold]
 #[inline(never)]
-#[tactic(auto, using(crate::proofs::JoinedValues::grown_over, crate::proofs::JoinedValues::grown_length, crate::proofs::JoinedValues::union_grown, crate::proofs::JoinedChanges::union_grown_changes, crate::proofs::Words::given_back, crate::proofs::Words::viewed_length))]
-fn grow_and_unite(
+#[tactic(auto, using(crate::proofs::JoinedValues::grown_over, crate::proofs::JoinedValues::grown_length, crate::proofs::Words::given_back, crate::proofs::Words::viewed_length))]
+fn grow_and_change<O: WordOp>(
     set: &mut FixedBitSet,
     other: &FixedBitSet,
     steps: &mut Steps,
 ) -> Result<bool, AllocError>
+    requires keeps { O.KEEP ≡ true }
     requires longer { set.old.length < other.now.length }
-    ensures ok { OnOk result (set.new ≡ sets.union set.old other.now) }
-    ensures changed { IfOk result (λ changed. changed ≡ not (sets.is_subset other.now set.old)) }
+    ensures ok { OnOk result (set.new
+        ≡ joined O.truth (model.grow set.old other.now.length) other.now) }
+    ensures changed { IfOk result (λ changed. changed ≡ not (count_joined (changes O.truth)
+        (model.grow set.old other.now.length) other.now == 0)) }
     ensures err { OnErr result (set.new ≡ set.old) }
     ensures succeeds { model.words_needed other.now.length ≤ model.words_needed set.old.length
         → IsOk result }
@@ -147,7 +188,7 @@ fn grow_and_unite(
 {
     set.grow(other.len())?;
     let (words, length) = (&mut *set.words.as_mut_slice(), set.length);
-    Ok(BitsMut { words, length }.join_with_change::<Or>(other.as_bits(), steps))
+    Ok(BitsMut { words, length }.join_with_change::<O>(other.as_bits(), steps))
 }
 
 // Takes into `set`, which grows before, what `kills` lacks of the longer set `gens`.

@@ -5,14 +5,14 @@ ghost use Rattle.std.specs.Prelude.{◌≡◌, ◌≤◌, ◌+◌, ◌==◌, ◌
 ghost use Rattle.bitlanes.specs.Changes.{changes};
 ghost use Rattle.bitlanes.specs.Words.{lane_steps};
 ghost use Rattle.bitwords.specs.Steps.{join_steps};
-ghost use Rattle.fixedbitset.specs.Bits.{storage_words, words_needed};
+ghost use Rattle.fixedbitset.specs.Bits.{is_clear, storage_words, words_needed};
 ghost use Rattle.fixedbitset.specs.Stored.{joined, count_joined};
 ghost use Rattle.fixedbitset.specs.TwoSets as sets;
 ghost use Rattle.fixedbitset.specs.Views.{value, held, Becomes};
 
 use crate::views::{Bits, BitsMut};
 use bitlanes::Steps;
-use bitlanes::ops::{And, AndNot, Or, WordOp};
+use bitlanes::ops::{And, AndNot, Or, WordOp, Xor};
 use bitwords::joins;
 
 impl BitsMut<'_> {
@@ -35,6 +35,29 @@ impl BitsMut<'_> {
         ensures cost { steps.new ≡ steps.old + lane_steps (storage_words other.entry.length) }
     {
         self.join_with_change::<Or>(other, steps)
+    }
+
+    /// [`symmetric_difference_with`](BitsMut::symmetric_difference_with), which also returns
+    /// whether a position came in or went: whether the second set has one.
+    ///
+    /// ```
+    /// let (mut words, mut other) = ([9, 0, 0, 0], [3, 0, 0, 0]);
+    /// let mut set = BitsMut::settle(&mut words, 70, 70);
+    /// let mut other = BitsMut::settle(&mut other, 9, 9);
+    /// assert!(rt; set.symmetric_difference_with_change(other.as_bits(), &mut Steps::new()));
+    /// other.clear(&mut Steps::new());
+    /// assert!(rt; !set.symmetric_difference_with_change(other.as_bits(), &mut Steps::new()));
+    /// ```
+    #[inline(always)]
+    #[tactic(auto, using(crate::proofs::Words::of_length, crate::proofs::JoinedValues::symmetric_difference_longer, crate::proofs::JoinedChanges::symmetric_difference_changes))]
+    pub fn symmetric_difference_with_change(&mut self, other: Bits<'_>, steps: &mut Steps) -> bool
+        requires shorter { other.length ≤ self.old.length }
+        ensures value { Becomes self.old self.new
+            (sets.symmetric_difference (held self.old) (value other.entry)) }
+        ensures changed { result ≡ not (is_clear (value other.entry)) }
+        ensures cost { steps.new ≡ steps.old + lane_steps (storage_words other.entry.length) }
+    {
+        self.join_with_change::<Xor>(other, steps)
     }
 
     /// [`intersect_with`](BitsMut::intersect_with), which also returns whether a position went.

@@ -1,9 +1,10 @@
 //! Runs of clear positions, long enough for a caller.
 
-ghost use Rattle.std.specs.Prelude.{◌≡◌, ◌≤◌, ◌+◌, ◌-◌, IsTrue, IfSome, IfNone};
+ghost use Rattle.std.specs.Prelude.{◌≡◌, ◌≤◌, ◌+◌, ◌-◌, min, IsTrue, IfSome, IfNone};
 ghost use Rattle.bitlanes.specs.Words.{lane_steps};
-ghost use Rattle.bitwords.specs.Gaps.{aligned_steps};
+ghost use Rattle.bitwords.specs.Gaps.{aligned_steps, last_steps};
 ghost use Rattle.bitwords.specs.Steps.{range_words};
+ghost use Rattle.fixedbitset.specs.Bits.{contains};
 ghost use Rattle.fixedbitset.specs.Ranges.{is_valid};
 ghost use Rattle.fixedbitset.specs.Runs as stretches;
 ghost use Rattle.fixedbitset.specs.Views.{value};
@@ -73,5 +74,28 @@ impl Bits<'_> {
         ensures grows { steps.old ≤ steps.new }
     {
         gaps::first_aligned(self.words, start, end, count, align, steps)
+    }
+
+    /// The greatest number with `count` clear positions from there on, all of them below `below`,
+    /// or `None` where there is none.
+    ///
+    /// It goes over the runs of clear positions below `below`, the last one first. So it takes at
+    /// most two steps for each run of positions that are set and begins there, two more, and one
+    /// for each word that has such a position.
+    ///
+    /// ```
+    /// let mut words = [9, 2, 0, 0];
+    /// let set = BitsMut::settle(&mut words, 70, 70);
+    /// assert_eq!(rt; set.as_bits().last_gap(3, 70, &mut Steps::new()), Some(67));
+    /// assert_eq!(rt; set.as_bits().last_gap(5, 70, &mut Steps::new()), Some(60));
+    /// assert_eq!(rt; set.as_bits().last_gap(62, 70, &mut Steps::new()), None);
+    /// ```
+    #[inline]
+    pub fn last_gap(self, count: usize, below: usize, steps: &mut Steps) -> Option<usize>
+        ensures gap { result ≡ stretches.last_gap (value self.entry) count below }
+        ensures cost { steps.new ≤ steps.old
+            + last_steps (contains (value self.entry)) (min below self.entry.length) }
+    {
+        gaps::last(self.words, below.min(self.length), count, steps)
     }
 }

@@ -55,6 +55,13 @@ pub fn bits_first_aligned_gap(
     }
 }
 
+/// Returns the greatest number from which `count` consecutive positions are clear, all below
+/// `below` and below the length, or `NONE`.
+pub fn bits_last_gap(set: &Bits<'_>, count: usize, below: usize) -> usize {
+    set.last_gap(count, below, &mut Steps::new())
+        .unwrap_or(NONE)
+}
+
 /// Returns the greatest position below `below` that is set, or `NONE`.
 pub fn bits_previous_one(set: &Bits<'_>, below: usize) -> usize {
     set.previous_one(below, &mut Steps::new()).unwrap_or(NONE)

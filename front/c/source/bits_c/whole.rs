@@ -40,7 +40,7 @@ pub fn bits_difference_with(set: &mut BitsMut<'_>, other: &Bits<'_>) {
     set.difference_with(*other, &mut Steps::new());
 }
 
-/// Adds the positions of the second set (union), writes to `changed` whether a position was added,
+/// Adds the positions of the second set (union), writes to `changed` whether the first set changed,
 /// and returns `true`. Returns `false`, changes nothing, and writes nothing to `changed`, if the
 /// second set is longer than the first.
 pub fn bits_union_with_change(
@@ -50,6 +50,22 @@ pub fn bits_union_with_change(
 ) -> bool {
     if other.length <= set.length {
         *changed = set.union_with_change(*other, &mut Steps::new());
+        true
+    } else {
+        false
+    }
+}
+
+/// Leaves the positions that are in exactly one of the sets (xor), writes to `changed` whether the
+/// first set changed, and returns `true`. Returns `false`, changes nothing, and writes nothing to
+/// `changed`, if the second set is longer than the first.
+pub fn bits_symmetric_difference_with_change(
+    set: &mut BitsMut<'_>,
+    other: &Bits<'_>,
+    changed: &mut bool,
+) -> bool {
+    if other.length <= set.length {
+        *changed = set.symmetric_difference_with_change(*other, &mut Steps::new());
         true
     } else {
         false
@@ -66,9 +82,9 @@ pub fn bits_difference_with_change(set: &mut BitsMut<'_>, other: &Bits<'_>) -> b
     set.difference_with_change(*other, &mut Steps::new())
 }
 
-/// Adds the positions of `gens` that `kills` lacks, writes to `changed` whether a position was
-/// added, and returns `true`. Returns `false`, changes nothing, and writes nothing to `changed`, if
-/// `gens` is longer than the first set.
+/// Adds the positions of `gens` that `kills` lacks, writes to `changed` whether the first set
+/// changed, and returns `true`. Returns `false`, changes nothing, and writes nothing to `changed`,
+/// if `gens` is longer than the first set.
 pub fn bits_union_with_difference(
     set: &mut BitsMut<'_>,
     gens: &Bits<'_>,

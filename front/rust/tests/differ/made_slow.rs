@@ -92,6 +92,10 @@ impl Set {
         (range.start..=range.end).find(|at| at.checked_rem(align).unwrap_or(*at) == 0 && count <= range.end - at && (*at..at + count).all(|bit| !self.contains(bit)))
     }
 
+    pub fn last_gap(&self, count: usize, below: usize) -> Option<usize> {
+        (0..=below.min(self.length)).rev().find(|at| count <= below.min(self.length) - at && (*at..at + count).all(|bit| !self.contains(bit)))
+    }
+
     pub fn previous_one(&self, below: usize) -> Option<usize> {
         self.ones.range(..below).next_back().copied()
     }
@@ -161,6 +165,10 @@ impl Set {
 
     pub fn union_with_change(&mut self, other: &Self) -> bool {
         self.is_changed(|set| set.union_with(other))
+    }
+
+    pub fn symmetric_difference_with_change(&mut self, other: &Self) -> bool {
+        self.is_changed(|set| set.symmetric_difference_with(other))
     }
 
     pub fn intersect_with_change(&mut self, other: &Self) -> bool {

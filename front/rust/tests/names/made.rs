@@ -57,6 +57,8 @@ pub fn set_calls() -> Vec<&'static str> {
         "difference_with" is Set::difference_with, fn(&mut Set, &Set);
         "union_with_change" is Set::union_with_change, fn(&mut Set, &Set) -> bool;
         "try_union_with_change" is Set::try_union_with_change, fn(&mut Set, &Set) -> Result<bool, AllocError>;
+        "symmetric_difference_with_change" is Set::symmetric_difference_with_change, fn(&mut Set, &Set) -> bool;
+        "try_symmetric_difference_with_change" is Set::try_symmetric_difference_with_change, fn(&mut Set, &Set) -> Result<bool, AllocError>;
         "intersect_with_change" is Set::intersect_with_change, fn(&mut Set, &Set) -> bool;
         "difference_with_change" is Set::difference_with_change, fn(&mut Set, &Set) -> bool;
         "union_with_difference" is Set::union_with_difference, fn(&mut Set, &Set, &Set) -> bool;
@@ -100,6 +102,7 @@ pub fn set_calls() -> Vec<&'static str> {
         "next_common" is Set::next_common, fn(&Set, &Set, usize) -> Option<usize>;
         "nth_one" is Set::nth_one, fn(&Set, usize) -> Option<usize>;
         "first_gap" is Set::first_gap, fn(&Set, usize, usize) -> Option<usize>;
+        "last_gap" is Set::last_gap, fn(&Set, usize, usize) -> Option<usize>;
         "first_aligned_gap" is Set::first_aligned_gap, fn(&Set, usize, usize, Range<usize>) -> Option<usize>;
         "previous_one" is Set::previous_one, fn(&Set, usize) -> Option<usize>;
         "previous_zero" is Set::previous_zero, fn(&Set, usize) -> Option<usize>;
@@ -128,6 +131,7 @@ pub fn view_calls() -> Vec<&'static str> {
     typed! {
         "first_gap" is Bits::first_gap, fn(Bits<'static>, usize, usize) -> Option<usize>;
         "first_aligned_gap" is Bits::first_aligned_gap, fn(Bits<'static>, usize, usize, Range<usize>) -> Option<usize>;
+        "last_gap" is Bits::last_gap, fn(Bits<'static>, usize, usize) -> Option<usize>;
         "next_one" is Bits::next_one, fn(Bits<'static>, usize) -> Option<usize>;
         "next_zero" is Bits::next_zero, fn(Bits<'static>, usize) -> Option<usize>;
         "next_common" is Bits::next_common, fn(Bits<'static>, Bits<'static>, usize) -> Option<usize>;
@@ -173,6 +177,7 @@ pub fn change_calls() -> Vec<&'static str> {
     typed! {
         "assign_bytes" is BitsMut::assign_bytes, fn(&mut BitsMut<'static>, &[u8]);
         "union_with_change" is BitsMut::union_with_change, fn(&mut BitsMut<'static>, Bits<'static>) -> bool;
+        "symmetric_difference_with_change" is BitsMut::symmetric_difference_with_change, fn(&mut BitsMut<'static>, Bits<'static>) -> bool;
         "intersect_with_change" is BitsMut::intersect_with_change, fn(&mut BitsMut<'static>, Bits<'static>) -> bool;
         "difference_with_change" is BitsMut::difference_with_change, fn(&mut BitsMut<'static>, Bits<'static>) -> bool;
         "union_with_difference" is BitsMut::union_with_difference, fn(&mut BitsMut<'static>, Bits<'static>, Bits<'static>) -> bool;

@@ -131,6 +131,11 @@ fn assert_changes(rt: &impl Abort, alloc: Global, pair: &Pair) -> Result<(), All
         assert!(rt; wanted.is_at_each(&set), "{call:?}");
         assert!(rt; !change(&mut set, &other, call)?, "{call:?}");
     }
+    let wanted = a.joined(&b, Join::One, length_of(pair, Length::Longer));
+    let changed = a.count_joined(&b, Join::Both) + a.count_joined(&b, Join::SecondAlone);
+    let mut set = whole.clone()?;
+    assert!(rt; set.symmetric_difference_with_change(&other)? == (changed > 0));
+    assert!(rt; wanted.is_at_each(&set));
     Ok(())
 }
 

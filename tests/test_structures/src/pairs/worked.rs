@@ -346,6 +346,7 @@ fn large_joins_tell_a_change(rt: HostRuntime) -> Result<(), Fail> {
     assert!(rt; set.union_with_change(&far)? && set == far);
     let mut left = none.clone()?;
     assert!(rt; left.union_with_difference(&far, &none)? && left == far);
+    assert!(rt; left.symmetric_difference_with_change(&far)? && left.is_clear());
     Ok(())
 }
 

@@ -4,6 +4,7 @@
 //! A step is one lane of four words, from the word of the position on where a search begins: each
 //! lane counts once, as its first word is looked at.
 
+use crate::proved::bitwords::positions::previous;
 use crate::proved::bitlanes::Steps;
 use crate::proved::bitlanes::lanes::LANE;
 use crate::proved::bitlanes::ops::{And, AndNot, WordOp};
@@ -73,6 +74,33 @@ pub fn first_aligned(
             return Some(found);
         }
         at = next;
+    }
+}
+
+/// The greatest position with `count` positions from there on that are clear and below `end`, or
+/// `None` where there is none. The end may not be past the words.
+///
+/// It goes over the runs of clear positions, from the last one below `end` down to the one that is
+/// long enough. So it takes at most two steps for each run of positions that are set and begins
+/// below `end`, two more, and one for each word that has a position below `end`.
+///
+/// ```text
+/// let mut steps = Steps::new();
+/// assert_eq!(gaps::last(&[0xf0f, 1], 128, 4, &mut steps), Some(124));
+/// assert_eq!(gaps::last(&[0xf0f, 1], 12, 4, &mut steps), Some(4));
+/// assert_eq!(gaps::last(&[0xf0f, 1], 64, 53, &mut steps), None);
+/// ```
+#[inline]
+pub fn last(words: &[Block], end: usize, count: usize, steps: &mut Steps) -> Option<usize> {
+    let mut stop = end;
+    loop {
+        let Some(taken) = previous::<And>(words, stop, steps) else {
+            return stop.checked_sub(count);
+        };
+        if count < stop - taken {
+            return Some(stop - count);
+        }
+        stop = previous::<AndNot>(words, taken, steps)? + 1;
     }
 }
 

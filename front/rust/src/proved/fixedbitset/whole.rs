@@ -91,6 +91,21 @@ impl FixedBitSet {
         counted::union_with_change(self, other, &mut Steps::new())
     }
 
+    /// [`symmetric_difference_with`](Self::symmetric_difference_with), which also returns whether a
+    /// position came in or went: whether `other` has one. The length may become greater even where
+    /// none did.
+    ///
+    /// ```text
+    /// let mut set = FixedBitSet::from_iter(alloc, [1, 3])?;
+    /// let other = FixedBitSet::from_iter(alloc, [3, 64])?;
+    /// assert!(set.symmetric_difference_with_change(&other)?);
+    /// assert!(!set.symmetric_difference_with_change(&FixedBitSet::new(alloc))?);
+    /// ```
+    #[inline]
+    pub fn symmetric_difference_with_change(&mut self, other: &Self) -> Result<bool, AllocError> {
+        counted::symmetric_difference_with_change(self, other, &mut Steps::new())
+    }
+
     /// [`intersect_with`](Self::intersect_with), which also returns whether a position went:
     /// whether `other` lacked one of this set. It does not allocate.
     ///

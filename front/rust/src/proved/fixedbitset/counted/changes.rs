@@ -5,7 +5,7 @@
 use crate::proved::fixedbitset::set::FixedBitSet;
 use crate::proved::fixedbitset::views::BitsMut;
 use crate::proved::bitlanes::Steps;
-use crate::proved::bitlanes::ops::Or;
+use crate::proved::bitlanes::ops::{Or, WordOp, Xor};
 use crate::shim::alloc::AllocError;
 
 /// [`FixedBitSet::union_with_change`], with the steps that it takes.
@@ -25,10 +25,34 @@ pub fn union_with_change(
     steps: &mut Steps,
 ) -> Result<bool, AllocError> {
     if set.len() < other.len() {
-        return grow_and_unite(set, other, steps);
+        return grow_and_change::<Or>(set, other, steps);
     }
     let (words, length) = (&mut *set.words.as_mut_slice(), set.length);
     Ok(BitsMut { words, length }.union_with_change(other.as_bits(), steps))
+}
+
+/// [`FixedBitSet::symmetric_difference_with_change`], with the steps that it takes.
+///
+/// Where an allocation failed the set is as it was.
+///
+/// ```text
+/// let mut set = FixedBitSet::from_iter(alloc, [1, 3])?;
+/// let other = FixedBitSet::from_iter(alloc, [3, 64])?;
+/// let mut steps = Steps::new();
+/// assert!(counted::symmetric_difference_with_change(&mut set, &other, &mut steps)?);
+/// assert_eq!(set.as_slice(), [2, 1].as_slice());
+/// ```
+#[inline(always)]
+pub fn symmetric_difference_with_change(
+    set: &mut FixedBitSet,
+    other: &FixedBitSet,
+    steps: &mut Steps,
+) -> Result<bool, AllocError> {
+    if set.len() < other.len() {
+        return grow_and_change::<Xor>(set, other, steps);
+    }
+    let (words, length) = (&mut *set.words.as_mut_slice(), set.length);
+    Ok(BitsMut { words, length }.symmetric_difference_with_change(other.as_bits(), steps))
 }
 
 /// [`FixedBitSet::intersect_with_change`], with the steps that it takes.
@@ -84,17 +108,18 @@ pub fn union_with_difference(
     Ok(BitsMut { words, length }.union_with_difference(gens.as_bits(), kills.as_bits(), steps))
 }
 
-// Unites `set`, which grows before, with the longer set `other`.
+// Joins the longer set `other` to `set`, which grows before, and returns whether a position
+// changed.
 #[cold]
 #[inline(never)]
-fn grow_and_unite(
+fn grow_and_change<O: WordOp>(
     set: &mut FixedBitSet,
     other: &FixedBitSet,
     steps: &mut Steps,
 ) -> Result<bool, AllocError> {
     set.grow(other.len())?;
     let (words, length) = (&mut *set.words.as_mut_slice(), set.length);
-    Ok(BitsMut { words, length }.join_with_change::<Or>(other.as_bits(), steps))
+    Ok(BitsMut { words, length }.join_with_change::<O>(other.as_bits(), steps))
 }
 
 // Takes into `set`, which grows before, what `kills` lacks of the longer set `gens`.

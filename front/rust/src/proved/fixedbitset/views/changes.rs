@@ -4,7 +4,7 @@
 
 use crate::proved::fixedbitset::views::{Bits, BitsMut};
 use crate::proved::bitlanes::Steps;
-use crate::proved::bitlanes::ops::{And, AndNot, Or, WordOp};
+use crate::proved::bitlanes::ops::{And, AndNot, Or, WordOp, Xor};
 use crate::proved::bitwords::joins;
 
 impl BitsMut<'_> {
@@ -20,6 +20,22 @@ impl BitsMut<'_> {
     #[inline(always)]
     pub fn union_with_change(&mut self, other: Bits<'_>, steps: &mut Steps) -> bool {
         self.join_with_change::<Or>(other, steps)
+    }
+
+    /// [`symmetric_difference_with`](BitsMut::symmetric_difference_with), which also returns
+    /// whether a position came in or went: whether the second set has one.
+    ///
+    /// ```text
+    /// let (mut words, mut other) = ([9, 0, 0, 0], [3, 0, 0, 0]);
+    /// let mut set = BitsMut::settle(&mut words, 70, 70);
+    /// let mut other = BitsMut::settle(&mut other, 9, 9);
+    /// assert!(set.symmetric_difference_with_change(other.as_bits(), &mut Steps::new()));
+    /// other.clear(&mut Steps::new());
+    /// assert!(!set.symmetric_difference_with_change(other.as_bits(), &mut Steps::new()));
+    /// ```
+    #[inline(always)]
+    pub fn symmetric_difference_with_change(&mut self, other: Bits<'_>, steps: &mut Steps) -> bool {
+        self.join_with_change::<Xor>(other, steps)
     }
 
     /// [`intersect_with`](BitsMut::intersect_with), which also returns whether a position went.

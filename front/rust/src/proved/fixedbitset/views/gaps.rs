@@ -50,4 +50,23 @@ impl Bits<'_> {
     ) -> Option<usize> {
         gaps::first_aligned(self.words, start, end, count, align, steps)
     }
+
+    /// The greatest number with `count` clear positions from there on, all of them below `below`,
+    /// or `None` where there is none.
+    ///
+    /// It goes over the runs of clear positions below `below`, the last one first. So it takes at
+    /// most two steps for each run of positions that are set and begins there, two more, and one
+    /// for each word that has such a position.
+    ///
+    /// ```text
+    /// let mut words = [9, 2, 0, 0];
+    /// let set = BitsMut::settle(&mut words, 70, 70);
+    /// assert_eq!(set.as_bits().last_gap(3, 70, &mut Steps::new()), Some(67));
+    /// assert_eq!(set.as_bits().last_gap(5, 70, &mut Steps::new()), Some(60));
+    /// assert_eq!(set.as_bits().last_gap(62, 70, &mut Steps::new()), None);
+    /// ```
+    #[inline]
+    pub fn last_gap(self, count: usize, below: usize, steps: &mut Steps) -> Option<usize> {
+        gaps::last(self.words, below.min(self.length), count, steps)
+    }
 }
